@@ -1,20 +1,16 @@
 -- The set of macros of a page: one of the two, and what holds of each holds of it. Source: man(7), mdoc(7).
-use Rattle.std.specs.Prelude.{ℕ, ◌+◌, ◌*◌, ◌≤◌, List, length, drop}
+use Rattle.std.specs.Prelude.{ℕ, ◌+◌, ◌*◌, ◌≤◌, List, length}
 use Rattle.page_core_base.specs.LinesTaken.{Line}
 use Rattle.page_sets_lines.specs.declared.events.Event.{Event}
 use Rattle.page_sets_lines.specs.Laws.{AreSlices, AreInOrder}
 use Rattle.page_sets_man.specs.declared.man_set.TheConstants as man
 use Rattle.page_sets_man.specs.Man.{man_events}
 use Rattle.page_sets_man.specs.ManLaws.{man_slices, man_in_order, man_few}
-use Rattle.page_sets_lines.proofs.NthLemmas.{slices_after}
 use Rattle.page_sets_mdoc.specs.declared.mdoc_set.TheConstants as mdoc
 use Rattle.page_sets_mdoc.specs.Mdoc.{mdoc_events}
-use Rattle.page_sets_mdoc.specs.Plans as mdoc_plans
 use Rattle.page_sets_mdoc.specs.MdocLaws as mdoc_laws
 use Rattle.page_sets.specs.declared.either.Either.{Either}
 use Rattle.page_sets.specs.declared.either.Either.TheVariants.{Man, Mdoc}
-use Rattle.page_sets.specs.declared.either.EitherPlace.{EitherPlace}
-use Rattle.page_sets.specs.declared.either.EitherPlace.TheVariants as places
 
 abbrev pub either_indent : Either → ℕ
 either_indent Man = man.PAGE_INDENT
@@ -25,28 +21,11 @@ abbrev pub either_events : Either → Line → List (Event (List ℕ))
 either_events Man line = man_events line
 either_events Mdoc line = mdoc_events line
 
--- a place is one of the same set
-abbrev pub IsEitherPlace : Either → Line → EitherPlace → Type 0
-IsEitherPlace Man line (places.Man place) = place ≤ length (man_events line)
-IsEitherPlace Man line (places.Mdoc place) = ⊥
-IsEitherPlace Mdoc line (places.Man place) = ⊥
-IsEitherPlace Mdoc line (places.Mdoc place) = mdoc_plans.IsPlanOf line place
-
-abbrev pub either_events_from : Line → EitherPlace → List (Event (List ℕ))
-either_events_from line (places.Man place) = drop place (man_events line)
-either_events_from line (places.Mdoc place) = mdoc_plans.line_plan_events line place
-
 -- ---- the laws of macro sets
 
 pub either_slices : (set : Either) (line : Line) → AreSlices line.text (either_events set line)
 either_slices Man line = man_slices line
 either_slices Mdoc line = mdoc_laws.mdoc_slices line
-
-pub either_slices_from : (set : Either) (line : Line) (place : EitherPlace) → IsEitherPlace set line place → AreSlices line.text (either_events_from line place)
-either_slices_from Man line (places.Man place) h = slices_after line.text place (man_events line) (man_slices line)
-either_slices_from Man line (places.Mdoc place) h = absurd h
-either_slices_from Mdoc line (places.Man place) h = absurd h
-either_slices_from Mdoc line (places.Mdoc place) h = mdoc_laws.line_plan_slices line place h
 
 pub either_in_order : (set : Either) (line : Line) → AreInOrder 0 (either_events set line)
 either_in_order Man line = man_in_order line

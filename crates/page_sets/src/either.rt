@@ -5,7 +5,7 @@ use page_sets_lines::{Event, EventOut, MacroSet};
 use page_sets_man::Man;
 use page_sets_mdoc::Mdoc;
 
-/// The set of macros of a page: it acts as the one that it is.
+/// The set of macros of a page: it acts as the one that it is. The place in a line's events is their number so far.
 #[derive(Clone, Copy, PartialEq, Eq)]
 pub enum Either {
     /// man(7).
@@ -14,30 +14,24 @@ pub enum Either {
     Mdoc,
 }
 
-/// How far the events of a line were given, in one of the sets.
-#[derive(Clone, Copy)]
-pub enum EitherPlace {
-    /// The number of its events so far.
-    Man(usize),
-    Mdoc(page_sets_mdoc::LinePlan),
-}
-
 impl MacroSet for Either {
-    ghost use Rattle.page_sets.specs.Either.{either_indent, either_events, IsEitherPlace, either_events_from, either_slices, either_slices_from, either_in_order, either_few};
+    ghost use Rattle.std.specs.Prelude.{◌≤◌, length, drop};
+    ghost use Rattle.page_sets_lines.proofs.NthLemmas.{slices_after};
+    ghost use Rattle.page_sets.specs.Either.{either_indent, either_events, either_slices, either_in_order, either_few};
 
-    type Place = EitherPlace;
+    type Place = usize;
 
     ghost page_indent = { λ set. either_indent set };
 
     ghost table = { λ set line. either_events set line };
 
-    ghost IsPlaceOf = { λ set line place. IsEitherPlace set line place };
+    ghost IsPlaceOf = { λ set line place. place ≤ length (either_events set line) };
 
-    ghost events_from = { λ set line place. either_events_from line place };
+    ghost events_from = { λ set line place. drop place (either_events set line) };
 
     ghost slices = { λ set line. either_slices set line };
 
-    ghost slices_from = { λ set line place fits. either_slices_from set line place fits };
+    ghost slices_from = { λ set line place fits. slices_after line.text place (either_events set line) (either_slices set line) };
 
     ghost in_order = { λ set line. either_in_order set line };
 
@@ -50,20 +44,17 @@ impl MacroSet for Either {
         }
     }
 
-    #[inline(always)]
-    fn start(&self, line: Taken<'_>) -> EitherPlace {
+    fn start(&self, line: Taken<'_>) -> usize {
         match self {
-            Either::Man => EitherPlace::Man(Man.start(line)),
-            Either::Mdoc => EitherPlace::Mdoc(Mdoc.start(line)),
+            Either::Man => Man.start(line),
+            Either::Mdoc => Mdoc.start(line),
         }
     }
 
-    #[inline(always)]
-    #[tactic(auto, using(crate::proofs::PlaceLemmas::man_fits, crate::proofs::PlaceLemmas::man_stays, crate::proofs::PlaceLemmas::mdoc_fits, crate::proofs::PlaceLemmas::mdoc_stays))]
-    fn next<'a>(&self, line: Taken<'a>, place: &mut EitherPlace) -> Option<Event<&'a [u8]>> {
-        match place {
-            EitherPlace::Man(place) => Man.next(line, place),
-            EitherPlace::Mdoc(place) => Mdoc.next(line, place),
+    fn next<'a>(&self, line: Taken<'a>, place: &mut usize) -> Option<Event<&'a [u8]>> {
+        match self {
+            Either::Man => Man.next(line, place),
+            Either::Mdoc => Mdoc.next(line, place),
         }
     }
 

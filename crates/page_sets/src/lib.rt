@@ -7,7 +7,7 @@
 
 mod either;
 
-pub use either::{Either, EitherPlace};
+pub use either::Either;
 pub use page_core_base::{Form, Taken};
 pub use page_sets_lines::{
     Block, BlockCloser, BlockOpener, BodyParagraphName, Closer, Deed, Event, FontMacro,

@@ -1,4 +1,4 @@
+pub mod Calls
 pub mod Mdoc
-pub mod Plans
 pub mod RestLaws
 pub mod MdocLaws

@@ -20,9 +20,9 @@ use Rattle.page_sets_mdoc_rows.specs.declared.blocks.LineMacro.{LineMacro}
 use Rattle.page_sets_mdoc_rows.specs.declared.blocks.LineMacro.TheVariants as lines
 use Rattle.page_sets_mdoc_rows.specs.Rows.{line_macro, is_parsed}
 use Rattle.page_sets_mdoc_lines.specs.Parts.{Call, LineParts, parts, has_calls}
-use Rattle.page_sets_mdoc_steps.specs.Printed.{printed}
-use Rattle.page_sets_mdoc_steps.specs.Synopses.{framed, placed_events}
-use Rattle.page_sets_mdoc_steps.specs.Sentences.{include_events, sentence_events}
+use Rattle.page_sets_mdoc_words.specs.Printed.{printed}
+use Rattle.page_sets_mdoc_words.specs.Synopses.{framed, placed_events}
+use Rattle.page_sets_mdoc_words.specs.Sentences.{include_events, sentence_events}
 use Rattle.page_sets_mdoc_blocks.specs.Macros.{has_phrase}
 use Rattle.page_sets_mdoc_blocks.specs.Fronts.{name_column, line_arguments, refusal, request_front, has_real_word, given_names, block_front}
 

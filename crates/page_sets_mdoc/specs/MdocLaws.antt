@@ -13,48 +13,19 @@ use Rattle.page_sets_lines.specs.Laws.{AreSlices, AreInOrder}
 use Rattle.page_sets_lines.specs.PlainLines.{line_end, plain_line, layout_request}
 use Rattle.page_sets_lines.proofs.ArgumentLaws.{ArgumentsFrom, all_after, earlier}
 use Rattle.page_sets_lines.proofs.LawLemmas.{name_part, line_slices, AreSlices-append, HasNoWord, order_after, order_before, line_order, named_bytes}
-use Rattle.page_sets_lines.proofs.OrderLemmas.{AreArguments, all_arguments, AreArguments-take, AreArguments-drop, in_order}
+use Rattle.page_sets_lines.proofs.OrderLemmas.{AreArguments, all_arguments, in_order}
 use Rattle.page_sets_mdoc_rows.specs.declared.blocks.LineMacro.{LineMacro}
 use Rattle.page_sets_mdoc_rows.specs.declared.blocks.LineMacro.TheVariants as lines
 use Rattle.page_sets_mdoc_rows.specs.Rows.{line_macro, is_parsed}
 use Rattle.page_sets_mdoc_lines.proofs.FewLemmas.{few_arguments_after}
-use Rattle.page_sets_mdoc_steps.proofs.PrintLemmas.{Prints, no_event, more_events, word_passed, printed_prints, include_prints, sentence_prints, framed_prints}
-use Rattle.page_sets_mdoc_steps.proofs.StepPrintLemmas.{most_events, step_prints}
+use Rattle.page_sets_mdoc_words.proofs.PrintLemmas.{Prints, no_event, more_events, word_passed, printed_prints, include_prints, sentence_prints, framed_prints}
 use Rattle.page_sets_mdoc_blocks.specs.Fronts.{name_column, line_arguments, request_front, has_real_word, is_standard, given_names, block_front}
-use Rattle.page_sets_mdoc_blocks.proofs.FrontLemmas.{request_front_slices, block_slices, front_slices, request_no_word, block_no_word, request_few, words_more, block_few}
-use Rattle.page_sets_mdoc.specs.declared.plans.Plan.{Plan}
-use Rattle.page_sets_mdoc.specs.declared.plans.LinePlan.{LinePlan}
-use Rattle.page_sets_mdoc.specs.declared.plans.LinePlan.TheVariants as line_plans
-use Rattle.page_sets_mdoc_words.specs.declared.macro_words.MacroWords.{MacroWords}
-use Rattle.page_sets_mdoc_steps.specs.Sentences.{sentence_events}
+use Rattle.page_sets_mdoc_blocks.proofs.FrontLemmas.{request_front_slices, block_slices, request_no_word, block_no_word, request_few, words_more, block_few}
+use Rattle.page_sets_mdoc_words.specs.Sentences.{sentence_events}
 use Rattle.page_sets_mdoc_rows.specs.declared.blocks.Sentence.{Sentence}
 use Rattle.page_sets_lines.specs.declared.line_steps.SynopsisStep.TheVariants.{Break}
-use Rattle.page_sets_mdoc_lines.specs.LineWords.{arguments_after}
 use Rattle.page_sets_mdoc.specs.Mdoc.{field_font, include_words, words_events, refused_events, lacks_words, macro_events, request_events, named_events, control_events, line_events, mdoc_events}
-use Rattle.page_sets_mdoc.specs.Plans.{events_to_end, words_to_come, line_plan_events, IsPlanOf}
-use Rattle.page_sets_mdoc.specs.RestLaws.{rest_prints, head_prints, phrase_prints}
-
--- ---- slices
-
-words_slices : (line : Line) (words : MacroWords) → AreSlices line.text (words_to_come line words)
-words_slices line words =
-    let all = all_arguments line.text words.left.cursor.rest in
-    let own = AreArguments-take line.text words.left.count (arguments_after words.left.cursor.rest line.text) all in
-    AreSlices-append line.text _ _
-    (framed_prints line.text (most_events words.step) line.number words.column words.before words.after _ _ (step_prints line words.column words.step _ own)).slices
-    (rest_prints line _ (AreArguments-drop line.text words.left.count _ all)).slices
-
-plan_slices : (line : Line) (plan : Plan) (ends : Bool) → AreSlices line.text (events_to_end line plan ends)
-plan_slices line plan true =
-    AreSlices-append line.text _ _ (front_slices line plan.front)
-    (AreSlices-append line.text _ _ (words_slices line plan.words) (tt, tt))
-plan_slices line plan false = tt
-
-pub line_plan_slices : (line : Line) (plan : LinePlan) → IsPlanOf line plan → AreSlices line.text (line_plan_events line plan)
-line_plan_slices line (line_plans.Plain plain) fits = (line_slices plain line.text, (tt, tt))
-line_plan_slices line (line_plans.End filled) fits = (tt, tt)
-line_plan_slices line line_plans.Nothing fits = tt
-line_plan_slices line (line_plans.Control plan) fits = plan_slices line plan plan.ends
+use Rattle.page_sets_mdoc.specs.RestLaws.{head_prints, phrase_prints}
 
 -- ---- the words of a line
 

@@ -1,13 +1,12 @@
 //! The set of the macros of mdoc(7). The definition of a line's events is `specs/Mdoc.antt`; read `mdoc_set.rt`, then
-//! `plans.rt`.
+//! `lines.rt` and `line_words.rt`.
 //!
-//! Proved: `Mdoc` (`start`, `next`, `indent`): the events of a line of mdoc(7) are those of `specs/Mdoc.antt`: what its macro does first, its words,
-//! the macros that these call, and the delimiters at its end, outside of its enclosures; with the laws of `MacroSet`.
+//! Proved: `Mdoc` (`start`, `next`, `give`, `indent`): the events of a line of mdoc(7) are those of `specs/Mdoc.antt`: what its macro does first, its
+//! words, the macros that these call, and the delimiters at its end, outside of its enclosures; with the laws of `MacroSet`.
 #![tactic(auto)]
 
 mod line_words;
+mod lines;
 mod mdoc_set;
-mod plans;
 
 pub use mdoc_set::{Mdoc, PAGE_INDENT};
-pub use plans::LinePlan;

@@ -1,35 +1,36 @@
 //! The set of the macros of mdoc(7).
 
-use crate::plans::{LinePlan, next_event, plan_of};
+use crate::lines::give_events;
 use page_core_base::Taken;
-use page_sets_lines::{Event, MacroSet};
+use page_sets_lines::{Event, EventOut, Handed, MacroSet, Nth};
 
 /// The columns by which the text of a page is indented (mdoc(7)).
 pub const PAGE_INDENT: u32 = 5;
 
-/// The macros of mdoc(7).
+/// The macros of mdoc(7). The place in a line's events is their number so far.
 #[derive(Clone, Copy)]
 pub struct Mdoc;
 
 impl MacroSet for Mdoc {
+    ghost use Rattle.std.specs.Prelude.{◌≤◌, length, drop};
     ghost use Rattle.page_sets_mdoc.specs.declared.mdoc_set.TheConstants.{PAGE_INDENT};
     ghost use Rattle.page_sets_mdoc.specs.Mdoc.{mdoc_events};
-    ghost use Rattle.page_sets_mdoc.specs.Plans.{line_plan_events, IsPlanOf};
-    ghost use Rattle.page_sets_mdoc.specs.MdocLaws.{mdoc_slices, line_plan_slices, mdoc_in_order, mdoc_few};
+    ghost use Rattle.page_sets_mdoc.specs.MdocLaws.{mdoc_slices, mdoc_in_order, mdoc_few};
+    ghost use Rattle.page_sets_lines.proofs.NthLemmas.{slices_after};
 
-    type Place = LinePlan;
+    type Place = usize;
 
     ghost page_indent = { λ set. PAGE_INDENT };
 
     ghost table = { λ set line. mdoc_events line };
 
-    ghost IsPlaceOf = { λ set line plan. IsPlanOf line plan };
+    ghost IsPlaceOf = { λ set line place. place ≤ length (mdoc_events line) };
 
-    ghost events_from = { λ set line plan. line_plan_events line plan };
+    ghost events_from = { λ set line place. drop place (mdoc_events line) };
 
     ghost slices = { λ set line. mdoc_slices line };
 
-    ghost slices_from = { λ set line plan fits. line_plan_slices line plan fits };
+    ghost slices_from = { λ set line place fits. slices_after line.text place (mdoc_events line) (mdoc_slices line) };
 
     ghost in_order = { λ set line. mdoc_in_order line };
 
@@ -39,13 +40,25 @@ impl MacroSet for Mdoc {
         PAGE_INDENT
     }
 
-    #[inline(always)]
-    fn start(&self, line: Taken<'_>) -> LinePlan {
-        plan_of(line)
+    fn start(&self, line: Taken<'_>) -> usize {
+        0
     }
 
-    #[inline(always)]
-    fn next<'a>(&self, line: Taken<'a>, place: &mut LinePlan) -> Option<Event<&'a [u8]>> {
-        next_event(line, place)
+    #[tactic(auto, using(crate::specs::MdocLaws::mdoc_few))]
+    fn next<'a>(&self, line: Taken<'a>, place: &mut usize) -> Option<Event<&'a [u8]>> {
+        let mut nth = Nth::new(*place);
+        give_events(&mut nth, line);
+        match nth.event() {
+            Some(event) => {
+                *place += 1;
+                Some(event)
+            }
+            None => None,
+        }
+    }
+
+    fn give<O: EventOut>(&self, line: Taken<'_>, out: &mut O) {
+        let mut handed = Handed { out };
+        give_events(&mut handed, line);
     }
 }

@@ -2,6 +2,7 @@
 use Rattle.std.proofs.Common.{◌≡◌, ℕ, ◌+◌, ◌≤◌, Bool, true, false, List, [], ◌∷◌, ◌++◌, length, refl, arith, length-append, Option, None, Some, if◌then◌else◌, unwrap_or, codes}
 use Rattle.std.specs.Str.{bytes_eq}
 use Rattle.page_core_base.specs.LinesTaken.{Line}
+use Rattle.page_core_limits.specs.declared.TheConstants.{LINE}
 use Rattle.page_core_base.specs.declared.note_kinds.NoteKind.{NoteKind}
 use Rattle.page_core_base.specs.declared.note_kinds.NoteKind.TheVariants as kinds
 use Rattle.page_roff_requests.specs.declared.requests.LayoutRequest.{LayoutRequest}
@@ -9,12 +10,14 @@ use Rattle.page_sets_lines.specs.declared.events.Deed.{Deed}
 use Rattle.page_sets_lines.specs.declared.events.Event.{Event}
 use Rattle.page_sets_names.specs.declared.macro_names.HeadingName.{HeadingName}
 use Rattle.page_sets_names.specs.declared.macro_names.HeadingName.TheVariants as headings
-use Rattle.page_sets_lines.specs.declared.openers.LineOpener.{LineOpener}
+use Rattle.page_sets_lines.specs.declared.openers.Opener.TheVariants as openers
+use Rattle.page_sets_lines.specs.Fits.{BlockOpenerFits}
 use Rattle.page_sets_lines.specs.Laws.{IsPart, IsPartIfGiven, IsArgument, IsArgumentIfGiven, HasSlices, AreSlices, OpensSlices, BlockOpensSlices, BlockClosesSlices}
 use Rattle.page_sets_lines.specs.declared.events.Deed.TheVariants as deeds
 use Rattle.page_sets_lines.specs.declared.leaves.Leaf.TheVariants as leaves
 use Rattle.page_sets_lines.specs.declared.line_steps.LineStep.TheVariants as steps
 use Rattle.page_sets_lines.specs.ControlLines.{name_end, rest_of, open_quote}
+use Rattle.page_sets_lines.proofs.SliceLemmas.{deed_fits}
 use Rattle.page_sets_lines.proofs.OrderLemmas.{AreArguments, all_arguments}
 use Rattle.page_sets_lines.proofs.LawLemmas.{nothing_part, rest_part, end_within, name_part, first_slice_after, first_text_after, request_slices, AreSlices-append, HasNoWord}
 use Rattle.page_roff_forms.specs.declared.quotes.Argument.{Argument}
@@ -22,13 +25,9 @@ use Rattle.page_sets_mdoc_rows.specs.declared.blocks.Block.{Block}
 use Rattle.page_sets_mdoc_rows.specs.declared.blocks.Block.TheVariants as blocks
 use Rattle.page_sets_mdoc_rows.specs.declared.blocks.LineMacro.{LineMacro}
 use Rattle.page_sets_mdoc_rows.specs.declared.blocks.LineMacro.TheVariants as lines
-use Rattle.page_sets_mdoc_blocks.specs.declared.fronts.FrontDeed.{FrontDeed}
-use Rattle.page_sets_mdoc_blocks.specs.declared.fronts.FrontDeed.TheVariants as fronts
-use Rattle.page_sets_mdoc_blocks.specs.declared.fronts.Front.{Front}
 use Rattle.page_sets_mdoc_blocks.specs.Fronts.{at_name, line_arguments, quote_events, missing_quote, request_front, heading_opener, first_text, opener_of, closer_of, deed_at_name, note_detail, note_events, block_note, begin_front, end_front, has_real_word, field_front, option_quote, include_front, spacing_of, spacing_deed, spacing_front, block_front}
 use Rattle.page_sets_mdoc_blocks.specs.declared.displays.DisplayOptions.{DisplayOptions}
 use Rattle.page_sets_mdoc_blocks.specs.Displays.{display_type, first_type, no_options, option_read, options_after}
-use Rattle.page_sets_mdoc_blocks.specs.FrontSteps.{front_deed, field_deed, include_deed, spacing_front_deed, scope_events, front_events, of_deed, quoted, quoting, beginning}
 
 -- ---- slices
 
@@ -139,29 +138,9 @@ block_slices lines.Spacing line =
     AreSlices-append line.text _ _ (missing_slices false line) (at_name_slices line _ (spacing_slices line (spacing_of (first_text line))))
 block_slices lines.Target line = missing_slices false line
 
-deed_slices : (deed : FrontDeed) (line : Line) → AreSlices line.text (deed_at_name line (front_deed deed line))
-deed_slices fronts.Item line = (tt, tt)
-deed_slices fronts.Nothing line = tt
-deed_slices (fronts.Refused kind) line = (name_part line, tt)
-deed_slices (fronts.Request name) line = (request_slices line.text name _ (first_slice_after line.text (name_end line)), tt)
-deed_slices (fronts.Prologue name) line = (rest_part line.text (name_end line) (end_within line), tt)
-deed_slices (fronts.Paragraph name) line = (tt, tt)
-deed_slices (fronts.Begins block) line = (opens_slices block line, tt)
-deed_slices (fronts.Ends block) line = (closes_slices block line, tt)
-deed_slices fronts.Field line = (tt, tt)
-deed_slices (fronts.Spacing on) line = (tt, tt)
-deed_slices fronts.Section line = (tt, tt)
-deed_slices fronts.Subsection line = (tt, tt)
-
-scope_slices : (line : Line) (scope : Option LineOpener) → AreSlices line.text (scope_events line scope)
-scope_slices line None = tt
-scope_slices line (Some opener) = (tt, tt)
-
-pub front_slices : (line : Line) (front : Front) → AreSlices line.text (front_events line front)
-front_slices line front =
-    AreSlices-append line.text _ _ (quote_slices line.text line.number front.begins_body front.quote)
-    (AreSlices-append line.text _ _ (note_slices line front.note)
-    (AreSlices-append line.text _ _ (deed_slices front.deed line) (scope_slices line front.scope)))
+-- what a block of lines opens with stands in the line
+pub opens_fit : (block : Block) (line : Line) → length line.text ≤ LINE → BlockOpenerFits (opener_of block line)
+opens_fit block line short = deed_fits line.text (deeds.Open (openers.Block (opener_of block line))) short (opens_slices block line)
 
 -- ---- no words
 
@@ -284,31 +263,3 @@ block_few (lines.Sentence sentence) line = let f = quote_few line.number true (o
 block_few lines.Include line = let f = include_few (has_real_word line) line in omega (arith, f)
 block_few lines.Spacing line = let f = spacing_few line in omega (arith, f)
 block_few lines.Target line = let f = missing_few false line in omega (arith, f)
-
--- ---- what is put into a front
-
-pub begins_with : (block : Block) (line : Line) → front_events line (beginning block line) ≡ begin_front block line
-begins_with block line = refl
-
-pub ends_with : (block : Block) (line : Line) → front_events line (quoting (fronts.Ends block) line) ≡ end_front block line
-ends_with block line = refl
-
-pub field_begins : (real : Bool) (line : Line) → front_events line (of_deed (field_deed real)) ≡ field_front real line
-field_begins true line = refl
-field_begins false line = refl
-
-pub include_begins : (real : Bool) (line : Line) → front_events line (of_deed (include_deed real)) ≡ include_front real line
-include_begins true line = refl
-include_begins false line = refl
-
-pub sentence_begins : (quote : Option ℕ) (line : Line) → front_events line (quoted quote) ≡ quote_events line.number true quote
-sentence_begins None line = refl
-sentence_begins (Some column) line = refl
-
-spacing_given : (on : Option (Option Bool)) (line : Line)
-    → front_events line (quoting (spacing_front_deed on) line) ≡ missing_quote false line ++ deed_at_name line (spacing_deed on)
-spacing_given None line = refl
-spacing_given (Some on) line = refl
-
-pub spacing_begins : (line : Line) → front_events line (quoting (spacing_front_deed (spacing_of (first_text line))) line) ≡ spacing_front line
-spacing_begins line = spacing_given (spacing_of (first_text line)) line

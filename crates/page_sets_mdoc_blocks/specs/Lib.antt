@@ -2,4 +2,3 @@ pub mod Macros
 pub mod Displays
 pub mod Lists
 pub mod Fronts
-pub mod FrontSteps

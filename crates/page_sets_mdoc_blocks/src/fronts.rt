@@ -1,12 +1,11 @@
-//! What a macro that begins a line does before its words, event by event (mdoc(7), "MACRO REFERENCE").
+//! What a macro that begins a line does before its words, given event after event (mdoc(7), "MACRO REFERENCE").
 
-ghost use Rattle.std.specs.Prelude.{◌≡◌, ◌≤◌, [], ◌∷◌, length, true, option_map, unwrap_or, MatchBool};
-ghost use Rattle.page_core_base.specs.LinesTaken.{Line, line_seen};
-ghost use Rattle.page_sets_lines.specs.Events.{event_seen, deed_seen, block_opener_seen, block_closer_seen, TakesNext};
-ghost use Rattle.page_sets_lines.specs.declared.events.Deed.TheVariants as deeds;
+ghost use Rattle.std.specs.Prelude.{◌≡◌, ◌≤◌, [], ◌∷◌, ◌++◌, false, length, unwrap_or};
+ghost use Rattle.page_core_base.specs.LinesTaken.{line_seen};
+ghost use Rattle.page_core_base.specs.Latches.{Came};
+ghost use Rattle.page_sets_lines.specs.Events.{event_seen, deed_seen, opener_seen, block_opener_seen, block_closer_seen};
+ghost use Rattle.page_sets_lines.specs.Fits.{BlockCloserFits, BlockOpenerFits, IsShortDeed, OpenerFits};
 ghost use Rattle.page_sets_mdoc_blocks.specs.Fronts as fronts;
-ghost use Rattle.page_sets_mdoc_blocks.specs.FrontSteps as steps;
-ghost use Rattle.page_sets_mdoc_blocks.specs.FrontSteps.{front_deed, front_events, heading_deed};
 
 use crate::displays::{display_of, first_font};
 use crate::line_arguments::{first_text, has_real_word, missing_quote};
@@ -16,51 +15,10 @@ use page_core_base::{NoteKind, Place, Taken};
 use page_core_limits::LINE;
 use page_roff_requests::LayoutRequest;
 use page_sets_lines::{
-    BlockCloser, BlockOpener, BodyParagraphName, Closer, Deed, Event, HeadingName, Leaf,
-    LineOpener, LineStep, Opener, Prologue, find_name, first_of, with_argument,
+    BlockCloser, BlockOpener, Closer, Deed, Event, EventTaker, HeadingName, Leaf, LineOpener,
+    LineStep, Opener, find_name, first_of, with_argument,
 };
 use page_sets_mdoc_rows::{Block, LineMacro};
-
-/// What a macro does first, but for the line scope that it opens.
-#[derive(Clone, Copy)]
-pub(crate) enum FrontDeed {
-    /// An item of a list begins.
-    Item,
-    Nothing,
-    /// A message that names the macro.
-    Refused(NoteKind),
-    /// A request that changes rows.
-    Request(LayoutRequest),
-    /// A field of header and footer.
-    Prologue(Prologue),
-    /// A paragraph.
-    Paragraph(BodyParagraphName),
-    /// The heading of a section.
-    Section,
-    /// The heading of a subsection.
-    Subsection,
-    /// A block of lines begins.
-    Begins(Block),
-    /// A block of lines ends.
-    Ends(Block),
-    /// A field of a reference.
-    Field,
-    /// Blanks stand between words, or do not.
-    Spacing(Option<bool>),
-}
-
-/// What is still to come before a line's words, in the order of the fields.
-#[derive(Clone, Copy)]
-pub struct Front {
-    /// The column of a quote whose argument lacks its last one.
-    pub(crate) quote: Option<u32>,
-    /// The message about it may begin the body of the page.
-    pub(crate) begins_body: bool,
-    /// A message about the arguments, which may begin it too.
-    pub(crate) note: Option<NoteKind>,
-    pub(crate) deed: FrontDeed,
-    pub(crate) scope: Option<LineOpener>,
-}
 
 // An event at the name of the macro that begins a line.
 fn at_name<'a>(line: Taken<'_>, deed: Deed<&'a [u8]>) -> Event<&'a [u8]>
@@ -94,6 +52,20 @@ fn quote_event<'a>(number: u32, begins_body: bool, column: u32) -> Event<&'a [u8
     }
 }
 
+// The message about a quote in a column, if it lacks its last one.
+fn give_quote<'a, O: EventTaker<'a>>(
+    out: &mut O,
+    number: u32,
+    begins_body: bool,
+    column: Option<u32>,
+)
+    ensures { Came O.left out.old (fronts.quote_events number begins_body column) out.new }
+{
+    if let Some(column) = column {
+        out.give(quote_event(number, begins_body, column));
+    }
+}
+
 // The detail of a message about the arguments of a line.
 fn note_detail<'a>(kind: NoteKind, line: Taken<'a>) -> &'a [u8]
     requires { length line.text.now ≤ LINE }
@@ -105,22 +77,27 @@ fn note_detail<'a>(kind: NoteKind, line: Taken<'a>) -> &'a [u8]
     }
 }
 
-// A message about the arguments of a line, which may begin the body of the page.
-fn argument_note<'a>(kind: NoteKind, line: Taken<'a>) -> Deed<&'a [u8]>
+// A message about the arguments of a line, if there is one; it may begin the body of the page.
+fn give_note<'a, O: EventTaker<'a>>(out: &mut O, line: Taken<'a>, kind: Option<NoteKind>)
     requires { length line.text.now ≤ LINE }
-    ensures { deed_seen result ≡ deeds.Note kind (fronts.note_detail kind (line_seen line.entry)) true }
+    ensures { Came O.left out.old (fronts.note_events (line_seen line.entry) kind) out.new }
 {
-    Deed::Note {
-        kind,
-        detail: note_detail(kind, line),
-        begins_body: true,
+    if let Some(kind) = kind {
+        let deed = Deed::Note {
+            kind,
+            detail: note_detail(kind, line),
+            begins_body: true,
+        };
+        out.give(at_name(line, deed));
     }
 }
 
 // What a block of lines opens with.
+#[tactic(auto, using(crate::proofs::FrontLemmas::opens_fit))]
 fn opener_of<'a>(block: Block, line: Taken<'a>) -> BlockOpener<&'a [u8]>
     requires { length line.text.now ≤ LINE }
-    ensures { block_opener_seen result ≡ fronts.opener_of block (line_seen line.entry) }
+    ensures opener { block_opener_seen result ≡ fronts.opener_of block (line_seen line.entry) }
+    ensures fits { BlockOpenerFits (block_opener_seen result) }
 {
     match block {
         Block::List => list_of(line),
@@ -133,7 +110,8 @@ fn opener_of<'a>(block: Block, line: Taken<'a>) -> BlockOpener<&'a [u8]>
 
 // What a block of lines closes with.
 fn closer_of<'a>(block: Block) -> BlockCloser<&'a [u8]>
-    ensures { block_closer_seen result ≡ fronts.closer_of block }
+    ensures closer { block_closer_seen result ≡ fronts.closer_of block }
+    ensures fits { BlockCloserFits (block_closer_seen result) }
 {
     match block {
         Block::List => BlockCloser::List,
@@ -141,51 +119,6 @@ fn closer_of<'a>(block: Block) -> BlockCloser<&'a [u8]>
         Block::Fonts => BlockCloser::Fonts,
         Block::Keep => BlockCloser::Keep,
         Block::Reference => BlockCloser::Reference,
-    }
-}
-
-// What a block of lines opens with, or closes with.
-fn block_deed<'a>(begins: bool, block: Block, line: Taken<'a>) -> Deed<&'a [u8]>
-    requires { length line.text.now ≤ LINE }
-    ensures { deed_seen result ≡ steps.block_deed begins block (line_seen line.entry) }
-{
-    if begins {
-        Deed::Open(Opener::Block(opener_of(block, line)))
-    } else {
-        Deed::Close(Closer::Block(closer_of(block)))
-    }
-}
-
-// What a macro does first.
-fn front_deed<'a>(deed: FrontDeed, line: Taken<'a>) -> Option<Deed<&'a [u8]>>
-    requires { length line.text.now ≤ LINE }
-    ensures { option_map deed_seen result ≡ front_deed deed (line_seen line.entry) }
-{
-    let name = find_name(line);
-    match deed {
-        FrontDeed::Item => Some(Deed::Open(Opener::Item)),
-        FrontDeed::Nothing => None,
-        FrontDeed::Refused(kind) => Some(Deed::Note {
-            kind,
-            detail: &line.text[name.start..name.end],
-            begins_body: false,
-        }),
-        FrontDeed::Request(request) => Some(Deed::Leaf(Leaf::Request(with_argument(
-            request,
-            first_of(line.text, name.end),
-        )))),
-        FrontDeed::Prologue(prologue) => {
-            Some(Deed::Leaf(Leaf::Prologue(prologue, &line.text[name.end..])))
-        }
-        FrontDeed::Paragraph(paragraph) => {
-            Some(Deed::Leaf(Leaf::Step(LineStep::BodyParagraph(paragraph))))
-        }
-        FrontDeed::Section => Some(Deed::Open(Opener::Section)),
-        FrontDeed::Subsection => Some(Deed::Open(Opener::Subsection)),
-        FrontDeed::Begins(block) => Some(block_deed(true, block, line)),
-        FrontDeed::Ends(block) => Some(block_deed(false, block, line)),
-        FrontDeed::Field => Some(Deed::Leaf(Leaf::Step(LineStep::NextField))),
-        FrontDeed::Spacing(on) => Some(Deed::Leaf(Leaf::Step(LineStep::Spacing(on)))),
     }
 }
 
@@ -201,192 +134,141 @@ fn block_note(block: Block, line: Taken<'_>) -> Option<NoteKind>
     }
 }
 
-// What a field of a reference does first: one without a word is refused.
-fn field_deed(line: Taken<'_>) -> FrontDeed
-    requires { length line.text.now ≤ LINE }
-    ensures { result ≡ steps.field_deed (fronts.has_real_word (line_seen line.entry)) }
+// A macro that prints none of its arguments: the message about a quote, and then what it does.
+fn give_quoted<'a, O: EventTaker<'a>>(out: &mut O, line: Taken<'a>, deed: Deed<&'a [u8]>)
+    requires short { length line.text.now ≤ LINE }
+    requires fits { IsShortDeed (deed_seen deed) }
+    ensures { Came O.left out.old (fronts.missing_quote false (line_seen line.entry)
+        ++ (fronts.at_name (line_seen line.entry) (deed_seen deed.entry) ∷ [])) out.new }
 {
-    if has_real_word(line) {
-        FrontDeed::Field
-    } else {
-        FrontDeed::Refused(NoteKind::EmptyMacro)
+    give_quote(out, line.line, false, missing_quote(line));
+    out.give(at_name(line, deed));
+}
+
+// A block of lines begins.
+fn give_begin<'a, O: EventTaker<'a>>(out: &mut O, block: Block, line: Taken<'a>)
+    requires { length line.text.now ≤ LINE }
+    ensures { Came O.left out.old (fronts.begin_front block (line_seen line.entry)) out.new }
+{
+    give_quote(out, line.line, true, missing_quote(line));
+    give_note(out, line, block_note(block, line));
+    let deed = Deed::Open(Opener::Block(opener_of(block, line)));
+    out.give(at_name(line, deed));
+}
+
+// The scope of a heading.
+fn heading_opener<'a>(name: HeadingName) -> Opener<&'a [u8]>
+    ensures opener { opener_seen result ≡ fronts.heading_opener name }
+    ensures fits { OpenerFits (opener_seen result) }
+{
+    match name {
+        HeadingName::SH | HeadingName::Sh => Opener::Section,
+        HeadingName::SS | HeadingName::Ss => Opener::Subsection,
     }
 }
 
-// What a file of declarations does first: one without a word is refused.
-fn include_deed(line: Taken<'_>) -> FrontDeed
+// A field of a reference: one without a word is refused.
+fn give_field<'a, O: EventTaker<'a>>(out: &mut O, line: Taken<'a>)
     requires { length line.text.now ≤ LINE }
-    ensures { result ≡ steps.include_deed (fronts.has_real_word (line_seen line.entry)) }
+    ensures { Came O.left out.old
+        (fronts.field_front (fronts.has_real_word (line_seen line.entry)) (line_seen line.entry)) out.new }
 {
     if has_real_word(line) {
-        FrontDeed::Nothing
+        out.give(at_name(line, Deed::Leaf(Leaf::Step(LineStep::NextField))));
     } else {
-        FrontDeed::Refused(NoteKind::EmptyMacro)
+        give_refusal(out, NoteKind::EmptyMacro, line);
+    }
+}
+
+// A file of declarations: one without a word is refused.
+fn give_include<'a, O: EventTaker<'a>>(out: &mut O, line: Taken<'a>)
+    requires { length line.text.now ≤ LINE }
+    ensures { Came O.left out.old
+        (fronts.include_front (fronts.has_real_word (line_seen line.entry)) (line_seen line.entry)) out.new }
+{
+    if !has_real_word(line) {
+        give_refusal(out, NoteKind::EmptyMacro, line);
     }
 }
 
 // What the first argument of `Sm` says.
-fn spacing_deed(line: Taken<'_>) -> FrontDeed
+fn give_spacing<'a, O: EventTaker<'a>>(out: &mut O, line: Taken<'a>)
     requires { length line.text.now ≤ LINE }
-    ensures { result ≡ steps.spacing_front_deed (fronts.spacing_of (fronts.first_text (line_seen line.entry))) }
+    ensures { Came O.left out.old (fronts.spacing_front (line_seen line.entry)) out.new }
 {
-    match spacing_of(first_text(line)) {
-        Some(on) => FrontDeed::Spacing(on),
-        None => FrontDeed::Nothing,
+    give_quote(out, line.line, false, missing_quote(line));
+    if let Some(on) = spacing_of(first_text(line)) {
+        out.give(at_name(line, Deed::Leaf(Leaf::Step(LineStep::Spacing(on)))));
     }
 }
 
-// What a heading does first.
-fn heading_deed(name: HeadingName) -> FrontDeed
-    ensures { result ≡ heading_deed name }
+/// Gives a message that names the macro of a line.
+pub fn give_refusal<'a, O: EventTaker<'a>>(out: &mut O, kind: NoteKind, line: Taken<'a>)
+    requires { length line.text.now ≤ LINE }
+    ensures { Came O.left out.old (fronts.refusal kind (line_seen line.entry) ∷ []) out.new }
 {
-    match name {
-        HeadingName::SH | HeadingName::Sh => FrontDeed::Section,
-        HeadingName::SS | HeadingName::Ss => FrontDeed::Subsection,
-    }
+    let name = find_name(line);
+    let deed = Deed::Note {
+        kind,
+        detail: &line.text[name.start..name.end],
+        begins_body: false,
+    };
+    out.give(at_name(line, deed));
 }
 
-impl Front {
-    // One deed, and no more.
-    fn of_deed(deed: FrontDeed) -> Front
-        ensures { result ≡ steps.of_deed deed }
-    {
-        Front {
-            quote: None,
-            begins_body: false,
-            note: None,
-            deed,
-            scope: None,
-        }
-    }
+/// Gives what a request that changes rows does in a line.
+pub fn give_request<'a, O: EventTaker<'a>>(out: &mut O, request: LayoutRequest, line: Taken<'a>)
+    requires { length line.text.now ≤ LINE }
+    ensures { Came O.left out.old (fronts.request_front request (line_seen line.entry)) out.new }
+{
+    let given = first_of(line.text, find_name(line).end);
+    give_quoted(
+        out,
+        line,
+        Deed::Leaf(Leaf::Request(with_argument(request, given))),
+    );
+}
 
-    // A deed of a macro that prints none of its arguments.
-    fn quoting(deed: FrontDeed, line: Taken<'_>) -> Front
-        requires { length line.text.now ≤ LINE }
-        ensures { result ≡ steps.quoting deed (line_seen line.entry) }
-    {
-        Front {
-            quote: missing_quote(line),
-            ..Front::of_deed(deed)
+/// Gives what a macro does in a line that it begins, before its words.
+pub fn give_front<'a, O: EventTaker<'a>>(out: &mut O, begins: LineMacro, line: Taken<'a>)
+    requires { length line.text.now ≤ LINE }
+    ensures { Came O.left out.old (fronts.block_front begins (line_seen line.entry)) out.new }
+{
+    match begins {
+        LineMacro::Inline(_) => {}
+        LineMacro::Prologue(name) => {
+            let rest = &line.text[find_name(line).end..];
+            give_quoted(out, line, Deed::Leaf(Leaf::Prologue(name, rest)));
         }
-    }
-
-    // A deed, and a line scope.
-    fn scoped(deed: FrontDeed, opener: LineOpener) -> Front
-        ensures { result ≡ steps.scoped deed opener }
-    {
-        Front {
-            scope: Some(opener),
-            ..Front::of_deed(deed)
+        LineMacro::Heading(name) => {
+            out.give(at_name(line, Deed::Open(heading_opener(name))));
+            out.give(at_name(line, Deed::LineScope(LineOpener::Heading(name))));
         }
-    }
-
-    // The option of a sentence may lack its last quote.
-    fn of_sentence(line: Taken<'_>) -> Front
-        requires { length line.text.now ≤ LINE }
-        ensures { result ≡ steps.quoted (fronts.option_quote (fronts.line_arguments (line_seen line.entry))) }
-    {
-        Front {
-            quote: option_quote(line),
-            begins_body: true,
-            ..Front::of_deed(FrontDeed::Nothing)
+        LineMacro::Paragraph(name) => {
+            give_quoted(
+                out,
+                line,
+                Deed::Leaf(Leaf::Step(LineStep::BodyParagraph(name))),
+            );
         }
-    }
-
-    // A block of lines begins.
-    fn beginning(block: Block, line: Taken<'_>) -> Front
-        requires { length line.text.now ≤ LINE }
-        ensures { result ≡ steps.beginning block (line_seen line.entry) }
-    {
-        Front {
-            begins_body: true,
-            note: block_note(block, line),
-            ..Front::quoting(FrontDeed::Begins(block), line)
+        LineMacro::Description => {
+            out.give(at_name(line, Deed::LineScope(LineOpener::Description)));
         }
-    }
-
-    /// Nothing comes before the words.
-    pub fn nothing() -> Front
-        ensures { (line : Line) → front_events line result ≡ [] }
-    {
-        Front::of_deed(FrontDeed::Nothing)
-    }
-
-    /// A message that names the macro.
-    pub fn refused(kind: NoteKind) -> Front
-        ensures { (line : Line) → front_events line result ≡ fronts.refusal kind line ∷ [] }
-    {
-        Front::of_deed(FrontDeed::Refused(kind))
-    }
-
-    /// What a request that changes rows does in a line.
-    pub fn of_request(request: LayoutRequest, line: Taken<'_>) -> Front
-        requires { length line.text.now ≤ LINE }
-        ensures { front_events (line_seen line.entry) result ≡ fronts.request_front request (line_seen line.entry) }
-    {
-        Front::quoting(FrontDeed::Request(request), line)
-    }
-
-    /// What a macro does in a line that it begins, before its words.
-    #[tactic(auto, using(crate::proofs::FrontLemmas::begins_with, crate::proofs::FrontLemmas::ends_with, crate::proofs::FrontLemmas::field_begins, crate::proofs::FrontLemmas::sentence_begins, crate::proofs::FrontLemmas::include_begins, crate::proofs::FrontLemmas::spacing_begins))]
-    pub fn of_macro(begins: LineMacro, line: Taken<'_>) -> Front
-        requires { length line.text.now ≤ LINE }
-        ensures { front_events (line_seen line.entry) result ≡ fronts.block_front begins (line_seen line.entry) }
-    {
-        match begins {
-            LineMacro::Item => Front::scoped(FrontDeed::Item, LineOpener::Head),
-            LineMacro::Prologue(name) => Front::quoting(FrontDeed::Prologue(name), line),
-            LineMacro::Heading(name) => {
-                Front::scoped(heading_deed(name), LineOpener::Heading(name))
-            }
-            LineMacro::Paragraph(name) => Front::quoting(FrontDeed::Paragraph(name), line),
-            LineMacro::Description => { Front::scoped(FrontDeed::Nothing, LineOpener::Description) }
-            LineMacro::OneLine(name) => {
-                Front::scoped(FrontDeed::Nothing, LineOpener::OneLine(name))
-            }
-            LineMacro::Begins(block) => Front::beginning(block, line),
-            LineMacro::Ends(block) => Front::quoting(FrontDeed::Ends(block), line),
-            LineMacro::Field(_) => Front::of_deed(field_deed(line)),
-            LineMacro::Sentence(_) => Front::of_sentence(line),
-            LineMacro::Include => Front::of_deed(include_deed(line)),
-            LineMacro::Spacing => Front::quoting(spacing_deed(line), line),
-            LineMacro::Target => Front::quoting(FrontDeed::Nothing, line),
-            _ => Front::nothing(),
+        LineMacro::OneLine(name) => {
+            out.give(at_name(line, Deed::LineScope(LineOpener::OneLine(name))));
         }
-    }
-
-    /// Whether nothing more comes before the words. Most macros do nothing there.
-    #[inline(always)]
-    pub fn is_over(&self) -> bool
-        ensures { MatchBool result ((line : Line) → front_events line self.now ≡ []) (Unit {0}) }
-    {
-        self.quote.is_none()
-            && self.note.is_none()
-            && matches!(self.deed, FrontDeed::Nothing)
-            && self.scope.is_none()
-    }
-
-    /// The next event before the words of a line, if there is one more.
-    pub fn next<'a>(&mut self, line: Taken<'a>) -> Option<Event<&'a [u8]>>
-        requires { length line.text.now ≤ LINE }
-        ensures { TakesNext (front_events (line_seen line.entry) self.old) result (front_events (line_seen line.entry) self.new) }
-    {
-        if let Some(column) = self.quote {
-            self.quote = None;
-            return Some(quote_event(line.line, self.begins_body, column));
+        LineMacro::Begins(block) => give_begin(out, block, line),
+        LineMacro::Ends(block) => {
+            give_quoted(out, line, Deed::Close(Closer::Block(closer_of(block))));
         }
-        if let Some(kind) = self.note {
-            self.note = None;
-            return Some(at_name(line, argument_note(kind, line)));
+        LineMacro::Item => {
+            out.give(at_name(line, Deed::Open(Opener::Item)));
+            out.give(at_name(line, Deed::LineScope(LineOpener::Head)));
         }
-        if let Some(deed) = front_deed(self.deed, line) {
-            self.deed = FrontDeed::Nothing;
-            return Some(at_name(line, deed));
-        }
-        if let Some(opener) = self.scope {
-            self.scope = None;
-            return Some(at_name(line, Deed::LineScope(opener)));
-        }
-        None
+        LineMacro::Field(_) => give_field(out, line),
+        LineMacro::Sentence(_) => give_quote(out, line.line, true, option_quote(line)),
+        LineMacro::Include => give_include(out, line),
+        LineMacro::Spacing => give_spacing(out, line),
+        LineMacro::Target => give_quote(out, line.line, false, missing_quote(line)),
     }
 }

@@ -3,9 +3,8 @@
 ghost use Rattle.std.specs.Prelude.{◌≡◌, ◌≤◌, length};
 ghost use Rattle.page_core_base.specs.LinesTaken.{line_seen};
 ghost use Rattle.page_sets_lines.specs.Events.{text_seen};
-ghost use Rattle.page_sets_lines.specs.ControlLines.{first_of, text_of};
+ghost use Rattle.page_sets_lines.specs.ControlLines.{first_of, open_quote, text_of};
 ghost use Rattle.page_sets_mdoc_blocks.specs.Fronts as fronts;
-ghost use Rattle.page_sets_mdoc_blocks.specs.FrontSteps.{missing_column};
 
 use page_core_base::Taken;
 use page_core_limits::LINE;
@@ -36,7 +35,7 @@ pub(crate) fn first_text<'a>(line: Taken<'a>) -> Option<&'a [u8]>
 /// The column of a quote in a line whose arguments are no words, if one of them lacks its last quote.
 pub(crate) fn missing_quote(line: Taken<'_>) -> Option<u32>
     requires { length line.text.now ≤ LINE }
-    ensures { result ≡ missing_column (line_seen line.entry) }
+    ensures { result ≡ open_quote 0 (fronts.line_arguments (line_seen line.entry)) }
 {
     open_quote(line.text, find_name(line).end, 0)
 }

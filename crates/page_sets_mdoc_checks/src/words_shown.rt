@@ -1,20 +1,19 @@
 //! The events of a macro's words as short texts: column, kind, font and text, as in `5 word I a`. A `+` before or after
 //! the kind says that no blank stands there.
 
-ghost use Rattle.std.specs.Prelude.{◌≤◌, length, IfSome};
-ghost use Rattle.page_sets_mdoc_lines.specs.Cursors.{IsCursorOf};
+ghost use Rattle.std.specs.Prelude.{◌≤◌, length};
 
 use arrayvec::ArrayVec;
 use page_core_base::{Font, NoteKind, Taken};
 use page_core_limits::LINE;
 use page_roff_forms::Argument;
 use page_sets_lines::{
-    Block, BlockCloser, BlockOpener, Closer, Deed, Event, Join, Leaf, LineStep, Opener, OwnWord,
-    Role, SynopsisStep, Word, find_name,
+    Block, BlockCloser, BlockOpener, Closer, Deed, Event, EventTaker, Join, Leaf, LineStep, Opener,
+    OwnWord, Role, SynopsisStep, Word, find_name,
 };
-use page_sets_mdoc_lines::Cursor;
+use page_sets_mdoc_lines::{Cursor, find_words};
 use page_sets_mdoc_rows::{LineMacro, is_parsed, line_macro};
-use page_sets_mdoc_words::MacroWords;
+use page_sets_mdoc_words::{MacroName, give_macro};
 
 pub type Shown = ArrayVec<u8, 500>;
 
@@ -166,38 +165,49 @@ fn put_event(out: &mut Shown, event: Event<&[u8]>) {
     put_deed(out, event.deed);
 }
 
-// The words of the macro that begins a line, if it is one that can stand among words; as they are there, or where a word calls it.
-fn begun(first: bool, line: Taken<'_>) -> Option<MacroWords>
+// The events of a macro, shown as they come.
+#[derive(Drop)]
+struct ShownEvents {
+    out: Shown,
+}
+
+impl<'a> EventTaker<'a> for ShownEvents {
+    ghost use Rattle.page_sets_lines.specs.declared.events.Event.{Event};
+
+    ghost Plan = { Unit {0} };
+
+    ghost left = { λ plan shown events. Unit {0} };
+
+    fn give(&mut self, event: Event<&'a [u8]>) {
+        put_event(&mut self.out, event);
+    }
+}
+
+// The macro that begins a line, if it is one that can stand among words; as it is there, or where a word calls it.
+fn show(shown: &mut ShownEvents, first: bool, line: Taken<'_>)
     requires { length line.text.now ≤ LINE }
-    ensures { IfSome result (λ words. IsCursorOf line.entry.text.now words.left.cursor) }
 {
-    let name = find_name(line);
-    let text = &line.text[name.start..name.end];
-    let Some(LineMacro::Inline(inline)) = line_macro(text) else {
-        return None;
-    };
-    let cursor = Cursor::new(line.text, name.end);
-    Some(MacroWords::begin(
-        first,
-        line,
-        inline,
-        name.start as u32 + 1,
-        text.len() as u32,
-        cursor,
-        is_parsed(text),
-    ))
+    let span = find_name(line);
+    let text = &line.text[span.start..span.end];
+    if let Some(LineMacro::Inline(inline)) = line_macro(text) {
+        let name = MacroName {
+            line: line.line,
+            column: span.start as u32 + 1,
+            text,
+        };
+        let cursor = Cursor::new(line.text, span.end);
+        let words = find_words(line.text, Some(inline), cursor, is_parsed(text));
+        give_macro(shown, first, name, inline, line.text, words);
+    }
 }
 
 /// The events of the words of the macro that begins a line, without those of the calls after it; as they are there, or where a word calls it.
 pub fn shown(first: bool, line: Taken<'_>) -> Shown
     requires { length line.text.now ≤ LINE }
 {
-    let mut out = ArrayVec::new();
-    if let Some(words) = begun(first, line) {
-        let mut words = words;
-        while let Some(event) = words.next(line) {
-            put_event(&mut out, event);
-        }
-    }
-    out
+    let mut shown = ShownEvents {
+        out: ArrayVec::new(),
+    };
+    show(&mut shown, first, line);
+    shown.out
 }

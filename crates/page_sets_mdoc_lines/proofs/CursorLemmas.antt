@@ -1,6 +1,6 @@
 -- A cursor, one argument further on: helpers of proofs.
 use Rattle.std.proofs.Common.{◌≡◌, ℕ, ◌+◌, ◌-◌, ◌≤◌, List, [], length, take, drop, refl, ap, arith, length-drop}
-use Rattle.std.proofs.lemmas.List.{drop-drop, drop_all, take_all}
+use Rattle.std.proofs.lemmas.List.{drop_all, take_all}
 use Rattle.page_roff_forms.specs.Arguments.{arguments}
 use Rattle.page_sets_mdoc_lines.specs.LineWords.{arguments_after}
 use Rattle.page_sets_mdoc_lines.proofs.FewLemmas.{few_arguments_after}
@@ -9,7 +9,7 @@ no_arguments : (column : ℕ) (text : List ℕ) → text ≡ [] → arguments co
 unfolding arguments
 no_arguments column text e = rw e refl
 
-pub at_end : (text : List ℕ) → arguments_after (length text) text ≡ []
+at_end : (text : List ℕ) → arguments_after (length text) text ≡ []
 at_end text = no_arguments (length text + 1) (drop (length text) text) (drop_all (length text) text (omega arith))
 
 pub none_at : (text : List ℕ) (start : ℕ) → start ≡ length text → arguments_after start text ≡ []
@@ -19,12 +19,6 @@ none_at text start e = rw e (at_end text)
 pub arguments_to_end : (text : List ℕ) (start : ℕ) → arguments (start + 1) (take (length text - start) (drop start text)) ≡ arguments_after start text
 arguments_to_end text start =
     ap (λ l. arguments (start + 1) l) (take_all (length text - start) (drop start text) (omega (arith, length-drop start text)))
-
--- the arguments after those that were read
-pub after_read : (text : List ℕ) (start len : ℕ) → arguments (start + 1 + len) (drop len (drop start text)) ≡ arguments_after (start + len) text
-after_read text start len =
-    let e : start + 1 + len ≡ start + len + 1 = omega arith in
-    rw (drop-drop len start text, e) refl
 
 pub few_left : (text : List ℕ) (start : ℕ) → length text ≤ 65536 → length (arguments_after start text) ≤ 65536
 few_left text start h = omega (arith, few_arguments_after text start)

@@ -2,3 +2,4 @@ pub mod CursorLemmas
 pub mod ExtentLemmas
 pub mod FewLemmas
 pub mod PartLemmas
+pub mod WordLemmas

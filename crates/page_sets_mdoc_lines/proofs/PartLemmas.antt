@@ -57,7 +57,7 @@ none_by : (word : Argument (List ℕ)) (p : LineParts) (begun : Inline → LineP
 none_by word p begun None h = h
 none_by word p begun (Some inline) h = refl
 
-none_taken : (parsed : Bool) (arguments : List (Argument (List ℕ))) → (parts None parsed arguments).taken ≡ None
+pub none_taken : (parsed : Bool) (arguments : List (Argument (List ℕ))) → (parts None parsed arguments).taken ≡ None
 none_taken parsed [] = refl
 none_taken parsed (word ∷ words) =
     elim (cases_Bool (list_all is_closing (word ∷ words))) [

@@ -1,30 +1,21 @@
 //! How far a line has been read (mdoc(7), "MACRO SYNTAX").
 
-ghost use Rattle.std.specs.Prelude.{◌≡◌, ◌≤◌, [], length, MatchBool};
+ghost use Rattle.std.specs.Prelude.{◌≡◌, ◌≤◌, [], length, MatchBool, IfSome};
 ghost use Rattle.std.specs.List.{list_all};
-ghost use Rattle.page_roff_forms.specs.Arguments.{ReadsNext};
+ghost use Rattle.page_roff_forms.specs.Arguments.{ReadsNext, argument_seen};
+ghost use Rattle.page_sets_lines.specs.Fits.{ArgumentFits};
 ghost use Rattle.page_sets_mdoc_lines.specs.LineWords.{arguments_after, is_closing};
-ghost use Rattle.page_sets_mdoc_lines.specs.Cursors.{IsCursorOf, ReadsAfter};
+ghost use Rattle.page_sets_mdoc_lines.specs.Cursors.{IsCursorOf};
 
 use crate::line_words::is_closing;
 use page_core_limits::LINE;
-use page_roff_forms::{Argument, Arguments, read_argument};
+use page_roff_forms::{Argument, Arguments};
+use page_sets_lines::read_after;
 
 /// Where the arguments of a line begin that are still to be read, in bytes.
 #[derive(Clone, Copy)]
 pub struct Cursor {
     pub rest: usize,
-}
-
-// Reads the first argument that begins after this many bytes, and says after how many the others begin.
-#[tactic(auto, using(crate::proofs::CursorLemmas::after_read))]
-fn read_after(text: &[u8], start: usize) -> Option<(Argument<&[u8]>, usize)>
-    requires short { length text.now ≤ LINE }
-    requires within { start ≤ length text.now }
-    ensures { ReadsAfter start text.now result }
-{
-    let (argument, len) = read_argument(&text[start..], start as u32 + 1)?;
-    Some((argument, start + len))
 }
 
 impl Cursor {
@@ -36,14 +27,6 @@ impl Cursor {
         ensures start { result.rest ≡ start }
     {
         Cursor { rest: start }
-    }
-
-    /// A cursor at the line's end, for a macro whose arguments are no words.
-    pub fn at_end(text: &[u8]) -> Cursor
-        ensures stands { IsCursorOf text.now result }
-        ensures start { result.rest ≡ length text.now }
-    {
-        Cursor { rest: text.len() }
     }
 
     /// Whether all that is left are closing delimiters. It reads up to the first that is none.
@@ -75,6 +58,7 @@ impl Cursor {
         requires short { length text.now ≤ LINE }
         requires within { IsCursorOf text.now self.old }
         ensures stands { IsCursorOf text.now self.new }
+        ensures fits { IfSome result (λ argument. ArgumentFits (argument_seen argument)) }
         ensures next { ReadsNext (arguments_after self.old.rest text.now) result (arguments_after self.new.rest text.now) }
     {
         let (argument, rest) = read_after(text, self.rest)?;

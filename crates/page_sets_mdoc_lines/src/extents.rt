@@ -1,6 +1,6 @@
 //! The extent of a macro's words (mdoc(7), "MACRO SYNTAX").
 
-ghost use Rattle.std.specs.Prelude.{◌≡◌, ◌≤◌, length, None};
+ghost use Rattle.std.specs.Prelude.{◌≡◌, ◌≤◌, length, drop, None};
 ghost use Rattle.page_roff_forms.specs.Arguments.{argument_seen};
 ghost use Rattle.page_sets_mdoc_lines.specs.LineWords.{arguments_after};
 ghost use Rattle.page_sets_mdoc_lines.specs.Parts.{parts, extent_of, is_call};
@@ -9,7 +9,7 @@ ghost use Rattle.page_sets_mdoc_lines.specs.Cursors.{IsCursorOf};
 use crate::cursors::Cursor;
 use crate::line_words::{is_closing, is_real, word_call};
 use page_core_limits::LINE;
-use page_roff_forms::{Argument, Arguments};
+use page_roff_forms::Argument;
 
 /// What is known of a macro's own words before they are read.
 #[derive(Clone, Copy)]
@@ -31,27 +31,50 @@ fn is_call(argument: Argument<&[u8]>, parsed: bool) -> bool
     parsed && word_call(argument).is_some()
 }
 
+// The extent of a macro's words, and where the line goes on after them.
+#[derive(Clone, Copy)]
+pub(crate) struct Found {
+    pub(crate) extent: Extent,
+    // After the last of them that is no closing delimiter.
+    pub(crate) outside: Cursor,
+    // After all of them.
+    pub(crate) rest: Cursor,
+}
+
 /// Finds the extent of the words that a macro has from where a line has been read on, in one pass over them. In a line
 /// that is not parsed no word calls. Where none does, the closing delimiters at the end are the line's.
-pub fn find_extent(text: &[u8], cursor: Cursor, parsed: bool) -> Extent
+pub(crate) fn find_extent(text: &[u8], cursor: Cursor, parsed: bool) -> Found
     requires short { length text.now ≤ LINE }
     requires within { IsCursorOf text.now cursor }
-    ensures { result ≡ extent_of (parts None parsed (arguments_after cursor.rest text.now)) }
+    ensures extent { result.extent ≡ extent_of (parts None parsed (arguments_after cursor.rest text.now)) }
+    ensures stand { IsCursorOf text.now result.outside × IsCursorOf text.now result.rest }
+    ensures outside { arguments_after result.outside.rest text.now
+        ≡ drop result.extent.inside (arguments_after cursor.rest text.now) }
+    ensures rest { arguments_after result.rest.rest text.now
+        ≡ drop result.extent.words (arguments_after cursor.rest text.now) }
 {
-    let mut arguments = Arguments::new(&text[cursor.rest..], cursor.rest as u32 + 1);
     let mut extent = Extent {
         words: 0,
         inside: 0,
         has_real: false,
         follows: false,
     };
-    while let Some(argument) = arguments.next_argument() {
+    let mut ahead = cursor;
+    let mut rest = cursor;
+    let mut outside = cursor;
+    while let Some(argument) = ahead.read(text) {
         if is_call(argument, parsed) {
             extent.follows = true;
-            return extent;
+            return Found {
+                extent,
+                outside,
+                rest,
+            };
         }
+        rest = ahead;
         if !is_closing(argument) {
             extent.inside = extent.words + 1;
+            outside = ahead;
         }
         if is_real(argument) {
             extent.has_real = true;
@@ -59,5 +82,9 @@ pub fn find_extent(text: &[u8], cursor: Cursor, parsed: bool) -> Extent
         extent.words += 1;
     }
     extent.words = extent.inside;
-    extent
+    Found {
+        extent,
+        outside,
+        rest: outside,
+    }
 }

@@ -1,4 +1,4 @@
-pub mod WordLemmas
-pub mod SliceLemmas
-pub mod BeginLemmas
-pub mod BeginPrintLemmas
+pub mod PrintLemmas
+pub mod MacroPrintLemmas
+pub mod SentenceLemmas
+pub mod SynopsisLemmas

@@ -1,2 +1,5 @@
-pub mod MacroWords
-pub mod Begins
+pub mod Printed
+pub mod Inlines
+pub mod Lone
+pub mod Synopses
+pub mod Sentences

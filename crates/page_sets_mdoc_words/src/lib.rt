@@ -1,19 +1,29 @@
-//! The words of a control line of mdoc(7): the events of each macro that can stand among words, one after another. The
-//! definition is `inline_events` of `page_sets_mdoc_steps`, one row for each macro; read it first, then `src/begins.rt` (the first
-//! step of a macro) and `src/macro_words.rt` (one step after another).
+//! The words of a control line of mdoc(7): the events of each macro that can stand among words, given one after another. The
+//! definition is `inline_events` in `specs/Inlines.antt`, one case for each macro; read it first, then `src/macros.rt`, where each
+//! case has its line, and `src/flags.rt`, the shortest of the macros.
 //!
-//! Proved: `MacroWords::begin`, `MacroWords::next`: what each macro of mdoc(7) that can stand among words makes of its words, event by event, is its
-//! row of `inline_events` (`specs/Inlines.antt` of `page_sets_mdoc_steps`); what comes after them in the line stays to be read.
+//! Proved: `give_macro`, `give_printed`, `give_sentence`, `give_include`: what each macro of mdoc(7) makes of its words is its case of
+//! `inline_events` (`specs/Inlines.antt`), with what it does in the SYNOPSIS (`Synopses.antt`); so are the sentences of `Ex` and `Rv`, and the file of
+//! `In` (`Sentences.antt`).
 #![tactic(auto)]
 
-mod arguments;
-mod begins;
+mod enclosures;
 mod flags;
-mod fronts;
-mod macro_words;
+mod functions;
+mod includes;
+mod links;
+mod macros;
 mod names;
+mod plain;
+mod printed;
+mod references;
+mod sentences;
 mod synopses;
 mod systems;
 mod taken_words;
 
-pub use macro_words::MacroWords;
+pub use includes::give_include;
+pub use macros::give_macro;
+pub use plain::{MacroName, give_printed};
+pub use printed::{event_at, step_event};
+pub use sentences::give_sentence;

@@ -1,22 +1,32 @@
 //! `Nm`, and what `Nm Ar Pa Fl` print without words (mdoc(7), "Nm", "Ar", "Pa" and "Fl").
 
-ghost use Rattle.std.specs.Prelude.{◌≡◌, ◌≤◌, Bool, length};
+ghost use Rattle.std.specs.Prelude.{◌≡◌, ◌≤◌, ◌&&◌, length, if◌then◌else◌};
+ghost use Rattle.page_sets_names.specs.declared.own_texts.Own.TheVariants.{Flag, JoinedFlag};
+ghost use Rattle.page_core_base.specs.Latches.{Came};
 ghost use Rattle.page_sets_lines.specs.Events.{event_seen};
 ghost use Rattle.page_sets_mdoc_lines.specs.Cursors.{IsCursorOf};
-ghost use Rattle.page_sets_mdoc_steps.specs.declared.steps.Step.TheVariants as steps;
-ghost use Rattle.page_sets_mdoc_steps.specs.Inlines as inlines;
-ghost use Rattle.page_sets_mdoc_steps.specs.Steps as step_specs;
-ghost use Rattle.page_sets_mdoc_steps.specs.Steps.{StepsOn};
-ghost use Rattle.page_sets_mdoc_steps.specs.WordsLeft.{GoesOn};
+ghost use Rattle.page_sets_mdoc_lines.specs.Words.{words_seen};
+ghost use Rattle.page_sets_mdoc_words.specs.Inlines as inlines;
+ghost use Rattle.page_sets_mdoc_words.specs.Lone.{lone_event};
 
+use crate::plain::give_printed;
+use crate::printed::{is_opening, own_word, printed_word, step_event, word_event};
 use page_core_base::Font;
 use page_core_limits::LINE;
-use page_sets_lines::{Event, Join, LineStep, Own, Role};
-use page_sets_mdoc_lines::is_real;
+use page_sets_lines::{Event, EventTaker, Join, LineStep, Own, Role};
+use page_sets_mdoc_lines::{Words, is_real};
 use page_sets_mdoc_rows::Defaulted;
-use page_sets_mdoc_steps::{
-    Begun, Given, Lone, Step, WordsLeft, is_opening, own_word, printed_word, step_event, word_event,
-};
+
+/// What a macro prints where all its words are delimiters.
+#[derive(Clone, Copy)]
+pub(crate) enum Lone {
+    /// `Nm`: the name of the manual.
+    ManualName,
+    /// `Ar` and `Pa`.
+    Default(Defaulted),
+    /// `Fl`: a dash, which is glued to a call right after it.
+    Dash { follows: bool },
+}
 
 // The text of `Ar` or `Pa`.
 fn default_own(default: Defaulted) -> Own
@@ -28,96 +38,81 @@ fn default_own(default: Defaulted) -> Own
     }
 }
 
-// A dash alone.
-fn lone_dash<'a>(begun: Begun<'a>, follows: bool, is_last: bool) -> Event<&'a [u8]>
-    ensures { event_seen result ≡ inlines.lone_dash begun.entry.line.line begun.entry.column follows is_last }
+// The dash of `Fl`, knowing whether no word comes after it.
+fn dash(follows: bool, is_last: bool) -> Own
+    ensures { result ≡ (if is_last && follows then JoinedFlag else Flag) }
 {
-    let own = if is_last && follows {
+    if is_last && follows {
         Own::JoinedFlag
     } else {
         Own::Flag
-    };
-    own_word(
-        begun.line.line,
-        begun.column,
-        own,
-        Some(Font::B),
-        Join::Apart,
-        Join::Apart,
-    )
+    }
 }
 
 // What is printed, knowing whether no word comes after it.
-fn lone_event<'a>(begun: Begun<'a>, lone: Lone, is_last: bool) -> Event<&'a [u8]>
-    ensures { event_seen result ≡ step_specs.lone_event begun.entry.line.line begun.entry.column lone is_last }
+fn lone_event<'a>(number: u32, column: u32, lone: Lone, is_last: bool) -> Event<&'a [u8]>
+    ensures { event_seen result ≡ lone_event number column lone is_last }
 {
     match lone {
-        Lone::ManualName => step_event(begun.line.line, begun.column, LineStep::ManualName),
-        Lone::Default(default) => own_word(
-            begun.line.line,
-            begun.column,
-            default_own(default),
-            Some(Font::I),
-            Join::Apart,
-            Join::Apart,
-        ),
-        Lone::Dash { follows } => lone_dash(begun, follows, is_last),
+        Lone::ManualName => step_event(number, column, LineStep::ManualName),
+        Lone::Default(default) => {
+            let own = default_own(default);
+            own_word(number, column, own, Some(Font::I), Join::Apart, Join::Apart)
+        }
+        Lone::Dash { follows } => {
+            let own = dash(follows, is_last);
+            own_word(number, column, own, Some(Font::B), Join::Apart, Join::Apart)
+        }
     }
 }
 
 /// What a macro prints where all its words are delimiters, after the opening ones.
-pub(crate) fn next_lone<'a>(begun: Begun<'a>, lone: Lone, left: &mut WordsLeft) -> Option<Given<'a>>
-    requires short { length begun.line.text.now ≤ LINE }
-    requires within { IsCursorOf begun.line.text.now left.old.cursor }
-    ensures goes { GoesOn begun.entry.line.text.now left.old left.new }
-    ensures gives { StepsOn begun.entry (steps.Lone lone) left.old result left.new }
+pub(crate) fn give_lone<'a, O: EventTaker<'a>>(
+    out: &mut O,
+    number: u32,
+    column: u32,
+    lone: Lone,
+    text: &'a [u8],
+    words: Words,
+)
+    requires short { length text.now ≤ LINE }
+    requires within { IsCursorOf text.now words.cursor }
+    ensures { Came O.left out.old
+        (inlines.lone number (lone_event number column lone) (words_seen text.now words)) out.new }
 {
-    let mut ahead = *left;
-    match ahead.read(begun.line.text) {
-        None => Some(Given {
-            event: lone_event(begun, lone, true),
-            step: Step::Printed(None),
-        }),
-        Some(word) if is_opening(word) => {
-            *left = ahead;
-            Some(Given {
-                event: printed_word(begun.line.line, None, word),
-                step: Step::Lone(lone),
-            })
+    let mut left = words;
+    while let Some(word) = left.read(text) {
+        if !is_opening(word) {
+            out.give(lone_event(number, column, lone, false));
+            out.give(printed_word(number, None, word));
+            give_printed(out, number, None, text, left);
+            return;
         }
-        Some(_) => Some(Given {
-            event: lone_event(begun, lone, false),
-            step: Step::Printed(None),
-        }),
+        out.give(printed_word(number, None, word));
     }
+    out.give(lone_event(number, column, lone, true));
 }
 
-/// The words of `Nm`, up to the first that is no delimiter.
-pub(crate) fn next_named<'a>(begun: Begun<'a>, left: &mut WordsLeft) -> Option<Given<'a>>
-    requires short { length begun.line.text.now ≤ LINE }
-    requires within { IsCursorOf begun.line.text.now left.old.cursor }
-    ensures goes { GoesOn begun.entry.line.text.now left.old left.new }
-    ensures gives { StepsOn begun.entry steps.Named left.old result left.new }
+/// `Nm`: the first word that is no delimiter is the name of the manual.
+pub(crate) fn give_named<'a, O: EventTaker<'a>>(
+    out: &mut O,
+    number: u32,
+    column: u32,
+    text: &'a [u8],
+    words: Words,
+)
+    requires short { length text.now ≤ LINE }
+    requires within { IsCursorOf text.now words.cursor }
+    ensures { Came O.left out.old (inlines.named number column (words_seen text.now words)) out.new }
 {
-    let word = left.read(begun.line.text)?;
-    if is_real(word) {
-        let role = Role::Name {
-            column: begun.column,
-        };
-        return Some(Given {
-            event: word_event(
-                begun.line.line,
-                role,
-                Some(Font::B),
-                Join::Apart,
-                Join::Apart,
-                word,
-            ),
-            step: Step::Printed(Some(Font::B)),
-        });
+    let mut left = words;
+    while let Some(word) = left.read(text) {
+        if is_real(word) {
+            let role = Role::Name { column };
+            out.give(word_event(number, role, Some(Font::B), Join::Apart, Join::Apart, word));
+            give_printed(out, number, Some(Font::B), text, left);
+            return;
+        }
+        out.give(printed_word(number, None, word));
     }
-    Some(Given {
-        event: printed_word(begun.line.line, None, word),
-        step: Step::Named,
-    })
 }

@@ -1,83 +1,74 @@
-//! `Bx`: a version of BSD (mdoc(7), "Bx").
+//! Systems and their versions (mdoc(7), "Bsx", "Bx", "Dx", "Fx", "Nx", "Ox" and "Ux").
 
 ghost use Rattle.std.specs.Prelude.{◌≡◌, ◌≤◌, None, length};
-ghost use Rattle.page_sets_lines.specs.declared.events.Join.{Join};
-ghost use Rattle.page_sets_lines.specs.declared.events.Join.TheVariants.{Apart};
-ghost use Rattle.page_sets_names.specs.declared.own_texts.Own.TheVariants.{Bsd};
+ghost use Rattle.page_core_base.specs.Latches.{Came};
 ghost use Rattle.page_sets_lines.specs.Events.{event_seen};
 ghost use Rattle.page_sets_mdoc_lines.specs.Cursors.{IsCursorOf};
-ghost use Rattle.page_sets_mdoc_steps.specs.declared.word_steps.VersionStep.TheVariants as versions;
-ghost use Rattle.page_sets_mdoc_steps.specs.declared.steps.Step.TheVariants as steps;
-ghost use Rattle.page_sets_mdoc_steps.specs.Printed.{own_word};
-ghost use Rattle.page_sets_mdoc_steps.specs.Steps.{StepsOn};
-ghost use Rattle.page_sets_mdoc_steps.specs.WordsLeft.{GoesOn};
+ghost use Rattle.page_sets_mdoc_lines.specs.Words.{words_seen};
+ghost use Rattle.page_sets_mdoc_words.specs.Inlines as inlines;
 
+use crate::plain::give_printed;
+use crate::printed::{is_opening, own_word, printed_word};
 use page_core_limits::LINE;
-use page_sets_lines::{Join, Own};
-use page_sets_mdoc_lines::is_real;
-use page_sets_mdoc_steps::{
-    Begun, Given, Step, VersionStep, WordsLeft, is_opening, own_word, printed_word,
-};
+use page_sets_lines::{Event, EventTaker, Join, Own};
+use page_sets_mdoc_lines::{Words, is_real};
+use page_sets_mdoc_rows::System;
 
-// The name, and then the words that are left.
-fn name<'a>(begun: Begun<'a>, before: Join) -> Given<'a>
-    ensures event { event_seen result.event
-        ≡ own_word begun.entry.line.line begun.entry.column Bsd None before Apart }
-    ensures step { result.step ≡ steps.Printed None }
+// The text of a system.
+fn system_own(system: System) -> Own
+    ensures { result ≡ inlines.system_own system }
 {
-    Given {
-        event: own_word(
-            begun.line.line,
-            begun.column,
-            Own::Bsd,
-            None,
-            before,
-            Join::Apart,
-        ),
-        step: Step::Printed(None),
+    match system {
+        System::BsdOs => Own::BsdOs,
+        System::DragonFly => Own::DragonFly,
+        System::FreeBsd => Own::FreeBsd,
+        System::NetBsd => Own::NetBsd,
+        System::OpenBsd => Own::OpenBsd,
+        System::Unix => Own::Unix,
     }
 }
 
-// The version, or the name where there is none.
-fn next_version<'a>(begun: Begun<'a>, left: &mut WordsLeft) -> Option<Given<'a>>
-    requires short { length begun.line.text.now ≤ LINE }
-    requires within { IsCursorOf begun.line.text.now left.old.cursor }
-    ensures goes { GoesOn begun.entry.line.text.now left.old left.new }
-    ensures gives { StepsOn begun.entry (steps.Version versions.Version) left.old result left.new }
+/// The name of a system.
+pub(crate) fn system_word<'a>(number: u32, column: u32, system: System) -> Event<&'a [u8]>
+    ensures { event_seen result ≡ inlines.system_word number column system }
 {
-    let mut ahead = *left;
-    match ahead.read(begun.line.text) {
-        Some(word) if is_real(word) => {
-            *left = ahead;
-            Some(Given {
-                event: printed_word(begun.line.line, None, word),
-                step: Step::Version(VersionStep::Name),
-            })
-        }
-        Some(word) if is_opening(word) => {
-            *left = ahead;
-            Some(Given {
-                event: printed_word(begun.line.line, None, word),
-                step: Step::Version(VersionStep::Version),
-            })
-        }
-        _ => Some(name(begun, Join::Apart)),
-    }
+    own_word(
+        number,
+        column,
+        system_own(system),
+        None,
+        Join::Apart,
+        Join::Apart,
+    )
 }
 
-/// The next event of a version.
-pub(crate) fn next_of_version<'a>(
-    begun: Begun<'a>,
-    step: VersionStep,
-    left: &mut WordsLeft,
-) -> Option<Given<'a>>
-    requires short { length begun.line.text.now ≤ LINE }
-    requires within { IsCursorOf begun.line.text.now left.old.cursor }
-    ensures goes { GoesOn begun.entry.line.text.now left.old left.new }
-    ensures gives { StepsOn begun.entry (steps.Version step) left.old result left.new }
+/// `Bx`: a version, after opening delimiters, and then the name; without a version the name stands alone.
+pub(crate) fn give_bsd<'a, O: EventTaker<'a>>(
+    out: &mut O,
+    number: u32,
+    column: u32,
+    text: &'a [u8],
+    words: Words,
+)
+    requires short { length text.now ≤ LINE }
+    requires within { IsCursorOf text.now words.cursor }
+    ensures { Came O.left out.old (inlines.bsd number column (words_seen text.now words)) out.new }
 {
-    match step {
-        VersionStep::Version => next_version(begun, left),
-        VersionStep::Name => Some(name(begun, Join::Glued)),
+    let mut left = words;
+    while let Some(word) = left.read(text) {
+        if is_real(word) {
+            out.give(printed_word(number, None, word));
+            out.give(own_word(number, column, Own::Bsd, None, Join::Glued, Join::Apart));
+            give_printed(out, number, None, text, left);
+            return;
+        }
+        if !is_opening(word) {
+            out.give(own_word(number, column, Own::Bsd, None, Join::Apart, Join::Apart));
+            out.give(printed_word(number, None, word));
+            give_printed(out, number, None, text, left);
+            return;
+        }
+        out.give(printed_word(number, None, word));
     }
+    out.give(own_word(number, column, Own::Bsd, None, Join::Apart, Join::Apart));
 }

@@ -1,83 +1,87 @@
-//! Words that a macro takes as they stand (mdoc(7), "Pf", "Eo", "Ec" and "An").
+//! Words that `An` and `Pf` take as they stand (mdoc(7), "An" and "Pf").
 
-ghost use Rattle.std.specs.Prelude.{◌≡◌, ◌≤◌, length};
+ghost use Rattle.std.specs.Prelude.{◌≡◌, ◌≤◌, length, true, false};
+ghost use Rattle.std.specs.List.{list_any};
+ghost use Rattle.page_core_base.specs.Latches.{Came};
 ghost use Rattle.page_roff_forms.specs.Arguments.{argument_seen};
-ghost use Rattle.page_sets_lines.specs.Events.{event_seen};
+ghost use Rattle.page_sets_lines.specs.Events.{given_seen};
+ghost use Rattle.page_sets_lines.specs.Fits.{GivenFits};
 ghost use Rattle.page_sets_mdoc_lines.specs.Cursors.{IsCursorOf};
-ghost use Rattle.page_sets_mdoc_steps.specs.declared.steps.Step.TheVariants as steps;
-ghost use Rattle.page_sets_mdoc_steps.specs.Steps as step_specs;
-ghost use Rattle.page_sets_mdoc_steps.specs.Steps.{StepsOn};
-ghost use Rattle.page_sets_mdoc_steps.specs.WordsLeft.{GoesOn};
+ghost use Rattle.page_sets_mdoc_lines.specs.LineWords.{is_real};
+ghost use Rattle.page_sets_mdoc_lines.specs.Words.{words_seen};
+ghost use Rattle.page_sets_mdoc_words.specs.Inlines as inlines;
 
+use crate::plain::{MacroName, give_printed, give_refused};
+use crate::printed::{event_at, word_event};
 use page_core_base::{Font, NoteKind};
 use page_core_limits::LINE;
 use page_roff_forms::{Argument, Quoting};
-use page_sets_lines::{BlockCloser, BlockOpener, Closer, Deed, Event, Join, Opener, Role};
-use page_sets_mdoc_steps::{
-    Begun, Given, Step, Taker, WordsLeft, event_at, next_printed, word_event,
-};
+use page_sets_lines::{Deed, EventTaker, Join, Role};
+use page_sets_mdoc_lines::Words;
 
-// What is made of the word.
-fn taken_event<'a>(begun: Begun<'a>, taker: Taker, word: Argument<&'a [u8]>) -> Event<&'a [u8]>
-    ensures { event_seen result
-        ≡ step_specs.taken_event begun.entry.line.line begun.entry.column taker (argument_seen word.entry) }
+// The message about an option that lacks its last quote.
+fn give_missing_quote<'a, O: EventTaker<'a>>(out: &mut O, number: u32, option: Argument<&'a [u8]>)
+    ensures { Came O.left out.old (inlines.missing_quote number (argument_seen option.entry)) out.new }
 {
-    let number = begun.line.line;
-    match taker {
-        Taker::Prefix => word_event(number, Role::Argument, None, Join::Apart, Join::Glued, word),
-        Taker::Opens => event_at(
-            number,
-            begun.column,
-            Deed::Open(Opener::Block(BlockOpener::Custom(Some(word)))),
-        ),
-        Taker::Closes => event_at(
-            number,
-            begun.column,
-            Deed::Close(Closer::Block(BlockCloser::Custom(Some(word)))),
-        ),
-    }
-}
-
-/// The word that a macro takes.
-pub(crate) fn next_taken<'a>(
-    begun: Begun<'a>,
-    taker: Taker,
-    left: &mut WordsLeft,
-) -> Option<Given<'a>>
-    requires short { length begun.line.text.now ≤ LINE }
-    requires within { IsCursorOf begun.line.text.now left.old.cursor }
-    ensures goes { GoesOn begun.entry.line.text.now left.old left.new }
-    ensures gives { StepsOn begun.entry (steps.Taken taker) left.old result left.new }
-{
-    let word = left.read(begun.line.text)?;
-    Some(Given {
-        event: taken_event(begun, taker, word),
-        step: Step::Printed(None),
-    })
-}
-
-/// The option of `An`: it prints nothing, but may lack its last quote. The words come next.
-pub(crate) fn next_option<'a>(begun: Begun<'a>, left: &mut WordsLeft) -> Option<Given<'a>>
-    requires short { length begun.line.text.now ≤ LINE }
-    requires within { IsCursorOf begun.line.text.now left.old.cursor }
-    ensures goes { GoesOn begun.entry.line.text.now left.old left.new }
-    ensures gives { StepsOn begun.entry steps.AuthorOption left.old result left.new }
-{
-    let option = left.read(begun.line.text)?;
     if let Quoting::Unclosed = option.quoting {
         let detail: &[u8] = &[];
-        return Some(Given {
-            event: event_at(
-                begun.line.line,
-                option.column.saturating_sub(1),
-                Deed::Note {
-                    kind: NoteKind::Unterminated,
-                    detail,
-                    begins_body: false,
-                },
-            ),
-            step: Step::Printed(Some(Font::R)),
-        });
+        out.give(event_at(
+            number,
+            option.column.saturating_sub(1),
+            Deed::Note {
+                kind: NoteKind::Unterminated,
+                detail,
+                begins_body: false,
+            },
+        ));
     }
-    next_printed(begun, Some(Font::R), left)
+}
+
+/// `An`: an author; its option prints nothing.
+pub(crate) fn give_author<'a, O: EventTaker<'a>>(
+    out: &mut O,
+    name: MacroName<'a>,
+    option: Option<Argument<&'a [u8]>>,
+    text: &'a [u8],
+    words: Words,
+    has_real: bool,
+)
+    requires short { length text.now ≤ LINE }
+    requires within { IsCursorOf text.now words.cursor }
+    requires real { has_real ≡ list_any is_real (words_seen text.now words) }
+    ensures { Came O.left out.old (inlines.author name.entry.line name.entry.column name.entry.text.now
+        (given_seen option.entry) (words_seen text.now words)) out.new }
+{
+    match option {
+        Some(option) => {
+            give_missing_quote(out, name.line, option);
+            give_printed(out, name.line, Some(Font::R), text, words);
+        }
+        None if has_real => give_printed(out, name.line, Some(Font::R), text, words),
+        None => give_refused(out, name, text, words),
+    }
+}
+
+/// `Pf`: a word before the others, without a blank.
+pub(crate) fn give_prefix<'a, O: EventTaker<'a>>(
+    out: &mut O,
+    name: MacroName<'a>,
+    prefix: Option<Argument<&'a [u8]>>,
+    text: &'a [u8],
+    words: Words,
+)
+    requires short { length text.now ≤ LINE }
+    requires within { IsCursorOf text.now words.cursor }
+    requires fits { GivenFits (given_seen prefix) }
+    ensures { Came O.left out.old (inlines.prefix name.entry.line name.entry.column name.entry.text.now
+        (given_seen prefix.entry) (words_seen text.now words)) out.new }
+{
+    match prefix {
+        Some(prefix) => {
+            let role = Role::Argument;
+            out.give(word_event(name.line, role, None, Join::Apart, Join::Glued, prefix));
+            give_printed(out, name.line, None, text, words);
+        }
+        None => give_refused(out, name, text, words),
+    }
 }

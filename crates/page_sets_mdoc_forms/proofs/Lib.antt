@@ -1,2 +1,0 @@
-pub mod FormLemmas
-pub mod SentenceLemmas

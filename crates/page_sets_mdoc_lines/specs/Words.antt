@@ -1,0 +1,41 @@
+-- The words of a macro, and what is known of them before they are read.
+use Rattle.std.specs.Prelude.{◌≡◌, ℕ, Bool, List, take, drop, Option, None, Some}
+use Rattle.std.specs.List.{list_any}
+use Rattle.page_roff_forms.specs.declared.quotes.Argument.{Argument}
+use Rattle.page_sets_mdoc_rows.specs.declared.macros.Inline.{Inline}
+use Rattle.page_sets_mdoc_lines.specs.declared.words.MacroWords.{MacroWords}
+use Rattle.page_sets_mdoc_lines.specs.declared.words.Words.{Words}
+use Rattle.page_sets_mdoc_lines.specs.Cursors.{IsCursorOf}
+use Rattle.page_sets_mdoc_lines.specs.LineWords.{arguments_after, is_closing, is_real}
+use Rattle.page_sets_mdoc_lines.specs.Parts.{LineParts, front_len, parts, taken_first}
+
+abbrev pub words_seen : List ℕ → Words → List (Argument (List ℕ))
+words_seen text words = take words.count (arguments_after words.cursor.rest text)
+
+-- the words without the closing delimiters at their end, and only those
+abbrev pub inside : List (Argument (List ℕ)) → List (Argument (List ℕ))
+inside words = take (front_len is_closing words) words
+
+abbrev pub outside : List (Argument (List ℕ)) → List (Argument (List ℕ))
+outside words = drop (front_len is_closing words) words
+
+-- they stand in the line
+abbrev pub AreIn : List ℕ → MacroWords → Type 0
+AreIn text words =
+    IsCursorOf text words.all.cursor × IsCursorOf text words.inside.cursor × IsCursorOf text words.outside.cursor × IsCursorOf text words.rest
+
+-- what is known of them is so
+abbrev pub AreKnown : List ℕ → MacroWords → Type 0
+AreKnown text words =
+    (words_seen text words.inside ≡ inside (words_seen text words.all))
+    × (words_seen text words.outside ≡ outside (words_seen text words.all))
+    × (words.has_real ≡ list_any is_real (words_seen text words.all))
+
+-- the parts of a line whose first macro takes this word
+abbrev pub taken_onto : Option (Argument (List ℕ)) → LineParts → LineParts
+taken_onto None parts = parts
+taken_onto (Some word) parts = taken_first word parts
+
+-- a macro takes this word of its arguments, or none, and these are left
+abbrev pub TakesWord : Option Inline → List (Argument (List ℕ)) → Option (Argument (List ℕ)) → List (Argument (List ℕ)) → Type 0
+TakesWord begun arguments taken others = (parsed : Bool) → parts begun parsed arguments ≡ taken_onto taken (parts None parsed others)

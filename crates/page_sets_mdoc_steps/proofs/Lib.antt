@@ -1,3 +1,0 @@
-pub mod WordLemmas
-pub mod PrintLemmas
-pub mod StepPrintLemmas

@@ -1,6 +1,0 @@
-pub mod Printed
-pub mod Inlines
-pub mod Synopses
-pub mod Sentences
-pub mod WordsLeft
-pub mod Steps

@@ -1,0 +1,62 @@
+-- Words and delimiters as they are printed. Source: mdoc(7), "MACRO SYNTAX" and "Delimiters".
+use Rattle.std.specs.Prelude.{ℕ, Bool, true, false, List, [], ◌∷◌, Option, None, Some}
+use Rattle.page_core_base.specs.declared.cells.Font.{Font}
+use Rattle.page_core_base.specs.declared.cells.Font.TheVariants.{R}
+use Rattle.page_roff_forms.specs.declared.quotes.Argument.{Argument}
+use Rattle.page_sets_lines.specs.declared.events.Join.{Join}
+use Rattle.page_sets_lines.specs.declared.events.Join.TheVariants.{Apart, Glued}
+use Rattle.page_sets_lines.specs.declared.events.Role.{Role}
+use Rattle.page_sets_lines.specs.declared.events.Role.TheVariants as roles
+use Rattle.page_sets_lines.specs.declared.events.Deed.TheVariants as deeds
+use Rattle.page_sets_lines.specs.declared.events.Event.{Event}
+use Rattle.page_sets_names.specs.declared.own_texts.Own.{Own}
+use Rattle.page_sets_lines.specs.declared.leaves.Leaf.TheVariants as leaves
+use Rattle.page_sets_lines.specs.declared.line_steps.LineStep.{LineStep}
+use Rattle.page_sets_lines.specs.PlainLines.{event_at}
+use Rattle.page_sets_mdoc_rows.specs.declared.delimiters.Delimiter.{Delimiter}
+use Rattle.page_sets_mdoc_rows.specs.declared.delimiters.Delimiter.TheVariants.{Opening, Middle, Closing}
+use Rattle.page_sets_mdoc_lines.specs.LineWords.{word_delimiter}
+
+-- an argument as a word, in its own column
+abbrev pub word_event : ℕ → Role → Option Font → Join → Join → Argument (List ℕ) → Event (List ℕ)
+word_event number role font before after word =
+    event_at number word.column
+    (deeds.Word (record { arg = word; role = role; font = font; before = before; after = after }))
+
+-- a word that is no delimiter, between blanks
+abbrev pub real_word : ℕ → Option Font → Argument (List ℕ) → Event (List ℕ)
+real_word number font word = word_event number roles.Argument font Apart Apart word
+
+-- delimiters are roman; no blank stands after an opening one, and none before a closing one
+abbrev pub delimiter_word : ℕ → Delimiter → Argument (List ℕ) → Event (List ℕ)
+delimiter_word number Opening word = word_event number roles.Delimiter (Some R) Apart Glued word
+delimiter_word number Middle word = word_event number roles.Delimiter (Some R) Apart Apart word
+delimiter_word number Closing word = word_event number roles.Delimiter (Some R) Glued Apart word
+
+abbrev pub word_or_delimiter : ℕ → Option Font → Option Delimiter → Argument (List ℕ) → Event (List ℕ)
+word_or_delimiter number font None word = real_word number font word
+word_or_delimiter number font (Some delimiter) word = delimiter_word number delimiter word
+
+-- a word in a font, or a delimiter in its place
+abbrev pub printed_word : ℕ → Option Font → Argument (List ℕ) → Event (List ℕ)
+printed_word number font word = word_or_delimiter number font (word_delimiter word) word
+
+-- the words of a macro in a font, with the delimiters among them
+abbrev pub printed : ℕ → Option Font → List (Argument (List ℕ)) → List (Event (List ℕ))
+printed number font [] = []
+printed number font (word ∷ words) = printed_word number font word ∷ printed number font words
+
+-- a text of the macro's own
+abbrev pub own_word : ℕ → ℕ → Own → Option Font → Join → Join → Event (List ℕ)
+own_word number column own font before after =
+    event_at number column (deeds.Leaf (leaves.Own (record { own = own; font = font; before = before; after = after })))
+
+abbrev pub step_event : ℕ → ℕ → LineStep (List ℕ) → Event (List ℕ)
+step_event number column step = event_at number column (deeds.Leaf (leaves.Step step))
+
+abbrev pub opens : Option Delimiter → Bool
+opens (Some Opening) = true
+opens _ = false
+
+unfoldable pub is_opening : Argument (List ℕ) → Bool
+is_opening word = opens (word_delimiter word)

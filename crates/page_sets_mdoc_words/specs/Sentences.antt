@@ -1,0 +1,107 @@
+-- Words of macros that begin a line and read all of it: the sentences of `Ex` and `Rv`, and the file of `In`. Source: mdoc(7), `Ex`, `In` and `Rv`.
+use Rattle.std.specs.Prelude.{ℕ, Bool, true, false, not, ◌&&◌, List, [], ◌∷◌, Option, None, Some, if◌then◌else◌}
+use Rattle.page_core_base.specs.declared.cells.Font.TheVariants.{B}
+use Rattle.page_roff_forms.specs.declared.quotes.Argument.{Argument}
+use Rattle.page_sets_lines.specs.declared.events.Event.{Event}
+use Rattle.page_sets_lines.specs.declared.events.Join.TheVariants.{Apart, Glued}
+use Rattle.page_sets_names.specs.declared.own_texts.Own.{Own}
+use Rattle.page_sets_names.specs.declared.own_texts.Own.TheVariants as owns
+use Rattle.page_sets_lines.specs.declared.line_steps.LineStep.TheVariants as steps
+use Rattle.page_sets_lines.specs.declared.line_steps.SynopsisStep.TheVariants.{Include}
+use Rattle.page_sets_mdoc_rows.specs.declared.blocks.Sentence.{Sentence}
+use Rattle.page_sets_mdoc_rows.specs.declared.blocks.Sentence.TheVariants.{Exit, Return}
+use Rattle.page_sets_mdoc_lines.specs.LineWords.{is_real}
+use Rattle.page_sets_mdoc_words.specs.declared.sentences.NameCount.{NameCount}
+use Rattle.page_sets_mdoc_words.specs.declared.sentences.NameCount.TheVariants as counts
+use Rattle.page_sets_mdoc_words.specs.Printed.{real_word, printed_word, printed, own_word, step_event}
+use Rattle.page_sets_mdoc_words.specs.Synopses.{synopsis_event}
+
+-- ---- `Ex`, `Rv`
+
+abbrev pub name_count : List (Argument (List ℕ)) → NameCount
+name_count [] = counts.Zero
+name_count (first ∷ []) = counts.One
+name_count (first ∷ second ∷ []) = counts.Two
+name_count (first ∷ second ∷ third ∷ names) = counts.More
+
+abbrev pub is_zero : NameCount → Bool
+is_zero counts.Zero = true
+is_zero _ = false
+
+abbrev pub is_plural : NameCount → Bool
+is_plural counts.Two = true
+is_plural counts.More = true
+is_plural _ = false
+
+abbrev pub is_more : NameCount → Bool
+is_more counts.More = true
+is_more _ = false
+
+-- commas part three names or more
+abbrev pub has_comma : (all left : NameCount) → Bool
+has_comma all left = is_more all && not (is_zero left)
+
+-- what is glued to a name: the parentheses of a function, and the comma
+abbrev pub name_mark : Sentence → Bool → Option Own
+name_mark Exit true = Some owns.Comma
+name_mark Exit false = None
+name_mark Return true = Some owns.CallComma
+name_mark Return false = Some owns.Call
+
+-- the rest of the sentence, of one name or of several
+abbrev pub sentence_end : Sentence → Bool → Own
+sentence_end Exit true = owns.UtilitiesExit
+sentence_end Exit false = owns.UtilityExits
+sentence_end Return true = owns.FunctionsReturn
+sentence_end Return false = owns.FunctionReturns
+
+abbrev pub sentence_word : ℕ → ℕ → Own → Event (List ℕ)
+sentence_word number column own = own_word number column own None Apart Apart
+
+abbrev pub mark_word : ℕ → ℕ → Own → Event (List ℕ)
+mark_word number column own = own_word number column own None Glued Apart
+
+abbrev pub marked : ℕ → ℕ → Option Own → List (Event (List ℕ)) → List (Event (List ℕ))
+marked number column None events = events
+marked number column (Some own) events = mark_word number column own ∷ events
+
+-- before the last of several names
+abbrev pub joined : ℕ → ℕ → NameCount → List (Event (List ℕ)) → List (Event (List ℕ))
+joined number column counts.One events = sentence_word number column owns.And ∷ events
+joined number column _ events = events
+
+-- the names that are left of this many, in bold, and the rest of the sentence
+abbrev pub names_events : ℕ → ℕ → Sentence → NameCount → List (Argument (List ℕ)) → List (Event (List ℕ))
+names_events number column sentence all [] = sentence_word number column (sentence_end sentence (is_plural all)) ∷ []
+names_events number column sentence all (name ∷ names) =
+    real_word number (Some B) name
+    ∷ marked number column (name_mark sentence (has_comma all (name_count names)))
+    (joined number column (name_count names) (names_events number column sentence all names))
+
+-- where no name is given, the name of the manual stands
+abbrev pub given_names : ℕ → ℕ → Sentence → List (Argument (List ℕ)) → List (Event (List ℕ))
+given_names number column sentence [] =
+    step_event number column steps.ManualName
+    ∷ marked number column (name_mark sentence false) (names_events number column sentence counts.Zero [])
+given_names number column sentence (name ∷ names) =
+    names_events number column sentence (name_count (name ∷ names)) (name ∷ names)
+
+abbrev pub sentence_events : ℕ → ℕ → Sentence → List (Argument (List ℕ)) → List (Event (List ℕ))
+sentence_events number column sentence names = sentence_word number column owns.The ∷ given_names number column sentence names
+
+-- ---- `In`
+
+-- a file in angles; other words stand as they are, and delimiters in their place
+abbrev pub file_events : ℕ → ℕ → List (Argument (List ℕ)) → List (Event (List ℕ))
+file_events number column [] = []
+file_events number column (file ∷ words) =
+    printed_word number None file ∷ own_word number column owns.CloseAngle None Glued Apart ∷ printed number None words
+
+abbrev pub include_events : ℕ → ℕ → List (Argument (List ℕ)) → List (Event (List ℕ))
+include_events number column [] = []
+include_events number column (word ∷ words) =
+    if is_real word then
+    synopsis_event number column Include
+    ∷ own_word number column owns.OpenAngle None Apart Glued
+    ∷ file_events number column (word ∷ words)
+    else printed_word number None word ∷ include_events number column words

@@ -1,0 +1,120 @@
+//! What begins enclosures over lines, and what ends them (mdoc(7), "Ao", "Bo", "Bro", "Do", "Eo", "Fo", "Oo", "Po", "Qo", "So",
+//! "Xo").
+
+ghost use Rattle.std.specs.Prelude.{◌≤◌, ◌∷◌, None, length};
+ghost use Rattle.page_core_base.specs.Latches.{Came};
+ghost use Rattle.page_sets_lines.specs.Events.{block_closer_seen, block_opener_seen, given_seen};
+ghost use Rattle.page_sets_lines.specs.Fits.{BlockCloserFits, BlockOpenerFits, GivenFits};
+ghost use Rattle.page_sets_lines.specs.PlainLines.{event_at};
+ghost use Rattle.page_sets_lines.specs.declared.events.Deed.TheVariants as deeds;
+ghost use Rattle.page_sets_lines.specs.declared.openers.Opener.TheVariants as begins;
+ghost use Rattle.page_sets_lines.specs.declared.openers.Closer.TheVariants as ends;
+ghost use Rattle.page_sets_mdoc_lines.specs.Cursors.{IsCursorOf};
+ghost use Rattle.page_sets_mdoc_lines.specs.Words.{AreIn, AreKnown, words_seen};
+ghost use Rattle.page_sets_mdoc_words.specs.Inlines as inlines;
+ghost use Rattle.page_sets_mdoc_words.specs.Printed.{printed};
+
+use crate::functions::give_function_opened;
+use crate::plain::{MacroName, give_printed, give_refused};
+use crate::printed::event_at;
+use page_core_limits::LINE;
+use page_roff_forms::Argument;
+use page_sets_lines::{BlockCloser, BlockOpener, Closer, Deed, EventTaker, Opener};
+use page_sets_mdoc_lines::{MacroWords, Words};
+use page_sets_mdoc_rows::Pair;
+
+// What opens a scope, and then the words.
+fn give_opener<'a, O: EventTaker<'a>>(
+    out: &mut O,
+    name: MacroName<'a>,
+    opener: BlockOpener<&'a [u8]>,
+    text: &'a [u8],
+    words: Words,
+)
+    requires short { length text.now ≤ LINE }
+    requires within { IsCursorOf text.now words.cursor }
+    requires fits { BlockOpenerFits (block_opener_seen opener) }
+    ensures { Came O.left out.old
+        (event_at name.entry.line name.entry.column (deeds.Open (begins.Block (block_opener_seen opener.entry)))
+        ∷ printed name.entry.line None (words_seen text.now words)) out.new }
+{
+    let deed = Deed::Open(Opener::Block(opener));
+    out.give(event_at(name.line, name.column, deed));
+    give_printed(out, name.line, None, text, words);
+}
+
+// What closes a scope, and then the words.
+fn give_closer<'a, O: EventTaker<'a>>(
+    out: &mut O,
+    name: MacroName<'a>,
+    closer: BlockCloser<&'a [u8]>,
+    text: &'a [u8],
+    words: Words,
+)
+    requires short { length text.now ≤ LINE }
+    requires within { IsCursorOf text.now words.cursor }
+    requires fits { BlockCloserFits (block_closer_seen closer) }
+    ensures { Came O.left out.old
+        (event_at name.entry.line name.entry.column (deeds.Close (ends.Block (block_closer_seen closer.entry)))
+        ∷ printed name.entry.line None (words_seen text.now words)) out.new }
+{
+    let deed = Deed::Close(Closer::Block(closer));
+    out.give(event_at(name.line, name.column, deed));
+    give_printed(out, name.line, None, text, words);
+}
+
+/// The first macro of a pair.
+pub(crate) fn give_opened<'a, O: EventTaker<'a>>(
+    out: &mut O,
+    name: MacroName<'a>,
+    pair: Pair,
+    text: &'a [u8],
+    words: MacroWords<'a>,
+)
+    requires short { length text.now ≤ LINE }
+    requires stand { AreIn text.now words }
+    requires known { AreKnown text.now words }
+    requires fits { GivenFits (given_seen words.taken) }
+    ensures { Came O.left out.old (inlines.opened name.entry.line name.entry.column name.entry.text.now pair
+        (given_seen words.entry.taken) (words_seen text.now words.entry.all)) out.new }
+{
+    match pair {
+        Pair::Quotation(quotation) => {
+            let opener = BlockOpener::Quotation(quotation);
+            give_opener(out, name, opener, text, words.all);
+        }
+        Pair::Custom => {
+            give_opener(out, name, BlockOpener::Custom(words.taken), text, words.all);
+        }
+        Pair::Extension => give_opener(out, name, BlockOpener::Extension, text, words.all),
+        Pair::Function if words.has_real => {
+            give_function_opened(out, name.line, name.column, text, words.all);
+        }
+        Pair::Function => give_refused(out, name, text, words.all),
+    }
+}
+
+/// The second macro of a pair.
+pub(crate) fn give_closed<'a, O: EventTaker<'a>>(
+    out: &mut O,
+    name: MacroName<'a>,
+    pair: Pair,
+    mark: Option<Argument<&'a [u8]>>,
+    text: &'a [u8],
+    words: Words,
+)
+    requires short { length text.now ≤ LINE }
+    requires within { IsCursorOf text.now words.cursor }
+    requires fits { GivenFits (given_seen mark) }
+    ensures { Came O.left out.old (inlines.closed name.entry.line name.entry.column pair
+        (given_seen mark.entry) (words_seen text.now words)) out.new }
+{
+    match pair {
+        Pair::Quotation(quotation) => {
+            give_closer(out, name, BlockCloser::Quotation(quotation), text, words);
+        }
+        Pair::Custom => give_closer(out, name, BlockCloser::Custom(mark), text, words),
+        Pair::Extension => give_closer(out, name, BlockCloser::Extension, text, words),
+        Pair::Function => give_closer(out, name, BlockCloser::Function, text, words),
+    }
+}

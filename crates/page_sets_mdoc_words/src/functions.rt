@@ -1,0 +1,130 @@
+//! Functions and their arguments (mdoc(7), "Fn", "Fa" and "Fo").
+
+ghost use Rattle.std.specs.Prelude.{◌≤◌, ◌++◌, length};
+ghost use Rattle.page_core_base.specs.Latches.{Came};
+ghost use Rattle.page_sets_mdoc_lines.specs.Cursors.{IsCursorOf};
+ghost use Rattle.page_sets_mdoc_lines.specs.Words.{words_seen};
+ghost use Rattle.page_sets_mdoc_words.specs.Inlines as inlines;
+
+use crate::plain::give_printed;
+use crate::printed::{event_at, own_word, printed_word, step_event};
+use page_core_base::Font;
+use page_core_limits::LINE;
+use page_sets_lines::{BlockOpener, Deed, EventTaker, Join, LineStep, Opener, Own};
+use page_sets_mdoc_lines::{Words, is_real};
+
+// The arguments of `Fn`: a comma before each but the first.
+fn give_arguments<'a, O: EventTaker<'a>>(
+    out: &mut O,
+    number: u32,
+    column: u32,
+    text: &'a [u8],
+    words: Words,
+)
+    requires short { length text.now ≤ LINE }
+    requires within { IsCursorOf text.now words.cursor }
+    ensures { Came O.left out.old (inlines.arguments number column (words_seen text.now words)) out.new }
+{
+    let mut left = words;
+    let mut is_first = true;
+    while let Some(word) = left.read(text) {
+        if is_real(word) {
+            if !is_first {
+                out.give(own_word(number, column, Own::Comma, None, Join::Glued, Join::Apart));
+            }
+            is_first = false;
+        }
+        out.give(printed_word(number, Some(Font::I), word));
+    }
+}
+
+// The name of a function, and then its arguments.
+fn give_function_words<'a, O: EventTaker<'a>>(
+    out: &mut O,
+    number: u32,
+    column: u32,
+    text: &'a [u8],
+    words: Words,
+)
+    requires short { length text.now ≤ LINE }
+    requires within { IsCursorOf text.now words.cursor }
+    ensures { Came O.left out.old (inlines.function_words number column (words_seen text.now words)) out.new }
+{
+    let mut left = words;
+    while let Some(word) = left.read(text) {
+        out.give(printed_word(number, Some(Font::B), word));
+        if is_real(word) {
+            let opening = Own::OpenParenthesis;
+            out.give(own_word(number, column, opening, None, Join::Glued, Join::Glued));
+            give_arguments(out, number, column, text, left);
+            return;
+        }
+    }
+}
+
+/// `Fn`: a function with its arguments; the closing delimiters at the end come after its end.
+pub(crate) fn give_function<'a, O: EventTaker<'a>>(
+    out: &mut O,
+    number: u32,
+    column: u32,
+    text: &'a [u8],
+    inside: Words,
+    outside: Words,
+)
+    requires short { length text.now ≤ LINE }
+    requires within { IsCursorOf text.now inside.cursor }
+    requires after { IsCursorOf text.now outside.cursor }
+    ensures { Came O.left out.old (inlines.function_words number column (words_seen text.now inside)
+        ++ inlines.function_end number column (words_seen text.now outside)) out.new }
+{
+    give_function_words(out, number, column, text, inside);
+    out.give(step_event(number, column, LineStep::FunctionEnd));
+    give_printed(out, number, None, text, outside);
+}
+
+/// `Fa`: each word is the next argument of the function that is open.
+pub(crate) fn give_next_arguments<'a, O: EventTaker<'a>>(
+    out: &mut O,
+    number: u32,
+    column: u32,
+    text: &'a [u8],
+    words: Words,
+)
+    requires short { length text.now ≤ LINE }
+    requires within { IsCursorOf text.now words.cursor }
+    ensures { Came O.left out.old (inlines.next_arguments number column (words_seen text.now words)) out.new }
+{
+    let mut left = words;
+    while let Some(word) = left.read(text) {
+        if is_real(word) {
+            out.give(step_event(number, column, LineStep::NextArgument));
+            out.give(printed_word(number, Some(Font::I), word));
+        } else {
+            out.give(printed_word(number, None, word));
+        }
+    }
+}
+
+/// `Fo`: the first word that is no delimiter is the name of a function that goes on over lines.
+pub(crate) fn give_function_opened<'a, O: EventTaker<'a>>(
+    out: &mut O,
+    number: u32,
+    column: u32,
+    text: &'a [u8],
+    words: Words,
+)
+    requires short { length text.now ≤ LINE }
+    requires within { IsCursorOf text.now words.cursor }
+    ensures { Came O.left out.old (inlines.function_opened number column (words_seen text.now words)) out.new }
+{
+    let mut left = words;
+    while let Some(word) = left.read(text) {
+        if is_real(word) {
+            let opener = BlockOpener::Function(word);
+            out.give(event_at(number, column, Deed::Open(Opener::Block(opener))));
+            give_printed(out, number, None, text, left);
+            return;
+        }
+        out.give(printed_word(number, None, word));
+    }
+}

@@ -1,0 +1,85 @@
+//! `Lk`: a link with its texts (mdoc(7), "Lk").
+
+ghost use Rattle.std.specs.Prelude.{◌≤◌, ◌++◌, None, length};
+ghost use Rattle.page_core_base.specs.Latches.{Came};
+ghost use Rattle.page_roff_forms.specs.Arguments.{argument_seen};
+ghost use Rattle.page_sets_lines.specs.Fits.{ArgumentFits};
+ghost use Rattle.page_sets_mdoc_lines.specs.Cursors.{IsCursorOf};
+ghost use Rattle.page_sets_mdoc_lines.specs.Words.{words_seen};
+ghost use Rattle.page_sets_mdoc_words.specs.Inlines as inlines;
+ghost use Rattle.page_sets_mdoc_words.specs.Printed.{printed};
+
+use crate::plain::give_printed;
+use crate::printed::{own_word, printed_word, step_event};
+use page_core_base::Font;
+use page_core_limits::LINE;
+use page_roff_forms::Argument;
+use page_sets_lines::{EventTaker, Join, LineStep, Own};
+use page_sets_mdoc_lines::{Words, is_real};
+
+// An address, after its texts.
+fn give_address<'a, O: EventTaker<'a>>(
+    out: &mut O,
+    number: u32,
+    column: u32,
+    uri: Argument<&'a [u8]>,
+    text: &'a [u8],
+    texts: Words,
+)
+    requires short { length text.now ≤ LINE }
+    requires within { IsCursorOf text.now texts.cursor }
+    requires fits { ArgumentFits (argument_seen uri) }
+    ensures { Came O.left out.old
+        (inlines.address number column (argument_seen uri.entry) (words_seen text.now texts)) out.new }
+{
+    let mut left = texts;
+    let Some(first) = left.read(text) else {
+        out.give(step_event(number, column, LineStep::Uri(uri)));
+        return;
+    };
+    out.give(printed_word(number, Some(Font::I), first));
+    give_printed(out, number, Some(Font::I), text, left);
+    out.give(own_word(number, column, Own::Colon, None, Join::Glued, Join::Apart));
+    out.give(step_event(number, column, LineStep::Uri(uri)));
+}
+
+// The words of a link up to its closing delimiters: the first that is no delimiter is the address.
+fn give_link_words<'a, O: EventTaker<'a>>(
+    out: &mut O,
+    number: u32,
+    column: u32,
+    text: &'a [u8],
+    words: Words,
+)
+    requires short { length text.now ≤ LINE }
+    requires within { IsCursorOf text.now words.cursor }
+    ensures { Came O.left out.old (inlines.link_words number column (words_seen text.now words)) out.new }
+{
+    let mut left = words;
+    while let Some(word) = left.read(text) {
+        if is_real(word) {
+            give_address(out, number, column, word, text, left);
+            return;
+        }
+        out.give(printed_word(number, None, word));
+    }
+}
+
+/// A link, and the closing delimiters at the end.
+pub(crate) fn give_link<'a, O: EventTaker<'a>>(
+    out: &mut O,
+    number: u32,
+    column: u32,
+    text: &'a [u8],
+    inside: Words,
+    outside: Words,
+)
+    requires short { length text.now ≤ LINE }
+    requires within { IsCursorOf text.now inside.cursor }
+    requires after { IsCursorOf text.now outside.cursor }
+    ensures { Came O.left out.old (inlines.link_words number column (words_seen text.now inside)
+        ++ printed number None (words_seen text.now outside)) out.new }
+{
+    give_link_words(out, number, column, text, inside);
+    give_printed(out, number, None, text, outside);
+}

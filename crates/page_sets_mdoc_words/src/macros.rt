@@ -1,0 +1,188 @@
+//! The macros that can stand among words, by their rows (mdoc(7), "MACRO REFERENCE").
+
+ghost use Rattle.std.specs.Prelude.{◌≡◌, ◌≤◌, [], ◌∷◌, None, Some, length};
+ghost use Rattle.page_core_base.specs.Latches.{Came};
+ghost use Rattle.page_sets_lines.specs.Events.{event_seen, given_seen};
+ghost use Rattle.page_sets_lines.specs.Fits.{GivenFits, IsShort};
+ghost use Rattle.page_sets_names.specs.declared.own_texts.Own.TheVariants.{Apostrophe};
+ghost use Rattle.page_sets_lines.specs.declared.events.Join.TheVariants.{Glued};
+ghost use Rattle.page_sets_mdoc_lines.specs.Cursors.{IsCursorOf};
+ghost use Rattle.page_sets_mdoc_lines.specs.Words.{AreIn, AreKnown, words_seen};
+ghost use Rattle.page_sets_mdoc_words.specs.Inlines as inlines;
+ghost use Rattle.page_sets_mdoc_words.specs.Printed.{own_word, printed};
+ghost use Rattle.page_sets_mdoc_words.specs.Synopses as synopses;
+
+use crate::enclosures::{give_closed, give_opened};
+use crate::flags::give_flags;
+use crate::functions::{give_function, give_next_arguments};
+use crate::links::give_link;
+use crate::names::{Lone, give_lone, give_named};
+use crate::plain::{MacroName, give_printed, give_refused};
+use crate::printed::{event_at, own_word, step_event};
+use crate::references::give_reference;
+use crate::synopses::{after_words, before_words};
+use crate::systems::{give_bsd, system_word};
+use crate::taken_words::{give_author, give_prefix};
+use page_core_base::Font;
+use page_core_limits::LINE;
+use page_sets_lines::{Deed, Event, EventTaker, Join, LineOpener, LineStep, Own, SynopsisStep};
+use page_sets_mdoc_lines::{MacroWords, Words};
+use page_sets_mdoc_rows::Inline;
+
+// An event, and then the words.
+fn give_before<'a, O: EventTaker<'a>>(
+    out: &mut O,
+    event: Event<&'a [u8]>,
+    number: u32,
+    text: &'a [u8],
+    words: Words,
+)
+    requires short { length text.now ≤ LINE }
+    requires within { IsCursorOf text.now words.cursor }
+    requires fits { IsShort (event_seen event) }
+    ensures { Came O.left out.old (event_seen event.entry ∷ printed number None (words_seen text.now words)) out.new }
+{
+    out.give(event);
+    give_printed(out, number, None, text, words);
+}
+
+// Words in a font, of a macro that needs one.
+fn give_font_words<'a, O: EventTaker<'a>>(
+    out: &mut O,
+    name: MacroName<'a>,
+    font: Font,
+    text: &'a [u8],
+    words: MacroWords<'a>,
+)
+    requires short { length text.now ≤ LINE }
+    requires stand { AreIn text.now words }
+    requires known { AreKnown text.now words }
+    ensures { Came O.left out.old (inlines.with_words name.entry.line name.entry.column name.entry.text.now
+        (words_seen text.now words.entry.all)
+        (printed name.entry.line (Some font) (words_seen text.now words.entry.all))) out.new }
+{
+    if words.has_real {
+        give_printed(out, name.line, Some(font), text, words.all);
+    } else {
+        give_refused(out, name, text, words.all);
+    }
+}
+
+// The text of `Ap`.
+fn apostrophe<'a>(number: u32, column: u32) -> Event<&'a [u8]>
+    ensures { event_seen result ≡ own_word number column Apostrophe None Glued Glued }
+{
+    let own = Own::Apostrophe;
+    own_word(number, column, own, None, Join::Glued, Join::Glued)
+}
+
+// A macro with its words.
+fn give_inline<'a, O: EventTaker<'a>>(
+    out: &mut O,
+    name: MacroName<'a>,
+    inline: Inline,
+    text: &'a [u8],
+    words: MacroWords<'a>,
+)
+    requires short { length text.now ≤ LINE }
+    requires stand { AreIn text.now words }
+    requires known { AreKnown text.now words }
+    requires fits { GivenFits (given_seen words.taken) }
+    ensures { Came O.left out.old (inlines.inline_events name.entry.line name.entry.column name.entry.text.now inline
+        (given_seen words.entry.taken) (words_seen text.now words.entry.all) words.entry.follows) out.new }
+{
+    let MacroName { line, column, .. } = name;
+    let MacroWords { all, has_real, .. } = words;
+    match inline {
+        Inline::Words(font) => give_font_words(out, name, font, text, words),
+        Inline::Declaration => give_font_words(out, name, Font::B, text, words),
+        Inline::TypeName => give_font_words(out, name, Font::I, text, words),
+        Inline::Author => give_author(out, name, words.taken, text, all, has_real),
+        Inline::Name if has_real => give_named(out, line, column, text, all),
+        Inline::Name => give_lone(out, line, column, Lone::ManualName, text, all),
+        Inline::Defaulted(_) if has_real => give_printed(out, line, Some(Font::I), text, all),
+        Inline::Defaulted(default) => {
+            give_lone(out, line, column, Lone::Default(default), text, all);
+        }
+        Inline::Flag if has_real => give_flags(out, line, text, all),
+        Inline::Flag => {
+            let follows = words.follows;
+            give_lone(out, line, column, Lone::Dash { follows }, text, all);
+        }
+        Inline::Arguments if has_real => give_next_arguments(out, line, column, text, all),
+        Inline::Reference if has_real => give_reference(out, line, text, all),
+        Inline::Function if has_real => {
+            give_function(out, line, column, text, words.inside, words.outside);
+        }
+        Inline::Link if has_real => {
+            give_link(out, line, column, text, words.inside, words.outside);
+        }
+        Inline::Arguments | Inline::Reference | Inline::Function | Inline::Link => {
+            give_refused(out, name, text, all);
+        }
+        Inline::System(system) => {
+            give_before(out, system_word(line, column, system), line, text, all);
+        }
+        Inline::Bsd => give_bsd(out, line, column, text, all),
+        Inline::NoSpace => {
+            give_before(
+                out,
+                step_event(line, column, LineStep::Glue),
+                line,
+                text,
+                all,
+            );
+        }
+        Inline::Apostrophe => give_before(out, apostrophe(line, column), line, text, all),
+        Inline::NextColumn => {
+            let event = step_event(line, column, LineStep::NextColumn);
+            give_before(out, event, line, text, all);
+        }
+        Inline::Prefix => give_prefix(out, name, words.taken, text, all),
+        Inline::Enclosure(marks) => {
+            let opener = LineOpener::Enclosure(marks);
+            let event = event_at(line, column, Deed::LineScope(opener));
+            give_before(out, event, line, text, all);
+        }
+        Inline::Opens(pair) => give_opened(out, name, pair, text, words),
+        Inline::Closes(pair) => give_closed(out, name, pair, words.taken, text, all),
+    }
+}
+
+// What a macro does in the SYNOPSIS before its words, or after them.
+fn give_synopsis<'a, O: EventTaker<'a>>(
+    out: &mut O,
+    number: u32,
+    column: u32,
+    step: Option<SynopsisStep>,
+)
+    ensures { Came O.left out.old (synopses.preceded number column step []) out.new }
+{
+    if let Some(step) = step {
+        out.give(step_event(number, column, LineStep::Synopsis(step)));
+    }
+}
+
+/// Gives a macro with its words, the first of its line or not, with what it does in the SYNOPSIS.
+#[tactic(auto, using(crate::proofs::SynopsisLemmas::framed_by))]
+pub fn give_macro<'a, O: EventTaker<'a>>(
+    out: &mut O,
+    first: bool,
+    name: MacroName<'a>,
+    inline: Inline,
+    text: &'a [u8],
+    words: MacroWords<'a>,
+)
+    requires short { length text.now ≤ LINE }
+    requires stand { AreIn text.now words }
+    requires known { AreKnown text.now words }
+    requires fits { GivenFits (given_seen words.taken) }
+    ensures { Came O.left out.old (synopses.placed_events first name.entry.line name.entry.column name.entry.text.now inline
+        (given_seen words.entry.taken) (words_seen text.now words.entry.all) words.entry.follows) out.new }
+{
+    let before = before_words(first, inline, words.has_real);
+    let after = after_words(first, inline, words.has_real);
+    give_synopsis(out, name.line, name.column, before);
+    give_inline(out, name, inline, text, words);
+    give_synopsis(out, name.line, name.column, after);
+}

@@ -1,0 +1,119 @@
+//! Words and delimiters as they are printed (mdoc(7), "MACRO SYNTAX" and "Delimiters").
+
+ghost use Rattle.std.specs.Prelude.{◌≡◌};
+ghost use Rattle.page_roff_forms.specs.Arguments.{argument_seen};
+ghost use Rattle.page_sets_lines.specs.Events.{event_seen, deed_seen, step_seen};
+ghost use Rattle.page_sets_lines.specs.Fits.{ArgumentFits, IsShort};
+ghost use Rattle.page_sets_lines.specs.PlainLines.{event_at};
+ghost use Rattle.page_sets_mdoc_words.specs.Printed as printed;
+
+use page_core_base::{Font, Place};
+use page_roff_forms::Argument;
+use page_sets_lines::{Deed, Event, Join, Leaf, LineStep, Own, OwnWord, Role, Word};
+use page_sets_mdoc_lines::word_delimiter;
+use page_sets_mdoc_rows::Delimiter;
+
+/// An event in a column of a line.
+pub fn event_at<'a>(number: u32, column: u32, deed: Deed<&'a [u8]>) -> Event<&'a [u8]>
+    ensures { event_seen result ≡ event_at number column (deed_seen deed.entry) }
+{
+    Event {
+        place: Place {
+            line: number,
+            column,
+        },
+        deed,
+    }
+}
+
+/// An argument as a word, in its own column.
+pub fn word_event(
+    number: u32,
+    role: Role,
+    font: Option<Font>,
+    before: Join,
+    after: Join,
+    word: Argument<&[u8]>,
+) -> Event<&[u8]>
+    ensures { event_seen result ≡ printed.word_event number role font before after (argument_seen word.entry) }
+{
+    event_at(
+        number,
+        word.column,
+        Deed::Word(Word {
+            arg: word,
+            role,
+            font,
+            before,
+            after,
+        }),
+    )
+}
+
+/// A word that is no delimiter, or stands for none, between blanks.
+pub fn real_word(number: u32, font: Option<Font>, word: Argument<&[u8]>) -> Event<&[u8]>
+    ensures { event_seen result ≡ printed.real_word number font (argument_seen word.entry) }
+{
+    word_event(number, Role::Argument, font, Join::Apart, Join::Apart, word)
+}
+
+// A delimiter in its place.
+fn delimiter_word(number: u32, delimiter: Delimiter, word: Argument<&[u8]>) -> Event<&[u8]>
+    ensures { event_seen result ≡ printed.delimiter_word number delimiter (argument_seen word.entry) }
+{
+    let (before, after) = match delimiter {
+        Delimiter::Opening => (Join::Apart, Join::Glued),
+        Delimiter::Middle => (Join::Apart, Join::Apart),
+        Delimiter::Closing => (Join::Glued, Join::Apart),
+    };
+    word_event(number, Role::Delimiter, Some(Font::R), before, after, word)
+}
+
+/// A word in a font, or a delimiter in its place.
+pub fn printed_word(number: u32, font: Option<Font>, word: Argument<&[u8]>) -> Event<&[u8]>
+    ensures event { event_seen result ≡ printed.printed_word number font (argument_seen word.entry) }
+    ensures short { ArgumentFits (argument_seen word.entry) → IsShort (event_seen result) }
+{
+    match word_delimiter(word) {
+        Some(delimiter) => delimiter_word(number, delimiter, word),
+        None => real_word(number, font, word),
+    }
+}
+
+/// A text of the macro's own.
+pub fn own_word<'a>(
+    number: u32,
+    column: u32,
+    own: Own,
+    font: Option<Font>,
+    before: Join,
+    after: Join,
+) -> Event<&'a [u8]>
+    ensures { event_seen result ≡ printed.own_word number column own font before after }
+{
+    event_at(
+        number,
+        column,
+        Deed::Leaf(Leaf::Own(OwnWord {
+            own,
+            font,
+            before,
+            after,
+        })),
+    )
+}
+
+/// What a macro changes in its line.
+pub fn step_event<'a>(number: u32, column: u32, step: LineStep<&'a [u8]>) -> Event<&'a [u8]>
+    ensures { event_seen result ≡ printed.step_event number column (step_seen step.entry) }
+{
+    event_at(number, column, Deed::Leaf(Leaf::Step(step)))
+}
+
+/// Whether a word is an opening delimiter.
+#[tactic(auto, unfolding(crate::specs::Printed::is_opening))]
+pub fn is_opening(word: Argument<&[u8]>) -> bool
+    ensures { result ≡ printed.is_opening (argument_seen word.entry) }
+{
+    matches!(word_delimiter(word), Some(Delimiter::Opening))
+}

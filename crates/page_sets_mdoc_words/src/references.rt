@@ -1,0 +1,55 @@
+//! `Xr`: another manual (mdoc(7), "Xr").
+
+ghost use Rattle.std.specs.Prelude.{◌≤◌, length};
+ghost use Rattle.page_core_base.specs.Latches.{Came};
+ghost use Rattle.page_sets_mdoc_lines.specs.Cursors.{IsCursorOf};
+ghost use Rattle.page_sets_mdoc_lines.specs.Words.{words_seen};
+ghost use Rattle.page_sets_mdoc_words.specs.Inlines as inlines;
+
+use crate::plain::give_printed;
+use crate::printed::{own_word, printed_word};
+use page_core_limits::LINE;
+use page_sets_lines::{EventTaker, Join, Own};
+use page_sets_mdoc_lines::{Words, is_real};
+
+// The section, in parentheses.
+fn give_section<'a, O: EventTaker<'a>>(out: &mut O, number: u32, text: &'a [u8], words: Words)
+    requires short { length text.now ≤ LINE }
+    requires within { IsCursorOf text.now words.cursor }
+    ensures { Came O.left out.old (inlines.section number (words_seen text.now words)) out.new }
+{
+    let mut left = words;
+    while let Some(word) = left.read(text) {
+        if is_real(word) {
+            let column = word.column;
+            let (opening, closing) = (Own::OpenParenthesis, Own::CloseParenthesis);
+            out.give(own_word(number, column, opening, None, Join::Glued, Join::Glued));
+            out.give(printed_word(number, None, word));
+            out.give(own_word(number, column, closing, None, Join::Glued, Join::Apart));
+            give_printed(out, number, None, text, left);
+            return;
+        }
+        out.give(printed_word(number, None, word));
+    }
+}
+
+/// The name of another manual, then its section in parentheses.
+pub(crate) fn give_reference<'a, O: EventTaker<'a>>(
+    out: &mut O,
+    number: u32,
+    text: &'a [u8],
+    words: Words,
+)
+    requires short { length text.now ≤ LINE }
+    requires within { IsCursorOf text.now words.cursor }
+    ensures { Came O.left out.old (inlines.reference number (words_seen text.now words)) out.new }
+{
+    let mut left = words;
+    while let Some(word) = left.read(text) {
+        out.give(printed_word(number, None, word));
+        if is_real(word) {
+            give_section(out, number, text, left);
+            return;
+        }
+    }
+}

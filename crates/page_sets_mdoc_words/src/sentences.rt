@@ -1,0 +1,180 @@
+//! The sentences of `Ex` and `Rv` (mdoc(7), "Ex" and "Rv").
+
+ghost use Rattle.std.specs.Prelude.{◌≡◌, ◌≤◌, [], ◌∷◌, false, length, if◌then◌else◌};
+ghost use Rattle.page_sets_lines.specs.declared.line_steps.LineStep.TheVariants.{ManualName};
+ghost use Rattle.page_core_base.specs.Latches.{Came};
+ghost use Rattle.page_sets_lines.specs.Events.{event_seen};
+ghost use Rattle.page_sets_mdoc_lines.specs.Cursors.{IsCursorOf};
+ghost use Rattle.page_sets_mdoc_lines.specs.Words.{words_seen};
+ghost use Rattle.page_sets_mdoc_words.specs.Printed.{step_event};
+ghost use Rattle.page_sets_mdoc_words.specs.Sentences as sentences;
+
+use crate::printed::{own_word, real_word, step_event};
+use page_core_base::Font;
+use page_core_limits::LINE;
+use page_sets_lines::{Event, EventTaker, Join, LineStep, Own};
+use page_sets_mdoc_lines::Words;
+use page_sets_mdoc_rows::Sentence;
+
+/// How many names there are.
+#[derive(Clone, Copy)]
+pub(crate) enum NameCount {
+    Zero,
+    One,
+    Two,
+    /// Three or more.
+    More,
+}
+
+// How many names there are.
+fn name_count(text: &[u8], names: Words) -> NameCount
+    requires short { length text.now ≤ LINE }
+    requires within { IsCursorOf text.now names.cursor }
+    ensures { result ≡ sentences.name_count (words_seen text.now names) }
+{
+    let mut ahead = names;
+    if ahead.read(text).is_none() {
+        return NameCount::Zero;
+    }
+    if ahead.read(text).is_none() {
+        return NameCount::One;
+    }
+    match ahead.read(text) {
+        None => NameCount::Two,
+        Some(_) => NameCount::More,
+    }
+}
+
+// Whether there are several.
+fn is_plural(count: NameCount) -> bool
+    ensures { result ≡ sentences.is_plural count }
+{
+    matches!(count, NameCount::Two | NameCount::More)
+}
+
+// Whether a comma stands after a name of this many, of which some are left.
+fn has_comma(all: NameCount, left: NameCount) -> bool
+    ensures { result ≡ sentences.has_comma all left }
+{
+    matches!(all, NameCount::More) && !matches!(left, NameCount::Zero)
+}
+
+// What is glued to a name.
+fn name_mark(sentence: Sentence, has_comma: bool) -> Option<Own>
+    ensures { result ≡ sentences.name_mark sentence has_comma }
+{
+    match sentence {
+        Sentence::Exit if has_comma => Some(Own::Comma),
+        Sentence::Exit => None,
+        Sentence::Return if has_comma => Some(Own::CallComma),
+        Sentence::Return => Some(Own::Call),
+    }
+}
+
+// The rest of the sentence.
+fn sentence_end(sentence: Sentence, is_plural: bool) -> Own
+    ensures { result ≡ sentences.sentence_end sentence is_plural }
+{
+    match sentence {
+        Sentence::Exit if is_plural => Own::UtilitiesExit,
+        Sentence::Exit => Own::UtilityExits,
+        Sentence::Return if is_plural => Own::FunctionsReturn,
+        Sentence::Return => Own::FunctionReturns,
+    }
+}
+
+// A word of the sentence.
+fn sentence_word<'a>(number: u32, column: u32, own: Own) -> Event<&'a [u8]>
+    ensures { event_seen result ≡ sentences.sentence_word number column own }
+{
+    own_word(number, column, own, None, Join::Apart, Join::Apart)
+}
+
+// What is glued to a name.
+fn give_mark<'a, O: EventTaker<'a>>(out: &mut O, number: u32, column: u32, mark: Option<Own>)
+    ensures { Came O.left out.old (sentences.marked number column mark []) out.new }
+{
+    if let Some(own) = mark {
+        out.give(own_word(number, column, own, None, Join::Glued, Join::Apart));
+    }
+}
+
+// The word before the last of several names.
+fn give_and<'a, O: EventTaker<'a>>(out: &mut O, number: u32, column: u32, left: NameCount)
+    ensures { Came O.left out.old (sentences.joined number column left []) out.new }
+{
+    if let NameCount::One = left {
+        out.give(sentence_word(number, column, Own::And));
+    }
+}
+
+// All names of this many, and the rest of the sentence.
+#[tactic(auto, using(crate::proofs::SentenceLemmas::name_goes_on))]
+fn give_names<'a, O: EventTaker<'a>>(
+    out: &mut O,
+    number: u32,
+    column: u32,
+    sentence: Sentence,
+    all: NameCount,
+    text: &'a [u8],
+    names: Words,
+)
+    requires short { length text.now ≤ LINE }
+    requires within { IsCursorOf text.now names.cursor }
+    ensures { Came O.left out.old
+        (sentences.names_events number column sentence all (words_seen text.now names)) out.new }
+{
+    let mut left = names;
+    while let Some(name) = left.read(text) {
+        let others = name_count(text, left);
+        out.give(real_word(number, Some(Font::B), name));
+        give_mark(
+            out,
+            number,
+            column,
+            name_mark(sentence, has_comma(all, others)),
+        );
+        give_and(out, number, column, others);
+    }
+    let end = sentence_end(sentence, is_plural(all));
+    out.give(sentence_word(number, column, end));
+}
+
+// The name of the manual, where no name is given, with what is glued to it.
+fn give_manual_name<'a, O: EventTaker<'a>>(
+    out: &mut O,
+    number: u32,
+    column: u32,
+    sentence: Sentence,
+    all: NameCount,
+)
+    ensures { Came O.left out.old (if sentences.is_zero all
+        then step_event number column ManualName ∷ sentences.marked number column (sentences.name_mark sentence false) []
+        else []) out.new }
+{
+    if let NameCount::Zero = all {
+        out.give(step_event(number, column, LineStep::ManualName));
+        give_mark(out, number, column, name_mark(sentence, false));
+    }
+}
+
+/// Gives a sentence with its names, or with the name of the manual where none is given.
+#[tactic(auto, using(crate::proofs::SentenceLemmas::given_by))]
+pub fn give_sentence<'a, O: EventTaker<'a>>(
+    out: &mut O,
+    number: u32,
+    column: u32,
+    sentence: Sentence,
+    text: &'a [u8],
+    names: Words,
+)
+    requires short { length text.now ≤ LINE }
+    requires within { IsCursorOf text.now names.cursor }
+    ensures { Came O.left out.old
+        (sentences.sentence_events number column sentence (words_seen text.now names)) out.new }
+{
+    let all = name_count(text, names);
+    out.give(sentence_word(number, column, Own::The));
+    give_manual_name(out, number, column, sentence, all);
+    give_names(out, number, column, sentence, all, text, names);
+}
