@@ -162,7 +162,7 @@ deed_kinds (deeds.LineScope opener) = inr (record { steps = λ e. refl; items = 
 deed_kinds (deeds.Leaf l) = leaf_kinds l
 deed_kinds (deeds.Raw text) = inr (record { steps = λ e. refl; items = λ b e. refl; after = λ b e. refl })
 deed_kinds (deeds.End fills) = inr (record { steps = λ e. refl; items = λ b e. refl; after = λ b e. refl })
-deed_kinds (deeds.Note kind detail begins_body) = inr (record { steps = λ e. refl; items = λ b e. refl; after = λ b e. refl })
+deed_kinds (deeds.Note kind detail is_quoted begins_body) = inr (record { steps = λ e. refl; items = λ b e. refl; after = λ b e. refl })
 
 Same : Deed (List ℕ) → BodyEdge → Event (List ℕ) → Type 0
 Same deed b event = (tree_items b (deed_steps deed event) ≡ deed_items deed b event) × (tree_after b (deed_steps deed event) ≡ deed_after deed b event)

@@ -56,7 +56,7 @@ deed_fits (deeds.LineScope opener) = tt
 deed_fits (deeds.Leaf the_leaf) = tt
 deed_fits (deeds.Raw text) = tt
 deed_fits (deeds.End fills) = tt
-deed_fits (deeds.Note kind detail begins) = tt
+deed_fits (deeds.Note kind detail is_quoted begins_body) = tt
 
 abbrev man : Layout Label Step Fact LayoutState Kept Item
 man = framed layout_tables

@@ -68,7 +68,7 @@ deed_begins (deeds.LineScope opener) = line_begins opener
 deed_begins (deeds.Leaf leaf) = leaf_begins leaf
 deed_begins (deeds.Raw text) = true
 deed_begins (deeds.End fills) = false
-deed_begins (deeds.Note kind detail begins_body) = begins_body
+deed_begins (deeds.Note kind detail is_quoted begins_body) = begins_body
 
 abbrev pub begins : Deed (List ℕ) → (has_begun : Bool) → Bool
 begins deed has_begun = not has_begun && deed_begins deed

@@ -11,7 +11,7 @@ use Rattle.page_scopes_phrases.specs.Outcomes.{Outcome, after_notes, nothing}
 use Rattle.page_scopes_leaves.specs.RawLines.{raw_line}
 use Rattle.page_scopes_phrases.specs.declared.kept_texts.KeptText.{KeptText}
 use Rattle.page_scopes_phrases.specs.declared.runnings.Running.{Running}
-use Rattle.page_scopes_words.specs.Words.{says}
+use Rattle.page_scopes_words.specs.Words.{says, shown_part}
 use Rattle.page_sets_lines.specs.declared.events.Deed.{Deed}
 use Rattle.page_sets_lines.specs.declared.events.Deed.TheVariants as deeds
 
@@ -28,7 +28,7 @@ deed_outcome place (deeds.LineScope opener) name c r = nothing c r
 deed_outcome place (deeds.Leaf leaf) name c r = leaf_outcome place leaf name c r
 deed_outcome place (deeds.Raw text) name c r = raw_line place text c r
 deed_outcome place (deeds.End fills) name c r = line_end c r
-deed_outcome place (deeds.Note kind detail begins_body) name c r = message place kind detail c r
+deed_outcome place (deeds.Note kind detail is_quoted begins_body) name c r = message place kind (shown_part is_quoted detail) c r
 
 -- the name of the manual after it
 abbrev pub name_after : Deed (List ℕ) → Option KeptText → Option KeptText

@@ -10,7 +10,7 @@ use crate::{end_line, give_leaf, give_raw_line};
 use page_core_base::{PieceOut, Place};
 use page_scopes_layout::Context;
 use page_scopes_phrases::{KeptText, Running, give_line_word, keep_name};
-use page_scopes_words::report;
+use page_scopes_words::report_part;
 use page_sets_lines::Deed;
 
 /// Gives a word, a leaf, a line as it is, a line's end, or a message; nothing of what opens or closes. The name is that of the manual.
@@ -38,7 +38,12 @@ pub fn give_deed<O: PieceOut>(
         Deed::Leaf(leaf) => give_leaf(out, place, leaf, name, context, running),
         Deed::Raw(text) => give_raw_line(out, place, text, context, running),
         Deed::End { .. } => end_line(out, context, running),
-        Deed::Note { kind, detail, .. } => report(out, *kind, place, detail),
+        Deed::Note {
+            kind,
+            detail,
+            is_quoted,
+            ..
+        } => report_part(out, *is_quoted, *kind, place, detail),
         Deed::Open(_) | Deed::Close(_) | Deed::LineScope(_) => {}
     }
 }

@@ -42,7 +42,7 @@ quotation false = deeds.Close (closers.Block (block_closers.Quotation Do))
 
 -- a name that is none of the set's
 abbrev pub unknown : Line → Event (List ℕ)
-unknown line = event_at line.number (name_column line.text) (deeds.Note UnknownMacro (name_of line) false)
+unknown line = event_at line.number (name_column line.text) (deeds.Note UnknownMacro (name_of line) false false)
 
 -- the events of a line from a place on
 abbrev pub events_from : Line → MarkedPlace → List (Event (List ℕ))

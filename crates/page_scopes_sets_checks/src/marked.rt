@@ -112,6 +112,7 @@ fn unknown<'a>(line: Taken<'a>) -> Event<&'a [u8]>
     let deed = Deed::Note {
         kind: NoteKind::UnknownMacro,
         detail: &line.text[name.start..name.end],
+        is_quoted: false,
         begins_body: false,
     };
     event_at(line.line, name.start as u32 + 1, deed)

@@ -96,7 +96,7 @@ deed-fits (deeds.LineScope opener) nodes = omega arith
 deed-fits (deeds.Leaf leaf) nodes = leaf-fits leaf nodes
 deed-fits (deeds.Raw text) nodes = prefix_len-le-length is_line nodes
 deed-fits (deeds.End fills) nodes = either-fits fills (line_scopes nodes) 0 (length nodes) (prefix_len-le-length is_line nodes) (omega arith)
-deed-fits (deeds.Note kind detail begins_body) nodes = omega arith
+deed-fits (deeds.Note kind detail is_quoted begins_body) nodes = omega arith
 
 pub act-fits : (act : Act (Event (List ℕ))) (nodes : List Label) → act_ends act nodes ≤ length nodes
 act-fits (acts.Event event) nodes = deed-fits event.deed nodes
@@ -202,7 +202,7 @@ deed-room (deeds.LineScope opener) n remaining h = line-room opener remaining h
 deed-room (deeds.Leaf leaf) n remaining h = absurd (leaf-opens leaf remaining h)
 deed-room (deeds.Raw text) n remaining h = absurd h
 deed-room (deeds.End fills) n remaining h = absurd h
-deed-room (deeds.Note kind detail begins_body) n remaining h = absurd h
+deed-room (deeds.Note kind detail is_quoted begins_body) n remaining h = absurd h
 
 pub act-room : (act : Act (Event (List ℕ))) (n : ℕ) (remaining : List Label) (label : Label) → act_fate act n remaining ≡ fates.Node label → length remaining < SCOPES
 unfolding Opens

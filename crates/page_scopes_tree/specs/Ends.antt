@@ -107,7 +107,7 @@ deed_ends (deeds.LineScope opener) nodes = 0
 deed_ends (deeds.Leaf leaf) nodes = leaf_ends leaf nodes
 deed_ends (deeds.Raw text) nodes = line_scopes nodes
 deed_ends (deeds.End fills) nodes = if fills then line_scopes nodes else 0
-deed_ends (deeds.Note kind detail begins_body) nodes = 0
+deed_ends (deeds.Note kind detail is_quoted begins_body) nodes = 0
 
 -- the page's end ends all
 abbrev pub act_ends : Act (Event (List ℕ)) → List Label → ℕ

@@ -127,7 +127,7 @@ deed_fate (deeds.LineScope opener) n remaining = line_fate opener remaining
 deed_fate (deeds.Leaf leaf) n remaining = leaf_fate leaf remaining
 deed_fate (deeds.Raw text) n remaining = fates.Leaf
 deed_fate (deeds.End fills) n remaining = fates.Leaf
-deed_fate (deeds.Note kind detail begins_body) n remaining = fates.Leaf
+deed_fate (deeds.Note kind detail is_quoted begins_body) n remaining = fates.Leaf
 
 abbrev pub act_fate : Act (Event (List ℕ)) → ℕ → List Label → Fate
 act_fate (acts.Event event) n remaining = deed_fate event.deed n remaining

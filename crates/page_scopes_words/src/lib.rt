@@ -16,5 +16,5 @@ mod white_cells;
 pub use fonts::{Fonts, ROMAN};
 pub use sentences::ends_sentence;
 pub use settings::Setting;
-pub use tokens::{give_glyph, report, report_escape, report_font, token_piece};
+pub use tokens::{give_glyph, report, report_escape, report_font, report_part, token_piece};
 pub use white_cells::{give_white_cells, has_tab};

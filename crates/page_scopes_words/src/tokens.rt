@@ -46,9 +46,15 @@ fn unpaired_front(part: &[u8]) -> ArrayVec<u8, DETAIL>
     front
 }
 
-// Gives a message about a part of a text, which is that of a quoted argument or not.
+/// Gives a message about a part of a text; `quoted` says whether it is that of a quoted argument, where a pair of quotes is one quote.
 #[inline(never)]
-fn report_part<O: PieceOut>(out: &mut O, quoted: bool, kind: NoteKind, place: Place, part: &[u8])
+pub fn report_part<O: PieceOut>(
+    out: &mut O,
+    quoted: bool,
+    kind: NoteKind,
+    place: Place,
+    part: &[u8],
+)
     ensures { Came O.left out.old (says kind place (words.shown_part quoted part.now) ∷ []) out.new }
 {
     if quoted {

@@ -265,6 +265,7 @@ fn show<'a>(deed: Deed<&'a [u8]>) -> Shown<'a> {
             kind,
             detail,
             begins_body,
+            ..
         } => show_note(kind, detail, begins_body),
     }
 }

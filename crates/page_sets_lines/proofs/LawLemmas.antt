@@ -99,7 +99,7 @@ is_word (deeds.LineScope opener) = false
 is_word (deeds.Leaf leaf) = false
 is_word (deeds.Raw text) = false
 is_word (deeds.End fills) = false
-is_word (deeds.Note kind detail begins_body) = false
+is_word (deeds.Note kind detail is_quoted begins_body) = false
 
 -- none of the events is a word
 abbrev pub HasNoWord : List (Event (List ℕ)) → Type 0
@@ -114,7 +114,7 @@ no_word_passes from (deeds.LineScope opener) h = (tt, refl)
 no_word_passes from (deeds.Leaf leaf) h = (tt, refl)
 no_word_passes from (deeds.Raw text) h = (tt, refl)
 no_word_passes from (deeds.End fills) h = (tt, refl)
-no_word_passes from (deeds.Note kind detail begins_body) h = (tt, refl)
+no_word_passes from (deeds.Note kind detail is_quoted begins_body) h = (tt, refl)
 
 pub order_after : (from : ℕ) (front rest : List (Event (List ℕ))) → HasNoWord front → AreInOrder from rest → AreInOrder from (front ++ rest)
 order_after from [] rest h k = k

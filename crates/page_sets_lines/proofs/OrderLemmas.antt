@@ -23,7 +23,7 @@ Takes (deeds.LineScope opener) arguments after = after ≡ arguments
 Takes (deeds.Leaf leaf) arguments after = after ≡ arguments
 Takes (deeds.Raw text) arguments after = after ≡ arguments
 Takes (deeds.End fills) arguments after = after ≡ arguments
-Takes (deeds.Note kind detail begins_body) arguments after = after ≡ arguments
+Takes (deeds.Note kind detail is_quoted begins_body) arguments after = after ≡ arguments
 
 -- the words of the events are some of the arguments, in their order
 abbrev pub TakesInOrder : List (Event (List ℕ)) → List (Argument (List ℕ)) → Type 0
@@ -48,7 +48,7 @@ later_one (deeds.LineScope opener) events front arguments after h k m = (front +
 later_one (deeds.Leaf leaf) events front arguments after h k m = (front ++ after, ap (λ l. front ++ l) h, m)
 later_one (deeds.Raw text) events front arguments after h k m = (front ++ after, ap (λ l. front ++ l) h, m)
 later_one (deeds.End fills) events front arguments after h k m = (front ++ after, ap (λ l. front ++ l) h, m)
-later_one (deeds.Note kind detail begins_body) events front arguments after h k m = (front ++ after, ap (λ l. front ++ l) h, m)
+later_one (deeds.Note kind detail is_quoted begins_body) events front arguments after h k m = (front ++ after, ap (λ l. front ++ l) h, m)
 
 pub takes_later : (events : List (Event (List ℕ))) (front arguments : List (Argument (List ℕ)))
     → TakesInOrder events arguments → TakesInOrder events (front ++ arguments)
@@ -68,7 +68,7 @@ more_behind (deeds.LineScope opener) arguments after behind h = ap (λ l. l ++ b
 more_behind (deeds.Leaf leaf) arguments after behind h = ap (λ l. l ++ behind) h
 more_behind (deeds.Raw text) arguments after behind h = ap (λ l. l ++ behind) h
 more_behind (deeds.End fills) arguments after behind h = ap (λ l. l ++ behind) h
-more_behind (deeds.Note kind detail begins_body) arguments after behind h = ap (λ l. l ++ behind) h
+more_behind (deeds.Note kind detail is_quoted begins_body) arguments after behind h = ap (λ l. l ++ behind) h
 
 pub TakesInOrder-append : (events more : List (Event (List ℕ))) (arguments behind : List (Argument (List ℕ)))
     → TakesInOrder events arguments → TakesInOrder more behind → TakesInOrder (events ++ more) (arguments ++ behind)
@@ -86,7 +86,7 @@ none_taken (deeds.LineScope opener) arguments h = refl
 none_taken (deeds.Leaf leaf) arguments h = refl
 none_taken (deeds.Raw text) arguments h = refl
 none_taken (deeds.End fills) arguments h = refl
-none_taken (deeds.Note kind detail begins_body) arguments h = refl
+none_taken (deeds.Note kind detail is_quoted begins_body) arguments h = refl
 
 pub takes_none : (events : List (Event (List ℕ))) (arguments : List (Argument (List ℕ))) → HasNoWord events → TakesInOrder events arguments
 takes_none [] arguments h = tt
@@ -111,7 +111,7 @@ order_one line from (deeds.LineScope opener) arguments after a h = (tt, rw h a)
 order_one line from (deeds.Leaf leaf) arguments after a h = (tt, rw h a)
 order_one line from (deeds.Raw text) arguments after a h = (tt, rw h a)
 order_one line from (deeds.End fills) arguments after a h = (tt, rw h a)
-order_one line from (deeds.Note kind detail begins_body) arguments after a h = (tt, rw h a)
+order_one line from (deeds.Note kind detail is_quoted begins_body) arguments after a h = (tt, rw h a)
 
 pub in_order : (line : List ℕ) (from : ℕ) (events : List (Event (List ℕ))) (arguments : List (Argument (List ℕ)))
     → ArgumentsFrom line from arguments → TakesInOrder events arguments → AreInOrder from events

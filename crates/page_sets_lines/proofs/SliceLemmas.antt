@@ -109,7 +109,7 @@ deed_fits line (deeds.LineScope opener) short slices = tt
 deed_fits line (deeds.Leaf leaf) short slices = leaf_fits line leaf short slices
 deed_fits line (deeds.Raw text) short slices = tt
 deed_fits line (deeds.End fills) short slices = tt
-deed_fits line (deeds.Note kind detail begins_body) short slices = tt
+deed_fits line (deeds.Note kind detail is_quoted begins_body) short slices = tt
 
 leaf_short : (line : List ℕ) (leaf : Leaf (List ℕ)) → length line ≤ LINE → HasSlices line (deeds.Leaf leaf) → RestIsShort (deeds.Leaf leaf)
 leaf_short line leaves.BlankLine short slices = tt
@@ -131,7 +131,7 @@ rest_short line (deeds.LineScope opener) short slices = tt
 rest_short line (deeds.Leaf leaf) short slices = leaf_short line leaf short slices
 rest_short line (deeds.Raw text) short slices = tt
 rest_short line (deeds.End fills) short slices = tt
-rest_short line (deeds.Note kind detail begins_body) short slices = tt
+rest_short line (deeds.Note kind detail is_quoted begins_body) short slices = tt
 
 -- the first event of a line
 pub first_short : (line : List ℕ) (events : List (Event (List ℕ))) (event : Event (List ℕ)) (others : List (Event (List ℕ)))

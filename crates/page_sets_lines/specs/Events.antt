@@ -123,7 +123,7 @@ deed_seen (deeds.LineScope opener) = deeds.LineScope opener
 deed_seen (deeds.Leaf leaf) = deeds.Leaf (leaf_seen leaf)
 deed_seen (deeds.Raw text) = deeds.Raw text.now
 deed_seen (deeds.End fills) = deeds.End fills
-deed_seen (deeds.Note kind detail begins_body) = deeds.Note kind detail.now begins_body
+deed_seen (deeds.Note kind detail is_quoted begins_body) = deeds.Note kind detail.now is_quoted begins_body
 
 -- an event of the program, with what its texts hold
 abbrev pub event_seen : Event (Bor (List ℕ)) → Event (List ℕ)

@@ -125,7 +125,7 @@ HasSlices line (deeds.LineScope opener) = Unit {0}
 HasSlices line (deeds.Leaf leaf) = LeavesSlices line leaf
 HasSlices line (deeds.Raw text) = IsPart line text
 HasSlices line (deeds.End fills) = Unit {0}
-HasSlices line (deeds.Note kind detail begins_body) = IsPart line detail
+HasSlices line (deeds.Note kind detail is_quoted begins_body) = IsPart line detail
 
 abbrev pub AreSlices : List ℕ → List (Event (List ℕ)) → Type 0
 AreSlices line [] = Unit {0}
@@ -140,7 +140,7 @@ past from (deeds.LineScope opener) = from
 past from (deeds.Leaf leaf) = from
 past from (deeds.Raw text) = from
 past from (deeds.End fills) = from
-past from (deeds.Note kind detail begins_body) = from
+past from (deeds.Note kind detail is_quoted begins_body) = from
 
 abbrev pub BeginsFrom : ℕ → Deed (List ℕ) → Type 0
 BeginsFrom from (deeds.Word word) = from ≤ word.arg.column
@@ -150,7 +150,7 @@ BeginsFrom from (deeds.LineScope opener) = Unit {0}
 BeginsFrom from (deeds.Leaf leaf) = Unit {0}
 BeginsFrom from (deeds.Raw text) = Unit {0}
 BeginsFrom from (deeds.End fills) = Unit {0}
-BeginsFrom from (deeds.Note kind detail begins_body) = Unit {0}
+BeginsFrom from (deeds.Note kind detail is_quoted begins_body) = Unit {0}
 
 -- the words stand in order: none begins before the one in front of it has ended
 abbrev pub AreInOrder : ℕ → List (Event (List ℕ)) → Type 0

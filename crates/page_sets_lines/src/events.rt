@@ -55,10 +55,12 @@ pub enum Deed<W> {
     End {
         fills: bool,
     },
-    /// A message, with its detail; it may begin the body of the page, where its macro does.
+    /// A message, with its detail, of which a pair of quotes is one quote where it is that of a quoted argument; it may begin the body of the
+    /// page, where its macro does.
     Note {
         kind: NoteKind,
         detail: W,
+        is_quoted: bool,
         begins_body: bool,
     },
 }

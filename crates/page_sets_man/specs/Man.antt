@@ -189,7 +189,7 @@ missing_quote (After printed) arguments = quote_at false (open_quote printed arg
 missing_quote (BodyAfter printed) arguments = quote_at true (open_quote printed arguments)
 
 abbrev pub quote_deed : Quote → Deed (List ℕ)
-quote_deed quote = deeds.Note Unterminated [] quote.begins_body
+quote_deed quote = deeds.Note Unterminated [] false quote.begins_body
 
 abbrev pub quote_events : ℕ → Option Quote → List (Event (List ℕ))
 quote_events number None = []
@@ -221,7 +221,7 @@ macro_events number column row rest arguments =
 
 -- a message about a macro's name
 abbrev pub refused_events : NoteKind → ℕ → ℕ → List ℕ → List (Event (List ℕ))
-refused_events kind number column name = event_at number column (deeds.Note kind name false) ∷ line_end number false ∷ []
+refused_events kind number column name = event_at number column (deeds.Note kind name false false) ∷ line_end number false ∷ []
 
 -- a macro without arguments
 abbrev pub lone_events : Alone → ℕ → ℕ → List ℕ → List (Event (List ℕ)) → List (Event (List ℕ))

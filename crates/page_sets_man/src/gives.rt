@@ -50,6 +50,7 @@ fn quote_deed<'a>(quote: Quote) -> Deed<&'a [u8]>
     Deed::Note {
         kind: NoteKind::Unterminated,
         detail,
+        is_quoted: false,
         begins_body: quote.begins_body,
     }
 }
@@ -384,6 +385,7 @@ fn give_refused<'a, O: EventTaker<'a>>(
         Deed::Note {
             kind,
             detail: name,
+            is_quoted: false,
             begins_body: false,
         },
     ));

@@ -6,6 +6,7 @@ use Rattle.std.specs.List.{list_any}
 use Rattle.page_core_base.specs.LinesTaken.{Line}
 use Rattle.page_core_base.specs.declared.note_kinds.NoteKind.{NoteKind}
 use Rattle.page_core_base.specs.declared.note_kinds.NoteKind.TheVariants.{Unterminated, UnknownFont, EmptyMacro}
+use Rattle.page_roff_forms.specs.Arguments.{is_quoted}
 use Rattle.page_roff_forms.specs.declared.quotes.Argument.{Argument}
 use Rattle.page_roff_requests.specs.declared.requests.LayoutRequest.{LayoutRequest}
 use Rattle.page_sets_lines.specs.declared.events.Deed.{Deed}
@@ -47,11 +48,11 @@ line_arguments line = arguments_after (name_end line) line.text
 
 -- a message that names the macro
 abbrev pub refusal : NoteKind → Line → Event (List ℕ)
-refusal kind line = at_name line (deeds.Note kind (name_of line) false)
+refusal kind line = at_name line (deeds.Note kind (name_of line) false false)
 
 -- the quote of an argument that lacks its last one; its message may begin the body of the page
 abbrev pub quote_event : ℕ → Bool → ℕ → Event (List ℕ)
-quote_event number begins_body column = event_at number column (deeds.Note Unterminated [] begins_body)
+quote_event number begins_body column = event_at number column (deeds.Note Unterminated [] false begins_body)
 
 abbrev pub quote_events : ℕ → Bool → Option ℕ → List (Event (List ℕ))
 quote_events number begins_body None = []
@@ -103,9 +104,18 @@ abbrev pub note_detail : NoteKind → Line → List ℕ
 note_detail UnknownFont line = unwrap_or (first_text line) []
 note_detail _ line = []
 
+-- whether that argument is quoted
+abbrev pub given_is_quoted : Option (Argument (List ℕ)) → Bool
+given_is_quoted None = false
+given_is_quoted (Some argument) = is_quoted argument.quoting
+
+abbrev pub note_is_quoted : NoteKind → Line → Bool
+note_is_quoted UnknownFont line = given_is_quoted (first_of (line_arguments line))
+note_is_quoted _ line = false
+
 abbrev pub note_events : Line → Option NoteKind → List (Event (List ℕ))
 note_events line None = []
-note_events line (Some kind) = at_name line (deeds.Note kind (note_detail kind line) true) ∷ []
+note_events line (Some kind) = at_name line (deeds.Note kind (note_detail kind line) (note_is_quoted kind line) true) ∷ []
 
 -- a font that is not known is told of
 abbrev pub note_unless_known : Option Font → Option NoteKind

@@ -8,7 +8,7 @@ ghost use Rattle.page_sets_lines.specs.Fits.{BlockCloserFits, BlockOpenerFits, I
 ghost use Rattle.page_sets_mdoc_blocks.specs.Fronts as fronts;
 
 use crate::displays::{display_of, first_font};
-use crate::line_arguments::{first_text, has_real_word, missing_quote};
+use crate::line_arguments::{first_text, has_real_word, is_first_quoted, missing_quote};
 use crate::lists::{list_note, list_of};
 use crate::sentences::{option_quote, spacing_of};
 use page_core_base::{NoteKind, Place, Taken};
@@ -47,6 +47,7 @@ fn quote_event<'a>(number: u32, begins_body: bool, column: u32) -> Event<&'a [u8
         deed: Deed::Note {
             kind: NoteKind::Unterminated,
             detail,
+            is_quoted: false,
             begins_body,
         },
     }
@@ -77,6 +78,17 @@ fn note_detail<'a>(kind: NoteKind, line: Taken<'a>) -> &'a [u8]
     }
 }
 
+// Whether the detail of a message about the arguments of a line is that of a quoted one.
+fn note_is_quoted(kind: NoteKind, line: Taken<'_>) -> bool
+    requires { length line.text.now ≤ LINE }
+    ensures { result ≡ fronts.note_is_quoted kind (line_seen line.entry) }
+{
+    match kind {
+        NoteKind::UnknownFont => is_first_quoted(line),
+        _ => false,
+    }
+}
+
 // A message about the arguments of a line, if there is one; it may begin the body of the page.
 fn give_note<'a, O: EventTaker<'a>>(out: &mut O, line: Taken<'a>, kind: Option<NoteKind>)
     requires { length line.text.now ≤ LINE }
@@ -86,6 +98,7 @@ fn give_note<'a, O: EventTaker<'a>>(out: &mut O, line: Taken<'a>, kind: Option<N
         let deed = Deed::Note {
             kind,
             detail: note_detail(kind, line),
+            is_quoted: note_is_quoted(kind, line),
             begins_body: true,
         };
         out.give(at_name(line, deed));
@@ -211,6 +224,7 @@ pub fn give_refusal<'a, O: EventTaker<'a>>(out: &mut O, kind: NoteKind, line: Ta
     let deed = Deed::Note {
         kind,
         detail: &line.text[name.start..name.end],
+        is_quoted: false,
         begins_body: false,
     };
     out.give(at_name(line, deed));

@@ -32,6 +32,17 @@ pub(crate) fn first_text<'a>(line: Taken<'a>) -> Option<&'a [u8]>
     }
 }
 
+/// Whether the first argument of a line is quoted.
+pub(crate) fn is_first_quoted(line: Taken<'_>) -> bool
+    requires { length line.text.now ≤ LINE }
+    ensures { result ≡ fronts.given_is_quoted (first_of (fronts.line_arguments (line_seen line.entry))) }
+{
+    match first_of(line.text, find_name(line).end) {
+        Some(argument) => argument.is_quoted(),
+        None => false,
+    }
+}
+
 /// The column of a quote in a line whose arguments are no words, if one of them lacks its last quote.
 pub(crate) fn missing_quote(line: Taken<'_>) -> Option<u32>
     requires { length line.text.now ≤ LINE }

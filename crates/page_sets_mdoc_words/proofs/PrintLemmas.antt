@@ -41,7 +41,7 @@ nothing_taken (deeds.LineScope opener) arguments h = refl
 nothing_taken (deeds.Leaf leaf) arguments h = refl
 nothing_taken (deeds.Raw text) arguments h = refl
 nothing_taken (deeds.End fills) arguments h = refl
-nothing_taken (deeds.Note kind detail begins_body) arguments h = refl
+nothing_taken (deeds.Note kind detail is_quoted begins_body) arguments h = refl
 
 -- ---- one event
 

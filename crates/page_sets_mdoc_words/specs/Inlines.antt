@@ -34,7 +34,7 @@ use Rattle.page_sets_mdoc_words.specs.Printed.{word_event, printed_word, printed
 
 -- a message that names the macro
 abbrev pub empty_macro : ℕ → ℕ → List ℕ → Event (List ℕ)
-empty_macro number column name = event_at number column (deeds.Note EmptyMacro name false)
+empty_macro number column name = event_at number column (deeds.Note EmptyMacro name false false)
 
 abbrev pub refused : ℕ → ℕ → List ℕ → List (Argument (List ℕ)) → List (Event (List ℕ))
 refused number column name words = empty_macro number column name ∷ printed number None words
@@ -199,7 +199,7 @@ link number column words = link_words number column (inside words) ++ printed nu
 -- an option that prints nothing may lack its last quote
 abbrev pub missing_quote : ℕ → Argument (List ℕ) → List (Event (List ℕ))
 missing_quote number option =
-    if is_unclosed option.quoting then event_at number (option.column - 1) (deeds.Note Unterminated [] false) ∷ [] else []
+    if is_unclosed option.quoting then event_at number (option.column - 1) (deeds.Note Unterminated [] false false) ∷ [] else []
 
 -- the option counts as a word
 abbrev pub author : ℕ → ℕ → List ℕ → Option (Argument (List ℕ)) → List (Argument (List ℕ)) → List (Event (List ℕ))

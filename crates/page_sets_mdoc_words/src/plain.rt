@@ -59,6 +59,7 @@ pub(crate) fn give_refused<'a, O: EventTaker<'a>>(
         Deed::Note {
             kind: NoteKind::EmptyMacro,
             detail: name.text,
+            is_quoted: false,
             begins_body: false,
         },
     ));

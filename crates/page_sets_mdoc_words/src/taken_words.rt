@@ -31,6 +31,7 @@ fn give_missing_quote<'a, O: EventTaker<'a>>(out: &mut O, number: u32, option: A
             Deed::Note {
                 kind: NoteKind::Unterminated,
                 detail,
+                is_quoted: false,
                 begins_body: false,
             },
         ));
