@@ -3,7 +3,7 @@
 use crate::ways::{Case, FILE, Given};
 use page_core_base::Fault;
 use page_engine::run_page;
-use page_test_streams::{Chunks, Ended, Scarce, Store, scarce_difference};
+use page_test_streams::{Chunks, Ended, Fails, Scarce, Store, scarce_difference};
 use std::alloc::{AllocError, Global};
 
 /// A run over a page, into stores that have their room.
@@ -17,8 +17,8 @@ struct Run<'a> {
 
 impl<'a> Run<'a> {
     fn new(alloc: Global, case: Case<'a>, whole: &'a Given) -> Result<Run<'a>, AllocError> {
-        let rows = Store::with_room(alloc, whole.rows.kept.len())?;
-        let messages = Store::with_room(alloc, whole.messages.kept.len())?;
+        let rows = Store::with_room(alloc, whole.rows.kept.len(), Fails::Never)?;
+        let messages = Store::with_room(alloc, whole.messages.kept.len(), Fails::Never)?;
         Ok(Run {
             case,
             whole,

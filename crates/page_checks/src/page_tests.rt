@@ -7,86 +7,10 @@ use crate::checks::{
 };
 use page_core_base::{Fault, Level, SettingFault, Settings};
 use page_engine::run_page;
-use std::alloc::Global;
-use std::io::{self, ErrorKind, Read, Write};
+use page_test_streams::{Chunks, Fails, Store};
+use std::io::{self, Read};
 use std::process::Abort;
 use std::test::Fail;
-
-// Gives a page in chunks of at most this number of bytes.
-#[derive(Drop)]
-struct Chunks<'a> {
-    page: &'a [u8],
-    size: usize,
-    calls: usize,
-    // Each call of an odd number is interrupted.
-    is_interrupted: bool,
-    // The call of this number fails.
-    failing: usize,
-}
-
-impl<'a> Chunks<'a> {
-    fn new(page: &'a [u8], size: usize) -> Chunks<'a> {
-        Chunks {
-            page,
-            size,
-            calls: 0,
-            is_interrupted: false,
-            failing: 0,
-        }
-    }
-}
-
-impl Read for Chunks<'_> {
-    fn read(&mut self, buffer: &mut [u8]) -> io::Result<usize> {
-        self.calls = self.calls.saturating_add(1);
-        if self.calls == self.failing {
-            return Err(io::Error::from(ErrorKind::ConnectionReset));
-        }
-        if self.is_interrupted && self.calls % 2 == 1 {
-            return Err(io::Error::from(ErrorKind::Interrupted));
-        }
-        let count = self.page.len().min(self.size).min(buffer.len());
-        let (chunk, rest) = self.page.split_at(count);
-        buffer[..count].copy_from_slice(chunk);
-        self.page = rest;
-        Ok(count)
-    }
-}
-
-// Keeps what is written, at most a number of bytes a call. It fails once, where its room is at its end, and then goes on.
-#[derive(Drop)]
-struct Store {
-    kept: Vec<u8>,
-    size: usize,
-    room: usize,
-}
-
-impl Store {
-    fn new(alloc: Global, size: usize, room: usize) -> Store {
-        Store {
-            kept: Vec::new(alloc),
-            size,
-            room,
-        }
-    }
-}
-
-impl Write for Store {
-    fn write(&mut self, bytes: &[u8]) -> io::Result<usize> {
-        if self.room == 0 {
-            self.room = usize::MAX;
-            return Err(io::Error::from(ErrorKind::BrokenPipe));
-        }
-        let count = bytes.len().min(self.size).min(self.room);
-        self.kept.extend_from_slice(&bytes[..count])?;
-        self.room -= count;
-        Ok(count)
-    }
-
-    fn flush(&mut self) -> io::Result<()> {
-        Ok(())
-    }
-}
 
 // A page; what stands between its header and its footer; its messages and the worst level of these; how many lines it has.
 struct Case {
@@ -182,9 +106,9 @@ fn formats_pages(rt: HostRuntime) -> Result<(), Fail> {
         let want = outcome(case.worst, case.source);
         let mut whole = case.page;
         gives(&rt, &mut whole, &settings, rows.as_str(), case.notes, want)?;
-        let mut bytes = Chunks::new(case.page, 1);
+        let mut bytes = Chunks::new(case.page, 1, None);
         gives(&rt, &mut bytes, &settings, rows.as_str(), case.notes, want)?;
-        let mut interrupted = Chunks::new(case.page, 3);
+        let mut interrupted = Chunks::new(case.page, 3, None);
         interrupted.is_interrupted = true;
         gives(
             &rt,
@@ -240,7 +164,7 @@ fn refuses_bad_settings(rt: HostRuntime) -> Result<(), Fail> {
             indent,
             ..all_messages()
         };
-        let mut reader = Chunks::new(TWO_MESSAGES, 1);
+        let mut reader = Chunks::new(TWO_MESSAGES, 1, None);
         let want = Err(Fault::Settings(fault));
         gives(&rt, &mut reader, &settings, "", "", want)?;
         check_count(&rt, reader.calls as u64, 0);
@@ -251,7 +175,7 @@ fn refuses_bad_settings(rt: HostRuntime) -> Result<(), Fail> {
 // For runs in which an allocation is refused: then nothing was read, and else all is well.
 #[test]
 fn wants_memory_before_it_reads(rt: HostRuntime) {
-    let mut reader = Chunks::new(TWO_MESSAGES, 3);
+    let mut reader = Chunks::new(TWO_MESSAGES, 3, None);
     let (mut out, mut messages) = (io::sink(), io::sink());
     match run_page(
         rt.alloc(),
@@ -274,11 +198,10 @@ fn wants_memory_before_it_reads(rt: HostRuntime) {
 fn ends_by_a_failing_read(rt: HostRuntime) -> Result<(), Fail> {
     let whole = framed(rt.alloc(), TWO_PARAGRAPHS)?;
     let mut written = 0;
-    for failing in 1..TWO_MESSAGES.len() + 2 {
-        let mut reader = Chunks::new(TWO_MESSAGES, 1);
-        reader.failing = failing;
-        let mut out = Store::new(rt.alloc(), usize::MAX, usize::MAX);
-        let mut messages = Store::new(rt.alloc(), usize::MAX, usize::MAX);
+    for calls in 0..TWO_MESSAGES.len() + 1 {
+        let mut reader = Chunks::new(TWO_MESSAGES, 1, Some(calls));
+        let mut out = Store::new(rt.alloc(), usize::MAX, Fails::Never);
+        let mut messages = Store::new(rt.alloc(), usize::MAX, Fails::Never);
         faults(&rt, &mut reader, &mut out, &mut messages, Fault::Read);
         check(&rt, whole.as_bytes().starts_with(out.kept.as_slice()));
         check(&rt, out.kept.len() >= written);
@@ -294,8 +217,8 @@ fn writes_a_byte_at_a_time(rt: HostRuntime) -> Result<(), Fail> {
     let settings = all_messages();
     for case in &CASES {
         let rows = framed(rt.alloc(), case.body)?;
-        let mut out = Store::new(rt.alloc(), 1, usize::MAX);
-        let mut messages = Store::new(rt.alloc(), 1, usize::MAX);
+        let mut out = Store::new(rt.alloc(), 1, Fails::Never);
+        let mut messages = Store::new(rt.alloc(), 1, Fails::Never);
         let mut page = case.page;
         let result = run_page(
             rt.alloc(),
@@ -317,19 +240,31 @@ fn writes_a_byte_at_a_time(rt: HostRuntime) -> Result<(), Fail> {
 fn ends_by_a_failing_write(rt: HostRuntime) -> Result<(), Fail> {
     let three_rows = format!(in rt.alloc(); "{HEADER}A\u{8}A\n")?;
     let cases = [
-        (10, usize::MAX, Fault::WriteText, "T(1)      ", ""),
-        (usize::MAX, 0, Fault::WriteNotes, three_rows.as_str(), ""),
         (
-            usize::MAX,
-            10,
+            Fails::Past(10),
+            Fails::Never,
+            Fault::WriteText,
+            "T(1)      ",
+            "",
+        ),
+        (
+            Fails::Never,
+            Fails::Past(0),
+            Fault::WriteNotes,
+            three_rows.as_str(),
+            "",
+        ),
+        (
+            Fails::Never,
+            Fails::Past(10),
             Fault::WriteNotes,
             three_rows.as_str(),
             "mandoc: x.",
         ),
     ];
-    for (room, room_of_messages, fault, rows, notes) in cases {
-        let mut out = Store::new(rt.alloc(), usize::MAX, room);
-        let mut messages = Store::new(rt.alloc(), usize::MAX, room_of_messages);
+    for (of_rows, of_messages, fault, rows, notes) in cases {
+        let mut out = Store::new(rt.alloc(), usize::MAX, of_rows);
+        let mut messages = Store::new(rt.alloc(), usize::MAX, of_messages);
         let mut page = TWO_MESSAGES;
         faults(&rt, &mut page, &mut out, &mut messages, fault);
         check_text(&rt, out.kept.as_slice(), rows)?;

@@ -4,10 +4,10 @@ use crate::cuts::Cuts;
 use crate::endings::Ending;
 use crate::lines::FILE;
 use crate::pages::run_lines;
-use crate::stores::{Fails, Store};
 use crate::streams::{Shows, Streams};
 use page_core::{Fault, Settings};
 use page_engine::{Outcome, run_page};
+use page_test_streams::{Fails, Store};
 use std::alloc::Global;
 
 /// The first writes that fail in turn, of each sink.
@@ -35,15 +35,15 @@ fn run_whole(
 
 impl Whole {
     /// A run over a page.
-    pub(crate) fn new(alloc: Global, bytes: &[u8], settings: &Settings) -> Option<Whole> {
-        let mut rows = Store::new(alloc, 0, Fails::Never).ok()?;
-        let mut messages = Store::new(alloc, 0, Fails::Never).ok()?;
+    pub(crate) fn new(alloc: Global, bytes: &[u8], settings: &Settings) -> Whole {
+        let mut rows = Store::new(alloc, usize::MAX, Fails::Never);
+        let mut messages = Store::new(alloc, usize::MAX, Fails::Never);
         let result = run_whole(alloc, bytes, &mut rows, &mut messages, settings);
-        Some(Whole {
+        Whole {
             rows,
             messages,
             result,
-        })
+        }
     }
 
     /// Whether streams got the same, and the result is the same.
@@ -66,8 +66,8 @@ impl Whole {
     /// and is closed then.
     pub(crate) fn stands_failures(&self, alloc: Global, bytes: &[u8], settings: &Settings) -> bool {
         let writes = self.rows.calls.max(self.messages.calls).min(WRITES);
-        for call in 1..writes.saturating_add(2) {
-            for fails in [Fails::At(call), Fails::TakesNothing(call)] {
+        for calls in 0..writes.saturating_add(1) {
+            for fails in [Fails::After(calls), Fails::TakesNothing(calls)] {
                 if !self.stands(alloc, bytes, settings, (fails, Fails::Never))
                     || !self.stands(alloc, bytes, settings, (Fails::Never, fails))
                 {

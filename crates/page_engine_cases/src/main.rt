@@ -12,7 +12,6 @@ mod failing;
 mod lines;
 mod pages;
 mod roffs;
-mod stores;
 mod streams;
 mod words;
 
@@ -180,12 +179,11 @@ fn show_cuts(rt: &HostRuntime, page: &[u8], words: &Words, streams: &Streams, en
 
 // Shows where the page gives something else at once, or does not stand a write that fails.
 fn show_whole(rt: &HostRuntime, page: &[u8], words: &Words, streams: &Streams, ending: Ending) {
-    if let Some(whole) = Whole::new(rt.alloc(), page, &words.settings) {
-        if !whole.is(streams, ending.result) {
-            let _ = println!(rt; "-- not at once");
-        }
-        if !whole.stands_failures(rt.alloc(), page, &words.settings) {
-            let _ = println!(rt; "-- not where a write fails");
-        }
+    let whole = Whole::new(rt.alloc(), page, &words.settings);
+    if !whole.is(streams, ending.result) {
+        let _ = println!(rt; "-- not at once");
+    }
+    if !whole.stands_failures(rt.alloc(), page, &words.settings) {
+        let _ = println!(rt; "-- not where a write fails");
     }
 }

@@ -5,10 +5,10 @@ ghost use Rattle.page_core_base.specs.Texts.{IsLine};
 use crate::cuts::{CutFeed, Cuts, PutDown};
 use crate::endings::{Ending, run};
 use crate::lines::{BYTES, FILE, Feed, Lines};
-use crate::stores::{Fails, Store};
 use page_core::{Fault, Settings, TextNotes};
 use page_engine::Outcome;
 use page_roff::{Roff, RoffPart};
+use page_test_streams::{Fails, Store};
 use std::alloc::Global;
 
 /// What a source line may give at most: its finished lines, and that there are no more.
@@ -139,7 +139,7 @@ pub(crate) fn run_roff(
     if bytes.len() > BYTES {
         return None;
     }
-    let messages = Store::new(alloc, room, Fails::Never).ok()?;
+    let messages = Store::with_room(alloc, room, Fails::Never).ok()?;
     let lines = Lines::new(alloc, settings.encoding)?;
     let ending = match new_roff(alloc, settings) {
         Ok(roff) => {

@@ -1,7 +1,7 @@
 //! Where the rows and the messages of a page go, and what of it is shown as it comes.
 
-use crate::stores::{Fails, Store};
 use page_core::Fault;
+use page_test_streams::{Fails, Store};
 use std::alloc::Global;
 
 /// What is shown as it comes.
@@ -31,8 +31,8 @@ impl<'a> Streams<'a> {
         fails: (Fails, Fails),
         shows: Shows<'a>,
     ) -> Option<Streams<'a>> {
-        let rows = Store::new(alloc, room, fails.0).ok()?;
-        let messages = Store::new(alloc, room, fails.1).ok()?;
+        let rows = Store::with_room(alloc, room, fails.0).ok()?;
+        let messages = Store::with_room(alloc, room, fails.1).ok()?;
         Some(Streams {
             rows,
             messages,
@@ -66,7 +66,7 @@ impl<'a> Streams<'a> {
         self.messages_shown = self.messages.kept.len();
     }
 
-    /// The fault of the stream whose last write failed, if one did.
+    /// The fault of the stream of which a write failed, if one did.
     pub(crate) fn fault(&self) -> Option<Fault> {
         if self.rows.has_failed {
             Some(Fault::WriteText)

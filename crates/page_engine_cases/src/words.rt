@@ -1,7 +1,7 @@
 //! What the words of a title say of a page's run.
 
-use crate::stores::Fails;
 use page_core::{Level, Output, Settings};
+use page_test_streams::Fails;
 
 /// How a page is run, and what is shown of it.
 #[derive(Clone, Copy)]

@@ -12,7 +12,7 @@ mod words;
 
 use page_core_base::Settings;
 use page_engine_index::Record;
-use page_test_streams::{Store, is_cheap, repeated, scarce_difference};
+use page_test_streams::{Fails, Store, is_cheap, repeated, scarce_difference};
 use queries::{Found, Query, RefusedSearch};
 use readings::{Case, Reading, RefusedReading, difference};
 use std::io;
@@ -124,7 +124,7 @@ fn show_query(rt: &HostRuntime, query: Query, is_scarce: bool) -> io::Result<()>
     if !is_scarce {
         return Ok(());
     }
-    let rows = Store::with_room(rt.alloc(), found.rows.kept.len())?;
+    let rows = Store::with_room(rt.alloc(), found.rows.kept.len(), Fails::Never)?;
     let mut refused = RefusedSearch {
         query,
         whole: &found,

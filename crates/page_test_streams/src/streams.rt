@@ -46,7 +46,7 @@ impl Read for Chunks<'_> {
     }
 }
 
-/// Where a writer fails.
+/// Where a writer fails, once: it would take all that came after that.
 #[derive(Clone, Copy)]
 pub enum Fails {
     Never,
@@ -83,15 +83,15 @@ impl Store {
         }
     }
 
-    /// A store that never fails, and wants no memory for its first `room` bytes.
-    pub fn with_room(alloc: Global, room: usize) -> Result<Store, AllocError> {
+    /// A store that wants no memory for its first `room` bytes.
+    pub fn with_room(alloc: Global, room: usize, fails: Fails) -> Result<Store, AllocError> {
         let kept = Vec::with_capacity(alloc, room)?;
         Ok(Store {
             kept,
             calls: 0,
             has_failed: false,
             size: usize::MAX,
-            fails: Fails::Never,
+            fails,
         })
     }
 
@@ -102,8 +102,11 @@ impl Store {
         self.has_failed = false;
     }
 
-    // How many more bytes are taken.
+    // How many bytes the call that is under way takes at most.
     fn room(&self) -> usize {
+        if self.has_failed {
+            return usize::MAX;
+        }
         match self.fails {
             Fails::After(calls) if calls < self.calls => 0,
             Fails::TakesNothing(calls) if calls < self.calls => 0,
