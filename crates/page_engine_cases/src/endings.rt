@@ -4,6 +4,7 @@
 
 ghost use Rattle.std.specs.Prelude.{◌≡◌, ◌≤◌, length, false};
 
+use crate::cuts::{CutFeed, Lack, PutDown};
 use crate::lines::{BYTES, Feed, Lines};
 use page_core::Fault;
 use page_engine::Outcome;
@@ -17,6 +18,8 @@ pub(crate) struct Ending {
     pub(crate) later: Option<Fault>,
     /// Whether nothing was reported of how its lines are cut, which these streams do not get.
     pub(crate) is_plain: bool,
+    /// What memory lacked for at a cut, if for anything.
+    pub(crate) lack: Option<Lack>,
     /// Whether there was memory after the end.
     pub(crate) has_memory: bool,
 }
@@ -28,6 +31,7 @@ impl Ending {
             result: Err(fault),
             later: None,
             is_plain: false,
+            lack: None,
             has_memory: true,
         }
     }
@@ -35,11 +39,11 @@ impl Ending {
 
 /// Feeds all lines and the end of a page. What takes them was made last, and memory is wanted only after the end: so where an allocation is refused
 /// between the two, it is one of what takes the lines.
-pub(crate) fn run<F: Feed + Drop>(
+pub(crate) fn run<F: PutDown + Drop>(
     alloc: Global,
     bytes: &[u8],
     mut lines: Lines,
-    mut feed: F,
+    mut feed: CutFeed<'_, F>,
 ) -> Ending
     requires short { length bytes.now ≤ BYTES }
     requires ready { lines.cutter.ready ≡ false }
@@ -53,6 +57,7 @@ pub(crate) fn run<F: Feed + Drop>(
         result: result.map(|()| outcome),
         later,
         is_plain: lines.are_plain(),
+        lack: feed.lack,
         has_memory: own.is_ok(),
     }
 }

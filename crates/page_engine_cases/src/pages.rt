@@ -8,6 +8,7 @@ use crate::lines::{BYTES, FILE, Feed, Lines};
 use crate::streams::Streams;
 use page_core::{Fault, Settings, TextNotes, TextRows};
 use page_engine::{Edge, Outcome, Page};
+use page_test_streams::Scarcity;
 use std::alloc::Global;
 
 // A page, and where its rows and messages go.
@@ -103,13 +104,15 @@ impl PutDown for PageFeed<'_, '_> {
     }
 }
 
-/// Feeds a page line by line. What is not the page's has its memory before the page is made. Nothing, where that memory is refused.
+/// Feeds a page line by line. What is not the page's has its memory before the page is made. Nothing, where that memory is refused. Where it is given
+/// memory to take, none is left between its cuts.
 pub(crate) fn run_lines(
     alloc: Global,
     bytes: &[u8],
     settings: &Settings,
     streams: &mut Streams,
-    cuts: Cuts<'_>,
+    cuts: Cuts,
+    memory: Option<&mut Scarcity>,
 ) -> Option<Ending> {
     if bytes.len() > BYTES {
         return None;
@@ -122,7 +125,7 @@ pub(crate) fn run_lines(
                 streams,
                 alloc,
             };
-            run(alloc, bytes, lines, CutFeed { feed, alloc, cuts })
+            run(alloc, bytes, lines, CutFeed::new(alloc, feed, cuts, memory))
         }
         Err(fault) => Ending::without_lines(fault),
     };

@@ -134,7 +134,7 @@ pub(crate) fn run_roff(
     bytes: &[u8],
     settings: &Settings,
     room: usize,
-    cuts: Cuts<'_>,
+    cuts: Cuts,
 ) -> Option<Ending> {
     if bytes.len() > BYTES {
         return None;
@@ -148,7 +148,7 @@ pub(crate) fn run_roff(
                 roff,
                 settings: *settings,
             };
-            run(alloc, bytes, lines, CutFeed { feed, alloc, cuts })
+            run(alloc, bytes, lines, CutFeed::new(alloc, feed, cuts, None))
         }
         Err(fault) => Ending::without_lines(fault),
     };

@@ -13,7 +13,7 @@ const STEPS: usize = 10_000;
 /// How a call ended.
 #[derive(Clone, Copy, PartialEq, Eq)]
 pub enum Ended {
-    /// By want of memory, before it did anything.
+    /// Memory was refused to it, and that changed nothing.
     Refused,
     /// As with ample memory.
     Whole,

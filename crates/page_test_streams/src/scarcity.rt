@@ -8,6 +8,9 @@
 //! What is given back at last may lie in pieces from then on: a program that refuses memory to several calls begins with the one whose growths are the
 //! largest.
 //!
+//! Where the allocator finds no other room it takes what lies right below the stack, and keeps some of that, so that the stack cannot grow any more. So a
+//! program refuses memory in its last cases, when its stack is as large as it gets.
+//!
 //! This is for Linux with the GNU C library, and takes some 100 MB of memory at 24 GB of it, for a quarter of a second. `is_cheap` says where it is not for use.
 
 use std::alloc::Global;
@@ -16,7 +19,7 @@ use std::alloc::Global;
 const BLOCKS: usize = 400_000;
 
 // The steps by which memory is given back, and the bytes of each.
-const STEPS: usize = 4_096;
+const STEPS: usize = 8_192;
 
 const STEP: usize = 1_040;
 
