@@ -1,5 +1,5 @@
 -- The words of a macro are slices of their line, in its order, and few: helpers of proofs.
-use Rattle.std.proofs.Common.{◌≡◌, ℕ, ◌+◌, ◌*◌, ◌≤◌, Bool, true, false, List, [], ◌∷◌, ◌++◌, length, take, drop, refl, ap, subst, arith, inl, inr, length-append, Option, None, Some, if◌then◌else◌}
+use Rattle.std.proofs.Common.{◌≡◌, ℕ, ◌+◌, ◌*◌, ◌≤◌, Bool, true, false, List, [], ◌∷◌, ◌++◌, length, take, drop, refl, ap, subst, arith, inl, inr, length-append, Option, None, Some}
 use Rattle.std.proofs.lemmas.Bool.{cases_Bool}
 use Rattle.std.proofs.lemmas.List.{take-append-drop}
 use Rattle.page_core_base.specs.declared.cells.Font.{Font}
@@ -20,7 +20,6 @@ use Rattle.page_sets_mdoc_words.specs.Inlines.{lone, named, flags, section, refe
 use Rattle.page_sets_lines.specs.declared.line_steps.SynopsisStep.{SynopsisStep}
 use Rattle.page_sets_names.specs.declared.own_texts.Own.{Own}
 use Rattle.page_sets_mdoc_rows.specs.declared.blocks.Sentence.{Sentence}
-use Rattle.page_sets_mdoc_rows.specs.declared.blocks.Sentence.TheVariants.{Exit, Return}
 use Rattle.page_sets_mdoc_words.specs.declared.sentences.NameCount.{NameCount}
 use Rattle.page_sets_mdoc_words.specs.declared.sentences.NameCount.TheVariants as counts
 use Rattle.page_sets_mdoc_words.specs.Synopses.{preceded, followed, framed}
