@@ -1,15 +1,13 @@
 //! The events of lines in the set of mdoc(7), macro by macro.
 
-use crate::events_of;
 use crate::spelling::{Spelling, spelled};
 use arrayvec::ArrayVec;
 use page_core_base::{Form, Taken};
 use page_core_limits::LINE;
 use page_roff_forms::{LineForm, form_of};
-use page_sets::{MacroSet, Mdoc};
-use std::alloc::AllocError;
+use page_sets::{Event, MacroSet, Mdoc};
+use page_sets_lines::EventOut;
 use std::process::Abort;
-use std::test::Fail;
 
 // The bytes up to the end of the name of a raw control line.
 fn name_end(rt: &impl Abort, text: &[u8]) -> u32 {
@@ -280,12 +278,23 @@ fn longest_line(first: &str, again: &str) -> ArrayVec<u8, LINE> {
     text
 }
 
-fn check_longest(
-    rt: &(impl Abort + AllocGlobal),
-    text: &[u8],
+// How many events came.
+#[derive(Drop)]
+struct Counted {
     count: usize,
-    at: &str,
-) -> Result<(), AllocError> {
+}
+
+impl EventOut for Counted {
+    ghost Plan = { Unit {0} };
+
+    ghost left = { λ plan counted events. Unit {0} };
+
+    fn give(&mut self, event: Event<&[u8]>) {
+        self.count = self.count.saturating_add(1);
+    }
+}
+
+fn check_longest(rt: &impl Abort, text: &[u8], count: usize, at: &str) {
     assert!(rt; text.len() <= LINE);
     let line = Taken {
         form: Form::Control,
@@ -293,9 +302,9 @@ fn check_longest(
         line: 7,
         name_end: 3,
     };
-    let events = events_of(rt.alloc(), &Mdoc, line)?;
-    assert!(rt; events.len() == count, "of {at}");
-    Ok(())
+    let mut counted = Counted { count: 0 };
+    Mdoc.give(line, &mut counted);
+    assert!(rt; counted.count == count, "of {at}");
 }
 
 // Names and their fonts.
@@ -662,10 +671,9 @@ fn each_macro_of_a_kind(rt: HostRuntime) {
 }
 
 #[test]
-fn longest_lines(rt: HostRuntime) -> Result<(), Fail> {
+fn longest_lines(rt: HostRuntime) {
     for (first, again, count) in LONGEST_LINES {
         let text = longest_line(first, again);
-        check_longest(&rt, text.as_slice(), *count, again)?;
+        check_longest(&rt, text.as_slice(), *count, again);
     }
-    Ok(())
 }

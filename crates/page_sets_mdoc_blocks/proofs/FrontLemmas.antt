@@ -1,5 +1,5 @@
 -- What comes before a line's words: its texts are slices of the line, none of its events is a word, and they are few. Helpers of proofs.
-use Rattle.std.proofs.Common.{◌≡◌, ℕ, ◌+◌, ◌≤◌, Bool, true, false, List, [], ◌∷◌, ◌++◌, length, refl, arith, length-append, Option, None, Some, if◌then◌else◌, unwrap_or, codes}
+use Rattle.std.proofs.Common.{ℕ, ◌+◌, ◌≤◌, Bool, true, false, List, [], ◌∷◌, ◌++◌, length, refl, arith, length-append, Option, None, Some, if◌then◌else◌, unwrap_or, codes}
 use Rattle.std.specs.Str.{bytes_eq}
 use Rattle.page_core_base.specs.LinesTaken.{Line}
 use Rattle.page_core_limits.specs.declared.TheConstants.{LINE}
