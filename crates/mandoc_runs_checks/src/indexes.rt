@@ -93,7 +93,12 @@ fn makes_failing<R: Files + AllocGlobal + Abort>(
     let ran = run_failing(files, &failure, WORDS, NEVER);
     let has_come = failure.has_come();
     check(rt, has_come == (ran.status == 6), WORDS, "the status");
-    check(rt, has_come == !ran.written.is_empty(), WORDS, "what is written");
+    check(
+        rt,
+        has_come == !ran.written.is_empty(),
+        WORDS,
+        "what is written",
+    );
     check(rt, is_left_whole(files, rt.alloc()), WORDS, "the index");
     has_come
 }

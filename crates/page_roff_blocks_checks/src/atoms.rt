@@ -2,8 +2,8 @@
 
 use arrayvec::ArrayVec;
 use page_roff_blocks::{Atom, Branch, Head, LinePlace, Opening, loop_text};
-use page_roff_regions::RegionHead;
 use page_roff_heads::LoopHead;
+use page_roff_regions::RegionHead;
 use std::process::Abort;
 
 type Shown = ArrayVec<u8, 200>;

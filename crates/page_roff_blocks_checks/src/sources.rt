@@ -1,9 +1,11 @@
 //! Sources: what is run of them, where `n` is true and every other condition false.
 
 use arrayvec::ArrayVec;
-use page_roff_blocks::{Atom, Branch, Ended, Head, LinePlace, Opening, Reached, Spot, Way, loop_text};
-use page_roff_regions::OpenRegion;
+use page_roff_blocks::{
+    Atom, Branch, Ended, Head, LinePlace, Opening, Reached, Spot, Way, loop_text,
+};
 use page_roff_heads::{Condition, LoopHead, Test};
+use page_roff_regions::OpenRegion;
 use std::process::Abort;
 
 // A source that is run line by line.

@@ -1,7 +1,7 @@
 //! Conditions, and texts with their interpolations.
 
-use page_core_base::NoteLatch;
 use crate::names::{Roff, show_messages, shown};
+use page_core_base::NoteLatch;
 use page_core_limits::LINE;
 use page_core_writers::TextNotes;
 use page_roff_conditions::holds;

@@ -2,8 +2,8 @@
 
 use page_core_base::NoteOut;
 use page_roff_blocks::{Atom, LinePlace, Opening};
-use page_roff_regions::OpenRegion;
 use page_roff_effects::{Actions, ProductKind};
+use page_roff_regions::OpenRegion;
 use std::process::Abort;
 
 /// What is done.
