@@ -38,14 +38,14 @@ pub(crate) trait PutDown: Feed {
 
 /// Takes lines, and goes on after some of them from what is held.
 #[derive(Drop)]
-pub(crate) struct CutFeed<'a, F> {
+pub(crate) struct CutFeed<F> {
     pub(crate) feed: F,
     pub(crate) alloc: Global,
     pub(crate) cuts: Cuts,
     /// What memory lacked for, if for anything.
     pub(crate) lack: Option<Lack>,
-    // Takes all memory before each line and the end, and gives it back for a cut.
-    memory: Option<&'a mut Scarcity>,
+    /// What takes all memory before each line and before the end, if it is to, and gives it back for a cut.
+    pub(crate) memory: Option<Scarcity>,
 }
 
 // It goes on from this.
@@ -62,23 +62,7 @@ fn cut<F: PutDown>(alloc: Global, feed: &mut F) -> Result<(), Fault> {
     go_on(alloc, feed, held)
 }
 
-impl<'a, F: PutDown + Drop> CutFeed<'a, F> {
-    /// What takes lines, cut so; with no memory left between its cuts where it is given memory to take.
-    pub(crate) fn new(
-        alloc: Global,
-        feed: F,
-        cuts: Cuts,
-        memory: Option<&'a mut Scarcity>,
-    ) -> CutFeed<'a, F> {
-        CutFeed {
-            feed,
-            alloc,
-            cuts,
-            lack: None,
-            memory,
-        }
-    }
-
+impl<F: PutDown + Drop> CutFeed<F> {
     fn take_memory(&mut self) {
         if let Some(memory) = &mut self.memory {
             memory.take_all();
@@ -120,7 +104,7 @@ impl<'a, F: PutDown + Drop> CutFeed<'a, F> {
     }
 }
 
-impl<F: PutDown + Drop> Feed for CutFeed<'_, F> {
+impl<F: PutDown + Drop> Feed for CutFeed<F> {
     fn line(&mut self, text: &[u8], number: u32) -> Result<(), Fault> {
         self.take_memory();
         self.feed.line(text, number)?;
@@ -142,5 +126,9 @@ impl<F: PutDown + Drop> Feed for CutFeed<'_, F> {
 
     fn later(&mut self) -> Option<Fault> {
         self.feed.later()
+    }
+
+    fn lack(&self) -> Option<Lack> {
+        self.lack
     }
 }

@@ -4,7 +4,7 @@
 
 ghost use Rattle.std.specs.Prelude.{◌≡◌, ◌≤◌, length, false};
 
-use crate::cuts::{CutFeed, Lack, PutDown};
+use crate::cuts::Lack;
 use crate::lines::{BYTES, Feed, Lines};
 use page_core::Fault;
 use page_engine::Outcome;
@@ -39,11 +39,11 @@ impl Ending {
 
 /// Feeds all lines and the end of a page. What takes them was made last, and memory is wanted only after the end: so where an allocation is refused
 /// between the two, it is one of what takes the lines.
-pub(crate) fn run<F: PutDown + Drop>(
+pub(crate) fn run<F: Feed + Drop>(
     alloc: Global,
     bytes: &[u8],
     mut lines: Lines,
-    mut feed: CutFeed<'_, F>,
+    mut feed: F,
 ) -> Ending
     requires short { length bytes.now ≤ BYTES }
     requires ready { lines.cutter.ready ≡ false }
@@ -57,7 +57,7 @@ pub(crate) fn run<F: PutDown + Drop>(
         result: result.map(|()| outcome),
         later,
         is_plain: lines.are_plain(),
-        lack: feed.lack,
+        lack: feed.lack(),
         has_memory: own.is_ok(),
     }
 }

@@ -2,7 +2,7 @@
 
 ghost use Rattle.page_core_base.specs.Texts.{IsLine};
 
-use crate::cuts::{CutFeed, Cuts, PutDown};
+use crate::cuts::{CutFeed, Cuts, Lack, PutDown};
 use crate::endings::{Ending, run};
 use crate::lines::{BYTES, FILE, Feed, Lines};
 use crate::streams::Streams;
@@ -90,6 +90,11 @@ impl Feed for PageFeed<'_, '_> {
     fn later(&mut self) -> Option<Fault> {
         fault_after(self.alloc, &mut self.page, self.streams)
     }
+
+    // It is not cut by itself.
+    fn lack(&self) -> Option<Lack> {
+        None
+    }
 }
 
 impl PutDown for PageFeed<'_, '_> {
@@ -112,7 +117,7 @@ pub(crate) fn run_lines(
     settings: &Settings,
     streams: &mut Streams,
     cuts: Cuts,
-    memory: Option<&mut Scarcity>,
+    memory: Option<Scarcity>,
 ) -> Option<Ending> {
     if bytes.len() > BYTES {
         return None;
@@ -125,7 +130,14 @@ pub(crate) fn run_lines(
                 streams,
                 alloc,
             };
-            run(alloc, bytes, lines, CutFeed::new(alloc, feed, cuts, memory))
+            let feed = CutFeed {
+                feed,
+                alloc,
+                cuts,
+                lack: None,
+                memory,
+            };
+            run(alloc, bytes, lines, feed)
         }
         Err(fault) => Ending::without_lines(fault),
     };

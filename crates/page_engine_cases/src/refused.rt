@@ -33,16 +33,16 @@ impl Refusals {
 
 // A page that comes line by line, into streams that have their room.
 #[derive(Drop)]
-struct Run<'a, 'b> {
+struct Run<'a> {
     case: Case<'a>,
-    whole: &'a Streams<'b>,
-    streams: Streams<'b>,
+    whole: &'a Streams<'a>,
+    streams: Streams<'a>,
     refusals: Refusals,
 }
 
-impl Run<'_, '_> {
+impl Run<'_> {
     // Feeds the page from its first line, with no memory left between its cuts where it is given memory to take.
-    fn feed(&mut self, alloc: Global, memory: Option<&mut Scarcity>) -> Option<Ending> {
+    fn feed(&mut self, alloc: Global, memory: Option<Scarcity>) -> Option<Ending> {
         self.streams.clear();
         run_lines(
             alloc,
@@ -85,12 +85,10 @@ impl Run<'_, '_> {
 
     // Whether the page asks for nothing once it is made, and once it goes on from what is held of it.
     fn is_whole_without_memory(&mut self, alloc: Global) -> bool {
-        let Some(mut memory) = Scarcity::new(alloc) else {
+        let Some(memory) = Scarcity::new(alloc) else {
             return false;
         };
-        let ending = self.feed(alloc, Some(&mut memory));
-        memory.give_all();
-        match ending {
+        match self.feed(alloc, Some(memory)) {
             Some(ending) => {
                 self.is_whole(&ending) && ending.lack.is_none() && !ending.has_memory
             }
@@ -99,7 +97,7 @@ impl Run<'_, '_> {
     }
 }
 
-impl Scarce for Run<'_, '_> {
+impl Scarce for Run<'_> {
     fn once(&mut self, alloc: Global) -> Ended {
         match self.feed(alloc, None) {
             Some(ending) => self.ended(&ending),

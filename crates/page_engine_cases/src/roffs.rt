@@ -2,7 +2,7 @@
 
 ghost use Rattle.page_core_base.specs.Texts.{IsLine};
 
-use crate::cuts::{CutFeed, Cuts, PutDown};
+use crate::cuts::{CutFeed, Cuts, Lack, PutDown};
 use crate::endings::{Ending, run};
 use crate::lines::{BYTES, FILE, Feed, Lines};
 use page_core::{Fault, Settings, TextNotes};
@@ -113,6 +113,11 @@ impl Feed for RoffFeed {
     fn later(&mut self) -> Option<Fault> {
         None
     }
+
+    // It is not cut by itself.
+    fn lack(&self) -> Option<Lack> {
+        None
+    }
 }
 
 impl PutDown for RoffFeed {
@@ -148,7 +153,14 @@ pub(crate) fn run_roff(
                 roff,
                 settings: *settings,
             };
-            run(alloc, bytes, lines, CutFeed::new(alloc, feed, cuts, None))
+            let feed = CutFeed {
+                feed,
+                alloc,
+                cuts,
+                lack: None,
+                memory: None,
+            };
+            run(alloc, bytes, lines, feed)
         }
         Err(fault) => Ending::without_lines(fault),
     };
