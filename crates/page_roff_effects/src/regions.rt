@@ -64,7 +64,7 @@ fn begin_named(kind: RegionKind, name: &[u8], names: &Names, body: &mut BodyBuff
 }
 
 // Begins the body of a macro, where its name is within the limit of names.
-#[tactic(auto, unfolding(page_roff_blocks::specs::Levels::within_limit))]
+#[tactic(auto, unfolding(page_roff_regions::specs::OpenRegions::within_limit))]
 fn begin_within(kind: RegionKind, name: &[u8], names: &Names, body: &mut BodyBuffer)
     ensures { body.new ≡ regions.body_begun kind (within_limit (Some name.now)) names.now }
 {
@@ -76,7 +76,7 @@ fn begin_within(kind: RegionKind, name: &[u8], names: &Names, body: &mut BodyBuf
 }
 
 // Begins the body that a region defines, where it defines one.
-#[tactic(auto, unfolding(page_roff_blocks::specs::Levels::within_limit))]
+#[tactic(auto, unfolding(page_roff_regions::specs::OpenRegions::within_limit))]
 fn begin_body(head: &RegionHead<&[u8]>, names: &Names, body: &mut BodyBuffer)
     ensures { body.new
         ≡ regions.body_begun head.now.kind (within_limit (macro_name (region_seen head.now))) names.now }
