@@ -38,10 +38,21 @@ def of_calls(size):
     return HEAD + head + "\n".join(calls) + "\n"
 
 
-def repeated(text, per_line):
+def repeated(text, per_line, before=""):
+    """A text that comes again and again, this often in each line, after other lines."""
+
     def made(count):
         line = text * per_line
-        return HEAD + (line + "\n") * (count // per_line)
+        return HEAD + before + (line + "\n") * (count // per_line)
+
+    return made
+
+
+def in_a_loop(text, before=""):
+    """A text that comes again and again in a line that a loop repeats a thousand times, after other lines."""
+
+    def made(count):
+        return HEAD + before + IN_LOOP[0] + text * count + "\n" + IN_LOOP[1]
 
     return made
 
@@ -58,6 +69,8 @@ def unended(head, pairs=False, end=""):
 
 
 IN_LOOP = (".de m\n.while 1 \\{\\\n", ".\\}\n..\n.m\n")
+LONG_STRING = ".ds s " + "x" * 16_000 + "\n"
+FULL_STORE = "".join(f".ds n{k:04} {'x' * 50}\n" for k in range(1000))
 NESTED = "\n".join([".while 1 \\{"] * 64 + ["x"] + [".\\}"] * 64)
 DEFINING = "\n".join([".while 1 \\{", ".de m", "x", "..", ".m", ".\\}"])
 
@@ -78,6 +91,13 @@ HOSTILE = [
     ("\\wA\\wB..\\A\\B.., 7,000 in a line", unended("", pairs=True), 7_000),
     (".if \\wA\\wB.., 3,200 in a line of a loop", unended(IN_LOOP[0] + ".if ", end=IN_LOOP[1]), 3_200),
     ("\\wA\\wB..\\A\\B.., 1,700 in a line of a loop", unended(IN_LOOP[0], pairs=True, end=IN_LOOP[1]), 1_700),
+    ("\\w of 16,000 bytes, 2,500 in lines of five", repeated("\\w'\\*s'", 5, LONG_STRING), 2_500),
+    ("\\w of 16,000 bytes, 500 in a line of a loop", in_a_loop("\\w'\\*s'", LONG_STRING), 500),
+    ("\\h'1000n', 80,000 in lines of 400", repeated("\\h'1000n'", 400), 80_000),
+    ("\\h'1000n', 1,600 in a line of a loop", in_a_loop("\\h'1000n'"), 1_600),
+    ("tabs in kept rows, 80,000 in lines of 4,000", repeated("\t", 4_000, ".nf\n"), 80_000),
+    (".as and .ds in a full store, 20,000 of each", repeated(".as n0000 y\n.ds n0000 x", 1, FULL_STORE), 20_000),
+    ("glyphs that there are not, 3,900 in a loop", in_a_loop("\\(zz"), 3_900),
 ]
 
 OURS_ALONE = [kind for kind, _, most in HOSTILE if most < 1_000_000]
