@@ -1,6 +1,5 @@
 -- The words of a line, with the calls among them, are slices of it, in its order, and few: proofs, which the set's laws cite. Source: mdoc(7).
-use Rattle.std.proofs.Common.{◌≡◌, ℕ, ◌+◌, ◌-◌, Bool, true, false, List, [], ◌∷◌, ◌++◌, refl, sym, subst, append_assoc, arith, None, Some}
-use Rattle.std.specs.List.{list_all}
+use Rattle.std.proofs.Common.{◌≡◌, ℕ, ◌+◌, ◌-◌, Bool, List, [], ◌∷◌, ◌++◌, refl, sym, subst, append_assoc, arith, None, Some}
 use Rattle.page_core_base.specs.LinesTaken.{Line}
 use Rattle.page_roff_forms.specs.declared.quotes.Argument.{Argument}
 use Rattle.page_sets_lines.specs.declared.events.Event.{Event}
@@ -9,36 +8,13 @@ use Rattle.page_sets_lines.proofs.LawLemmas.{name_part}
 use Rattle.page_sets_lines.proofs.OrderLemmas.{AreArguments, AreArguments-split}
 use Rattle.page_sets_mdoc_rows.specs.declared.macros.Inline.{Inline}
 use Rattle.page_sets_mdoc_rows.specs.Rows.{is_parsed}
-use Rattle.page_sets_mdoc_lines.specs.LineWords.{word_call, is_closing}
 use Rattle.page_sets_mdoc_lines.specs.Parts.{Call, LineParts, as_list, calls_arguments, has_calls, parts, parts_arguments}
 use Rattle.page_sets_mdoc_lines.proofs.PartLemmas.{none_taken, whole}
 use Rattle.page_sets_mdoc_words.specs.Printed.{printed}
-use Rattle.page_sets_mdoc_words.specs.Synopses.{placed_events}
 use Rattle.page_sets_mdoc_words.proofs.MacroPrintLemmas.{begun_prints, called_prints, own_arguments}
 use Rattle.page_sets_mdoc_words.proofs.PrintLemmas.{Prints, both, more_events, no_event, own_first, printed_prints, word_passed}
 use Rattle.page_sets_mdoc_blocks.specs.Fronts.{name_column}
 use Rattle.page_sets_mdoc.specs.Mdoc.{call_events, calls_events, tail_events, rest_events, head_events, phrase_events}
-
--- ---- how the words of a line go on
-
--- where only delimiters are left
-pub rest_in_tail : (number : ℕ) (arguments : List (Argument (List ℕ))) → list_all is_closing arguments ≡ true
-    → rest_events number (parts None true arguments) ≡ tail_events number arguments
-rest_in_tail number [] h = refl
-rest_in_tail number (word ∷ words) h = rw h refl
-
--- a word that calls
-pub rest_calls : (number : ℕ) (word : Argument (List ℕ)) (words : List (Argument (List ℕ))) (inline : Inline)
-    → list_all is_closing (word ∷ words) ≡ false → word_call word ≡ Some inline
-    → placed_events false number word.column word.text inline (parts (Some inline) true words).taken (parts (Some inline) true words).words
-    (has_calls (parts (Some inline) true words).calls)
-    ++ rest_events number (parts (Some inline) true words)
-    ≡ rest_events number (parts None true (word ∷ words))
-rest_calls number word words inline h c =
-    let p = parts (Some inline) true words in
-    rw (h, c) (sym (append_assoc (placed_events false number word.column word.text inline p.taken p.words (has_calls p.calls)) (calls_events number p.calls) (tail_events number p.tail)))
-
--- ---- slices, order, few
 
 tail_prints : (line : Line) (tail : List (Argument (List ℕ))) → AreArguments line.text tail → Prints line.text 1 tail (tail_events line.number tail)
 tail_prints line [] h = no_event line.text 1 []

@@ -260,10 +260,6 @@ passed_is closing call real arguments apart =
 
 -- ---- one step of the pass
 
-pub call_passed : (closing call real : Argument (List ℕ) → Bool) (argument : Argument (List ℕ)) (arguments : List (Argument (List ℕ))) (extent : Extent)
-    → call argument ≡ true → passed closing call real extent (argument ∷ arguments) ≡ record extent { follows = true }
-call_passed closing call real argument arguments extent s = rw s refl
-
 pub word_passed : (closing call real : Argument (List ℕ) → Bool) (argument : Argument (List ℕ)) (arguments : List (Argument (List ℕ))) (extent : Extent)
     → call argument ≡ false
     → passed closing call real extent (argument ∷ arguments) ≡ passed closing call real (one_word extent (closing argument) (real argument)) arguments

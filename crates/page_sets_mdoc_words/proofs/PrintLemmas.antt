@@ -333,7 +333,7 @@ last_prints line number column sentence all name h =
     name_first line 1 number column (name_mark sentence (has_comma all counts.Zero)) name [] _ h
     (own_first line 0 1 [] _ [] refl tt (omega arith) (no_event line 0 []))
 
-pub names_print : (line : List ℕ) (number column : ℕ) (sentence : Sentence) (all : NameCount) (names : List (Argument (List ℕ))) → AreArguments line names
+names_print : (line : List ℕ) (number column : ℕ) (sentence : Sentence) (all : NameCount) (names : List (Argument (List ℕ))) → AreArguments line names
     → Prints line 2 names (names_events number column sentence all names)
 names_print line number column sentence all [] h = own_first line 0 2 [] _ [] refl tt (omega arith) (no_event line 0 [])
 names_print line number column sentence all (name ∷ []) h =
@@ -348,14 +348,7 @@ names_print line number column sentence all (name ∷ second ∷ third ∷ fourt
     name_first line 2 number column (name_mark sentence (has_comma all counts.More)) name (second ∷ third ∷ fourth ∷ names) _ h.0
     (names_print line number column sentence all (second ∷ third ∷ fourth ∷ names) h.1)
 
-pub joined_prints : (line : List ℕ) (more number column : ℕ) (left : NameCount) (words : List (Argument (List ℕ))) (events : List (Event (List ℕ)))
-    → Prints line more words events → Prints line (more + 1) words (joined number column left events)
-joined_prints line more number column counts.Zero words events p = more_events line more (more + 1) words events (omega arith) p
-joined_prints line more number column counts.One words events p = own_first line more (more + 1) words _ events refl tt (omega arith) p
-joined_prints line more number column counts.Two words events p = more_events line more (more + 1) words events (omega arith) p
-joined_prints line more number column counts.More words events p = more_events line more (more + 1) words events (omega arith) p
-
-pub marked_prints : (line : List ℕ) (more number column : ℕ) (mark : Option Own) (words : List (Argument (List ℕ))) (events : List (Event (List ℕ)))
+marked_prints : (line : List ℕ) (more number column : ℕ) (mark : Option Own) (words : List (Argument (List ℕ))) (events : List (Event (List ℕ)))
     → Prints line more words events → Prints line (more + 1) words (marked number column mark events)
 marked_prints line more number column None words events p = more_events line more (more + 1) words events (omega arith) p
 marked_prints line more number column (Some own) words events p = own_first line more (more + 1) words _ events refl tt (omega arith) p
