@@ -92,7 +92,7 @@ HOSTILE = [
     (".if \\wA\\wB.., 3,200 in a line of a loop", unended(IN_LOOP[0] + ".if ", end=IN_LOOP[1]), 3_200),
     ("\\wA\\wB..\\A\\B.., 1,700 in a line of a loop", unended(IN_LOOP[0], pairs=True, end=IN_LOOP[1]), 1_700),
     ("\\w of 16,000 bytes, 2,500 in lines of five", repeated("\\w'\\*s'", 5, LONG_STRING), 2_500),
-    ("\\w of 16,000 bytes, 500 in a line of a loop", in_a_loop("\\w'\\*s'", LONG_STRING), 500),
+    ("\\w of 16,000 bytes, 500 in a line of a loop", in_a_loop("\\w'\\\\*s'", LONG_STRING), 500),
     ("\\h'1000n', 80,000 in lines of 400", repeated("\\h'1000n'", 400), 80_000),
     ("\\h'1000n', 1,600 in a line of a loop", in_a_loop("\\h'1000n'"), 1_600),
     ("tabs in kept rows, 80,000 in lines of 4,000", repeated("\t", 4_000, ".nf\n"), 80_000),
