@@ -2,7 +2,7 @@
 
 ghost use Rattle.page_core_base.specs.Texts.{IsLine};
 
-use crate::cuts::{CutFeed, Cuts, Lack, PutDown};
+use crate::cuts::{CutFeed, Cuts, PutDown};
 use crate::endings::{Ending, run};
 use crate::lines::{BYTES, FILE, Feed, Lines};
 use page_core::{Fault, Settings, TextNotes};
@@ -113,11 +113,6 @@ impl Feed for RoffFeed {
     fn later(&mut self) -> Option<Fault> {
         None
     }
-
-    // It is not cut by itself.
-    fn lack(&self) -> Option<Lack> {
-        None
-    }
 }
 
 impl PutDown for RoffFeed {
@@ -139,7 +134,7 @@ pub(crate) fn run_roff(
     bytes: &[u8],
     settings: &Settings,
     room: usize,
-    cuts: Cuts,
+    cuts: Cuts<'_>,
 ) -> Option<Ending> {
     if bytes.len() > BYTES {
         return None;
@@ -153,14 +148,7 @@ pub(crate) fn run_roff(
                 roff,
                 settings: *settings,
             };
-            let feed = CutFeed {
-                feed,
-                alloc,
-                cuts,
-                lack: None,
-                memory: None,
-            };
-            run(alloc, bytes, lines, feed)
+            run(alloc, bytes, lines, CutFeed { feed, alloc, cuts })
         }
         Err(fault) => Ending::without_lines(fault),
     };
