@@ -1,1 +1,1 @@
-pub mod TargetLemmas
+pub mod CapLemmas

@@ -24,14 +24,11 @@ pub struct OpenScopes {
 }
 
 impl Model for OpenScopes {
-    ghost use Rattle.page_scopes.specs.Caps.{TargetsFit};
     ghost use Rattle.page_scopes.specs.Edges.{PageEdge};
 
     ghost Value = { PageEdge };
 
     ghost view = { λ s. s.stack };
-
-    ghost invariant = { λ s. TargetsFit s.stack.scopes };
 }
 
 impl OpenScopes {
@@ -108,13 +105,10 @@ impl OpenScopes {
         self.stack.finish(line, out);
     }
 
-    /// What is held of the scopes between two lines is within its limits. Nothing is done: each event keeps to them.
+    /// What is held of the scopes between two lines is within its limits. Nothing is done: what is kept has its limit by itself.
     pub fn caps_law(&self)
         ensures { ScopesFit self.now }
     {
-        self.stack.depth();
-        if let Some(name) = &self.stack.state().name {
-            name.text.text();
-        }
+        self.depth();
     }
 }

@@ -1,5 +1,8 @@
 -- Lists: what is known of an open one, and the contexts of its items. Source: mdoc(7), `Bl`.
-use Rattle.std.specs.Prelude.{ℕ, ◌+◌, ◌^◌, ◌-◌, min, nat_lt, Bool, true, false, ◌&&◌, ◌||◌, if◌then◌else◌, List, Option, None, Some, replicate, slice_set, get_or, ℤ, pos, ◌+ℤ◌}
+use Rattle.std.specs.Prelude.{ℕ, ◌+◌, ◌^◌, ◌-◌, min, nat_lt, Bool, true, false, ◌&&◌, ◌||◌, if◌then◌else◌, Option, None, Some, replicate, slice_set, get_or, ℤ, pos, ◌+ℤ◌}
+use Rattle.std.proofs.Common.{arith}
+use Rattle.std.proofs.Math.Nat.{min-le_right}
+use Rattle.page_core_limits.specs.declared.TheConstants.{COLUMNS}
 use Rattle.page_core_base.specs.declared.cells.Font.TheVariants.{B}
 use Rattle.page_sets_lines.specs.declared.lists.ListKind.{ListKind}
 use Rattle.page_sets_lines.specs.declared.lists.ListKind.TheVariants as kinds
@@ -11,21 +14,21 @@ use Rattle.page_scopes_layout.specs.declared.contexts.PagePart.TheVariants as pa
 use Rattle.page_scopes_layout.specs.declared.lists.ColumnWidths.{ColumnWidths}
 use Rattle.page_scopes_layout.specs.declared.lists.OpenList.{OpenList}
 
--- ---- the widths of columns, 16 at most
+-- ---- the widths of columns, 16 at most, as `fits` says of each that there is
 
 abbrev pub no_widths : ColumnWidths
-no_widths = record { widths = replicate 16 0; count = 0 }
+no_widths = record { widths = replicate COLUMNS 0; count = 0; fits = omega arith }
 
 abbrev pub has_room : ColumnWidths → Bool
-has_room w = nat_lt w.count 16
+has_room w = nat_lt w.count COLUMNS
 
 -- a width that has no room is not kept
 abbrev pub with_width : ColumnWidths → ℕ → ColumnWidths
-with_width w width = if has_room w then record { widths = slice_set w.widths w.count width; count = w.count + 1 } else w
+with_width w width = if has_room w then record { widths = slice_set w.widths w.count width; count = min (w.count + 1) COLUMNS; fits = min-le_right _ _ } else w
 
 -- a column that is given none has 6
 abbrev pub width_of : ColumnWidths → ℕ → ℕ
-width_of w column = if nat_lt column w.count && nat_lt column 16 then get_or w.widths column 0 else COLUMN_WIDTH
+width_of w column = if nat_lt column w.count then get_or w.widths column 0 else COLUMN_WIDTH
 
 -- ---- an open list
 

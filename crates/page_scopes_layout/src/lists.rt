@@ -1,18 +1,20 @@
 //! Lists: what is known of an open one, and the contexts of its items (mdoc(7), `Bl`).
 
-ghost use Rattle.std.specs.Prelude.{◌≡◌};
-ghost use Rattle.page_scopes_layout.specs.Lists as lists;
+ghost use Rattle.std.specs.Prelude.{◌≡◌, ◌≤◌};
+ghost use Rattle.page_core_limits.specs.declared.TheConstants.{COLUMNS};
 
 use crate::margins::further_in;
 use crate::{COLUMN_GAP, COLUMN_WIDTH, Context, MARGIN, PagePart, hold};
 use page_core_base::Font;
+use page_core_limits::COLUMNS;
 use page_sets_lines::ListKind;
 
 /// The widths of a list's columns, in columns of the page; only the first [`count`](ColumnWidths::count) are given.
 #[derive(Clone, Copy)]
 pub struct ColumnWidths {
-    pub widths: [u32; 16],
+    pub widths: [u32; COLUMNS],
     pub count: usize,
+    pub ghost fits: { count ≤ COLUMNS },
 }
 
 /// What is known of an open list. Columns are counted from the left edge of the page for margins, and from the margin else.
@@ -35,12 +37,14 @@ pub struct OpenList {
 }
 
 impl ColumnWidths {
+    ghost use Rattle.page_scopes_layout.specs.Lists as lists;
+
     /// None is given.
     pub fn new() -> ColumnWidths
         ensures { result ≡ lists.no_widths }
     {
         ColumnWidths {
-            widths: [0; 16],
+            widths: [0; COLUMNS],
             count: 0,
         }
     }
@@ -49,14 +53,14 @@ impl ColumnWidths {
     pub fn has_room(&self) -> bool
         ensures { result ≡ lists.has_room self.now }
     {
-        self.count < 16
+        self.count < COLUMNS
     }
 
     /// One more is given, where there is room.
     pub fn add(&mut self, width: u32)
         ensures { self.new ≡ lists.with_width self.old width }
     {
-        if self.count < 16 {
+        if self.count < COLUMNS {
             self.widths[self.count] = width;
             self.count += 1;
         }
@@ -67,7 +71,7 @@ impl ColumnWidths {
         ensures { result ≡ lists.width_of self.now column }
     {
         let column = column as usize;
-        if column < self.count && column < 16 {
+        if column < self.count {
             self.widths[column]
         } else {
             COLUMN_WIDTH
@@ -76,6 +80,8 @@ impl ColumnWidths {
 }
 
 impl OpenList {
+    ghost use Rattle.page_scopes_layout.specs.Lists as lists;
+
     /// Whether its items are rows of cells.
     pub fn has_columns(&self) -> bool
         ensures { result ≡ lists.has_columns self.now }
@@ -118,6 +124,8 @@ impl OpenList {
 }
 
 impl Context {
+    ghost use Rattle.page_scopes_layout.specs.Lists as lists;
+
     /// A list (`Bl`) begins, this many columns further in than the text.
     pub fn list_begun(self, list: OpenList, offset: i32) -> Context
         ensures { result ≡ lists.list_begun list offset self }

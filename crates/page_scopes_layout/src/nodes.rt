@@ -24,10 +24,12 @@ pub fn give_margins<O: PieceOut>(out: &mut O, context: &Context)
 fn give_item_begin<O: PieceOut>(out: &mut O, context: &Context)
     ensures { Came O.left out.old (nodes.item_begin_items context.now.list context.now) out.new }
 {
-    match context.list {
-        Some(list) if list.is_close() => out.give(Piece::Break),
-        Some(_) => out.give(Piece::Para(context.distance.value)),
-        None => {}
+    if let Some(list) = context.list {
+        if list.is_close() {
+            out.give(Piece::Break);
+        } else {
+            out.give(Piece::Para(context.distance.value));
+        }
     }
 }
 

@@ -1,5 +1,5 @@
 -- What macros of mdoc(7) change in their line, or print there. Source: mdoc(7), "MACRO REFERENCE".
-use Rattle.std.specs.Prelude.{ℕ, max, Bool, true, false, not, ◌&&◌, List, [], ◌∷◌, ◌++◌, Option, None, Some, if◌then◌else◌}
+use Rattle.std.specs.Prelude.{ℕ, max, Bool, true, false, not, ◌&&◌, List, [], ◌∷◌, Option, None, Some, if◌then◌else◌}
 use Rattle.page_core_base.specs.Pieces.{shown}
 use Rattle.page_core_base.specs.declared.note_kinds.NoteKind.TheVariants.{SkipPara}
 use Rattle.page_core_base.specs.declared.pieces.Piece.TheVariants as pieces

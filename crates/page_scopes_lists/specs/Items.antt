@@ -1,5 +1,5 @@
 -- Items of lists: their marks and numbers. Source: mdoc(7), `Bl` and `It`.
-use Rattle.std.specs.Prelude.{ℕ, min, false, List, [], ◌∷◌, ◌++◌, Option, None, Some, codes, decimal, pos}
+use Rattle.std.specs.Prelude.{ℕ, min, false, List, ◌++◌, Option, None, Some, codes, decimal, pos}
 use Rattle.page_core_base.specs.declared.places.Place.{Place}
 use Rattle.page_core_limits.specs.declared.TheConstants.{LINE}
 use Rattle.page_scopes_layout.specs.Begins.{entered_context}

@@ -1,5 +1,5 @@
 -- The widths that the arguments of `Bl` give. Source: mdoc(7), `Bl`.
-use Rattle.std.specs.Prelude.{ℕ, ◌+◌, ◌≤◌, length, Bool, true, false, not, List, [], ◌∷◌, Option, None, Some, codes, if◌then◌else◌, ℤ, pos}
+use Rattle.std.specs.Prelude.{ℕ, ◌+◌, ◌≤◌, length, Bool, true, false, List, [], ◌∷◌, Option, None, Some, codes, if◌then◌else◌, ℤ, pos}
 use Rattle.page_core_base.specs.Pieces.{Item}
 use Rattle.page_core_base.specs.declared.note_kinds.NoteKind.TheVariants.{Limit}
 use Rattle.page_core_base.specs.declared.page_settings.Output.{Output}
@@ -9,7 +9,6 @@ use Rattle.page_roff_forms.specs.Arguments.{is_quoted}
 use Rattle.page_roff_forms.specs.declared.quotes.Argument.{Argument}
 use Rattle.page_scopes_layout.specs.Lists.{has_room, no_widths, with_width}
 use Rattle.page_scopes_layout.specs.Margins.{hold}
-use Rattle.page_scopes_layout.specs.declared.lists.ColumnWidths.{ColumnWidths}
 use Rattle.page_scopes_widths.specs.Names.{name_columns}
 use Rattle.page_scopes_widths.specs.Widths.{width_columns, width_notes}
 use Rattle.page_scopes_words.specs.Words.{says}

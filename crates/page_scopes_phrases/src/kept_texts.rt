@@ -1,22 +1,13 @@
 //! Texts that are kept of an argument and printed later, more than once if need be: the target of a link and the name of the manual (man(7), `UR`, `MT`;
 //! mdoc(7), `Nm`).
 
-ghost use Rattle.std.specs.Prelude.{◌≡◌, ◌≤◌, ◌<◌, length, false};
-ghost use Rattle.page_core_base.specs.Latches.{Came};
-ghost use Rattle.page_core_base.specs.Messages.{text_front};
-ghost use Rattle.page_core_escapes.specs.Tokens.{token_seen, tokens_of};
+ghost use Rattle.std.specs.Prelude.{◌≡◌, ◌≤◌, length};
 ghost use Rattle.page_core_limits.specs.declared.TheConstants.{FIELD};
-ghost use Rattle.page_roff_forms.specs.Arguments.{argument_seen};
-ghost use Rattle.page_scopes_phrases.specs.KeptTexts as kept;
 
-use crate::Running;
 use arrayvec::ArrayVec;
-use page_core_base::{Font, NoteKind, Piece, PieceOut, Place, text_front};
-use page_core_escapes::{Token, read_token};
-use page_core_limits::{FIELD, LINE, Limit};
+use page_core_base::text_front;
+use page_core_limits::FIELD;
 use page_roff_forms::Argument;
-use page_scopes_text::{fonts_after, give_blank_cells, give_token, token_prints};
-use page_scopes_words::{Fonts, Setting, give_white_cells, has_tab, report};
 use std::marker::Model;
 
 /// A text of at most [`FIELD`] bytes.
@@ -66,9 +57,13 @@ pub struct KeptText {
     pub text: FieldText,
     /// A pair of quotes in it is one quote.
     pub is_quoted: bool,
+    pub ghost fits: { length text ≤ FIELD },
 }
 
 impl KeptText {
+    ghost use Rattle.page_roff_forms.specs.Arguments.{argument_seen};
+    ghost use Rattle.page_scopes_phrases.specs.KeptTexts.{kept_of};
+
     /// The same text.
     pub fn copy(&self) -> KeptText
         ensures { result ≡ self.now }
@@ -81,179 +76,11 @@ impl KeptText {
 
     /// What is kept of an argument.
     pub fn of(argument: Argument<&[u8]>) -> KeptText
-        ensures { result ≡ kept.kept_of (argument_seen argument.entry) }
+        ensures { result ≡ kept_of (argument_seen argument.entry) }
     {
         KeptText {
             text: FieldText::of(text_front(argument.text, FIELD).as_bytes()),
             is_quoted: argument.is_quoted(),
         }
-    }
-}
-
-/// Reports at a place that a text is not kept whole.
-pub fn report_cut<O: PieceOut>(out: &mut O, place: Place, text: &[u8])
-    ensures { Came O.left out.old (kept.cut_notes place text.now) out.new }
-{
-    if text.len() > FIELD {
-        report(out, NoteKind::Limit, place, Limit::Field.name().as_bytes());
-    }
-}
-
-/// Gives the blanks before a kept text.
-pub fn give_kept_gap<O: PieceOut>(out: &mut O, is_literal: bool, running: &Running, place: Place)
-    ensures { Came O.left out.old (kept.gap_items is_literal running.now place) out.new }
-{
-    if is_literal {
-        if running.line.is_after_word {
-            give_blank_cells(out, running.next_gap(), Font::R, place);
-        }
-    } else if running.next_gap() != 0 {
-        out.give(Piece::Blank {
-            count: running.next_gap(),
-            has_tab: false,
-        });
-    }
-}
-
-// Gives white space in a kept text, as cells or as this many blanks.
-fn give_white<O: PieceOut>(out: &mut O, is_literal: bool, gap: u32, place: Place, white: &[u8])
-    ensures { Came O.left out.old (kept.white_items is_literal gap place white.now) out.new }
-{
-    if is_literal {
-        give_white_cells(out, place, white);
-    } else {
-        out.give(Piece::Blank {
-            count: gap,
-            has_tab: has_tab(white),
-        });
-    }
-}
-
-// Gives a token of a kept text.
-fn give_part<O: PieceOut>(
-    out: &mut O,
-    is_literal: bool,
-    quoted: bool,
-    gap: u32,
-    place: Place,
-    font: Font,
-    token: &Token<'_>,
-)
-    ensures { Came O.left out.old
-        (kept.part_items is_literal quoted gap place font (token_seen token.now)) out.new }
-{
-    match *token {
-        Token::White(white) => give_white(out, is_literal, gap, place, white),
-        _ => give_token(out, quoted, font, place, token),
-    }
-}
-
-// Gives what a text prints without its messages, all at one place; the fonts after it.
-fn give_parts<O: PieceOut>(
-    out: &mut O,
-    is_literal: bool,
-    quoted: bool,
-    front: u32,
-    place: Place,
-    start: Setting<Fonts>,
-    text: &[u8],
-) -> Setting<Fonts>
-    requires { length text.now ≤ LINE }
-    ensures came { Came O.left out.old
-        (kept.parts_items is_literal quoted front place start (tokens_of quoted text.now)) out.new }
-    ensures fonts { result ≡ kept.fonts_through start (tokens_of quoted text.now) }
-{
-    let mut rest = text;
-    let mut fonts = start;
-    let mut gap = front;
-    while !rest.is_empty() {
-        let token = read_token(quoted, rest);
-        give_part(
-            out,
-            is_literal,
-            quoted,
-            gap,
-            place,
-            fonts.value.font,
-            &token,
-        );
-        fonts = fonts_after(&token, fonts);
-        gap = 1;
-        rest = &rest[token.len()..];
-    }
-    fonts
-}
-
-// Whether a token of a kept text prints a cell.
-fn part_prints(is_literal: bool, token: &Token<'_>) -> bool
-    ensures { result ≡ kept.part_prints is_literal (token_seen token.now) }
-{
-    match *token {
-        Token::White(_) => is_literal,
-        _ => token_prints(token),
-    }
-}
-
-// Whether a text prints a cell.
-fn prints_cell(is_literal: bool, quoted: bool, text: &[u8]) -> bool
-    requires { length text.now ≤ LINE }
-    ensures { result ≡ kept.prints_cell is_literal (tokens_of quoted text.now) }
-{
-    let mut rest = text;
-    while !rest.is_empty() {
-        let token = read_token(quoted, rest);
-        if part_prints(is_literal, &token) {
-            return true;
-        }
-        rest = &rest[token.len()..];
-    }
-    false
-}
-
-/// Whether a kept text prints a cell.
-pub(crate) fn kept_prints_cell(is_literal: bool, text: &KeptText) -> bool
-    ensures { result ≡ kept.prints_cell is_literal (kept.kept_tokens text.now) }
-{
-    prints_cell(is_literal, text.is_quoted, text.text.text())
-}
-
-/// Gives what a kept text prints without its messages, all at one place; white space at its front is this many blanks. The fonts
-/// after it.
-pub fn give_kept<O: PieceOut>(
-    out: &mut O,
-    is_literal: bool,
-    front: u32,
-    place: Place,
-    start: Setting<Fonts>,
-    text: &KeptText,
-) -> Setting<Fonts>
-    ensures came { Came O.left out.old
-        (kept.kept_items is_literal front place start text.now) out.new }
-    ensures fonts { result ≡ kept.fonts_through start (kept.kept_tokens text.now) }
-{
-    give_parts(
-        out,
-        is_literal,
-        text.is_quoted,
-        front,
-        place,
-        start,
-        text.text.text(),
-    )
-}
-
-impl Running {
-    /// What is known along the page goes on after a kept text, which is a word.
-    pub fn pass_kept(&mut self, in_text: bool, has_spacing: bool)
-        ensures { self.new ≡ kept.after_kept in_text has_spacing self.old }
-    {
-        self.has_content = true;
-        self.gap = if has_spacing { 1 } else { 0 };
-        self.line.has_words = true;
-        self.line.has_row_words = self.line.has_row_words || in_text;
-        self.line.is_after_word = true;
-        self.line.is_cut = false;
-        self.line.ends_blank = false;
-        self.line.joins_next = false;
     }
 }

@@ -13,6 +13,7 @@
 mod cells;
 mod headings;
 mod kept_texts;
+mod kept_words;
 mod line_words;
 mod manual_names;
 mod phrases;
@@ -20,7 +21,8 @@ mod runnings;
 
 pub use cells::give_column_step;
 pub use headings::{HeadingSoFar, is_heading};
-pub use kept_texts::{FieldText, KeptText, give_kept, give_kept_gap, report_cut};
+pub use kept_texts::{FieldText, KeptText};
+pub use kept_words::{give_kept, give_kept_gap, report_cut};
 pub use line_words::{argument_word, give_line_word, give_own_word};
 pub use manual_names::{give_manual_name, keep_name};
 pub use phrases::{Phrase, blanks_part, give_phrase, joined_gap};

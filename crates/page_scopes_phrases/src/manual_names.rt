@@ -8,9 +8,9 @@ ghost use Rattle.page_scopes_phrases.specs.ManualNames as names;
 ghost use Rattle.page_scopes_phrases.specs.Outcomes.{GivesOutcome};
 ghost use Rattle.page_scopes_phrases.specs.Phrases.{phrase_seen};
 
-use crate::Running;
-use crate::kept_texts::{KeptText, give_kept, give_kept_gap, kept_prints_cell, report_cut};
+use crate::kept_words::{give_kept, give_kept_gap, kept_prints_cell, report_cut};
 use crate::phrases::{Phrase, give_phrase, is_text, own_fonts};
+use crate::{KeptText, Running};
 use page_core_base::{Font, NoteKind, Piece, PieceOut, Place};
 use page_core_limits::LINE;
 use page_roff_forms::Argument;

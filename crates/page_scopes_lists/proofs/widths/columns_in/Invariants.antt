@@ -1,5 +1,4 @@
-use Rattle.std.proofs.Common.{◌≡◌, ◌≤◌, length}
-use Rattle.page_core_limits.specs.declared.TheConstants.{LINE}
+use Rattle.std.proofs.Common.{◌≡◌, length}
 use Rattle.page_sets_lines.proofs.OrderLemmas.{AreArguments}
 use Rattle.page_sets_lines.specs.Lists.{columns_after, options_seen}
 use Rattle.page_scopes_lists.specs.ListWidths.{all_given, columns_in}

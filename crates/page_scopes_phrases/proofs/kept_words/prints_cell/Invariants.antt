@@ -2,7 +2,7 @@ use Rattle.std.proofs.Common.{◌≡◌, ◌≤◌, length}
 use Rattle.page_core_escapes.specs.Tokens.{tokens_of}
 use Rattle.page_core_limits.specs.declared.TheConstants.{LINE}
 use Rattle.page_scopes_phrases.specs.KeptTexts.{prints_cell}
-use Rattle.page_scopes_phrases.proofs.kept_texts.prints_cell.Given as goal
+use Rattle.page_scopes_phrases.proofs.kept_words.prints_cell.Given as goal
 
 abbrev pub invariant-loop-rest : goal.invariant-loop-rest
 invariant-loop-rest l =

@@ -4,7 +4,7 @@ use Rattle.std.proofs.lemmas.List.{take_rest}
 use Rattle.page_core_escapes.specs.Tokens.{token_at, token_bytes, token_seen}
 use Rattle.page_scopes_phrases.specs.KeptTexts.{part_prints}
 use Rattle.page_scopes_phrases.proofs.KeptLemmas.{prints_more, prints_none}
-use Rattle.page_scopes_phrases.proofs.kept_texts.prints_cell.Goals as goal
+use Rattle.page_scopes_phrases.proofs.kept_words.prints_cell.Goals as goal
 
 pub returns-then-part_prints : goal.returns-then-part_prints
 returns-then-part_prints c =

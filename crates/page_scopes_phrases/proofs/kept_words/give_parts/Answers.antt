@@ -3,7 +3,7 @@ use Rattle.std.proofs.lemmas.Bool.Decides.{nat_tests}
 use Rattle.std.proofs.lemmas.List.{take_rest}
 use Rattle.page_core_escapes.specs.Tokens.{token_bytes}
 use Rattle.page_scopes_phrases.proofs.KeptLemmas.{fonts_more, fonts_none, parts_more, parts_none}
-use Rattle.page_scopes_phrases.proofs.kept_texts.give_parts.Goals as goal
+use Rattle.page_scopes_phrases.proofs.kept_words.give_parts.Goals as goal
 
 pub loop-rest-preserved : goal.loop-rest-preserved
 loop-rest-preserved g c =
