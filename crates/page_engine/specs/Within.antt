@@ -13,7 +13,7 @@ use Rattle.page_engine.specs.States.{PageState}
 pub record IsWithin (e : Edge) : Type 0 where
   -- names and what they stand for, an open region, and open blocks
   pub roff : RoffFits (lines_at e).roff
-  -- the fields of header and footer, the name of the system, and the open scopes with the targets of links and the manual's name
+  -- the fields of header and footer, the name of the system, and the open scopes with the targets of links, the widths of lists, and the manual's name
   pub body : BodyFits (lines_at e).body
   -- the cells of the open row, the columns of an open tag, and the blank rows at the end
   pub fill : FillFits e.fill

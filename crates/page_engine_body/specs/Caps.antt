@@ -13,7 +13,7 @@ pub record FieldsFit (fields : Fields) : Type 0 where
   pub source : length fields.source ≤ FIELD
   pub volume : length fields.volume ≤ FIELD
 
--- these; the bytes of the system's name; and the open scopes, with the targets of links
+-- these; the bytes of the system's name; and the open scopes, with the targets of links and the widths of lists
 pub record BodyFits (b : BodyEdge) : Type 0 where
   pub os : length b.header.os ≤ FIELD
   pub fields : FieldsFit b.header.fields
