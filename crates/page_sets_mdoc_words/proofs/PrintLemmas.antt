@@ -23,7 +23,7 @@ use Rattle.page_sets_mdoc_rows.specs.declared.blocks.Sentence.{Sentence}
 use Rattle.page_sets_mdoc_words.specs.declared.sentences.NameCount.{NameCount}
 use Rattle.page_sets_mdoc_words.specs.declared.sentences.NameCount.TheVariants as counts
 use Rattle.page_sets_mdoc_words.specs.Synopses.{preceded, followed, framed}
-use Rattle.page_sets_mdoc_words.specs.Sentences.{name_count, has_comma, name_mark, marked, joined, names_events, given_names, sentence_events, file_events, include_events}
+use Rattle.page_sets_mdoc_words.specs.Sentences.{name_count, has_comma, name_mark, marked, names_events, given_names, sentence_events, file_events, include_events}
 
 -- the texts of events are slices of the line, their words are some of these in their order, and there are few of them
 pub record Prints (line : List ℕ) (more : ℕ) (words : List (Argument (List ℕ))) (events : List (Event (List ℕ))) : Type 0 where

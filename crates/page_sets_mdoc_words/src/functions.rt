@@ -3,7 +3,7 @@
 ghost use Rattle.std.specs.Prelude.{◌≤◌, ◌++◌, length};
 ghost use Rattle.page_core_base.specs.Latches.{Came};
 ghost use Rattle.page_sets_mdoc_lines.specs.Cursors.{IsCursorOf};
-ghost use Rattle.page_sets_mdoc_lines.specs.Words.{words_seen};
+ghost use Rattle.page_sets_mdoc_lines.specs.Words.{AreIn, words_seen};
 ghost use Rattle.page_sets_mdoc_words.specs.Inlines as inlines;
 
 use crate::plain::give_printed;
@@ -11,7 +11,7 @@ use crate::printed::{event_at, own_word, printed_word, step_event};
 use page_core_base::Font;
 use page_core_limits::LINE;
 use page_sets_lines::{BlockOpener, Deed, EventTaker, Join, LineStep, Opener, Own};
-use page_sets_mdoc_lines::{Words, is_real};
+use page_sets_mdoc_lines::{MacroWords, Words, is_real};
 
 // The arguments of `Fn`: a comma before each but the first.
 fn give_arguments<'a, O: EventTaker<'a>>(
@@ -68,18 +68,16 @@ pub(crate) fn give_function<'a, O: EventTaker<'a>>(
     number: u32,
     column: u32,
     text: &'a [u8],
-    inside: Words,
-    outside: Words,
+    words: MacroWords<'a>,
 )
     requires short { length text.now ≤ LINE }
-    requires within { IsCursorOf text.now inside.cursor }
-    requires after { IsCursorOf text.now outside.cursor }
-    ensures { Came O.left out.old (inlines.function_words number column (words_seen text.now inside)
-        ++ inlines.function_end number column (words_seen text.now outside)) out.new }
+    requires stand { AreIn text.now words }
+    ensures { Came O.left out.old (inlines.function_words number column (words_seen text.now words.entry.inside)
+        ++ inlines.function_end number column (words_seen text.now words.entry.outside)) out.new }
 {
-    give_function_words(out, number, column, text, inside);
+    give_function_words(out, number, column, text, words.inside);
     out.give(step_event(number, column, LineStep::FunctionEnd));
-    give_printed(out, number, None, text, outside);
+    give_printed(out, number, None, text, words.outside);
 }
 
 /// `Fa`: each word is the next argument of the function that is open.

@@ -5,7 +5,7 @@ ghost use Rattle.page_core_base.specs.Latches.{Came};
 ghost use Rattle.page_roff_forms.specs.Arguments.{argument_seen};
 ghost use Rattle.page_sets_lines.specs.Fits.{ArgumentFits};
 ghost use Rattle.page_sets_mdoc_lines.specs.Cursors.{IsCursorOf};
-ghost use Rattle.page_sets_mdoc_lines.specs.Words.{words_seen};
+ghost use Rattle.page_sets_mdoc_lines.specs.Words.{AreIn, words_seen};
 ghost use Rattle.page_sets_mdoc_words.specs.Inlines as inlines;
 ghost use Rattle.page_sets_mdoc_words.specs.Printed.{printed};
 
@@ -15,7 +15,7 @@ use page_core_base::Font;
 use page_core_limits::LINE;
 use page_roff_forms::Argument;
 use page_sets_lines::{EventTaker, Join, LineStep, Own};
-use page_sets_mdoc_lines::{Words, is_real};
+use page_sets_mdoc_lines::{MacroWords, Words, is_real};
 
 // An address, after its texts.
 fn give_address<'a, O: EventTaker<'a>>(
@@ -71,15 +71,13 @@ pub(crate) fn give_link<'a, O: EventTaker<'a>>(
     number: u32,
     column: u32,
     text: &'a [u8],
-    inside: Words,
-    outside: Words,
+    words: MacroWords<'a>,
 )
     requires short { length text.now ≤ LINE }
-    requires within { IsCursorOf text.now inside.cursor }
-    requires after { IsCursorOf text.now outside.cursor }
-    ensures { Came O.left out.old (inlines.link_words number column (words_seen text.now inside)
-        ++ printed number None (words_seen text.now outside)) out.new }
+    requires stand { AreIn text.now words }
+    ensures { Came O.left out.old (inlines.link_words number column (words_seen text.now words.entry.inside)
+        ++ printed number None (words_seen text.now words.entry.outside)) out.new }
 {
-    give_link_words(out, number, column, text, inside);
-    give_printed(out, number, None, text, outside);
+    give_link_words(out, number, column, text, words.inside);
+    give_printed(out, number, None, text, words.outside);
 }

@@ -2,14 +2,17 @@
 
 ghost use Rattle.std.specs.Prelude.{◌≡◌, ◌≤◌, [], ◌∷◌, None, Some, length};
 ghost use Rattle.page_core_base.specs.Latches.{Came};
-ghost use Rattle.page_sets_lines.specs.Events.{event_seen, given_seen};
+ghost use Rattle.page_sets_lines.specs.Events.{event_seen, given_seen, step_seen};
 ghost use Rattle.page_sets_lines.specs.Fits.{GivenFits, IsShort};
+ghost use Rattle.page_sets_lines.specs.PlainLines.{event_at};
+ghost use Rattle.page_sets_lines.specs.declared.events.Deed.TheVariants as deeds;
+ghost use Rattle.page_sets_lines.specs.declared.openers.LineOpener.TheVariants as lines;
 ghost use Rattle.page_sets_names.specs.declared.own_texts.Own.TheVariants.{Apostrophe};
 ghost use Rattle.page_sets_lines.specs.declared.events.Join.TheVariants.{Glued};
 ghost use Rattle.page_sets_mdoc_lines.specs.Cursors.{IsCursorOf};
 ghost use Rattle.page_sets_mdoc_lines.specs.Words.{AreIn, AreKnown, words_seen};
 ghost use Rattle.page_sets_mdoc_words.specs.Inlines as inlines;
-ghost use Rattle.page_sets_mdoc_words.specs.Printed.{own_word, printed};
+ghost use Rattle.page_sets_mdoc_words.specs.Printed.{own_word, printed, step_event};
 ghost use Rattle.page_sets_mdoc_words.specs.Synopses as synopses;
 
 use crate::enclosures::{give_closed, give_opened};
@@ -25,7 +28,9 @@ use crate::systems::{give_bsd, system_word};
 use crate::taken_words::{give_author, give_prefix};
 use page_core_base::Font;
 use page_core_limits::LINE;
-use page_sets_lines::{Deed, Event, EventTaker, Join, LineOpener, LineStep, Own, SynopsisStep};
+use page_sets_lines::{
+    Deed, Event, EventTaker, Join, LineOpener, LineStep, Marks, Own, SynopsisStep,
+};
 use page_sets_mdoc_lines::{MacroWords, Words};
 use page_sets_mdoc_rows::Inline;
 
@@ -44,6 +49,41 @@ fn give_before<'a, O: EventTaker<'a>>(
 {
     out.give(event);
     give_printed(out, number, None, text, words);
+}
+
+// A step of its line, and then the words.
+fn give_step<'a, O: EventTaker<'a>>(
+    out: &mut O,
+    number: u32,
+    column: u32,
+    step: LineStep<&'a [u8]>,
+    text: &'a [u8],
+    words: Words,
+)
+    requires short { length text.now ≤ LINE }
+    requires within { IsCursorOf text.now words.cursor }
+    requires fits { IsShort (step_event number column (step_seen step)) }
+    ensures { Came O.left out.old (step_event number column (step_seen step.entry) ∷ printed number None (words_seen text.now words)) out.new }
+{
+    give_before(out, step_event(number, column, step), number, text, words);
+}
+
+// What begins an enclosure over the rest of its line, and then the words.
+fn give_enclosed<'a, O: EventTaker<'a>>(
+    out: &mut O,
+    number: u32,
+    column: u32,
+    marks: Marks,
+    text: &'a [u8],
+    words: Words,
+)
+    requires short { length text.now ≤ LINE }
+    requires within { IsCursorOf text.now words.cursor }
+    ensures { Came O.left out.old (event_at number column (deeds.LineScope (lines.Enclosure marks))
+        ∷ printed number None (words_seen text.now words)) out.new }
+{
+    let deed = Deed::LineScope(LineOpener::Enclosure(marks));
+    give_before(out, event_at(number, column, deed), number, text, words);
 }
 
 // Words in a font, of a macro that needs one.
@@ -111,12 +151,8 @@ fn give_inline<'a, O: EventTaker<'a>>(
         }
         Inline::Arguments if has_real => give_next_arguments(out, line, column, text, all),
         Inline::Reference if has_real => give_reference(out, line, text, all),
-        Inline::Function if has_real => {
-            give_function(out, line, column, text, words.inside, words.outside);
-        }
-        Inline::Link if has_real => {
-            give_link(out, line, column, text, words.inside, words.outside);
-        }
+        Inline::Function if has_real => give_function(out, line, column, text, words),
+        Inline::Link if has_real => give_link(out, line, column, text, words),
         Inline::Arguments | Inline::Reference | Inline::Function | Inline::Link => {
             give_refused(out, name, text, all);
         }
@@ -124,26 +160,11 @@ fn give_inline<'a, O: EventTaker<'a>>(
             give_before(out, system_word(line, column, system), line, text, all);
         }
         Inline::Bsd => give_bsd(out, line, column, text, all),
-        Inline::NoSpace => {
-            give_before(
-                out,
-                step_event(line, column, LineStep::Glue),
-                line,
-                text,
-                all,
-            );
-        }
+        Inline::NoSpace => give_step(out, line, column, LineStep::Glue, text, all),
         Inline::Apostrophe => give_before(out, apostrophe(line, column), line, text, all),
-        Inline::NextColumn => {
-            let event = step_event(line, column, LineStep::NextColumn);
-            give_before(out, event, line, text, all);
-        }
+        Inline::NextColumn => give_step(out, line, column, LineStep::NextColumn, text, all),
         Inline::Prefix => give_prefix(out, name, words.taken, text, all),
-        Inline::Enclosure(marks) => {
-            let opener = LineOpener::Enclosure(marks);
-            let event = event_at(line, column, Deed::LineScope(opener));
-            give_before(out, event, line, text, all);
-        }
+        Inline::Enclosure(marks) => give_enclosed(out, line, column, marks, text, all),
         Inline::Opens(pair) => give_opened(out, name, pair, text, words),
         Inline::Closes(pair) => give_closed(out, name, pair, words.taken, text, all),
     }
