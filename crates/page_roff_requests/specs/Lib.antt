@@ -1,3 +1,2 @@
 pub mod Regions
 pub mod Requests
-pub mod Rows

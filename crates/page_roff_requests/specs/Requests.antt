@@ -1,6 +1,6 @@
 -- The names that roff knows, one row each. Source: roff(7), "REQUEST REFERENCE".
 use Rattle.std.specs.Prelude.{ℕ, List, map, Option}
-use Rattle.page_roff_requests.specs.Rows.{row_among}
+use Rattle.page_core_names.specs.Rows.{row_among}
 use Rattle.page_roff_requests.specs.declared.requests.Request.{Request}
 use Rattle.page_roff_requests.specs.declared.requests.TheConstants.{REQUESTS}
 

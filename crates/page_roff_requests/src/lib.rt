@@ -9,7 +9,6 @@
 
 mod regions;
 mod requests;
-mod rows;
 
 pub use regions::RegionKind;
 pub use requests::{DefinitionRequest, LayoutRequest, Request};

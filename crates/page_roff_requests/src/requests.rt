@@ -4,7 +4,7 @@ ghost use Rattle.std.specs.Prelude.{◌≡◌};
 ghost use Rattle.page_roff_requests.specs.Requests as requests;
 
 use crate::regions::RegionKind;
-use crate::rows::{list_for, row_named};
+use page_core_names::{list_for, row_named};
 
 /// A request that defines strings or number registers, or takes definitions away.
 #[derive(Clone, Copy)]
@@ -70,8 +70,40 @@ impl Request {
     }
 }
 
-// The table: the names by their first letter. The place of a list is its letter's number, and the first list has no names.
-static REQUESTS: [&[(&[u8], Request)]; 27] = [
+// The table: the names by their first letter. The place of a list is its letter's number: from 1 for `A`, and from 33 for `a`.
+static REQUESTS: [&[(&[u8], Request)]; 59] = [
+    &[],
+    &[],
+    &[],
+    &[],
+    &[],
+    &[(b"EQ", Request::Region(RegionKind::Equation))],
+    &[],
+    &[],
+    &[],
+    &[],
+    &[],
+    &[],
+    &[],
+    &[],
+    &[],
+    &[],
+    &[(b"PS", Request::Region(RegionKind::Picture))],
+    &[],
+    &[],
+    &[],
+    &[(b"TS", Request::Region(RegionKind::Table))],
+    &[],
+    &[],
+    &[],
+    &[],
+    &[],
+    &[],
+    &[],
+    &[],
+    &[],
+    &[],
+    &[],
     &[],
     &[
         (b"am", Request::Region(RegionKind::Append)),
@@ -105,7 +137,6 @@ static REQUESTS: [&[(&[u8], Request)]; 27] = [
         (b"ec", Request::Unsupported),
         (b"eo", Request::Unsupported),
         (b"ev", Request::Unsupported),
-        (b"EQ", Request::Region(RegionKind::Equation)),
     ],
     &[
         (b"ft", Request::Layout(LayoutRequest::Font)),
@@ -148,7 +179,6 @@ static REQUESTS: [&[(&[u8], Request)]; 27] = [
         (b"pl", Request::Ignored),
         (b"po", Request::Ignored),
         (b"ps", Request::Ignored),
-        (b"PS", Request::Region(RegionKind::Picture)),
     ],
     &[],
     &[
@@ -172,7 +202,6 @@ static REQUESTS: [&[(&[u8], Request)]; 27] = [
         (b"ta", Request::Unsupported),
         (b"ti", Request::Unsupported),
         (b"tr", Request::Unsupported),
-        (b"TS", Request::Region(RegionKind::Table)),
     ],
     &[(b"ul", Request::Ignored)],
     &[(b"vs", Request::Ignored)],

@@ -1,7 +1,7 @@
 use Rattle.std.proofs.Common.{ap, ◌∙◌}
 use Rattle.page_roff_requests.specs.Requests.{request_of}
-use Rattle.page_roff_requests.proofs.RowLemmas.{row_of_table, seen}
-use Rattle.page_roff_requests.specs.Rows.{row_in}
+use Rattle.page_core_names.proofs.RowLemmas.{row_of_table, seen}
+use Rattle.page_core_names.specs.Rows.{row_in}
 use Rattle.page_roff_requests.proofs.requests.Request.of.Goals as goal
 
 -- the table is tested whole: each name stands in the list of its letter

@@ -5,7 +5,7 @@ use Rattle.std.proofs.lemmas.Slice.Eq.{bytes_eq-Decides}
 use Rattle.std.specs.List.{list_all}
 use Rattle.std.specs.Option.{option_or}
 use Rattle.std.specs.Str.{bytes_eq}
-use Rattle.page_roff_requests.specs.Rows.{row_in, row_among, letter_of, stand_by_letter}
+use Rattle.page_core_names.specs.Rows.{row_in, row_among, letter_of, stand_by_letter}
 
 -- rows of the program as values
 abbrev pub seen : {V : Type 0} → List (Bor (List ℕ) × V) → List (List ℕ × V)

@@ -1,6 +1,6 @@
 use Rattle.std.proofs.Common.{sym, ◌∙◌}
-use Rattle.page_roff_requests.proofs.RowLemmas.{row_found, row_passed}
-use Rattle.page_roff_requests.proofs.rows.row_named.Goals as goal
+use Rattle.page_core_names.proofs.RowLemmas.{row_found, row_passed}
+use Rattle.page_core_names.proofs.tables.row_named.Goals as goal
 
 pub returns-then-eq : goal.returns-then-eq
 returns-then-eq g c =

@@ -14,10 +14,10 @@ abbrev pub row_among : {V : Type 0} → List (List (List ℕ × V)) → List ℕ
 row_among [] name = None
 row_among (rows ∷ more) name = option_or (row_in rows name) (row_among more name)
 
--- the number of a name's first letter, from 1 for `A` and `a`
+-- the number of a name's first letter, from 1 for `A` and from 33 for `a`
 abbrev pub letter_of : List ℕ → ℕ
 letter_of [] = 0
-letter_of (first ∷ _) = first % 32
+letter_of (first ∷ _) = first % 64
 
 -- the rows of the first list have this letter, those of the next list the next one, and so on
 abbrev pub stand_by_letter : {V : Type 0} → ℕ → List (List (List ℕ × V)) → Bool
