@@ -1,10 +1,10 @@
 -- What is printed is short, and a character of printable ASCII has one column.
-use Rattle.std.proofs.Common.{◌≡◌, ℕ, ◌≤◌, ◌==◌, nat_le, ◌&&◌, Bool, true, List, [], ◌∷◌, length, Option, None, Some, option_map, inl, inr, refl, sym, ap, ◌∙◌, arith}
-use Rattle.std.specs.Str.{bytes_eq}
+use Rattle.std.proofs.Common.{◌≡◌, ℕ, ◌≤◌, ◌==◌, nat_le, ◌&&◌, Bool, true, List, [], ◌∷◌, length, Option, None, Some, inl, inr, refl, sym, ap, ◌∙◌, arith}
 use Rattle.std.specs.List.{list_all}
-use Rattle.std.proofs.lemmas.Bool.{cases_Bool, cond-true, cond-false, and_parts}
+use Rattle.std.proofs.lemmas.Bool.{cases_Bool, and_parts}
 use Rattle.std.proofs.lemmas.Bool.Decides.{nat_tests}
-use Rattle.page_core_tables.specs.Glyphs.{Symbol, Entry, table, entry_named, glyph_of, first_spelling, spelling_of}
+use Rattle.page_core_tables.specs.Glyphs.{Symbol, Entry, table, name_key, glyph_of, first_spelling, spelling_of}
+use Rattle.page_core_tables.proofs.Tables.{symbol_at-passes}
 use Rattle.unicode_width.specs.Width.{char_width}
 use Rattle.page_core_tables.specs.Printed.{by_spelling, char_columns}
 
@@ -38,29 +38,13 @@ spelling_of-short c =
       | inr other ↦ rw other (first_spelling-short c table all_short)
     ]
 
-entry_named-short : (name : List ℕ) (es : List Entry) (found : Entry) → list_all is_short es ≡ true → entry_named name es ≡ Some found → length found.symbol.spelling ≤ 8
-unfolding entry_named
-entry_named-short name [] found h e = cc
-entry_named-short name (x ∷ xs) found h e =
-    let parts = and_parts (is_short x) (list_all is_short xs) h in
-    elim (cases_Bool (bytes_eq name x.name)) [
-      | inl same ↦
-          let first : Some x ≡ Some found = sym (cond-true _ _ _ same) ∙ e in
-          let is : x ≡ found = cc in
-          rw (← is) (nat_le-true (length x.symbol.spelling) 8 parts.0)
-      | inr other ↦ entry_named-short name xs found parts.1 (sym (cond-false _ _ _ other) ∙ e)
-    ]
-
 glyph_of-short : (name : List ℕ) (symbol : Symbol) → Some symbol ≡ glyph_of name → length symbol.spelling ≤ 8
 unfolding glyph_of
-glyph_of-short name symbol e = at (entry_named name table) refl
-  where
-    at : (o : Option Entry) → entry_named name table ≡ o → length symbol.spelling ≤ 8
-    at None none = let never : Some symbol ≡ None = e ∙ ap (λ o. option_map (λ (x : Entry). x.symbol) o) none in cc
-    at (Some found) some =
-        let same : Some symbol ≡ Some found.symbol = e ∙ ap (λ o. option_map (λ (x : Entry). x.symbol) o) some in
-        let is : symbol ≡ found.symbol = cc in
-        rw is (entry_named-short name table found all_short some)
+glyph_of-short [] symbol e = let never : Some symbol ≡ None = e in cc
+glyph_of-short (a ∷ []) symbol e = let never : Some symbol ≡ None = e in cc
+glyph_of-short (a ∷ b ∷ []) symbol e =
+    nat_le-true (length symbol.spelling) 8 (symbol_at-passes (λ key s. nat_le (length s.spelling) 8) table (name_key a b) symbol all_short (sym e))
+glyph_of-short (a ∷ b ∷ c ∷ rest) symbol e = let never : Some symbol ≡ None = e in cc
 
 by_spelling-short : (spelling : List ℕ) (c : ℕ) → length spelling ≤ 8 → length (by_spelling spelling c).characters ≤ 8
 by_spelling-short [] c short = omega arith

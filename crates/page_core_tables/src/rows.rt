@@ -1,6 +1,7 @@
-//! The tables of glyphs, sorted by what is looked up.
-ghost use Rattle.std.specs.Prelude.{◌≡◌, ◌≤◌, ◌∷◌, [], length, IsTrue};
-ghost use Rattle.page_core_tables.specs.Rows.{glyph_at, keys_rise, name_key, rows_are_named, names_have_rows, rows_are_spelled, spellings_have_rows, are_characters_from};
+//! The table of glyphs by their names, and their spellings by characters; each sorted by what is looked up.
+ghost use Rattle.std.specs.Prelude.{◌≡◌, ◌≤◌, ◌∷◌, [], length, option_map, IsTrue};
+ghost use Rattle.page_core_tables.specs.Glyphs.{entries, name_key, symbol_at, symbol_of, table};
+ghost use Rattle.page_core_tables.specs.Rows.{keys_rise, rows_are_spelled, spellings_have_rows, are_characters_from};
 
 /// A character and its spelling in ASCII, which is empty where it has none.
 #[derive(Clone, Copy)]
@@ -9,11 +10,8 @@ pub struct Glyph {
     pub ascii: &'static str,
 }
 
-#[derive(Clone, Copy)]
-pub(crate) struct Row {
-    key: u32,
-    glyph: Glyph,
-}
+/// What is looked up, as a number; a character; and its spelling in ASCII.
+pub(crate) type Row = (u32, char, &'static str);
 
 // The key of a name of two bytes.
 pub(crate) fn name_key(first: u8, second: u8) -> u32
@@ -24,31 +22,33 @@ pub(crate) fn name_key(first: u8, second: u8) -> u32
 
 // The glyph of a key, by binary search.
 pub(crate) fn find(rows: &[Row], key: u32) -> Option<Glyph>
-    requires { IsTrue (keys_rise 0 rows.now) }
-    ensures { result ≡ glyph_at rows.now key }
+    requires { IsTrue (keys_rise 0 (entries rows.now)) }
+    ensures { option_map symbol_of result ≡ symbol_at (entries rows.now) key }
 {
-    match rows.binary_search_by_key(&key, |row| row.key) {
-        Ok(place) => Some(rows[place].glyph),
+    match rows.binary_search_by_key(&key, |row| row.0) {
+        Ok(place) => Some(Glyph {
+            code: rows[place].1,
+            ascii: rows[place].2,
+        }),
         Err(_) => None,
     }
 }
 
 // The glyphs by their names.
 pub(crate) fn by_name() -> &'static [Row]
-    ensures rising { IsTrue (keys_rise 0 result.now) }
-    ensures named { IsTrue (rows_are_named result.now) }
-    ensures complete { IsTrue (names_have_rows result.now) }
+    ensures rows { entries result.now ≡ table }
+    ensures rising { IsTrue (keys_rise 0 (entries result.now)) }
 {
-    &BY_NAME
+    &GLYPHS
 }
 
 // The characters that have a spelling, by their code points.
 pub(crate) fn by_code() -> &'static [Row]
-    ensures rising { IsTrue (keys_rise 0 result.now) }
-    ensures spelled { IsTrue (rows_are_spelled result.now) }
-    ensures complete { IsTrue (spellings_have_rows result.now) }
+    ensures rising { IsTrue (keys_rise 0 (entries result.now)) }
+    ensures spelled { IsTrue (rows_are_spelled (entries result.now)) }
+    ensures complete { IsTrue (spellings_have_rows (entries result.now)) }
 {
-    &BY_CODE
+    &SPELLINGS
 }
 
 // The characters from a blank to `~`, a text each.
@@ -70,29 +70,18 @@ pub(crate) fn ascii(c: char) -> &'static str
 
 macro_rules! named {
     ($name:literal, $code:literal, $ascii:literal) => {
-        Row {
-            key: $name[0] as u32 * 256 + $name[1] as u32,
-            glyph: Glyph {
-                code: $code,
-                ascii: $ascii,
-            },
-        }
+        ($name[0] as u32 * 256 + $name[1] as u32, $code, $ascii)
     };
 }
 
 macro_rules! coded {
     ($code:literal, $ascii:literal) => {
-        Row {
-            key: $code as u32,
-            glyph: Glyph {
-                code: $code,
-                ascii: $ascii,
-            },
-        }
+        ($code as u32, $code, $ascii)
     };
 }
 
-static BY_NAME: [Row; 146] = [
+// The table: the names by their bytes, a character, and its spelling in ASCII.
+static GLYPHS: [(u32, char, &str); 146] = [
     named!(b"!=", '\u{2260}', "!="),
     named!(b"'A", '\u{C1}', "A"),
     named!(b"'E", '\u{C9}', "E"),
@@ -241,7 +230,8 @@ static BY_NAME: [Row; 146] = [
     named!(b"~~", '\u{2248}', "~~"),
 ];
 
-static BY_CODE: [Row; 124] = [
+// The characters of the table that have a spelling, by their code points.
+static SPELLINGS: [(u32, char, &str); 124] = [
     coded!('\u{22}', "\""),
     coded!('\u{23}', "#"),
     coded!('\u{24}', "$"),
