@@ -50,45 +50,21 @@ impl Marks {
     pub fn opening(self) -> Own
         ensures { result ≡ marks.opening self }
     {
-        match self {
-            Marks::Angle => Own::OpenAngle,
-            Marks::Square => Own::OpenBracket,
-            Marks::Curly => Own::OpenBrace,
-            Marks::Round => Own::OpenParenthesis,
-            Marks::Double => Own::OpenDouble,
-            Marks::Single => Own::OpenSingle,
-            Marks::Straight => Own::Straight,
-        }
+        MARKS[self as usize].1
     }
 
     /// The mark after the words.
     pub fn closing(self) -> Own
         ensures { result ≡ marks.closing self }
     {
-        match self {
-            Marks::Angle => Own::CloseAngle,
-            Marks::Square => Own::CloseBracket,
-            Marks::Curly => Own::CloseBrace,
-            Marks::Round => Own::CloseParenthesis,
-            Marks::Double => Own::CloseDouble,
-            Marks::Single => Own::CloseSingle,
-            Marks::Straight => Own::Straight,
-        }
+        MARKS[self as usize].2
     }
 
     /// The name of the first macro that has these marks.
     pub fn name(self) -> &'static str
         ensures { result.now ≡ marks.marks_name self }
     {
-        match self {
-            Marks::Angle => "Aq",
-            Marks::Square => "Bq",
-            Marks::Curly => "Brq",
-            Marks::Round => "Pq",
-            Marks::Double => "Dq",
-            Marks::Single => "Sq",
-            Marks::Straight => "Qq",
-        }
+        MARKS[self as usize].3
     }
 }
 
@@ -97,46 +73,48 @@ impl Quotation {
     pub fn marks(self) -> Marks
         ensures { result ≡ marks.quotation_marks self }
     {
-        match self {
-            Quotation::Ao => Marks::Angle,
-            Quotation::Bo | Quotation::Oo => Marks::Square,
-            Quotation::Bro => Marks::Curly,
-            Quotation::Do => Marks::Double,
-            Quotation::Po => Marks::Round,
-            Quotation::Qo => Marks::Straight,
-            Quotation::So => Marks::Single,
-        }
+        QUOTATIONS[self as usize].1
     }
 
     /// The name of the macro that opens it.
     pub fn name(self) -> &'static str
         ensures { result.now ≡ marks.quotation_name self }
     {
-        match self {
-            Quotation::Ao => "Ao",
-            Quotation::Bo => "Bo",
-            Quotation::Bro => "Bro",
-            Quotation::Do => "Do",
-            Quotation::Oo => "Oo",
-            Quotation::Po => "Po",
-            Quotation::Qo => "Qo",
-            Quotation::So => "So",
-        }
+        QUOTATIONS[self as usize].2
     }
 
     /// The name of the macro that closes it.
     pub fn closer_name(self) -> &'static str
         ensures { result.now ≡ marks.quotation_closer_name self }
     {
-        match self {
-            Quotation::Ao => "Ac",
-            Quotation::Bo => "Bc",
-            Quotation::Bro => "Brc",
-            Quotation::Do => "Dc",
-            Quotation::Oo => "Oc",
-            Quotation::Po => "Pc",
-            Quotation::Qo => "Qc",
-            Quotation::So => "Sc",
-        }
+        QUOTATIONS[self as usize].3
     }
 }
+
+// The marks, in the order of `Marks`: the one before the words, the one after them, and the first macro that has them.
+static MARKS: [(Marks, Own, Own, &str); 7] = [
+    (Marks::Angle, Own::OpenAngle, Own::CloseAngle, "Aq"),
+    (Marks::Square, Own::OpenBracket, Own::CloseBracket, "Bq"),
+    (Marks::Curly, Own::OpenBrace, Own::CloseBrace, "Brq"),
+    (
+        Marks::Round,
+        Own::OpenParenthesis,
+        Own::CloseParenthesis,
+        "Pq",
+    ),
+    (Marks::Double, Own::OpenDouble, Own::CloseDouble, "Dq"),
+    (Marks::Single, Own::OpenSingle, Own::CloseSingle, "Sq"),
+    (Marks::Straight, Own::Straight, Own::Straight, "Qq"),
+];
+
+// The enclosures, in the order of `Quotation`: their marks, the macro that opens each, and the one that closes it.
+static QUOTATIONS: [(Quotation, Marks, &str, &str); 8] = [
+    (Quotation::Ao, Marks::Angle, "Ao", "Ac"),
+    (Quotation::Bo, Marks::Square, "Bo", "Bc"),
+    (Quotation::Bro, Marks::Curly, "Bro", "Brc"),
+    (Quotation::Do, Marks::Double, "Do", "Dc"),
+    (Quotation::Oo, Marks::Square, "Oo", "Oc"),
+    (Quotation::Po, Marks::Round, "Po", "Pc"),
+    (Quotation::Qo, Marks::Straight, "Qo", "Qc"),
+    (Quotation::So, Marks::Single, "So", "Sc"),
+];
