@@ -9,10 +9,9 @@ use Rattle.page_roff_forms.specs.declared.quotes.Argument.{Argument}
 use Rattle.page_roff_forms.specs.Arguments.{is_quoted}
 use Rattle.page_sets_mdoc_rows.specs.declared.macros.Inline.{Inline}
 use Rattle.page_sets_mdoc_lines.specs.declared.extents.Extent.{Extent}
-use Rattle.page_sets_mdoc_rows.specs.Rows.{called, called_of, looks_inline}
+use Rattle.page_sets_mdoc_rows.specs.Rows.{row_of, called}
 use Rattle.page_sets_mdoc_rows.specs.Delimiters.{delimiters, delimiter_of}
 use Rattle.page_sets_mdoc_rows.specs.declared.delimiters.Delimiter.{Delimiter}
-use Rattle.page_sets_mdoc_rows.proofs.OtherNames.{no_inline_row}
 use Rattle.page_sets_mdoc_lines.specs.LineWords.{word_call, word_delimiter, closes, is_nothing, is_closing, is_real}
 use Rattle.page_sets_mdoc_lines.specs.Parts.{LineParts, parts, part_first, if_parsed, is_call, is_something, front_len, has_calls, extent_of}
 
@@ -331,18 +330,20 @@ not_found p (row ∷ rows) name all other =
       | inr differs ↦ cond-false _ _ _ differs ∙ not_found p rows name parts.1 other
     ]
 
-no_delimiter : (name : List ℕ) → looks_inline name ≡ true → delimiter_of name ≡ None
-unfolding delimiter_of
-no_delimiter name looks =
-    let other : not (looks_inline name) ≡ false = rw looks refl in
-    ap (option_map (λ row. row.1)) (not_found (λ n. not (looks_inline n)) delimiters name refl other)
+none_of : {A : Type 0} (o : Option A) → is_nothing o ≡ true → o ≡ None
+none_of None h = refl
+none_of (Some what) h = cc
+
+no_delimiter : (name : List ℕ) → is_nothing (called name) ≡ false → delimiter_of name ≡ None
+unfolding delimiter_of row_of
+no_delimiter name calls = ap (option_map (λ row. row.1)) (not_found (λ n. is_nothing (called n)) delimiters name refl calls)
 
 -- a delimiter that closes is no name of a macro
 no_name : (name : List ℕ) → closes (delimiter_of name) ≡ true → called name ≡ None
 no_name name h =
-    elim (cases_Bool (looks_inline name)) [
-      | inl t ↦ absurd (both_ways _ (ap closes (no_delimiter name t)) h)
-      | inr t ↦ ap called_of (no_inline_row name t)
+    elim (cases_Bool (is_nothing (called name))) [
+      | inl nothing ↦ none_of (called name) nothing
+      | inr calls ↦ absurd (both_ways _ (ap closes (no_delimiter name calls)) h)
     ]
 
 no_call_by : (quoted : Bool) (text : List ℕ) → closes (if quoted then None else delimiter_of text) ≡ true
