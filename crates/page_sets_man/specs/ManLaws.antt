@@ -1,8 +1,9 @@
 -- The macros of man(7) keep the laws of macro sets: proofs, which the set's laws cite. Source: man(7).
-use Rattle.std.proofs.Common.{◌≡◌, ℕ, ◌+◌, ◌*◌, ◌≤◌, Bool, true, false, ◌&&◌, nat_le, List, [], ◌∷◌, ◌++◌, length, drop, refl, arith, inl, inr, length-append, Option, None, Some, option_map, find}
+use Rattle.std.proofs.Common.{◌≡◌, ℕ, ◌+◌, ◌*◌, ◌≤◌, Bool, true, false, ◌&&◌, nat_le, List, [], ◌∷◌, ◌++◌, length, drop, refl, arith, inl, inr, length-append, Option, None, Some, option_map}
 use Rattle.std.specs.List.{list_all}
+use Rattle.std.specs.Option.{option_or}
 use Rattle.std.specs.Str.{bytes_eq}
-use Rattle.std.proofs.lemmas.Bool.{cases_Bool}
+use Rattle.std.proofs.lemmas.Bool.{cases_Bool, and_parts}
 use Rattle.std.proofs.lemmas.Bool.Decides.{nat_tests}
 use Rattle.page_core_base.specs.declared.cells.Font.{Font}
 use Rattle.page_core_base.specs.declared.cells.Font.TheVariants as fonts
@@ -41,7 +42,8 @@ use Rattle.page_sets_man.specs.declared.rows.Last.{Last}
 use Rattle.page_sets_man.specs.declared.rows.Last.TheVariants as lasts
 use Rattle.page_sets_man.specs.declared.rows.Row.{Row}
 use Rattle.page_sets_man.specs.declared.gives.Quote.{Quote}
-use Rattle.page_sets_man.specs.Rows.{quiet, structure_rows, words_rows, structure_row, words_row, request_row, either_row, row_of}
+use Rattle.page_core_names.specs.Rows.{row_in, row_among}
+use Rattle.page_sets_man.specs.Rows.{quiet, table, macro_row, request_row, row_of}
 use Rattle.page_sets_man.specs.Man.{opener, closer, leaf, effect_deed, line_scope, one_word, plain_words, alternating_words, option_words, section_words, reference_words, words_events, has_words, break_events, quote_at, missing_quote, quote_events, deed_events, scope_events, last_events, macro_events, lone_events, row_events, named_events, control_events, line_events, man_events}
 
 -- ---- slices
@@ -436,41 +438,44 @@ few_macro number column row rest arguments =
 is_light : Row → Bool
 is_light row = nat_le (weight row) 4
 
-light_found : (rows : List (List ℕ × Row)) (name : List ℕ) (row : Row) → list_all (λ (each : List ℕ × Row). is_light each.1) rows ≡ true
-    → option_map (λ (each : List ℕ × Row). each.1) (find (λ (each : List ℕ × Row). bytes_eq name each.0) rows) ≡ Some row → is_light row ≡ true
-light_found [] name row h e = cc
-light_found (first ∷ rows) name row h e =
+abbrev are_light : List (List ℕ × Row) → Bool
+are_light rows = list_all (λ (each : List ℕ × Row). is_light each.1) rows
+
+light_in : (rows : List (List ℕ × Row)) (name : List ℕ) (row : Row) → are_light rows ≡ true → row_in rows name ≡ Some row → is_light row ≡ true
+light_in [] name row h e = cc
+light_in (first ∷ rows) name row h e =
     elim (cases_Bool (is_light first.1)) [
       | inl s ↦
-          elim (cases_Bool (bytes_eq name first.0)) [
+          elim (cases_Bool (bytes_eq first.0 name)) [
             | inl t ↦ let f = rw t at e in let g : first.1 ≡ row = cc in rw (← g) s
-            | inr t ↦ light_found rows name row (rw s at h) (rw t at e)
+            | inr t ↦ light_in rows name row (rw s at h) (rw t at e)
           ]
       | inr s ↦ let f = rw s at h in cc
     ]
 
-light_structure : (name : List ℕ) (row : Row) → structure_row name ≡ Some row → is_light row ≡ true
-unfolding structure_row is_light weight break_weight quotes_weight effect_weight scope_weight marks_weight last_weight
-light_structure name row e = light_found structure_rows name row refl e
+light_either : (one other : Option Row) (row : Row) → (one ≡ Some row → is_light row ≡ true) → (other ≡ Some row → is_light row ≡ true)
+    → option_or one other ≡ Some row → is_light row ≡ true
+light_either None other row h k e = k e
+light_either (Some found) other row h k e = h e
 
-light_words : (name : List ℕ) (row : Row) → words_row name ≡ Some row → is_light row ≡ true
-unfolding words_row is_light weight break_weight quotes_weight effect_weight scope_weight marks_weight last_weight
-light_words name row e = light_found words_rows name row refl e
+light_among : (lists : List (List (List ℕ × Row))) (name : List ℕ) (row : Row) → list_all are_light lists ≡ true → row_among lists name ≡ Some row → is_light row ≡ true
+light_among [] name row h e = cc
+light_among (rows ∷ more) name row h e =
+    let parts = and_parts (are_light rows) (list_all are_light more) h in
+    light_either (row_in rows name) (row_among more name) row (light_in rows name row parts.0) (light_among more name row parts.1) e
+
+light_macro : (name : List ℕ) (row : Row) → macro_row name ≡ Some row → is_light row ≡ true
+unfolding macro_row is_light weight break_weight quotes_weight effect_weight scope_weight marks_weight last_weight
+light_macro name row e = light_among table name row refl e
 
 light_request : (request : Option LayoutRequest) (row : Row) → option_map (λ name. quiet (sets.Request name)) request ≡ Some row → is_light row ≡ true
 unfolding is_light weight break_weight quotes_weight effect_weight scope_weight marks_weight last_weight
 light_request None row e = cc
 light_request (Some name) row e = let g : quiet (sets.Request name) ≡ row = cc in rw (← g) refl
 
-light_either : (one other : Option Row) (row : Row) → (one ≡ Some row → is_light row ≡ true) → (other ≡ Some row → is_light row ≡ true)
-    → either_row one other ≡ Some row → is_light row ≡ true
-light_either None other row h k e = k e
-light_either (Some found) other row h k e = h e
-
 light_row : (name : List ℕ) (row : Row) → row_of name ≡ Some row → is_light row ≡ true
 light_row name row e =
-    light_either (words_row name) (either_row (structure_row name) (request_row name)) row (light_words name row)
-    (light_either (structure_row name) (request_row name) row (light_structure name row) (light_request (layout_request name) row)) e
+    light_either (macro_row name) (request_row name) row (light_macro name row) (light_request (layout_request name) row) e
 
 light_weight : (row : Row) → is_light row ≡ true → weight row ≤ 4
 unfolding is_light

@@ -4,6 +4,7 @@ ghost use Rattle.std.specs.Prelude.{◌≡◌};
 ghost use Rattle.page_sets_man.specs.Rows as rows;
 
 use page_core_base::Font;
+use page_core_names::{list_for, row_named};
 use page_roff_requests::LayoutRequest;
 use page_sets_lines::{FontMacro, LineOpener, Link, Own, ParagraphName, layout_request};
 
@@ -108,210 +109,135 @@ pub(crate) struct Row {
 }
 
 // A request, or a macro that breaks no line scope and prints nothing.
-fn quiet(sets: Sets) -> Row
-    ensures { result ≡ rows.quiet sets }
-{
-    Row {
-        alone: Alone::Same,
-        breaks: false,
-        quotes: Quotes::After(0),
-        effect: Effect::Sets(sets),
-        words: Words::Nothing,
-        last: Last::Nothing,
-    }
+macro_rules! quiet {
+    ($sets:expr) => {
+        Row {
+            alone: Alone::Same,
+            breaks: false,
+            quotes: Quotes::After(0),
+            effect: Effect::Sets($sets),
+            words: Words::Nothing,
+            last: Last::Nothing,
+        }
+    };
 }
 
-// A macro that breaks line scopes.
-fn block(alone: Alone, quotes: Quotes, effect: Effect) -> Row
-    ensures { result ≡ rows.block alone quotes effect }
-{
-    Row {
-        alone,
-        breaks: true,
-        quotes,
-        effect,
-        words: Words::Nothing,
-        last: Last::Nothing,
-    }
+// A macro that breaks line scopes: what it does without arguments, how many of them are printed, and its effect.
+macro_rules! block {
+    ($alone:expr, $quotes:expr, $effect:expr) => {
+        Row {
+            alone: $alone,
+            breaks: true,
+            quotes: $quotes,
+            effect: $effect,
+            words: Words::Nothing,
+            last: Last::Nothing,
+        }
+    };
 }
 
 // A macro that opens a scope, of which this many arguments are printed.
-fn opening(printed: usize, opens: Opens) -> Row
-    ensures { result ≡ rows.opening printed opens }
-{
-    block(
-        Alone::Same,
-        Quotes::BodyAfter(printed),
-        Effect::Opens(opens),
-    )
+macro_rules! opening {
+    ($printed:literal, $opens:expr) => {
+        block!(
+            Alone::Same,
+            Quotes::BodyAfter($printed),
+            Effect::Opens($opens)
+        )
+    };
 }
 
 // A macro that opens a scope only if it has an argument.
-fn opening_with_argument(printed: usize, opens: Opens) -> Row
-    ensures { result ≡ rows.opening_with_argument printed opens }
-{
-    block(
-        Alone::Empty,
-        Quotes::BodyAfter(printed),
-        Effect::Opens(opens),
-    )
+macro_rules! opening_with_argument {
+    ($printed:literal, $opens:expr) => {
+        block!(
+            Alone::Empty,
+            Quotes::BodyAfter($printed),
+            Effect::Opens($opens)
+        )
+    };
 }
 
 // A macro that closes a scope, of which this many arguments are printed.
-fn closing(printed: usize, closes: Closes) -> Row
-    ensures { result ≡ rows.closing printed closes }
-{
-    block(Alone::Same, Quotes::After(printed), Effect::Closes(closes))
-}
-
-// A heading: its arguments are words.
-fn heading(opens: Opens) -> Row
-    ensures { result ≡ rows.heading opens }
-{
-    Row {
-        alone: Alone::Same,
-        breaks: true,
-        quotes: Quotes::Printed,
-        effect: Effect::Opens(opens),
-        words: Words::Plain,
-        last: Last::Nothing,
-    }
-}
-
-// Words in one font.
-fn font_words(name: FontMacro, font: Font) -> Row
-    ensures { result ≡ rows.font_words name font }
-{
-    Row {
-        alone: Alone::Scope(LineOpener::FontWords(name)),
-        breaks: false,
-        quotes: Quotes::Printed,
-        effect: Effect::Sets(Sets::FontBegins(font)),
-        words: Words::Plain,
-        last: Last::FontEnds,
-    }
-}
-
-// A macro that needs words, which stand in no font of its own, or in several.
-fn needs_words(quotes: Quotes, effect: Effect, words: Words, last: Last) -> Row
-    ensures { result ≡ rows.needs_words quotes effect words last }
-{
-    Row {
-        alone: Alone::Empty,
-        breaks: false,
-        quotes,
-        effect,
-        words,
-        last,
-    }
-}
-
-// Words in two fonts, in turn.
-fn alternating(font: Font, other: Font) -> Row
-    ensures { result ≡ rows.alternating font other }
-{
-    needs_words(
-        Quotes::Printed,
-        Effect::Nothing,
-        Words::Alternating { font, other },
-        Last::Nothing,
-    )
-}
-
-// `OP`: an option with its value, in brackets.
-fn option() -> Row
-    ensures { result ≡ rows.option }
-{
-    needs_words(
-        Quotes::BodyAfter(2),
-        Effect::Sets(Sets::Mark(Own::OpenBracket)),
-        Words::Option,
-        Last::Mark(Own::CloseBracket),
-    )
-}
-
-// `MR`: a manual page with its section, in parentheses, and what follows it.
-fn reference() -> Row
-    ensures { result ≡ rows.reference }
-{
-    needs_words(
-        Quotes::BodyAfter(3),
-        Effect::Nothing,
-        Words::Reference,
-        Last::Nothing,
-    )
-}
-
-// `TQ`: a further tag.
-fn further_tag() -> Row
-    ensures { result ≡ rows.further_tag }
-{
-    block(
-        Alone::Same,
-        Quotes::BodyAfter(0),
-        Effect::Sets(Sets::FurtherTag),
-    )
+macro_rules! closing {
+    ($printed:literal, $closes:expr) => {
+        block!(
+            Alone::Same,
+            Quotes::After($printed),
+            Effect::Closes($closes)
+        )
+    };
 }
 
 // A macro without effect.
-fn ignored() -> Row
-    ensures { result ≡ rows.ignored }
-{
-    block(Alone::Same, Quotes::After(0), Effect::Nothing)
+macro_rules! ignored {
+    () => {
+        block!(Alone::Same, Quotes::After(0), Effect::Nothing)
+    };
 }
 
-// The row of a macro of the page's structure, or of what the macro changes.
-#[tactic(auto, unfolding(crate::specs::Rows::structure_row))]
-fn structure_row(name: &[u8]) -> Option<Row>
-    ensures { result ≡ rows.structure_row name.now }
-{
-    match name {
-        b"TH" => Some(quiet(Sets::Title)),
-        b"SH" => Some(heading(Opens::Section)),
-        b"SS" => Some(heading(Opens::Subsection)),
-        b"PP" => Some(opening(0, Opens::Paragraph(ParagraphName::PP))),
-        b"LP" => Some(opening(0, Opens::Paragraph(ParagraphName::LP))),
-        b"P" => Some(opening(0, Opens::Paragraph(ParagraphName::P))),
-        b"TP" => Some(opening(0, Opens::Tagged)),
-        b"TQ" => Some(further_tag()),
-        b"IP" => Some(opening(1, Opens::Indented)),
-        b"HP" => Some(opening(0, Opens::Hanging)),
-        b"RS" => Some(opening(0, Opens::RelativeMargin)),
-        b"RE" => Some(closing(0, Closes::RelativeMargin)),
-        b"EX" => Some(quiet(Sets::Example(true))),
-        b"EE" => Some(quiet(Sets::Example(false))),
-        b"UR" => Some(opening_with_argument(0, Opens::Target(Link::UR))),
-        b"UE" => Some(closing(1, Closes::Target(Link::UR))),
-        b"MT" => Some(opening_with_argument(0, Opens::Target(Link::MT))),
-        b"ME" => Some(closing(1, Closes::Target(Link::MT))),
-        b"SY" => Some(opening_with_argument(1, Opens::Syntax)),
-        b"YS" => Some(closing(0, Closes::Syntax)),
-        b"PD" => Some(quiet(Sets::Distance)),
-        b"AT" | b"DT" | b"UC" => Some(ignored()),
-        _ => None,
-    }
+// A heading: its arguments are words.
+macro_rules! heading {
+    ($opens:expr) => {
+        Row {
+            alone: Alone::Same,
+            breaks: true,
+            quotes: Quotes::Printed,
+            effect: Effect::Opens($opens),
+            words: Words::Plain,
+            last: Last::Nothing,
+        }
+    };
 }
 
-// The row of a macro that prints its arguments.
-#[tactic(auto, unfolding(crate::specs::Rows::words_row))]
-fn words_row(name: &[u8]) -> Option<Row>
-    ensures { result ≡ rows.words_row name.now }
+// Words in one font; without any it opens a scope over the next line.
+macro_rules! font_words {
+    ($name:expr, $font:expr) => {
+        Row {
+            alone: Alone::Scope(LineOpener::FontWords($name)),
+            breaks: false,
+            quotes: Quotes::Printed,
+            effect: Effect::Sets(Sets::FontBegins($font)),
+            words: Words::Plain,
+            last: Last::FontEnds,
+        }
+    };
+}
+
+// A macro that needs words, which stand in no font of its own, or in several.
+macro_rules! needs_words {
+    ($quotes:expr, $effect:expr, $words:expr, $last:expr) => {
+        Row {
+            alone: Alone::Empty,
+            breaks: false,
+            quotes: $quotes,
+            effect: $effect,
+            words: $words,
+            last: $last,
+        }
+    };
+}
+
+// Words in two fonts, in turn.
+macro_rules! alternating {
+    ($font:expr, $other:expr) => {
+        needs_words!(
+            Quotes::Printed,
+            Effect::Nothing,
+            Words::Alternating {
+                font: $font,
+                other: $other,
+            },
+            Last::Nothing
+        )
+    };
+}
+
+// The row of a macro.
+fn macro_row(name: &[u8]) -> Option<Row>
+    ensures { result ≡ rows.macro_row name.now }
 {
-    match name {
-        b"B" => Some(font_words(FontMacro::B, Font::B)),
-        b"I" => Some(font_words(FontMacro::I, Font::I)),
-        b"SM" => Some(font_words(FontMacro::SM, Font::R)),
-        b"SB" => Some(font_words(FontMacro::SB, Font::B)),
-        b"BI" => Some(alternating(Font::B, Font::I)),
-        b"BR" => Some(alternating(Font::B, Font::R)),
-        b"IB" => Some(alternating(Font::I, Font::B)),
-        b"IR" => Some(alternating(Font::I, Font::R)),
-        b"RB" => Some(alternating(Font::R, Font::B)),
-        b"RI" => Some(alternating(Font::R, Font::I)),
-        b"OP" => Some(option()),
-        b"MR" => Some(reference()),
-        _ => None,
-    }
+    row_named(list_for(&MACROS, name), name)
 }
 
 // The row of a request.
@@ -319,18 +245,107 @@ fn request_row(name: &[u8]) -> Option<Row>
     ensures { result ≡ rows.request_row name.now }
 {
     let request = layout_request(name)?;
-    Some(quiet(Sets::Request(request)))
+    Some(quiet!(Sets::Request(request)))
 }
 
 /// The row of a name, if a macro or request has it.
 pub(crate) fn row_of(name: &[u8]) -> Option<Row>
     ensures { result ≡ rows.row_of name.now }
 {
-    if let Some(row) = words_row(name) {
-        return Some(row);
-    }
-    if let Some(row) = structure_row(name) {
+    if let Some(row) = macro_row(name) {
         return Some(row);
     }
     request_row(name)
 }
+
+// The table: the names by their first letter. The place of a list is its letter's number: from 1 for `A`.
+static MACROS: [&[(&[u8], Row)]; 26] = [
+    &[],
+    &[(b"AT", ignored!())],
+    &[
+        (b"B", font_words!(FontMacro::B, Font::B)),
+        (b"BR", alternating!(Font::B, Font::R)),
+        (b"BI", alternating!(Font::B, Font::I)),
+    ],
+    &[],
+    &[(b"DT", ignored!())],
+    &[
+        (b"EX", quiet!(Sets::Example(true))),
+        (b"EE", quiet!(Sets::Example(false))),
+    ],
+    &[],
+    &[],
+    &[(b"HP", opening!(0, Opens::Hanging))],
+    &[
+        (b"I", font_words!(FontMacro::I, Font::I)),
+        (b"IP", opening!(1, Opens::Indented)),
+        (b"IR", alternating!(Font::I, Font::R)),
+        (b"IB", alternating!(Font::I, Font::B)),
+    ],
+    &[],
+    &[],
+    &[(b"LP", opening!(0, Opens::Paragraph(ParagraphName::LP)))],
+    &[
+        (b"MT", opening_with_argument!(0, Opens::Target(Link::MT))),
+        (b"ME", closing!(1, Closes::Target(Link::MT))),
+        (
+            b"MR",
+            needs_words!(
+                Quotes::BodyAfter(3),
+                Effect::Nothing,
+                Words::Reference,
+                Last::Nothing
+            ),
+        ),
+    ],
+    &[],
+    &[(
+        b"OP",
+        needs_words!(
+            Quotes::BodyAfter(2),
+            Effect::Sets(Sets::Mark(Own::OpenBracket)),
+            Words::Option,
+            Last::Mark(Own::CloseBracket)
+        ),
+    )],
+    &[
+        (b"PP", opening!(0, Opens::Paragraph(ParagraphName::PP))),
+        (b"P", opening!(0, Opens::Paragraph(ParagraphName::P))),
+        (b"PD", quiet!(Sets::Distance)),
+    ],
+    &[],
+    &[
+        (b"RB", alternating!(Font::R, Font::B)),
+        (b"RI", alternating!(Font::R, Font::I)),
+        (b"RS", opening!(0, Opens::RelativeMargin)),
+        (b"RE", closing!(0, Closes::RelativeMargin)),
+    ],
+    &[
+        (b"SH", heading!(Opens::Section)),
+        (b"SS", heading!(Opens::Subsection)),
+        (b"SM", font_words!(FontMacro::SM, Font::R)),
+        (b"SB", font_words!(FontMacro::SB, Font::B)),
+        (b"SY", opening_with_argument!(1, Opens::Syntax)),
+    ],
+    &[
+        (b"TP", opening!(0, Opens::Tagged)),
+        (
+            b"TQ",
+            block!(
+                Alone::Same,
+                Quotes::BodyAfter(0),
+                Effect::Sets(Sets::FurtherTag)
+            ),
+        ),
+        (b"TH", quiet!(Sets::Title)),
+    ],
+    &[
+        (b"UR", opening_with_argument!(0, Opens::Target(Link::UR))),
+        (b"UE", closing!(1, Closes::Target(Link::UR))),
+        (b"UC", ignored!()),
+    ],
+    &[],
+    &[],
+    &[],
+    &[(b"YS", closing!(0, Closes::Syntax))],
+];
