@@ -1,11 +1,14 @@
 -- Where a source stands: the levels of its blocks, and an open region between two lines. Source: roff(7), "if", "ie", "el", "while".
-use Rattle.std.specs.Prelude.{ℕ, zero, suc, Bool, true, false, not, List, [], ◌∷◌, length, Option, None, nat_lt}
+use Rattle.std.specs.Prelude.{ℕ, zero, suc, Bool, true, false, not, List, [], ◌∷◌, length, Option, Some, None, nat_lt}
 use Rattle.page_core_limits.specs.declared.TheConstants.{CONDS}
 use Rattle.page_roff_blocks.specs.declared.atoms.Branch.{Branch}
 use Rattle.page_roff_blocks.specs.declared.atoms.Branch.TheVariants.{If, IfElse, Else}
+use Rattle.page_roff_blocks.specs.declared.spots.Pass.{Pass}
+use Rattle.page_roff_blocks.specs.declared.spots.Pass.TheVariants as passes
 use Rattle.page_roff_blocks.specs.declared.spots.Reached.{Reached}
 use Rattle.page_roff_blocks.specs.declared.spots.Reached.TheVariants.{PassedOver, First, Remainder}
 use Rattle.page_roff_regions.specs.OpenRegions.{Opened}
+use Rattle.page_roff_blocks.specs.declared.levels.Answer.{Answer}
 use Rattle.page_roff_blocks.specs.declared.levels.Ended.{Ended}
 use Rattle.page_roff_blocks.specs.declared.levels.Ended.TheVariants as endings
 use Rattle.page_roff_blocks.specs.declared.levels.Way.{Way}
@@ -29,6 +32,11 @@ unfoldable pub bit_after : Branch (List ℕ) → Bool → Bool → Bool
 bit_after (If condition) value bit = bit
 bit_after (IfElse condition) value bit = not value
 bit_after Else value bit = false
+
+-- what a head leaves at a level with this bit; its value, if it is run
+abbrev pub answered : Branch (List ℕ) → Bool → Option Bool → Option Answer
+answered branch bit None = None
+answered branch bit (Some value) = Some (record { value = value; bit = bit_after branch value bit })
 
 unfoldable pub way_in : Bool → Way
 way_in true = Runs
@@ -104,6 +112,29 @@ after_part l = record { levels = l; begun = true; passing = false }
 unfoldable pub guarded_by : Branch (List ℕ) → Bool → Levels → Spot
 guarded_by branch value l =
     record { levels = record l { bit = bit_after branch value l.bit }; begun = true; passing = not value }
+
+-- after a head without a block that leaves this, if it is run
+abbrev pub after_guard : Option Answer → Spot → Spot
+after_guard None s = record s { begun = true }
+after_guard (Some a) s = record { levels = record s.levels { bit = a.bit }; begun = true; passing = not a.value }
+
+-- in the block of a conditional whose head leaves this, if it is run
+abbrev pub in_block : Option Answer → Levels → Levels
+in_block None l = skip l
+in_block (Some a) l = enter (way_of a.value (length l.outer)) a.bit l
+
+-- in the block of a loop, which is collected or passed over
+abbrev pub in_loop_block : Bool → Levels → Levels
+in_loop_block true l = open_loop l
+in_loop_block false l = skip l
+
+-- a part of a line is passed
+abbrev pub passed : Pass → Spot → Spot
+passed passes.Leaf s = after_part s.levels
+passed (passes.Guard answer) s = after_guard answer s
+passed (passes.Block answer) s = after_part (in_block answer s.levels)
+passed (passes.Loop is_run) s = after_part (in_loop_block is_run s.levels)
+passed passes.End s = after_part (leave s.levels)
 
 -- how a part is reached where no block is skipped, and no loop collected
 unfoldable pub reached_if : Bool → Bool → Reached

@@ -3,7 +3,7 @@
 ghost use Rattle.std.specs.Prelude.{◌≡◌, ◌<◌, ◌≤◌, ◌^◌, length};
 ghost use Rattle.page_core_limits.specs.declared.TheConstants.{CONDS};
 ghost use Rattle.page_roff_blocks.specs.Atoms.{branch_seen};
-ghost use Rattle.page_roff_blocks.specs.Levels.{outside, bit_after, way_of, enter, open_loop, skip, leave, what_ends};
+ghost use Rattle.page_roff_blocks.specs.Levels.{outside, bit_after, answered, way_of, enter, open_loop, skip, leave, what_ends};
 
 use crate::atoms::Branch;
 use arrayvec::ArrayVec;
@@ -30,6 +30,15 @@ pub enum Ended {
     Loop,
     /// Nothing: no block is open.
     Nothing,
+}
+
+/// What a head leaves that is run.
+#[derive(Clone, Copy)]
+pub struct Answer {
+    /// Its value.
+    pub value: bool,
+    /// The bit of its level from then on.
+    pub bit: bool,
 }
 
 /// The levels of the blocks of one source: for each true block that is open, and for what is outside of
@@ -63,6 +72,19 @@ impl Branch<&[u8]> {
             Branch::If(_) => bit,
             Branch::IfElse(_) => !value,
             Branch::Else => false,
+        }
+    }
+
+    /// What its head leaves at a level with this bit; its value, if it is run.
+    pub fn answered(&self, bit: bool, value: Option<bool>) -> Option<Answer>
+        ensures { result ≡ answered (branch_seen self.now) bit value }
+    {
+        match value {
+            Some(value) => Some(Answer {
+                value,
+                bit: self.bit_after(value, bit),
+            }),
+            None => None,
         }
     }
 }
@@ -124,81 +146,91 @@ impl Levels {
         self.skipped
     }
 
-    /// A head with this value is run.
-    pub fn turn(&mut self, branch: &Branch<&[u8]>, value: bool)
-        ensures { self.new ≡ record self.old { bit = bit_after (branch_seen branch.now) value self.old.bit } }
+    /// How a block is entered whose head has this value.
+    #[tactic(auto, unfolding(crate::specs::Levels::way_of, crate::specs::Levels::way_in))]
+    pub fn way(&self, value: bool) -> Way
+        ensures { result ≡ way_of value (length self.now.outer) }
     {
-        self.bit = branch.bit_after(value, self.bit);
+        if !value {
+            Way::Skips
+        } else if self.outer.is_full() {
+            Way::Exceeds
+        } else {
+            Way::Runs
+        }
     }
 
-    /// Enters a block whose head is run, and has this value.
-    pub fn enter(&mut self, branch: &Branch<&[u8]>, value: bool) -> Way
-        ensures way { result ≡ way_of value (length self.old.outer) }
-        ensures levels { self.new
-            ≡ enter result (bit_after (branch_seen branch.now) value self.old.bit) self.old }
+    /// What the end of a block ends here.
+    #[tactic(auto, unfolding(crate::specs::Levels::what_ends, crate::specs::Levels::ends_from, crate::specs::Levels::loop_ends, crate::specs::Levels::level_ends))]
+    pub fn ended(&self) -> Ended
+        ensures { result ≡ what_ends self.now }
     {
-        self.bit = branch.bit_after(value, self.bit);
-        self.enter_block(value)
+        if self.skipped > 0 {
+            Ended::Block
+        } else if self.in_loop {
+            Ended::Loop
+        } else if self.outer.is_empty() {
+            Ended::Nothing
+        } else {
+            Ended::Block
+        }
     }
 
-    /// Enters a block whose head has this value.
+    // A head is run that leaves this bit.
+    pub(crate) fn turn(&mut self, bit: bool)
+        ensures { self.new ≡ record self.old { bit = bit } }
+    {
+        self.bit = bit;
+    }
+
+    // Enters a block whose head is run, and leaves this.
     #[tactic(auto, unfolding(crate::specs::Levels::way_of, crate::specs::Levels::way_in, crate::specs::Levels::enter))]
-    fn enter_block(&mut self, value: bool) -> Way
-        ensures way { result ≡ way_of value (length self.old.outer) }
-        ensures levels { self.new ≡ enter result self.old.bit self.old }
+    pub(crate) fn enter(&mut self, answer: Answer)
+        ensures { self.new ≡ enter (way_of answer.value (length self.old.outer)) answer.bit self.old }
     {
         self.in_loop = false;
-        if !value {
+        self.bit = answer.bit;
+        if !answer.value || self.outer.is_full() {
             self.skipped = 1;
-            return Way::Skips;
+            return;
         }
-        if self.outer.is_full() {
-            self.skipped = 1;
-            return Way::Exceeds;
-        }
-        self.outer.push(self.bit);
+        self.outer.push(answer.bit);
         self.bit = false;
         self.skipped = 0;
-        Way::Runs
     }
 
-    /// Enters a block that is passed over.
+    // Enters a block that is passed over.
     #[tactic(auto, unfolding(crate::specs::Levels::skip))]
-    pub fn skip(&mut self)
+    pub(crate) fn skip(&mut self)
         requires { self.old.skipped < 2 ^ 63 }
         ensures { self.new ≡ skip self.old }
     {
         self.skipped += 1;
     }
 
-    /// Begins to collect a loop.
+    // Begins to collect a loop.
     #[tactic(auto, unfolding(crate::specs::Levels::open_loop))]
-    pub fn open_loop(&mut self)
+    pub(crate) fn open_loop(&mut self)
         ensures { self.new ≡ open_loop self.old }
     {
         self.in_loop = true;
     }
 
-    /// The innermost block ends, or the loop that is collected: which of them it was, if any.
-    #[tactic(auto, unfolding(crate::specs::Levels::leave, crate::specs::Levels::leave_from, crate::specs::Levels::leave_loop, crate::specs::Levels::leave_level, crate::specs::Levels::what_ends, crate::specs::Levels::ends_from, crate::specs::Levels::loop_ends, crate::specs::Levels::level_ends))]
-    pub fn leave(&mut self) -> Ended
-        ensures levels { self.new ≡ leave self.old }
-        ensures ended { result ≡ what_ends self.old }
+    // The innermost block ends, or the loop that is collected.
+    #[tactic(auto, unfolding(crate::specs::Levels::leave, crate::specs::Levels::leave_from, crate::specs::Levels::leave_loop, crate::specs::Levels::leave_level))]
+    pub(crate) fn leave(&mut self)
+        ensures { self.new ≡ leave self.old }
     {
         if self.skipped > 0 {
             self.skipped -= 1;
-            return Ended::Block;
+            return;
         }
         if self.in_loop {
             self.in_loop = false;
-            return Ended::Loop;
+            return;
         }
-        match self.outer.pop() {
-            Some(bit) => {
-                self.bit = bit;
-                Ended::Block
-            }
-            None => Ended::Nothing,
+        if let Some(bit) = self.outer.pop() {
+            self.bit = bit;
         }
     }
 

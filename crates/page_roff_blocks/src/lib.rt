@@ -21,9 +21,9 @@ mod standings;
 
 pub use atoms::{Atom, Branch, Head, Opening};
 pub use laws::{atoms_law, cut_law, fold_law, lines_law, room_law};
-pub use levels::{Ended, Levels, Way};
+pub use levels::{Answer, Ended, Levels, Way};
 pub use line_places::LinePlace;
 pub use loops::loop_text;
 pub use parts::is_leaf;
-pub use spots::{Reached, Spot};
+pub use spots::{Pass, Reached, Spot};
 pub use standings::Standing;

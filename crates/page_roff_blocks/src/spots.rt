@@ -2,11 +2,9 @@
 
 ghost use Rattle.std.specs.Prelude.{◌≡◌, ◌<◌, ◌≤◌, ◌^◌, true, length};
 ghost use Rattle.page_core_limits.specs.declared.TheConstants.{CONDS};
-ghost use Rattle.page_roff_blocks.specs.Atoms.{branch_seen};
-ghost use Rattle.page_roff_blocks.specs.Levels.{outside, bit_after, way_of, enter, open_loop, skip, leave, what_ends, at_line, after_part, guarded_by, reached};
+ghost use Rattle.page_roff_blocks.specs.Levels.{outside, at_line, passed, reached};
 
-use crate::atoms::Branch;
-use crate::levels::{Ended, Levels, Way};
+use crate::levels::{Answer, Levels};
 use std::marker::Model;
 
 /// How a part of a line is reached.
@@ -18,6 +16,21 @@ pub enum Reached {
     First,
     /// It is a remainder.
     Remainder,
+}
+
+/// How a source goes past a part of a line.
+#[derive(Clone, Copy)]
+pub enum Pass {
+    /// Past what opens nothing and ends nothing: a leaf, or a loop without a block.
+    Leaf,
+    /// Past a head without a block; what it leaves, if it is run.
+    Guard(Option<Answer>),
+    /// Into the block of a conditional; what its head leaves, if it is run.
+    Block(Option<Answer>),
+    /// Into the block of a loop, which is collected or passed over.
+    Loop(bool),
+    /// Out of the innermost block, or of the loop that is collected.
+    End,
 }
 
 /// Where a source stands in a line, outside of regions: the levels of its blocks, whether a part of the
@@ -69,27 +82,6 @@ impl Spot {
         &self.levels
     }
 
-    /// The bit that `ie` leaves to `el`.
-    pub fn bit(&self) -> bool
-        ensures { result ≡ self.now.levels.bit }
-    {
-        self.levels.bit()
-    }
-
-    /// Whether a loop is being collected here.
-    pub fn in_loop(&self) -> bool
-        ensures { result ≡ self.now.levels.in_loop }
-    {
-        self.levels.in_loop()
-    }
-
-    /// The number of skipped blocks that are open here.
-    pub fn skipped(&self) -> u64
-        ensures { result ≡ self.now.levels.skipped }
-    {
-        self.levels.skipped()
-    }
-
     /// A line begins, or has ended.
     #[tactic(auto, unfolding(crate::specs::Levels::at_line))]
     pub fn begin_line(&mut self)
@@ -113,70 +105,28 @@ impl Spot {
         }
     }
 
-    /// Goes past a leaf, a loop of one line or the head of a region.
+    /// Goes past a part of the line.
     #[tactic(auto, unfolding(crate::specs::Levels::after_part))]
-    pub fn pass(&mut self)
-        ensures { self.new ≡ after_part self.old.levels }
-    {
-        self.begun = true;
-        self.passing = false;
-    }
-
-    /// Goes past a head without a block that is not run.
-    pub fn pass_guard(&mut self)
-        ensures { self.new ≡ record self.old { begun = true } }
-    {
-        self.begun = true;
-    }
-
-    /// Goes past a head without a block that is run, and has this value.
-    #[tactic(auto, unfolding(crate::specs::Levels::guarded_by))]
-    pub fn guard(&mut self, branch: &Branch<&[u8]>, value: bool)
-        ensures { self.new ≡ guarded_by (branch_seen branch.now) value self.old.levels }
-    {
-        self.levels.turn(branch, value);
-        self.begun = true;
-        self.passing = !value;
-    }
-
-    /// Enters a block whose head is run, and has this value.
-    #[tactic(auto, unfolding(crate::specs::Levels::after_part))]
-    pub fn enter(&mut self, branch: &Branch<&[u8]>, value: bool) -> Way
-        ensures way { result ≡ way_of value (length self.old.levels.outer) }
-        ensures spot { self.new ≡ after_part
-            (enter result (bit_after (branch_seen branch.now) value self.old.levels.bit) self.old.levels) }
-    {
-        self.pass();
-        self.levels.enter(branch, value)
-    }
-
-    /// Enters a block that is passed over.
-    #[tactic(auto, unfolding(crate::specs::Levels::after_part))]
-    pub fn skip(&mut self)
+    pub fn pass(&mut self, pass: Pass)
         requires { self.old.levels.skipped < 2 ^ 63 }
-        ensures { self.new ≡ after_part (skip self.old.levels) }
+        ensures { self.new ≡ passed pass self.old }
     {
-        self.pass();
-        self.levels.skip();
-    }
-
-    /// Goes past the head of a loop with a block, and begins to collect it.
-    #[tactic(auto, unfolding(crate::specs::Levels::after_part))]
-    pub fn open_loop(&mut self)
-        ensures { self.new ≡ after_part (open_loop self.old.levels) }
-    {
-        self.pass();
-        self.levels.open_loop();
-    }
-
-    /// The innermost block ends, or the loop that is collected: which of them it was, if any.
-    #[tactic(auto, unfolding(crate::specs::Levels::after_part))]
-    pub fn leave(&mut self) -> Ended
-        ensures spot { self.new ≡ after_part (leave self.old.levels) }
-        ensures ended { result ≡ what_ends self.old.levels }
-    {
-        self.pass();
-        self.levels.leave()
+        self.begun = true;
+        match pass {
+            Pass::Guard(None) => return,
+            Pass::Guard(Some(answer)) => {
+                self.levels.turn(answer.bit);
+                self.passing = !answer.value;
+                return;
+            }
+            Pass::Leaf => {}
+            Pass::Block(Some(answer)) => self.levels.enter(answer),
+            Pass::Block(None) => self.levels.skip(),
+            Pass::Loop(true) => self.levels.open_loop(),
+            Pass::Loop(false) => self.levels.skip(),
+            Pass::End => self.levels.leave(),
+        }
+        self.passing = false;
     }
 
     /// The open true blocks are within their limit. Nothing is done: the levels show it.

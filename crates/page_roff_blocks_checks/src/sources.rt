@@ -2,7 +2,7 @@
 
 use arrayvec::ArrayVec;
 use page_roff_blocks::{
-    Atom, Branch, Ended, Head, LinePlace, Opening, Reached, Spot, Way, loop_text,
+    Answer, Atom, Branch, Ended, Head, LinePlace, Opening, Pass, Reached, Spot, Way, loop_text,
 };
 use page_roff_heads::{Condition, LoopHead, Test};
 use page_roff_regions::OpenRegion;
@@ -55,25 +55,35 @@ impl Source {
         match head.branch {
             Branch::If(condition) => holds(condition),
             Branch::IfElse(condition) => holds(condition),
-            Branch::Else => self.spot.bit(),
+            Branch::Else => self.spot.levels().bit(),
         }
     }
 
-    fn leaf(&mut self, text: &[u8]) {
+    fn pass(&mut self, rt: &impl Abort, pass: Pass) {
+        assert!(rt; self.spot.levels().skipped() < 1000);
+        self.spot.pass(pass);
+    }
+
+    fn leaf(&mut self, rt: &impl Abort, text: &[u8]) {
         if self.meets() {
             self.give(text);
             self.give(b"|");
         }
-        self.spot.pass();
+        self.pass(rt, Pass::Leaf);
     }
 
-    fn guard(&mut self, head: Head<&[u8]>) {
+    // What the head of a conditional leaves, if it is run.
+    fn answer(&mut self, head: Head<&[u8]>) -> Option<Answer> {
         if !self.meets() {
-            self.spot.pass_guard();
-            return;
+            return None;
         }
         let value = self.value(head);
-        self.spot.guard(&head.branch, value);
+        head.branch.answered(self.spot.levels().bit(), Some(value))
+    }
+
+    fn guard(&mut self, rt: &impl Abort, head: Head<&[u8]>) {
+        let answer = self.answer(head);
+        self.pass(rt, Pass::Guard(answer));
     }
 
     fn collect(&mut self, text: Option<&[u8]>) {
@@ -83,57 +93,58 @@ impl Source {
         }
     }
 
-    fn open_loop(&mut self, head: LoopHead<&[u8]>) {
+    // A loop comes; whether it is run.
+    fn open_loop(&mut self, head: LoopHead<&[u8]>) -> bool {
+        if !self.meets() {
+            return false;
+        }
         self.give(b"<");
         self.give(head.condition);
         self.collect(head.body);
+        true
     }
 
-    fn one_line(&mut self, head: LoopHead<&[u8]>) {
-        if self.meets() {
-            self.open_loop(head);
+    fn one_line(&mut self, rt: &impl Abort, head: LoopHead<&[u8]>) {
+        if self.open_loop(head) {
             self.give(b">");
         }
-        self.spot.pass();
+        self.pass(rt, Pass::Leaf);
     }
 
     fn block(&mut self, rt: &impl Abort, opening: Opening<&[u8]>) {
-        if !self.meets() {
-            assert!(rt; self.spot.skipped() < 1000);
-            self.spot.skip();
-            return;
-        }
-        match opening {
-            Opening::Conditional(head) => self.enter(head),
-            Opening::Loop(head) => {
-                self.open_loop(head);
-                self.spot.open_loop();
+        let pass = match opening {
+            Opening::Conditional(head) => Pass::Block(self.enter(head)),
+            Opening::Loop(head) => Pass::Loop(self.open_loop(head)),
+        };
+        self.pass(rt, pass);
+    }
+
+    fn enter(&mut self, head: Head<&[u8]>) -> Option<Answer> {
+        let answer = self.answer(head);
+        if let Some(answer) = answer {
+            if matches!(self.spot.levels().way(answer.value), Way::Exceeds) {
+                self.exceeding = self.exceeding.saturating_add(1);
             }
         }
+        answer
     }
 
-    fn enter(&mut self, head: Head<&[u8]>) {
-        let value = self.value(head);
-        if matches!(self.spot.enter(&head.branch, value), Way::Exceeds) {
-            self.exceeding = self.exceeding.saturating_add(1);
-        }
-    }
-
-    fn end(&mut self) {
-        match self.spot.leave() {
+    fn end(&mut self, rt: &impl Abort) {
+        match self.spot.levels().ended() {
             Ended::Block => {}
             Ended::Loop => self.give(b">"),
             Ended::Nothing => self.unopened = self.unopened.saturating_add(1),
         }
+        self.pass(rt, Pass::End);
     }
 
     fn part(&mut self, rt: &impl Abort, atom: Atom<&[u8]>) {
         match atom {
-            Atom::Leaf(text) => self.leaf(text),
-            Atom::Guard(head) => self.guard(head),
+            Atom::Leaf(text) => self.leaf(rt, text),
+            Atom::Guard(head) => self.guard(rt, head),
             Atom::Block(opening) => self.block(rt, opening),
-            Atom::Loop(head) => self.one_line(head),
-            Atom::End => self.end(),
+            Atom::Loop(head) => self.one_line(rt, head),
+            Atom::End => self.end(rt),
             Atom::Region(head) => {
                 let is_run = self.meets();
                 self.give(if is_run { b"[" } else { b"{" });
@@ -152,7 +163,7 @@ impl Source {
             None => return false,
             Some(region) => (region.is_ended_by(line), region.is_run()),
         };
-        if self.spot.in_loop() {
+        if self.spot.levels().in_loop() {
             self.collect(Some(line));
         }
         if ends {
@@ -166,8 +177,8 @@ impl Source {
     fn begin(&mut self, rt: &impl Abort, line: &[u8]) {
         assert!(rt; line.len() < 100);
         self.spot.begin_line();
-        if self.spot.in_loop() {
-            let open_blocks = self.spot.skipped();
+        if self.spot.levels().in_loop() {
+            let open_blocks = self.spot.levels().skipped();
             assert!(rt; open_blocks < 1000);
             self.collect(loop_text(line, open_blocks));
         }

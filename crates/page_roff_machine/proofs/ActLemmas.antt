@@ -15,10 +15,11 @@ use Rattle.page_roff_blocks.specs.declared.levels.Ended.TheVariants as endings
 use Rattle.page_roff_blocks.specs.declared.levels.Way.{Way}
 use Rattle.page_roff_blocks.specs.declared.levels.Way.TheVariants.{Runs, Skips, Exceeds}
 use Rattle.page_roff_regions.specs.declared.regions.RegionHead.{RegionHead}
+use Rattle.page_roff_blocks.specs.declared.spots.Pass.TheVariants as passes
 use Rattle.page_roff_blocks.specs.declared.spots.Reached.{Reached}
 use Rattle.page_roff_blocks.specs.declared.spots.Reached.TheVariants.{PassedOver, First, Remainder}
 use Rattle.page_roff_blocks.specs.Atoms.{atoms}
-use Rattle.page_roff_blocks.specs.Levels.{Levels, Spot, after_part, way_of, reached, reached_in, skip, what_ends, at_line, leave}
+use Rattle.page_roff_blocks.specs.Levels.{Levels, Spot, answered, after_part, guarded_by, way_of, passed, reached, reached_in, skip, what_ends, at_line, leave}
 use Rattle.page_roff_regions.specs.OpenRegions.{Opened, opened}
 use Rattle.page_roff_blocks.specs.Run.{Meaning, meet_as, value, refuse_if, keep_if}
 use Rattle.page_roff_blocks.specs.Steps as steps
@@ -36,16 +37,17 @@ use Rattle.page_roff_effects.specs.Effects.{effects}
 use Rattle.page_roff_effects.specs.States.{State, says}
 use Rattle.page_roff_stack.specs.declared.next.Next.{Next}
 use Rattle.page_roff_stack.specs.declared.next.Next.TheVariants.{Part, Line, RegionLine, Turn, SourceEnd, Nothing}
-use Rattle.page_roff_stack.specs.Changes.{is_page, next_line, first_atoms, past}
+use Rattle.page_roff_stack.specs.Changes.{is_page, next_line, first_atoms, first_region, region_of, past}
+use Rattle.page_roff_stack.specs.declared.movements.Movement.TheVariants as moves
 use Rattle.page_roff_stack.specs.Stacks as stacks
 use Rattle.page_roff_stack.specs.Stacks.{Stack, running, with_top, has_begun, turn_in, turn_or_end, next_around, next_in, next_of, part_in, is_part, is_line, is_turn, may_end, is_nothing, end_of, turn_if, step_in, step_of}
 use Rattle.page_roff_stack.proofs.StackLemmas.{next_steps}
 use Rattle.page_roff_machine.specs.declared.budgeted_actions.BudgetedActions.{BudgetedActions}
-use Rattle.page_roff_machine.specs.declared.movements.Movement.TheVariants as moves
-use Rattle.page_roff_machine.specs.declared.movements.Progress.TheVariants.{More}
+use Rattle.page_roff_machine.specs.declared.acts.Act.TheVariants as acts
+use Rattle.page_roff_machine.specs.declared.acts.Progress.TheVariants.{More}
 use Rattle.page_roff_machine.specs.declared.runners.Runner.{Runner}
 use Rattle.page_roff_machine.specs.Doing.{HasRoom, output_of, state_in, state_after, answer_with, line_after, IsIn, IsAt, Makes, Does, Answers, parts_of, begun_in, answer_if, answer_after, answer_in, region_after, region_in, opens_if, opens_after, opened_in, collected_in, closes_after, passed_in, turned_in, leaf_if, leaf_after, leaf_in, line_of, done_as, read_kept_in, ended_kept_in, finished_in}
-use Rattle.page_roff_machine.specs.Moving.{guard_spot, block_spot, loop_spot, refused, moved, reached_with, CanBegin, passes_block, line_in, Collects, Decides}
+use Rattle.page_roff_machine.specs.Moving.{refused, moved, reached_with, CanBegin, passes_block, line_in, Collects, Decides}
 use Rattle.page_roff_machine.specs.Stepping.{IsSound, Steps}
 use Rattle.page_roff_machine.proofs.DoingLemmas.{came_none, stays, both, kind_after}
 use Rattle.page_roff_machine.proofs.FrameLemmas.{same_source}
@@ -89,36 +91,36 @@ module _ (output : Output) (d : ℕ) (kind : Kind) where
 
   -- heads of conditionals
   guard_same_if : (h : Head (List ℕ)) (is_run : Bool) (spot : Spot) (s : Budgeted State)
-      → guard_met m is_run h spot s ≡ (let a = answer_if m h.branch spot.levels.bit is_run s in (guard_spot h.branch a.0 spot, a.1))
-  unfolding guard_met guard_with
+      → guard_met m is_run h spot s ≡ (let a = answer_if m h.branch spot.levels.bit is_run s in (passed (passes.Guard (answered h.branch spot.levels.bit a.0)) spot, a.1))
+  unfolding guard_met guard_with guarded_by
   guard_same_if h true spot s = refl
   guard_same_if h false spot s = refl
 
   guard_same : (h : Head (List ℕ)) (spot : Spot) (s : Budgeted State)
-      → step_guard m h spot s ≡ (let a = answer_after p h.branch spot.levels.bit (meet_as p (reached spot) s) in (guard_spot h.branch a.0 spot, a.1))
+      → step_guard m h spot s ≡ (let a = answer_after p h.branch spot.levels.bit (meet_as p (reached spot) s) in (passed (passes.Guard (answered h.branch spot.levels.bit a.0)) spot, a.1))
   unfolding step_guard met
   guard_same h spot s =
       let q = meet_as m (reached spot) s in
       guard_same_if h q.0 spot q.1
-      ∙ ap (λ (a : Option Bool × Budgeted State). (guard_spot h.branch a.0 spot, a.1)) (answer_same h.branch spot.levels.bit (reached spot) s)
+      ∙ ap (λ (a : Option Bool × Budgeted State). (passed (passes.Guard (answered h.branch spot.levels.bit a.0)) spot, a.1)) (answer_same h.branch spot.levels.bit (reached spot) s)
 
   block_same_if : (h : Head (List ℕ)) (is_run : Bool) (spot : Spot) (s : Budgeted State)
       → block_met m is_run (openings.Conditional h) spot s
-      ≡ (let a = answer_if m h.branch spot.levels.bit is_run s in (block_spot h.branch a.0 spot, refused output a.0 h.column spot a.1))
-  unfolding block_met opening_met block_with
+      ≡ (let a = answer_if m h.branch spot.levels.bit is_run s in (passed (passes.Block (answered h.branch spot.levels.bit a.0)) spot, refused output (answered h.branch spot.levels.bit a.0) h.column spot a.1))
+  unfolding block_met opening_met block_with refuse_if
   block_same_if h true spot s =
       let v = value m h.branch spot.levels.bit s in
-      ap (λ (t : Budgeted State). (block_spot h.branch (Some v.0) spot, t)) (refuse_same (way_of v.0 (length spot.levels.outer)) h v.1)
+      ap (λ (t : Budgeted State). (passed (passes.Block (answered h.branch spot.levels.bit (Some v.0))) spot, t)) (refuse_same (way_of v.0 (length spot.levels.outer)) h v.1)
   block_same_if h false spot s = refl
 
   block_same : (h : Head (List ℕ)) (spot : Spot) (s : Budgeted State)
       → step_block m (openings.Conditional h) spot s
-      ≡ (let a = answer_after p h.branch spot.levels.bit (meet_as p (reached spot) s) in (block_spot h.branch a.0 spot, refused output a.0 h.column spot a.1))
+      ≡ (let a = answer_after p h.branch spot.levels.bit (meet_as p (reached spot) s) in (passed (passes.Block (answered h.branch spot.levels.bit a.0)) spot, refused output (answered h.branch spot.levels.bit a.0) h.column spot a.1))
   unfolding step_block met
   block_same h spot s =
       let q = meet_as m (reached spot) s in
       block_same_if h q.0 spot q.1
-      ∙ ap (λ (a : Option Bool × Budgeted State). (block_spot h.branch a.0 spot, refused output a.0 h.column spot a.1)) (answer_same h.branch spot.levels.bit (reached spot) s)
+      ∙ ap (λ (a : Option Bool × Budgeted State). (passed (passes.Block (answered h.branch spot.levels.bit a.0)) spot, refused output (answered h.branch spot.levels.bit a.0) h.column spot a.1)) (answer_same h.branch spot.levels.bit (reached spot) s)
 
   passed_same : (h : Opening (List ℕ)) (spot : Spot) (s : Budgeted State) → reached spot ≡ PassedOver → step_block m h spot s ≡ (after_part (skip spot.levels), s)
   unfolding step_block met meet_as block_met
@@ -126,18 +128,18 @@ module _ (output : Output) (d : ℕ) (kind : Kind) where
 
   -- heads of loops
   opening_same_if : (h : LoopHead (List ℕ)) (is_run : Bool) (spot : Spot) (s : Budgeted State)
-      → block_met m is_run (openings.Loop h) spot s ≡ (let q = opens_if p h is_run s in (loop_spot q.0 spot, q.1))
+      → block_met m is_run (openings.Loop h) spot s ≡ (let q = opens_if p h is_run s in (passed (passes.Loop q.0) spot, q.1))
   unfolding block_met opening_met m p meaning_at meaning_by language
   opening_same_if h true spot s = refl
   opening_same_if h false spot s = refl
 
   opening_same : (h : LoopHead (List ℕ)) (spot : Spot) (s : Budgeted State)
-      → step_block m (openings.Loop h) spot s ≡ (let q = opens_after p h (meet_as p (reached spot) s) in (loop_spot q.0 spot, q.1))
+      → step_block m (openings.Loop h) spot s ≡ (let q = opens_after p h (meet_as p (reached spot) s) in (passed (passes.Loop q.0) spot, q.1))
   unfolding step_block met
   opening_same h spot s =
       let q = meet_as m (reached spot) s in
       opening_same_if h q.0 spot q.1
-      ∙ ap (λ (q : Bool × Budgeted State). let a = opens_after p h q in (loop_spot a.0 spot, a.1)) (met_same (reached spot) s)
+      ∙ ap (λ (q : Bool × Budgeted State). let a = opens_after p h q in (passed (passes.Loop a.0) spot, a.1)) (met_same (reached spot) s)
 
   loop_same_if : (may_run is_run : Bool) (h : LoopHead (List ℕ)) (f : Frame) (under : List Frame) (s : Budgeted State) → is_some (depth under) ≡ may_run
       → machine.loop_if (language (acting_effects output)) m is_run h f under s
@@ -243,6 +245,21 @@ no_region_line : (turning : Option Turning) (region : Option Opened) (under : Li
     → RegionLine o line is_last ≡ next_around turning region under → ⊥
 no_region_line turning region under o line is_last e = let k : is_around (RegionLine o line is_last) ≡ true = ap is_around e ∙ end_around turning region under in cc
 
+no_part : (turning : Option Turning) (region : Option Opened) (under : List Frame) (part : Atom (List ℕ)) → Part part ≡ next_around turning region under → ⊥
+no_part turning region under part e = let k : is_around (Part part) ≡ true = ap is_around e ∙ end_around turning region under in cc
+
+part_first : (turning : Option Turning) (region : Option Opened) (parts : List (Atom (List ℕ))) (lines : List (List ℕ)) (under : List Frame) (part : Atom (List ℕ)) (is_run : Bool)
+    → Part part ≡ next_in turning region parts lines under → first_region is_run parts ≡ region_of is_run part
+part_first turning None (first ∷ more) lines under part is_run e = let k : first ≡ part = cc in ap (region_of is_run) k
+part_first turning None [] (first ∷ more) under part is_run e = absurd (cc)
+part_first turning None [] [] under part is_run e = absurd (no_part turning None under part e)
+part_first turning (Some o) parts (first ∷ more) under part is_run e = absurd (cc)
+part_first turning (Some o) parts [] under part is_run e = absurd (no_part turning (Some o) under part e)
+
+-- the region of the head that comes next
+region_there : (s : Stack) (part : Atom (List ℕ)) (is_run : Bool) → Part part ≡ next_of s → first_region is_run s.top.parts ≡ region_of is_run part
+region_there s part is_run e = part_first s.top.turning s.top.region s.top.parts s.top.lines s.under part is_run e
+
 line_first : (turning : Option Turning) (region : Option Opened) (parts : List (Atom (List ℕ))) (lines : List (List ℕ)) (under : List Frame) (line : List ℕ)
     → Line line ≡ next_in turning region parts lines under → (first_atoms lines ≡ atoms line) × (region ≡ None) × (0 < length lines)
 line_first turning None (part ∷ more) lines under line e = absurd (cc)
@@ -325,7 +342,7 @@ module _ {P S : Type 0} (left : P → S → List Message → Type 0) (old : Runn
       → IsIn old.stack.top.kind old.doing
       → Makes left old.doing out (λ kind. IsIn kind old.doing) (leaf_in old.doing may_call text r) new (done_as result) out_new
       → IfCalled result (IsCallable may_call new.actions.call)
-      → Decides left old out (moves.Leaf result) (record { stack = old.stack; doing = new }) out_new
+      → Decides left old out (acts.Leaf result) (record { stack = old.stack; doing = new }) out_new
   unfolding moved step_in part_next met at_part p meaning meet_as leaf_next language meaning_at meaning_by m
   decides_leaf text r may_call result e er em k a callable =
       let output = output_of old.doing in
@@ -355,7 +372,7 @@ module _ {P S : Type 0} (left : P → S → List Message → Type 0) (old : Runn
       → IsIn old.stack.top.kind old.doing
       → Makes left old.doing out (λ kind. IsIn kind old.doing) (passed_in old.doing may_run head r) new (done_as result) out_new
       → IfRepeated result (IsRepeatable may_run new.actions.call.body)
-      → Decides left old out (moves.Leaf result) (record { stack = old.stack; doing = new }) out_new
+      → Decides left old out (acts.Leaf result) (record { stack = old.stack; doing = new }) out_new
   unfolding moved step_in part_next met at_part p meaning meet_as language meaning_at meaning_by m
   decides_loop head r may_run result e er em k a repeatable =
       let output = output_of old.doing in
@@ -384,7 +401,7 @@ module _ {P S : Type 0} (left : P → S → List Message → Type 0) (old : Runn
       → Part (Guard h) ≡ next_of old.stack → r ≡ reached old.stack.top.spot → bit ≡ old.stack.top.spot.levels.bit
       → IsIn old.stack.top.kind old.doing
       → Answers left old.doing out (answer_in old.doing h.branch bit r) result new out_new
-      → Decides left old out (moves.Guard result) (record { stack = old.stack; doing = new }) out_new
+      → Decides left old out (acts.Move (moves.Part (passes.Guard (answered h.branch bit result)))) (record { stack = old.stack; doing = new }) out_new
   unfolding moved step_in part_next p meet_as at_part meaning_at meaning_by m
   decides_guard h r bit result e er eb k a =
       let output = output_of old.doing in
@@ -400,19 +417,19 @@ module _ {P S : Type 0} (left : P → S → List Message → Type 0) (old : Runn
         step =
             step_next output s (Part (Guard h)) state e
             ∙ ap to (guard_same output d s.top.kind h s.top.spot state)
-            ∙ ap (λ (a : Option Bool × Budgeted State). to (guard_spot h.branch a.0 s.top.spot, a.1))
+            ∙ ap (λ (a : Option Bool × Budgeted State). to (passed (passes.Guard (answered h.branch s.top.spot.levels.bit a.0)) s.top.spot, a.1))
             (ap (λ r. answer_in old.doing h.branch s.top.spot.levels.bit r s.top.kind state) (sym er)
             ∙ ap (λ bit. answer_in old.doing h.branch bit r s.top.kind state) (sym eb)
             ∙ a.state s.top.kind k [])
-            ∙ ap (λ x. to (guard_spot (stacks.branch_in x) result s.top.spot, state_in (map says a.notes) new)) e;
-        suits = ap is_part (sym e);
+            ∙ ap (λ bit. to (passed (passes.Guard (answered h.branch bit result)) s.top.spot, state_in (map says a.notes) new)) (sym eb);
+        suits = (tt, tt);
       }
 
   pub decides_block : (h : Head (List ℕ)) (r : Reached) (bit : Bool) (result : Option Bool)
       → Part (Block (openings.Conditional h)) ≡ next_of old.stack → r ≡ reached old.stack.top.spot → bit ≡ old.stack.top.spot.levels.bit
       → IsIn old.stack.top.kind old.doing
       → Answers left old.doing out (answer_in old.doing h.branch bit r) result new out_new
-      → Decides left old out (moves.Block result h.column) (record { stack = old.stack; doing = new }) out_new
+      → Decides left old out (acts.Block (answered h.branch bit result) h.column) (record { stack = old.stack; doing = new }) out_new
   unfolding moved step_in part_next p meet_as at_part meaning_at meaning_by m
   decides_block h r bit result e er eb k a =
       let output = output_of old.doing in
@@ -428,11 +445,11 @@ module _ {P S : Type 0} (left : P → S → List Message → Type 0) (old : Runn
         step =
             step_next output s (Part (Block (openings.Conditional h))) state e
             ∙ ap to (block_same output d s.top.kind h s.top.spot state)
-            ∙ ap (λ (a : Option Bool × Budgeted State). to (block_spot h.branch a.0 s.top.spot, refused output a.0 h.column s.top.spot a.1))
+            ∙ ap (λ (a : Option Bool × Budgeted State). let answer = answered h.branch s.top.spot.levels.bit a.0 in to (passed (passes.Block answer) s.top.spot, refused output answer h.column s.top.spot a.1))
             (ap (λ r. answer_in old.doing h.branch s.top.spot.levels.bit r s.top.kind state) (sym er)
             ∙ ap (λ bit. answer_in old.doing h.branch bit r s.top.kind state) (sym eb)
             ∙ a.state s.top.kind k [])
-            ∙ ap (λ x. to (block_spot (stacks.branch_in x) result s.top.spot, refused output result h.column s.top.spot (state_in (map says a.notes) new))) e;
+            ∙ ap (λ bit. let answer = answered h.branch bit result in to (passed (passes.Block answer) s.top.spot, refused output answer h.column s.top.spot (state_in (map says a.notes) new))) (sym eb);
         suits = ap is_part (sym e);
       }
 
@@ -440,7 +457,7 @@ module _ {P S : Type 0} (left : P → S → List Message → Type 0) (old : Runn
       → Part (Block (openings.Loop head)) ≡ next_of old.stack → r ≡ reached old.stack.top.spot
       → IsIn old.stack.top.kind old.doing
       → Answers left old.doing out (opened_in old.doing head r) result new out_new
-      → Decides left old out (moves.Loop result) (record { stack = old.stack; doing = new }) out_new
+      → Decides left old out (acts.Move (moves.Part (passes.Loop result))) (record { stack = old.stack; doing = new }) out_new
   unfolding moved step_in part_next p meet_as at_part meaning_at meaning_by m
   decides_open_loop head r result e er k a =
       let output = output_of old.doing in
@@ -456,16 +473,16 @@ module _ {P S : Type 0} (left : P → S → List Message → Type 0) (old : Runn
         step =
             step_next output s (Part (Block (openings.Loop head))) state e
             ∙ ap to (opening_same output d s.top.kind head s.top.spot state)
-            ∙ ap (λ (q : Bool × Budgeted State). to (loop_spot q.0 s.top.spot, q.1))
+            ∙ ap (λ (q : Bool × Budgeted State). to (passed (passes.Loop q.0) s.top.spot, q.1))
             (ap (λ r. opened_in old.doing head r s.top.kind state) (sym er) ∙ a.state s.top.kind k []);
-        suits = ap is_part (sym e);
+        suits = (ap is_part (sym e), tt);
       }
 
   pub decides_region : (head : RegionHead (List ℕ)) (r : Reached) (result : Bool)
       → Part (Region head) ≡ next_of old.stack → r ≡ reached old.stack.top.spot
       → IsIn old.stack.top.kind old.doing
       → Answers left old.doing out (region_in old.doing head r) result new out_new
-      → Decides left old out (moves.Region result) (record { stack = old.stack; doing = new }) out_new
+      → Decides left old out (acts.Move (moves.Region result)) (record { stack = old.stack; doing = new }) out_new
   unfolding moved step_in part_next step_region met meaning_at meaning_by language p meet_as at_line between opened m
   decides_region head r result e er k a =
       let output = output_of old.doing in
@@ -485,7 +502,7 @@ module _ {P S : Type 0} (left : P → S → List Message → Type 0) (old : Runn
             ∙ ap (λ (q : Bool × Budgeted State). to (region_after (parts_of old.doing s.top.kind) head q))
             (met_same output d s.top.kind (reached s.top.spot) state ∙ ap (λ r. meet_as (parts_of old.doing s.top.kind) r state) (sym er))
             ∙ ap to (a.state s.top.kind k [])
-            ∙ ap (λ x. Some (running (with_top (frame (stacks.region_in result x)) s) (state_in (map says a.notes) new))) e;
+            ∙ ap (λ region. Some (running (with_top (frame region) s) (state_in (map says a.notes) new))) (sym (region_there s (Region head) result e));
         suits = (
           ap is_part (sym e),
           λ h.
@@ -498,7 +515,7 @@ module _ {P S : Type 0} (left : P → S → List Message → Type 0) (old : Runn
       → RegionLine o line false ≡ next_of old.stack → is_page_now ≡ is_page old.stack.top.kind → in_loop ≡ old.stack.top.spot.levels.in_loop
       → IsIn old.stack.top.kind old.doing
       → Makes left old.doing out (IsAt is_page_now old.doing) (read_kept_in old.doing in_loop o line) new (line_after result) out_new
-      → Decides left old out (moves.RegionLine result) (record { stack = old.stack; doing = new }) out_new
+      → Decides left old out (acts.RegionLine result) (record { stack = old.stack; doing = new }) out_new
   unfolding moved step_in region_next between m p meaning_at meaning_by language
   decides_region_line o line is_page_now in_loop result e ep el k a =
       let output = output_of old.doing in
@@ -528,7 +545,7 @@ module _ {P S : Type 0} (left : P → S → List Message → Type 0) (old : Runn
       → RegionLine o line true ≡ next_of old.stack → is_page_now ≡ is_page old.stack.top.kind → in_loop ≡ old.stack.top.spot.levels.in_loop
       → IsIn old.stack.top.kind old.doing
       → Makes left old.doing out (IsAt is_page_now old.doing) (ended_kept_in old.doing in_loop o line) new state_after out_new
-      → Decides left old out moves.RegionEnd (record { stack = old.stack; doing = new }) out_new
+      → Decides left old out (acts.Move moves.RegionEnd) (record { stack = old.stack; doing = new }) out_new
   unfolding moved step_in region_next between m p meaning_at meaning_by language meaning end_line effects
   decides_region_end o line is_page_now in_loop e ep el k a =
       let output = output_of old.doing in
@@ -548,14 +565,14 @@ module _ {P S : Type 0} (left : P → S → List Message → Type 0) (old : Runn
             (keep_same output d s.top.kind s.top.spot.levels.in_loop line ((parts_of old.doing s.top.kind).ends_region o line state)
             ∙ ap (λ in_loop. ended_kept_in old.doing in_loop o line s.top.kind state) (sym el)
             ∙ a.state s.top.kind (record { page = sym ep; setting = k }) []);
-        suits = tt;
+        suits = (tt, tt);
       }
 
   pub decides_source_end : (region : Option Opened) (begun in_loop : Bool)
       → SourceEnd region begun ≡ next_of old.stack → in_loop ≡ old.stack.top.spot.levels.in_loop
       → IsIn old.stack.top.kind old.doing
       → Does left old.doing out (finished_in old.doing begun region in_loop) new out_new
-      → Decides left old out moves.SourceEnd (record { stack = old.stack; doing = new }) out_new
+      → Decides left old out acts.SourceEnd (record { stack = old.stack; doing = new }) out_new
   unfolding moved step_in
   decides_source_end region begun in_loop e el k a =
       let output = output_of old.doing in
@@ -613,7 +630,7 @@ module _ {P S : Type 0} (left : P → S → List Message → Type 0) (old : Runn
       → IsSound old
       → Does left old.doing out (finished_in old.doing begun region in_loop) mid out_mid
       → Answers left mid out_mid (turned_in mid condition) true new out_new
-      → Decides left old out moves.Turn (record { stack = old.stack; doing = new }) out_new
+      → Decides left old out (acts.Move moves.Turn) (record { stack = old.stack; doing = new }) out_new
   unfolding moved
   decides_turn region begun in_loop condition e el sound f t =
       let a = turns_after region begun in_loop condition true f t in
@@ -631,7 +648,7 @@ module _ {P S : Type 0} (left : P → S → List Message → Type 0) (old : Runn
       → IsSound old
       → Does left old.doing out (finished_in old.doing begun region in_loop) mid out_mid
       → Answers left mid out_mid (turned_in mid condition) false new out_new
-      → Decides left old out moves.SourceEnd (record { stack = old.stack; doing = new }) out_new
+      → Decides left old out acts.SourceEnd (record { stack = old.stack; doing = new }) out_new
   unfolding moved
   decides_last_turn region begun in_loop condition e el sound f t =
       let a = turns_after region begun in_loop condition false f t in
@@ -757,7 +774,7 @@ passed_block PassedOver (SourceEnd region begun) e = absurd (cc)
 passed_block PassedOver Nothing e = absurd (cc)
 
 module _ {P S : Type 0} (left : P → S → List Message → Type 0) (old : Runner) (out : S) where
-  pub decides_passed : (r : Reached) → r ≡ reached old.stack.top.spot → passes_block r (next_of old.stack) ≡ true → Decides left old out (moves.Block None 0) old out
+  pub decides_passed : (r : Reached) → r ≡ reached old.stack.top.spot → passes_block r (next_of old.stack) ≡ true → Decides left old out (acts.Move (moves.Part (passes.Block None))) old out
   unfolding moved step_in part_next at_part meaning_at m
   decides_passed r er e =
       let output = output_of old.doing in
@@ -773,10 +790,10 @@ module _ {P S : Type 0} (left : P → S → List Message → Type 0) (old : Runn
             step_next output s (Part (Block k.1.0)) state k.1.1
             ∙ ap (λ (t : Spot × Budgeted State). Some (running (with_top (past t.0 s.top) s) t.1))
             (passed_same output (depth s.under) s.top.kind k.1.0 s.top.spot state (sym er ∙ k.0));
-        suits = ap is_part (sym k.1.1);
+        suits = (ap is_part (sym k.1.1), tt);
       }
 
-  pub decides_block_end : Part End ≡ next_of old.stack → Decides left old out moves.BlockEnd old out
+  pub decides_block_end : Part End ≡ next_of old.stack → Decides left old out acts.BlockEnd old out
   unfolding moved step_in part_next at_part m p
   decides_block_end e =
       let output = output_of old.doing in

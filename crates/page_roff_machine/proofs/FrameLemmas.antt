@@ -3,18 +3,20 @@ use Rattle.std.proofs.Common.{◌≡◌, ℕ, zero, suc, ◌+◌, ◌*◌, ◌�
 use Rattle.page_core_limits.specs.declared.TheConstants.{BODY}
 use Rattle.page_roff_blocks.specs.declared.atoms.Atom.{Atom}
 use Rattle.page_roff_blocks.specs.declared.atoms.Atom.TheVariants.{Leaf, Guard, Block, Loop, End, Region}
+use Rattle.page_roff_blocks.specs.declared.spots.Pass.{Pass}
+use Rattle.page_roff_blocks.specs.declared.spots.Pass.TheVariants as passes
 use Rattle.page_roff_blocks.specs.declared.levels.Way.{Way}
 use Rattle.page_roff_blocks.specs.declared.levels.Way.TheVariants.{Runs, Skips, Exceeds}
-use Rattle.page_roff_blocks.specs.Levels.{Levels, Spot, at_line, after_part, enter, leave_level, leave_loop, leave_from, leave}
+use Rattle.page_roff_blocks.specs.Levels.{Levels, Spot, at_line, after_part, way_of, enter, skip, leave_level, leave_loop, leave_from, leave, passed}
 use Rattle.page_roff_regions.specs.OpenRegions.{Opened, opened}
 use Rattle.page_roff_values.specs.Arguments.{begin_first, arguments_in, lines_in}
 use Rattle.page_roff_language.specs.Machine.{Frame, Turning, turned, at_part}
 use Rattle.page_roff_language.specs.Measures.{weight, turns_of}
-use Rattle.page_roff_stack.specs.declared.next.Next.{Next}
-use Rattle.page_roff_stack.specs.declared.next.Next.TheVariants as things
-use Rattle.page_roff_stack.specs.Changes.{past, in_region, next_line, in_turn_of, in_turn, region_of}
-use Rattle.page_roff_stack.specs.Stacks.{Stack, has_begun, turn_in, turn_or_end, next_around, next_in, next_of, is_part, region_in}
-use Rattle.page_roff_machine.specs.Moving.{HUGE, IsTurningWithin, IsPassed, IsKept, AreKept, frames_of, IsBodyWithin}
+use Rattle.page_roff_stack.specs.declared.movements.Movement.{Movement}
+use Rattle.page_roff_stack.specs.declared.movements.Movement.TheVariants as moves
+use Rattle.page_roff_stack.specs.Changes.{past, in_turn_of, region_of, first_region, went, IfEnters}
+use Rattle.page_roff_stack.specs.Stacks.{Stack, with_top, has_begun, turn_in, turn_or_end, next_around, next_in, next_of, is_part, Suits}
+use Rattle.page_roff_machine.specs.Moving.{HUGE, IsTurningWithin, IsPassed, IsKept, AreKept, frames_of, IsBodyWithin, Keeps}
 
 -- ---- bodies
 
@@ -128,33 +130,11 @@ head_passed is_run (Loop head) e = tt
 head_passed is_run End e = tt
 head_passed is_run (Region head) e = e
 
-region_passed : (is_run : Bool) (x : Next (List ℕ) Opened) → is_run ≡ false → IsPassed (region_in is_run x)
-region_passed is_run (things.Part part) e = head_passed is_run part e
-region_passed is_run (things.Line line) e = tt
-region_passed is_run (things.RegionLine o line is_end) e = tt
-region_passed is_run (things.Turn region begun condition) e = tt
-region_passed is_run (things.SourceEnd region begun) e = tt
-region_passed is_run things.Nothing e = tt
-
-pub region_kept : (is_run : Bool) (x : Next (List ℕ) Opened) (f : Frame) → (f.spot.levels.in_loop ≡ true → is_run ≡ false)
-    → IsKept f → IsKept (in_region (region_in is_run x) f)
-unfolding at_line
-region_kept is_run x f h k = record { turning = k.turning; region = λ e. region_passed is_run x (h e) }
-
--- a line of the open region, or its end line, is passed
-pub line_kept : (f : Frame) → IsKept f → IsKept (next_line f.region [] f)
-unfolding at_line
-line_kept f k = record { turning = k.turning; region = k.region }
-
-pub end_kept : (f : Frame) → IsKept f → IsKept (next_line None [] f)
-end_kept f k = record { turning = k.turning; region = λ e. tt }
+region_passed : (is_run : Bool) (parts : List (Atom (List ℕ))) → is_run ≡ false → IsPassed (first_region is_run parts)
+region_passed is_run [] e = tt
+region_passed is_run (part ∷ more) e = head_passed is_run part e
 
 -- ---- turns
-
-pub turn_kind : (turning : Option Turning) (f : Frame) → (in_turn_of turning f).kind ≡ f.kind
-unfolding turned
-turn_kind None f = refl
-turn_kind (Some t) f = refl
 
 turn_kept : (turning : Option Turning) (f : Frame) → IsTurningWithin turning → IsKept f → IsKept (in_turn_of turning f)
 unfolding turned
@@ -167,11 +147,38 @@ unfolding turned turns_of
 turn_within None f e h t = let k : turns_of f.turning ≡ 0 = ap turns_of e in absurd (omega arith)
 turn_within (Some turning) f e h t = h
 
-pub turn_frames : (s : Stack) → IsTurningWithin s.top.turning → AreKept (frames_of s) → AreKept (in_turn s.top ∷ s.under)
-turn_frames s h k = (turn_kept s.top.turning s.top h k.0, k.1)
+-- ---- what comes next is passed
 
-pub turn_source : (s t : Stack) → t.top ≡ in_turn s.top → t.under ≡ s.under → IsTurningWithin s.top.turning → IsBodyWithin s t
-turn_source s t et eu h = record {
-  begins = λ e. let k : length t.under ≡ length s.under = ap length eu in absurd (omega arith);
-  turns = λ e n. rw et (turn_within s.top.turning s.top refl h (rw et at n));
+-- by a part
+pass_kept : (pass : Pass) (s : Stack) → IfEnters pass (is_part (next_of s) ≡ true) → IsKept s.top → IsKept (past (passed pass s.top.spot) s.top)
+unfolding after_part skip
+pass_kept passes.Leaf s h = same_kept s.top (passed passes.Leaf s.top.spot) (λ e. e)
+pass_kept (passes.Guard None) s h = same_kept s.top (passed (passes.Guard None) s.top.spot) (λ e. e)
+pass_kept (passes.Guard (Some a)) s h = same_kept s.top (passed (passes.Guard (Some a)) s.top.spot) (λ e. e)
+pass_kept (passes.Block None) s h = same_kept s.top (passed (passes.Block None) s.top.spot) (λ e. e)
+pass_kept (passes.Block (Some a)) s h =
+    let l = s.top.spot.levels in same_kept s.top (passed (passes.Block (Some a)) s.top.spot) (enter_in (way_of a.value (length l.outer)) a.bit l)
+pass_kept (passes.Loop true) s h = open_kept s.top (passed (passes.Loop true) s.top.spot) (outside_regions s h)
+pass_kept (passes.Loop false) s h = same_kept s.top (passed (passes.Loop false) s.top.spot) (λ e. e)
+pass_kept passes.End s h = same_kept s.top (passed passes.End s.top.spot) (leave_in s.top.spot.levels)
+
+pub moved_kept : (movement : Movement) (s : Stack) → Suits movement (next_of s) → Keeps movement s.top → IsKept s.top → IsKept (went movement s.top)
+unfolding at_line
+moved_kept (moves.Part pass) s h k = pass_kept pass s h
+moved_kept (moves.Region is_run) s h k = λ f. record { turning = f.turning; region = λ e. region_passed is_run s.top.parts (k e) }
+moved_kept moves.Line s h k = λ f. record { turning = f.turning; region = λ e. tt }
+moved_kept moves.RegionLine s h k = λ f. record { turning = f.turning; region = f.region }
+moved_kept moves.RegionEnd s h k = λ f. record { turning = f.turning; region = λ e. tt }
+moved_kept moves.Turn s h k = turn_kept s.top.turning s.top k
+
+pub moved_source : (movement : Movement) (s : Stack) → Keeps movement s.top → IsBodyWithin s (with_top (went movement s.top) s)
+unfolding at_part
+moved_source (moves.Part pass) s k = same_source s (with_top (went (moves.Part pass) s.top) s) refl refl
+moved_source (moves.Region is_run) s k = same_source s (with_top (went (moves.Region is_run) s.top) s) refl refl
+moved_source moves.Line s k = same_source s (with_top (went moves.Line s.top) s) refl refl
+moved_source moves.RegionLine s k = same_source s (with_top (went moves.RegionLine s.top) s) refl refl
+moved_source moves.RegionEnd s k = same_source s (with_top (went moves.RegionEnd s.top) s) refl refl
+moved_source moves.Turn s k = record {
+  begins = λ e. let n : length s.under ≡ suc (length s.under) = e in absurd (omega arith);
+  turns = λ e n. turn_within s.top.turning s.top refl k n;
 }

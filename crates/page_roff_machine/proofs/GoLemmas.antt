@@ -1,5 +1,5 @@
 -- The input stack moves on: helpers of proofs.
-use Rattle.std.proofs.Common.{◌≡◌, ℕ, suc, Bool, true, false, List, [], ◌∷◌, ◌++◌, map, length, Some, None, refl, sym, ap, ◌∙◌, arith}
+use Rattle.std.proofs.Common.{◌≡◌, ℕ, suc, Bool, true, false, List, [], ◌∷◌, ◌++◌, map, length, Option, Some, None, refl, sym, ap, ◌∙◌, arith}
 use Rattle.std.proofs.lemmas.List.{append-nil}
 use Rattle.page_core_base.specs.Messages.{Message}
 use Rattle.page_core_base.specs.declared.page_settings.Output.{Output}
@@ -8,7 +8,9 @@ use Rattle.page_roff_blocks.specs.declared.levels.Ended.TheVariants as endings
 use Rattle.page_roff_blocks.specs.declared.levels.Way.{Way}
 use Rattle.page_roff_blocks.specs.declared.levels.Way.TheVariants.{Runs, Skips, Exceeds}
 use Rattle.page_roff_blocks.specs.declared.atoms.Branch.TheVariants.{Else}
-use Rattle.page_roff_blocks.specs.Levels.{after_part, guarded_by, bit_after, way_of, enter, open_loop, skip, leave, what_ends}
+use Rattle.page_roff_blocks.specs.declared.levels.Answer.{Answer}
+use Rattle.page_roff_blocks.specs.declared.spots.Pass.TheVariants as passes
+use Rattle.page_roff_blocks.specs.Levels.{after_part, leave, what_ends}
 use Rattle.page_roff_blocks.specs.Run.{refuse_if}
 use Rattle.page_roff_values.specs.Arguments.{arguments_in, lines_in}
 use Rattle.page_roff_language.specs.Languages.{arguments_of, Kind, page, body, gives, calls, Language, is_some}
@@ -20,19 +22,22 @@ use Rattle.page_roff_effects.specs.Acting as acting
 use Rattle.page_roff_effects.specs.Acting.{Acting, IsCallable, acting_effects, acting_setting}
 use Rattle.page_roff_effects.specs.Effects.{effects, block_outcome}
 use Rattle.page_roff_effects.specs.States.{State, Given, says, takes}
-use Rattle.page_roff_stack.specs.Changes.{past, in_region, next_line, in_turn, is_page}
+use Rattle.page_roff_stack.specs.Changes.{past, next_line, is_page, went}
+use Rattle.page_roff_stack.specs.declared.movements.Movement.{Movement}
+use Rattle.page_roff_stack.specs.declared.movements.Movement.TheVariants as moves
 use Rattle.page_roff_stack.specs.Stacks as stacks
 use Rattle.page_roff_stack.specs.Stacks.{Stack, running, with_top, call_of, next_of, is_part}
+use Rattle.page_roff_stack.proofs.InputStackLemmas.{went_kind}
 use Rattle.page_roff_machine.specs.declared.budgeted_actions.BudgetedActions.{BudgetedActions}
-use Rattle.page_roff_machine.specs.declared.movements.Movement.{Movement}
-use Rattle.page_roff_machine.specs.declared.movements.Movement.TheVariants as moves
-use Rattle.page_roff_machine.specs.declared.movements.Progress.{Progress}
-use Rattle.page_roff_machine.specs.declared.movements.Progress.TheVariants.{More, Line}
+use Rattle.page_roff_machine.specs.declared.acts.Act.{Act}
+use Rattle.page_roff_machine.specs.declared.acts.Act.TheVariants as acts
+use Rattle.page_roff_machine.specs.declared.acts.Progress.{Progress}
+use Rattle.page_roff_machine.specs.declared.acts.Progress.TheVariants.{More, Line}
 use Rattle.page_roff_machine.specs.declared.runners.Runner.{Runner}
 use Rattle.page_roff_machine.specs.Doing.{output_of, state_in, state_after, IsIn, IsAt, Makes, unopened_in}
-use Rattle.page_roff_machine.specs.Moving.{moved, reached_with, progress_as, with_arguments_of, called, IsTurningWithin, IsKept, AreKept, IfDone, Shifts, Moves, Closes}
+use Rattle.page_roff_machine.specs.Moving.{moved, reached_with, progress_as, way_after, with_arguments_of, called, Keeps, IsKept, AreKept, IfDone, Shifts, Moves, Closes}
 use Rattle.page_roff_machine.proofs.DoingLemmas.{came_none, acted}
-use Rattle.page_roff_machine.proofs.FrameLemmas.{within_huge, same_source, same_frames, same_kept, open_kept, enter_in, leave_in, outside_regions, region_kept, line_kept, end_kept, turn_kind, turn_frames, turn_source}
+use Rattle.page_roff_machine.proofs.FrameLemmas.{within_huge, same_source, same_frames, same_kept, leave_in, moved_kept, moved_source}
 
 -- ---- past a line that heads nothing
 
@@ -51,12 +56,12 @@ calls_next l false f under lines args s e = absurd (cc)
 pub setting_is : (output : Output) (kind : Kind) → record { output = output; arguments = arguments_of kind } ≡ acting_setting output kind
 setting_is output kind = refl
 
-pub shifts_to : (old new : Runner) (movement : Movement) (progress : Progress) (s : Stack)
+pub shifts_to : (old new : Runner) (act : Act) (progress : Progress) (s : Stack)
     → new ≡ record { stack = s; doing = old.doing } → s.top.kind ≡ old.stack.top.kind → s.under ≡ old.stack.under → s.top.turning ≡ old.stack.top.turning
     → (IsKept old.stack.top → IsKept s.top) → IsIn old.stack.top.kind old.doing
-    → ((given : List Given) → moved (output_of old.doing) movement old.stack given old.doing ≡ reached_with progress given (record { stack = s; doing = old.doing }))
-    → Shifts old movement progress new
-shifts_to old new movement progress s e ek eu et kept k step = record {
+    → ((given : List Given) → moved (output_of old.doing) act old.stack given old.doing ≡ reached_with progress given (record { stack = s; doing = old.doing }))
+    → Shifts old act progress new
+shifts_to old new act progress s e ek eu et kept k step = record {
   output = ap (λ (r : Runner). output_of r.doing) e;
   setting = rw (e, ek) k;
   step = λ given. step given ∙ ap (reached_with progress given) (sym e);
@@ -65,25 +70,25 @@ shifts_to old new movement progress s e ek eu et kept k step = record {
 }
 
 pub shifts_leaf : (old new : Runner) → new ≡ record { stack = with_top (past (after_part old.stack.top.spot.levels) old.stack.top) old.stack; doing = old.doing }
-    → IsIn old.stack.top.kind old.doing → Shifts old (moves.Leaf kinds.Nothing) More new
+    → IsIn old.stack.top.kind old.doing → Shifts old (acts.Leaf kinds.Nothing) More new
 unfolding moved reached_with at_part after_part
 shifts_leaf old new e k =
     let s = with_top (past (after_part old.stack.top.spot.levels) old.stack.top) old.stack in
-    shifts_to old new (moves.Leaf kinds.Nothing) More s e refl refl refl (same_kept old.stack.top (after_part old.stack.top.spot.levels) (λ h. h)) k
+    shifts_to old new (acts.Leaf kinds.Nothing) More s e refl refl refl (same_kept old.stack.top (after_part old.stack.top.spot.levels) (λ h. h)) k
     (λ given. ap (λ next. Some next) (gives_next (language (acting_effects (output_of old.doing))) (is_some (depth old.stack.under)) s.top s.under (state_in given old.doing)))
 
 pub shifts_leaf_line : (old new : Runner) → new ≡ record { stack = with_top (past (after_part old.stack.top.spot.levels) old.stack.top) old.stack; doing = old.doing }
-    → IsIn old.stack.top.kind old.doing → Shifts old (moves.Leaf kinds.Line) Line new
+    → IsIn old.stack.top.kind old.doing → Shifts old (acts.Leaf kinds.Line) Line new
 unfolding moved reached_with at_part after_part
 shifts_leaf_line old new e k =
     let s = with_top (past (after_part old.stack.top.spot.levels) old.stack.top) old.stack in
-    shifts_to old new (moves.Leaf kinds.Line) Line s e refl refl refl (same_kept old.stack.top (after_part old.stack.top.spot.levels) (λ h. h)) k
+    shifts_to old new (acts.Leaf kinds.Line) Line s e refl refl refl (same_kept old.stack.top (after_part old.stack.top.spot.levels) (λ h. h)) k
     (λ given. ap (λ next. Some next)
     (gives_next (language (acting_effects (output_of old.doing))) (is_some (depth old.stack.under)) s.top s.under (state_in (given ++ (takes old.doing.actions.line ∷ [])) old.doing)))
 
 pub shifts_call : (old mid new : Runner) → mid ≡ record { stack = with_top (past (after_part old.stack.top.spot.levels) old.stack.top) old.stack; doing = old.doing }
     → new ≡ called mid → IsCallable (is_some (depth old.stack.under)) old.doing.actions.call
-    → Shifts old (moves.Leaf kinds.Call) More new
+    → Shifts old (acts.Leaf kinds.Call) More new
 unfolding moved reached_with at_part after_part entered
 shifts_call old mid new em e callable =
     let s = with_top (past (after_part old.stack.top.spot.levels) old.stack.top) old.stack in
@@ -117,42 +122,25 @@ calls_it r new stack bytes packed eb ep es e =
     ∙ ap (λ bytes. to (call_of bytes packed r.stack)) eb
     ∙ ap (λ packed. to (call_of r.doing.actions.call.body packed r.stack)) ep
 
--- ---- past heads and lines
+-- ---- past what comes next, where nothing else is to be done
 
-pub shifts_guard : (old new : Runner) (value : Bool)
-    → new ≡ record { stack = with_top (past (guarded_by (stacks.branch_in (next_of old.stack)) value old.stack.top.spot.levels) old.stack.top) old.stack; doing = old.doing }
-    → IsIn old.stack.top.kind old.doing → Shifts old (moves.Guard (Some value)) More new
-unfolding moved reached_with at_part guarded_by
-shifts_guard old new value e k =
-    shifts_to old new (moves.Guard (Some value)) More
-    (with_top (past (guarded_by (stacks.branch_in (next_of old.stack)) value old.stack.top.spot.levels) old.stack.top) old.stack) e refl refl refl
-    (same_kept old.stack.top (guarded_by (stacks.branch_in (next_of old.stack)) value old.stack.top.spot.levels) (λ h. h)) k (λ given. refl)
-
-pub shifts_guard_passed : (old new : Runner)
-    → new ≡ record { stack = with_top (past (record old.stack.top.spot { begun = true }) old.stack.top) old.stack; doing = old.doing }
-    → IsIn old.stack.top.kind old.doing → Shifts old (moves.Guard None) More new
-unfolding moved reached_with at_part
-shifts_guard_passed old new e k =
-    shifts_to old new (moves.Guard None) More (with_top (past (record old.stack.top.spot { begun = true }) old.stack.top) old.stack) e refl refl refl
-    (same_kept old.stack.top (record old.stack.top.spot { begun = true }) (λ h. h)) k (λ given. refl)
-
-pub shifts_region : (old new : Runner) (is_run : Bool)
-    → new ≡ record { stack = with_top (in_region (stacks.region_in is_run (next_of old.stack)) old.stack.top) old.stack; doing = old.doing }
-    → IsIn old.stack.top.kind old.doing → (old.stack.top.spot.levels.in_loop ≡ true → is_run ≡ false) → Shifts old (moves.Region is_run) More new
+pub shifts_move : (old new : Runner) (movement : Movement)
+    → new ≡ record { stack = with_top (went movement old.stack.top) old.stack; doing = old.doing }
+    → IsIn old.stack.top.kind old.doing → stacks.Suits movement (next_of old.stack) × Keeps movement old.stack.top
+    → Shifts old (acts.Move movement) More new
 unfolding moved reached_with
-shifts_region old new is_run e k passed =
-    shifts_to old new (moves.Region is_run) More (with_top (in_region (stacks.region_in is_run (next_of old.stack)) old.stack.top) old.stack) e refl refl refl
-    (region_kept is_run (next_of old.stack) old.stack.top passed) k (λ given. refl)
-
-pub shifts_region_end : (old new : Runner)
-    → new ≡ record { stack = with_top (next_line None [] old.stack.top) old.stack; doing = old.doing }
-    → IsIn old.stack.top.kind old.doing → Shifts old moves.RegionEnd More new
-unfolding moved reached_with
-shifts_region_end old new e k =
-    shifts_to old new moves.RegionEnd More (with_top (next_line None [] old.stack.top) old.stack) e refl refl refl (end_kept old.stack.top) k (λ given. refl)
+shifts_move old new movement e k suits =
+    let s = with_top (went movement old.stack.top) old.stack in
+    record {
+      output = ap (λ (r : Runner). output_of r.doing) e;
+      setting = rw (e, went_kind movement old.stack.top) k;
+      step = λ given. ap (reached_with More given) (sym e);
+      body = rw e (moved_source movement old.stack suits.1);
+      frames = λ h. rw e (same_frames old.stack s refl (moved_kept movement old.stack suits.0 suits.1) h);
+    }
 
 region_line_step : (old : Runner) (product : ProductKind) (given : List Given)
-    → moved (output_of old.doing) (moves.RegionLine product) old.stack given old.doing
+    → moved (output_of old.doing) (acts.RegionLine product) old.stack given old.doing
     ≡ reached_with (progress_as product) given (record { stack = with_top (next_line old.stack.top.region [] old.stack.top) old.stack; doing = old.doing })
 unfolding moved reached_with
 region_line_step old kinds.Nothing given =
@@ -165,43 +153,12 @@ region_line_step old kinds.Loop given =
 
 pub shifts_region_line : (old new : Runner) (product : ProductKind)
     → new ≡ record { stack = with_top (next_line old.stack.top.region [] old.stack.top) old.stack; doing = old.doing }
-    → IsIn old.stack.top.kind old.doing → Shifts old (moves.RegionLine product) (progress_as product) new
+    → IsIn old.stack.top.kind old.doing → Shifts old (acts.RegionLine product) (progress_as product) new
 shifts_region_line old new product e k =
-    shifts_to old new (moves.RegionLine product) (progress_as product) (with_top (next_line old.stack.top.region [] old.stack.top) old.stack) e refl refl refl (line_kept old.stack.top) k
+    shifts_to old new (acts.RegionLine product) (progress_as product) (with_top (next_line old.stack.top.region [] old.stack.top) old.stack) e refl refl refl (moved_kept moves.RegionLine old.stack tt tt) k
     (λ given. region_line_step old product given)
 
--- ---- into the block of a loop
-
-pub shifts_open_loop : (old new : Runner)
-    → new ≡ record { stack = with_top (past (after_part (open_loop old.stack.top.spot.levels)) old.stack.top) old.stack; doing = old.doing }
-    → IsIn old.stack.top.kind old.doing → is_part (next_of old.stack) ≡ true → Shifts old (moves.Loop true) More new
-unfolding moved reached_with at_part
-shifts_open_loop old new e k part =
-    shifts_to old new (moves.Loop true) More (with_top (past (after_part (open_loop old.stack.top.spot.levels)) old.stack.top) old.stack) e refl refl refl
-    (open_kept old.stack.top (after_part (open_loop old.stack.top.spot.levels)) (outside_regions old.stack part)) k (λ given. refl)
-
-pub shifts_skip_loop : (old new : Runner)
-    → new ≡ record { stack = with_top (past (after_part (skip old.stack.top.spot.levels)) old.stack.top) old.stack; doing = old.doing }
-    → IsIn old.stack.top.kind old.doing → Shifts old (moves.Loop false) More new
-unfolding moved reached_with at_part after_part skip
-shifts_skip_loop old new e k =
-    shifts_to old new (moves.Loop false) More (with_top (past (after_part (skip old.stack.top.spot.levels)) old.stack.top) old.stack) e refl refl refl
-    (same_kept old.stack.top (after_part (skip old.stack.top.spot.levels)) (λ h. h)) k (λ given. refl)
-
--- ---- turns, and back to the source around the innermost one
-
-pub shifts_turn : (old new : Runner) → new ≡ record { stack = with_top (in_turn old.stack.top) old.stack; doing = old.doing }
-    → IsIn old.stack.top.kind old.doing → IsTurningWithin old.stack.top.turning → Shifts old moves.Turn More new
-unfolding moved reached_with
-shifts_turn old new e k within =
-    let s = with_top (in_turn old.stack.top) old.stack in
-    record {
-      output = ap (λ (r : Runner). output_of r.doing) e;
-      setting = rw (e, turn_kind old.stack.top.turning old.stack.top) k;
-      step = λ given. ap (reached_with More given) (sym e);
-      body = turn_source old.stack new.stack (ap (λ (r : Runner). r.stack.top) e) (ap (λ (r : Runner). r.stack.under) e) within;
-      frames = λ h. rw e (turn_frames old.stack within h);
-    }
+-- ---- back to the source around the innermost one
 
 left_to : (under more : List Frame) (top : Frame) (state : Budgeted State) → under ≡ top ∷ more
     → stacks.left under state ≡ Some (record { top = top; under = more; state = state })
@@ -211,7 +168,7 @@ around_kept : (under more : List Frame) (top : Frame) → under ≡ top ∷ more
 around_kept under more top e h = rw e at h
 
 pub shifts_source_end : (old mid new : Runner) → mid.doing ≡ old.doing → old.stack.under ≡ mid.stack.top ∷ mid.stack.under
-    → new ≡ with_arguments_of mid.stack.top.kind mid → Shifts old moves.SourceEnd More new
+    → new ≡ with_arguments_of mid.stack.top.kind mid → Shifts old acts.SourceEnd More new
 unfolding moved reached_with
 shifts_source_end old mid new ed eu e =
     let r : Runner = record { stack = mid.stack; doing = old.doing } in
@@ -230,10 +187,10 @@ shifts_source_end old mid new ed eu e =
 
 module _ {P S : Type 0} (left : P → S → List Message → Type 0) where
   -- the stack moved on without one
-  pub quiet : (old new : Runner) (out : S) (movement : Movement) (progress : Progress) → Shifts old movement progress new
+  pub quiet : (old new : Runner) (out : S) (act : Act) (progress : Progress) → Shifts old act progress new
       → IfDone progress ⊥
-      → Moves left old out movement progress new out
-  quiet old new out movement progress h not_done = record {
+      → Moves left old out act progress new out
+  quiet old new out act progress h not_done = record {
     output = h.output;
     setting = h.setting;
     notes = [];
@@ -250,77 +207,56 @@ module _ {P S : Type 0} (left : P → S → List Message → Type 0) where
   product_done kinds.Call P = tt
   product_done kinds.Loop P = tt
 
-  pub quiet_product : (old new : Runner) (out : S) (movement : Movement) (product : ProductKind) → Shifts old movement (progress_as product) new
-      → Moves left old out movement (progress_as product) new out
-  quiet_product old new out movement product h = quiet old new out movement (progress_as product) h (product_done product _)
+  pub quiet_product : (old new : Runner) (out : S) (act : Act) (product : ProductKind) → Shifts old act (progress_as product) new
+      → Moves left old out act (progress_as product) new out
+  quiet_product old new out act product h = quiet old new out act (progress_as product) h (product_done product _)
 
-  -- a block is skipped
-  pub moves_skip : (old new : Runner) (out : S) (column : ℕ)
-      → new ≡ record { stack = with_top (past (after_part (skip old.stack.top.spot.levels)) old.stack.top) old.stack; doing = old.doing }
-      → IsIn old.stack.top.kind old.doing → Moves left old out (moves.Block None column) More new out
-  unfolding moved reached_with at_part after_part skip
-  moves_skip old new out column e k =
-      quiet old new out (moves.Block None column) More
-      (shifts_to old new (moves.Block None column) More (with_top (past (after_part (skip old.stack.top.spot.levels)) old.stack.top) old.stack) e refl refl refl
-      (same_kept old.stack.top (after_part (skip old.stack.top.spot.levels)) (λ h. h)) k (λ given. refl)) tt
+  -- into the block of a conditional
+  in_block : Runner → Option Answer → Stack
+  in_block old answer = with_top (went (moves.Part (passes.Block answer)) old.stack.top) old.stack
 
-  entered_block : (old : Runner) (way : Way) (value : Bool) → Stack
-  entered_block old way value =
-      with_top (past (after_part (enter way (bit_after (stacks.branch_in (next_of old.stack)) value old.stack.top.spot.levels.bit) old.stack.top.spot.levels)) old.stack.top) old.stack
+  block_kept : (old : Runner) (answer : Option Answer) → is_part (next_of old.stack) ≡ true → IsKept old.stack.top → IsKept (in_block old answer).top
+  unfolding in_block
+  block_kept old answer h = moved_kept (moves.Part (passes.Block answer)) old.stack h tt
 
-  entered_kept : (old : Runner) (way : Way) (value : Bool) → IsKept old.stack.top → IsKept (entered_block old way value).top
-  unfolding entered_block
-  entered_kept old way value =
-      let bit = bit_after (stacks.branch_in (next_of old.stack)) value old.stack.top.spot.levels.bit in
-      same_kept old.stack.top (after_part (enter way bit old.stack.top.spot.levels)) (enter_in way bit old.stack.top.spot.levels)
-
-  -- a block is entered, or skipped, with its value
-  entered_step : (old : Runner) (way : Way) (value : Bool) (column : ℕ) (given : List Given) (doing : BudgetedActions) (given_then : List Given)
-      → way ≡ way_of value (length old.stack.top.spot.levels.outer)
+  block_step : (old : Runner) (answer : Option Answer) (column : ℕ) (way : Way) (given : List Given) (doing : BudgetedActions) (given_then : List Given)
+      → way ≡ way_after answer old.stack.top.spot
       → refuse_if (meaning (acting_effects (output_of old.doing)) page) way (record { column = column; branch = Else }) (state_in given old.doing) ≡ state_in given_then doing
-      → moved (output_of old.doing) (moves.Block (Some value) column) old.stack given old.doing
-      ≡ reached_with More given_then (record { stack = entered_block old way value; doing = doing })
-  unfolding moved reached_with entered_block
-  entered_step old way value column given doing given_then e h =
-      ap (λ way. Some (running (entered_block old way value) (refuse_if (meaning (acting_effects (output_of old.doing)) page) way (record { column = column; branch = Else }) (state_in given old.doing)))) (sym e)
-      ∙ ap (λ state. Some (running (entered_block old way value) state)) h
+      → moved (output_of old.doing) (acts.Block answer column) old.stack given old.doing
+      ≡ reached_with More given_then (record { stack = in_block old answer; doing = doing })
+  unfolding moved reached_with in_block
+  block_step old answer column way given doing given_then e h =
+      ap (λ way. Some (running (in_block old answer) (refuse_if (meaning (acting_effects (output_of old.doing)) page) way (record { column = column; branch = Else }) (state_in given old.doing)))) (sym e)
+      ∙ ap (λ state. Some (running (in_block old answer) state)) h
 
-  enters_quietly : (old new : Runner) (out : S) (way : Way) (value : Bool) (column : ℕ)
-      → way ≡ way_of value (length old.stack.top.spot.levels.outer)
-      → new ≡ record { stack = entered_block old way value; doing = old.doing }
-      → ((state : Budgeted State) → refuse_if (meaning (acting_effects (output_of old.doing)) page) way (record { column = column; branch = Else }) state ≡ state)
-      → IsIn old.stack.top.kind old.doing → Moves left old out (moves.Block (Some value) column) More new out
-  unfolding at_part entered_block
-  enters_quietly old new out way value column ew e h k =
-      quiet old new out (moves.Block (Some value) column) More
-      (shifts_to old new (moves.Block (Some value) column) More (entered_block old way value) e refl refl refl (entered_kept old way value) k
-      (λ given. entered_step old way value column given old.doing given ew (h (state_in given old.doing)))) tt
+  not_refused : (output : Output) (way : Way) (column : ℕ) (state : Budgeted State) → (way ≡ Exceeds → ⊥)
+      → refuse_if (meaning (acting_effects output) page) way (record { column = column; branch = Else }) state ≡ state
+  unfolding refuse_if
+  not_refused output Runs column state h = refl
+  not_refused output Skips column state h = refl
+  not_refused output Exceeds column state h = absurd (h refl)
 
-  pub moves_runs : (old new : Runner) (out : S) (value : Bool) (column : ℕ)
-      → Runs ≡ way_of value (length old.stack.top.spot.levels.outer)
-      → new ≡ record { stack = with_top (past (after_part (enter Runs (bit_after (stacks.branch_in (next_of old.stack)) value old.stack.top.spot.levels.bit) old.stack.top.spot.levels)) old.stack.top) old.stack; doing = old.doing }
-      → IsIn old.stack.top.kind old.doing → Moves left old out (moves.Block (Some value) column) More new out
-  unfolding refuse_if entered_block
-  moves_runs old new out value column ew e k = enters_quietly old new out Runs value column ew e (λ state. refl) k
+  pub moves_block : (old new : Runner) (out : S) (answer : Option Answer) (column : ℕ) (way : Way)
+      → way ≡ way_after answer old.stack.top.spot → (way ≡ Exceeds → ⊥)
+      → new ≡ record { stack = with_top (went (moves.Part (passes.Block answer)) old.stack.top) old.stack; doing = old.doing }
+      → IsIn old.stack.top.kind old.doing → is_part (next_of old.stack) ≡ true → Moves left old out (acts.Block answer column) More new out
+  unfolding at_part in_block
+  moves_block old new out answer column way ew not_over e k part =
+      quiet old new out (acts.Block answer column) More
+      (shifts_to old new (acts.Block answer column) More (in_block old answer) e refl refl refl (block_kept old answer part) k
+      (λ given. block_step old answer column way given old.doing given ew (not_refused (output_of old.doing) way column (state_in given old.doing) not_over))) tt
 
-  pub moves_skips : (old new : Runner) (out : S) (value : Bool) (column : ℕ)
-      → Skips ≡ way_of value (length old.stack.top.spot.levels.outer)
-      → new ≡ record { stack = with_top (past (after_part (enter Skips (bit_after (stacks.branch_in (next_of old.stack)) value old.stack.top.spot.levels.bit) old.stack.top.spot.levels)) old.stack.top) old.stack; doing = old.doing }
-      → IsIn old.stack.top.kind old.doing → Moves left old out (moves.Block (Some value) column) More new out
-  unfolding refuse_if entered_block
-  moves_skips old new out value column ew e k = enters_quietly old new out Skips value column ew e (λ state. refl) k
-
-  pub moves_exceeds : (old : Runner) (actions : Acting) (out out_new : S) (value : Bool) (column : ℕ)
-      → Exceeds ≡ way_of value (length old.stack.top.spot.levels.outer)
+  pub moves_exceeds : (old : Runner) (actions : Acting) (out out_new : S) (answer : Option Answer) (column : ℕ)
+      → Exceeds ≡ way_after answer old.stack.top.spot
       → acting.Does left old.doing.actions out (block_outcome column old.doing.actions.memory) actions out_new
-      → IsIn old.stack.top.kind old.doing
-      → Moves left old out (moves.Block (Some value) column) More
+      → IsIn old.stack.top.kind old.doing → is_part (next_of old.stack) ≡ true
+      → Moves left old out (acts.Block answer column) More
       (record {
-        stack = with_top (past (after_part (enter Exceeds (bit_after (stacks.branch_in (next_of old.stack)) value old.stack.top.spot.levels.bit) old.stack.top.spot.levels)) old.stack.top) old.stack;
+        stack = with_top (went (moves.Part (passes.Block answer)) old.stack.top) old.stack;
         doing = record { actions = actions; budget = old.doing.budget };
       }) out_new
-  unfolding refuse_if entered_block meaning effects with_rest at_part block_outcome
-  moves_exceeds old actions out out_new value column ew d k =
+  unfolding refuse_if in_block meaning effects with_rest at_part block_outcome
+  moves_exceeds old actions out out_new answer column ew d k part =
       let b : BudgetedActions = record { actions = actions; budget = old.doing.budget } in
       let outcome = block_outcome column old.doing.actions.memory in
       record {
@@ -329,10 +265,10 @@ module _ {P S : Type 0} (left : P → S → List Message → Type 0) where
         notes = outcome.notes;
         came = d.came;
         step = λ given.
-            entered_step old Exceeds value column given b (given ++ map says outcome.notes) ew
+            block_step old answer column Exceeds given b (given ++ map says outcome.notes) ew
             (acted old.doing.budget old.doing.actions.memory b given outcome refl d.memory refl);
-        body = same_source old.stack (entered_block old Exceeds value) refl refl;
-        frames = same_frames old.stack (entered_block old Exceeds value) refl (entered_kept old Exceeds value);
+        body = same_source old.stack (in_block old answer) refl refl;
+        frames = same_frames old.stack (in_block old answer) refl (block_kept old answer part);
         not_done = tt;
       }
 
@@ -345,7 +281,7 @@ module _ {P S : Type 0} (left : P → S → List Message → Type 0) where
   left_kept old = same_kept old.stack.top (after_part (leave old.stack.top.spot.levels)) (leave_in old.stack.top.spot.levels)
 
   ends_as : (old : Runner) (ended : Ended) (given : List Given) → ended ≡ what_ends old.stack.top.spot.levels
-      → moved (output_of old.doing) moves.BlockEnd old.stack given old.doing
+      → moved (output_of old.doing) acts.BlockEnd old.stack given old.doing
       ≡ Some (end_next (language (acting_effects (output_of old.doing))) (meaning (acting_effects (output_of old.doing)) old.stack.top.kind) ended
       (left_block old).top old.stack.under (state_in given old.doing))
   unfolding moved left_block
@@ -357,17 +293,17 @@ module _ {P S : Type 0} (left : P → S → List Message → Type 0) where
   pub leaves_block : (old new : Runner) (out : S)
       → endings.Block ≡ what_ends old.stack.top.spot.levels
       → new ≡ record { stack = with_top (past (after_part (leave old.stack.top.spot.levels)) old.stack.top) old.stack; doing = old.doing }
-      → IsIn old.stack.top.kind old.doing → Moves left old out moves.BlockEnd More new out
+      → IsIn old.stack.top.kind old.doing → Moves left old out acts.BlockEnd More new out
   unfolding reached_with at_part end_next left_block
   leaves_block old new out ended e k =
-      quiet old new out moves.BlockEnd More
-      (shifts_to old new moves.BlockEnd More (left_block old) e refl refl refl (left_kept old) k (λ given. ends_as old endings.Block given ended)) tt
+      quiet old new out acts.BlockEnd More
+      (shifts_to old new acts.BlockEnd More (left_block old) e refl refl refl (left_kept old) k (λ given. ends_as old endings.Block given ended)) tt
 
   pub leaves_none : (old : Runner) (doing : BudgetedActions) (out out_new : S) (is_page_now : Bool)
       → endings.Nothing ≡ what_ends old.stack.top.spot.levels → is_page_now ≡ is_page old.stack.top.kind
       → Makes left old.doing out (IsAt is_page_now old.doing) (unopened_in old.doing) doing state_after out_new
       → IsIn old.stack.top.kind old.doing
-      → Moves left old out moves.BlockEnd More
+      → Moves left old out acts.BlockEnd More
       (record { stack = with_top (past (after_part (leave old.stack.top.spot.levels)) old.stack.top) old.stack; doing = doing }) out_new
   unfolding reached_with at_part end_next left_block
   leaves_none old doing out out_new is_page_now ended ep a k = record {
@@ -393,7 +329,7 @@ module _ {P S : Type 0} (left : P → S → List Message → Type 0) where
   pub leaves_loop : (old mid new : Runner) (out out_new : S)
       → endings.Loop ≡ what_ends old.stack.top.spot.levels
       → mid ≡ record { stack = with_top (past (after_part (leave old.stack.top.spot.levels)) old.stack.top) old.stack; doing = old.doing }
-      → Closes left mid out new out_new → Moves left old out moves.BlockEnd More new out_new
+      → Closes left mid out new out_new → Moves left old out acts.BlockEnd More new out_new
   unfolding at_part end_next left_block
   leaves_loop old mid new out out_new ended e c =
       let h : Closes left (record { stack = left_block old; doing = old.doing }) out new out_new = rw e at c in

@@ -17,8 +17,8 @@ use Rattle.page_roff_stack.specs.Changes.{past}
 use Rattle.page_roff_stack.specs.Stacks.{with_top, first_text}
 use Rattle.page_roff_stack.specs.Views.{unpacked}
 use Rattle.page_roff_machine.specs.declared.budgeted_actions.BudgetedActions.{BudgetedActions}
-use Rattle.page_roff_machine.specs.declared.movements.Movement.TheVariants as moves
-use Rattle.page_roff_machine.specs.declared.movements.Progress.TheVariants.{More}
+use Rattle.page_roff_machine.specs.declared.acts.Act.TheVariants as acts
+use Rattle.page_roff_machine.specs.declared.acts.Progress.TheVariants.{More}
 use Rattle.page_roff_machine.specs.declared.runners.Runner.{Runner}
 use Rattle.page_roff_machine.specs.Doing.{output_of, state_in, done_as, IsIn, Makes, closed_in}
 use Rattle.page_roff_machine.specs.Moving.{moved, reached_with, Repeats, AreKept, frames_of, IsBodyWithin, Shifts, Closes}
@@ -97,7 +97,7 @@ module _ (mid new : Runner) (r : Repeats mid new) where
 
 pub shifts_loop : (old mid new : Runner) → mid ≡ record { stack = with_top (past (after_part old.stack.top.spot.levels) old.stack.top) old.stack; doing = old.doing }
     → Repeats mid new → IsRepeatable (is_some (depth old.stack.under)) old.doing.actions.call.body → IsIn old.stack.top.kind old.doing
-    → Shifts old (moves.Leaf kinds.Loop) More new
+    → Shifts old (acts.Leaf kinds.Loop) More new
 unfolding moved at_part after_part
 shifts_loop old mid new e rep c k =
     let s = with_top (past (after_part old.stack.top.spot.levels) old.stack.top) old.stack in

@@ -15,7 +15,7 @@ use Rattle.page_roff_effects.specs.declared.commands.ProductKind.TheVariants as 
 use Rattle.page_roff_effects.specs.RegionLines.{finish_outcome}
 use Rattle.page_roff_stack.specs.Changes.{past}
 use Rattle.page_roff_machine.specs.declared.budgeted_actions.BudgetedActions.{BudgetedActions}
-use Rattle.page_roff_machine.specs.declared.movements.Movement.TheVariants as moves
+use Rattle.page_roff_machine.specs.declared.acts.Act.TheVariants as acts
 use Rattle.page_roff_machine.proofs.GoLemmas.{quiet_product, shifts_call}
 use Rattle.page_roff_language.specs.Measures.{measure, HasMeasure, HasBodyWithin, IsFirst, credit}
 use Rattle.page_roff_language.specs.Budgets.{Budgeted, language, with_rest}
@@ -26,9 +26,9 @@ use Rattle.page_roff_effects.specs.Effects.{effects, in_front}
 use Rattle.page_roff_effects.specs.States.{State, Given, says, takes}
 use Rattle.page_roff_stack.specs.declared.next.Next.TheVariants.{Nothing}
 use Rattle.page_roff_stack.specs.Stacks.{Stack, running, with_top, call_of, next_of, is_nothing, step_in}
-use Rattle.page_roff_machine.specs.declared.movements.Movement.{Movement}
-use Rattle.page_roff_machine.specs.declared.movements.Progress.{Progress}
-use Rattle.page_roff_machine.specs.declared.movements.Progress.TheVariants.{More, Line, Done}
+use Rattle.page_roff_machine.specs.declared.acts.Act.{Act}
+use Rattle.page_roff_machine.specs.declared.acts.Progress.{Progress}
+use Rattle.page_roff_machine.specs.declared.acts.Progress.TheVariants.{More, Line, Done}
 use Rattle.page_roff_machine.specs.declared.runners.Runner.{Runner}
 use Rattle.page_roff_machine.specs.Doing.{IsIn, output_of, state_in}
 use Rattle.page_roff_machine.specs.Giving.{notes_before, next_line, after_line}
@@ -90,18 +90,18 @@ without_bytes (b ∷ bs) e =
 module _ {P S : Type 0} (left : P → S → List Message → Type 0) where
   -- ---- what comes next is done, and the stack moves on
 
-  pub steps : (old mid new : Runner) (out out_mid out_new : S) (movement : Movement) (progress : Progress)
-      → Decides left old out movement mid out_mid → Moves left mid out_mid movement progress new out_new
+  pub steps : (old mid new : Runner) (out out_mid out_new : S) (act : Act) (progress : Progress)
+      → Decides left old out act mid out_mid → Moves left mid out_mid act progress new out_new
       → Steps left old out progress new out_new
-  steps old mid new out out_mid out_new movement progress a b = record {
+  steps old mid new out out_mid out_new act progress a b = record {
     output = b.output ∙ ap (λ setting. setting.output) a.setting;
     setting = b.setting;
     notes = a.notes ++ b.notes;
     came = came_both left out out_mid out_new a.notes b.notes a.came b.came;
     step =
         a.step
-        ∙ ap (λ (output : Output). moved output movement old.stack (map says a.notes) mid.doing) (sym (ap (λ setting. setting.output) a.setting))
-        ∙ ap (λ (s : Stack). moved (output_of mid.doing) movement s (map says a.notes) mid.doing) (sym a.stack)
+        ∙ ap (λ (output : Output). moved output act old.stack (map says a.notes) mid.doing) (sym (ap (λ setting. setting.output) a.setting))
+        ∙ ap (λ (s : Stack). moved (output_of mid.doing) act s (map says a.notes) mid.doing) (sym a.stack)
         ∙ b.step (map says a.notes)
         ∙ ap (λ (given : List Given). reached_with progress given new) (said [] a.notes b.notes);
     body = rw a.stack at b.body;
@@ -123,9 +123,9 @@ module _ {P S : Type 0} (left : P → S → List Message → Type 0) where
     done = (refl, refl, e);
   }
 
-  pub decided : (old mid : Runner) (out out_mid : S) (movement : Movement) → IsIn old.stack.top.kind old.doing → Decides left old out movement mid out_mid
-      → IsIn mid.stack.top.kind mid.doing × Suits movement mid.stack mid.doing
-  decided old mid out out_mid movement k a = (rw (a.stack, a.setting) k, rw a.stack a.suits)
+  pub decided : (old mid : Runner) (out out_mid : S) (act : Act) → IsIn old.stack.top.kind old.doing → Decides left old out act mid out_mid
+      → IsIn mid.stack.top.kind mid.doing × Suits act mid.stack mid.doing
+  decided old mid out out_mid act k a = (rw (a.stack, a.setting) k, rw a.stack a.suits)
 
   -- ---- what is to come
 
@@ -249,30 +249,30 @@ module _ {P S : Type 0} (left : P → S → List Message → Type 0) where
         done = tt;
       }
 
-  pub calls_macro : (old mid passed new : Runner) (out out_mid : S) (movement : Movement) → IsIn old.stack.top.kind old.doing
-      → Decides left old out movement mid out_mid → movement ≡ moves.Leaf kinds.Call
+  pub calls_macro : (old mid passed new : Runner) (out out_mid : S) (act : Act) → IsIn old.stack.top.kind old.doing
+      → Decides left old out act mid out_mid → act ≡ acts.Leaf kinds.Call
       → passed ≡ record { stack = with_top (past (after_part mid.stack.top.spot.levels) mid.stack.top) mid.stack; doing = mid.doing }
       → new ≡ called passed → Steps left old out More new out_mid
-  calls_macro old mid passed new out out_mid movement k a em e en =
-      let d = decided old mid out out_mid movement k a in
+  calls_macro old mid passed new out out_mid act k a em e en =
+      let d = decided old mid out out_mid act k a in
       let suits : CanBegin kinds.Call mid.stack mid.doing = rw em at d.1 in
-      steps old mid new out out_mid out_mid movement More a (rw em (quiet_product left mid new out_mid (moves.Leaf kinds.Call) kinds.Call (shifts_call mid passed new e en suits)))
+      steps old mid new out out_mid out_mid act More a (rw em (quiet_product left mid new out_mid (acts.Leaf kinds.Call) kinds.Call (shifts_call mid passed new e en suits)))
 
-  pub calls_nothing : (old mid new : Runner) (out out_mid : S) (movement : Movement) → IsIn old.stack.top.kind old.doing
-      → Decides left old out movement mid out_mid → movement ≡ moves.Leaf kinds.Call → mid.doing.actions.call.body ≡ []
+  pub calls_nothing : (old mid new : Runner) (out out_mid : S) (act : Act) → IsIn old.stack.top.kind old.doing
+      → Decides left old out act mid out_mid → act ≡ acts.Leaf kinds.Call → mid.doing.actions.call.body ≡ []
       → new ≡ record { stack = with_top (past (after_part mid.stack.top.spot.levels) mid.stack.top) mid.stack; doing = mid.doing }
       → StepsTwice left old out More new out_mid
   unfolding at_part after_part
-  calls_nothing old mid new out out_mid movement k a em eb e =
+  calls_nothing old mid new out out_mid act k a em eb e =
       let inside = called new in
-      let d = decided old mid out out_mid movement k a in
+      let d = decided old mid out out_mid act k a in
       let is : IsIn new.stack.top.kind new.doing = rw e d.0 in
       let doing : new.doing ≡ mid.doing = ap (λ (r : Runner). r.doing) e in
       let empty : new.doing.actions.call.body ≡ [] = ap (λ (b : BudgetedActions). b.actions.call.body) doing ∙ eb in
       record {
         more = refl;
         inside = inside;
-        call = calls_macro old mid new inside out out_mid movement k a em e refl;
+        call = calls_macro old mid new inside out out_mid act k a em e refl;
         end = ends_at_once new inside new.doing.actions.call.packed out_mid is (rw empty refl);
       }
 

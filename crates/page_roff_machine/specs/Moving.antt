@@ -2,11 +2,14 @@
 use Rattle.std.specs.Prelude.{◌≡◌, ℕ, ◌≤◌, suc, Bool, true, false, List, [], ◌∷◌, ◌++◌, length, map, Option, Some, None, IfSome}
 use Rattle.page_core_base.specs.Messages.{Message}
 use Rattle.page_core_base.specs.declared.page_settings.Output.{Output}
-use Rattle.page_roff_blocks.specs.declared.atoms.Branch.{Branch}
 use Rattle.page_roff_blocks.specs.declared.atoms.Branch.TheVariants.{Else}
+use Rattle.page_roff_blocks.specs.declared.levels.Answer.{Answer}
+use Rattle.page_roff_blocks.specs.declared.levels.Way.{Way}
+use Rattle.page_roff_blocks.specs.declared.levels.Way.TheVariants.{Skips}
+use Rattle.page_roff_blocks.specs.declared.spots.Pass.TheVariants as passes
 use Rattle.page_roff_blocks.specs.declared.spots.Reached.{Reached}
 use Rattle.page_roff_blocks.specs.declared.spots.Reached.TheVariants.{PassedOver, First, Remainder}
-use Rattle.page_roff_blocks.specs.Levels.{Spot, after_part, guarded_by, bit_after, way_of, enter, open_loop, skip, leave, what_ends}
+use Rattle.page_roff_blocks.specs.Levels.{Spot, way_of, what_ends}
 use Rattle.page_roff_regions.specs.OpenRegions.{Opened}
 use Rattle.page_roff_blocks.specs.Run.{refuse_if}
 use Rattle.page_roff_blocks.specs.Steps.{collect_if}
@@ -22,63 +25,45 @@ use Rattle.page_roff_effects.specs.Acting.{with_arguments, IsCallable, IsRepeata
 use Rattle.page_roff_effects.specs.States.{State, Given, says, takes}
 use Rattle.page_roff_stack.specs.declared.next.Next.{Next}
 use Rattle.page_roff_stack.specs.declared.next.Next.TheVariants as things
-use Rattle.page_roff_stack.specs.Changes.{past, in_region, next_line, in_turn}
+use Rattle.page_roff_stack.specs.declared.movements.Movement.{Movement}
+use Rattle.page_roff_stack.specs.declared.movements.Movement.TheVariants as moves
+use Rattle.page_roff_stack.specs.Changes.{went}
 use Rattle.page_roff_stack.specs.Stacks as stacks
-use Rattle.page_roff_stack.specs.Stacks.{Stack, running, with_top, call_of, loop_of, next_of, is_part, opens_block, is_turn, may_end, branch_in, region_in}
+use Rattle.page_roff_stack.specs.Stacks.{Stack, running, with_top, call_of, loop_of, next_of, is_part, opens_block, may_end}
 use Rattle.page_roff_stack.specs.Views.{unpacked}
 use Rattle.page_roff_machine.specs.declared.budgeted_actions.BudgetedActions.{BudgetedActions}
-use Rattle.page_roff_machine.specs.declared.movements.Movement.{Movement}
-use Rattle.page_roff_machine.specs.declared.movements.Movement.TheVariants as moves
-use Rattle.page_roff_machine.specs.declared.movements.Progress.{Progress}
-use Rattle.page_roff_machine.specs.declared.movements.Progress.TheVariants.{More, Line, Done}
+use Rattle.page_roff_machine.specs.declared.acts.Act.{Act}
+use Rattle.page_roff_machine.specs.declared.acts.Act.TheVariants as acts
+use Rattle.page_roff_machine.specs.declared.acts.Progress.{Progress}
+use Rattle.page_roff_machine.specs.declared.acts.Progress.TheVariants.{More, Line, Done}
 use Rattle.page_roff_machine.specs.declared.runners.Runner.{Runner}
 use Rattle.page_roff_machine.specs.Doing.{Makes, IsIn, output_of, state_in, state_after, parts_of, line_of, done_as}
 
--- after a head without a block: passed over, or run with a value
-abbrev pub guard_spot : Branch (List ℕ) → Option Bool → Spot → Spot
-guard_spot branch None spot = record spot { begun = true }
-guard_spot branch (Some value) spot = guarded_by branch value spot.levels
-
--- in the block of a conditional: passed over, or entered with a value of its head
-abbrev pub block_spot : Branch (List ℕ) → Option Bool → Spot → Spot
-block_spot branch None spot = after_part (skip spot.levels)
-block_spot branch (Some value) spot =
-    after_part (enter (way_of value (length spot.levels.outer)) (bit_after branch value spot.levels.bit) spot.levels)
+-- how a block is entered whose head leaves this, if it was run
+abbrev pub way_after : Option Answer → Spot → Way
+way_after None spot = Skips
+way_after (Some a) spot = way_of a.value (length spot.levels.outer)
 
 -- a true block beyond the limit of open ones
-abbrev pub refused : Output → Option Bool → ℕ → Spot → Budgeted State → Budgeted State
-refused output None column spot s = s
-refused output (Some value) column spot s =
-    refuse_if (meaning (acting_effects output) page) (way_of value (length spot.levels.outer)) (record { column = column; branch = Else }) s
-
--- in the block of a loop: collected, or passed over
-abbrev pub loop_spot : Bool → Spot → Spot
-loop_spot true spot = after_part (open_loop spot.levels)
-loop_spot false spot = after_part (skip spot.levels)
+abbrev pub refused : Output → Option Answer → ℕ → Spot → Budgeted State → Budgeted State
+refused output answer column spot s =
+    refuse_if (meaning (acting_effects output) page) (way_after answer spot) (record { column = column; branch = Else }) s
 
 -- the stack moves on, and what was done is the state
-unfoldable pub moved : Output → Movement → Stack → List Given → BudgetedActions
+unfoldable pub moved : Output → Act → Stack → List Given → BudgetedActions
     → Option (Running (Budgeted State))
-moved output (moves.Leaf product) s given b =
-    Some (leaf_next (language (acting_effects output)) (is_some (depth s.under)) (past (after_part s.top.spot.levels) s.top) s.under (done_as product b given))
-moved output (moves.Guard value) s given b =
-    Some (running (with_top (past (guard_spot (branch_in (next_of s)) value s.top.spot) s.top) s) (state_in given b))
-moved output (moves.Block value column) s given b =
-    Some (running (with_top (past (block_spot (branch_in (next_of s)) value s.top.spot) s.top) s)
-    (refused output value column s.top.spot (state_in given b)))
-moved output (moves.Loop is_run) s given b =
-    Some (running (with_top (past (loop_spot is_run s.top.spot) s.top) s) (state_in given b))
-moved output moves.BlockEnd s given b =
+moved output (acts.Move movement) s given b = Some (running (with_top (went movement s.top) s) (state_in given b))
+moved output (acts.Leaf product) s given b =
+    Some (leaf_next (language (acting_effects output)) (is_some (depth s.under)) (went (moves.Part passes.Leaf) s.top) s.under (done_as product b given))
+moved output (acts.Block answer column) s given b =
+    Some (running (with_top (went (moves.Part (passes.Block answer)) s.top) s)
+    (refused output answer column s.top.spot (state_in given b)))
+moved output acts.BlockEnd s given b =
     Some (end_next (language (acting_effects output)) (meaning (acting_effects output) s.top.kind) (what_ends s.top.spot.levels)
-    (past (after_part (leave s.top.spot.levels)) s.top) s.under (state_in given b))
-moved output (moves.Region is_run) s given b =
-    Some (running (with_top (in_region (region_in is_run (next_of s)) s.top) s) (state_in given b))
-moved output (moves.RegionLine product) s given b =
-    Some (running (with_top (next_line s.top.region [] s.top) s) (state_in (given ++ line_of product b.actions) b))
-moved output moves.RegionEnd s given b =
-    Some (running (with_top (next_line None [] s.top) s) (state_in given b))
-moved output moves.Turn s given b = Some (running (with_top (in_turn s.top) s) (state_in given b))
-moved output moves.SourceEnd s given b = stacks.left s.under (state_in given b)
+    (went (moves.Part passes.End) s.top) s.under (state_in given b))
+moved output (acts.RegionLine product) s given b =
+    Some (running (with_top (went moves.RegionLine s.top) s) (state_in (given ++ line_of product b.actions) b))
+moved output acts.SourceEnd s given b = stacks.left s.under (state_in given b)
 
 -- what came of a part, as a step
 abbrev pub progress_as : ProductKind → Progress
@@ -173,23 +158,27 @@ pub record Collects {P S : Type 0} (left : P → S → List Message → Type 0) 
       (λ kind s. let l = old.stack.top.spot.levels in collect_if (parts_of old.doing kind) l.in_loop l.skipped (line_in (next_of old.stack)) s)
       new.doing state_after out_new
 
--- it is the movement for what comes next
-abbrev pub Suits : Movement → Stack → BudgetedActions → Type 0
-Suits (moves.Leaf product) s b = CanBegin product s b
-Suits (moves.Guard value) s b = is_part (next_of s) ≡ true
-Suits (moves.Block value column) s b = is_part (next_of s) ≡ true
-Suits (moves.Loop is_run) s b = is_part (next_of s) ≡ true
-Suits moves.BlockEnd s b = Unit {0}
-Suits (moves.Region is_run) s b =
-    (is_part (next_of s) ≡ true) × (s.top.spot.levels.in_loop ≡ true → is_run ≡ false)
-Suits (moves.RegionLine product) s b = Unit {0}
-Suits moves.RegionEnd s b = Unit {0}
-Suits moves.Turn s b = (is_turn (next_of s) ≡ true) × IsTurningWithin s.top.turning
-Suits moves.SourceEnd s b = may_end (next_of s) ≡ true
+-- what is so of each source that runs stays so
+abbrev pub Keeps : Movement → Frame → Type 0
+Keeps (moves.Part pass) f = Unit {0}
+Keeps (moves.Region is_run) f = f.spot.levels.in_loop ≡ true → is_run ≡ false
+Keeps moves.Line f = Unit {0}
+Keeps moves.RegionLine f = Unit {0}
+Keeps moves.RegionEnd f = Unit {0}
+Keeps moves.Turn f = IsTurningWithin f.turning
 
--- What comes next was done, without changing the stack: with this movement the step of the definition is made.
+-- it is an act for what comes next
+abbrev pub Suits : Act → Stack → BudgetedActions → Type 0
+Suits (acts.Move movement) s b = stacks.Suits movement (next_of s) × Keeps movement s.top
+Suits (acts.Leaf product) s b = CanBegin product s b
+Suits (acts.Block answer column) s b = is_part (next_of s) ≡ true
+Suits acts.BlockEnd s b = Unit {0}
+Suits (acts.RegionLine product) s b = Unit {0}
+Suits acts.SourceEnd s b = may_end (next_of s) ≡ true
+
+-- What comes next was done, without changing the stack: with this act the step of the definition is made.
 pub record Decides {P S : Type 0} (left : P → S → List Message → Type 0) (old : Runner) (out : S)
-    (result : Movement) (new : Runner) (out_new : S) : Type 0 where
+    (result : Act) (new : Runner) (out_new : S) : Type 0 where
   pub stack : new.stack ≡ old.stack
   pub setting : new.doing.actions.setting ≡ old.doing.actions.setting
   pub notes : List Message
@@ -220,10 +209,10 @@ IfDone Line P = Unit {0}
 IfDone Done P = P
 
 -- the stack moved on without a message
-pub record Shifts (old : Runner) (movement : Movement) (result : Progress) (new : Runner) : Type 0 where
+pub record Shifts (old : Runner) (act : Act) (result : Progress) (new : Runner) : Type 0 where
   pub output : output_of new.doing ≡ output_of old.doing
   pub setting : IsIn new.stack.top.kind new.doing
-  pub step : (given : List Given) → moved (output_of old.doing) movement old.stack given old.doing
+  pub step : (given : List Given) → moved (output_of old.doing) act old.stack given old.doing
       ≡ reached_with result given new
   pub body : IsBodyWithin old.stack new.stack
   pub frames : AreKept (frames_of old.stack) → AreKept (frames_of new.stack)
@@ -242,9 +231,9 @@ pub record Goes {P S : Type 0} (left : P → S → List Message → Type 0) (old
   pub not_done : IfDone result ⊥
 
 -- the stack moved on
-abbrev pub Moves : {P S : Type 0} → (P → S → List Message → Type 0) → Runner → S → Movement → Progress → Runner → S → Type 0
-Moves left old out movement result new out_new =
-    Goes left old out (λ given. moved (output_of old.doing) movement old.stack given old.doing) result new out_new
+abbrev pub Moves : {P S : Type 0} → (P → S → List Message → Type 0) → Runner → S → Act → Progress → Runner → S → Type 0
+Moves left old out act result new out_new =
+    Goes left old out (λ given. moved (output_of old.doing) act old.stack given old.doing) result new out_new
 
 -- a loop that is collected was whole
 abbrev pub Closes : {P S : Type 0} → (P → S → List Message → Type 0) → Runner → S → Runner → S → Type 0

@@ -8,8 +8,8 @@ use Rattle.page_roff_language.specs.Budgets.{language}
 use Rattle.page_roff_effects.specs.Acting.{acting_effects}
 use Rattle.page_roff_effects.specs.States.{says}
 use Rattle.page_roff_stack.specs.Stacks.{running, next_of, is_nothing}
-use Rattle.page_roff_machine.specs.declared.movements.Progress.{Progress}
-use Rattle.page_roff_machine.specs.declared.movements.Progress.TheVariants.{More}
+use Rattle.page_roff_machine.specs.declared.acts.Progress.{Progress}
+use Rattle.page_roff_machine.specs.declared.acts.Progress.TheVariants.{More}
 use Rattle.page_roff_machine.specs.declared.runners.Runner.{Runner}
 use Rattle.page_roff_machine.specs.Giving.{notes_before, next_line, after_line}
 use Rattle.page_roff_machine.specs.Machines.{Machine, to_come, end_of}

@@ -9,10 +9,10 @@
 //! gives the messages before the next line for the macros and lends that line. It ends, whatever a page defines.
 #![tactic(auto)]
 
+mod acts;
 mod budgeted_actions;
 mod laws;
 mod machines;
-mod movements;
 mod runners;
 
 pub use laws::idle_law;

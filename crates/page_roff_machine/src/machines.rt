@@ -153,7 +153,7 @@ impl Machine {
         ensures memory { self.new.actions.memory ≡ end_memory self.old }
     {
         let region = self.runner.stack.region();
-        let in_loop = self.runner.stack.in_loop();
+        let in_loop = self.runner.stack.levels().in_loop();
         self.runner
             .doing
             .actions

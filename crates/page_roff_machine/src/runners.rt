@@ -9,18 +9,18 @@ ghost use Rattle.page_roff_stack.specs.Stacks.{next_of, part_in, is_part, is_lin
 ghost use Rattle.page_roff_machine.specs.Doing.{IsIn};
 ghost use Rattle.page_roff_machine.specs.Machines.{Advances};
 ghost use Rattle.page_roff_machine.specs.Moving.{Collects, Decides, Moves, Closes, Shifts, Repeats, Suits, CanBegin};
-ghost use Rattle.page_roff_machine.specs.Moving.{called, passes_block, progress_as, with_arguments_of};
+ghost use Rattle.page_roff_machine.specs.Moving.{called, passes_block, progress_as, way_after, with_arguments_of};
 ghost use Rattle.page_roff_machine.specs.AtOnce.{IsOutside, TakesAtOnceIf};
 ghost use Rattle.page_roff_machine.specs.Stepping.{IsSound, IsMeasured, Steps, StepsOn, machine_of};
 
+use crate::acts::{Act, Progress};
 use crate::budgeted_actions::BudgetedActions;
-use crate::movements::{Movement, Progress};
 use arrayvec::ArrayVec;
 use page_core_base::NoteOut;
 use page_core_limits::ARGS;
-use page_roff_blocks::{Atom, Ended, Opening, Reached, Way};
+use page_roff_blocks::{Answer, Atom, Ended, Opening, Pass, Reached, Way};
 use page_roff_effects::ProductKind;
-use page_roff_stack::{InputStack, Next};
+use page_roff_stack::{InputStack, Movement, Next};
 
 /// The sources that run, and what their parts do.
 #[derive(Drop)]
@@ -55,10 +55,11 @@ impl Runner {
         requires { is_line (next_of self.old.stack) ≡ true }
         ensures { Collects O.left self.old out.old self.new out.new }
     {
-        if !self.stack.in_loop() {
+        let levels = self.stack.levels();
+        if !levels.in_loop() {
             return;
         }
-        let open_blocks = self.stack.skipped();
+        let open_blocks = levels.skipped();
         let Next::Line(line) = self.stack.peek() else {
             unreachable!()
         };
@@ -74,7 +75,7 @@ impl Runner {
         let is_page = self.stack.is_page();
         self.doing.begin_line(is_page, out);
         self.collect_line(out);
-        self.stack.begin_line();
+        self.stack.go(Movement::Line);
     }
 
     // Whether a block comes that is passed over. What of its line belongs to a loop is not looked for.
@@ -87,8 +88,8 @@ impl Runner {
         }
     }
 
-    // Does what comes next after the beginning of a line, without changing the stack: it answers how the stack then moves.
-    fn act<O: NoteOut>(&mut self, out: &mut O) -> Movement
+    // Does what comes next after the beginning of a line, without changing the stack: it answers how the stack then acts.
+    fn act<O: NoteOut>(&mut self, out: &mut O) -> Act
         requires sound { IsSound self.old }
         requires begun { is_line (next_of self.old.stack) ≡ false }
         requires left { is_nothing (next_of self.old.stack) ≡ false }
@@ -96,50 +97,53 @@ impl Runner {
     {
         let reached = self.stack.reached();
         if self.passes_block(reached) {
-            return Movement::Block(None, 0);
+            return Act::Move(Movement::Part(Pass::Block(None)));
         }
         let may_run = self.stack.may_call();
         match self.stack.whole_line() {
-            Some(text) => Movement::Leaf(self.doing.leaf(reached, may_run, text, out)),
+            Some(text) => Act::Leaf(self.doing.leaf(reached, may_run, text, out)),
             None => self.act_on_part(reached, out),
         }
     }
 
     // The same where it is not all of a line, and no block that is passed over.
-    fn act_on_part<O: NoteOut>(&mut self, reached: Reached, out: &mut O) -> Movement
+    fn act_on_part<O: NoteOut>(&mut self, reached: Reached, out: &mut O) -> Act
         requires sound { IsSound self.old }
         requires begun { is_line (next_of self.old.stack) ≡ false }
         requires left { is_nothing (next_of self.old.stack) ≡ false }
         requires reached { reached ≡ levels.reached self.old.stack.top.spot }
         ensures { Decides O.left self.old out.old result self.new out.new }
     {
-        let bit = self.stack.bit();
+        let bit = self.stack.levels().bit();
         let may_run = self.stack.may_call();
         match self.stack.read_part() {
             None => self.act_between_lines(out),
-            Some(Atom::Leaf(text)) => Movement::Leaf(self.doing.leaf(reached, may_run, text, out)),
+            Some(Atom::Leaf(text)) => Act::Leaf(self.doing.leaf(reached, may_run, text, out)),
             Some(Atom::Guard(head)) => {
-                Movement::Guard(self.doing.answer(reached, &head.branch, bit, out))
+                let value = self.doing.answer(reached, &head.branch, bit, out);
+                let answer = head.branch.answered(bit, value);
+                Act::Move(Movement::Part(Pass::Guard(answer)))
             }
             Some(Atom::Block(Opening::Conditional(head))) => {
                 let value = self.doing.answer(reached, &head.branch, bit, out);
-                Movement::Block(value, head.column)
+                Act::Block(head.branch.answered(bit, value), head.column)
             }
             Some(Atom::Block(Opening::Loop(head))) => {
-                Movement::Loop(self.doing.open_loop(reached, &head, out))
+                let is_run = self.doing.open_loop(reached, &head, out);
+                Act::Move(Movement::Part(Pass::Loop(is_run)))
             }
             Some(Atom::Loop(head)) => {
-                Movement::Leaf(self.doing.pass_loop(reached, may_run, &head, out))
+                Act::Leaf(self.doing.pass_loop(reached, may_run, &head, out))
             }
-            Some(Atom::End) => Movement::BlockEnd,
+            Some(Atom::End) => Act::BlockEnd,
             Some(Atom::Region(head)) => {
-                Movement::Region(self.doing.open_region(reached, &head, out))
+                Act::Move(Movement::Region(self.doing.open_region(reached, &head, out)))
             }
         }
     }
 
     // The same where it is no part of a line.
-    fn act_between_lines<O: NoteOut>(&mut self, out: &mut O) -> Movement
+    fn act_between_lines<O: NoteOut>(&mut self, out: &mut O) -> Act
         requires sound { IsSound self.old }
         requires begun { is_line (next_of self.old.stack) ≡ false }
         requires left { is_nothing (next_of self.old.stack) ≡ false }
@@ -147,7 +151,7 @@ impl Runner {
         ensures { Decides O.left self.old out.old result self.new out.new }
     {
         let is_page = self.stack.is_page();
-        let in_loop = self.stack.in_loop();
+        let in_loop = self.stack.levels().in_loop();
         match self.stack.peek() {
             Next::Part(_) | Next::Line(_) | Next::Nothing => unreachable!(),
             Next::RegionLine {
@@ -156,13 +160,13 @@ impl Runner {
                 is_end: true,
             } => {
                 self.doing.end_region(is_page, in_loop, region, line, out);
-                Movement::RegionEnd
+                Act::Move(Movement::RegionEnd)
             }
             Next::RegionLine {
                 region,
                 line,
                 is_end: false,
-            } => Movement::RegionLine(self.doing.read_line(is_page, in_loop, region, line, out)),
+            } => Act::RegionLine(self.doing.read_line(is_page, in_loop, region, line, out)),
             Next::Turn {
                 region,
                 has_begun,
@@ -170,14 +174,14 @@ impl Runner {
             } => {
                 self.doing.finish(has_begun, region, in_loop, out);
                 if self.doing.turn(condition, out) {
-                    Movement::Turn
+                    Act::Move(Movement::Turn)
                 } else {
-                    Movement::SourceEnd
+                    Act::SourceEnd
                 }
             }
             Next::SourceEnd { region, has_begun } => {
                 self.doing.finish(has_begun, region, in_loop, out);
-                Movement::SourceEnd
+                Act::SourceEnd
             }
         }
     }
@@ -224,9 +228,9 @@ impl Runner {
     fn pass_leaf(&mut self, product: ProductKind)
         requires setting { IsIn self.old.stack.top.kind self.old.doing }
         requires suits { CanBegin product self.old.stack self.old.doing }
-        ensures { Shifts self.old (Movement.Leaf product) (progress_as product) self.new }
+        ensures { Shifts self.old (Act.Leaf product) (progress_as product) self.new }
     {
-        self.stack.pass();
+        self.stack.go(Movement::Part(Pass::Leaf));
         match product {
             ProductKind::Call => self.call(),
             ProductKind::Loop => self.repeat(),
@@ -235,46 +239,28 @@ impl Runner {
         }
     }
 
-    // Goes past a head without a block.
-    fn pass_guard(&mut self, value: Option<bool>)
-        requires setting { IsIn self.old.stack.top.kind self.old.doing }
-        requires suits { is_part (next_of self.old.stack) ≡ true }
-        ensures { Shifts self.old (Movement.Guard value) Progress.More self.new }
+    // How a block is entered whose head leaves this, if it was run.
+    fn way(&self, answer: Option<Answer>) -> Way
+        ensures { result ≡ way_after answer self.now.stack.top.spot }
     {
-        match value {
-            Some(value) => self.stack.guard(value),
-            None => self.stack.pass_guard(),
+        match answer {
+            Some(answer) => self.stack.levels().way(answer.value),
+            None => Way::Skips,
         }
     }
 
     // Goes into the block of a conditional.
-    fn pass_block<O: NoteOut>(&mut self, value: Option<bool>, column: u32, out: &mut O)
+    fn enter_block<O: NoteOut>(&mut self, answer: Option<Answer>, column: u32, out: &mut O)
         requires setting { IsIn self.old.stack.top.kind self.old.doing }
         requires suits { is_part (next_of self.old.stack) ≡ true }
-        ensures { Moves O.left self.old out.old (Movement.Block value column) Progress.More self.new out.new }
+        ensures { Moves O.left self.old out.old (Act.Block answer column) Progress.More self.new out.new }
     {
-        match value {
-            Some(value) => {
-                match self.stack.enter_block(value) {
-                    Way::Exceeds => self.doing.actions.refuse(column, out),
-                    Way::Runs => {}
-                    Way::Skips => {}
-                }
-            }
-            None => self.stack.skip_block(),
-        }
-    }
-
-    // Goes into the block of a loop.
-    fn enter_loop(&mut self, is_run: bool)
-        requires setting { IsIn self.old.stack.top.kind self.old.doing }
-        requires suits { is_part (next_of self.old.stack) ≡ true }
-        ensures { Shifts self.old (Movement.Loop is_run) Progress.More self.new }
-    {
-        if is_run {
-            self.stack.open_loop();
-        } else {
-            self.stack.skip_block();
+        let way = self.way(answer);
+        self.stack.go(Movement::Part(Pass::Block(answer)));
+        match way {
+            Way::Exceeds => self.doing.actions.refuse(column, out),
+            Way::Runs => {}
+            Way::Skips => {}
         }
     }
 
@@ -294,10 +280,12 @@ impl Runner {
     // Goes out of a block or of a loop. What a body that runs leaves open is given up with it, without a message.
     fn leave_block<O: NoteOut>(&mut self, out: &mut O)
         requires { IsIn self.old.stack.top.kind self.old.doing }
-        ensures { Moves O.left self.old out.old Movement.BlockEnd Progress.More self.new out.new }
+        ensures { Moves O.left self.old out.old Act.BlockEnd Progress.More self.new out.new }
     {
         let is_page = self.stack.is_page();
-        match self.stack.leave_block() {
+        let ended = self.stack.levels().ended();
+        self.stack.go(Movement::Part(Pass::End));
+        match ended {
             Ended::Block => {}
             Ended::Loop => self.close_loop(out),
             Ended::Nothing => self.doing.report_unopened(is_page, out),
@@ -307,35 +295,31 @@ impl Runner {
     // Goes back to the source around the innermost one.
     fn end_source(&mut self)
         requires { may_end (next_of self.old.stack) ≡ true }
-        ensures { Shifts self.old Movement.SourceEnd Progress.More self.new }
+        ensures { Shifts self.old Act.SourceEnd Progress.More self.new }
     {
         self.stack.end_source();
         self.take_arguments();
     }
 
     // The stack moves on.
-    fn go<O: NoteOut>(&mut self, movement: Movement, out: &mut O) -> Progress
+    fn go<O: NoteOut>(&mut self, act: Act, out: &mut O) -> Progress
         requires setting { IsIn self.old.stack.top.kind self.old.doing }
-        requires suits { Suits movement self.old.stack self.old.doing }
-        ensures { Moves O.left self.old out.old movement result self.new out.new }
+        requires suits { Suits act self.old.stack self.old.doing }
+        ensures { Moves O.left self.old out.old act result self.new out.new }
     {
-        match movement {
-            Movement::Leaf(product) => {
+        match act {
+            Act::Move(movement) => self.stack.go(movement),
+            Act::Leaf(product) => {
                 self.pass_leaf(product);
                 return progress_of(product);
             }
-            Movement::Guard(value) => self.pass_guard(value),
-            Movement::Block(value, column) => self.pass_block(value, column, out),
-            Movement::Loop(is_run) => self.enter_loop(is_run),
-            Movement::BlockEnd => self.leave_block(out),
-            Movement::Region(is_run) => self.stack.open_region(is_run),
-            Movement::RegionLine(product) => {
-                self.stack.pass_region_line();
+            Act::Block(answer, column) => self.enter_block(answer, column, out),
+            Act::BlockEnd => self.leave_block(out),
+            Act::RegionLine(product) => {
+                self.stack.go(Movement::RegionLine);
                 return progress_of(product);
             }
-            Movement::RegionEnd => self.stack.end_region(),
-            Movement::Turn => self.stack.begin_turn(),
-            Movement::SourceEnd => self.end_source(),
+            Act::SourceEnd => self.end_source(),
         }
         Progress::More
     }
@@ -348,16 +332,16 @@ impl Runner {
         requires left { is_nothing (next_of self.old.stack) ≡ false }
         ensures { StepsOn O.left self.old out.old result self.new out.new }
     {
-        let movement = self.act(out);
-        match movement {
-            Movement::Leaf(ProductKind::Call) => {
-                self.stack.pass();
+        let act = self.act(out);
+        match act {
+            Act::Leaf(ProductKind::Call) => {
+                self.stack.go(Movement::Part(Pass::Leaf));
                 if !self.doing.actions.called_body().is_empty() {
                     self.call();
                 }
                 Progress::More
             }
-            _ => self.go(movement, out),
+            _ => self.go(act, out),
         }
     }
 
@@ -384,8 +368,8 @@ impl Runner {
     {
         self.stack.is_page()
             && self.stack.region().is_none()
-            && !self.stack.in_loop()
-            && self.stack.skipped() == 0
+            && !self.stack.levels().in_loop()
+            && self.stack.levels().skipped() == 0
     }
 
     /// Takes a source line of this number at once, after the last one is done, if it is left to the set of macros as it is written; says

@@ -6,13 +6,13 @@ use Rattle.page_core_limits.specs.declared.TheConstants.{LINE}
 use Rattle.page_roff_blocks.specs.declared.atoms.Atom.{Atom}
 use Rattle.page_roff_blocks.specs.declared.line_places.LinePlace.{LinePlace}
 use Rattle.page_roff_blocks.specs.Atoms.{atoms, ReadsNext}
-use Rattle.page_roff_blocks.specs.declared.atoms.Branch.{Branch}
-use Rattle.page_roff_blocks.specs.declared.atoms.Branch.TheVariants.{If, IfElse, Else}
-use Rattle.page_roff_blocks.specs.Levels.{Spot, at_line, bit_after, guarded_by}
+use Rattle.page_roff_blocks.specs.declared.spots.Pass.{Pass}
+use Rattle.page_roff_blocks.specs.declared.spots.Pass.TheVariants as passes
+use Rattle.page_roff_blocks.specs.Levels.{Spot, at_line, after_part, way_of, open_loop, skip, passed}
 use Rattle.page_roff_regions.specs.OpenRegions.{Opened}
 use Rattle.page_roff_blocks.specs.LinePlaces.{parts_at, line_end, is_at_end, IsPlaceIn}
 use Rattle.page_roff_blocks.proofs.AtomLemmas.{atoms_cons}
-use Rattle.page_roff_blocks.proofs.RoomLemmas.{atoms_room}
+use Rattle.page_roff_blocks.proofs.RoomLemmas.{atoms_room, enter_room, leave_room}
 use Rattle.page_roff_language.specs.Machine.{Frame, at_part}
 use Rattle.page_roff_language.specs.Measures.{weight, work_in}
 use Rattle.page_roff_stack.specs.declared.input_frames.InputFrame.{InputFrame}
@@ -20,9 +20,8 @@ use Rattle.page_roff_stack.specs.declared.source_kinds.SourceKind.{SourceKind}
 use Rattle.page_roff_stack.specs.declared.source_kinds.SourceKind.TheVariants as sources
 use Rattle.page_roff_stack.specs.declared.spans.Span.{Span}
 use Rattle.page_roff_values.specs.Arguments.{lines_in}
-use Rattle.page_roff_stack.specs.declared.ahead.Ahead.{Ahead}
-use Rattle.page_roff_stack.specs.Ahead.{kind_of, IsAhead}
-use Rattle.page_roff_stack.specs.Changes.{past, first_branch, first_region, in_region, next_line, first_atoms, begins_next, begins_line, ends_with, is_over, AreShort, IsBounded}
+use Rattle.page_roff_stack.specs.Ahead.{IsAfter}
+use Rattle.page_roff_stack.specs.Changes.{past, in_region, next_line, first_atoms, begins_next, begins_line, ends_with, is_over, HasPart, IfEnters, AreShort, IsBounded}
 use Rattle.page_roff_stack.specs.Held.{span_text, only_line, AreLinesOf, IsSpanIn, IsFirstLine}
 use Rattle.page_roff_stack.specs.InputFrames.{frame_of, IsHeld}
 use Rattle.page_roff_stack.specs.Views.{parts_seen, IsNextLine}
@@ -38,93 +37,56 @@ pub reads_first : (old : List (Atom (List ℕ))) (part : Option (Atom (Bor (List
 reads_first old None new h = sym (ap (take 1) h.0)
 reads_first old (Some part) new h = sym (ap (take 1) h)
 
-first_branch_of : (parts : List (Atom (List ℕ))) → first_branch (take 1 parts) ≡ first_branch parts
-first_branch_of [] = refl
-first_branch_of (part ∷ more) = refl
-
-pub reads_branch : (old : List (Atom (List ℕ))) (part : Option (Atom (Bor (List ℕ)))) (new : List (Atom (List ℕ))) → ReadsNext old part new
-    → first_branch (parts_seen part) ≡ first_branch old
-reads_branch old part new h = ap first_branch (reads_first old part new h) ∙ first_branch_of old
-
 -- ---- a part is passed
 
--- in the present line, which is this text, a part was passed up to this place
-pub record IsPast (a : InputFrame) (all text : List ℕ) (place : LinePlace) : Type 0 where
-  pub text_is : text ≡ span_text a.line all
-  pub next : parts_at text place ≡ drop 1 (parts_at text a.place)
-  pub within : IsPlaceIn text place
+abbrev pub after_it : InputFrame → LinePlace → Spot → InputFrame
+after_it a place spot = record a { place = place; ahead = None; spot = spot }
 
-pub ahead_past : (a : InputFrame) (all text : List ℕ) (ahead : Ahead) → text ≡ span_text a.line all → IsAhead text a.place ahead → IsPast a all text ahead.place
-ahead_past a all text ahead e h = record { text_is = e; next = h.next; within = h.within }
-
-abbrev pub passed : InputFrame → LinePlace → Spot → InputFrame
-passed a place spot = record a { place = place; ahead = None; spot = spot }
-
-pub past_view : (a : InputFrame) (all text : List ℕ) (place : LinePlace) (spot : Spot) → IsPast a all text place
-    → frame_of (passed a place spot) all ≡ past spot (frame_of a all)
+pub past_view : (a : InputFrame) (all text : List ℕ) (place : LinePlace) (spot : Spot) → text ≡ span_text a.line all → IsAfter text a.place place
+    → frame_of (after_it a place spot) all ≡ past spot (frame_of a all)
 unfolding at_part
-past_view a all text place spot h =
-    let e = rw h.text_is at h.next in
-    ap (λ parts. let f : Frame = record { kind = (frame_of a all).kind; region = a.region; parts = parts; spot = spot; lines = (frame_of a all).lines; turning = (frame_of a all).turning } in f) e
+past_view a all text place spot e h =
+    let next = rw e at h.next in
+    ap (λ parts. let f : Frame = record { kind = (frame_of a all).kind; region = a.region; parts = parts; spot = spot; lines = (frame_of a all).lines; turning = (frame_of a all).turning } in f) next
 
 past_bounded : (f : Frame) (spot : Spot) → spot.levels.skipped + 2 * length (drop 1 f.parts) ≤ f.spot.levels.skipped + 2 * length f.parts → IsBounded f → IsBounded (past spot f)
 unfolding at_part work_in
 past_bounded f spot p h = record { short = h.short; skips = omega (arith, p, h.skips) }
 
-past_held_by : (a : InputFrame) (all text : List ℕ) (place : LinePlace) (spot : Spot) → IsHeld a all → IsPast a all text place
-    → spot.levels.skipped + 2 * length (drop 1 (frame_of a all).parts) ≤ a.spot.levels.skipped + 2 * length (frame_of a all).parts
-    → IsHeld (passed a place spot) all
-past_held_by a all text place spot h r p =
+-- a part skips one block at most, where there is one
+pass_room : (pass : Pass) (f : Frame) → IfEnters pass (HasPart f)
+    → (passed pass f.spot).levels.skipped + 2 * length (drop 1 f.parts) ≤ f.spot.levels.skipped + 2 * length f.parts
+unfolding after_part skip open_loop
+pass_room passes.Leaf f h = omega (arith, length-drop 1 f.parts)
+pass_room (passes.Guard None) f h = omega (arith, length-drop 1 f.parts)
+pass_room (passes.Guard (Some a)) f h = omega (arith, length-drop 1 f.parts)
+pass_room (passes.Block None) f h = omega (arith, h, length-drop 1 f.parts)
+pass_room (passes.Block (Some a)) f h =
+    omega (arith, h, length-drop 1 f.parts, enter_room (way_of a.value (length f.spot.levels.outer)) a.bit f.spot.levels)
+pass_room (passes.Loop true) f h = omega (arith, length-drop 1 f.parts)
+pass_room (passes.Loop false) f h = omega (arith, h, length-drop 1 f.parts)
+pass_room passes.End f h =
+    let l = f.spot.levels in omega (arith, length-drop 1 f.parts, leave_room l.bit l.outer l.in_loop l.skipped)
+
+pub past_held : (a : InputFrame) (all text : List ℕ) (place : LinePlace) (pass : Pass) (spot : Spot) → text ≡ span_text a.line all → IsAfter text a.place place
+    → spot ≡ passed pass a.spot → IfEnters pass (HasPart (frame_of a all)) → IsHeld a all → IsHeld (after_it a place spot) all
+past_held a all text place pass spot e r g p h =
+    let f = frame_of a all in
+    let room : spot.levels.skipped + 2 * length (drop 1 f.parts) ≤ f.spot.levels.skipped + 2 * length f.parts = rw g (pass_room pass f p) in
     record {
       line = h.line;
       short = h.short;
-      place = rw r.text_is at r.within;
+      place = rw e at r.within;
       ahead = tt;
       lines = h.lines;
       only = h.only;
       arguments = h.arguments;
       turns = h.turns;
-      bounds = rw (past_view a all text place spot r) (past_bounded (frame_of a all) spot p h.bounds);
+      bounds = rw (past_view a all text place spot e r) (past_bounded f spot room h.bounds);
     }
 
--- no block more is skipped
-pub past_held : (a : InputFrame) (all text : List ℕ) (place : LinePlace) (spot : Spot) → IsHeld a all → IsPast a all text place
-    → spot.levels.skipped ≤ a.spot.levels.skipped → IsHeld (passed a place spot) all
-past_held a all text place spot h r p = past_held_by a all text place spot h r (omega (arith, p, length-drop 1 (frame_of a all).parts))
-
--- one block more is skipped
-pub deeper_held : (a : InputFrame) (all text : List ℕ) (place : LinePlace) (spot : Spot) → IsHeld a all → IsPast a all text place
-    → spot.levels.skipped ≤ a.spot.levels.skipped + 1 → 0 < length (frame_of a all).parts → IsHeld (passed a place spot) all
-deeper_held a all text place spot h r p q =
-    past_held_by a all text place spot h r (omega (arith, p, q, length-drop 1 (frame_of a all).parts))
-
--- the condition of a branch decides nothing of the bit after it
-bit_same : (b c : Branch (List ℕ)) (value bit : Bool) → kind_of b ≡ kind_of c → bit_after b value bit ≡ bit_after c value bit
-unfolding bit_after
-bit_same (If x) (If y) value bit e = refl
-bit_same (If x) (IfElse y) value bit e = absurd (cc)
-bit_same (If x) Else value bit e = absurd (cc)
-bit_same (IfElse x) (If y) value bit e = absurd (cc)
-bit_same (IfElse x) (IfElse y) value bit e = refl
-bit_same (IfElse x) Else value bit e = absurd (cc)
-bit_same Else (If y) value bit e = absurd (cc)
-bit_same Else (IfElse y) value bit e = absurd (cc)
-bit_same Else Else value bit e = refl
-
-pub ahead_bit : (a : InputFrame) (all text : List ℕ) (ahead : Ahead) (branch : Branch (List ℕ)) (value bit : Bool) → text ≡ span_text a.line all → IsAhead text a.place ahead
-    → kind_of branch ≡ ahead.kind → bit_after branch value bit ≡ bit_after (first_branch (frame_of a all).parts) value bit
-ahead_bit a all text ahead branch value bit e h k =
-    bit_same branch (first_branch (frame_of a all).parts) value bit (k ∙ h.kind ∙ ap (λ line. kind_of (first_branch (parts_at line a.place))) e)
-
-pub ahead_guard : (a : InputFrame) (all text : List ℕ) (ahead : Ahead) (branch : Branch (List ℕ)) (value : Bool) → text ≡ span_text a.line all → IsAhead text a.place ahead
-    → kind_of branch ≡ ahead.kind → guarded_by branch value a.spot.levels ≡ guarded_by (first_branch (frame_of a all).parts) value a.spot.levels
-unfolding guarded_by
-ahead_guard a all text ahead branch value e h k =
-    ap (λ bit. let s : Spot = record { levels = record a.spot.levels { bit = bit }; begun = true; passing = not value } in s)
-    (ahead_bit a all text ahead branch value a.spot.levels.bit e h k)
-
 -- what was read changes nothing of what is seen
-pub ahead_held : (a : InputFrame) (all text : List ℕ) (ahead : Ahead) → text ≡ span_text a.line all → IsAhead text a.place ahead → IsHeld a all → IsHeld (record a { ahead = Some ahead }) all
+pub ahead_held : (a : InputFrame) (all text : List ℕ) (ahead : LinePlace) → text ≡ span_text a.line all → IsAfter text a.place ahead → IsHeld a all → IsHeld (record a { ahead = Some ahead }) all
 ahead_held a all text ahead e r h =
     record {
       line = h.line;

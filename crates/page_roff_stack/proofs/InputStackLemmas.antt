@@ -8,7 +8,6 @@ use Rattle.std.proofs.lemmas.Bool.Decides.{nat_tests}
 use Rattle.std.proofs.lemmas.List.{length-reverse, reverse-append, length-take-le, length-drop}
 use Rattle.std.proofs.lemmas.List.Elements.{All-nil, All-cons}
 use Rattle.std.proofs.lemmas.List.Sums.{sum_by-le}
-use Rattle.page_roff_blocks.specs.Levels.{Spot}
 use Rattle.page_core_limits.specs.declared.TheConstants.{ARGS, BODY, CALLS, LINE}
 use Rattle.page_roff_language.specs.Languages.{body, is_some}
 use Rattle.page_roff_language.specs.Machine.{Frame, Turning, at_part, depth, entered, looped, turned}
@@ -16,23 +15,27 @@ use Rattle.page_roff_values.specs.Arguments.{arguments_in, lines_in}
 use Rattle.page_roff_stack.specs.declared.input_stacks.Caller.{Caller}
 use Rattle.page_roff_stack.specs.declared.input_stacks.InputStack.TheInside.{Inside}
 use Rattle.page_roff_stack.specs.declared.input_frames.InputFrame.{InputFrame}
-use Rattle.page_roff_stack.specs.Changes.{past, page_line, in_turn_of, in_turn, is_page}
+use Rattle.page_roff_stack.specs.declared.movements.Movement.{Movement}
+use Rattle.page_roff_stack.specs.declared.movements.Movement.TheVariants as moves
+use Rattle.page_roff_stack.specs.Changes.{page_line, in_turn_of, is_page, went}
 use Rattle.page_roff_stack.specs.InputStacks.{frames_in, stack_of, room_for, texts_in, AreHeld, IsStack}
 use Rattle.page_roff_stack.specs.InputFrames.{frame_of, IsHeld}
 use Rattle.page_roff_stack.specs.Stacks.{Stack, first_text, call_of, loop_of}
 use Rattle.page_roff_stack.specs.Views.{packed_text, unpacked}
-
-pub past_kind : (spot : Spot) (f : Frame) → (past spot f).kind ≡ f.kind
-unfolding at_part
-past_kind spot f = refl
 
 turn_kind_of : (turning : Option Turning) (f : Frame) → (in_turn_of turning f).kind ≡ f.kind
 unfolding turned
 turn_kind_of None f = refl
 turn_kind_of (Some t) f = refl
 
-pub turn_kind : (f : Frame) → (in_turn f).kind ≡ f.kind
-turn_kind f = turn_kind_of f.turning f
+pub went_kind : (movement : Movement) (f : Frame) → (went movement f).kind ≡ f.kind
+unfolding at_part
+went_kind (moves.Part pass) f = refl
+went_kind (moves.Region is_run) f = refl
+went_kind moves.Line f = refl
+went_kind moves.RegionLine f = refl
+went_kind moves.RegionEnd f = refl
+went_kind moves.Turn f = turn_kind_of f.turning f
 
 -- the innermost source changes, but not what it is
 pub top_held : (a : Inside) (top : InputFrame) (text : List ℕ) → text ≡ a.text.items → IsHeld top text → (frame_of top text).kind ≡ (frame_of a.top text).kind → IsStack a

@@ -1,13 +1,16 @@
 -- What comes next in the sources that run: helpers of proofs.
-use Rattle.std.proofs.Common.{◌≡◌, ℕ, zero, suc, ◌-◌, ◌<◌, Bool, true, false, List, [], ◌∷◌, length, Option, Some, None, refl, arith}
+use Rattle.std.proofs.Common.{◌≡◌, ℕ, zero, suc, ◌-◌, ◌<◌, Bool, true, false, List, [], ◌∷◌, length, Option, Some, None, refl, ◌∙◌, arith}
 use Rattle.page_roff_blocks.specs.declared.atoms.Atom.{Atom}
 use Rattle.page_roff_regions.specs.OpenRegions.{Opened}
 use Rattle.page_roff_blocks.specs.Run.{Meaning}
 use Rattle.page_roff_language.specs.Languages.{arguments_of, Kind, page, body, inner, Language, meaning_at}
 use Rattle.page_roff_language.specs.Machine as machine
 use Rattle.page_roff_language.specs.Machine.{Frame, Turning, depth, looped}
-use Rattle.page_roff_stack.specs.Changes.{first_branch, first_region, is_page, begins_next, ends_with}
-use Rattle.page_roff_stack.specs.Stacks.{Stack, running, has_begun, turn_left, turn_in, turn_or_end, next_around, next_in, next_of, is_part, is_line, may_end, is_nothing, branch_in, region_in, AreStacked, end_of, turn_if, step_in, step_of}
+use Rattle.page_roff_blocks.specs.declared.spots.Pass.TheVariants as passes
+use Rattle.page_roff_stack.specs.declared.movements.Movement.{Movement}
+use Rattle.page_roff_stack.specs.declared.movements.Movement.TheVariants as moves
+use Rattle.page_roff_stack.specs.Changes.{is_page, begins_next, ends_with, MayGo}
+use Rattle.page_roff_stack.specs.Stacks.{Stack, running, has_begun, turn_left, turn_in, turn_or_end, next_around, next_in, next_of, is_part, is_line, may_end, is_nothing, AreStacked, Suits, end_of, turn_if, step_in, step_of}
 use Rattle.page_roff_stack.specs.Views.{unpacked}
 
 turn_step : {S : Type 0} (l : Language S) (t : Turning) (n : ℕ) (b : Bool) (f g : Frame) (gs : List Frame) (s : S) → f.turning ≡ Some t → t.left ≡ suc n
@@ -72,8 +75,8 @@ around_line turning region (f ∷ fs) e = end_line (turn_in turning) e
 pub part_there : (turning : Option Turning) (region : Option Opened) (parts : List (Atom (List ℕ))) (lines : List (List ℕ)) (under : List Frame)
     → let next = next_in turning region parts lines under in
     is_part next ≡ true
-    → (0 < length parts) × (branch_in next ≡ first_branch parts) × ((is_run : Bool) → region_in is_run next ≡ first_region is_run parts)
-part_there turning None (part ∷ more) lines under e = (omega arith, refl, λ is_run. refl)
+    → 0 < length parts
+part_there turning None (part ∷ more) lines under e = omega arith
 part_there turning None [] (line ∷ more) under e = cc
 part_there turning None [] [] under e = absurd (around_part turning None under e)
 part_there turning (Some o) parts (line ∷ more) under e = cc
@@ -149,6 +152,19 @@ line_next turning None [] [] (f ∷ fs) = not_line (turn_in turning) None (has_b
 line_next turning (Some o) parts (line ∷ more) under = refl
 line_next turning (Some o) parts [] [] = refl
 line_next turning (Some o) parts [] (f ∷ fs) = not_line (turn_in turning) (Some o) (has_begun turning)
+
+-- a movement for what comes next is one that the innermost source may make
+pub may_go : (movement : Movement) (s : Stack) → Suits movement (next_of s) → MayGo movement s.top
+may_go (moves.Part passes.Leaf) s h = tt
+may_go (moves.Part (passes.Guard answer)) s h = tt
+may_go (moves.Part (passes.Block answer)) s h = part_there s.top.turning s.top.region s.top.parts s.top.lines s.under h
+may_go (moves.Part (passes.Loop is_run)) s h = part_there s.top.turning s.top.region s.top.parts s.top.lines s.under h
+may_go (moves.Part passes.End) s h = tt
+may_go (moves.Region is_run) s h = tt
+may_go moves.Line s h = line_next s.top.turning s.top.region s.top.parts s.top.lines s.under ∙ h
+may_go moves.RegionLine s h = tt
+may_go moves.RegionEnd s h = tt
+may_go moves.Turn s h = tt
 
 -- the arguments of a loop are those of the source in which it stands
 pub looped_in : (kind : Kind) (packed : Option (List ℕ)) (condition : List ℕ) (lines : List (List ℕ)) → unpacked packed ≡ arguments_of kind

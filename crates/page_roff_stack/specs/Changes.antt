@@ -1,19 +1,19 @@
 -- What becomes of a source that is being run as its parts and lines are passed, as the steps of the code have it. Trust needs no reading of it.
 -- Source: roff(7), "Macros".
-use Rattle.std.specs.Prelude.{ℕ, ◌+◌, ◌-◌, ◌≤◌, ◌<◌, ◌^◌, Bool, true, false, List, [], ◌∷◌, length, drop, Option, Some, None}
+use Rattle.std.specs.Prelude.{ℕ, ◌+◌, ◌-◌, ◌≤◌, ◌<◌, ◌≡◌, ◌^◌, Bool, true, false, List, [], ◌∷◌, length, drop, Option, Some, None}
 use Rattle.page_core_limits.specs.declared.TheConstants.{LINE}
 use Rattle.page_roff_blocks.specs.declared.atoms.Atom.{Atom}
 use Rattle.page_roff_blocks.specs.declared.atoms.Atom.TheVariants.{Leaf, Guard, Block, Loop, End, Region}
-use Rattle.page_roff_blocks.specs.declared.atoms.Branch.{Branch}
-use Rattle.page_roff_blocks.specs.declared.atoms.Branch.TheVariants.{Else}
-use Rattle.page_roff_blocks.specs.declared.atoms.Opening.{Opening}
-use Rattle.page_roff_blocks.specs.declared.atoms.Opening.TheVariants as openings
+use Rattle.page_roff_blocks.specs.declared.spots.Pass.{Pass}
+use Rattle.page_roff_blocks.specs.declared.spots.Pass.TheVariants as passes
 use Rattle.page_roff_blocks.specs.Atoms.{atoms}
-use Rattle.page_roff_blocks.specs.Levels.{Place, Spot, at_line, outside}
+use Rattle.page_roff_blocks.specs.Levels.{Place, Spot, at_line, outside, passed}
 use Rattle.page_roff_regions.specs.OpenRegions.{Opened, opened}
 use Rattle.page_roff_language.specs.Languages.{Kind, page, body}
 use Rattle.page_roff_language.specs.Machine.{Frame, Turning, turned, at_part}
 use Rattle.page_roff_language.specs.Measures.{work_in}
+use Rattle.page_roff_stack.specs.declared.movements.Movement.{Movement}
+use Rattle.page_roff_stack.specs.declared.movements.Movement.TheVariants as moves
 
 -- the page before its first line
 abbrev pub first_frame : Frame
@@ -52,23 +52,6 @@ page_line line f =
 -- the part that comes next is passed, and this is the spot after it
 abbrev pub past : Spot → Frame → Frame
 past spot f = at_part f (drop 1 f.parts) spot
-
--- the branch of the head of a conditional that comes first
-abbrev pub opening_branch : Opening (List ℕ) → Branch (List ℕ)
-opening_branch (openings.Conditional head) = head.branch
-opening_branch (openings.Loop head) = Else
-
-abbrev pub branch_of : Atom (List ℕ) → Branch (List ℕ)
-branch_of (Leaf text) = Else
-branch_of (Guard head) = head.branch
-branch_of (Block opening) = opening_branch opening
-branch_of (Loop head) = Else
-branch_of End = Else
-branch_of (Region head) = Else
-
-abbrev pub first_branch : List (Atom (List ℕ)) → Branch (List ℕ)
-first_branch [] = Else
-first_branch (part ∷ more) = branch_of part
 
 -- the region of the head that comes first
 abbrev pub region_of : Bool → Atom (List ℕ) → Option Opened
@@ -109,9 +92,35 @@ abbrev pub is_page : Kind → Bool
 is_page page = true
 is_page (body args) = false
 
+-- what comes next is passed
+abbrev pub went : Movement → Frame → Frame
+went (moves.Part pass) f = past (passed pass f.spot) f
+went (moves.Region is_run) f = in_region (first_region is_run f.parts) f
+went moves.Line f = next_line None (first_atoms f.lines) f
+went moves.RegionLine f = next_line f.region [] f
+went moves.RegionEnd f = next_line None [] f
+went moves.Turn f = in_turn f
+
 -- a part comes next
 abbrev pub HasPart : Frame → Type 0
 HasPart f = 0 < length f.parts
+
+-- this holds, where a block is entered
+abbrev pub IfEnters : Pass → Type 0 → Type 0
+IfEnters passes.Leaf P = Unit {0}
+IfEnters (passes.Guard answer) P = Unit {0}
+IfEnters (passes.Block answer) P = P
+IfEnters (passes.Loop is_run) P = P
+IfEnters passes.End P = Unit {0}
+
+-- a block is entered by a part, and a line begins where one comes next
+abbrev pub MayGo : Movement → Frame → Type 0
+MayGo (moves.Part pass) f = IfEnters pass (HasPart f)
+MayGo (moves.Region is_run) f = Unit {0}
+MayGo moves.Line f = begins_line f ≡ true
+MayGo moves.RegionLine f = Unit {0}
+MayGo moves.RegionEnd f = Unit {0}
+MayGo moves.Turn f = Unit {0}
 
 -- ---- within bounds
 

@@ -5,7 +5,7 @@ use Rattle.page_core_limits.specs.declared.TheConstants.{LINE}
 use Rattle.page_roff_blocks.specs.LinePlaces.{parts_at, IsPlaceIn}
 use Rattle.page_roff_language.specs.Machine.{Frame}
 use Rattle.page_roff_stack.specs.declared.input_frames.InputFrame.{InputFrame}
-use Rattle.page_roff_stack.specs.Ahead.{IsAheadIn}
+use Rattle.page_roff_stack.specs.Ahead.{IsAfterIn}
 use Rattle.page_roff_stack.specs.Changes.{IsBounded}
 use Rattle.page_roff_values.specs.Arguments.{lines_in}
 use Rattle.page_roff_stack.specs.Held.{span_text, IsSpanIn, kind_in, AreArgumentsIn, AreLinesOf, turning_in, AreTurnsIn}
@@ -25,7 +25,7 @@ pub record IsHeld (a : InputFrame) (text : List ℕ) : Type 0 where
   pub line : IsSpanIn a.line text
   pub short : a.line.end ≤ a.line.start + LINE
   pub place : IsPlaceIn (span_text a.line text) a.place
-  pub ahead : IsAheadIn (span_text a.line text) a.place a.ahead
+  pub ahead : IsAfterIn (span_text a.line text) a.place a.ahead
   pub lines : IsSpanIn a.lines text
   pub only : AreLinesOf a.kind (span_text a.lines text)
   pub arguments : AreArgumentsIn a.kind text

@@ -2,8 +2,6 @@
 -- of it. Source: mandoc(1), "input stack limit"; roff(7), "Macros".
 use Rattle.std.specs.Prelude.{◌≡◌, ℕ, zero, suc, Bool, true, false, List, [], ◌∷◌, ◌++◌, drop, Option, Some, None}
 use Rattle.page_roff_blocks.specs.declared.atoms.Atom.{Atom}
-use Rattle.page_roff_blocks.specs.declared.atoms.Branch.{Branch}
-use Rattle.page_roff_blocks.specs.declared.atoms.Branch.TheVariants.{Else}
 use Rattle.page_roff_blocks.specs.Levels.{Place}
 use Rattle.page_roff_regions.specs.OpenRegions.{Opened}
 use Rattle.page_roff_blocks.specs.LinePlaces.{is_block}
@@ -14,7 +12,9 @@ use Rattle.page_roff_language.specs.Machine.{Frame, Running, Turning, depth, ent
 use Rattle.page_roff_values.specs.Arguments.{arguments_in, lines_in}
 use Rattle.page_roff_stack.specs.declared.next.Next.{Next}
 use Rattle.page_roff_stack.specs.declared.next.Next.TheVariants.{Part, Line, RegionLine, Turn, SourceEnd, Nothing}
-use Rattle.page_roff_stack.specs.Changes.{first_frame, page_at, in_turn, branch_of, region_of, is_page}
+use Rattle.page_roff_stack.specs.declared.movements.Movement.{Movement}
+use Rattle.page_roff_stack.specs.declared.movements.Movement.TheVariants as moves
+use Rattle.page_roff_stack.specs.Changes.{first_frame, page_at, in_turn, is_page, IfEnters}
 use Rattle.page_roff_stack.specs.Views.{packed_text, unpacked}
 
 -- The innermost source, and those around it from the inside out; and the body with the arguments of each macro or loop that runs, from the
@@ -131,14 +131,6 @@ is_turn (Turn region begun condition) = true
 is_turn (SourceEnd region begun) = false
 is_turn Nothing = false
 
-abbrev pub is_source_end : Next (List ℕ) Opened → Bool
-is_source_end (Part part) = false
-is_source_end (Line line) = false
-is_source_end (RegionLine o line is_end) = false
-is_source_end (Turn region begun condition) = false
-is_source_end (SourceEnd region begun) = true
-is_source_end Nothing = false
-
 -- the innermost source may end: no turn of it comes, or its turn may not begin
 abbrev pub may_end : Next (List ℕ) Opened → Bool
 may_end (Part part) = false
@@ -165,23 +157,14 @@ opens_block (Turn region begun condition) = false
 opens_block (SourceEnd region begun) = false
 opens_block Nothing = false
 
--- the branch of the head that comes next
-abbrev pub branch_in : Next (List ℕ) Opened → Branch (List ℕ)
-branch_in (Part part) = branch_of part
-branch_in (Line line) = Else
-branch_in (RegionLine o line is_end) = Else
-branch_in (Turn region begun condition) = Else
-branch_in (SourceEnd region begun) = Else
-branch_in Nothing = Else
-
--- the region of the head that comes next, which may be run or not
-abbrev pub region_in : Bool → Next (List ℕ) Opened → Option Opened
-region_in is_run (Part part) = region_of is_run part
-region_in is_run (Line line) = None
-region_in is_run (RegionLine o line is_end) = None
-region_in is_run (Turn region begun condition) = None
-region_in is_run (SourceEnd region begun) = None
-region_in is_run Nothing = None
+-- a movement is one for what comes next
+abbrev pub Suits : Movement → Next (List ℕ) Opened → Type 0
+Suits (moves.Part pass) x = IfEnters pass (is_part x ≡ true)
+Suits (moves.Region is_run) x = is_part x ≡ true
+Suits moves.Line x = is_line x ≡ true
+Suits moves.RegionLine x = Unit {0}
+Suits moves.RegionEnd x = Unit {0}
+Suits moves.Turn x = is_turn x ≡ true
 
 -- ---- the page is around all macros
 

@@ -8,25 +8,26 @@ ghost use Rattle.page_roff_blocks.specs.declared.atoms.Atom.TheVariants.{Leaf};
 ghost use Rattle.page_roff_blocks.specs.Atoms.{atom_seen, FitsAtom};
 ghost use Rattle.page_roff_blocks.specs.Caps.{PlaceFits};
 ghost use Rattle.page_roff_blocks.specs.LinePlaces.{opens_block};
-ghost use Rattle.page_roff_blocks.specs.Levels.{after_part, guarded_by, way_of, enter, bit_after, open_loop, skip, leave, what_ends, reached};
+ghost use Rattle.page_roff_blocks.specs.Levels.{passed};
 ghost use Rattle.page_roff_regions.specs.OpenRegions.{opened_seen};
 ghost use Rattle.page_roff_regions.specs.Regions.{text_seen};
 ghost use Rattle.page_roff_language.specs.Languages.{arguments_of, page, body};
 ghost use Rattle.page_roff_language.specs.Machine.{entered, looped};
 ghost use Rattle.page_roff_values.specs.Arguments.{arguments_in, lines_in};
-ghost use Rattle.page_roff_stack.specs.Changes.{first_frame, page_at, page_line, past, first_branch, first_region, in_region, next_line, in_turn, first_atoms, is_page, begins_line, is_over, HasPart};
+ghost use Rattle.page_roff_stack.specs.Changes.{first_frame, page_at, page_line, past, first_region, in_region, next_line, in_turn, first_atoms, is_page, begins_line, is_over, went, HasPart, IfEnters, MayGo};
 ghost use Rattle.page_roff_stack.specs.Held.{span_text, kind_in, arguments_at, turning_in, AreArgumentsAt, AreLinesOf, IsSpanIn, IsFirstLine, IsCut};
 ghost use Rattle.page_roff_stack.specs.InputFrames.{frame_of, IsHeld};
 ghost use Rattle.page_roff_stack.specs.Stacks.{first_text, turn_in, has_begun};
 ghost use Rattle.page_roff_stack.specs.Views.{parts_seen, packed_text, unpacked, IsNextLine};
 
-use crate::ahead::{Ahead, head_past, place_past, read_ahead};
+use crate::ahead::{place_past, read_ahead};
+use crate::movements::Movement;
 use crate::source_kinds::SourceKind;
 use crate::spans::{NOWHERE, Span};
 use crate::turns::Turns;
 use memchr::memchr;
 use page_core_limits::{ARGS, BODY, LINE, REREAD};
-use page_roff_blocks::{Atom, Ended, LinePlace, Reached, Spot, Standing, Way};
+use page_roff_blocks::{Atom, LinePlace, Pass, Spot, Standing};
 use page_roff_regions::OpenRegion;
 
 // The turns that a loop has at most, and one more: each takes a line, or is given up.
@@ -40,12 +41,13 @@ pub(crate) struct InputFrame {
     // The present line, and the place in it.
     line: Span,
     place: LinePlace,
-    // What was read of the part that comes next there, if it was.
-    ahead: Option<Ahead>,
+    // The place after the part that comes next there, if that was read.
+    ahead: Option<LinePlace>,
     // The lines after it.
     lines: Span,
     region: Option<OpenRegion>,
-    spot: Spot,
+    /// Where it stands in its line.
+    pub(crate) spot: Spot,
     // The turns of a loop.
     turning: Option<Turns>,
 }
@@ -305,8 +307,8 @@ impl InputFrame {
         if self.place.is_at_end() {
             return None;
         }
-        let (part, ahead) = read_ahead(self.line.of(text), self.place);
-        self.ahead = Some(ahead);
+        let (part, after) = read_ahead(self.line.of(text), self.place);
+        self.ahead = Some(after);
         part
     }
 
@@ -407,122 +409,39 @@ impl InputFrame {
         }
     }
 
-    /// How the part that comes next is reached.
-    pub(crate) fn reached(&self) -> Reached
-        ensures { result ≡ reached self.now.spot }
-    {
-        self.spot.reached()
-    }
-
-    /// The bit that `ie` leaves to `el`.
-    pub(crate) fn bit(&self) -> bool
-        ensures { result ≡ self.now.spot.levels.bit }
-    {
-        self.spot.bit()
-    }
-
-    /// Whether a loop is being collected here.
-    pub(crate) fn in_loop(&self) -> bool
-        ensures { result ≡ self.now.spot.levels.in_loop }
-    {
-        self.spot.in_loop()
-    }
-
-    /// The number of skipped blocks that are open here.
-    pub(crate) fn skipped(&self) -> u64
-        ensures { result ≡ self.now.spot.levels.skipped }
-    {
-        self.spot.skipped()
-    }
-
-    /// Goes past a leaf.
-    pub(crate) fn pass(&mut self, text: &[u8])
-        requires { IsHeld self.old text.now }
-        ensures held { IsHeld self.new text.now }
-        ensures frame { frame_of self.new text.now ≡ past (after_part self.old.spot.levels) (frame_of self.old text.now) }
-    {
-        self.place = place_past(self.line.of(text), self.place, self.ahead);
-        self.ahead = None;
-        self.spot.pass();
-    }
-
-    /// Goes past a head without a block that is not run.
-    pub(crate) fn pass_guard(&mut self, text: &[u8])
-        requires { IsHeld self.old text.now }
-        ensures held { IsHeld self.new text.now }
-        ensures frame { frame_of self.new text.now ≡ past (record self.old.spot { begun = true }) (frame_of self.old text.now) }
-    {
-        self.place = place_past(self.line.of(text), self.place, self.ahead);
-        self.ahead = None;
-        self.spot.pass_guard();
-    }
-
-    /// Goes past a head without a block that is run, and has this value.
-    pub(crate) fn guard(&mut self, text: &[u8], value: bool)
-        requires { IsHeld self.old text.now }
-        ensures held { IsHeld self.new text.now }
-        ensures frame { frame_of self.new text.now ≡ past (guarded_by
-            (first_branch (frame_of self.old text.now).parts) value self.old.spot.levels) (frame_of self.old text.now) }
-    {
-        let head = head_past(self.line.of(text), self.place, self.ahead);
-        self.place = head.place;
-        self.ahead = None;
-        self.spot.guard(&head.kind.branch(), value);
-    }
-
-    /// Enters a block whose head is run, and has this value.
-    pub(crate) fn enter_block(&mut self, text: &[u8], value: bool) -> Way
+    /// Goes past what comes next.
+    #[inline(always)]
+    pub(crate) fn go(&mut self, text: &[u8], movement: Movement)
         requires held { IsHeld self.old text.now }
-        requires part { HasPart (frame_of self.old text.now) }
-        ensures way { result ≡ way_of value (length self.old.spot.levels.outer) }
+        requires may { MayGo movement (frame_of self.old text.now) }
         ensures held { IsHeld self.new text.now }
-        ensures frame { frame_of self.new text.now ≡ past (after_part (enter result
-            (bit_after (first_branch (frame_of self.old text.now).parts) value self.old.spot.levels.bit) self.old.spot.levels))
-            (frame_of self.old text.now) }
+        ensures frame { frame_of self.new text.now ≡ went movement (frame_of self.old text.now) }
     {
-        let head = head_past(self.line.of(text), self.place, self.ahead);
-        self.place = head.place;
-        self.ahead = None;
-        self.spot.enter(&head.kind.branch(), value)
+        match movement {
+            Movement::Part(pass) => self.pass(text, pass),
+            Movement::Region(is_run) => self.open_region(text, is_run),
+            Movement::Line => self.begin_line(text),
+            Movement::RegionLine => self.pass_region_line(text),
+            Movement::RegionEnd => self.end_region(text),
+            Movement::Turn => self.begin_turn(),
+        }
     }
 
-    /// Enters a block that is passed over.
-    pub(crate) fn skip_block(&mut self, text: &[u8])
+    // Goes past a part.
+    #[inline(always)]
+    fn pass(&mut self, text: &[u8], pass: Pass)
         requires held { IsHeld self.old text.now }
-        requires part { HasPart (frame_of self.old text.now) }
+        requires part { IfEnters pass (HasPart (frame_of self.old text.now)) }
         ensures held { IsHeld self.new text.now }
-        ensures frame { frame_of self.new text.now ≡ past (after_part (skip self.old.spot.levels)) (frame_of self.old text.now) }
+        ensures frame { frame_of self.new text.now ≡ past (passed pass self.old.spot) (frame_of self.old text.now) }
     {
         self.place = place_past(self.line.of(text), self.place, self.ahead);
         self.ahead = None;
-        self.spot.skip();
+        self.spot.pass(pass);
     }
 
-    /// Goes past the head of a loop with a block, which is collected from here on.
-    pub(crate) fn open_loop(&mut self, text: &[u8])
-        requires { IsHeld self.old text.now }
-        ensures held { IsHeld self.new text.now }
-        ensures frame { frame_of self.new text.now ≡ past (after_part (open_loop self.old.spot.levels)) (frame_of self.old text.now) }
-    {
-        self.place = place_past(self.line.of(text), self.place, self.ahead);
-        self.ahead = None;
-        self.spot.open_loop();
-    }
-
-    /// The innermost block ends, or the loop that is collected: which of them.
-    pub(crate) fn leave_block(&mut self, text: &[u8]) -> Ended
-        requires { IsHeld self.old text.now }
-        ensures held { IsHeld self.new text.now }
-        ensures frame { frame_of self.new text.now ≡ past (after_part (leave self.old.spot.levels)) (frame_of self.old text.now) }
-        ensures ended { result ≡ what_ends self.old.spot.levels }
-    {
-        self.place = place_past(self.line.of(text), self.place, self.ahead);
-        self.ahead = None;
-        self.spot.leave()
-    }
-
-    /// Goes past the head of a region, which opens.
-    pub(crate) fn open_region(&mut self, text: &[u8], is_run: bool)
+    // Goes past the head of a region, which opens.
+    fn open_region(&mut self, text: &[u8], is_run: bool)
         requires { IsHeld self.old text.now }
         ensures held { IsHeld self.new text.now }
         ensures frame { frame_of self.new text.now ≡ in_region
@@ -535,8 +454,8 @@ impl InputFrame {
         self.spot.begin_line();
     }
 
-    /// A line begins.
-    pub(crate) fn begin_line(&mut self, text: &[u8])
+    // A line begins.
+    fn begin_line(&mut self, text: &[u8])
         requires held { IsHeld self.old text.now }
         requires line { begins_line (frame_of self.old text.now) ≡ true }
         ensures held { IsHeld self.new text.now }
@@ -549,8 +468,8 @@ impl InputFrame {
         self.spot.begin_line();
     }
 
-    /// Goes past a line in the open region.
-    pub(crate) fn pass_region_line(&mut self, text: &[u8])
+    // Goes past a line in the open region.
+    fn pass_region_line(&mut self, text: &[u8])
         requires { IsHeld self.old text.now }
         ensures held { IsHeld self.new text.now }
         ensures frame { frame_of self.new text.now ≡ next_line self.old.region [] (frame_of self.old text.now) }
@@ -561,9 +480,9 @@ impl InputFrame {
         self.spot.begin_line();
     }
 
-    /// Goes past the end of the open region.
+    // Goes past the end of the open region.
     #[tactic(auto, using(crate::proofs::InputFrameLemmas::ended_held))]
-    pub(crate) fn end_region(&mut self, text: &[u8])
+    fn end_region(&mut self, text: &[u8])
         requires { IsHeld self.old text.now }
         ensures held { IsHeld self.new text.now }
         ensures frame { frame_of self.new text.now ≡ next_line None [] (frame_of self.old text.now) }
@@ -572,8 +491,8 @@ impl InputFrame {
         self.pass_region_line(text);
     }
 
-    /// A turn of a loop begins: all lines of its body are to come.
-    pub(crate) fn begin_turn(&mut self)
+    // A turn of a loop begins: all lines of its body are to come.
+    fn begin_turn(&mut self)
         ensures { (text : List ℕ) → IsHeld self.old text →
             IsHeld self.new text × (frame_of self.new text ≡ in_turn (frame_of self.old text)) }
     {

@@ -8,19 +8,20 @@ ghost use Rattle.page_core_limits.specs.declared.TheConstants.{ARGS, BODY, CALLS
 ghost use Rattle.page_roff_blocks.specs.declared.atoms.Atom.TheVariants.{Leaf};
 ghost use Rattle.page_roff_blocks.specs.Atoms.{atom_seen, FitsAtom};
 ghost use Rattle.page_roff_blocks.specs.Caps.{PlaceFits};
-ghost use Rattle.page_roff_blocks.specs.Levels.{after_part, guarded_by, way_of, enter, bit_after, open_loop, skip, leave, what_ends, reached};
+ghost use Rattle.page_roff_blocks.specs.Levels.{reached};
 ghost use Rattle.page_roff_regions.specs.OpenRegions.{opened_seen};
 ghost use Rattle.page_roff_regions.specs.Regions.{text_seen};
 ghost use Rattle.page_roff_language.specs.Languages.{arguments_of, is_some};
 ghost use Rattle.page_roff_language.specs.Machine.{depth};
-ghost use Rattle.page_roff_stack.specs.Changes.{page_line, past, in_region, next_line, in_turn, first_atoms, is_page};
-ghost use Rattle.page_roff_stack.specs.Stacks.{first_stack, stack_at, standing_of, with_top, call_of, loop_of, next_around, next_of, part_in, is_part, opens_block, is_line, is_turn, may_end, is_nothing, branch_in, region_in};
+ghost use Rattle.page_roff_stack.specs.Changes.{page_line, is_page, went};
+ghost use Rattle.page_roff_stack.specs.Stacks.{first_stack, stack_at, standing_of, with_top, call_of, loop_of, next_around, next_of, part_in, opens_block, is_line, may_end, is_nothing, Suits};
 ghost use Rattle.page_roff_stack.specs.Views.{packed_text, unpacked, next_seen, FitsNext};
 
 use crate::input_frames::InputFrame;
+use crate::movements::Movement;
 use crate::next::Next;
 use page_core_limits::{ARGS, BODY, CALLS, LINE};
-use page_roff_blocks::{Atom, Ended, Reached, Standing, Way};
+use page_roff_blocks::{Atom, Levels, Reached, Standing};
 use page_roff_regions::OpenRegion;
 use std::alloc::{AllocError, Global};
 use std::marker::Model;
@@ -35,7 +36,7 @@ struct Caller {
 
 /// The sources that run, one inside another: the page, and the macros and loops in it. Contracts see them without their state.
 ///
-/// [`InputStack::peek`] lends what comes next, and one of the changes then goes past it.
+/// [`InputStack::peek`] lends what comes next, and [`InputStack::go`] then goes past it.
 #[derive(Drop)]
 pub struct InputStack {
     // The texts of all of them, one after another. That of the innermost source is all of it, and begins with those of the sources around.
@@ -222,29 +223,15 @@ impl InputStack {
     pub fn reached(&self) -> Reached
         ensures { result ≡ reached self.now.top.spot }
     {
-        self.top.reached()
+        self.top.spot.reached()
     }
 
-    /// The bit that `ie` leaves to `el`.
-    pub fn bit(&self) -> bool
-        ensures { result ≡ self.now.top.spot.levels.bit }
+    /// The levels of the blocks of the innermost source.
+    pub fn levels(&self) -> &Levels
+        ensures value { result.now ≡ self.now.top.spot.levels }
+        ensures room { result.now.skipped < 2 ^ 63 }
     {
-        self.top.bit()
-    }
-
-    /// Whether a loop is being collected here.
-    pub fn in_loop(&self) -> bool
-        ensures { result ≡ self.now.top.spot.levels.in_loop }
-    {
-        self.top.in_loop()
-    }
-
-    /// The number of skipped blocks that are open here: those in the loop, where one is collected.
-    pub fn skipped(&self) -> u64
-        ensures value { result ≡ self.now.top.spot.levels.skipped }
-        ensures room { result < 2 ^ 63 }
-    {
-        self.top.skipped()
+        self.top.spot.levels()
     }
 
     /// Whether one more macro or loop may run inside the innermost source.
@@ -286,96 +273,13 @@ impl InputStack {
         self.top.set_line(&mut self.text, line);
     }
 
-    /// Goes past a leaf.
-    pub fn pass(&mut self)
-        ensures { self.new ≡ with_top (past (after_part self.old.top.spot.levels) self.old.top) self.old }
+    /// The innermost source goes past what comes next.
+    #[inline(always)]
+    pub fn go(&mut self, movement: Movement)
+        requires { Suits movement (next_of self.old) }
+        ensures { self.new ≡ with_top (went movement self.old.top) self.old }
     {
-        self.top.pass(&self.text);
-    }
-
-    /// Goes past a head without a block that is not run.
-    pub fn pass_guard(&mut self)
-        ensures { self.new ≡ with_top (past
-            (record self.old.top.spot { begun = true }) self.old.top) self.old }
-    {
-        self.top.pass_guard(&self.text);
-    }
-
-    /// Goes past a head without a block that is run, and has this value.
-    pub fn guard(&mut self, value: bool)
-        requires { is_part (next_of self.old) ≡ true }
-        ensures { self.new ≡ with_top
-            (past (guarded_by (branch_in (next_of self.old)) value self.old.top.spot.levels) self.old.top) self.old }
-    {
-        self.top.guard(&self.text, value);
-    }
-
-    /// Enters a block whose head is run, and has this value.
-    pub fn enter_block(&mut self, value: bool) -> Way
-        requires { is_part (next_of self.old) ≡ true }
-        ensures way { result ≡ way_of value (length self.old.top.spot.levels.outer) }
-        ensures spot { self.new ≡ with_top (past (after_part (enter result
-            (bit_after (branch_in (next_of self.old)) value self.old.top.spot.levels.bit) self.old.top.spot.levels)) self.old.top) self.old }
-    {
-        self.top.enter_block(&self.text, value)
-    }
-
-    /// Enters a block that is passed over.
-    pub fn skip_block(&mut self)
-        requires { is_part (next_of self.old) ≡ true }
-        ensures { self.new ≡ with_top (past
-            (after_part (skip self.old.top.spot.levels)) self.old.top) self.old }
-    {
-        self.top.skip_block(&self.text);
-    }
-
-    /// Goes past the head of a loop with a block, which is collected from here on.
-    pub fn open_loop(&mut self)
-        ensures { self.new ≡ with_top (past
-            (after_part (open_loop self.old.top.spot.levels)) self.old.top) self.old }
-    {
-        self.top.open_loop(&self.text);
-    }
-
-    /// The innermost block ends, or the loop that is collected: which of them.
-    pub fn leave_block(&mut self) -> Ended
-        ensures spot { self.new ≡ with_top (past
-            (after_part (leave self.old.top.spot.levels)) self.old.top) self.old }
-        ensures ended { result ≡ what_ends self.old.top.spot.levels }
-    {
-        self.top.leave_block(&self.text)
-    }
-
-    /// Goes past the head of a region, which opens, and is run or not.
-    pub fn open_region(&mut self, is_run: bool)
-        requires { is_part (next_of self.old) ≡ true }
-        ensures { self.new ≡ with_top (in_region
-            (region_in is_run (next_of self.old)) self.old.top) self.old }
-    {
-        self.top.open_region(&self.text, is_run);
-    }
-
-    /// A line begins.
-    pub fn begin_line(&mut self)
-        requires { is_line (next_of self.old) ≡ true }
-        ensures { self.new ≡ with_top (next_line None
-            (first_atoms self.old.top.lines) self.old.top) self.old }
-    {
-        self.top.begin_line(&self.text);
-    }
-
-    /// Goes past a line in the open region.
-    pub fn pass_region_line(&mut self)
-        ensures { self.new ≡ with_top (next_line self.old.top.region [] self.old.top) self.old }
-    {
-        self.top.pass_region_line(&self.text);
-    }
-
-    /// Goes past the end of the open region.
-    pub fn end_region(&mut self)
-        ensures { self.new ≡ with_top (next_line None [] self.old.top) self.old }
-    {
-        self.top.end_region(&self.text);
+        self.top.go(&self.text, movement);
     }
 
     /// Calls a macro: a copy of its body runs, with arguments that have a line feed at the end of each.
@@ -403,14 +307,6 @@ impl InputStack {
         let body = InputFrame::repeat(&mut self.text, text, arguments);
         let source = mem::replace(&mut self.top, body);
         self.callers.push_reserved(Caller { source, end });
-    }
-
-    /// A turn of the loop begins that is the innermost source: all lines of its body are to come.
-    pub fn begin_turn(&mut self)
-        requires { is_turn (next_of self.old) ≡ true }
-        ensures { self.new ≡ with_top (in_turn self.old.top) self.old }
-    {
-        self.top.begin_turn();
     }
 
     /// The innermost source ends: a macro, or a loop of which no turn begins.

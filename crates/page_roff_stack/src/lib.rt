@@ -3,7 +3,7 @@
 //!
 //! `page_roff_machine` asks it what comes next, and moves it on. Read `specs/Stacks.antt` first, then `input_stacks.rt`.
 //!
-//! Proved: `InputStack` (`peek`, `part`, `read_part`, and its changes), `stack_law`: what comes next in the sources that run is what the steps of
+//! Proved: `InputStack` (`peek`, `part`, `read_part`, `go` and its other changes), `stack_law`: what comes next in the sources that run is what the steps of
 //! `page_roff_language` take next, and each change leaves what the step leaves. No call but `new` and `at` asks for memory.
 #![tactic(auto)]
 
@@ -11,6 +11,7 @@ mod ahead;
 mod input_frames;
 mod input_stacks;
 mod laws;
+mod movements;
 mod next;
 mod source_kinds;
 mod spans;
@@ -18,4 +19,5 @@ mod turns;
 
 pub use input_stacks::InputStack;
 pub use laws::stack_law;
+pub use movements::Movement;
 pub use next::Next;

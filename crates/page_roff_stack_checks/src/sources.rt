@@ -4,9 +4,9 @@
 use arrayvec::ArrayVec;
 use page_core_base::is_line;
 use page_core_limits::{ARGS, BODY};
-use page_roff_blocks::{Atom, Branch, Ended, Head, Opening, Reached, loop_text};
+use page_roff_blocks::{Atom, Branch, Ended, Head, Opening, Pass, Reached, loop_text};
 use page_roff_heads::{Condition, LoopHead, Test};
-use page_roff_stack::{InputStack, Next};
+use page_roff_stack::{InputStack, Movement, Next};
 use std::alloc::AllocError;
 use std::process::Abort;
 use std::test::Fail;
@@ -76,7 +76,7 @@ fn leaf(stack: &mut InputStack, macros: &[Macro], trace: &mut Trace) {
         }
         _ => None,
     };
-    stack.pass();
+    stack.go(Movement::Part(Pass::Leaf));
     if let Some((body, packed)) = call {
         if stack.may_call() && body.len() <= BODY && packed.len() <= ARGS {
             stack.call(body, packed.as_slice());
@@ -129,12 +129,13 @@ fn repeat(stack: &mut InputStack, trace: &mut Trace) {
 fn block(stack: &mut InputStack, trace: &mut Trace) {
     match stack.peek() {
         Next::Part(Atom::Block(Opening::Conditional(head))) => {
-            let value = value(head, stack.bit());
-            stack.enter_block(value);
+            let bit = stack.levels().bit();
+            let answer = head.branch.answered(bit, Some(value(head, bit)));
+            stack.go(Movement::Part(Pass::Block(answer)));
         }
         Next::Part(Atom::Block(Opening::Loop(head))) => {
             open_loop(trace, head);
-            stack.open_loop();
+            stack.go(Movement::Part(Pass::Loop(true)));
         }
         _ => (),
     }
@@ -146,14 +147,16 @@ fn line_loop(stack: &mut InputStack, trace: &mut Trace) {
     if let Next::Part(Atom::Loop(head)) = stack.peek() {
         open_loop(trace, head);
     }
-    stack.pass();
+    stack.go(Movement::Part(Pass::Leaf));
     if is_run {
         repeat(stack, trace);
     }
 }
 
 fn block_end(stack: &mut InputStack, trace: &mut Trace) {
-    match stack.leave_block() {
+    let ended = stack.levels().ended();
+    stack.go(Movement::Part(Pass::End));
+    match ended {
         Ended::Block => (),
         Ended::Loop => repeat(stack, trace),
         Ended::Nothing => show(&mut trace.shown, b"!"),
@@ -166,25 +169,23 @@ fn part(stack: &mut InputStack, macros: &[Macro], trace: &mut Trace) {
     match stack.peek() {
         Next::Part(Atom::Leaf(_)) => leaf(stack, macros, trace),
         Next::Part(Atom::Guard(head)) => {
-            if is_run {
-                let value = value(head, stack.bit());
-                stack.guard(value);
-            } else {
-                stack.pass_guard();
-            }
+            let bit = stack.levels().bit();
+            let value = if is_run { Some(value(head, bit)) } else { None };
+            let answer = head.branch.answered(bit, value);
+            stack.go(Movement::Part(Pass::Guard(answer)));
         }
         Next::Part(Atom::Block(_)) => {
             if is_run {
                 block(stack, trace);
             } else {
-                stack.skip_block();
+                stack.go(Movement::Part(Pass::Block(None)));
             }
         }
         Next::Part(Atom::Loop(_)) => line_loop(stack, trace),
         Next::Part(Atom::End) => block_end(stack, trace),
         Next::Part(Atom::Region(_)) => {
             show(&mut trace.shown, if is_run { b"[" } else { b"{" });
-            stack.open_region(is_run);
+            stack.go(Movement::Region(is_run));
         }
         _ => (),
     }
@@ -193,27 +194,27 @@ fn part(stack: &mut InputStack, macros: &[Macro], trace: &mut Trace) {
 // A line begins, in a loop that is collected or not.
 fn line(stack: &mut InputStack, trace: &mut Trace) {
     if let Next::Line(line) = stack.peek() {
-        if stack.in_loop() {
-            if let Some(text) = loop_text(line, stack.skipped()) {
+        if stack.levels().in_loop() {
+            if let Some(text) = loop_text(line, stack.levels().skipped()) {
                 collect(trace, text);
             }
         }
-        stack.begin_line();
+        stack.go(Movement::Line);
     }
 }
 
 // A line in a region.
 fn region_line(stack: &mut InputStack, trace: &mut Trace) {
     if let Next::RegionLine { line, is_end, .. } = stack.peek() {
-        if stack.in_loop() {
+        if stack.levels().in_loop() {
             collect(trace, line);
         }
         if is_end {
             show(&mut trace.shown, b"]");
-            stack.end_region();
+            stack.go(Movement::RegionEnd);
         } else {
             show(&mut trace.shown, line);
-            stack.pass_region_line();
+            stack.go(Movement::RegionLine);
         }
     }
 }
@@ -254,7 +255,7 @@ fn turn(stack: &mut InputStack, trace: &mut Trace) {
         if done < turns {
             let _ = trace.turns.try_push(done + 1);
             show(&mut trace.shown, if has_begun { b"," } else { b"<" });
-            stack.begin_turn();
+            stack.go(Movement::Turn);
         } else {
             end(stack, trace, b">");
             stack.end_source();
@@ -288,7 +289,7 @@ fn run_lines(rt: &impl Abort, stack: &mut InputStack, macros: &[Macro], lines: &
     for line in lines {
         assert!(rt; stack.is_idle());
         assert!(rt; is_line(line.as_bytes()));
-        assert!(rt; stack.skipped() < 1000);
+        assert!(rt; stack.levels().skipped() < 1000);
         stack.set_line(line.as_bytes());
         'steps: for _ in 0..400 {
             if !step(stack, macros, &mut trace) {
@@ -405,7 +406,7 @@ fn all_turns(stack: &mut InputStack) -> u32 {
         if !matches!(stack.peek(), Next::Turn { .. }) {
             return turns;
         }
-        stack.begin_turn();
+        stack.go(Movement::Turn);
     }
     2000
 }

@@ -1,7 +1,5 @@
-use Rattle.std.proofs.Common.{ap, ◌∙◌}
 use Rattle.page_roff_blocks.specs.LinePlaces.{parts_at}
-use Rattle.page_roff_stack.specs.Ahead.{kind_of}
-use Rattle.page_roff_stack.proofs.InputFrameLemmas.{reads_first, reads_rest, reads_branch}
+use Rattle.page_roff_stack.proofs.InputFrameLemmas.{reads_first, reads_rest}
 use Rattle.page_roff_stack.proofs.ahead.read_ahead.Goals as goal
 
 pub returns-clause-value : goal.returns-clause-value
@@ -9,11 +7,10 @@ returns-clause-value c =
     let line = c.args.line.now in
     reads_first (parts_at line c.args.place) c.next_atom-part.result (parts_at line c.next_atom-part.new.self) c.next_atom-part.ensures.next
 
-pub returns-clause-ahead : goal.returns-clause-ahead
-returns-clause-ahead c =
+pub returns-clause-after : goal.returns-clause-after
+returns-clause-after c =
     let line = c.args.line.now in
     record {
       next = reads_rest (parts_at line c.args.place) c.next_atom-part.result (parts_at line c.next_atom-part.new.self) c.next_atom-part.ensures.next;
       within = c.next_atom-part.ensures.within;
-      kind = c.kind_of-kind.ensures ∙ ap kind_of (reads_branch (parts_at line c.args.place) c.next_atom-part.result (parts_at line c.next_atom-part.new.self) c.next_atom-part.ensures.next);
     }

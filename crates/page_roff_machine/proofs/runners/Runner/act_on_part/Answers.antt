@@ -1,4 +1,6 @@
+use Rattle.std.proofs.Common.{ap, ◌∙◌}
 use Rattle.page_roff_blocks.specs.Atoms.{head_seen, loop_head_seen}
+use Rattle.page_roff_blocks.specs.Levels.{Levels}
 use Rattle.page_roff_blocks.specs.declared.atoms.Atom.TheVariants.{Leaf, Guard, Block, Loop, End, Region}
 use Rattle.page_roff_blocks.specs.declared.atoms.Opening.TheVariants as openings
 use Rattle.page_roff_regions.specs.Regions.{region_seen}
@@ -16,20 +18,22 @@ returns-in-Some-Leaf g c =
 
 pub returns-in-Some-Guard : goal.returns-in-Some-Guard
 returns-in-Some-Guard g c =
+    let bit_here = c.bit-bit.ensures ∙ ap (λ (l : Levels). l.bit) c.levels.ensures.value in
     let head = head_seen c.in-Some-Guard.head in
     let part = is_the_part (next_of c.args.self.now.stack) (Guard head) (rw c.in-Some-Guard.field-0-is at c.in-Some-Guard.ensures.value) in
-    rw c.read_part.follows.holds-at-none (
-    decides_guard g.O.NoteOut.left c.args.self.now c.answer.new.self c.args.out.now c.answer.new.out head c.args.reached c.bit-bit.result c.answer.result
-    part c.requires.reached c.bit-bit.ensures c.requires.sound.setting c.answer.ensures
+    rw (c.answered-answer.ensures, c.read_part.follows.holds-at-none) (
+    decides_guard g.O.NoteOut.left c.args.self.now c.answer-value.new.self c.args.out.now c.answer-value.new.out head c.args.reached c.bit-bit.result c.answer-value.result
+    part c.requires.reached bit_here c.requires.sound.setting c.answer-value.ensures
     )
 
 pub returns-in-Some-Block-Conditional : goal.returns-in-Some-Block-Conditional
 returns-in-Some-Block-Conditional g c =
+    let bit_here = c.bit-bit.ensures ∙ ap (λ (l : Levels). l.bit) c.levels.ensures.value in
     let head = head_seen c.in-Some-Block-Conditional.head in
     let part = is_the_part (next_of c.args.self.now.stack) (Block (openings.Conditional head)) (rw (c.in-Some-Block-Conditional.field-0-is, c.in-Some-Block-Conditional.field-0-0-is) at c.in-Some-Block-Conditional.ensures.value) in
-    rw c.read_part.follows.holds-at-none (
-    decides_block g.O.NoteOut.left c.args.self.now c.answer-value.new.self c.args.out.now c.answer-value.new.out head c.args.reached c.bit-bit.result c.answer-value.result
-    part c.requires.reached c.bit-bit.ensures c.requires.sound.setting c.answer-value.ensures
+    rw (c.answered.ensures, c.read_part.follows.holds-at-none) (
+    decides_block g.O.NoteOut.left c.args.self.now c.answer-value-in-Some-Block-Conditional.new.self c.args.out.now c.answer-value-in-Some-Block-Conditional.new.out head c.args.reached c.bit-bit.result c.answer-value-in-Some-Block-Conditional.result
+    part c.requires.reached bit_here c.requires.sound.setting c.answer-value-in-Some-Block-Conditional.ensures
     )
 
 pub returns-in-Some-Block-Loop : goal.returns-in-Some-Block-Loop
@@ -37,8 +41,8 @@ returns-in-Some-Block-Loop g c =
     let head = loop_head_seen c.in-Some-Block-Loop.head in
     let part = is_the_part (next_of c.args.self.now.stack) (Block (openings.Loop head)) (rw (c.in-Some-Block-Loop.field-0-is, c.in-Some-Block-Loop.field-0-0-is) at c.in-Some-Block-Loop.ensures.value) in
     rw c.read_part.follows.holds-at-none (
-    decides_open_loop g.O.NoteOut.left c.args.self.now c.open_loop.new.self c.args.out.now c.open_loop.new.out head c.args.reached c.open_loop.result
-    part c.requires.reached c.requires.sound.setting c.open_loop.ensures
+    decides_open_loop g.O.NoteOut.left c.args.self.now c.open_loop-is_run.new.self c.args.out.now c.open_loop-is_run.new.out head c.args.reached c.open_loop-is_run.result
+    part c.requires.reached c.requires.sound.setting c.open_loop-is_run.ensures
     )
 
 pub returns-in-Some-Loop : goal.returns-in-Some-Loop

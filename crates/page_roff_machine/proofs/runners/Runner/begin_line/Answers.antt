@@ -10,10 +10,10 @@ begin_line-requires g c =
     rw c.is_page-is_page.ensures
     (room c.args.self.now c.requires.sound (line_there c.args.self.now.stack (line_in next) (is_the_line next c.requires.line)))
 
-pub begin_line-requires-2 : goal.begin_line-requires-2
-begin_line-requires-2 g c = ap (λ (s : Stack). is_line (next_of s)) c.collect_line.ensures.stack ∙ c.requires.line
+pub go-requires : goal.go-requires
+go-requires g c = ap (λ (s : Stack). is_line (next_of s)) c.collect_line.ensures.stack ∙ c.requires.line
 
 pub returns : goal.returns
 returns g c =
-    begins g.O.NoteOut.left c.args.self.now c.collect_line.new.self c.begin_line.new.self c.args.out.now c.begin_line.new.out c.collect_line.new.out c.is_page-is_page.result c.begin_line-2.new.self
-    c.requires.line c.is_page-is_page.ensures c.requires.sound.setting c.begin_line.ensures c.collect_line.ensures c.begin_line-2.ensures
+    begins g.O.NoteOut.left c.args.self.now c.collect_line.new.self c.begin_line.new.self c.args.out.now c.begin_line.new.out c.collect_line.new.out c.is_page-is_page.result c.go.new.self
+    c.requires.line c.is_page-is_page.ensures c.requires.sound.setting c.begin_line.ensures c.collect_line.ensures c.go.ensures
