@@ -40,13 +40,24 @@ pub fn scarce_difference<S: Scarce>(alloc: Global, call: &mut S) -> Option<&'sta
     let Some(mut memory) = Scarcity::new(alloc) else {
         return Some("scarce");
     };
+    let way = refused_difference(alloc, &mut memory, call);
+    memory.give_all();
+    way
+}
+
+// The same, where nothing is taken yet.
+fn refused_difference<S: Scarce>(
+    alloc: Global,
+    memory: &mut Scarcity,
+    call: &mut S,
+) -> Option<&'static str> {
+    if call.once(alloc) != Ended::Whole {
+        return Some("with ample memory");
+    }
     if !memory.take_all() {
-        memory.give_all();
         return Some("scarce");
     }
-    let stands = stands_refusals(alloc, &mut memory, call);
-    memory.give_all();
-    if stands {
+    if stands_refusals(alloc, memory, call) {
         None
     } else {
         Some("where memory is refused")

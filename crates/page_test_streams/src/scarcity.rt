@@ -8,8 +8,8 @@
 //! What is given back at last may lie in pieces from then on: a program that refuses memory to several calls begins with the one whose growths are the
 //! largest.
 //!
-//! Where the allocator finds no other room it takes what lies right below the stack, and keeps some of that, so that the stack cannot grow any more. So a
-//! program refuses memory in its last cases, when its stack is as large as it gets.
+//! Where the allocator finds no other room it takes what lies right below the stack, which then can't grow any more. So the stack is made larger first, by
+//! far more than a run over a page wants, and stays so: memory is refused to what is called by the function that made this.
 //!
 //! This is for Linux with the GNU C library, and takes some 100 MB of memory at 24 GB of it, for a quarter of a second. `is_cheap` says where it is not for use.
 
@@ -23,6 +23,31 @@ const STEPS: usize = 8_192;
 
 const STEP: usize = 1_040;
 
+// The stack that is made sure of for calls, in bytes: a run over a page takes a tenth of it.
+const STACK: usize = 1_048_576;
+
+// Fills what is on the stack.
+#[inline(never)]
+fn fill(room: &mut [u8; STACK], byte: u8) {
+    for place in 0..STACK {
+        room[place] = byte;
+    }
+}
+
+// Whether the ends of what is on the stack are filled.
+#[inline(never)]
+fn is_filled(room: &[u8; STACK], byte: u8) -> bool {
+    room[0] == byte && room[STACK - 1] == byte
+}
+
+// Makes the stack larger by what is made sure of. It answers whether it is.
+#[inline(never)]
+fn grow_stack(byte: u8) -> bool {
+    let mut room = [0u8; STACK];
+    fill(&mut room, byte);
+    is_filled(&room, byte)
+}
+
 /// Memory that is kept from all else.
 #[derive(Drop)]
 pub struct Scarcity {
@@ -32,8 +57,11 @@ pub struct Scarcity {
 }
 
 impl Scarcity {
-    /// Keeps nothing yet but the steps, which lie side by side.
+    /// Keeps nothing yet but the steps, which lie side by side, and makes the stack larger.
     pub fn new(alloc: Global) -> Option<Scarcity> {
+        if !grow_stack(b's') {
+            return None;
+        }
         let blocks = Vec::with_capacity(alloc, BLOCKS).ok()?;
         let steps = Vec::with_capacity(alloc, STEPS).ok()?;
         let mut made = Scarcity {
