@@ -59,8 +59,8 @@ NO_ROFF = b"-- not by roff alone\n"
 AFTER_ROFF = b"-- no memory after roff\n"
 STAGES = (PUT_DOWN, GO_ON, AFTER_PAGE, NO_ROFF, AFTER_ROFF)
 
-# Words of pages that are to fail otherwise.
-FAILING = re.compile(rb"rows=|messages=|width=57|width=301|indent=21")
+# Words of pages that are to fail otherwise, or are refused memory by the program.
+FAILING = re.compile(rb"rows=|messages=|width=57|width=301|indent=21|scarce=")
 
 
 class Bad(Exception):

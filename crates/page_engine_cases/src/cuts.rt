@@ -5,15 +5,23 @@ ghost use Rattle.page_core_base.specs.Texts.{IsLine};
 use crate::lines::Feed;
 use page_core::Fault;
 use page_engine::Outcome;
+use page_test_streams::Scarcity;
 use std::alloc::Global;
 
 /// After which lines it goes on from what is held.
 #[derive(Clone, Copy)]
-pub(crate) enum Cuts<'a> {
+pub(crate) enum Cuts {
     Never,
     Always,
-    /// After the line of a number. Want of memory is reported there, and the page goes on all the same.
-    After(&'a HostRuntime, u32),
+    /// After the line of a number. Where memory lacks for that, it goes on as it is.
+    After(u32),
+}
+
+/// What memory lacked for.
+#[derive(Clone, Copy, PartialEq, Eq)]
+pub(crate) enum Lack {
+    PuttingDown,
+    GoingOn,
 }
 
 /// What can be put down between two lines, and go on from there.
@@ -30,10 +38,14 @@ pub(crate) trait PutDown: Feed {
 
 /// Takes lines, and goes on after some of them from what is held.
 #[derive(Drop)]
-pub(crate) struct CutFeed<'a, F> {
+pub(crate) struct CutFeed<F> {
     pub(crate) feed: F,
     pub(crate) alloc: Global,
-    pub(crate) cuts: Cuts<'a>,
+    pub(crate) cuts: Cuts,
+    /// What memory lacked for, if for anything.
+    pub(crate) lack: Option<Lack>,
+    /// What takes all memory before each line and before the end, if it is to, and gives it back for a cut.
+    pub(crate) memory: Option<Scarcity>,
 }
 
 // It goes on from this.
@@ -50,40 +62,61 @@ fn cut<F: PutDown>(alloc: Global, feed: &mut F) -> Result<(), Fault> {
     go_on(alloc, feed, held)
 }
 
-// The same; want of memory is reported. Then it stays as it is, or what came back is tried once more.
-fn cut_telling<F: PutDown>(rt: &HostRuntime, feed: &mut F) -> Result<(), Fault> {
-    match feed.put_down(rt.alloc()) {
-        Ok(held) => go_on_telling(rt, feed, held),
-        Err(Fault::Memory) => {
-            let _ = println!(rt; "-- no memory to put it down");
-            Ok(())
+impl<F: PutDown + Drop> CutFeed<F> {
+    fn take_memory(&mut self) {
+        if let Some(memory) = &mut self.memory {
+            memory.take_all();
         }
-        Err(fault) => Err(fault),
+    }
+
+    fn give_memory(&mut self) {
+        if let Some(memory) = &mut self.memory {
+            memory.give_all();
+        }
+    }
+
+    // It goes on from what is held of it, or as it is where memory lacks for that.
+    fn cut_or_stay(&mut self) -> Result<(), Fault> {
+        self.give_memory();
+        match self.feed.put_down(self.alloc) {
+            Ok(held) => self.go_on_or_stay(held),
+            Err(Fault::Memory) => {
+                self.lack = Some(Lack::PuttingDown);
+                Ok(())
+            }
+            Err(fault) => Err(fault),
+        }
+    }
+
+    // It goes on from this. Where memory lacks, what came back is tried once more, and it stays as it is where memory lacks then too.
+    fn go_on_or_stay(&mut self, held: F::Held) -> Result<(), Fault> {
+        match self.feed.go_on(self.alloc, held) {
+            Ok(()) => Ok(()),
+            Err((held, Fault::Memory)) => {
+                self.lack = Some(Lack::GoingOn);
+                match go_on(self.alloc, &mut self.feed, held) {
+                    Err(Fault::Memory) => Ok(()),
+                    other => other,
+                }
+            }
+            Err((_, fault)) => Err(fault),
+        }
     }
 }
 
-fn go_on_telling<F: PutDown>(rt: &HostRuntime, feed: &mut F, held: F::Held) -> Result<(), Fault> {
-    match feed.go_on(rt.alloc(), held) {
-        Ok(()) => Ok(()),
-        Err((held, Fault::Memory)) => {
-            let _ = println!(rt; "-- no memory to go on");
-            go_on(rt.alloc(), feed, held)
-        }
-        Err((_, fault)) => Err(fault),
-    }
-}
-
-impl<F: PutDown + Drop> Feed for CutFeed<'_, F> {
+impl<F: PutDown + Drop> Feed for CutFeed<F> {
     fn line(&mut self, text: &[u8], number: u32) -> Result<(), Fault> {
+        self.take_memory();
         self.feed.line(text, number)?;
         match self.cuts {
             Cuts::Always => cut(self.alloc, &mut self.feed),
-            Cuts::After(rt, line) if line == number => cut_telling(rt, &mut self.feed),
+            Cuts::After(line) if line == number => self.cut_or_stay(),
             _ => Ok(()),
         }
     }
 
     fn end(&mut self) -> Result<(), Fault> {
+        self.take_memory();
         self.feed.end()
     }
 
@@ -93,5 +126,9 @@ impl<F: PutDown + Drop> Feed for CutFeed<'_, F> {
 
     fn later(&mut self) -> Option<Fault> {
         self.feed.later()
+    }
+
+    fn lack(&self) -> Option<Lack> {
+        self.lack
     }
 }

@@ -4,6 +4,7 @@
 
 ghost use Rattle.std.specs.Prelude.{◌≡◌, ◌≤◌, length, false};
 
+use crate::cuts::Lack;
 use crate::lines::{BYTES, Feed, Lines};
 use page_core::Fault;
 use page_engine::Outcome;
@@ -17,6 +18,8 @@ pub(crate) struct Ending {
     pub(crate) later: Option<Fault>,
     /// Whether nothing was reported of how its lines are cut, which these streams do not get.
     pub(crate) is_plain: bool,
+    /// What memory lacked for at a cut, if for anything.
+    pub(crate) lack: Option<Lack>,
     /// Whether there was memory after the end.
     pub(crate) has_memory: bool,
 }
@@ -28,6 +31,7 @@ impl Ending {
             result: Err(fault),
             later: None,
             is_plain: false,
+            lack: None,
             has_memory: true,
         }
     }
@@ -53,6 +57,7 @@ pub(crate) fn run<F: Feed + Drop>(
         result: result.map(|()| outcome),
         later,
         is_plain: lines.are_plain(),
+        lack: feed.lack(),
         has_memory: own.is_ok(),
     }
 }

@@ -89,7 +89,7 @@ impl Whole {
         let Some(mut streams) = Streams::new(alloc, 0, fails, Shows::Nothing) else {
             return false;
         };
-        let ending = run_lines(alloc, bytes, settings, &mut streams, Cuts::Never);
+        let ending = run_lines(alloc, bytes, settings, &mut streams, Cuts::Never, None);
         match ending {
             Some(ending) => self.is_met(&streams, ending),
             None => false,

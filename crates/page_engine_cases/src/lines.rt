@@ -3,6 +3,7 @@
 ghost use Rattle.std.specs.Prelude.{◌≡◌, ◌+◌, ◌^◌, ◌<◌, length, false, true, OnOk, IfSome};
 ghost use Rattle.page_core_base.specs.Texts.{IsLine};
 
+use crate::cuts::Lack;
 use page_core::{Encoding, Fault, KeptNotes};
 use page_engine::Outcome;
 use page_roff::Cutter;
@@ -31,6 +32,9 @@ pub(crate) trait Feed {
 
     /// The fault of a further line and of a further end, where both have the same and nothing is written.
     fn later(&mut self) -> Option<Fault>;
+
+    /// What memory lacked for at a cut, if for anything.
+    fn lack(&self) -> Option<Lack>;
 }
 
 /// Cuts the bytes of a page into lines, with the messages of the cutting.

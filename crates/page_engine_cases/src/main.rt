@@ -4,22 +4,28 @@
 //! Each page is also run at once, with each write failing in turn, by roff alone, which counts the same, and, page and roff, so that they go on after
 //! each line from what is held of them. Where it then gives something else, a line `-- not` says so. Where an allocation is refused, either there is no
 //! page, or it is the one after the page; and the same of roff. A page with a cut, by its words, is run so alone: where memory lacks for that, it is reported.
+//! One that is scarce, by its words, is also run with memory refused, each growth in turn, where it is made, put down and goes on, with none at all
+//! in between; and so are its scopes and its filler alone.
 #![tactic(auto)]
 
 mod cuts;
 mod endings;
 mod failing;
+mod layers;
 mod lines;
 mod pages;
+mod refused;
 mod roffs;
 mod streams;
 mod words;
 
-use cuts::Cuts;
+use cuts::{Cuts, Lack};
 use endings::Ending;
 use failing::Whole;
 use page_engine::Outcome;
+use page_test_streams::is_cheap;
 use pages::run_lines;
+use refused::{Case, refusal_difference};
 use roffs::run_roff;
 use std::io;
 use streams::{Shows, Streams};
@@ -79,10 +85,10 @@ fn show(rt: &HostRuntime, page: &[u8], words: Words) {
 // Shows what a page gives to streams, and how it ends.
 fn show_page(rt: &HostRuntime, page: &[u8], words: &Words, streams: &mut Streams) {
     let cuts = match words.cut {
-        Some(number) => Cuts::After(rt, number),
+        Some(number) => Cuts::After(number),
         None => Cuts::Never,
     };
-    let Some(ending) = run_lines(rt.alloc(), page, &words.settings, streams, cuts) else {
+    let Some(ending) = run_lines(rt.alloc(), page, &words.settings, streams, cuts, None) else {
         return;
     };
     streams.show();
@@ -92,6 +98,15 @@ fn show_page(rt: &HostRuntime, page: &[u8], words: &Words, streams: &mut Streams
     }
     if words.cut.is_none() {
         show_differences(rt, page, words, streams, ending);
+    }
+    if let Some(line) = words.scarce {
+        let case = Case {
+            page,
+            settings: &words.settings,
+            line,
+            ending,
+        };
+        show_refusals(rt, case, streams);
     }
 }
 
@@ -103,10 +118,20 @@ fn show_ending(rt: &HostRuntime, ending: Ending) -> io::Result<()> {
     if let Some(fault) = ending.later {
         println!(rt; "-- then {fault}")?;
     }
+    show_lack(rt, ending)?;
     if !ending.has_memory {
         println!(rt; "-- no memory after the page")?;
     }
     Ok(())
+}
+
+// Shows what memory lacked for at a cut.
+fn show_lack(rt: &HostRuntime, ending: Ending) -> io::Result<()> {
+    match ending.lack {
+        Some(Lack::PuttingDown) => println!(rt; "-- no memory to put it down"),
+        Some(Lack::GoingOn) => println!(rt; "-- no memory to go on"),
+        None => Ok(()),
+    }
 }
 
 fn show_outcome(rt: &HostRuntime, outcome: Outcome) -> io::Result<()> {
@@ -122,7 +147,7 @@ fn show_outcome(rt: &HostRuntime, outcome: Outcome) -> io::Result<()> {
 }
 
 // Shows where roff alone counts something else of the page, or lacks memory.
-fn show_roff(rt: &HostRuntime, page: &[u8], words: &Words, ending: Ending, cuts: Cuts<'_>) {
+fn show_roff(rt: &HostRuntime, page: &[u8], words: &Words, ending: Ending, cuts: Cuts) {
     let roff = run_roff(rt.alloc(), page, &words.settings, ROOM, cuts);
     let _ = match roff {
         Some(roff) => compare_roff(rt, roff, ending),
@@ -140,6 +165,7 @@ fn compare_roff(rt: &HostRuntime, roff: Ending, ending: Ending) -> io::Result<()
     {
         println!(rt; "-- not the counts of roff alone")?;
     }
+    show_lack(rt, roff)?;
     if !roff.has_memory {
         println!(rt; "-- no memory after roff")?;
     }
@@ -169,7 +195,14 @@ fn show_cuts(rt: &HostRuntime, page: &[u8], words: &Words, streams: &Streams, en
     let Some(mut cut) = Streams::new(rt.alloc(), 0, fails, Shows::Nothing) else {
         return;
     };
-    let by_cuts = run_lines(rt.alloc(), page, &words.settings, &mut cut, Cuts::Always);
+    let by_cuts = run_lines(
+        rt.alloc(),
+        page,
+        &words.settings,
+        &mut cut,
+        Cuts::Always,
+        None,
+    );
     let is_same = by_cuts.is_some_and(|other| other.result == ending.result
         && other.later == ending.later);
     if !is_same || !cut.are(streams) {
@@ -185,5 +218,16 @@ fn show_whole(rt: &HostRuntime, page: &[u8], words: &Words, streams: &Streams, e
     }
     if !whole.stands_failures(rt.alloc(), page, &words.settings) {
         let _ = println!(rt; "-- not where a write fails");
+    }
+}
+
+// Shows in which way the page is not right where memory is refused to it.
+fn show_refusals(rt: &HostRuntime, case: Case, streams: &Streams) {
+    if !is_cheap(rt, rt.alloc()) {
+        let _ = eprintln!(rt; "memory can't be refused here at little cost, and is not");
+        return;
+    }
+    if let Some(way) = refusal_difference(rt.alloc(), case, streams) {
+        let _ = println!(rt; "-- not {way}");
     }
 }

@@ -2,12 +2,13 @@
 
 ghost use Rattle.page_core_base.specs.Texts.{IsLine};
 
-use crate::cuts::{CutFeed, Cuts, PutDown};
+use crate::cuts::{CutFeed, Cuts, Lack, PutDown};
 use crate::endings::{Ending, run};
 use crate::lines::{BYTES, FILE, Feed, Lines};
 use crate::streams::Streams;
 use page_core::{Fault, Settings, TextNotes, TextRows};
 use page_engine::{Edge, Outcome, Page};
+use page_test_streams::Scarcity;
 use std::alloc::Global;
 
 // A page, and where its rows and messages go.
@@ -89,6 +90,11 @@ impl Feed for PageFeed<'_, '_> {
     fn later(&mut self) -> Option<Fault> {
         fault_after(self.alloc, &mut self.page, self.streams)
     }
+
+    // It is not cut by itself.
+    fn lack(&self) -> Option<Lack> {
+        None
+    }
 }
 
 impl PutDown for PageFeed<'_, '_> {
@@ -103,13 +109,15 @@ impl PutDown for PageFeed<'_, '_> {
     }
 }
 
-/// Feeds a page line by line. What is not the page's has its memory before the page is made. Nothing, where that memory is refused.
+/// Feeds a page line by line. What is not the page's has its memory before the page is made. Nothing, where that memory is refused. Where it is given
+/// memory to take, none is left between its cuts.
 pub(crate) fn run_lines(
     alloc: Global,
     bytes: &[u8],
     settings: &Settings,
     streams: &mut Streams,
-    cuts: Cuts<'_>,
+    cuts: Cuts,
+    memory: Option<Scarcity>,
 ) -> Option<Ending> {
     if bytes.len() > BYTES {
         return None;
@@ -122,7 +130,14 @@ pub(crate) fn run_lines(
                 streams,
                 alloc,
             };
-            run(alloc, bytes, lines, CutFeed { feed, alloc, cuts })
+            let feed = CutFeed {
+                feed,
+                alloc,
+                cuts,
+                lack: None,
+                memory,
+            };
+            run(alloc, bytes, lines, feed)
         }
         Err(fault) => Ending::without_lines(fault),
     };

@@ -2,7 +2,7 @@
 
 ghost use Rattle.page_core_base.specs.Texts.{IsLine};
 
-use crate::cuts::{CutFeed, Cuts, PutDown};
+use crate::cuts::{CutFeed, Cuts, Lack, PutDown};
 use crate::endings::{Ending, run};
 use crate::lines::{BYTES, FILE, Feed, Lines};
 use page_core::{Fault, Settings, TextNotes};
@@ -113,6 +113,11 @@ impl Feed for RoffFeed {
     fn later(&mut self) -> Option<Fault> {
         None
     }
+
+    // It is not cut by itself.
+    fn lack(&self) -> Option<Lack> {
+        None
+    }
 }
 
 impl PutDown for RoffFeed {
@@ -134,7 +139,7 @@ pub(crate) fn run_roff(
     bytes: &[u8],
     settings: &Settings,
     room: usize,
-    cuts: Cuts<'_>,
+    cuts: Cuts,
 ) -> Option<Ending> {
     if bytes.len() > BYTES {
         return None;
@@ -148,7 +153,14 @@ pub(crate) fn run_roff(
                 roff,
                 settings: *settings,
             };
-            run(alloc, bytes, lines, CutFeed { feed, alloc, cuts })
+            let feed = CutFeed {
+                feed,
+                alloc,
+                cuts,
+                lack: None,
+                memory: None,
+            };
+            run(alloc, bytes, lines, feed)
         }
         Err(fault) => Ending::without_lines(fault),
     };

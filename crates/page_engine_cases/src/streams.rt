@@ -42,6 +42,14 @@ impl<'a> Streams<'a> {
         })
     }
 
+    /// Forgets what was written, and keeps the room.
+    pub(crate) fn clear(&mut self) {
+        self.rows.clear();
+        self.messages.clear();
+        self.rows_shown = 0;
+        self.messages_shown = 0;
+    }
+
     /// Whether others got the same.
     pub(crate) fn are(&self, others: &Streams) -> bool {
         self.rows.kept == others.rows.kept && self.messages.kept == others.messages.kept

@@ -13,6 +13,8 @@ pub(crate) struct Words {
     pub(crate) each: bool,
     /// The line after which the page goes on from what is held of it, if there is one.
     pub(crate) cut: Option<u32>,
+    /// The line after which the page goes on from what is held of it with memory refused, if there is one.
+    pub(crate) scarce: Option<u32>,
     /// Whether each character of the page, up to U+00FF, is the byte of its number.
     pub(crate) bytes: bool,
 }
@@ -38,13 +40,14 @@ impl Words {
             messages: Fails::Never,
             each: false,
             cut: None,
+            scarce: None,
             bytes: false,
         }
     }
 
     /// Those of a title `WORDS: what it shows`: `utf8`, `width=N`, `indent=N`, `level=LEVEL`, the least level of messages, `rows=N` and
     /// `messages=N`, after how many bytes the writer of the rows or of the messages fails, `each`, `cut=N`, the line after which the page goes on
-    /// from what is held of it, and `bytes`, a character for each byte of the page.
+    /// from what is held of it, `scarce=N`, the same with memory refused, and `bytes`, a character for each byte of the page.
     pub(crate) fn of(title: &str) -> Words {
         let mut words = Words::new();
         let (all, _) = title.split_once(": ").unwrap_or(("", title));
@@ -60,6 +63,7 @@ impl Words {
             Some(("indent", digits)) => self.settings.indent = digits.parse().ok(),
             Some(("level", name)) => self.settings.least = level_of(name),
             Some(("cut", digits)) => self.cut = digits.parse().ok(),
+            Some(("scarce", digits)) => self.scarce = digits.parse().ok(),
             Some(("rows", digits)) => self.rows = Fails::Past(digits.parse().unwrap_or(0)),
             Some(("messages", digits)) => self.messages = Fails::Past(digits.parse().unwrap_or(0)),
             _ => match word {
