@@ -1,9 +1,10 @@
 -- The blanks at a row's end, and cells one by one.
 use Rattle.std.proofs.Common.{◌≡◌, ◌≢◌, ℕ, ◌+◌, ◌<◌, ◌≤◌, ◌==◌, true, false, List, [], ◌∷◌, ◌++◌, length, take, drop, get_or, refl, sym, ap, ◌∙◌, append_assoc, arith, replicate, ◌-◌}
-use Rattle.std.specs.List.{flat_map}
+use Rattle.std.specs.List.{flat_map, list_all}
 use Rattle.std.proofs.lemmas.List.{take_more, take-append-drop, replicate-append-replicate}
 use Rattle.std.proofs.lemmas.Grind.{flat_map-append}
 use Rattle.std.proofs.lemmas.Bool.Decides.{nat_tests}
+use Rattle.std.proofs.Math.Seq.{take-add}
 use Rattle.page_core_base.specs.declared.cells.Cell.{Cell}
 use Rattle.page_core_base.specs.Rows.{trimmed, trimmed_before, is_blank}
 use Rattle.page_core_writers.specs.RowBytes.{cell_bytes_of, printed}
@@ -19,6 +20,27 @@ before_last y (z ∷ zs) x = refl
 pub trimmed-full : (xs : List Cell) (x : Cell) → x.c ≢ 32 → trimmed (xs ++ x ∷ []) ≡ xs ++ x ∷ []
 trimmed-full [] x h = let t : is_blank x ≡ false = grind (arith, nat_tests) in rw t refl
 trimmed-full (y ∷ ys) x h = ap (trimmed_before y) (trimmed-full ys x h) ∙ before_last y ys x
+
+-- a group of blanks
+blanks-only : (ys : List Cell) → list_all is_blank ys ≡ true → trimmed ys ≡ []
+blanks-only [] blank = refl
+blanks-only (y ∷ ys) blank =
+    let first : is_blank y ≡ true = grind (arith, blank) in
+    let others : list_all is_blank ys ≡ true = grind (arith, blank) in
+    rw (blanks-only ys others, first) refl
+
+trimmed-blanks : (xs ys : List Cell) → list_all is_blank ys ≡ true → trimmed (xs ++ ys) ≡ trimmed xs
+trimmed-blanks [] ys blank = blanks-only ys blank
+trimmed-blanks (x ∷ xs) ys blank = ap (trimmed_before x) (trimmed-blanks xs ys blank)
+
+-- a group of them before a place
+pub trimmed-group : (cells : List Cell) (len count : ℕ) → count ≤ len → list_all is_blank (take (len - (len - count)) (drop (len - count) cells)) ≡ true
+    → trimmed (take len cells) ≡ trimmed (take (len - count) cells)
+trimmed-group cells len count within blank =
+    let sum : len ≡ (len - count) + (len - (len - count)) = omega (arith, within) in
+    let group = take (len - (len - count)) (drop (len - count) cells) in
+    ap (λ n. trimmed (take n cells)) sum
+    ∙ (ap trimmed (take-add (len - count) (len - (len - count)) cells) ∙ trimmed-blanks (take (len - count) cells) group blank)
 
 -- the first cells of a row come before the others
 pub cells_moved : (front : List ℕ) (cells : List Cell) (n : ℕ)

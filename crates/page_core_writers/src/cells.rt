@@ -2,7 +2,7 @@
 
 ghost use Rattle.std.specs.Prelude.{◌≡◌, ℕ, ◌+◌, ◌*◌, ◌<◌, ◌≤◌, [], ◌∷◌, ◌++◌, length, take, true, encode_utf8};
 ghost use Rattle.std.specs.List.{flat_map, list_all};
-ghost use Rattle.page_core_base.specs.Rows.{trimmed};
+ghost use Rattle.page_core_base.specs.Rows.{is_blank, trimmed};
 ghost use Rattle.page_core_writers.specs.PlainCells.{is_plain, is_roman};
 ghost use Rattle.page_core_writers.specs.RowBytes.{cell_bytes_of};
 
@@ -212,11 +212,47 @@ fn write_char(bytes: &mut [u8], start: usize, c: char) -> usize
     end
 }
 
+// More cells than a row of words has.
+const LONG: usize = 512;
+
+// The cells of a long row that are looked at together: so many that the compiler makes a loop for them that tests several at once.
+const GROUP: usize = 64;
+
+// Whether a few cells are blanks. All of them are read.
+#[inline(always)]
+fn are_blank(cells: &[Cell]) -> bool
+    ensures { result ≡ list_all is_blank cells.now }
+{
+    let mut all = true;
+    for cell in cells {
+        all &= cell.c == ' ';
+    }
+    all
+}
+
+// How many cells there are before the groups of blanks at the end of a long row.
+fn len_before_groups(cells: &[Cell]) -> usize
+    ensures same { trimmed cells.now ≡ trimmed (take result cells.now) }
+    ensures within { result ≤ length cells.now }
+{
+    if cells.len() < LONG {
+        return cells.len();
+    }
+    let mut len = cells.len();
+    while len >= GROUP {
+        if !are_blank(&cells[len - GROUP..len]) {
+            return len;
+        }
+        len -= GROUP;
+    }
+    len
+}
+
 /// The cells without the blanks at their end.
 pub(crate) fn without_blanks_at_end(cells: &[Cell]) -> &[Cell]
     ensures { result.now ≡ trimmed cells.now }
 {
-    let mut len = cells.len();
+    let mut len = len_before_groups(cells);
     while len > 0 && cells[len - 1].c == ' ' {
         len -= 1;
     }

@@ -8,6 +8,9 @@ use Rattle.page_core_writers.proofs.cells.without_blanks_at_end.Goals.{then-loop
 abbrev no_cell : Cell
 no_cell = record { c = 0; font = R }
 
+pub loop-len-init : goal.loop-len-init
+loop-len-init c = (c.len_before_groups-len.ensures.within, c.len_before_groups-len.ensures.same)
+
 pub loop-len-preserved : goal.loop-len-preserved
 loop-len-preserved c =
     let i = c.loop-len.invariant in (
