@@ -1,14 +1,15 @@
 -- Characters one by one.
-use Rattle.std.proofs.Common.{◌≡◌, ℕ, ◌+◌, ◌<◌, ◌≤◌, IsUtf8, chars, encode_utf8, encode_utf8_all, ◌==◌, List, [], ◌∷◌, ◌++◌, length, get_or, drop, refl, ap, arith, inl, inr}
-use Rattle.std.proofs.lemmas.List.{drop_more, drop_all}
+use Rattle.std.proofs.Common.{◌≡◌, ℕ, ◌+◌, ◌<◌, ◌≤◌, IsUtf8, chars, encode_utf8, encode_utf8_all, ◌==◌, List, [], ◌∷◌, ◌++◌, length, get_or, take, drop, refl, sym, ap, ◌∙◌, arith, inl, inr}
+use Rattle.std.proofs.lemmas.List.{drop_more, drop_all, map-append, take-append-drop}
 use Rattle.std.proofs.lemmas.Bool.{cases_Bool}
 use Rattle.std.proofs.lemmas.Bool.Decides.{nat_tests}
 use Rattle.std.specs.Str.{is_utf8}
 use Rattle.std.proofs.lemmas.Str.{chars-nil, chars_past_char, encodes-chars, is_utf8-from_IsUtf8, IsUtf8-from_is_utf8}
+use Rattle.page_core_base.specs.declared.cells.Cell.{Cell}
 use Rattle.page_core_base.specs.declared.cells.Font.{Font}
 use Rattle.page_core_base.specs.declared.places.Place.{Place}
 use Rattle.page_core_base.specs.declared.page_settings.Output.{Output}
-use Rattle.page_core_base.specs.Laid.{join, nothing}
+use Rattle.page_core_base.specs.Laid.{join, join_assoc, nothing}
 use Rattle.page_fill_rows.specs.Sheets.{Sheet, letter, letters}
 use Rattle.page_fill_rows.specs.Characters.{cell_of, cells_of, character, characters, characters_of}
 
@@ -26,6 +27,27 @@ pub bytes-done : (s : Sheet) (bytes : List ℕ) (i : ℕ) (font : Font) (place :
     → letters s (cells_of font (drop i bytes)) place ≡ nothing s
 unfolding letters
 bytes-done s bytes i font place h = rw (drop_all i bytes h) refl
+
+-- ---- parts of bytes
+
+letters-append : (s : Sheet) (front back : List Cell) (place : Place)
+    → letters s (front ++ back) place ≡ join (letters s front place) (letters (letters s front place).edge back place)
+unfolding letters
+letters-append s [] back place = refl
+letters-append s (cell ∷ front) back place =
+    let first = letter s cell place in
+    let others = letters first.edge front place in
+    ap (λ laid. join first laid) (letters-append first.edge front back place) ∙ sym (join_assoc first others (letters others.edge back place))
+
+pub parts-more : (s : Sheet) (bytes : List ℕ) (n : ℕ) (font : Font) (place : Place)
+    → letters s (cells_of font bytes) place
+    ≡ join (letters s (cells_of font (take n bytes)) place) (letters (letters s (cells_of font (take n bytes)) place).edge (cells_of font (drop n bytes)) place)
+parts-more s bytes n font place =
+    let whole = ap (λ b. cells_of font b) (sym (take-append-drop n bytes)) in
+    let parts = map-append (cell_of font) (take n bytes) (drop n bytes) in
+    ap (λ cells. letters s cells place) (whole ∙ parts) ∙ letters-append s (cells_of font (take n bytes)) (cells_of font (drop n bytes)) place
+
+-- ---- texts
 
 pub characters-more : (output : Output) (s : Sheet) (bytes rest : List ℕ) (c : ℕ) (font : Font) (place : Place) → IsUtf8 bytes → bytes ≡ encode_utf8 c ++ rest
     → characters output s (chars bytes) font place

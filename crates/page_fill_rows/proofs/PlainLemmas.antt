@@ -1,7 +1,8 @@
 -- A plain text that the open row has room for.
-use Rattle.std.proofs.Common.{◌≡◌, ℕ, ◌+◌, ◌<◌, ◌≤◌, zero, suc, true, false, ◌==◌, List, [], ◌∷◌, ◌++◌, length, replicate, min, take, drop, set, get_or, append_assoc, append-nil, length-append, ◌||◌, length-drop, ◌-◌, nat_lt, ◌<◌, refl, ap, sym, ◌∙◌, arith}
+use Rattle.std.proofs.Common.{◌≡◌, ℕ, ◌+◌, ◌<◌, ◌≤◌, zero, suc, true, false, ◌==◌, List, [], ◌∷◌, ◌++◌, length, replicate, min, take, drop, set, get_or, append_assoc, append-nil, length-append, ◌&&◌, ◌||◌, length-drop, ◌-◌, nat_lt, ◌<◌, refl, ap, sym, ◌∙◌, arith}
 use Rattle.std.proofs.lemmas.Bool.Decides.{nat_tests}
-use Rattle.std.proofs.lemmas.List.{length-map, length-replicate, length-take-le, get_or-append_right, get_or-drop, take_more, drop_more, set_at}
+use Rattle.std.proofs.lemmas.List.Folds.{list_all-append}
+use Rattle.std.proofs.lemmas.List.{take-append-drop, length-map, length-replicate, length-take-le, get_or-append_right, get_or-drop, take_more, drop_more, set_at}
 use Rattle.std.proofs.lemmas.List.Sums.{sum_by-append}
 use Rattle.unicode_width.specs.Width.{char_width}
 use Rattle.page_core_base.specs.declared.cells.Cell.{Cell}
@@ -31,6 +32,13 @@ first-plain b bytes h = grind (arith, h)
 
 pub rest-plain : (b : ℕ) (bytes : List ℕ) → is_printable_ascii (b ∷ bytes) ≡ true → is_printable_ascii bytes ≡ true
 rest-plain b bytes h = grind (arith, h)
+
+-- both parts of a plain text are plain
+pub parts-plain : (n : ℕ) (bytes : List ℕ) → is_printable_ascii bytes ≡ true → (is_printable_ascii (take n bytes) ≡ true) × (is_printable_ascii (drop n bytes) ≡ true)
+parts-plain n bytes plain =
+    let both = ap is_printable_ascii (sym (take-append-drop n bytes)) ∙ list_all-append is_printable (take n bytes) (drop n bytes) in
+    let all : (is_printable_ascii (take n bytes) && is_printable_ascii (drop n bytes)) ≡ true = sym both ∙ plain in
+    (grind (arith, all), grind (arith, all))
 
 -- ---- one cell
 

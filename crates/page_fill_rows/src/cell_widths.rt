@@ -34,8 +34,42 @@ pub fn columns(cells: &[Cell]) -> u32
     sum
 }
 
-/// Whether no cell prints anything.
-pub(crate) fn is_blank(cells: &[Cell]) -> bool
+// More cells than a row of words has.
+const LONG: usize = 512;
+
+// The cells of a long row that are looked at together: so many that the compiler makes a loop for them that tests several at once.
+const GROUP: usize = 64;
+
+// Whether no cell of a few prints anything. All of them are read.
+#[inline(always)]
+fn are_blank(cells: &[Cell]) -> bool
+    ensures { result ≡ is_blank_row (row_of 0 cells.now) }
+{
+    let mut all = true;
+    for cell in cells {
+        all &= cell.c == ' ';
+    }
+    all
+}
+
+// Whether no cell of a long row prints anything.
+#[inline(never)]
+fn is_long_blank(cells: &[Cell]) -> bool
+    ensures { result ≡ is_blank_row (row_of 0 cells.now) }
+{
+    let mut rest = cells;
+    while rest.len() >= GROUP {
+        let (group, later) = rest.split_at(GROUP);
+        if !are_blank(group) {
+            return false;
+        }
+        rest = later;
+    }
+    are_blank(rest)
+}
+
+// Whether no cell of a row prints anything, cell by cell up to the first that does.
+fn is_short_blank(cells: &[Cell]) -> bool
     ensures { result ≡ is_blank_row (row_of 0 cells.now) }
 {
     for cell in cells {
@@ -44,4 +78,15 @@ pub(crate) fn is_blank(cells: &[Cell]) -> bool
         }
     }
     true
+}
+
+/// Whether no cell prints anything.
+pub(crate) fn is_blank(cells: &[Cell]) -> bool
+    ensures { result ≡ is_blank_row (row_of 0 cells.now) }
+{
+    if cells.len() < LONG {
+        is_short_blank(cells)
+    } else {
+        is_long_blank(cells)
+    }
 }

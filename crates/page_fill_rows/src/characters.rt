@@ -9,23 +9,37 @@ ghost use Rattle.page_fill_rows.specs.Characters as shown;
 ghost use Rattle.page_fill_rows.specs.Plain as plain;
 
 use crate::open_rows::OpenRow;
+use crate::plain_texts::all_printable;
 use page_core_base::{Cell, Font, Note, NoteKind, Output, Place, RowOut};
 use page_core_tables::{Printed, printed_char, printed_glyph};
+
+// The characters of a plain text that are put together.
+const PART: usize = 64;
 
 /// Whether bytes are printable ASCII, of a column each.
 pub fn is_printable_ascii(bytes: &[u8]) -> bool
     ensures { result ≡ plain.is_printable_ascii bytes.now }
 {
-    for byte in bytes {
-        if *byte < b' ' || b'~' < *byte {
-            return false;
-        }
-    }
-    true
+    all_printable(bytes)
 }
 
-/// Puts the characters of a plain text: all of them together if the row has room for them.
+/// Puts the characters of a plain text, some of them after others, so that those which the row ends within are few.
 pub fn put_plain<O: RowOut>(row: &mut OpenRow, bytes: &[u8], font: Font, place: Place, out: &mut O)
+    requires { plain.is_printable_ascii bytes.now ≡ true }
+    ensures { LaysOut O.left out.old (sheet.letters row.old
+        (shown.cells_of font bytes.now) place) out.new row.new }
+{
+    let mut rest = bytes;
+    while rest.len() > PART {
+        let (part, later) = rest.split_at(PART);
+        put_part(row, part, font, place, out);
+        rest = later;
+    }
+    put_part(row, rest, font, place, out);
+}
+
+// Puts the characters of a part of a plain text: all of them together if the row has room for them.
+fn put_part<O: RowOut>(row: &mut OpenRow, bytes: &[u8], font: Font, place: Place, out: &mut O)
     requires { plain.is_printable_ascii bytes.now ≡ true }
     ensures { LaysOut O.left out.old (sheet.letters row.old
         (shown.cells_of font bytes.now) place) out.new row.new }

@@ -41,7 +41,7 @@ fn groups_printable<const GROUP: usize>(bytes: &[u8]) -> bool
 
 // The same, in the largest groups that have room in the text.
 #[inline(always)]
-fn all_printable(bytes: &[u8]) -> bool
+pub(crate) fn all_printable(bytes: &[u8]) -> bool
     ensures { result ≡ plain.is_printable_ascii bytes.now }
 {
     match bytes.len() {

@@ -7,11 +7,15 @@ ghost use Rattle.page_fill_rows.specs.Plain as plain;
 ghost use Rattle.page_fill_rows.specs.Sheets as sheet;
 
 use crate::cell_widths::BLANK;
+use crate::plain_texts::all_printable;
 use page_core_base::{Cell, Font};
 use page_core_limits::CELLS;
 use std::alloc::{AllocError, Global};
 use std::marker::Model;
 use std::mem;
+
+// The bytes of a text that no word has, which are read many at a time.
+const LONG: usize = 64;
 
 /// The cells of a row, at most [`CELLS`].
 ///
@@ -109,7 +113,7 @@ impl RowCells {
         requires room { length self.old + length bytes.now ≤ CELLS }
         ensures { self.new ≡ self.old ++ shown.cells_of font bytes.now }
     {
-        let _is_plain = put_printable(&mut self.places, self.len, bytes, font);
+        put_cells(&mut self.places, self.len, bytes, font);
         self.len += bytes.len();
     }
 
@@ -135,23 +139,25 @@ impl RowCells {
         requires { length self.old + length bytes.now ≤ CELLS }
         ensures { self.new ≡ self.old ++ shown.cells_of R bytes.now }
     {
-        put_roman(&mut self.places, self.len, bytes);
+        put_cells(&mut self.places, self.len, bytes, Font::R);
         self.len += bytes.len();
     }
 }
 
-// Puts a roman cell of each byte at a start and after it.
-fn put_roman(places: &mut [Cell], start: usize, bytes: &[u8])
+// Puts a cell of each byte at a start and after it.
+fn put_cells(places: &mut [Cell], start: usize, bytes: &[u8], font: Font)
     requires { start + length bytes.now ≤ length places.old }
     ensures cells { take (start + length bytes.now) places.new
-        ≡ take start places.old ++ shown.cells_of R bytes.now }
+        ≡ take start places.old ++ shown.cells_of font bytes.now }
+    ensures before { (k : ℕ) → k ≤ start → take k places.new ≡ take k places.old }
     ensures len { length places.new ≡ length places.old }
 {
     for i in 0..bytes.len() {
-        places[start + i] = Cell {
+        let cell = Cell {
             c: bytes[i] as char,
-            font: Font::R,
+            font,
         };
+        let _place = mem::replace(&mut places[start + i], cell);
     }
 }
 
@@ -171,8 +177,28 @@ fn put_blanks(places: &mut [Cell], start: usize, count: usize)
     }
 }
 
-// Puts a cell of each byte at a start and after it, up to the first byte that is not printable ASCII, and says whether there is none.
+// Puts a cell of each byte at a start and after it, if all bytes are printable ASCII, and says whether they are. A long text is read before it is put.
 fn put_printable(places: &mut [Cell], start: usize, bytes: &[u8], font: Font) -> bool
+    requires { start + length bytes.now ≤ length places.old }
+    ensures answer { result ≡ plain.is_printable_ascii bytes.now }
+    ensures cells { result ≡ true
+        → take (start + length bytes.now) places.new
+        ≡ take start places.old ++ shown.cells_of font bytes.now }
+    ensures before { (k : ℕ) → k ≤ start → take k places.new ≡ take k places.old }
+    ensures len { length places.new ≡ length places.old }
+{
+    if bytes.len() < LONG {
+        return put_word(places, start, bytes, font);
+    }
+    if !all_printable(bytes) {
+        return false;
+    }
+    put_cells(places, start, bytes, font);
+    true
+}
+
+// Puts a cell of each byte at a start and after it, up to the first byte that is not printable ASCII, and says whether there is none.
+fn put_word(places: &mut [Cell], start: usize, bytes: &[u8], font: Font) -> bool
     requires { start + length bytes.now ≤ length places.old }
     ensures answer { result ≡ plain.is_printable_ascii bytes.now }
     ensures cells { result ≡ true

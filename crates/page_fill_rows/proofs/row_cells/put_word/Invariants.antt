@@ -1,7 +1,7 @@
 use Rattle.std.proofs.Common.{◌≡◌, ℕ, ◌+◌, ◌≤◌, ◌++◌, take, drop, length}
 use Rattle.page_fill_rows.specs.Characters as shown
 use Rattle.page_fill_rows.specs.Plain as plain
-use Rattle.page_fill_rows.proofs.row_cells.put_printable.Given as goal
+use Rattle.page_fill_rows.proofs.row_cells.put_word.Given as goal
 
 abbrev pub invariant-loop-byte : goal.invariant-loop-byte
 invariant-loop-byte l =
