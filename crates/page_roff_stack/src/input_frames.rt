@@ -427,8 +427,8 @@ impl InputFrame {
         }
     }
 
-    // Goes past a part.
-    #[inline(always)]
+    // Goes past a part. It is a call of its own, so that `go` is small where it is made.
+    #[inline(never)]
     fn pass(&mut self, text: &[u8], pass: Pass)
         requires held { IsHeld self.old text.now }
         requires part { IfEnters pass (HasPart (frame_of self.old text.now)) }
@@ -440,7 +440,8 @@ impl InputFrame {
         self.spot.pass(pass);
     }
 
-    // Goes past the head of a region, which opens.
+    // Goes past the head of a region, which opens. It is a call of its own too.
+    #[inline(never)]
     fn open_region(&mut self, text: &[u8], is_run: bool)
         requires { IsHeld self.old text.now }
         ensures held { IsHeld self.new text.now }
