@@ -1,20 +1,24 @@
 //! Shows what calls of the crates of roff give, a line for each line of the standard input: the name of a call, a blank, and its text. The
-//! calls work on one set of names and arguments, and on one page, up to a line `new`. Other lines stay as they are. What cannot be written is
-//! missing from what is wanted.
+//! calls work on one set of names and arguments, and on one page, up to a line `new`. A call after `long` has a text in which each `~N*TEXT~`
+//! stands for the text N times. Other lines stay as they are. What cannot be written is missing from what is wanted.
 #![tactic(auto)]
 
+mod changes;
 mod definitions;
+mod forms;
 mod heads;
 mod names;
 mod sources;
 mod texts;
 
+use changes::{show_change, show_given, show_meaning};
 use definitions::{show_mode, show_request};
+use forms::{show_form, show_kept, show_others, show_words};
 use heads::{show_end, show_guarded, show_head};
-use names::{Roff, show_register, show_string};
+use names::{Roff, show_number, show_register, show_string};
 use sources::{Page, repeated};
 use std::io;
-use texts::{show_condition, show_text};
+use texts::{show_condition, show_more, show_text};
 
 fn main(rt: HostRuntime) -> io::Result<()> {
     'parts: for _ in 0..u64::MAX {
@@ -50,10 +54,28 @@ fn show_lines(rt: &HostRuntime, roff: &mut Roff, page: &mut Page) -> io::Result<
 fn show_line(rt: &HostRuntime, roff: &mut Roff, page: &mut Page, line: &str) {
     let _ = print!(rt; "{line}");
     let (call, text) = line.split_once(' ').unwrap_or((line, ""));
+    if call == "long" {
+        show_long(rt, roff, text);
+    } else {
+        show_call(rt, roff, call, text);
+        show_source(rt, page, call, text);
+    }
+    let _ = println!(rt; "");
+}
+
+// What a call gives whose text has parts that stand several times.
+fn show_long(rt: &HostRuntime, roff: &mut Roff, line: &str) {
+    let Ok(whole) = repeated(rt.alloc(), line) else {
+        return;
+    };
+    let line = whole.as_str();
+    let (call, text) = line.split_once(' ').unwrap_or((line, ""));
+    show_call(rt, roff, call, text);
+}
+
+fn show_call(rt: &HostRuntime, roff: &mut Roff, call: &str, text: &str) {
     roff.change(call, text);
     show(rt, roff, call, text);
-    show_source(rt, page, call, text);
-    let _ = println!(rt; "");
 }
 
 fn show(rt: &HostRuntime, roff: &mut Roff, call: &str, text: &str) {
@@ -68,6 +90,23 @@ fn show(rt: &HostRuntime, roff: &mut Roff, call: &str, text: &str) {
         "if" => show_condition(rt, roff, text),
         "text" => show_text(rt, roff, false, text),
         "copy" => show_text(rt, roff, true, text),
+        "more" => show_more(rt, roff, text),
+        "number" => show_number(rt, roff, text),
+        "is" => show_meaning(rt, &roff.names, text),
+        "given" => show_given(rt, &roff.names, text),
+        "set-string" | "add-string" | "set-macro" | "add-macro" | "set-register" | "rename" =>
+            show_change(rt, roff, call, text),
+        _ => show_line_part(rt, call, text),
+    }
+}
+
+// What needs no names.
+fn show_line_part(rt: &HostRuntime, call: &str, text: &str) {
+    match call {
+        "form" => show_form(rt, text),
+        "words" => show_words(rt, text),
+        "kept" => show_kept(rt, text),
+        "others" => show_others(rt, text),
         _ => {}
     }
 }

@@ -31,7 +31,7 @@ impl Roff {
     }
 
     /// Changes what the calls work on, where this is such a call; it shows nothing: a definition NAME=VALUE of a string or a macro, the
-    /// arguments of a macro that runs, each with a `;` after it, or the output.
+    /// arguments of a macro that runs, each with a `;` after it, the output, so many registers, a name that goes, or a line that begins.
     pub(crate) fn change(&mut self, call: &str, text: &str) {
         let (name, value) = text.split_once('=').unwrap_or((text, ""));
         match call {
@@ -44,6 +44,10 @@ impl Roff {
             "arguments" => self.set_arguments(text),
             "outside" => self.arguments.leave(),
             "utf8" => self.output = Output::Utf8,
+            "fill" => self.fill(text.parse().unwrap_or(0)),
+            "remove" => self.names.remove(text.as_bytes()),
+            "remove-register" => self.names.remove_register(text.as_bytes()),
+            "begin" => self.line.begin(7),
             _ => {}
         }
     }
@@ -54,6 +58,14 @@ impl Roff {
             *place = if byte == b';' { b'\n' } else { byte };
         }
         self.arguments.set(&packed[..text.len().min(MOST)]);
+    }
+
+    // Gives a number to so many registers.
+    fn fill(&mut self, count: u32) {
+        for number in 0..count {
+            let name = [b'A' + (number / 32 % 32) as u8, b'A' + (number % 32) as u8];
+            let _ = self.names.set_register(&name, 1);
+        }
     }
 
     /// What interpolations read.
@@ -73,6 +85,12 @@ pub(crate) fn show_register(rt: &HostRuntime, roff: &Roff, name: &str) {
         Some(number) => print!(rt; " -> {number}"),
         None => print!(rt; " -> none"),
     };
+}
+
+/// Shows the number that an interpolation of a register reads.
+pub(crate) fn show_number(rt: &HostRuntime, roff: &Roff, name: &str) {
+    let number = roff.environment(false).register(name.as_bytes());
+    let _ = print!(rt; " -> {number}");
 }
 
 /// Shows a string.

@@ -1,9 +1,7 @@
-//! Tests of the names of a page, on public calls.
+//! A test of the names of a page, on public calls: a thousand changes; `page_roff_cases` has the other cases.
 #![tactic(auto)]
 
 #[cfg(test)]
 mod against_a_plain_map;
-#[cfg(test)]
-mod rows;
 #[cfg(test)]
 mod tests;
