@@ -91,7 +91,7 @@ fn show_run(rt: &HostRuntime, run: Option<char>, times: u32) {
 /// gives and its messages.
 pub(crate) fn show_more(rt: &HostRuntime, roff: &mut Roff, text: &str) {
     let (before, text) = text.split_once(' ').unwrap_or(("0", text));
-    let before = before.parse().unwrap_or(0u32).min(LINE as u32);
+    let before = before.parse().unwrap_or(0u32);
     let mut messages = Vec::new(rt.alloc());
     if roff.line.has_ended() {
         return;
@@ -103,6 +103,7 @@ pub(crate) fn show_more(rt: &HostRuntime, roff: &mut Roff, text: &str) {
     show_messages(rt, messages.as_slice());
 }
 
+// Expands a text, with at most a line before it.
 fn expand_more(roff: &mut Roff, before: u32, text: &[u8], messages: &mut Vec<u8>) {
     let env = Environment {
         copy: false,
@@ -113,6 +114,7 @@ fn expand_more(roff: &mut Roff, before: u32, text: &[u8], messages: &mut Vec<u8>
     let mut notes = TextNotes::new(messages, "roff");
     let mut latch = NoteLatch::new(&mut notes);
     if !roff.line.has_ended() {
+        let before = before.min(LINE as u32);
         roff.line.expand_more(&env, text, before, &mut latch);
     }
 }
