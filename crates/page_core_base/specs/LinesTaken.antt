@@ -11,5 +11,5 @@ pub record Line : Type 0 where
   pub name_end : ℕ
 
 -- a line of the program, with what its text holds
-abbrev pub line_seen : Taken → Line
-line_seen taken = record { form = taken.form; text = taken.text.now; number = taken.line; name_end = taken.name_end }
+abbrev pub line_view : Taken → Line
+line_view taken = record { form = taken.form; text = taken.text.now; number = taken.line; name_end = taken.name_end }

@@ -9,26 +9,26 @@ use Rattle.page_core_escapes.specs.Lengths.{escape_len}
 use Rattle.page_core_escapes.specs.Meanings.{Face, roman, italic, bold, bold_italic, former, unknown, Meaning, glyph, character, tab, blank, blanks, nothing, glue, face, undefined, unsupported, bad, meaning_of}
 
 -- a `FontName` and an `Escape` of the code, with lists in place of lent slices
-abbrev pub face_seen : FontName → Face
-face_seen F.R = roman
-face_seen F.I = italic
-face_seen F.B = bold
-face_seen F.BI = bold_italic
-face_seen F.Former = former
-face_seen (F.Unknown name) = unknown name.now
+abbrev pub face_view : FontName → Face
+face_view F.R = roman
+face_view F.I = italic
+face_view F.B = bold
+face_view F.BI = bold_italic
+face_view F.Former = former
+face_view (F.Unknown name) = unknown name.now
 
-abbrev pub meaning_seen : Escape → Meaning
-meaning_seen (E.Glyph name) = glyph name.now
-meaning_seen (E.Char c) = character c
-meaning_seen E.Tab = tab
-meaning_seen E.Blank = blank
-meaning_seen (E.Blanks expression) = blanks expression.now
-meaning_seen E.Nothing = nothing
-meaning_seen E.Glue = glue
-meaning_seen (E.Font name) = face (face_seen name)
-meaning_seen (E.Undefined c) = undefined c
-meaning_seen E.Unsupported = unsupported
-meaning_seen E.Bad = bad
+abbrev pub meaning_view : Escape → Meaning
+meaning_view (E.Glyph name) = glyph name.now
+meaning_view (E.Char c) = character c
+meaning_view E.Tab = tab
+meaning_view E.Blank = blank
+meaning_view (E.Blanks expression) = blanks expression.now
+meaning_view E.Nothing = nothing
+meaning_view E.Glue = glue
+meaning_view (E.Font name) = face (face_view name)
+meaning_view (E.Undefined c) = undefined c
+meaning_view E.Unsupported = unsupported
+meaning_view E.Bad = bad
 
 -- what an escape means, and its bytes; one without its end takes the text's rest
 abbrev pub read_escape : (pairs : Bool) → List ℕ → Option ℕ → Meaning × ℕ

@@ -2,7 +2,7 @@
 -- Source: roff(7), "LANGUAGE SYNTAX", "Macro syntax" and "ESCAPE SEQUENCES".
 use Rattle.std.specs.Prelude.{ℕ, zero, suc, ◌-◌, Bool, true, false, not, ◌==◌, ◌||◌, ◌&&◌, List, [], ◌∷◌, length, take, drop, if◌then◌else◌}
 use Rattle.std.specs.List.{prefix_len}
-use Rattle.page_core_escapes.specs.Escapes.{escape_of, meaning_seen}
+use Rattle.page_core_escapes.specs.Escapes.{escape_of, meaning_view}
 use Rattle.page_core_escapes.specs.Meanings.{Meaning}
 use Rattle.page_core_escapes.specs.declared.tokens.Token.{Token}
 use Rattle.page_core_escapes.specs.declared.tokens.Token.TheVariants as tokens
@@ -18,11 +18,11 @@ pub data TextToken : Type 0 where
   escaped : List ℕ → Meaning → TextToken
 
 -- a token of the code, with lists in place of lent slices
-abbrev pub token_seen : Token → TextToken
-token_seen (tokens.White bytes) = white bytes.now
-token_seen (tokens.Plain bytes) = plain bytes.now
-token_seen (tokens.Quotes bytes) = quotes bytes.now
-token_seen (tokens.Escaped bytes meaning) = escaped bytes.now (meaning_seen meaning)
+abbrev pub token_view : Token → TextToken
+token_view (tokens.White bytes) = white bytes.now
+token_view (tokens.Plain bytes) = plain bytes.now
+token_view (tokens.Quotes bytes) = quotes bytes.now
+token_view (tokens.Escaped bytes meaning) = escaped bytes.now (meaning_view meaning)
 
 -- a token as it is written
 abbrev pub token_bytes : TextToken → List ℕ

@@ -11,7 +11,7 @@
 ghost use Rattle.std.specs.Prelude.{◌≡◌, ◌+◌, ◌<◌, ◌≤◌, false, length, slice_index, IfSome};
 ghost use Rattle.std.specs.Str.{IsUtf8, IsCharBoundary};
 ghost use Rattle.page_core_escapes.specs.Lengths.{escape_len};
-ghost use Rattle.page_core_escapes.specs.Escapes.{escape_of, meaning_seen, HasTexts};
+ghost use Rattle.page_core_escapes.specs.Escapes.{escape_of, meaning_view, HasTexts};
 
 use extents::{Extent, read_extent};
 use meaning::read_meaning;
@@ -34,12 +34,12 @@ pub fn escape(text: &[u8]) -> (Escape<'_>, usize)
     requires backslash { slice_index text.now 0 ≡ 0x5C }
     requires line { length text.now ≤ LINE }
 
-    ensures meaning { meaning_seen result.0 ≡ (escape_of false text.now).0 }
+    ensures meaning { meaning_view result.0 ≡ (escape_of false text.now).0 }
     ensures len { result.1 ≡ (escape_of false text.now).1 }
     ensures some { 0 < result.1 }
     ensures within { result.1 ≤ length text.now }
     ensures whole_characters { IsUtf8 text.now → IsCharBoundary text.now result.1 }
-    ensures texts { IsUtf8 text.now → HasTexts (meaning_seen result.0) }
+    ensures texts { IsUtf8 text.now → HasTexts (meaning_view result.0) }
 {
     read_escape(false, text)
 }
@@ -49,7 +49,7 @@ fn read_escape(pairs: bool, text: &[u8]) -> (Escape<'_>, usize)
     requires backslash { slice_index text.now 0 ≡ 0x5C }
     requires line { length text.now ≤ LINE }
 
-    ensures meaning { meaning_seen result.0 ≡ (escape_of pairs text.now).0 }
+    ensures meaning { meaning_view result.0 ≡ (escape_of pairs text.now).0 }
     ensures len { result.1 ≡ (escape_of pairs text.now).1 }
     ensures some { 0 < result.1 }
     ensures within { result.1 ≤ length text.now }

@@ -3,7 +3,7 @@ ghost use Rattle.std.specs.Prelude.{◌≡◌, ◌<◌, ◌≤◌, length, drop,
 ghost use Rattle.std.specs.List.{list_all, list_any};
 ghost use Rattle.std.specs.Str.{bytes_eq};
 ghost use Rattle.page_core_escapes.specs.Meanings.{meaning_of, argument_of, meaning_by, bare_name, bare_quoted, without_last, bracketed, names_code_point, is_hex_digit, hex_number, hex_value, face_of, is_known, unknown, first_char};
-ghost use Rattle.page_core_escapes.specs.Escapes.{meaning_seen, face_seen};
+ghost use Rattle.page_core_escapes.specs.Escapes.{meaning_view, face_view};
 ghost use Rattle.page_core_escapes.specs.Steps.{FontLetter};
 
 use crate::extents::written_len;
@@ -27,7 +27,7 @@ impl<'a> FontName<'a> {
     /// Whether there is such a font.
     #[inline(always)]
     pub fn is_known(self) -> bool
-        ensures { result ≡ is_known (face_seen self.entry) }
+        ensures { result ≡ is_known (face_view self.entry) }
     {
         !matches!(self, FontName::Unknown(_))
     }
@@ -59,7 +59,7 @@ pub enum Escape<'a> {
 
 // The meaning of a text that is one escape.
 pub(crate) fn read_meaning(pairs: bool, escape: &[u8]) -> Escape<'_>
-    ensures { meaning_seen result ≡ meaning_of pairs escape.now }
+    ensures { meaning_view result ≡ meaning_of pairs escape.now }
 {
     if escape.len() < 2 {
         return Escape::Nothing;
@@ -86,7 +86,7 @@ fn argument(pairs: bool, shape: Shape, text: &[u8]) -> &[u8]
 // The meaning of an escape by its kind, its argument and its text from its letter on.
 fn meaning_by<'a>(kind: Kind, argument: &'a [u8], text: &[u8]) -> Escape<'a>
     requires { 0 < length text.now }
-    ensures { meaning_seen result ≡ meaning_by kind argument.now text.now }
+    ensures { meaning_view result ≡ meaning_by kind argument.now text.now }
 {
     match kind {
         Kind::Glyph => Escape::Glyph(argument),
@@ -107,7 +107,7 @@ fn meaning_by<'a>(kind: Kind, argument: &'a [u8], text: &[u8]) -> Escape<'a>
 
 // A name in brackets: a character's code point, or a glyph's name.
 fn read_bracketed(name: &[u8]) -> Escape<'_>
-    ensures { meaning_seen result ≡ bracketed name.now }
+    ensures { meaning_view result ≡ bracketed name.now }
 {
     match code_point(name) {
         Some(c) => Escape::Char(c),
@@ -167,7 +167,7 @@ fn hex_value(digit: u8) -> u32
 #[inline(always)]
 pub(crate) fn font_by_letter<'a>(letter: u8) -> Option<FontName<'a>>
     ensures { MatchOption result (face_of (letter ∷ []) ≡ unknown (letter ∷ []))
-        (λ name. FontLetter letter (face_seen name)) }
+        (λ name. FontLetter letter (face_view name)) }
 {
     match letter {
         b'R' | b'1' => Some(FontName::R),
@@ -181,7 +181,7 @@ pub(crate) fn font_by_letter<'a>(letter: u8) -> Option<FontName<'a>>
 
 /// The font of a name: roff(7), `\f` and `ft`.
 pub fn read_font(name: &[u8]) -> FontName<'_>
-    ensures { face_seen result ≡ face_of name.now }
+    ensures { face_view result ≡ face_of name.now }
 {
     match *name {
         [] => FontName::Former,
@@ -196,7 +196,7 @@ pub fn read_font(name: &[u8]) -> FontName<'_>
 // The font that several letters name.
 fn font_by_letters(name: &[u8]) -> FontName<'_>
     requires { 2 ≤ length name.now }
-    ensures { face_seen result ≡ face_of name.now }
+    ensures { face_view result ≡ face_of name.now }
 {
     if is_one_of(name, &["CW", "CR"]) {
         FontName::R

@@ -3,9 +3,9 @@
 ghost use Rattle.std.specs.Prelude.{◌≡◌, ◌≤◌, ◌<◌, length, map, not, slice_index, if◌then◌else◌, IfSome};
 ghost use Rattle.std.specs.List.{prefix_len};
 ghost use Rattle.std.specs.Simd.Lanes.{mask_l};
-ghost use Rattle.page_core_escapes.specs.Escapes.{face_seen, meaning_seen};
+ghost use Rattle.page_core_escapes.specs.Escapes.{face_view, meaning_view};
 ghost use Rattle.page_core_escapes.specs.ShortEscapes.{ShortEscape, ShortFont};
-ghost use Rattle.page_core_escapes.specs.Tokens.{is_white, begins_white, begins_word, begins_escape, begins_quote, prints_itself, token_at, token_bytes, token_seen};
+ghost use Rattle.page_core_escapes.specs.Tokens.{is_white, begins_white, begins_word, begins_escape, begins_quote, prints_itself, token_at, token_bytes, token_view};
 
 use crate::meaning::font_by_letter;
 use crate::{Escape, FontName, read_escape};
@@ -34,7 +34,7 @@ pub enum Token<'a> {
 impl<'a> Token<'a> {
     // The bytes of the token.
     fn bytes(&self) -> &'a [u8]
-        ensures { result.now ≡ token_bytes (token_seen self.now) }
+        ensures { result.now ≡ token_bytes (token_view self.now) }
     {
         match *self {
             Token::White(bytes) | Token::Plain(bytes) | Token::Quotes(bytes) => bytes,
@@ -44,7 +44,7 @@ impl<'a> Token<'a> {
 
     /// The number of bytes of the token.
     pub fn len(&self) -> usize
-        ensures { result ≡ length (token_bytes (token_seen self.now)) }
+        ensures { result ≡ length (token_bytes (token_view self.now)) }
     {
         self.bytes().len()
     }
@@ -155,7 +155,7 @@ pub fn plain_len(quoted: bool, text: &[u8]) -> usize
 fn code_font(text: &[u8]) -> Option<(FontName<'_>, usize)>
     requires backslash { slice_index text.now 0 ≡ 0x5C }
     requires letter { slice_index text.now 1 ≡ 0x66 }
-    ensures { IfSome result (λ found. ShortFont text.now (face_seen found.0) found.1) }
+    ensures { IfSome result (λ found. ShortFont text.now (face_view found.0) found.1) }
 {
     if text.len() < 5 || text[2] != b'(' || text[3] != b'C' || text[4] != b'W' {
         return None;
@@ -166,7 +166,7 @@ fn code_font(text: &[u8]) -> Option<(FontName<'_>, usize)>
 /// The font that an escape at a text's front asks for and how many bytes it takes, where few bytes say so, as in `\fB`.
 #[inline(always)]
 pub fn short_font(text: &[u8]) -> Option<(FontName<'_>, usize)>
-    ensures { IfSome result (λ found. ShortFont text.now (face_seen found.0) found.1) }
+    ensures { IfSome result (λ found. ShortFont text.now (face_view found.0) found.1) }
 {
     if text.len() < 3 || text[0] != b'\\' || text[1] != b'f' {
         return None;
@@ -181,7 +181,7 @@ pub fn short_font(text: &[u8]) -> Option<(FontName<'_>, usize)>
 #[inline(always)]
 fn short_escape(text: &[u8]) -> Option<(Escape<'_>, usize)>
     requires { slice_index text.now 0 ≡ 0x5C }
-    ensures { IfSome result (λ found. ShortEscape text.now (meaning_seen found.0) found.1) }
+    ensures { IfSome result (λ found. ShortEscape text.now (meaning_view found.0) found.1) }
 {
     if let Some((name, len)) = short_font(text) {
         return Some((Escape::Font(name), len));
@@ -202,9 +202,9 @@ fn short_escape(text: &[u8]) -> Option<(Escape<'_>, usize)>
 #[tactic(auto, unfolding(crate::specs::Tokens::token_at))]
 pub fn read_token(quoted: bool, text: &[u8]) -> Token<'_>
     requires { length text.now ≤ LINE }
-    ensures value { token_seen result ≡ token_at quoted text.now }
-    ensures some { 0 < length text.now → 0 < length (token_bytes (token_seen result)) }
-    ensures within { length (token_bytes (token_seen result)) ≤ length text.now }
+    ensures value { token_view result ≡ token_at quoted text.now }
+    ensures some { 0 < length text.now → 0 < length (token_bytes (token_view result)) }
+    ensures within { length (token_bytes (token_view result)) ≤ length text.now }
 {
     if begins_white(text) {
         return Token::White(&text[..white_len(text)]);

@@ -58,16 +58,16 @@ row_by_letter letter (rows ∷ more) name (suc i) stand place =
     ∙ row_by_letter (letter + 1) more name i parts.1 (omega arith)
 
 -- a table of the program as values
-abbrev pub table_seen : {V : Type 0} → List (Bor (List (Bor (List ℕ) × V))) → List (List (List ℕ × V))
-table_seen lists = map (λ rows. seen rows.now) lists
+abbrev pub table_view : {V : Type 0} → List (Bor (List (Bor (List ℕ) × V))) → List (List (List ℕ × V))
+table_view lists = map (λ rows. seen rows.now) lists
 
-list_seen : {V : Type 0} (lists : List (Bor (List (Bor (List ℕ) × V)))) (i : ℕ) → seen (get_or (map (λ rows. rows.now) lists) i []) ≡ get_or (table_seen lists) i []
-list_seen [] zero = refl
-list_seen [] (suc i) = refl
-list_seen (rows ∷ more) zero = refl
-list_seen (rows ∷ more) (suc i) = list_seen more i
+list_view : {V : Type 0} (lists : List (Bor (List (Bor (List ℕ) × V)))) (i : ℕ) → seen (get_or (map (λ rows. rows.now) lists) i []) ≡ get_or (table_view lists) i []
+list_view [] zero = refl
+list_view [] (suc i) = refl
+list_view (rows ∷ more) zero = refl
+list_view (rows ∷ more) (suc i) = list_view more i
 
 -- what the list of a name's letter says of it is what the whole table says
-pub row_of_table : {V : Type 0} (lists : List (Bor (List (Bor (List ℕ) × V)))) (name : List ℕ) → stand_by_letter 0 (table_seen lists) ≡ true
-    → row_in (seen (get_or (map (λ rows. rows.now) lists) (letter_of name) [])) name ≡ row_among (table_seen lists) name
-row_of_table lists name stand = ap (λ rows. row_in rows name) (list_seen lists (letter_of name)) ∙ sym (row_by_letter 0 (table_seen lists) name (letter_of name) stand (omega arith))
+pub row_of_table : {V : Type 0} (lists : List (Bor (List (Bor (List ℕ) × V)))) (name : List ℕ) → stand_by_letter 0 (table_view lists) ≡ true
+    → row_in (seen (get_or (map (λ rows. rows.now) lists) (letter_of name) [])) name ≡ row_among (table_view lists) name
+row_of_table lists name stand = ap (λ rows. row_in rows name) (list_view lists (letter_of name)) ∙ sym (row_by_letter 0 (table_view lists) name (letter_of name) stand (omega arith))

@@ -8,13 +8,13 @@ use Rattle.page_core_numbers.specs.declared.troubles.Stopped.{Stopped}
 use Rattle.page_core_numbers.specs.declared.expressions.Operand.{Operand}
 use Rattle.page_core_numbers.specs.declared.expressions.Expression.{Expression}
 use Rattle.page_core_numbers.specs.Expressions.{Read}
-use Rattle.page_core_numbers.specs.Evaluations.{troubles_seen}
+use Rattle.page_core_numbers.specs.Evaluations.{troubles_view}
 
-abbrev pub number_seen : Number → ℤ × List ℕ
-number_seen n = (n.value, n.rest.now)
+abbrev pub number_view : Number → ℤ × List ℕ
+number_view n = (n.value, n.rest.now)
 
-abbrev pub found_seen : FoundOperator → Operator × List ℕ
-found_seen f = (f.operator, f.rest.now)
+abbrev pub found_view : FoundOperator → Operator × List ℕ
+found_view f = (f.operator, f.rest.now)
 
 -- how many divisions by 0 there are
 abbrev pub stop_count : Option Stopped → ℕ
@@ -24,8 +24,8 @@ stop_count (Some s) = s.divisions
 abbrev pub count_of : Troubles → ℕ
 count_of t = t.divisions + stop_count t.stopped
 
-abbrev pub operand_seen : Operand → Read (Option ℤ)
-operand_seen o = record { value = o.value; troubles = troubles_seen o.troubles; ends = is_some o.troubles.stopped; rest = o.rest.now }
+abbrev pub operand_view : Operand → Read (Option ℤ)
+operand_view o = record { value = o.value; troubles = troubles_view o.troubles; ends = is_some o.troubles.stopped; rest = o.rest.now }
 
-abbrev pub expression_seen : Expression → Read ℤ
-expression_seen r = record { value = r.value; troubles = troubles_seen r.troubles; ends = is_some r.troubles.stopped; rest = r.rest.now }
+abbrev pub expression_view : Expression → Read ℤ
+expression_view r = record { value = r.value; troubles = troubles_view r.troubles; ends = is_some r.troubles.stopped; rest = r.rest.now }

@@ -9,15 +9,15 @@ use Rattle.page_core_numbers.specs.declared.troubles.Stopped.{Stopped}
 use Rattle.page_core_numbers.specs.declared.evaluations.Evaluation.{Evaluation}
 
 -- divisions by 0, why the expression ended early, and the divisions by 0 after that
-abbrev pub stop_seen : Option Stopped → List Trouble
-stop_seen None = []
-stop_seen (Some s) = s.trouble ∷ replicate s.divisions DivZero
+abbrev pub stop_view : Option Stopped → List Trouble
+stop_view None = []
+stop_view (Some s) = s.trouble ∷ replicate s.divisions DivZero
 
-abbrev pub troubles_seen : Troubles → List Trouble
-troubles_seen t = replicate t.divisions DivZero ++ stop_seen t.stopped
+abbrev pub troubles_view : Troubles → List Trouble
+troubles_view t = replicate t.divisions DivZero ++ stop_view t.stopped
 
 abbrev pub reported : Evaluation → List Trouble
-reported evaluation = troubles_seen evaluation.troubles
+reported evaluation = troubles_view evaluation.troubles
 
 -- the first of the messages that were left was taken, and the others are left
 abbrev pub TakesFirst : List Message → Option Note → List Message → Type 0

@@ -4,7 +4,7 @@ ghost use Rattle.std.specs.Prelude.{◌≡◌, ◌≤◌, ◌+◌, ◌-◌, leng
 ghost use Rattle.std.specs.List.{prefix_len};
 ghost use Rattle.page_core_escapes.specs.Bytes.{is_digit};
 ghost use Rattle.page_core_numbers.specs.Numbers.{in_range, digits_of, after_digits, fraction_of, after_fraction, scale_at, after_scale, decimal, ten_thousandths, units_of, number_at};
-ghost use Rattle.page_core_numbers.specs.CodeValues.{number_seen};
+ghost use Rattle.page_core_numbers.specs.CodeValues.{number_view};
 
 use crate::scales::{Scale, scale_named};
 
@@ -111,7 +111,7 @@ fn in_units(whole: &[u8], fraction: &[u8], scale: Scale) -> i32
 
 /// The number at a text's front, none where there is no digit. `scale` is the unit of a number without one.
 pub(crate) fn read_number(text: &[u8], scale: Scale) -> Option<Number<'_>>
-    ensures value { option_map number_seen result ≡ number_at scale text.now }
+    ensures value { option_map number_view result ≡ number_at scale text.now }
     ensures bound { IfSome result (λ found. length found.rest.now ≤ length text.now) }
 {
     let (whole, more) = split_digits(text);

@@ -34,11 +34,11 @@ impl Model for EvaluationNotes {
     ghost use Rattle.std.specs.Prelude.{List};
     ghost use Rattle.page_core_base.specs.Messages.{Message};
     ghost use Rattle.page_core_numbers.specs.Expressions.{messages_at};
-    ghost use Rattle.page_core_numbers.specs.Evaluations.{troubles_seen};
+    ghost use Rattle.page_core_numbers.specs.Evaluations.{troubles_view};
 
     ghost Value = { List Message };
 
-    ghost view = { λ n. messages_at n.place.line n.place.column (troubles_seen n.troubles) };
+    ghost view = { λ n. messages_at n.place.line n.place.column (troubles_view n.troubles) };
 }
 
 /// Evaluates the expression at the front of a text: roff(7), "Numerical expressions". `unit` is the unit of a number without one. What

@@ -4,7 +4,7 @@
 ghost use Rattle.std.specs.Prelude.{◌≡◌, ◌≤◌, ◌<◌, ◌+◌, ◌^◌, length, option_map, IfSome, None, is_some, option_copied};
 ghost use Rattle.page_core_numbers.specs.Expressions.{expression_within, operand_by, no_operand, number, in_parentheses, first, after_operation, next_operator, after_close};
 ghost use Rattle.page_core_numbers.specs.Numbers.{number_at};
-ghost use Rattle.page_core_numbers.specs.CodeValues.{operand_seen, expression_seen, found_seen, count_of};
+ghost use Rattle.page_core_numbers.specs.CodeValues.{operand_view, expression_view, found_view, count_of};
 ghost use Rattle.page_core_numbers.specs.Signs.{after_signs, minus_count, negated_times, negated_value, inside_of, after_open};
 
 use crate::decimals::read_number;
@@ -59,7 +59,7 @@ fn negate(value: i32, times: usize) -> i32
 
 // An operand that is negated this number of times.
 fn negate_operand(operand: Operand<'_>, times: usize) -> Operand<'_>
-    ensures value { operand_seen result ≡ negated_times times (operand_seen operand.entry) }
+    ensures value { operand_view result ≡ negated_times times (operand_view operand.entry) }
     ensures rest { result.rest.now ≡ operand.entry.rest.now }
     ensures troubles { result.troubles ≡ operand.entry.troubles }
 {
@@ -75,7 +75,7 @@ fn negate_operand(operand: Operand<'_>, times: usize) -> Operand<'_>
 
 // That there is no operand where this text begins.
 fn no_operand(trouble: Trouble, text: &[u8]) -> Operand<'_>
-    ensures value { operand_seen result ≡ no_operand trouble text.now }
+    ensures value { operand_view result ≡ no_operand trouble text.now }
     ensures bound { count_of result.troubles + length result.rest.now ≤ length text.now }
 {
     Operand {
@@ -87,7 +87,7 @@ fn no_operand(trouble: Trouble, text: &[u8]) -> Operand<'_>
 
 // The number at a text's front.
 fn read_number_operand(text: &[u8], scale: Scale) -> Operand<'_>
-    ensures value { operand_seen result ≡ number text.now (number_at scale text.now) }
+    ensures value { operand_view result ≡ number text.now (number_at scale text.now) }
     ensures bound { count_of result.troubles + length result.rest.now ≤ length text.now }
 {
     match read_number(text, scale) {
@@ -113,7 +113,7 @@ fn after_close(text: &[u8]) -> &[u8]
 
 // An expression that was read in parentheses, as an operand.
 fn in_parentheses(inside: Expression<'_>) -> Operand<'_>
-    ensures value { operand_seen result ≡ in_parentheses (expression_seen inside.entry) }
+    ensures value { operand_view result ≡ in_parentheses (expression_view inside.entry) }
     ensures troubles { result.troubles ≡ inside.entry.troubles }
     ensures bound { length result.rest.now ≤ length inside.entry.rest.now }
 {
@@ -141,7 +141,7 @@ fn after_open(text: &[u8]) -> Option<&[u8]>
 // The operand at a text's front, in which `room` parentheses may be open.
 #[cycle(expression)]
 fn read_operand<'a>(text: &'a [u8], scale: Scale, room: u32) -> Operand<'a>
-    ensures value { operand_seen result ≡ operand_by (inside_of room scale) scale text.now }
+    ensures value { operand_view result ≡ operand_by (inside_of room scale) scale text.now }
     ensures bound { count_of result.troubles + length result.rest.now ≤ length text.now }
 {
     let (minuses, unsigned) = split_signs(text);
@@ -160,7 +160,7 @@ fn read_operand<'a>(text: &'a [u8], scale: Scale, room: u32) -> Operand<'a>
 
 // An expression of its first operand.
 fn first(operand: Operand<'_>) -> Expression<'_>
-    ensures value { expression_seen result ≡ first (operand_seen operand.entry) }
+    ensures value { expression_view result ≡ first (operand_view operand.entry) }
     ensures troubles { result.troubles ≡ operand.entry.troubles }
     ensures rest { result.rest.now ≡ operand.entry.rest.now }
 {
@@ -173,7 +173,7 @@ fn first(operand: Operand<'_>) -> Expression<'_>
 
 // The operator that goes on with an expression.
 fn next_operator(so_far: Expression<'_>) -> Option<FoundOperator<'_>>
-    ensures value { option_map found_seen result
+    ensures value { option_map found_view result
         ≡ next_operator (is_some so_far.entry.troubles.stopped) so_far.entry.rest.now }
     ensures bound { IfSome result (λ found. length found.rest.now < length so_far.entry.rest.now) }
     ensures going { IfSome result (λ _. so_far.entry.troubles.stopped ≡ None) }
@@ -192,8 +192,8 @@ fn after_operation<'a>(
 ) -> Expression<'a>
     requires going { so_far.troubles.stopped ≡ None }
     requires fits { count_of so_far.troubles + count_of operand.troubles + 1 < 2 ^ 64 }
-    ensures value { expression_seen result
-        ≡ after_operation (expression_seen so_far.entry) operator (operand_seen operand.entry) }
+    ensures value { expression_view result
+        ≡ after_operation (expression_view so_far.entry) operator (operand_view operand.entry) }
     ensures count { count_of result.troubles
         ≤ count_of so_far.entry.troubles + count_of operand.entry.troubles + 1 }
     ensures rest { result.rest.now ≡ operand.entry.rest.now }
@@ -217,7 +217,7 @@ fn after_operation<'a>(
 /// The expression at a text's front, inside which `room` parentheses more may be open.
 #[cycle(expression)]
 pub(crate) fn read_expression<'a>(text: &'a [u8], scale: Scale, room: u32) -> Expression<'a>
-    ensures value { expression_seen result ≡ expression_within room scale text.now }
+    ensures value { expression_view result ≡ expression_within room scale text.now }
     ensures bound { count_of result.troubles + length result.rest.now ≤ length text.now }
 {
     let mut so_far = first(read_operand(text, scale, room));

@@ -2,7 +2,7 @@
 
 ghost use Rattle.std.specs.Prelude.{◌≡◌, ◌<◌, length, option_map, IfSome};
 ghost use Rattle.page_core_numbers.specs.Operators.{operator_named, operator_at, begins_equal, operator_len, truth, result_of, divides_by_zero};
-ghost use Rattle.page_core_numbers.specs.CodeValues.{found_seen};
+ghost use Rattle.page_core_numbers.specs.CodeValues.{found_view};
 
 /// An operator.
 #[derive(Clone, Copy)]
@@ -73,7 +73,7 @@ fn begins_equal(text: &[u8]) -> bool
 /// The operator at a text's front.
 #[tactic(auto, unfolding(crate::specs::Operators::operator_at))]
 pub(crate) fn read_operator(text: &[u8]) -> Option<FoundOperator<'_>>
-    ensures value { option_map found_seen result ≡ operator_at text.now }
+    ensures value { option_map found_view result ≡ operator_at text.now }
     ensures bound { IfSome result (λ found. length found.rest.now < length text.now) }
 {
     let first = *text.first()?;

@@ -3,8 +3,8 @@
 
 ghost use Rattle.std.specs.Prelude.{◌*◌, ◌≡◌, ◌≤◌, ◌<◌, length, take, chars, true};
 ghost use Rattle.std.specs.Str.{IsUtf8, IsCharBoundary};
-ghost use Rattle.page_core_escapes.specs.Escapes.{meaning_seen};
-ghost use Rattle.page_core_tables.specs.Printed.{printed_seen};
+ghost use Rattle.page_core_escapes.specs.Escapes.{meaning_view};
+ghost use Rattle.page_core_tables.specs.Printed.{printed_view};
 ghost use Rattle.page_core_numbers.specs.Columns.{BeginsWith, characters_columns, printed_escape, printed_front, front_len, blanks_in, columns_of};
 ghost use Rattle.page_core_numbers.specs.Plain.{is_plain, are_plain};
 
@@ -39,8 +39,8 @@ fn spelling_columns(spelling: &str) -> u32
 
 /// The columns of what a character or a glyph prints.
 pub fn printed_columns(printed: Printed<'_>) -> u32
-    requires { length (printed_seen printed).characters ≤ 8 }
-    ensures value { result ≡ characters_columns (printed_seen printed.entry).characters }
+    requires { length (printed_view printed).characters ≤ 8 }
+    ensures value { result ≡ characters_columns (printed_view printed.entry).characters }
     ensures bound { result ≤ 24 }
 {
     match printed {
@@ -63,7 +63,7 @@ fn blanks_in(units: i32) -> u32
 
 /// The columns of what an escape prints.
 pub fn escape_columns(escape: Escape<'_>, output: Output) -> u32
-    ensures value { result ≡ characters_columns (printed_escape output (meaning_seen escape.entry)) }
+    ensures value { result ≡ characters_columns (printed_escape output (meaning_view escape.entry)) }
     ensures bound { result ≤ WIDEST }
 {
     match escape {

@@ -4,7 +4,7 @@
 ghost use Rattle.std.specs.Prelude.{◌≡◌, ◌≤◌, ◌<◌, ◌+◌, ◌^◌, [], ◌∷◌, ◌++◌, is_some, if◌then◌else◌, MatchOption};
 ghost use Rattle.page_core_base.specs.Messages.{message_of};
 ghost use Rattle.page_core_numbers.specs.Expressions.{message_at};
-ghost use Rattle.page_core_numbers.specs.Evaluations.{troubles_seen};
+ghost use Rattle.page_core_numbers.specs.Evaluations.{troubles_view};
 ghost use Rattle.page_core_numbers.specs.CodeValues.{count_of};
 
 use page_core_base::{Note, NoteKind, Place};
@@ -38,7 +38,7 @@ pub(crate) struct Stopped {
 impl Troubles {
     /// None.
     pub(crate) fn none() -> Troubles
-        ensures value { troubles_seen result ≡ [] }
+        ensures value { troubles_view result ≡ [] }
         ensures count { count_of result ≡ 0 }
         ensures going { result.stopped ≡ None }
     {
@@ -50,7 +50,7 @@ impl Troubles {
 
     /// That an expression ends early.
     pub(crate) fn stop(trouble: Trouble) -> Troubles
-        ensures value { troubles_seen result ≡ trouble ∷ [] }
+        ensures value { troubles_view result ≡ trouble ∷ [] }
         ensures count { count_of result ≡ 0 }
         ensures stopped { result.stopped ≡ Some (record { trouble = trouble; divisions = 0 }) }
     {
@@ -67,8 +67,8 @@ impl Troubles {
     pub(crate) fn followed_by(self, operand: Troubles, divides_by_zero: bool) -> Troubles
         requires going { self.stopped ≡ None }
         requires fits { count_of self + count_of operand + 1 < 2 ^ 64 }
-        ensures value { troubles_seen result ≡ troubles_seen self
-            ++ (troubles_seen operand ++ (if divides_by_zero then Trouble.DivZero ∷ [] else [])) }
+        ensures value { troubles_view result ≡ troubles_view self
+            ++ (troubles_view operand ++ (if divides_by_zero then Trouble.DivZero ∷ [] else [])) }
         ensures count { count_of result ≤ count_of self + count_of operand + 1 }
         ensures stopped { is_some result.stopped ≡ is_some operand.stopped }
     {
@@ -90,8 +90,8 @@ impl Troubles {
     }
     /// Takes the first of them.
     pub(crate) fn take_first(&mut self) -> Option<Trouble>
-        ensures { MatchOption result ((troubles_seen self.old ≡ []) × (troubles_seen self.new ≡ []))
-            (λ trouble. troubles_seen self.old ≡ trouble ∷ troubles_seen self.new) }
+        ensures { MatchOption result ((troubles_view self.old ≡ []) × (troubles_view self.new ≡ []))
+            (λ trouble. troubles_view self.old ≡ trouble ∷ troubles_view self.new) }
     {
         if self.divisions > 0 {
             self.divisions -= 1;

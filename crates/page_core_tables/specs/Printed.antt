@@ -52,8 +52,8 @@ abbrev pub char_columns : ℕ → ℕ
 char_columns c = unwrap_or (char_width false c) 0
 
 -- a `Printed` of the code
-abbrev pub printed_seen : code.Printed → Printing
-printed_seen (Char c) = known (c ∷ [])
-printed_seen (Spelling text) = known text.now
-printed_seen (NoSpelling c) = unknown_text (encode_utf8 c)
-printed_seen (NoGlyph name) = unknown_text name.now
+abbrev pub printed_view : code.Printed → Printing
+printed_view (Char c) = known (c ∷ [])
+printed_view (Spelling text) = known text.now
+printed_view (NoSpelling c) = unknown_text (encode_utf8 c)
+printed_view (NoGlyph name) = unknown_text name.now

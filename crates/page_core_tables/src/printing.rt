@@ -1,6 +1,6 @@
 //! What a character, and the glyph of a name, print in an output (mandoc_char(7); mandoc(1), -T).
 ghost use Rattle.std.specs.Prelude.{◌≡◌, ◌≤◌, length};
-ghost use Rattle.page_core_tables.specs.Printed.{prints_ascii, by_spelling, char_printed, glyph_printed, printed_seen, char_columns};
+ghost use Rattle.page_core_tables.specs.Printed.{prints_ascii, by_spelling, char_printed, glyph_printed, printed_view, char_columns};
 
 use crate::{glyph, spelling};
 use page_core_base::Output;
@@ -31,7 +31,7 @@ fn prints_ascii(output: Output) -> bool
 
 // A character by its spelling, which is empty where it has none.
 fn by_spelling<'a>(spelling: &'static str, c: char) -> Printed<'a>
-    ensures { printed_seen result ≡ by_spelling spelling.now c }
+    ensures { printed_view result ≡ by_spelling spelling.now c }
 {
     if spelling.is_empty() {
         return Printed::NoSpelling(c);
@@ -41,8 +41,8 @@ fn by_spelling<'a>(spelling: &'static str, c: char) -> Printed<'a>
 
 /// What a character prints. A tab, and a blank that no row breaks at (U+00A0), print a blank.
 pub fn printed_char(output: Output, c: char) -> Printed<'static>
-    ensures value { printed_seen result ≡ char_printed output c }
-    ensures short { length (printed_seen result).characters ≤ 8 }
+    ensures value { printed_view result ≡ char_printed output c }
+    ensures short { length (printed_view result).characters ≤ 8 }
 {
     match c {
         ' '..='~' => Printed::Char(c),
@@ -54,8 +54,8 @@ pub fn printed_char(output: Output, c: char) -> Printed<'static>
 
 /// What the glyph of a name prints.
 pub fn printed_glyph(output: Output, name: &[u8]) -> Printed<'_>
-    ensures value { printed_seen result ≡ glyph_printed output name.now }
-    ensures short { length (printed_seen result).characters ≤ 8 }
+    ensures value { printed_view result ≡ glyph_printed output name.now }
+    ensures short { length (printed_view result).characters ≤ 8 }
 {
     match glyph(name) {
         None => Printed::NoGlyph(name),

@@ -13,7 +13,7 @@ use Rattle.page_scopes_laws.specs.declared.Scope.{Scope}
 use Rattle.page_scopes_tree.specs.Acts.{Step}
 use Rattle.page_scopes_tree.specs.Nests.{Fact, coming, standing, refused}
 use Rattle.page_sets.specs.declared.either.Either.{Either}
-use Rattle.page_sets_lines.specs.declared.events.Deed.{Deed}
+use Rattle.page_sets_lines.specs.declared.events.EventKind.{EventKind}
 use Rattle.page_sets_names.specs.declared.macro_names.Prologue.{Prologue}
 use Rattle.page_engine_body.specs.Bodies.{BodyEdge, HeaderEdge, has_begun, indent_of}
 use Rattle.page_engine_body.specs.Titles.{title_fields}
@@ -112,15 +112,15 @@ record HasTitle (fields : Fields) (s : Beside HeaderEdge LayoutState) : Type 0 w
   decided : s.own.is_decided ≡ true
   same : s.own.fields ≡ fields
 
-begun_stays : (deed : Deed (List ℕ)) (begun : Bool) → begun ≡ true → begun_after deed begun ≡ true
-begun_stays deed begun h = rw h refl
+begun_stays : (kind : EventKind (List ℕ)) (begun : Bool) → begun ≡ true → begun_after kind begun ≡ true
+begun_stays kind begun h = rw h refl
 
 fields_stay : (begun : Bool) (name : Prologue) (os rest : List ℕ) (fields : Fields) → begun ≡ true → title_fields begun name os rest fields ≡ fields
 fields_stay begun name os rest fields h = rw h refl
 
 leaf_title : (fields : Fields) (f : With Aside Fact) (s : Beside HeaderEdge LayoutState) → HasTitle fields s → HasTitle fields (body_layout.leaf_state f s)
 leaf_title fields (act (coming event)) s h =
-    record { begun = begun_stays event.deed s.rest.has_begun h.begun; decided = h.decided; same = h.same }
+    record { begun = begun_stays event.kind s.rest.has_begun h.begun; decided = h.decided; same = h.same }
 leaf_title fields (act (standing a)) s h = record { begun = h.begun; decided = h.decided; same = h.same }
 leaf_title fields (act (refused obstacle a)) s h = record { begun = h.begun; decided = h.decided; same = h.same }
 leaf_title fields (aside (reports m)) s h = record { begun = h.begun; decided = h.decided; same = h.same }

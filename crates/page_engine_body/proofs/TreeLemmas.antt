@@ -26,14 +26,14 @@ use Rattle.page_scopes_tree.specs.declared.acts.Act.TheVariants as acts
 use Rattle.page_scopes_labels.specs.declared.labels.Label.{Label}
 use Rattle.page_scopes_tree.proofs.FitLemmas.{scopes-sound}
 use Rattle.page_scopes_tree.proofs.StandingLemmas.{OfDone, done-standing}
-use Rattle.page_sets_lines.specs.declared.events.Deed.{Deed}
-use Rattle.page_sets_lines.specs.declared.events.Deed.TheVariants as deeds
+use Rattle.page_sets_lines.specs.declared.events.EventKind.{EventKind}
+use Rattle.page_sets_lines.specs.declared.events.EventKind.TheVariants as kinds
 use Rattle.page_sets_lines.specs.declared.events.Event.{Event}
 use Rattle.page_sets_lines.specs.declared.leaves.Leaf.{Leaf}
 use Rattle.page_sets_lines.specs.declared.leaves.Leaf.TheVariants as leaves
 use Rattle.page_sets_names.specs.declared.macro_names.Prologue.{Prologue}
-use Rattle.page_engine_body.specs.Bodies.{BodyEdge, HeaderEdge, begin_items, scope_items, with_scopes, with_title, deed_items, deed_after, event_items, event_after, events_items, events_after, end_items}
-use Rattle.page_engine_body.specs.Trees.{Aside, reports, titles, closes, deed_steps, event_steps, events_steps, page_end_steps, header_at, body_sides, body_nesting, body_layout, opened, body_of, tree_items, tree_after}
+use Rattle.page_engine_body.specs.Bodies.{BodyEdge, HeaderEdge, begin_items, scope_items, with_scopes, with_title, kind_items, kind_after, event_items, event_after, events_items, events_after, end_items}
+use Rattle.page_engine_body.specs.Trees.{Aside, reports, titles, closes, kind_steps, event_steps, events_steps, page_end_steps, header_at, body_sides, body_nesting, body_layout, opened, body_of, tree_items, tree_after}
 
 sound : IsSound body_nesting SCOPES
 sound = sound_with scopes_nesting SCOPES scopes-sound
@@ -68,7 +68,7 @@ aside_after_is b y = ap body_of (edge-run body_nesting sound body_layout (opened
 
 before_comes : (mode : Bool) (event : Event (List ℕ)) (nodes : List Label) (h : HeaderEdge) (s : LayoutState)
     → before_leaf body_sides (step_standing mode (comes event) 0 nodes) h s
-    ≡ (if not mode && begins event.deed s.has_begun then header_at event.place.line h else [])
+    ≡ (if not mode && begins event.kind s.has_begun then header_at event.place.line h else [])
 before_comes true event nodes h s = refl
 before_comes false event nodes h s = refl
 
@@ -133,50 +133,50 @@ plain_after b event =
 -- ---- events
 
 -- a macro of the prologue, or an event of the scopes
-IsTitle : Deed (List ℕ) → Type 0
-IsTitle deed = (name : Prologue) × (rest : List ℕ) × (deed ≡ deeds.Leaf (leaves.Prologue name rest))
+IsTitle : EventKind (List ℕ) → Type 0
+IsTitle kind = (name : Prologue) × (rest : List ℕ) × (kind ≡ kinds.Leaf (leaves.Prologue name rest))
 
-record IsPlain (deed : Deed (List ℕ)) : Type 0 where
-  pub steps : (event : Event (List ℕ)) → deed_steps deed event ≡ map act (steps_of event)
-  pub items : (b : BodyEdge) (event : Event (List ℕ)) → deed_items deed b event ≡ scope_items b event
-  pub after : (b : BodyEdge) (event : Event (List ℕ)) → deed_after deed b event ≡ with_scopes b (scopes.event_after b.scopes event)
+record IsPlain (kind : EventKind (List ℕ)) : Type 0 where
+  pub steps : (event : Event (List ℕ)) → kind_steps kind event ≡ map act (steps_of event)
+  pub items : (b : BodyEdge) (event : Event (List ℕ)) → kind_items kind b event ≡ scope_items b event
+  pub after : (b : BodyEdge) (event : Event (List ℕ)) → kind_after kind b event ≡ with_scopes b (scopes.event_after b.scopes event)
 
-leaf_kinds : (l : Leaf (List ℕ)) → IsTitle (deeds.Leaf l) ⊎ IsPlain (deeds.Leaf l)
+leaf_kinds : (l : Leaf (List ℕ)) → IsTitle (kinds.Leaf l) ⊎ IsPlain (kinds.Leaf l)
 unfolding IsTitle
 leaf_kinds leaves.BlankLine = inr (record { steps = λ e. refl; items = λ b e. refl; after = λ b e. refl })
 leaf_kinds (leaves.Wordless text) = inr (record { steps = λ e. refl; items = λ b e. refl; after = λ b e. refl })
 leaf_kinds (leaves.Request request) = inr (record { steps = λ e. refl; items = λ b e. refl; after = λ b e. refl })
 leaf_kinds (leaves.Prologue name rest) = inl (name, rest, refl)
-leaf_kinds (leaves.Own word) = inr (record { steps = λ e. refl; items = λ b e. refl; after = λ b e. refl })
+leaf_kinds (leaves.Generated word) = inr (record { steps = λ e. refl; items = λ b e. refl; after = λ b e. refl })
 leaf_kinds (leaves.Example begins) = inr (record { steps = λ e. refl; items = λ b e. refl; after = λ b e. refl })
 leaf_kinds (leaves.Distance rows) = inr (record { steps = λ e. refl; items = λ b e. refl; after = λ b e. refl })
 leaf_kinds (leaves.Fonts font) = inr (record { steps = λ e. refl; items = λ b e. refl; after = λ b e. refl })
 leaf_kinds leaves.FurtherTag = inr (record { steps = λ e. refl; items = λ b e. refl; after = λ b e. refl })
 leaf_kinds (leaves.Step step) = inr (record { steps = λ e. refl; items = λ b e. refl; after = λ b e. refl })
 
-deed_kinds : (deed : Deed (List ℕ)) → IsTitle deed ⊎ IsPlain deed
-deed_kinds (deeds.Word word) = inr (record { steps = λ e. refl; items = λ b e. refl; after = λ b e. refl })
-deed_kinds (deeds.Open opener) = inr (record { steps = λ e. refl; items = λ b e. refl; after = λ b e. refl })
-deed_kinds (deeds.Close closer) = inr (record { steps = λ e. refl; items = λ b e. refl; after = λ b e. refl })
-deed_kinds (deeds.LineScope opener) = inr (record { steps = λ e. refl; items = λ b e. refl; after = λ b e. refl })
-deed_kinds (deeds.Leaf l) = leaf_kinds l
-deed_kinds (deeds.Raw text) = inr (record { steps = λ e. refl; items = λ b e. refl; after = λ b e. refl })
-deed_kinds (deeds.End fills) = inr (record { steps = λ e. refl; items = λ b e. refl; after = λ b e. refl })
-deed_kinds (deeds.Note kind detail is_quoted begins_body) = inr (record { steps = λ e. refl; items = λ b e. refl; after = λ b e. refl })
+event_kinds : (kind : EventKind (List ℕ)) → IsTitle kind ⊎ IsPlain kind
+event_kinds (kinds.Word word) = inr (record { steps = λ e. refl; items = λ b e. refl; after = λ b e. refl })
+event_kinds (kinds.Open opener) = inr (record { steps = λ e. refl; items = λ b e. refl; after = λ b e. refl })
+event_kinds (kinds.Close closer) = inr (record { steps = λ e. refl; items = λ b e. refl; after = λ b e. refl })
+event_kinds (kinds.LineScope opener) = inr (record { steps = λ e. refl; items = λ b e. refl; after = λ b e. refl })
+event_kinds (kinds.Leaf l) = leaf_kinds l
+event_kinds (kinds.Raw text) = inr (record { steps = λ e. refl; items = λ b e. refl; after = λ b e. refl })
+event_kinds (kinds.End fills) = inr (record { steps = λ e. refl; items = λ b e. refl; after = λ b e. refl })
+event_kinds (kinds.Note kind detail is_quoted begins_body) = inr (record { steps = λ e. refl; items = λ b e. refl; after = λ b e. refl })
 
-Same : Deed (List ℕ) → BodyEdge → Event (List ℕ) → Type 0
-Same deed b event = (tree_items b (deed_steps deed event) ≡ deed_items deed b event) × (tree_after b (deed_steps deed event) ≡ deed_after deed b event)
+Same : EventKind (List ℕ) → BodyEdge → Event (List ℕ) → Type 0
+Same kind b event = (tree_items b (kind_steps kind event) ≡ kind_items kind b event) × (tree_after b (kind_steps kind event) ≡ kind_after kind b event)
 
-deed_same : (deed : Deed (List ℕ)) (b : BodyEdge) (event : Event (List ℕ)) → Same deed b event
+kind_same : (kind : EventKind (List ℕ)) (b : BodyEdge) (event : Event (List ℕ)) → Same kind b event
 unfolding IsTitle Same
-deed_same deed b event = elim (deed_kinds deed) [
+kind_same kind b event = elim (event_kinds kind) [
   | inl t ↦ rw t.2 (aside_items_is b (titles event.place t.0 t.1), aside_after_is b (titles event.place t.0 t.1))
   | inr p ↦ rw (p.steps event, p.items b event, p.after b event) (plain_items b event, plain_after b event)
 ]
 
 pub event_tree : (b : BodyEdge) (event : Event (List ℕ)) → (tree_items b (event_steps event) ≡ event_items b event) × (tree_after b (event_steps event) ≡ event_after b event)
 unfolding event_items event_after Same
-event_tree b event = deed_same event.deed b event
+event_tree b event = kind_same event.kind b event
 
 pub events_tree_items : (b : BodyEdge) (events : List (Event (List ℕ))) → tree_items b (events_steps events) ≡ events_items b events
 unfolding events_items
@@ -201,9 +201,9 @@ events_tree_after b (event ∷ events) =
 Keeps : BodyEdge → BodyEdge → Type 0
 Keeps next b = (next.header.set ≡ b.header.set) × (next.header.is_decided ≡ b.header.is_decided)
 
-deed_keeps : (deed : Deed (List ℕ)) (b : BodyEdge) (event : Event (List ℕ)) → Keeps (deed_after deed b event) b
+kind_keeps : (kind : EventKind (List ℕ)) (b : BodyEdge) (event : Event (List ℕ)) → Keeps (kind_after kind b event) b
 unfolding IsTitle Keeps
-deed_keeps deed b event = elim (deed_kinds deed) [
+kind_keeps kind b event = elim (event_kinds kind) [
   | inl t ↦ rw t.2 (refl, refl)
   | inr p ↦ rw (p.after b event) (refl, refl)
 ]
@@ -213,7 +213,7 @@ pub events_keep : (b : BodyEdge) (events : List (Event (List ℕ)))
 unfolding event_after events_after Keeps
 events_keep b [] = (refl, refl)
 events_keep b (event ∷ events) =
-    let first = deed_keeps event.deed b event in
+    let first = kind_keeps event.kind b event in
     let next = events_keep (event_after b event) events in
     (next.0 ∙ first.0, next.1 ∙ first.1)
 

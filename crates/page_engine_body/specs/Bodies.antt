@@ -20,9 +20,9 @@ use Rattle.page_sets.specs.Either.{either_indent}
 use Rattle.page_sets.specs.declared.either.Either.{Either}
 use Rattle.page_sets.specs.declared.either.Either.TheVariants as sets
 use Rattle.page_engine_body.specs.Languages.{language_of}
-use Rattle.page_sets_lines.specs.PlainLines.{event_at, plain_deed}
-use Rattle.page_sets_lines.specs.declared.events.Deed.{Deed}
-use Rattle.page_sets_lines.specs.declared.events.Deed.TheVariants.{Leaf}
+use Rattle.page_sets_lines.specs.PlainLines.{event_at, plain_kind}
+use Rattle.page_sets_lines.specs.declared.events.EventKind.{EventKind}
+use Rattle.page_sets_lines.specs.declared.events.EventKind.TheVariants.{Leaf}
 use Rattle.page_sets_lines.specs.declared.events.Event.{Event}
 use Rattle.page_sets_lines.specs.declared.leaves.Leaf.TheVariants.{Prologue}
 use Rattle.page_sets_names.specs.declared.macro_names.Prologue.{Prologue as PrologueName}
@@ -75,9 +75,9 @@ abbrev pub scope_items : BodyEdge → Event (List ℕ) → List Item
 scope_items b event = begin_items b event ++ scopes.event_items b.scopes event
 
 -- a macro of the prologue sets the fields, and is nothing to the scopes
-abbrev pub deed_items : Deed (List ℕ) → BodyEdge → Event (List ℕ) → List Item
-deed_items (Leaf (Prologue name rest)) b event = title_items (has_begun b) event.place name rest
-deed_items _ b event = scope_items b event
+abbrev pub kind_items : EventKind (List ℕ) → BodyEdge → Event (List ℕ) → List Item
+kind_items (Leaf (Prologue name rest)) b event = title_items (has_begun b) event.place name rest
+kind_items _ b event = scope_items b event
 
 abbrev pub with_title : BodyEdge → PrologueName → List ℕ → BodyEdge
 with_title b name rest =
@@ -86,15 +86,15 @@ with_title b name rest =
       scopes = b.scopes;
     }
 
-abbrev pub deed_after : Deed (List ℕ) → BodyEdge → Event (List ℕ) → BodyEdge
-deed_after (Leaf (Prologue name rest)) b event = with_title b name rest
-deed_after _ b event = with_scopes b (scopes.event_after b.scopes event)
+abbrev pub kind_after : EventKind (List ℕ) → BodyEdge → Event (List ℕ) → BodyEdge
+kind_after (Leaf (Prologue name rest)) b event = with_title b name rest
+kind_after _ b event = with_scopes b (scopes.event_after b.scopes event)
 
 unfoldable pub event_items : BodyEdge → Event (List ℕ) → List Item
-event_items b event = deed_items event.deed b event
+event_items b event = kind_items event.kind b event
 
 unfoldable pub event_after : BodyEdge → Event (List ℕ) → BodyEdge
-event_after b event = deed_after event.deed b event
+event_after b event = kind_after event.kind b event
 
 unfoldable pub events_items : BodyEdge → List (Event (List ℕ)) → List Item
 events_items b [] = []
@@ -118,7 +118,7 @@ pub record GivesEvents {P O : Type 0} (left : P → O → List Item → Type 0) 
 
 -- what a line that is no control line does, before it ends
 abbrev pub plain_event : ℕ → List ℕ → PlainLine → Event (List ℕ)
-plain_event number text line = event_at number 1 (plain_deed line text)
+plain_event number text line = event_at number 1 (plain_kind line text)
 
 -- ---- the page's end, after the line of a number
 

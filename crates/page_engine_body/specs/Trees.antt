@@ -20,8 +20,8 @@ use Rattle.page_scopes_tree.specs.Nests.{Fact, coming, standing, refused, scopes
 use Rattle.page_scopes_tree.specs.declared.acts.Act.TheVariants as acts
 use Rattle.page_scopes_labels.specs.declared.labels.Label.{Label}
 use Rattle.page_scopes_words.specs.Words.{at, says}
-use Rattle.page_sets_lines.specs.declared.events.Deed.{Deed}
-use Rattle.page_sets_lines.specs.declared.events.Deed.TheVariants.{Leaf}
+use Rattle.page_sets_lines.specs.declared.events.EventKind.{EventKind}
+use Rattle.page_sets_lines.specs.declared.events.EventKind.TheVariants.{Leaf}
 use Rattle.page_sets_lines.specs.declared.events.Event.{Event}
 use Rattle.page_sets_lines.specs.declared.leaves.Leaf.TheVariants.{Prologue}
 use Rattle.page_sets_names.specs.declared.macro_names.Prologue.{Prologue as PrologueName}
@@ -37,12 +37,12 @@ pub data Aside : Type 0 where
 -- ---- the acts of events
 
 -- a macro of the prologue sets the fields, even where events are passed over
-abbrev pub deed_steps : Deed (List ℕ) → Event (List ℕ) → List (With Aside Step)
-deed_steps (Leaf (Prologue name rest)) event = aside (titles event.place name rest) ∷ []
-deed_steps _ event = map act (steps_of event)
+abbrev pub kind_steps : EventKind (List ℕ) → Event (List ℕ) → List (With Aside Step)
+kind_steps (Leaf (Prologue name rest)) event = aside (titles event.place name rest) ∷ []
+kind_steps _ event = map act (steps_of event)
 
 abbrev pub event_steps : Event (List ℕ) → List (With Aside Step)
-event_steps event = deed_steps event.deed event
+event_steps event = kind_steps event.kind event
 
 abbrev pub events_steps : List (Event (List ℕ)) → List (With Aside Step)
 events_steps events = flat_map event_steps events
@@ -58,7 +58,7 @@ header_at line h = header_items (is_mdoc h.set) h.measure (at line 1) h.fields
 
 -- the header stands before the event that begins the body
 abbrev pub before_fact : Fact → HeaderEdge → LayoutState → List Item
-before_fact (coming event) h s = if begins event.deed s.has_begun then header_at event.place.line h else []
+before_fact (coming event) h s = if begins event.kind s.has_begun then header_at event.place.line h else []
 before_fact (standing a) h s = []
 before_fact (refused obstacle a) h s = []
 

@@ -2,12 +2,12 @@
 
 ghost use Rattle.std.specs.Prelude.{◌≡◌, ◌≤◌, length, IfOk};
 ghost use Rattle.page_core_base.specs.Latches.{Came};
-ghost use Rattle.page_core_base.specs.LinesTaken.{line_seen};
+ghost use Rattle.page_core_base.specs.LinesTaken.{line_view};
 ghost use Rattle.page_engine_body.specs.Bodies as bodies;
 ghost use Rattle.page_engine_body.specs.Bodies.{GivesEvent, GivesEvents, plain_event};
 ghost use Rattle.page_sets_lines.specs.Fits.{IsShort};
 ghost use Rattle.page_engine_body.specs.Caps.{BodyFits};
-ghost use Rattle.page_sets_lines.specs.Events.{event_seen};
+ghost use Rattle.page_sets_lines.specs.Events.{event_view};
 ghost use Rattle.page_sets_lines.specs.PlainLines.{line_end, plain_events};
 
 use crate::languages::language_of;
@@ -18,7 +18,7 @@ use page_core_limits::LINE;
 use page_engine_header::{Fields, Measure, give_footer_row, give_header};
 use page_scopes::{OpenScopes, PageLayout};
 use page_scopes_words::report;
-use page_sets::{Deed, Either, Event, Leaf, MacroSet};
+use page_sets::{EventKind, Either, Event, Leaf, MacroSet};
 use page_sets_lines::{EventOut, PlainLine};
 use std::alloc::{AllocError, Global};
 use std::marker::Model;
@@ -175,7 +175,7 @@ impl Body {
     /// Decides the language of the page by a line, unless it is decided.
     #[inline(always)]
     pub fn decide(&mut self, line: Taken<'_>)
-        ensures { self.new ≡ bodies.decided self.old (line_seen line.entry) }
+        ensures { self.new ≡ bodies.decided self.old (line_view line.entry) }
     {
         if !self.is_decided {
             if let Some(set) = language_of(line) {
@@ -193,7 +193,7 @@ impl Body {
 
     // Gives the header before an event that begins the body.
     fn give_begin<O: PieceOut>(&self, out: &mut O, event: &Event<&[u8]>)
-        ensures { Came O.left out.old (bodies.begin_items self.now (event_seen event.now)) out.new }
+        ensures { Came O.left out.old (bodies.begin_items self.now (event_view event.now)) out.new }
     {
         if self.scopes.begins_body(event) {
             let place = Place {
@@ -208,10 +208,10 @@ impl Body {
     #[tactic(auto, unfolding(crate::specs::Bodies::event_items, crate::specs::Bodies::event_after))]
     #[inline(always)]
     fn give_event<O: PieceOut>(&mut self, out: &mut O, event: &Event<&[u8]>)
-        requires { IsShort (event_seen event.now) }
-        ensures { GivesEvent O.left (event_seen event.now) self.old out.old self.new out.new }
+        requires { IsShort (event_view event.now) }
+        ensures { GivesEvent O.left (event_view event.now) self.old out.old self.new out.new }
     {
-        if let Deed::Leaf(Leaf::Prologue(name, rest)) = event.deed {
+        if let EventKind::Leaf(Leaf::Prologue(name, rest)) = event.kind {
             let os = self.os.as_str().as_bytes();
             let has_begun = self.scopes.has_begun();
             give_title(
@@ -241,7 +241,7 @@ impl Body {
                 line: line.line,
                 column: 1,
             },
-            deed: plain.deed(line.text),
+            kind: plain.kind(line.text),
         };
         self.give_event(out, &event);
     }
@@ -258,7 +258,7 @@ impl Body {
 
     // The same, without a call where the line is text with a word, as most lines are.
     #[inline(always)]
-    fn give_own<O: PieceOut>(&mut self, out: &mut O, line: Taken<'_>, plain: PlainLine)
+    fn give_generated<O: PieceOut>(&mut self, out: &mut O, line: Taken<'_>, plain: PlainLine)
         requires { length line.text.now ≤ LINE }
         ensures { GivesEvent O.left (plain_event line.entry.line line.entry.text.now plain)
             self.old out.old self.new out.new }
@@ -279,7 +279,7 @@ impl Body {
                 line: number,
                 column: 1,
             },
-            deed: Deed::End { fills },
+            kind: EventKind::End { fills },
         };
         self.give_event(out, &event);
     }
@@ -292,14 +292,14 @@ impl Body {
         ensures { GivesEvents O.left (plain_events line.entry.line line.entry.text.now plain)
             self.old out.old self.new out.new }
     {
-        self.give_own(out, line, plain);
+        self.give_generated(out, line, plain);
         self.give_line_end(out, line.line, plain.fills());
     }
 
     /// Gives the pieces and messages of a finished line, and keeps what it leaves.
     pub fn give_line<S: MacroSet, O: PieceOut>(&mut self, set: &S, taken: Taken<'_>, out: &mut O)
         requires { length taken.text.now ≤ LINE }
-        ensures { GivesEvents O.left (S.table set.now (line_seen taken.entry))
+        ensures { GivesEvents O.left (S.table set.now (line_view taken.entry))
             self.old out.old self.new out.new }
     {
         let mut events = BodyOut { body: self, out };

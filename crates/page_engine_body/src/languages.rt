@@ -1,7 +1,7 @@
 //! The language of a page (mandoc(1), `-m`; man(7), `TH`; mdoc(7), `Dd`).
 
 ghost use Rattle.std.specs.Prelude.{◌≡◌};
-ghost use Rattle.page_core_base.specs.LinesTaken.{line_seen};
+ghost use Rattle.page_core_base.specs.LinesTaken.{line_view};
 ghost use Rattle.page_engine_body.specs.Languages as languages;
 
 use page_core_base::Taken;
@@ -20,7 +20,7 @@ fn macro_language(name: &[u8]) -> Either
 
 // The language that a control line decides, if it decides one.
 fn control_language(line: Taken<'_>) -> Option<Either>
-    ensures { result ≡ languages.control_language (line_seen line.entry) }
+    ensures { result ≡ languages.control_language (line_view line.entry) }
 {
     let span = find_name(line);
     let name = &line.text[span.start..span.end];
@@ -33,7 +33,7 @@ fn control_language(line: Taken<'_>) -> Option<Either>
 /// The language that a line decides, if it decides one.
 #[tactic(auto, unfolding(crate::specs::Languages::language_of))]
 pub(crate) fn language_of(line: Taken<'_>) -> Option<Either>
-    ensures { result ≡ languages.language_of (line_seen line.entry) }
+    ensures { result ≡ languages.language_of (line_view line.entry) }
 {
     match PlainLine::of(line) {
         Some(PlainLine::Words | PlainLine::Raw) => Some(Either::Man),

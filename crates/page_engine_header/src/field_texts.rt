@@ -3,7 +3,7 @@
 ghost use Rattle.std.specs.Prelude.{◌≡◌, ◌≤◌, ◌<◌, ◌+◌, ◌-◌, [], ◌∷◌, ◌++◌, ◌==◌, length, drop, take, if◌then◌else◌};
 ghost use Rattle.page_core_escapes.specs.Tokens.{unpaired};
 ghost use Rattle.page_core_limits.specs.declared.TheConstants.{FIELD};
-ghost use Rattle.page_roff_forms.specs.Arguments.{argument_seen};
+ghost use Rattle.page_roff_forms.specs.Arguments.{argument_view};
 ghost use Rattle.page_engine_header.specs.Fields as fields;
 ghost use Rattle.page_engine_header.specs.Fields.{first_field, or_else, quote_len, written};
 
@@ -89,7 +89,7 @@ fn add_front(kept: &mut ArrayVec<u8, 256>, text: &[u8], is_quoted: bool)
 #[tactic(auto, using(crate::proofs::FieldLemmas::front_within))]
 fn add_argument(kept: &mut ArrayVec<u8, 256>, room: usize, argument: Argument<&[u8]>) -> usize
     requires { length kept.old.items + room ≤ 256 }
-    ensures items { kept.new.items ≡ kept.old.items ++ written room (argument_seen argument.entry) }
+    ensures items { kept.new.items ≡ kept.old.items ++ written room (argument_view argument.entry) }
     ensures room { result ≡ room - length argument.entry.text.now }
     ensures fits { length kept.new.items + result ≤ 256 }
 {
@@ -130,7 +130,7 @@ impl Field {
 
     /// A field of an argument, of which the first 256 bytes are kept, up to a character's end.
     pub(crate) fn of(argument: Argument<&[u8]>) -> Field
-        ensures { result ≡ fields.field (argument_seen argument.entry) }
+        ensures { result ≡ fields.field (argument_view argument.entry) }
     {
         let mut kept = ArrayVec::new();
         add_argument(&mut kept, FIELD, argument);
@@ -164,7 +164,7 @@ impl Field {
     // The field of a short text, and an argument in brackets after it.
     fn with_brackets(text: &[u8], argument: Argument<&[u8]>) -> Field
         requires { length text.now ≤ 64 }
-        ensures { result ≡ text.now ++ fields.in_brackets (FIELD - length text.now) (argument_seen argument.entry) }
+        ensures { result ≡ text.now ++ fields.in_brackets (FIELD - length text.now) (argument_view argument.entry) }
     {
         let mut kept = ArrayVec::new();
         let _ = kept.try_extend_from_slice(text);

@@ -3,7 +3,7 @@
 ghost use Rattle.std.specs.Prelude.{◌≡◌, ◌≤◌, [], ◌∷◌, false, length, take, nat_lt};
 ghost use Rattle.std.specs.List.{flat_map};
 ghost use Rattle.page_core_base.specs.Latches.{Came};
-ghost use Rattle.page_roff_forms.specs.Arguments.{argument_seen};
+ghost use Rattle.page_roff_forms.specs.Arguments.{argument_view};
 ghost use Rattle.page_engine_header.specs.Fields as fields;
 ghost use Rattle.page_engine_header.specs.Fields.{FIELDS, argument_cut, cut_item, no_fields, volume_at, volume_of};
 

@@ -3,10 +3,10 @@
 
 ghost use Rattle.std.specs.Prelude.{◌≡◌, ◌≤◌, ◌<◌, ◌*◌, [], ◌∷◌, false, length, replicate, chars};
 ghost use Rattle.page_core_base.specs.Latches.{Came};
-ghost use Rattle.page_core_escapes.specs.Escapes.{meaning_seen};
-ghost use Rattle.page_core_escapes.specs.Tokens.{token_bytes, token_seen, tokens_of};
+ghost use Rattle.page_core_escapes.specs.Escapes.{meaning_view};
+ghost use Rattle.page_core_escapes.specs.Tokens.{token_bytes, token_view, tokens_of};
 ghost use Rattle.page_core_numbers.specs.Columns.{characters_columns, printed_escape};
-ghost use Rattle.page_core_tables.specs.Printed.{printed_seen};
+ghost use Rattle.page_core_tables.specs.Printed.{printed_view};
 ghost use Rattle.page_engine_header.specs.Printing.{plain_printed, token_printed, tokens_columns, in_font, tokens_items, fonts_after};
 
 use page_core_base::{Font, Output, Piece, PieceOut, Place};
@@ -30,10 +30,10 @@ fn plain_columns(output: Output, text: &str) -> u32
 
 // The columns of what a token prints.
 fn token_columns(output: Output, token: &Token<'_>) -> u32
-    requires some { 0 < length (token_bytes (token_seen token.now)) }
-    requires short { length (token_bytes (token_seen token.now)) ≤ 256 }
-    ensures value { result ≡ characters_columns (token_printed output (token_seen token.now)) }
-    ensures bound { result ≤ 1000 * length (token_bytes (token_seen token.now)) }
+    requires some { 0 < length (token_bytes (token_view token.now)) }
+    requires short { length (token_bytes (token_view token.now)) ≤ 256 }
+    ensures value { result ≡ characters_columns (token_printed output (token_view token.now)) }
+    ensures bound { result ≤ 1000 * length (token_bytes (token_view token.now)) }
 {
     match *token {
         Token::White(white) => white.len() as u32,
@@ -91,7 +91,7 @@ fn give_spelling<O: PieceOut>(out: &mut O, font: Font, place: Place, spelling: &
 
 // Gives what a character or a glyph prints.
 fn give_printed<O: PieceOut>(out: &mut O, font: Font, place: Place, printed: Printed<'_>)
-    ensures { Came O.left out.old (in_font font place (printed_seen printed.entry).characters) out.new }
+    ensures { Came O.left out.old (in_font font place (printed_view printed.entry).characters) out.new }
 {
     match printed {
         Printed::Char(c) => give_char(out, font, place, c),
@@ -118,7 +118,7 @@ fn give_escape<O: PieceOut>(
     meaning: Escape<'_>,
 )
     ensures { Came O.left out.old
-        (in_font font place (printed_escape output (meaning_seen meaning.entry))) out.new }
+        (in_font font place (printed_escape output (meaning_view meaning.entry))) out.new }
 {
     match meaning {
         Escape::Glyph(name) => give_printed(out, font, place, printed_glyph(output, name)),
@@ -136,8 +136,8 @@ fn give_escape<O: PieceOut>(
 
 // Gives what a token prints.
 fn give_token<O: PieceOut>(out: &mut O, output: Output, font: Font, place: Place, token: &Token<'_>)
-    requires { length (token_bytes (token_seen token.now)) ≤ 256 }
-    ensures { Came O.left out.old (in_font font place (token_printed output (token_seen token.now))) out.new }
+    requires { length (token_bytes (token_view token.now)) ≤ 256 }
+    ensures { Came O.left out.old (in_font font place (token_printed output (token_view token.now))) out.new }
 {
     match *token {
         Token::White(white) => give_blanks(out, font, place, white.len() as u32),

@@ -10,7 +10,7 @@ use Rattle.page_roff_forms.specs.LineForms.{form_of}
 use Rattle.page_roff_forms.specs.declared.line_forms.LineForm.{LineForm}
 use Rattle.page_roff_forms.specs.declared.line_forms.LineForm.TheVariants.{Comment, BlankLine, Text, Control}
 use Rattle.page_roff_heads.specs.declared.loops.LoopHead.{LoopHead}
-use Rattle.page_roff_blocks.specs.Atoms.{atoms}
+use Rattle.page_roff_blocks.specs.LineParts.{line_parts}
 use Rattle.page_roff_regions.specs.OpenRegions.{Opened}
 use Rattle.page_roff_blocks.specs.Loops.{loop_text}
 use Rattle.page_roff_regions.specs.declared.regions.RegionHead.{RegionHead}
@@ -197,7 +197,7 @@ module _ (units : List ℕ → ℕ) (n : ℕ) where
 -- ---- lines of the page
 
 leaves_any : HasLeaves IsAny
-leaves_any line t = any_leaves (atoms line)
+leaves_any line t = any_leaves (line_parts line)
 
 text_any : (text : Option (List ℕ)) → IsIfSome IsAny text
 text_any None = tt

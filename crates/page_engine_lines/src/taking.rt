@@ -2,7 +2,7 @@
 
 ghost use Rattle.std.specs.Prelude.{◌≡◌, ◌≤◌, length, None};
 ghost use Rattle.page_core_base.specs.Latches.{Came};
-ghost use Rattle.page_core_base.specs.LinesTaken.{line_seen};
+ghost use Rattle.page_core_base.specs.LinesTaken.{line_view};
 ghost use Rattle.page_roff_source.specs.Taking.{given_of};
 ghost use Rattle.page_engine_lines.specs.Lines as lines;
 ghost use Rattle.page_engine_lines.specs.Given.{given_items, body_after, line_after, line_items};
@@ -41,8 +41,8 @@ pub(crate) fn report_trailing<O: PieceOut>(out: &mut O, number: u32, text: &[u8]
 fn give_finished<L: PieceOut>(body: &mut Body, line: Taken<'_>, out: &mut ItemOut<L>)
     requires { length line.text.now ≤ LINE }
     ensures came { Came L.left out.old.latch
-        (line_items body.old (line_seen line.entry)) out.new.latch }
-    ensures after { body.new ≡ line_after body.old (line_seen line.entry) }
+        (line_items body.old (line_view line.entry)) out.new.latch }
+    ensures after { body.new ≡ line_after body.old (line_view line.entry) }
 {
     body.decide(line);
     match PlainLine::of(line) {

@@ -2,12 +2,12 @@
 
 ghost use Rattle.std.specs.Prelude.{◌≡◌, IfOk, chars, refl};
 ghost use Rattle.page_core_base.specs.Pieces.{piece_of};
-ghost use Rattle.page_core_tables.specs.Printed.{printed_seen};
+ghost use Rattle.page_core_tables.specs.Printed.{printed_view};
 ghost use Rattle.page_engine_header.specs.Printing.{characters_of, plain_printed};
 ghost use Rattle.page_engine_records.specs.NameTexts.{has_ended, heading, paragraph, read, reader_at, taken, top_heading, with_character, with_characters};
 ghost use Rattle.page_engine_records.specs.ReaderSinks.{reader-items, reader-messages, reader-notes, reader-well};
 
-use crate::texts::KeptText;
+use crate::texts::SectionText;
 use page_core_base::{Fault, Note, NoteKind, NoteSink, Output, Piece, PieceSink};
 use page_core_tables::{Printed, printed_char, printed_glyph};
 use std::alloc::{AllocError, Global};
@@ -26,7 +26,7 @@ pub struct NameReader {
     pub(crate) side: Side,
     /// Where a row begins, in columns.
     pub(crate) margin: u32,
-    pub(crate) text: KeptText,
+    pub(crate) text: SectionText,
     /// A blank stands before the next character.
     pub(crate) is_apart: bool,
     /// How much of the text stood before the last paragraph.
@@ -41,7 +41,7 @@ impl NameReader {
         Ok(NameReader {
             side,
             margin: 0,
-            text: KeptText::new(alloc)?,
+            text: SectionText::new(alloc)?,
             is_apart: false,
             before: 0,
         })
@@ -79,7 +79,7 @@ impl NameReader {
 
     // Takes what a character or a glyph prints.
     fn take_printed(&mut self, printed: Printed<'_>)
-        ensures { self.new ≡ with_characters self.old (printed_seen printed.entry).characters }
+        ensures { self.new ≡ with_characters self.old (printed_view printed.entry).characters }
     {
         match printed {
             Printed::Char(c) => self.take_char(c),

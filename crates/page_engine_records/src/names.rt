@@ -5,7 +5,7 @@ ghost use Rattle.std.specs.List.{slice_split};
 ghost use Rattle.page_engine_records.specs.declared.texts.TheConstants.{NAMES};
 ghost use Rattle.page_engine_records.specs.Records.{begins_dash, dash_place, is_comma, record_of, trimmed, with_names, without_front};
 
-use crate::texts::{KeptNames, KeptText};
+use crate::texts::{KeptNames, SectionText};
 use memchr::memchr;
 use page_engine_index::{Record, Text};
 use page_roff_forms::kept_len;
@@ -87,7 +87,7 @@ fn add_names(names: &mut KeptNames, text: &[u8])
 }
 
 /// The record in the text of a section NAME, with the number of the manual's section; the names go into memory that has none.
-pub(crate) fn record_of(text: KeptText, section: Vec<u8>, names: KeptNames) -> Option<Record>
+pub(crate) fn record_of(text: SectionText, section: Vec<u8>, names: KeptNames) -> Option<Record>
     requires { names ≡ [] }
     ensures { result ≡ record_of text section.items }
 {

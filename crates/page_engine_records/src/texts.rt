@@ -11,11 +11,11 @@ pub(crate) const NAMES: usize = 8_194;
 
 /// A text of at most [`TEXT`] bytes. Contracts see the list of them.
 #[derive(Drop)]
-pub(crate) struct KeptText {
+pub(crate) struct SectionText {
     bytes: Vec<u8>,
 }
 
-impl Model for KeptText {
+impl Model for SectionText {
     ghost use Rattle.std.specs.Prelude.{ℕ, List, ◌≤◌, vec_len, vec_capacity};
     ghost use Rattle.page_engine_records.specs.declared.texts.TheConstants.{TEXT};
 
@@ -26,16 +26,16 @@ impl Model for KeptText {
     ghost invariant = { λ text. (vec_len text.bytes ≤ TEXT) × (TEXT ≤ vec_capacity text.bytes) };
 }
 
-impl KeptText {
+impl SectionText {
     ghost use Rattle.std.specs.Prelude.{◌≡◌, ◌≤◌, [], drop, length, take, IfOk};
     ghost use Rattle.page_engine_records.specs.NameTexts.{with_byte};
 
     /// An empty text, with the memory that it will ever hold.
-    pub(crate) fn new(alloc: Global) -> Result<KeptText, AllocError>
+    pub(crate) fn new(alloc: Global) -> Result<SectionText, AllocError>
         ensures { IfOk result (λ text. text ≡ []) }
     {
         let bytes = Vec::with_capacity(alloc, TEXT)?;
-        Ok(KeptText { bytes })
+        Ok(SectionText { bytes })
     }
 
     /// Adds a byte, where there is room for it.

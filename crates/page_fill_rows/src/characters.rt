@@ -3,7 +3,7 @@
 ghost use Rattle.std.specs.Prelude.{◌≡◌, [], ◌∷◌, true};
 ghost use Rattle.std.specs.Str.{chars};
 ghost use Rattle.page_core_base.specs.Latches.{LaysOut};
-ghost use Rattle.page_core_tables.specs.Printed.{printed_seen, unknown_text};
+ghost use Rattle.page_core_tables.specs.Printed.{printed_view, unknown_text};
 ghost use Rattle.page_fill_rows.specs.Sheets as sheet;
 ghost use Rattle.page_fill_rows.specs.Characters as shown;
 ghost use Rattle.page_fill_rows.specs.Plain as plain;
@@ -91,7 +91,7 @@ fn put_printed<O: RowOut>(
     out: &mut O,
 )
     ensures { LaysOut O.left out.old (shown.put row.old
-        (printed_seen printed.entry) font place) out.new row.new }
+        (printed_view printed.entry) font place) out.new row.new }
 {
     match printed {
         Printed::Char(c) => put_char(row, c, font, place, out),

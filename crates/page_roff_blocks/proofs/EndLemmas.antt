@@ -14,12 +14,12 @@ use Rattle.page_roff_heads.specs.Texts.{blank_len, after_blanks, begins_pair, is
 use Rattle.page_roff_heads.specs.declared.texts.Placed.{Placed}
 use Rattle.page_roff_blocks.specs.declared.parts.Keyword.{Keyword}
 use Rattle.page_roff_blocks.specs.declared.parts.Keyword.TheVariants as keywords
-use Rattle.page_roff_blocks.specs.declared.atoms.Atom.{Atom}
-use Rattle.page_roff_blocks.specs.declared.atoms.Atom.TheVariants.{Leaf, Guard, Block, Loop, End, Region}
-use Rattle.page_roff_blocks.specs.Atoms.{part_of, with_part, atoms, atoms_left, whole_atom}
+use Rattle.page_roff_blocks.specs.declared.line_parts.LinePart.{LinePart}
+use Rattle.page_roff_blocks.specs.declared.line_parts.LinePart.TheVariants.{Leaf, Guard, Block, Loop, End, Region}
+use Rattle.page_roff_blocks.specs.LineParts.{part_of, with_part, line_parts, line_parts_left, whole_line_part}
 use Rattle.page_roff_blocks.specs.Parts.{rest_text, loop_part_if, plain_part, raw_rest, keyword_of, keyword_part, form_part, written_part}
 use Rattle.page_roff_blocks.specs.LinePlaces.{IsEndOf, IsRestIn, rest_at, parts_at, place_after, is_block, opens_block}
-use Rattle.page_roff_blocks.proofs.AtomLemmas.{end_rest, atoms_cons}
+use Rattle.page_roff_blocks.proofs.LinePartLemmas.{end_rest, line_parts_cons}
 
 -- a text is what a line ends with
 Ends : List ℕ → List ℕ → Type 0
@@ -170,14 +170,14 @@ slice_ends n line p = rw (to_end n line) (end_further n line (part_of (drop n li
 
 pub slice_parts : (n : ℕ) (line : List ℕ) → n ≤ length line
     → let part = part_of (take (length line - n) (drop n line)) in
-    atoms (drop n line) ≡ part.atom ∷ parts_at line (record { is_whole = false; is_end = part.is_end; rest = place_after line part.rest })
+    line_parts (drop n line) ≡ part.line_part ∷ parts_at line (record { is_whole = false; is_end = part.is_end; rest = place_after line part.rest })
 slice_parts n line p =
     let part = part_of (drop n line) in
     let found = rest_found line part.rest (end_further n line part.rest p (rest_ends (drop n line))) in
-    rw (to_end n line) (atoms_cons (drop n line) ∙ sym (ap (λ rest. with_part part (atoms_left rest)) found))
+    rw (to_end n line) (line_parts_cons (drop n line) ∙ sym (ap (λ rest. with_part part (line_parts_left rest)) found))
 
 -- what of a part belongs to a loop does not change whether it opens a block
-whole_block : (atom : Atom (List ℕ)) → is_block (whole_atom atom) ≡ is_block atom
+whole_block : (line_part : LinePart (List ℕ)) → is_block (whole_line_part line_part) ≡ is_block line_part
 whole_block (Leaf text) = refl
 whole_block (Guard head) = refl
 whole_block (Block opening) = refl
@@ -186,6 +186,6 @@ whole_block End = refl
 whole_block (Region head) = refl
 
 pub slice_opens : (n : ℕ) (line : List ℕ) → n ≤ length line
-    → opens_block (atoms (drop n line)) ≡ is_block (written_part (take (length line - n) (drop n line))).atom
+    → opens_block (line_parts (drop n line)) ≡ is_block (written_part (take (length line - n) (drop n line))).line_part
 unfolding part_of
 slice_opens n line p = ap opens_block (slice_parts n line p) ∙ whole_block _

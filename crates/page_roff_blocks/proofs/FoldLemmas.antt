@@ -1,16 +1,16 @@
 -- What a forest does is what its parts do one after another: helpers of proofs.
 use Rattle.std.proofs.Common.{◌≡◌, ℕ, zero, suc, Bool, true, false, List, [], ◌∷◌, ◌++◌, length, Option, Some, None, refl, sym, ap, ◌∙◌}
 use Rattle.page_roff_heads.specs.declared.loops.LoopHead.{LoopHead}
-use Rattle.page_roff_blocks.specs.declared.atoms.Atom.{Atom}
-use Rattle.page_roff_blocks.specs.declared.atoms.Atom.TheVariants.{Leaf, Guard, Block, Loop, End, Region}
-use Rattle.page_roff_blocks.specs.declared.atoms.Head.{Head}
-use Rattle.page_roff_blocks.specs.declared.atoms.Opening.{Opening}
-use Rattle.page_roff_blocks.specs.declared.atoms.Opening.TheVariants as openings
+use Rattle.page_roff_blocks.specs.declared.line_parts.LinePart.{LinePart}
+use Rattle.page_roff_blocks.specs.declared.line_parts.LinePart.TheVariants.{Leaf, Guard, Block, Loop, End, Region}
+use Rattle.page_roff_blocks.specs.declared.line_parts.Head.{Head}
+use Rattle.page_roff_blocks.specs.declared.line_parts.Opening.{Opening}
+use Rattle.page_roff_blocks.specs.declared.line_parts.Opening.TheVariants as openings
 use Rattle.page_roff_regions.specs.declared.regions.RegionHead.{RegionHead}
-use Rattle.page_roff_blocks.specs.Atoms.{atoms}
+use Rattle.page_roff_blocks.specs.LineParts.{line_parts}
 use Rattle.page_roff_regions.specs.Regions.{end_name, is_ending}
 use Rattle.page_roff_blocks.specs.Forest.{Forest, empty, line, leaf, guard, block, loop, region, Source, ends, shuts, opens, holds, Inside, unended, ended, before, enclose, enregion, keep, line_of, region_line, source_of, inside_of}
-use Rattle.page_roff_blocks.specs.Levels.{Levels, enter, open_loop, skip, leave, leave_from, leave_loop, leave_level, what_ends, ends_from, loop_ends, level_ends, Spot, at_line, after_part, guarded_by, reached, reached_in, reached_from}
+use Rattle.page_roff_blocks.specs.Levels.{Levels, enter, open_loop, skip, leave, leave_from, leave_loop, leave_level, what_ends, ends_from, loop_ends, level_ends, BlockCursor, at_line, after_part, guarded_by, reached, reached_in, reached_from}
 use Rattle.page_roff_regions.specs.OpenRegions.{Opened, opened}
 use Rattle.page_roff_blocks.specs.declared.levels.Way.{Way}
 use Rattle.page_roff_blocks.specs.declared.levels.Way.TheVariants.{Runs, Skips, Exceeds}
@@ -46,22 +46,22 @@ module _ {X S : Type 0} (m : Meaning X S) (text : X → List ℕ) where
   line_here t b o false zero w f = refl
   line_here t b o false (suc n) w f = refl
 
-  spot_at : Levels → Flow S → Spot
-  spot_at l w = record { levels = l; begun = w.begun; passing = w.passing }
+  cursor_at : Levels → Flow S → BlockCursor
+  cursor_at l w = record { levels = l; begun = w.begun; passing = w.passing }
 
-  flow_of : Spot × S → Flow S
+  flow_of : BlockCursor × S → Flow S
   flow_of r = record { begun = r.0.begun; passing = r.0.passing; state = r.1 }
 
   leaf_here : (t : List ℕ) (b : Bool) (o : List Bool) (i : Bool) (n : ℕ) (w : Flow S) (f : Forest X)
-      → let r = step_leaf m t (spot_at (levels b o i n) w) w.state in here m (leaf t f) (levels b o i n) w ≡ here m f r.0.levels (flow_of r)
-  unfolding here here_in here_at run pass gather step_leaf met meet meet_as reached reached_in reached_from after_part past leaf_if spot_at flow_of levels
+      → let r = step_leaf m t (cursor_at (levels b o i n) w) w.state in here m (leaf t f) (levels b o i n) w ≡ here m f r.0.levels (flow_of r)
+  unfolding here here_in here_at run pass gather step_leaf met meet meet_as reached reached_in reached_from after_part past leaf_if cursor_at flow_of levels
   leaf_here t b o true n w f = refl
   leaf_here t b o false zero w f = refl
   leaf_here t b o false (suc n) w f = refl
 
   loop_here : (h : LoopHead (List ℕ)) (b : Bool) (o : List Bool) (i : Bool) (n : ℕ) (w : Flow S) (f : Forest X)
-      → let r = step_loop m h (spot_at (levels b o i n) w) w.state in here m (loop h f) (levels b o i n) w ≡ here m f r.0.levels (flow_of r)
-  unfolding here here_in here_at run pass gather step_loop met meet meet_as reached reached_in reached_from after_part past loop_if spot_at flow_of levels
+      → let r = step_loop m h (cursor_at (levels b o i n) w) w.state in here m (loop h f) (levels b o i n) w ≡ here m f r.0.levels (flow_of r)
+  unfolding here here_in here_at run pass gather step_loop met meet meet_as reached reached_in reached_from after_part past loop_if cursor_at flow_of levels
   loop_here h b o true n w f = refl
   loop_here h b o false zero w f = refl
   loop_here h b o false (suc n) w f = refl
@@ -69,15 +69,15 @@ module _ {X S : Type 0} (m : Meaning X S) (text : X → List ℕ) where
   guard_run : (v : Bool) (h : Head (List ℕ)) (b : Bool) (o : List Bool) (w : Flow S) (s : S) (f : Forest X)
       → let g = guard_if m v h w.passing b s in
       let y = run m (length o) f g.0 g.1 in
-      let r = guard_met m v h (spot_at (levels b o false 0) w) s in
+      let r = guard_met m v h (cursor_at (levels b o false 0) w) s in
       (levels y.0 o false 0, y.1) ≡ here m f r.0.levels (flow_of r)
-  unfolding here here_in here_at guard_if guard_met guard_with guarded guarded_by spot_at flow_of levels
+  unfolding here here_in here_at guard_if guard_met guard_with guarded guarded_by cursor_at flow_of levels
   guard_run true h b o w s f = refl
   guard_run false h b o w s f = refl
 
   guard_here : (h : Head (List ℕ)) (b : Bool) (o : List Bool) (i : Bool) (n : ℕ) (w : Flow S) (f : Forest X)
-      → let r = step_guard m h (spot_at (levels b o i n) w) w.state in here m (guard h f) (levels b o i n) w ≡ here m f r.0.levels (flow_of r)
-  unfolding here here_in here_at run pass gather step_guard met meet meet_as reached reached_in reached_from guarded guard_met spot_at flow_of levels
+      → let r = step_guard m h (cursor_at (levels b o i n) w) w.state in here m (guard h f) (levels b o i n) w ≡ here m f r.0.levels (flow_of r)
+  unfolding here here_in here_at run pass gather step_guard met meet meet_as reached reached_in reached_from guarded guard_met cursor_at flow_of levels
   guard_here h b o true n w f = refl
   guard_here h b o false zero w f = let q = meet m w in guard_run q.0 h b o w q.1 f
   guard_here h b o false (suc n) w f = refl
@@ -157,23 +157,23 @@ module _ {X S : Type 0} (m : Meaning X S) (text : X → List ℕ) where
       run_before (region r ls e) l w (l, fresh (pass_region m l.in_loop r q.0 ls e q.1)) (region_here r ls e l.bit l.outer l.in_loop l.skipped w) rest
 
   enter_met : (v : Bool) (h : Opening (List ℕ)) (b : Bool) (o : List Bool) (w : Flow S) (s : S)
-      → let r = block_met m v h (spot_at (levels b o false 0) w) s in
+      → let r = block_met m v h (cursor_at (levels b o false 0) w) s in
       enter_opening m h (levels b o false 0) (v, s) ≡ (r.0.levels, flow_of r)
-  unfolding enter_opening enter_loop enter_if block_met opening_met block_with enter open_loop skip after_part past spot_at flow_of levels
+  unfolding enter_opening enter_loop enter_if block_met opening_met block_with enter open_loop skip after_part past cursor_at flow_of levels
   enter_met true (openings.Conditional h) b o w s = refl
   enter_met true (openings.Loop h) b o w s = refl
   enter_met false (openings.Conditional h) b o w s = refl
   enter_met false (openings.Loop h) b o w s = refl
 
   enter_same : (h : Opening (List ℕ)) (b : Bool) (o : List Bool) (i : Bool) (n : ℕ) (w : Flow S)
-      → let r = step_block m h (spot_at (levels b o i n) w) w.state in enter_block m h (levels b o i n) w ≡ (r.0.levels, flow_of r)
-  unfolding enter_block enter_in enter_at step_block met meet meet_as reached reached_in reached_from block_met skip after_part past spot_at flow_of levels
+      → let r = step_block m h (cursor_at (levels b o i n) w) w.state in enter_block m h (levels b o i n) w ≡ (r.0.levels, flow_of r)
+  unfolding enter_block enter_in enter_at step_block met meet meet_as reached reached_in reached_from block_met skip after_part past cursor_at flow_of levels
   enter_same h b o true n w = refl
   enter_same h b o false zero w = let q = meet m w in enter_met q.0 h b o w q.1
   enter_same h b o false (suc n) w = refl
 
-  met_same : (b : Bool) (o : List Bool) (i : Bool) (n : ℕ) (w : Flow S) → meet_in m i n w ≡ met m (spot_at (levels b o i n) w) w.state
-  unfolding meet_in meet_at met meet meet_as reached reached_in reached_from spot_at levels
+  met_same : (b : Bool) (o : List Bool) (i : Bool) (n : ℕ) (w : Flow S) → meet_in m i n w ≡ met m (cursor_at (levels b o i n) w) w.state
+  unfolding meet_in meet_at met meet meet_as reached reached_in reached_from cursor_at levels
   met_same b o true n w = refl
   met_same b o false zero w = refl
   met_same b o false (suc n) w = refl
@@ -192,31 +192,31 @@ module _ {X S : Type 0} (m : Meaning X S) (text : X → List ℕ) where
       let then : Levels × Flow S → At S = λ q. record { place = record { region = None; levels = q.0 }; state = q.1.state } in
       empty_first l w then ∙ sym (empty_first l (fresh w.state) then)
   steady_source (t ∷ ts) l w =
-      let src = line_of (atoms (text t)) (source_of text ts) (inside_of text ts) in
+      let src = line_of (line_parts (text t)) (source_of text ts) (inside_of text ts) in
       line_first t src l w ∙ sym (line_first t src l (fresh w.state))
 
   from : Source X → (List ℕ → Inside X) → At S → At S
   from src inside a = run_from m src inside a.place.region a.place.levels a.state
 
-  parts_step : (parts : List (Atom (List ℕ))) (src : Source X) (inside : List ℕ → Inside X) → IsSteady src → (l : Levels) (w : Flow S)
-      → run_source m (line_of parts src inside) l w ≡ from src inside (step_parts m parts (spot_at l w) w.state)
-  unfolding line_of step_parts from run_from run_source IsSteady step_end step_region leave_block after_part past opened spot_at flow_of levels
+  parts_step : (parts : List (LinePart (List ℕ))) (src : Source X) (inside : List ℕ → Inside X) → IsSteady src → (l : Levels) (w : Flow S)
+      → run_source m (line_of parts src inside) l w ≡ from src inside (step_parts m parts (cursor_at l w) w.state)
+  unfolding line_of step_parts from run_from run_source IsSteady step_end step_region leave_block after_part past opened cursor_at flow_of levels
   parts_step [] src inside steady l w = steady l w
   parts_step (Leaf t ∷ rest) src inside steady l w =
-      let r = step_leaf m t (spot_at l w) w.state in
+      let r = step_leaf m t (cursor_at l w) w.state in
       run_before (leaf t) l w (r.0.levels, flow_of r) (leaf_here t l.bit l.outer l.in_loop l.skipped w) (line_of rest src inside)
       ∙ parts_step rest src inside steady r.0.levels (flow_of r)
   parts_step (Guard h ∷ rest) src inside steady l w =
-      let r = step_guard m h (spot_at l w) w.state in
+      let r = step_guard m h (cursor_at l w) w.state in
       run_before (guard h) l w (r.0.levels, flow_of r) (guard_here h l.bit l.outer l.in_loop l.skipped w) (line_of rest src inside)
       ∙ parts_step rest src inside steady r.0.levels (flow_of r)
   parts_step (Block h ∷ rest) src inside steady l w =
-      let r = step_block m h (spot_at l w) w.state in
+      let r = step_block m h (cursor_at l w) w.state in
       open_step h l w (line_of rest src inside)
       ∙ ap (λ q. run_source m (line_of rest src inside) q.0 q.1) (enter_same h l.bit l.outer l.in_loop l.skipped w)
       ∙ parts_step rest src inside steady r.0.levels (flow_of r)
   parts_step (Loop h ∷ rest) src inside steady l w =
-      let r = step_loop m h (spot_at l w) w.state in
+      let r = step_loop m h (cursor_at l w) w.state in
       run_before (loop h) l w (r.0.levels, flow_of r) (loop_here h l.bit l.outer l.in_loop l.skipped w) (line_of rest src inside)
       ∙ parts_step rest src inside steady r.0.levels (flow_of r)
   parts_step (End ∷ rest) src inside steady l w =
@@ -236,10 +236,10 @@ module _ {X S : Type 0} (m : Meaning X S) (text : X → List ℕ) where
 
   from_step : (t : X) (ts : List X) (o : Option Opened) (l : Levels) (s : S)
       → run_from m (source_of text (t ∷ ts)) (inside_of text (t ∷ ts)) o l s ≡ from (source_of text ts) (inside_of text ts) (step_from m text o t l s)
-  unfolding run_from source_of step_from fresh spot_at at_line
+  unfolding run_from source_of step_from fresh cursor_at at_line
   from_step t ts None l s =
-      line_first t (line_of (atoms (text t)) (source_of text ts) (inside_of text ts)) l (fresh s)
-      ∙ parts_step (atoms (text t)) (source_of text ts) (inside_of text ts) (steady_source ts) l (fresh (begin_line m t l s))
+      line_first t (line_of (line_parts (text t)) (source_of text ts) (inside_of text ts)) l (fresh s)
+      ∙ parts_step (line_parts (text t)) (source_of text ts) (inside_of text ts) (steady_source ts) l (fresh (begin_line m t l s))
   from_step t ts (Some o) l s =
       region_line_step (is_ending o.ending (text t)) t o l s (source_of text ts) (inside_of text ts o.ending) (inside_of text ts) refl
 

@@ -1,22 +1,22 @@
 -- Lines with heads: what their forest does is, line after line, what the head does and then the line's text.
 use Rattle.std.proofs.Common.{◌≡◌, ℕ, Bool, true, false, List, [], ◌∷◌, length, Option, Some, None, refl, sym, ap, ◌∙◌}
 use Rattle.page_roff_heads.specs.declared.loops.LoopHead.{LoopHead}
-use Rattle.page_roff_blocks.specs.declared.atoms.Atom.{Atom}
-use Rattle.page_roff_blocks.specs.declared.atoms.Atom.TheVariants.{Leaf, Guard, Block, Loop, End, Region}
-use Rattle.page_roff_blocks.specs.declared.atoms.Branch.{Branch}
-use Rattle.page_roff_blocks.specs.declared.atoms.Branch.TheVariants.{If, IfElse, Else}
-use Rattle.page_roff_blocks.specs.declared.atoms.Head.{Head}
-use Rattle.page_roff_blocks.specs.declared.atoms.Opening.{Opening}
-use Rattle.page_roff_blocks.specs.declared.atoms.Opening.TheVariants as openings
+use Rattle.page_roff_blocks.specs.declared.line_parts.LinePart.{LinePart}
+use Rattle.page_roff_blocks.specs.declared.line_parts.LinePart.TheVariants.{Leaf, Guard, Block, Loop, End, Region}
+use Rattle.page_roff_blocks.specs.declared.line_parts.Branch.{Branch}
+use Rattle.page_roff_blocks.specs.declared.line_parts.Branch.TheVariants.{If, IfElse, Else}
+use Rattle.page_roff_blocks.specs.declared.line_parts.Head.{Head}
+use Rattle.page_roff_blocks.specs.declared.line_parts.Opening.{Opening}
+use Rattle.page_roff_blocks.specs.declared.line_parts.Opening.TheVariants as openings
 use Rattle.page_roff_blocks.specs.declared.levels.Ended.{Ended}
 use Rattle.page_roff_blocks.specs.declared.levels.Ended.TheVariants as endings
 use Rattle.page_roff_blocks.specs.declared.levels.Way.{Way}
 use Rattle.page_roff_blocks.specs.declared.levels.Way.TheVariants.{Runs, Skips, Exceeds}
-use Rattle.page_roff_blocks.specs.declared.spots.Reached.{Reached}
-use Rattle.page_roff_blocks.specs.declared.spots.Reached.TheVariants.{PassedOver, First, Remainder}
-use Rattle.page_roff_blocks.specs.Atoms.{atoms}
+use Rattle.page_roff_blocks.specs.declared.block_cursors.Reached.{Reached}
+use Rattle.page_roff_blocks.specs.declared.block_cursors.Reached.TheVariants.{PassedOver, First, Remainder}
+use Rattle.page_roff_blocks.specs.LineParts.{line_parts}
 use Rattle.page_roff_regions.specs.Regions.{is_ending}
-use Rattle.page_roff_blocks.specs.Levels.{Levels, Spot, at_line, reached, what_ends, way_of}
+use Rattle.page_roff_blocks.specs.Levels.{Levels, BlockCursor, at_line, reached, what_ends, way_of}
 use Rattle.page_roff_regions.specs.OpenRegions.{Opened}
 use Rattle.page_roff_blocks.specs.Run.{Meaning, At, meet_as, value, leaf_if, loop_if, refuse_if, keep_if, end_by, run_lines, headed, each_line, after_head}
 use Rattle.page_roff_blocks.specs.Steps.{met, step_leaf, guard_with, guard_met, step_guard, block_with, opening_met, block_met, step_block, step_loop, step_end, step_region, step_parts, step_inside, collect_if, begin_line, step_from, step, step_lines}
@@ -32,9 +32,9 @@ module _ {X S : Type 0} (text : X → List ℕ) (head : X → S → S) (m : Mean
   meet_same First s = refl
   meet_same Remainder s = refl
 
-  met_same : (spot : Spot) (s : S) → met h spot s ≡ met m spot s
+  met_same : (cursor : BlockCursor) (s : S) → met h cursor s ≡ met m cursor s
   unfolding met
-  met_same spot s = meet_same (reached spot) s
+  met_same cursor s = meet_same (reached cursor) s
 
   value_same : (b : Branch (List ℕ)) (bit : Bool) (s : S) → value h b bit s ≡ value m b bit s
   unfolding value headed h
@@ -64,43 +64,43 @@ module _ {X S : Type 0} (text : X → List ℕ) (head : X → S → S) (m : Mean
   loop_same true b s = refl
   loop_same false b s = refl
 
-  guard_same : (is_met : Bool) (b : Head (List ℕ)) (spot : Spot) (s : S) → guard_met h is_met b spot s ≡ guard_met m is_met b spot s
+  guard_same : (is_met : Bool) (b : Head (List ℕ)) (cursor : BlockCursor) (s : S) → guard_met h is_met b cursor s ≡ guard_met m is_met b cursor s
   unfolding guard_met guard_with h headed
-  guard_same true b spot s = ap (guard_with m b spot) (value_same b.branch spot.levels.bit s)
-  guard_same false b spot s = refl
+  guard_same true b cursor s = ap (guard_with m b cursor) (value_same b.branch cursor.levels.bit s)
+  guard_same false b cursor s = refl
 
-  with_same : (b : Head (List ℕ)) (spot : Spot) (v : Bool × S) → block_with h b spot v ≡ block_with m b spot v
+  with_same : (b : Head (List ℕ)) (cursor : BlockCursor) (v : Bool × S) → block_with h b cursor v ≡ block_with m b cursor v
   unfolding block_with h headed
-  with_same b spot v =
-      let way = way_of v.0 (length spot.levels.outer) in
-      let r = block_with m b spot v in
+  with_same b cursor v =
+      let way = way_of v.0 (length cursor.levels.outer) in
+      let r = block_with m b cursor v in
       ap (λ s. (r.0, s)) (refuse_same way b v.1)
 
-  opening_same : (b : Opening (List ℕ)) (spot : Spot) (s : S) → opening_met h b spot s ≡ opening_met m b spot s
+  opening_same : (b : Opening (List ℕ)) (cursor : BlockCursor) (s : S) → opening_met h b cursor s ≡ opening_met m b cursor s
   unfolding opening_met h headed
-  opening_same (openings.Conditional b) spot s =
-      ap (block_with h b spot) (value_same b.branch spot.levels.bit s) ∙ with_same b spot (value m b.branch spot.levels.bit s)
-  opening_same (openings.Loop b) spot s = refl
+  opening_same (openings.Conditional b) cursor s =
+      ap (block_with h b cursor) (value_same b.branch cursor.levels.bit s) ∙ with_same b cursor (value m b.branch cursor.levels.bit s)
+  opening_same (openings.Loop b) cursor s = refl
 
-  block_same : (is_met : Bool) (b : Opening (List ℕ)) (spot : Spot) (s : S) → block_met h is_met b spot s ≡ block_met m is_met b spot s
+  block_same : (is_met : Bool) (b : Opening (List ℕ)) (cursor : BlockCursor) (s : S) → block_met h is_met b cursor s ≡ block_met m is_met b cursor s
   unfolding block_met h headed
-  block_same true b spot s = opening_same b spot s
-  block_same false b spot s = refl
+  block_same true b cursor s = opening_same b cursor s
+  block_same false b cursor s = refl
 
-  parts_same : (parts : List (Atom (List ℕ))) (spot : Spot) (s : S) → step_parts h parts spot s ≡ step_parts m parts spot s
+  parts_same : (parts : List (LinePart (List ℕ))) (cursor : BlockCursor) (s : S) → step_parts h parts cursor s ≡ step_parts m parts cursor s
   unfolding step_parts step_leaf step_guard step_block step_loop step_end step_region headed h
-  parts_same [] spot s = refl
-  parts_same (Leaf t ∷ rest) spot s =
-      rw (met_same spot s, leaf_same (met m spot s).0 t (met m spot s).1) (parts_same rest _ _)
-  parts_same (Guard b ∷ rest) spot s =
-      rw (met_same spot s, guard_same (met m spot s).0 b spot (met m spot s).1) (parts_same rest _ _)
-  parts_same (Block b ∷ rest) spot s =
-      rw (met_same spot s, block_same (met m spot s).0 b spot (met m spot s).1) (parts_same rest _ _)
-  parts_same (Loop b ∷ rest) spot s =
-      rw (met_same spot s, loop_same (met m spot s).0 b (met m spot s).1) (parts_same rest _ _)
-  parts_same (End ∷ rest) spot s =
-      rw (end_same (what_ends spot.levels) s) (parts_same rest _ _)
-  parts_same (Region b ∷ rest) spot s = rw (met_same spot s) refl
+  parts_same [] cursor s = refl
+  parts_same (Leaf t ∷ rest) cursor s =
+      rw (met_same cursor s, leaf_same (met m cursor s).0 t (met m cursor s).1) (parts_same rest _ _)
+  parts_same (Guard b ∷ rest) cursor s =
+      rw (met_same cursor s, guard_same (met m cursor s).0 b cursor (met m cursor s).1) (parts_same rest _ _)
+  parts_same (Block b ∷ rest) cursor s =
+      rw (met_same cursor s, block_same (met m cursor s).0 b cursor (met m cursor s).1) (parts_same rest _ _)
+  parts_same (Loop b ∷ rest) cursor s =
+      rw (met_same cursor s, loop_same (met m cursor s).0 b (met m cursor s).1) (parts_same rest _ _)
+  parts_same (End ∷ rest) cursor s =
+      rw (end_same (what_ends cursor.levels) s) (parts_same rest _ _)
+  parts_same (Region b ∷ rest) cursor s = rw (met_same cursor s) refl
 
   keep_same : (in_loop : Bool) (x : X) (s : S) → keep_if h in_loop x s ≡ keep_if m in_loop (text x) s
   unfolding keep_if headed h
@@ -126,8 +126,8 @@ module _ {X S : Type 0} (text : X → List ℕ) (head : X → S → S) (m : Mean
       → step_from h text o x l s ≡ step_from m (λ t. t) o (text x) l (head x s)
   unfolding step_from
   from_same None x l s =
-      ap (step_parts h (atoms (text x)) (at_line l)) (begin_same x l s)
-      ∙ parts_same (atoms (text x)) (at_line l) (begin_line m (text x) l (head x s))
+      ap (step_parts h (line_parts (text x)) (at_line l)) (begin_same x l s)
+      ∙ parts_same (line_parts (text x)) (at_line l) (begin_line m (text x) l (head x s))
   from_same (Some o) x l s = inside_same (is_ending o.ending (text x)) o x l s
 
   step_same : (x : X) (a : At S) → step h text x a ≡ run_lines m (λ t. t) (text x ∷ []) (after_head head x a)

@@ -1,4 +1,4 @@
-pub mod AtomLemmas
+pub mod LinePartLemmas
 pub mod EndLemmas
 pub mod FoldLemmas
 pub mod HeadLemmas

@@ -9,33 +9,33 @@ use Rattle.page_roff_forms.specs.declared.line_forms.LineForm.TheVariants.{Comme
 use Rattle.page_roff_heads.specs.Heads.{conditional_of, guarded_of, end_place, block_end_of}
 use Rattle.page_roff_heads.specs.Loops.{loop_of}
 use Rattle.page_roff_heads.specs.declared.loops.LoopRead.{LoopRead}
-use Rattle.page_roff_blocks.specs.declared.atoms.Atom.{Atom}
-use Rattle.page_roff_blocks.specs.declared.atoms.Atom.TheVariants.{Leaf, Guard, Block, Loop, End, Region}
-use Rattle.page_roff_blocks.specs.declared.atoms.Head.{Head}
+use Rattle.page_roff_blocks.specs.declared.line_parts.LinePart.{LinePart}
+use Rattle.page_roff_blocks.specs.declared.line_parts.LinePart.TheVariants.{Leaf, Guard, Block, Loop, End, Region}
+use Rattle.page_roff_blocks.specs.declared.line_parts.Head.{Head}
 use Rattle.page_roff_blocks.specs.declared.parts.Keyword.{Keyword}
 use Rattle.page_roff_blocks.specs.declared.parts.Keyword.TheVariants as keywords
 use Rattle.page_roff_blocks.specs.declared.parts.Part.{Part}
 use Rattle.page_roff_blocks.specs.Loops.{blocks_left, blocks_after, before_end, left_by, left_in, left_of, len_before, len_of}
 use Rattle.page_roff_blocks.specs.LinePlaces.{IsEndOf, place_after}
-use Rattle.page_roff_blocks.specs.Parts.{head_atom, loop_part_if, end_part, plain_part, raw_rest, keyword_of, keyword_part, form_part, written_part}
-use Rattle.page_roff_blocks.proofs.AtomLemmas.{IsShorter, room, room_left, written_shorter}
+use Rattle.page_roff_blocks.specs.Parts.{head_line_part, loop_part_if, end_part, plain_part, raw_rest, keyword_of, keyword_part, form_part, written_part}
+use Rattle.page_roff_blocks.proofs.LinePartLemmas.{IsShorter, room, room_left, written_shorter}
 use Rattle.page_roff_blocks.proofs.EndLemmas.{to_end, written_ends, end_further}
 
 -- ---- what stands before the end of a block lies in the line
 
-head_before : (opens : Bool) (head : Head (List ℕ)) → before_end (head_atom opens head) ≡ 0
+head_before : (opens : Bool) (head : Head (List ℕ)) → before_end (head_line_part opens head) ≡ 0
 head_before true head = refl
 head_before false head = refl
 
-loop_before : (opens : Bool) (read : LoopRead (List ℕ)) → before_end (loop_part_if opens read).atom ≡ 0
+loop_before : (opens : Bool) (read : LoopRead (List ℕ)) → before_end (loop_part_if opens read).line_part ≡ 0
 loop_before true read = refl
 loop_before false read = refl
 
-end_before : (before : List ℕ) (rest : Option (List ℕ)) → before_end (end_part before rest).atom ≡ length before
+end_before : (before : List ℕ) (rest : Option (List ℕ)) → before_end (end_part before rest).line_part ≡ length before
 end_before [] rest = refl
 end_before (byte ∷ bytes) rest = refl
 
-plain_before : (line : List ℕ) → before_end (plain_part line).atom ≤ length line
+plain_before : (line : List ℕ) → before_end (plain_part line).line_part ≤ length line
 unfolding block_end_of
 plain_before line =
     let place = end_place line in
@@ -48,7 +48,7 @@ plain_before line =
     ]
 
 keyword_before : (k : Keyword) (line : List ℕ) (column : ℕ) (rest : List ℕ) (rest_column : ℕ)
-    → before_end (keyword_part k line column rest rest_column).atom ≤ length line
+    → before_end (keyword_part k line column rest rest_column).line_part ≤ length line
 keyword_before keywords.If line column rest n = rw (head_before (conditional_of n (raw_rest line n)).guarded.opens_block _) (omega arith)
 keyword_before keywords.IfElse line column rest n = rw (head_before (conditional_of n (raw_rest line n)).guarded.opens_block _) (omega arith)
 keyword_before keywords.Else line column rest n = rw (head_before (guarded_of n (raw_rest line n)).opens_block _) (omega arith)
@@ -58,13 +58,13 @@ keyword_before keywords.While line column rest n =
 keyword_before (keywords.Region kind) line column rest n = omega arith
 keyword_before keywords.Other line column rest n = plain_before line
 
-form_before : (line : List ℕ) (form : LineForm (List ℕ)) → before_end (form_part line form).atom ≤ length line
+form_before : (line : List ℕ) (form : LineForm (List ℕ)) → before_end (form_part line form).line_part ≤ length line
 form_before line Comment = plain_before line
 form_before line BlankLine = plain_before line
 form_before line (Text text) = plain_before line
 form_before line (Control name column rest rest_column) = keyword_before (keyword_of name) line column rest rest_column
 
-pub before_within : (line : List ℕ) → before_end (written_part line).atom ≤ length line
+pub before_within : (line : List ℕ) → before_end (written_part line).line_part ≤ length line
 unfolding written_part
 before_within line = form_before line (form_of line)
 
@@ -85,7 +85,7 @@ enough (suc n) (suc k) blocks None p q = refl
 enough (suc n) (suc k) blocks (Some line) p q =
     let part = written_part line in
     let h = room_left line part.rest (written_shorter line) in
-    by_same (blocks_after part.atom part.is_end blocks) (λ b. left_in n b part.rest) (λ b. left_in k b part.rest) (drop (before_end part.atom) line)
+    by_same (blocks_after part.line_part part.is_end blocks) (λ b. left_in n b part.rest) (λ b. left_in k b part.rest) (drop (before_end part.line_part) line)
     (λ b. enough n k b part.rest (omega (arith, h, p)) (omega (arith, h, q)))
 
 -- what is left of the rest of a line
@@ -101,11 +101,11 @@ all_left n blocks (Some line) p = enough n (suc (length line)) blocks (Some line
 
 -- a part, and then the rest
 left_cons : (blocks : ℕ) (line : List ℕ) → let part = written_part line in
-    left_of blocks line ≡ left_by (blocks_after part.atom part.is_end blocks) (λ b. left_rest b part.rest) (drop (before_end part.atom) line)
+    left_of blocks line ≡ left_by (blocks_after part.line_part part.is_end blocks) (λ b. left_rest b part.rest) (drop (before_end part.line_part) line)
 unfolding left_of
 left_cons blocks line =
     let part = written_part line in
-    by_same (blocks_after part.atom part.is_end blocks) (λ b. left_in (length line) b part.rest) (λ b. left_rest b part.rest) (drop (before_end part.atom) line)
+    by_same (blocks_after part.line_part part.is_end blocks) (λ b. left_in (length line) b part.rest) (λ b. left_rest b part.rest) (drop (before_end part.line_part) line)
     (λ b. all_left (length line) b part.rest (room_left line part.rest (written_shorter line)))
 
 -- ---- from a place in a line on, of which a slice holds the end
@@ -116,29 +116,29 @@ part_from n line = written_part (take (length line - n) (drop n line))
 
 -- the loop ends in this part
 pub len_found : (around blocks n : ℕ) (line : List ℕ) (part : Part (List ℕ)) → n ≤ length line → part ≡ part_from n line
-    → left_of around line ≡ left_of blocks (drop n line) → blocks_after part.atom part.is_end blocks ≡ None
-    → (len_of around line ≡ Some (n + before_end part.atom)) × (n + before_end part.atom ≤ length line)
+    → left_of around line ≡ left_of blocks (drop n line) → blocks_after part.line_part part.is_end blocks ≡ None
+    → (len_of around line ≡ Some (n + before_end part.line_part)) × (n + before_end part.line_part ≤ length line)
 unfolding len_of
 len_found around blocks n line part p e same ends =
     let rest = drop n line in
     let is : part ≡ written_part rest = e ∙ ap written_part (to_end n line) in
-    let w : before_end part.atom ≤ length rest = rw is (before_within rest) in
-    let none : blocks_after (written_part rest).atom (written_part rest).is_end blocks ≡ None = rw is at ends in
-    let left : left_of around line ≡ Some (drop (before_end part.atom) rest) =
-    rw is (same ∙ left_cons blocks rest ∙ ap (λ b. left_by b (λ b. left_rest b (written_part rest).rest) (drop (before_end (written_part rest).atom) rest)) none) in
+    let w : before_end part.line_part ≤ length rest = rw is (before_within rest) in
+    let none : blocks_after (written_part rest).line_part (written_part rest).is_end blocks ≡ None = rw is at ends in
+    let left : left_of around line ≡ Some (drop (before_end part.line_part) rest) =
+    rw is (same ∙ left_cons blocks rest ∙ ap (λ b. left_by b (λ b. left_rest b (written_part rest).rest) (drop (before_end (written_part rest).line_part) rest)) none) in
     let k = length-drop n line in
-    let j = length-drop (before_end part.atom) rest in
-    let len : length line - length (drop (before_end part.atom) rest) ≡ n + before_end part.atom = omega (arith, k, j, w, p) in
+    let j = length-drop (before_end part.line_part) rest in
+    let len : length line - length (drop (before_end part.line_part) rest) ≡ n + before_end part.line_part = omega (arith, k, j, w, p) in
     (ap (len_before line) left ∙ ap Some len, omega (arith, k, w, p))
 
 -- it goes on after this part
 left_next : (around blocks b n : ℕ) (line : List ℕ) (part : Part (List ℕ)) → part ≡ part_from n line
-    → left_of around line ≡ left_of blocks (drop n line) → blocks_after part.atom part.is_end blocks ≡ Some b → left_of around line ≡ left_rest b part.rest
+    → left_of around line ≡ left_of blocks (drop n line) → blocks_after part.line_part part.is_end blocks ≡ Some b → left_of around line ≡ left_rest b part.rest
 left_next around blocks b n line part e same goes =
     let rest = drop n line in
     let is : part ≡ written_part rest = e ∙ ap written_part (to_end n line) in
-    let some : blocks_after (written_part rest).atom (written_part rest).is_end blocks ≡ Some b = rw is at goes in
-    rw is (same ∙ left_cons blocks rest ∙ ap (λ b. left_by b (λ b. left_rest b (written_part rest).rest) (drop (before_end (written_part rest).atom) rest)) some)
+    let some : blocks_after (written_part rest).line_part (written_part rest).is_end blocks ≡ Some b = rw is at goes in
+    rw is (same ∙ left_cons blocks rest ∙ ap (λ b. left_by b (λ b. left_rest b (written_part rest).rest) (drop (before_end (written_part rest).line_part) rest)) some)
 
 pub ends_from : (n : ℕ) (line : List ℕ) (part : Part (List ℕ)) → n ≤ length line → part ≡ part_from n line → IsEndOf line part.rest
 ends_from n line part p e = rw (e ∙ ap written_part (to_end n line)) (end_further n line (written_part (drop n line)).rest p (written_ends (drop n line)))
@@ -152,7 +152,7 @@ last_rest line b None h = refl
 last_rest line b (Some text) h = let no : ⊥ = cc in absurd no
 
 pub len_none : (around blocks b n : ℕ) (line : List ℕ) (part : Part (List ℕ)) → part ≡ part_from n line
-    → left_of around line ≡ left_of blocks (drop n line) → blocks_after part.atom part.is_end blocks ≡ Some b → place_after line part.rest ≡ None
+    → left_of around line ≡ left_of blocks (drop n line) → blocks_after part.line_part part.is_end blocks ≡ Some b → place_after line part.rest ≡ None
     → len_of around line ≡ None
 unfolding len_of
 len_none around blocks b n line part e same goes last =
@@ -167,7 +167,7 @@ next_rest line b next (Some text) h e =
     ap (left_of b) (h.1 ∙ ap (λ k. drop k line) is)
 
 pub next_left : (around blocks b n next : ℕ) (line : List ℕ) (part : Part (List ℕ)) → n ≤ length line → part ≡ part_from n line
-    → left_of around line ≡ left_of blocks (drop n line) → blocks_after part.atom part.is_end blocks ≡ Some b → place_after line part.rest ≡ Some next
+    → left_of around line ≡ left_of blocks (drop n line) → blocks_after part.line_part part.is_end blocks ≡ Some b → place_after line part.rest ≡ Some next
     → left_of around line ≡ left_of b (drop next line)
 next_left around blocks b n next line part p e same goes place =
     left_next around blocks b n line part e same goes ∙ next_rest line b next part.rest (ends_from n line part p e) place
@@ -192,7 +192,7 @@ end_most false blocks b h = let is : blocks ≡ b = cc in omega (arith, is)
 end_most true zero b h = let no : ⊥ = cc in absurd no
 end_most true (suc blocks) b h = let is : blocks ≡ b = cc in omega (arith, is)
 
-pub blocks_most : (atom : Atom (List ℕ)) (is_end : Bool) (blocks b : ℕ) → blocks_after atom is_end blocks ≡ Some b → b ≤ blocks + 1
+pub blocks_most : (line_part : LinePart (List ℕ)) (is_end : Bool) (blocks b : ℕ) → blocks_after line_part is_end blocks ≡ Some b → b ≤ blocks + 1
 blocks_most (Leaf text) is_end blocks b h = end_most is_end blocks b h
 blocks_most (Guard head) is_end blocks b h = let is : blocks ≡ b = cc in omega (arith, is)
 blocks_most (Block opening) is_end blocks b h = let is : suc blocks ≡ b = cc in omega (arith, is)

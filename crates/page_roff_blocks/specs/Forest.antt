@@ -3,12 +3,12 @@
 -- A raw line is of any type that has a text: it may have more than that, as its number.
 use Rattle.std.specs.Prelude.{ℕ, Bool, true, false, List, [], ◌∷◌}
 use Rattle.page_roff_heads.specs.declared.loops.LoopHead.{LoopHead}
-use Rattle.page_roff_blocks.specs.declared.atoms.Atom.{Atom}
-use Rattle.page_roff_blocks.specs.declared.atoms.Atom.TheVariants.{Leaf, Guard, Block, Loop, End, Region}
-use Rattle.page_roff_blocks.specs.declared.atoms.Head.{Head}
-use Rattle.page_roff_blocks.specs.declared.atoms.Opening.{Opening}
+use Rattle.page_roff_blocks.specs.declared.line_parts.LinePart.{LinePart}
+use Rattle.page_roff_blocks.specs.declared.line_parts.LinePart.TheVariants.{Leaf, Guard, Block, Loop, End, Region}
+use Rattle.page_roff_blocks.specs.declared.line_parts.Head.{Head}
+use Rattle.page_roff_blocks.specs.declared.line_parts.Opening.{Opening}
 use Rattle.page_roff_regions.specs.declared.regions.RegionHead.{RegionHead}
-use Rattle.page_roff_blocks.specs.Atoms.{atoms}
+use Rattle.page_roff_blocks.specs.LineParts.{line_parts}
 use Rattle.page_roff_regions.specs.Regions.{end_name, is_ending}
 
 -- siblings, each with those that follow it
@@ -65,7 +65,7 @@ keep l (ended ls e s) = ended (l ∷ ls) e s
 
 -- the parts of a line before what follows the line, which is seen in both ways: as it begins outside, and
 -- inside a region of that end name
-unfoldable pub line_of : {X : Type 0} → List (Atom (List ℕ)) → Source X → (List ℕ → Inside X) → Source X
+unfoldable pub line_of : {X : Type 0} → List (LinePart (List ℕ)) → Source X → (List ℕ → Inside X) → Source X
 line_of [] after inside = after
 line_of (Leaf text ∷ rest) after inside = before (leaf text) (line_of rest after inside)
 line_of (Guard h ∷ rest) after inside = before (guard h) (line_of rest after inside)
@@ -83,7 +83,7 @@ module _ {X : Type 0} (text : X → List ℕ) where
   unfoldable mutual
     pub source_of : List X → Source X
     source_of [] = ends empty
-    source_of (l ∷ ls) = before (line l) (line_of (atoms (text l)) (source_of ls) (inside_of ls))
+    source_of (l ∷ ls) = before (line l) (line_of (line_parts (text l)) (source_of ls) (inside_of ls))
 
     pub inside_of : List X → List ℕ → Inside X
     inside_of [] ending = unended []

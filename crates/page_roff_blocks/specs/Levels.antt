@@ -1,12 +1,12 @@
 -- Where a source stands: the levels of its blocks, and an open region between two lines. Source: roff(7), "if", "ie", "el", "while".
 use Rattle.std.specs.Prelude.{ℕ, zero, suc, Bool, true, false, not, List, [], ◌∷◌, length, Option, Some, None, nat_lt}
 use Rattle.page_core_limits.specs.declared.TheConstants.{CONDS}
-use Rattle.page_roff_blocks.specs.declared.atoms.Branch.{Branch}
-use Rattle.page_roff_blocks.specs.declared.atoms.Branch.TheVariants.{If, IfElse, Else}
-use Rattle.page_roff_blocks.specs.declared.spots.Pass.{Pass}
-use Rattle.page_roff_blocks.specs.declared.spots.Pass.TheVariants as passes
-use Rattle.page_roff_blocks.specs.declared.spots.Reached.{Reached}
-use Rattle.page_roff_blocks.specs.declared.spots.Reached.TheVariants.{PassedOver, First, Remainder}
+use Rattle.page_roff_blocks.specs.declared.line_parts.Branch.{Branch}
+use Rattle.page_roff_blocks.specs.declared.line_parts.Branch.TheVariants.{If, IfElse, Else}
+use Rattle.page_roff_blocks.specs.declared.block_cursors.Pass.{Pass}
+use Rattle.page_roff_blocks.specs.declared.block_cursors.Pass.TheVariants as passes
+use Rattle.page_roff_blocks.specs.declared.block_cursors.Reached.{Reached}
+use Rattle.page_roff_blocks.specs.declared.block_cursors.Reached.TheVariants.{PassedOver, First, Remainder}
 use Rattle.page_roff_regions.specs.OpenRegions.{Opened}
 use Rattle.page_roff_blocks.specs.declared.levels.Answer.{Answer}
 use Rattle.page_roff_blocks.specs.declared.levels.Ended.{Ended}
@@ -95,26 +95,26 @@ what_ends l = ends_from l.skipped l.in_loop l.outer
 
 -- Where a source stands in a line: its levels, whether a part of the line was reached, and whether the next
 -- part is passed over, since a head guards it.
-pub record Spot : Type 0 where
+pub record BlockCursor : Type 0 where
   pub levels : Levels
   pub begun : Bool
   pub passing : Bool
 
 -- a line begins
-unfoldable pub at_line : Levels → Spot
+unfoldable pub at_line : Levels → BlockCursor
 at_line l = record { levels = l; begun = false; passing = false }
 
 -- after a part of a line
-unfoldable pub after_part : Levels → Spot
+unfoldable pub after_part : Levels → BlockCursor
 after_part l = record { levels = l; begun = true; passing = false }
 
 -- after a head without a block that is run, and has this value
-unfoldable pub guarded_by : Branch (List ℕ) → Bool → Levels → Spot
+unfoldable pub guarded_by : Branch (List ℕ) → Bool → Levels → BlockCursor
 guarded_by branch value l =
     record { levels = record l { bit = bit_after branch value l.bit }; begun = true; passing = not value }
 
 -- after a head without a block that leaves this, if it is run
-abbrev pub after_guard : Option Answer → Spot → Spot
+abbrev pub after_guard : Option Answer → BlockCursor → BlockCursor
 after_guard None s = record s { begun = true }
 after_guard (Some a) s = record { levels = record s.levels { bit = a.bit }; begun = true; passing = not a.value }
 
@@ -129,7 +129,7 @@ in_loop_block true l = open_loop l
 in_loop_block false l = skip l
 
 -- a part of a line is passed
-abbrev pub passed : Pass → Spot → Spot
+abbrev pub passed : Pass → BlockCursor → BlockCursor
 passed passes.Leaf s = after_part s.levels
 passed (passes.Guard answer) s = after_guard answer s
 passed (passes.Block answer) s = after_part (in_block answer s.levels)
@@ -150,7 +150,7 @@ unfoldable pub reached_in : Bool → ℕ → Bool → Bool → Reached
 reached_in true skipped passing begun = PassedOver
 reached_in false skipped passing begun = reached_from skipped passing begun
 
-unfoldable pub reached : Spot → Reached
+unfoldable pub reached : BlockCursor → Reached
 reached s = reached_in s.levels.in_loop s.levels.skipped s.passing s.begun
 
 -- where a source stands between two lines

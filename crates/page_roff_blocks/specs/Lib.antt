@@ -1,4 +1,4 @@
-pub mod Atoms
+pub mod LineParts
 pub mod Caps
 pub mod Parts
 pub mod Loops

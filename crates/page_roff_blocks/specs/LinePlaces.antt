@@ -1,9 +1,9 @@
 -- Places in a raw line, between its parts: how the code goes through a line. Trust needs no reading of it. Source: roff(7), "if", "ie", "el".
 use Rattle.std.specs.Prelude.{◌≡◌, ℕ, ◌-◌, ◌≤◌, Bool, true, false, not, ◌&&◌, is_none, List, [], ◌∷◌, length, drop, Option, Some, None}
-use Rattle.page_roff_blocks.specs.declared.atoms.Atom.{Atom}
-use Rattle.page_roff_blocks.specs.declared.atoms.Atom.TheVariants.{Leaf, Guard, Block, Loop, End, Region}
+use Rattle.page_roff_blocks.specs.declared.line_parts.LinePart.{LinePart}
+use Rattle.page_roff_blocks.specs.declared.line_parts.LinePart.TheVariants.{Leaf, Guard, Block, Loop, End, Region}
 use Rattle.page_roff_blocks.specs.declared.line_places.LinePlace.{LinePlace}
-use Rattle.page_roff_blocks.specs.Atoms.{atoms_left, ends_first}
+use Rattle.page_roff_blocks.specs.LineParts.{line_parts_left, ends_first}
 
 -- after the last part
 abbrev pub line_end : LinePlace
@@ -18,16 +18,16 @@ rest_at line None = None
 rest_at line (Some start) = Some (drop start line)
 
 -- all of a line as a part, and then the others
-abbrev pub whole_first : Bool → List ℕ → List (Atom (List ℕ)) → List (Atom (List ℕ))
+abbrev pub whole_first : Bool → List ℕ → List (LinePart (List ℕ)) → List (LinePart (List ℕ))
 whole_first true line more = Leaf line ∷ more
 whole_first false line more = more
 
 -- the parts of a line after a place in it
-abbrev pub parts_at : List ℕ → LinePlace → List (Atom (List ℕ))
-parts_at line place = whole_first place.is_whole line (ends_first place.is_end (atoms_left (rest_at line place.rest)))
+abbrev pub parts_at : List ℕ → LinePlace → List (LinePart (List ℕ))
+parts_at line place = whole_first place.is_whole line (ends_first place.is_end (line_parts_left (rest_at line place.rest)))
 
 -- whether the first of parts opens a block
-abbrev pub is_block : Atom (List ℕ) → Bool
+abbrev pub is_block : LinePart (List ℕ) → Bool
 is_block (Leaf text) = false
 is_block (Guard head) = false
 is_block (Block opening) = true
@@ -35,7 +35,7 @@ is_block (Loop head) = false
 is_block End = false
 is_block (Region head) = false
 
-abbrev pub opens_block : List (Atom (List ℕ)) → Bool
+abbrev pub opens_block : List (LinePart (List ℕ)) → Bool
 opens_block [] = false
 opens_block (part ∷ more) = is_block part
 

@@ -1,7 +1,7 @@
 -- What of a raw line belongs to a loop. Source: roff(7), "while".
 use Rattle.std.specs.Prelude.{ℕ, zero, suc, ◌-◌, Bool, true, false, List, [], ◌∷◌, length, take, drop, Option, Some, None}
-use Rattle.page_roff_blocks.specs.declared.atoms.Atom.{Atom}
-use Rattle.page_roff_blocks.specs.declared.atoms.Atom.TheVariants.{Leaf, Guard, Block, Loop, End, Region}
+use Rattle.page_roff_blocks.specs.declared.line_parts.LinePart.{LinePart}
+use Rattle.page_roff_blocks.specs.declared.line_parts.LinePart.TheVariants.{Leaf, Guard, Block, Loop, End, Region}
 use Rattle.page_roff_blocks.specs.Parts.{written_part}
 
 -- the blocks that are open in a loop after the end of one; none of them where it is the loop that ends
@@ -11,7 +11,7 @@ blocks_left true zero = None
 blocks_left true (suc blocks) = Some blocks
 
 -- those after a part, which the end of a block may follow
-abbrev pub blocks_after : Atom (List ℕ) → Bool → ℕ → Option ℕ
+abbrev pub blocks_after : LinePart (List ℕ) → Bool → ℕ → Option ℕ
 blocks_after (Leaf text) is_end blocks = blocks_left is_end blocks
 blocks_after (Guard head) is_end blocks = Some blocks
 blocks_after (Block opening) is_end blocks = Some (suc blocks)
@@ -20,7 +20,7 @@ blocks_after End is_end blocks = blocks_left true blocks
 blocks_after (Region head) is_end blocks = Some blocks
 
 -- the bytes of a part before the end of a block
-abbrev pub before_end : Atom (List ℕ) → ℕ
+abbrev pub before_end : LinePart (List ℕ) → ℕ
 before_end (Leaf text) = length text
 before_end (Guard head) = 0
 before_end (Block opening) = 0
@@ -39,7 +39,7 @@ left_in zero blocks rest = None
 left_in (suc n) blocks None = None
 left_in (suc n) blocks (Some line) =
     let part = written_part line in
-    left_by (blocks_after part.atom part.is_end blocks) (λ blocks. left_in n blocks part.rest) (drop (before_end part.atom) line)
+    left_by (blocks_after part.line_part part.is_end blocks) (λ blocks. left_in n blocks part.rest) (drop (before_end part.line_part) line)
 
 -- all of them: each remainder is shorter than its line
 unfoldable pub left_of : ℕ → List ℕ → Option (List ℕ)

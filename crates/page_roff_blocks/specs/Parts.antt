@@ -12,12 +12,12 @@ use Rattle.page_roff_heads.specs.declared.heads.Guarded.{Guarded}
 use Rattle.page_roff_heads.specs.declared.loops.LoopHead.{LoopHead}
 use Rattle.page_roff_heads.specs.declared.loops.LoopRead.{LoopRead}
 use Rattle.page_roff_heads.specs.declared.texts.Placed.{Placed}
-use Rattle.page_roff_blocks.specs.declared.atoms.Atom.{Atom}
-use Rattle.page_roff_blocks.specs.declared.atoms.Atom.TheVariants.{Leaf, Guard, Block, Loop, End, Region}
-use Rattle.page_roff_blocks.specs.declared.atoms.Branch.{Branch}
-use Rattle.page_roff_blocks.specs.declared.atoms.Branch.TheVariants.{If, IfElse, Else}
-use Rattle.page_roff_blocks.specs.declared.atoms.Head.{Head}
-use Rattle.page_roff_blocks.specs.declared.atoms.Opening.TheVariants as openings
+use Rattle.page_roff_blocks.specs.declared.line_parts.LinePart.{LinePart}
+use Rattle.page_roff_blocks.specs.declared.line_parts.LinePart.TheVariants.{Leaf, Guard, Block, Loop, End, Region}
+use Rattle.page_roff_blocks.specs.declared.line_parts.Branch.{Branch}
+use Rattle.page_roff_blocks.specs.declared.line_parts.Branch.TheVariants.{If, IfElse, Else}
+use Rattle.page_roff_blocks.specs.declared.line_parts.Head.{Head}
+use Rattle.page_roff_blocks.specs.declared.line_parts.Opening.TheVariants as openings
 use Rattle.page_roff_blocks.specs.declared.parts.Columns.{Columns}
 use Rattle.page_roff_blocks.specs.declared.parts.Keyword.{Keyword}
 use Rattle.page_roff_blocks.specs.declared.parts.Keyword.TheVariants as keywords
@@ -49,13 +49,13 @@ rest_text None = None
 rest_text (Some remainder) = Some remainder.text
 
 -- a head with its block or without one
-abbrev pub head_atom : Bool → Head (List ℕ) → Atom (List ℕ)
-head_atom true head = Block (openings.Conditional head)
-head_atom false head = Guard head
+abbrev pub head_line_part : Bool → Head (List ℕ) → LinePart (List ℕ)
+head_line_part true head = Block (openings.Conditional head)
+head_line_part false head = Guard head
 
 abbrev pub head_part : Head (List ℕ) → Guarded (List ℕ) → Part (List ℕ)
 head_part head guarded =
-    record { atom = head_atom guarded.opens_block head; is_end = false; rest = rest_text guarded.remainder }
+    record { line_part = head_line_part guarded.opens_block head; is_end = false; rest = rest_text guarded.remainder }
 
 abbrev pub conditional_part : (Condition (List ℕ) → Branch (List ℕ)) → ℕ → Conditional (List ℕ) → Part (List ℕ)
 conditional_part branch column read = head_part (record { column = column; branch = branch read.condition }) read.guarded
@@ -71,12 +71,12 @@ loop_head condition body = record { condition = condition; body = body }
 abbrev pub loop_part_if : Bool → LoopRead (List ℕ) → Part (List ℕ)
 loop_part_if true read =
     record {
-      atom = Block (openings.Loop (loop_head read.condition (Some read.first)));
+      line_part = Block (openings.Loop (loop_head read.condition (Some read.first)));
       is_end = false;
       rest = rest_text read.guarded.remainder;
     }
 loop_part_if false read =
-    record { atom = Loop (loop_head read.condition (rest_text read.guarded.remainder)); is_end = false; rest = None }
+    record { line_part = Loop (loop_head read.condition (rest_text read.guarded.remainder)); is_end = false; rest = None }
 
 abbrev pub loop_part : LoopRead (List ℕ) → Part (List ℕ)
 loop_part read = loop_part_if read.guarded.opens_block read
@@ -84,11 +84,11 @@ loop_part read = loop_part_if read.guarded.opens_block read
 -- A line that heads nothing is cut at its first end of a block. What stands before it is a leaf, unless
 -- empty.
 abbrev pub end_part : List ℕ → Option (List ℕ) → Part (List ℕ)
-end_part [] rest = record { atom = End; is_end = false; rest = rest }
-end_part (byte ∷ bytes) rest = record { atom = Leaf (byte ∷ bytes); is_end = true; rest = rest }
+end_part [] rest = record { line_part = End; is_end = false; rest = rest }
+end_part (byte ∷ bytes) rest = record { line_part = Leaf (byte ∷ bytes); is_end = true; rest = rest }
 
 abbrev pub cut_part : List ℕ → Option (BlockEnd (List ℕ)) → Part (List ℕ)
-cut_part line None = record { atom = Leaf line; is_end = false; rest = None }
+cut_part line None = record { line_part = Leaf line; is_end = false; rest = None }
 cut_part line (Some end) = end_part end.before (rest_text end.remainder)
 
 abbrev pub plain_part : List ℕ → Part (List ℕ)
@@ -104,7 +104,7 @@ keyword_part keywords.IfElse line column rest rest_column = conditional_part IfE
 keyword_part keywords.Else line column rest rest_column = else_part column (guarded_of rest_column (raw_rest line rest_column))
 keyword_part keywords.While line column rest rest_column = loop_part (loop_of rest_column (raw_rest line rest_column))
 keyword_part (keywords.Region kind) line column rest rest_column =
-    record { atom = Region (region_head kind column rest_column rest); is_end = false; rest = None }
+    record { line_part = Region (region_head kind column rest_column rest); is_end = false; rest = None }
 keyword_part keywords.Other line column rest rest_column = plain_part line
 
 abbrev pub form_part : List ℕ → LineForm (List ℕ) → Part (List ℕ)

@@ -1,77 +1,77 @@
 -- The parts of a source, one after another: the steps of the code. Trust needs no reading of it. Source: roff(7), "if", "while", "de", "ig".
 use Rattle.std.specs.Prelude.{ℕ, Bool, true, false, List, [], ◌∷◌, length, Option, Some, None}
 use Rattle.page_roff_heads.specs.declared.loops.LoopHead.{LoopHead}
-use Rattle.page_roff_blocks.specs.declared.atoms.Atom.{Atom}
-use Rattle.page_roff_blocks.specs.declared.atoms.Atom.TheVariants.{Leaf, Guard, Block, Loop, End, Region}
-use Rattle.page_roff_blocks.specs.declared.atoms.Head.{Head}
-use Rattle.page_roff_blocks.specs.declared.atoms.Opening.{Opening}
-use Rattle.page_roff_blocks.specs.declared.atoms.Opening.TheVariants as openings
+use Rattle.page_roff_blocks.specs.declared.line_parts.LinePart.{LinePart}
+use Rattle.page_roff_blocks.specs.declared.line_parts.LinePart.TheVariants.{Leaf, Guard, Block, Loop, End, Region}
+use Rattle.page_roff_blocks.specs.declared.line_parts.Head.{Head}
+use Rattle.page_roff_blocks.specs.declared.line_parts.Opening.{Opening}
+use Rattle.page_roff_blocks.specs.declared.line_parts.Opening.TheVariants as openings
 use Rattle.page_roff_regions.specs.declared.regions.RegionHead.{RegionHead}
-use Rattle.page_roff_blocks.specs.Atoms.{atoms}
+use Rattle.page_roff_blocks.specs.LineParts.{line_parts}
 use Rattle.page_roff_regions.specs.Regions.{is_ending}
-use Rattle.page_roff_blocks.specs.Levels.{Levels, bit_after, way_of, enter, open_loop, skip, leave, what_ends, Spot, at_line, after_part, guarded_by, reached}
+use Rattle.page_roff_blocks.specs.Levels.{Levels, bit_after, way_of, enter, open_loop, skip, leave, what_ends, BlockCursor, at_line, after_part, guarded_by, reached}
 use Rattle.page_roff_regions.specs.OpenRegions.{Opened, opened}
 use Rattle.page_roff_blocks.specs.Run.{Meaning, At, meet_as, value, leaf_if, loop_if, refuse_if, keep_if, end_by}
 
 module _ {X S : Type 0} (m : Meaning X S) where
   -- how the next part is met
-  unfoldable pub met : Spot → S → Bool × S
-  met spot s = meet_as m (reached spot) s
+  unfoldable pub met : BlockCursor → S → Bool × S
+  met cursor s = meet_as m (reached cursor) s
 
-  unfoldable pub step_leaf : List ℕ → Spot → S → Spot × S
-  step_leaf text spot s = let q = met spot s in (after_part spot.levels, leaf_if m q.0 text q.1)
+  unfoldable pub step_leaf : List ℕ → BlockCursor → S → BlockCursor × S
+  step_leaf text cursor s = let q = met cursor s in (after_part cursor.levels, leaf_if m q.0 text q.1)
 
   -- a head without a block that is run, and has this value
-  unfoldable pub guard_with : Head (List ℕ) → Spot → Bool × S → Spot × S
-  guard_with h spot v = (guarded_by h.branch v.0 spot.levels, v.1)
+  unfoldable pub guard_with : Head (List ℕ) → BlockCursor → Bool × S → BlockCursor × S
+  guard_with h cursor v = (guarded_by h.branch v.0 cursor.levels, v.1)
 
-  unfoldable pub guard_met : Bool → Head (List ℕ) → Spot → S → Spot × S
-  guard_met true h spot s = guard_with h spot (value m h.branch spot.levels.bit s)
-  guard_met false h spot s = (record spot { begun = true }, s)
+  unfoldable pub guard_met : Bool → Head (List ℕ) → BlockCursor → S → BlockCursor × S
+  guard_met true h cursor s = guard_with h cursor (value m h.branch cursor.levels.bit s)
+  guard_met false h cursor s = (record cursor { begun = true }, s)
 
-  unfoldable pub step_guard : Head (List ℕ) → Spot → S → Spot × S
-  step_guard h spot s = let q = met spot s in guard_met q.0 h spot q.1
+  unfoldable pub step_guard : Head (List ℕ) → BlockCursor → S → BlockCursor × S
+  step_guard h cursor s = let q = met cursor s in guard_met q.0 h cursor q.1
 
   -- a head with a block that is run, and has this value
-  unfoldable pub block_with : Head (List ℕ) → Spot → Bool × S → Spot × S
-  block_with h spot v =
-      let way = way_of v.0 (length spot.levels.outer) in
-      (after_part (enter way (bit_after h.branch v.0 spot.levels.bit) spot.levels), refuse_if m way h v.1)
+  unfoldable pub block_with : Head (List ℕ) → BlockCursor → Bool × S → BlockCursor × S
+  block_with h cursor v =
+      let way = way_of v.0 (length cursor.levels.outer) in
+      (after_part (enter way (bit_after h.branch v.0 cursor.levels.bit) cursor.levels), refuse_if m way h v.1)
 
-  unfoldable pub opening_met : Opening (List ℕ) → Spot → S → Spot × S
-  opening_met (openings.Conditional h) spot s = block_with h spot (value m h.branch spot.levels.bit s)
-  opening_met (openings.Loop h) spot s = (after_part (open_loop spot.levels), m.opens_loop h s)
+  unfoldable pub opening_met : Opening (List ℕ) → BlockCursor → S → BlockCursor × S
+  opening_met (openings.Conditional h) cursor s = block_with h cursor (value m h.branch cursor.levels.bit s)
+  opening_met (openings.Loop h) cursor s = (after_part (open_loop cursor.levels), m.opens_loop h s)
 
-  unfoldable pub block_met : Bool → Opening (List ℕ) → Spot → S → Spot × S
-  block_met true h spot s = opening_met h spot s
-  block_met false h spot s = (after_part (skip spot.levels), s)
+  unfoldable pub block_met : Bool → Opening (List ℕ) → BlockCursor → S → BlockCursor × S
+  block_met true h cursor s = opening_met h cursor s
+  block_met false h cursor s = (after_part (skip cursor.levels), s)
 
-  unfoldable pub step_block : Opening (List ℕ) → Spot → S → Spot × S
-  step_block h spot s = let q = met spot s in block_met q.0 h spot q.1
+  unfoldable pub step_block : Opening (List ℕ) → BlockCursor → S → BlockCursor × S
+  step_block h cursor s = let q = met cursor s in block_met q.0 h cursor q.1
 
   -- a loop of one line
-  unfoldable pub step_loop : LoopHead (List ℕ) → Spot → S → Spot × S
-  step_loop h spot s = let q = met spot s in (after_part spot.levels, loop_if m q.0 h q.1)
+  unfoldable pub step_loop : LoopHead (List ℕ) → BlockCursor → S → BlockCursor × S
+  step_loop h cursor s = let q = met cursor s in (after_part cursor.levels, loop_if m q.0 h q.1)
 
   -- the end of a block
-  unfoldable pub step_end : Spot → S → Spot × S
-  step_end spot s = (after_part (leave spot.levels), end_by m (what_ends spot.levels) s)
+  unfoldable pub step_end : BlockCursor → S → BlockCursor × S
+  step_end cursor s = (after_part (leave cursor.levels), end_by m (what_ends cursor.levels) s)
 
   -- the head of a region, with which its line ends
-  unfoldable pub step_region : RegionHead (List ℕ) → Spot → S → At S
-  step_region r spot s =
-      let q = met spot s in
-      record { place = record { region = Some (opened r q.0); levels = spot.levels }; state = m.opens_region r q.0 q.1 }
+  unfoldable pub step_region : RegionHead (List ℕ) → BlockCursor → S → At S
+  step_region r cursor s =
+      let q = met cursor s in
+      record { place = record { region = Some (opened r q.0); levels = cursor.levels }; state = m.opens_region r q.0 q.1 }
 
   -- the parts of a line that are left
-  unfoldable pub step_parts : List (Atom (List ℕ)) → Spot → S → At S
-  step_parts [] spot s = record { place = record { region = None; levels = spot.levels }; state = s }
-  step_parts (Leaf text ∷ rest) spot s = let r = step_leaf text spot s in step_parts rest r.0 r.1
-  step_parts (Guard h ∷ rest) spot s = let r = step_guard h spot s in step_parts rest r.0 r.1
-  step_parts (Block h ∷ rest) spot s = let r = step_block h spot s in step_parts rest r.0 r.1
-  step_parts (Loop h ∷ rest) spot s = let r = step_loop h spot s in step_parts rest r.0 r.1
-  step_parts (End ∷ rest) spot s = let r = step_end spot s in step_parts rest r.0 r.1
-  step_parts (Region head ∷ rest) spot s = step_region head spot s
+  unfoldable pub step_parts : List (LinePart (List ℕ)) → BlockCursor → S → At S
+  step_parts [] cursor s = record { place = record { region = None; levels = cursor.levels }; state = s }
+  step_parts (Leaf text ∷ rest) cursor s = let r = step_leaf text cursor s in step_parts rest r.0 r.1
+  step_parts (Guard h ∷ rest) cursor s = let r = step_guard h cursor s in step_parts rest r.0 r.1
+  step_parts (Block h ∷ rest) cursor s = let r = step_block h cursor s in step_parts rest r.0 r.1
+  step_parts (Loop h ∷ rest) cursor s = let r = step_loop h cursor s in step_parts rest r.0 r.1
+  step_parts (End ∷ rest) cursor s = let r = step_end cursor s in step_parts rest r.0 r.1
+  step_parts (Region head ∷ rest) cursor s = step_region head cursor s
 
   -- a line in an open region
   unfoldable pub step_inside : Bool → Opened → X → Levels → S → At S
@@ -87,7 +87,7 @@ module _ {X S : Type 0} (m : Meaning X S) where
   begin_line line l s = collect_if l.in_loop l.skipped line (m.begins line s)
 
   unfoldable pub step_from : (X → List ℕ) → Option Opened → X → Levels → S → At S
-  step_from text None line l s = step_parts (atoms (text line)) (at_line l) (begin_line line l s)
+  step_from text None line l s = step_parts (line_parts (text line)) (at_line l) (begin_line line l s)
   step_from text (Some o) line l s = step_inside (is_ending o.ending (text line)) o line l s
 
   -- one line

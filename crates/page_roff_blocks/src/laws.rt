@@ -1,15 +1,15 @@
 //! Laws of sources.
 
 ghost use Rattle.std.specs.Prelude.{◌≡◌, ◌≤◌, ℕ, ◌+◌, ◌*◌, List, ◌++◌, length};
-ghost use Rattle.page_roff_blocks.specs.Atoms.{with_part, part_of, atoms, atoms_left};
-ghost use Rattle.page_roff_blocks.specs.Levels.{Spot};
-ghost use Rattle.page_roff_blocks.specs.declared.atoms.Atom.{Atom};
+ghost use Rattle.page_roff_blocks.specs.LineParts.{with_part, part_of, line_parts, line_parts_left};
+ghost use Rattle.page_roff_blocks.specs.Levels.{BlockCursor};
+ghost use Rattle.page_roff_blocks.specs.declared.line_parts.LinePart.{LinePart};
 ghost use Rattle.page_roff_blocks.specs.Run.{Meaning, run_lines, At, headed, each_line};
 ghost use Rattle.page_roff_blocks.specs.Steps.{step_parts, step_lines};
 
 /// The parts of a line are its first one, and those of what is left of the line.
-pub fn atoms_law()
-    ensures { (line : List ℕ) → atoms line ≡ with_part (part_of line) (atoms_left (part_of line).rest) }
+pub fn line_parts_law()
+    ensures { (line : List ℕ) → line_parts line ≡ with_part (part_of line) (line_parts_left (part_of line).rest) }
 {}
 
 /// What the forest of a source does is what its parts do one after another, from every place on.
@@ -27,9 +27,9 @@ pub fn cut_law<X, S>()
 
 /// A line has at most two parts a byte, and two; and each part of a line skips one block more at most.
 pub fn room_law<X, S>()
-    ensures parts { (line : List ℕ) → length (atoms line) ≤ 2 * length line + 2 }
-    ensures skipped { (m : Meaning X S) (parts : List (Atom (List ℕ))) (spot : Spot) (s : S)
-        → (step_parts m parts spot s).place.levels.skipped ≤ spot.levels.skipped + length parts }
+    ensures parts { (line : List ℕ) → length (line_parts line) ≤ 2 * length line + 2 }
+    ensures skipped { (m : Meaning X S) (parts : List (LinePart (List ℕ))) (cursor : BlockCursor) (s : S)
+        → (step_parts m parts cursor s).place.levels.skipped ≤ cursor.levels.skipped + length parts }
 {}
 
 /// Lines with heads: what their forest does is, line after line, what the head does and then the forest of the line's text.

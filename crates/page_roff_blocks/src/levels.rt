@@ -2,10 +2,10 @@
 
 ghost use Rattle.std.specs.Prelude.{◌≡◌, ◌<◌, ◌≤◌, ◌^◌, length};
 ghost use Rattle.page_core_limits.specs.declared.TheConstants.{CONDS};
-ghost use Rattle.page_roff_blocks.specs.Atoms.{branch_seen};
+ghost use Rattle.page_roff_blocks.specs.LineParts.{branch_view};
 ghost use Rattle.page_roff_blocks.specs.Levels.{outside, bit_after, answered, way_of, enter, open_loop, skip, leave, what_ends};
 
-use crate::atoms::Branch;
+use crate::line_parts::Branch;
 use arrayvec::ArrayVec;
 use page_core_limits::CONDS;
 use std::marker::Model;
@@ -66,7 +66,7 @@ impl Branch<&[u8]> {
     /// The bit of a level after a head with this value.
     #[tactic(auto, unfolding(crate::specs::Levels::bit_after))]
     fn bit_after(&self, value: bool, bit: bool) -> bool
-        ensures { result ≡ bit_after (branch_seen self.now) value bit }
+        ensures { result ≡ bit_after (branch_view self.now) value bit }
     {
         match self {
             Branch::If(_) => bit,
@@ -77,7 +77,7 @@ impl Branch<&[u8]> {
 
     /// What its head leaves at a level with this bit; its value, if it is run.
     pub fn answered(&self, bit: bool, value: Option<bool>) -> Option<Answer>
-        ensures { result ≡ answered (branch_seen self.now) bit value }
+        ensures { result ≡ answered (branch_view self.now) bit value }
     {
         match value {
             Some(value) => Some(Answer {

@@ -4,26 +4,26 @@
 //! It stands above the heads of conditionals and loops (`page_roff_heads`); `page_roff_language` runs such a forest. Read `specs/Forest.antt` first,
 //! then `specs/Run.antt` (what a forest does), and `parts.rt` for the code.
 //!
-//! Proved: `LinePlace` (`next_atom`, `pass_atom`, `opens_block`), `is_leaf`, `loop_text`, `Levels`, `OpenRegion`, `Spot`, `Standing`: the parts of a
+//! Proved: `LinePlace` (`next_line_part`, `pass_line_part`, `opens_block`), `is_leaf`, `loop_text`, `Levels`, `OpenRegion`, `BlockCursor`, `Standing`: the parts of a
 //! raw line, what of it belongs to a loop, and the open and skipped blocks, the open loop and the open region of a source. `fold_law`, `cut_law`,
-//! `lines_law`, `atoms_law`, `room_law`: the forest of a source's raw lines (`specs/Forest.antt`) is what reading it part by part gives, from every
+//! `lines_law`, `line_parts_law`, `room_law`: the forest of a source's raw lines (`specs/Forest.antt`) is what reading it part by part gives, from every
 //! open start, and it may be cut anywhere.
 #![tactic(auto)]
 
-mod atoms;
+mod line_parts;
 mod laws;
 mod levels;
 mod line_places;
 mod loops;
 mod parts;
-mod spots;
+mod block_cursors;
 mod standings;
 
-pub use atoms::{Atom, Branch, Head, Opening};
-pub use laws::{atoms_law, cut_law, fold_law, lines_law, room_law};
+pub use line_parts::{LinePart, Branch, Head, Opening};
+pub use laws::{line_parts_law, cut_law, fold_law, lines_law, room_law};
 pub use levels::{Answer, Ended, Levels, Way};
 pub use line_places::LinePlace;
 pub use loops::loop_text;
 pub use parts::is_leaf;
-pub use spots::{Pass, Reached, Spot};
+pub use block_cursors::{Pass, Reached, BlockCursor};
 pub use standings::Standing;

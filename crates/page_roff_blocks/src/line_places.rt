@@ -2,12 +2,12 @@
 
 ghost use Rattle.std.specs.Prelude.{◌≡◌, ◌≤◌, ◌∷◌, false, length, drop, IfSome};
 ghost use Rattle.page_core_limits.specs.declared.TheConstants.{LINE};
-ghost use Rattle.page_roff_blocks.specs.Atoms.{atom_seen, atoms, FitsAtom, ReadsNext};
-ghost use Rattle.page_roff_blocks.specs.declared.atoms.Atom.TheVariants.{Leaf};
+ghost use Rattle.page_roff_blocks.specs.LineParts.{line_part_view, line_parts, FitsLinePart, ReadsNext};
+ghost use Rattle.page_roff_blocks.specs.declared.line_parts.LinePart.TheVariants.{Leaf};
 ghost use Rattle.page_roff_blocks.specs.LinePlaces.{parts_at, line_end, is_at_end, is_block, opens_block, place_after, IsPlaceIn, IsEndOf};
-ghost use Rattle.page_roff_regions.specs.Regions.{text_seen};
+ghost use Rattle.page_roff_regions.specs.Regions.{text_view};
 
-use crate::atoms::Atom;
+use crate::line_parts::LinePart;
 use crate::loops::part_of;
 use crate::parts::{is_leaf, written_part};
 use page_core_limits::LINE;
@@ -25,8 +25,8 @@ pub struct LinePlace {
 
 /// Where the end of a line that is left begins.
 pub(crate) fn place_after(line: &[u8], rest: Option<&[u8]>) -> Option<usize>
-    requires { IsEndOf line.now (text_seen rest) }
-    ensures { result ≡ place_after line.now (text_seen rest.entry) }
+    requires { IsEndOf line.now (text_view rest) }
+    ensures { result ≡ place_after line.now (text_view rest.entry) }
 {
     match rest {
         Some(text) => Some(line.len() - text.len()),
@@ -35,17 +35,17 @@ pub(crate) fn place_after(line: &[u8], rest: Option<&[u8]>) -> Option<usize>
 }
 
 // Whether a part opens a block.
-fn is_block(atom: &Atom<&[u8]>) -> bool
-    ensures { result ≡ is_block (atom_seen atom.now) }
+fn is_block(line_part: &LinePart<&[u8]>) -> bool
+    ensures { result ≡ is_block (line_part_view line_part.now) }
 {
-    matches!(atom, Atom::Block(_))
+    matches!(line_part, LinePart::Block(_))
 }
 
 impl LinePlace {
     /// Before the first part of a line of at most [`LINE`] bytes.
     pub fn start(line: &[u8]) -> LinePlace
         requires { length line.now ≤ LINE }
-        ensures parts { parts_at line.now result ≡ atoms line.now }
+        ensures parts { parts_at line.now result ≡ line_parts line.now }
         ensures within { IsPlaceIn line.now result }
     {
         let is_whole = is_leaf(line);
@@ -82,17 +82,17 @@ impl LinePlace {
     }
 
     // Reads the next part of a line that is not one part, and goes past it.
-    fn next_of_several<'a>(&mut self, line: &'a [u8]) -> Option<Atom<&'a [u8]>>
+    fn next_of_several<'a>(&mut self, line: &'a [u8]) -> Option<LinePart<&'a [u8]>>
         requires short { length line.now ≤ LINE }
         requires within { IsPlaceIn line.now self.old }
         requires several { self.old.is_whole ≡ false }
         ensures next { ReadsNext (parts_at line.now self.old) result (parts_at line.now self.new) }
         ensures within { IsPlaceIn line.now self.new }
-        ensures fits { IfSome result (λ atom. FitsAtom (atom_seen atom)) }
+        ensures fits { IfSome result (λ line_part. FitsLinePart (line_part_view line_part)) }
     {
         if self.is_end {
             self.is_end = false;
-            return Some(Atom::End);
+            return Some(LinePart::End);
         }
         match self.rest {
             None => None,
@@ -100,22 +100,22 @@ impl LinePlace {
                 let part = part_of(&line[start..]);
                 self.is_end = part.is_end;
                 self.rest = place_after(line, part.rest);
-                Some(part.atom)
+                Some(part.line_part)
             }
         }
     }
 
     /// Reads the next part of a line of at most [`LINE`] bytes, in which the place is, and goes past it.
-    pub fn next_atom<'a>(&mut self, line: &'a [u8]) -> Option<Atom<&'a [u8]>>
+    pub fn next_line_part<'a>(&mut self, line: &'a [u8]) -> Option<LinePart<&'a [u8]>>
         requires short { length line.now ≤ LINE }
         requires within { IsPlaceIn line.now self.old }
         ensures next { ReadsNext (parts_at line.now self.old) result (parts_at line.now self.new) }
         ensures within { IsPlaceIn line.now self.new }
-        ensures fits { IfSome result (λ atom. FitsAtom (atom_seen atom)) }
+        ensures fits { IfSome result (λ line_part. FitsLinePart (line_part_view line_part)) }
     {
         if self.is_whole {
             self.is_whole = false;
-            return Some(Atom::Leaf(line));
+            return Some(LinePart::Leaf(line));
         }
         self.next_of_several(line)
     }
@@ -141,7 +141,7 @@ impl LinePlace {
 
     /// Goes past the next part of a line of at most [`LINE`] bytes, in which the place is, if there is one. What belongs to a loop is not
     /// looked for: loops that are passed over are not read again for each other one in their line.
-    pub fn pass_atom(&mut self, line: &[u8])
+    pub fn pass_line_part(&mut self, line: &[u8])
         requires short { length line.now ≤ LINE }
         requires within { IsPlaceIn line.now self.old }
         ensures next { parts_at line.now self.new ≡ drop 1 (parts_at line.now self.old) }
@@ -165,7 +165,7 @@ impl LinePlace {
         }
         match self.rest {
             None => false,
-            Some(start) => is_block(&written_part(&line[start..]).atom),
+            Some(start) => is_block(&written_part(&line[start..]).line_part),
         }
     }
 }

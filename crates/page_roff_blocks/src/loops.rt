@@ -2,11 +2,11 @@
 
 ghost use Rattle.std.specs.Prelude.{◌≡◌, ◌≤◌, ◌<◌, ◌+◌, ◌^◌, true, length, IfSome};
 ghost use Rattle.page_core_limits.specs.declared.TheConstants.{LINE};
-ghost use Rattle.page_roff_blocks.specs.Atoms.{atom_seen, opening_seen, part_of, part_seen, whole_opening, FitsOpening, FitsPart, FitsRest};
+ghost use Rattle.page_roff_blocks.specs.LineParts.{line_part_view, opening_view, part_of, part_view, whole_opening, FitsOpening, FitsPart, FitsRest};
 ghost use Rattle.page_roff_blocks.specs.Loops.{blocks_left, blocks_after, before_end, some_text, len_of, loop_text, first_text};
-ghost use Rattle.page_roff_regions.specs.Regions.{text_seen};
+ghost use Rattle.page_roff_regions.specs.Regions.{text_view};
 
-use crate::atoms::{Atom, Opening};
+use crate::line_parts::{LinePart, Opening};
 use crate::line_places::place_after;
 use crate::parts::{Part, written_part};
 use page_core_limits::LINE;
@@ -20,24 +20,24 @@ fn blocks_left(blocks: u64) -> Option<u64>
 }
 
 // Those after a part, which the end of a block may follow.
-fn blocks_after(atom: &Atom<&[u8]>, is_end: bool, blocks: u64) -> Option<u64>
+fn blocks_after(line_part: &LinePart<&[u8]>, is_end: bool, blocks: u64) -> Option<u64>
     requires { blocks < 2 ^ 63 + LINE }
-    ensures { result ≡ blocks_after (atom_seen atom.now) is_end blocks }
+    ensures { result ≡ blocks_after (line_part_view line_part.now) is_end blocks }
 {
-    match atom {
-        Atom::Leaf(_) if is_end => blocks_left(blocks),
-        Atom::End => blocks_left(blocks),
-        Atom::Block(_) => Some(blocks + 1),
+    match line_part {
+        LinePart::Leaf(_) if is_end => blocks_left(blocks),
+        LinePart::End => blocks_left(blocks),
+        LinePart::Block(_) => Some(blocks + 1),
         _ => Some(blocks),
     }
 }
 
 // The number of a part's bytes before the end of a block.
-fn before_end(atom: &Atom<&[u8]>) -> usize
-    ensures { result ≡ before_end (atom_seen atom.now) }
+fn before_end(line_part: &LinePart<&[u8]>) -> usize
+    ensures { result ≡ before_end (line_part_view line_part.now) }
 {
-    match atom {
-        Atom::Leaf(text) => text.len(),
+    match line_part {
+        LinePart::Leaf(text) => text.len(),
         _ => 0,
     }
 }
@@ -53,8 +53,8 @@ fn len_of(line: &[u8], open_blocks: u64) -> Option<usize>
     let mut start = 0;
     loop {
         let part = written_part(&line[start..]);
-        match blocks_after(&part.atom, part.is_end, blocks) {
-            None => return Some(start + before_end(&part.atom)),
+        match blocks_after(&part.line_part, part.is_end, blocks) {
+            None => return Some(start + before_end(&part.line_part)),
             Some(left) => blocks = left,
         }
         match place_after(line, part.rest) {
@@ -66,7 +66,7 @@ fn len_of(line: &[u8], open_blocks: u64) -> Option<usize>
 
 // A text that is not empty.
 fn some_text(text: &[u8]) -> Option<&[u8]>
-    ensures { text_seen result ≡ some_text text.now }
+    ensures { text_view result ≡ some_text text.now }
 {
     if text.is_empty() { None } else { Some(text) }
 }
@@ -77,8 +77,8 @@ fn some_text(text: &[u8]) -> Option<&[u8]>
 pub fn loop_text(line: &[u8], open_blocks: u64) -> Option<&[u8]>
     requires short { length line.now ≤ LINE }
     requires room { open_blocks < 2 ^ 63 }
-    ensures value { text_seen result ≡ loop_text open_blocks line.now }
-    ensures fits { FitsRest (text_seen result) }
+    ensures value { text_view result ≡ loop_text open_blocks line.now }
+    ensures fits { FitsRest (text_view result) }
 {
     match len_of(line, open_blocks) {
         None => Some(line),
@@ -90,8 +90,8 @@ pub fn loop_text(line: &[u8], open_blocks: u64) -> Option<&[u8]>
 #[tactic(auto, unfolding(crate::specs::Loops::first_text))]
 fn first_text(first: &[u8]) -> Option<&[u8]>
     requires { length first.now ≤ LINE }
-    ensures value { text_seen result ≡ first_text first.now }
-    ensures fits { FitsRest (text_seen result) }
+    ensures value { text_view result ≡ first_text first.now }
+    ensures fits { FitsRest (text_view result) }
 {
     match loop_text(first, 0) {
         None => None,
@@ -101,9 +101,9 @@ fn first_text(first: &[u8]) -> Option<&[u8]>
 
 // A head with its block: of what follows that on its line, only what belongs to a loop is its body.
 fn whole_opening(opening: Opening<&[u8]>) -> Opening<&[u8]>
-    requires { FitsOpening (opening_seen opening) }
-    ensures value { opening_seen result ≡ whole_opening (opening_seen opening.entry) }
-    ensures fits { FitsOpening (opening_seen result) }
+    requires { FitsOpening (opening_view opening) }
+    ensures value { opening_view result ≡ whole_opening (opening_view opening.entry) }
+    ensures fits { FitsOpening (opening_view result) }
 {
     match opening {
         Opening::Loop(
@@ -120,16 +120,16 @@ fn whole_opening(opening: Opening<&[u8]>) -> Opening<&[u8]>
 }
 
 /// The first part of a line.
-#[tactic(auto, unfolding(crate::specs::Atoms::part_of))]
+#[tactic(auto, unfolding(crate::specs::LineParts::part_of))]
 pub(crate) fn part_of(line: &[u8]) -> Part<&[u8]>
     requires { length line.now ≤ LINE }
-    ensures value { part_seen result ≡ part_of line.now }
-    ensures fits { FitsPart (part_seen result) }
+    ensures value { part_view result ≡ part_of line.now }
+    ensures fits { FitsPart (part_view result) }
 {
     let part = written_part(line);
-    match part.atom {
-        Atom::Block(opening) => Part {
-            atom: Atom::Block(whole_opening(opening)),
+    match part.line_part {
+        LinePart::Block(opening) => Part {
+            line_part: LinePart::Block(whole_opening(opening)),
             is_end: part.is_end,
             rest: part.rest,
         },

@@ -3,18 +3,18 @@
 ghost use Rattle.std.specs.Prelude.{◌≡◌, ◌≤◌, ◌+◌, true, [], ◌∷◌, length, Some};
 ghost use Rattle.page_core_limits.specs.declared.TheConstants.{LINE};
 ghost use Rattle.page_roff_forms.specs.LineForms.{form_of, name_of};
-ghost use Rattle.page_roff_heads.specs.Heads.{conditional_of, guarded_of, guarded_seen, FitsGuarded};
-ghost use Rattle.page_roff_heads.specs.Loops.{loop_of, loop_seen, FitsLoop};
-ghost use Rattle.page_roff_heads.specs.Texts.{remainder_seen};
-ghost use Rattle.page_roff_blocks.specs.declared.atoms.Atom.TheVariants.{Leaf};
-ghost use Rattle.page_roff_blocks.specs.declared.atoms.Branch.TheVariants.{If, IfElse};
-ghost use Rattle.page_roff_blocks.specs.Atoms.{head_seen, part_seen, atoms, IsWithin, FitsBranch, FitsRest, FitsPart};
+ghost use Rattle.page_roff_heads.specs.Heads.{conditional_of, guarded_of, guarded_view, FitsGuarded};
+ghost use Rattle.page_roff_heads.specs.Loops.{loop_of, loop_view, FitsLoop};
+ghost use Rattle.page_roff_heads.specs.Texts.{remainder_view};
+ghost use Rattle.page_roff_blocks.specs.declared.line_parts.LinePart.TheVariants.{Leaf};
+ghost use Rattle.page_roff_blocks.specs.declared.line_parts.Branch.TheVariants.{If, IfElse};
+ghost use Rattle.page_roff_blocks.specs.LineParts.{head_view, part_view, line_parts, IsWithin, FitsBranch, FitsRest, FitsPart};
 ghost use Rattle.page_roff_blocks.specs.Parts.{keyword_of, rest_text, head_part, conditional_part, else_part, loop_part, end_part, plain_part, written_part};
 ghost use Rattle.page_roff_blocks.specs.Parts.{columns_of, named_part};
 ghost use Rattle.page_roff_blocks.specs.declared.parts.Keyword.TheVariants as keywords;
-ghost use Rattle.page_roff_regions.specs.Regions.{text_seen};
+ghost use Rattle.page_roff_regions.specs.Regions.{text_view};
 
-use crate::atoms::{Atom, Branch, Head, Opening};
+use crate::line_parts::{LinePart, Branch, Head, Opening};
 use page_core_limits::LINE;
 use page_roff_forms::{LineForm, control_name, form_of, white_len};
 use page_roff_heads::{
@@ -44,7 +44,7 @@ pub(crate) struct Columns {
 
 // The first part of a line; `W` is a text.
 pub(crate) struct Part<W> {
-    pub(crate) atom: Atom<W>,
+    pub(crate) line_part: LinePart<W>,
     // Whether the end of a block follows it.
     pub(crate) is_end: bool,
     // What is left of the line after both, if that is a line.
@@ -79,9 +79,9 @@ fn keyword_of(name: &[u8]) -> Keyword
 
 // What is left of a line, as a text.
 fn rest_text(remainder: Option<Placed<&[u8]>>) -> Option<&[u8]>
-    requires { FitsRest (rest_text (remainder_seen remainder)) }
-    ensures value { text_seen result ≡ rest_text (remainder_seen remainder.entry) }
-    ensures fits { FitsRest (text_seen result) }
+    requires { FitsRest (rest_text (remainder_view remainder)) }
+    ensures value { text_view result ≡ rest_text (remainder_view remainder.entry) }
+    ensures fits { FitsRest (text_view result) }
 {
     match remainder {
         Some(line) => Some(line.text),
@@ -91,16 +91,16 @@ fn rest_text(remainder: Option<Placed<&[u8]>>) -> Option<&[u8]>
 
 // A head, and what it guards.
 fn head_part<'a>(head: Head<&'a [u8]>, guarded: Guarded<&'a [u8]>) -> Part<&'a [u8]>
-    requires head { FitsBranch (head_seen head).branch }
-    requires guarded { FitsGuarded (guarded_seen guarded) }
-    ensures value { part_seen result ≡ head_part (head_seen head.entry) (guarded_seen guarded.entry) }
-    ensures fits { FitsPart (part_seen result) }
+    requires head { FitsBranch (head_view head).branch }
+    requires guarded { FitsGuarded (guarded_view guarded) }
+    ensures value { part_view result ≡ head_part (head_view head.entry) (guarded_view guarded.entry) }
+    ensures fits { FitsPart (part_view result) }
 {
     Part {
-        atom: if guarded.opens_block {
-            Atom::Block(Opening::Conditional(head))
+        line_part: if guarded.opens_block {
+            LinePart::Block(Opening::Conditional(head))
         } else {
-            Atom::Guard(head)
+            LinePart::Guard(head)
         },
         is_end: false,
         rest: rest_text(guarded.remainder),
@@ -109,14 +109,14 @@ fn head_part<'a>(head: Head<&'a [u8]>, guarded: Guarded<&'a [u8]>) -> Part<&'a [
 
 // The head of a loop. With a block, all that follows it on its line is its body as yet.
 fn loop_part<'a>(read: LoopRead<&'a [u8]>) -> Part<&'a [u8]>
-    requires { FitsLoop (loop_seen read) }
-    ensures value { part_seen result ≡ loop_part (loop_seen read.entry) }
-    ensures fits { FitsPart (part_seen result) }
+    requires { FitsLoop (loop_view read) }
+    ensures value { part_view result ≡ loop_part (loop_view read.entry) }
+    ensures fits { FitsPart (part_view result) }
 {
     let rest = rest_text(read.guarded.remainder);
     if read.guarded.opens_block {
         return Part {
-            atom: Atom::Block(Opening::Loop(LoopHead {
+            line_part: LinePart::Block(Opening::Loop(LoopHead {
                 condition: read.condition,
                 body: Some(read.first),
             })),
@@ -125,7 +125,7 @@ fn loop_part<'a>(read: LoopRead<&'a [u8]>) -> Part<&'a [u8]>
         };
     }
     Part {
-        atom: Atom::Loop(LoopHead {
+        line_part: LinePart::Loop(LoopHead {
             condition: read.condition,
             body: rest,
         }),
@@ -137,19 +137,19 @@ fn loop_part<'a>(read: LoopRead<&'a [u8]>) -> Part<&'a [u8]>
 // What stands before the end of a block, and what is left after it.
 fn end_part<'a>(before: &'a [u8], rest: Option<&'a [u8]>) -> Part<&'a [u8]>
     requires before { length before.now ≤ LINE }
-    requires rest { FitsRest (text_seen rest) }
-    ensures value { part_seen result ≡ end_part before.now (text_seen rest.entry) }
-    ensures fits { FitsPart (part_seen result) }
+    requires rest { FitsRest (text_view rest) }
+    ensures value { part_view result ≡ end_part before.now (text_view rest.entry) }
+    ensures fits { FitsPart (part_view result) }
 {
     if before.is_empty() {
         return Part {
-            atom: Atom::End,
+            line_part: LinePart::End,
             is_end: false,
             rest,
         };
     }
     Part {
-        atom: Atom::Leaf(before),
+        line_part: LinePart::Leaf(before),
         is_end: true,
         rest,
     }
@@ -158,13 +158,13 @@ fn end_part<'a>(before: &'a [u8], rest: Option<&'a [u8]>) -> Part<&'a [u8]>
 // The first part of a line that heads nothing.
 fn plain_part(line: &[u8]) -> Part<&[u8]>
     requires { length line.now ≤ LINE }
-    ensures value { part_seen result ≡ plain_part line.now }
-    ensures fits { FitsPart (part_seen result) }
+    ensures value { part_view result ≡ plain_part line.now }
+    ensures fits { FitsPart (part_view result) }
 {
     match block_end(line) {
         Some(end) => end_part(end.before, rest_text(end.remainder)),
         None => Part {
-            atom: Atom::Leaf(line),
+            line_part: LinePart::Leaf(line),
             is_end: false,
             rest: None,
         },
@@ -188,8 +188,8 @@ fn columns_of(line: &[u8], name: &[u8]) -> Columns
 // The first part of a control line that heads a region.
 fn region_part(kind: RegionKind, line: &[u8]) -> Part<&[u8]>
     requires { length line.now ≤ LINE }
-    ensures value { part_seen result ≡ named_part (keywords.Region kind) line.now (form_of line.now) }
-    ensures fits { FitsPart (part_seen result) }
+    ensures value { part_view result ≡ named_part (keywords.Region kind) line.now (form_of line.now) }
+    ensures fits { FitsPart (part_view result) }
 {
     match form_of(line) {
         LineForm::Control {
@@ -198,7 +198,7 @@ fn region_part(kind: RegionKind, line: &[u8]) -> Part<&[u8]>
             rest_column,
             ..
         } => Part {
-            atom: Atom::Region(region_head(kind, column, rest, rest_column)),
+            line_part: LinePart::Region(region_head(kind, column, rest, rest_column)),
             is_end: false,
             rest: None,
         },
@@ -211,8 +211,8 @@ fn keyword_part(keyword: Keyword, line: &[u8], columns: Columns) -> Part<&[u8]>
     requires line { length line.now ≤ LINE }
     requires columns { columns_of (form_of line.now) ≡ Some columns }
     requires within { IsWithin columns.rest line.now }
-    ensures value { part_seen result ≡ named_part keyword line.now (form_of line.now) }
-    ensures fits { FitsPart (part_seen result) }
+    ensures value { part_view result ≡ named_part keyword line.now (form_of line.now) }
+    ensures fits { FitsPart (part_view result) }
 {
     let raw_rest = &line[columns.rest as usize - 1..];
     match keyword {
@@ -229,9 +229,9 @@ fn keyword_part(keyword: Keyword, line: &[u8], columns: Columns) -> Part<&[u8]>
 fn if_part(raw_rest: &[u8], column: u32, rest_column: u32) -> Part<&[u8]>
     requires short { length raw_rest.now ≤ LINE }
     requires room { rest_column + length raw_rest.now ≤ LINE + 1 }
-    ensures value { part_seen result
+    ensures value { part_view result
         ≡ conditional_part If column (conditional_of rest_column raw_rest.now) }
-    ensures fits { FitsPart (part_seen result) }
+    ensures fits { FitsPart (part_view result) }
 {
     let read = read_conditional(raw_rest, rest_column);
     let branch = Branch::If(read.condition);
@@ -242,9 +242,9 @@ fn if_part(raw_rest: &[u8], column: u32, rest_column: u32) -> Part<&[u8]>
 fn if_else_part(raw_rest: &[u8], column: u32, rest_column: u32) -> Part<&[u8]>
     requires short { length raw_rest.now ≤ LINE }
     requires room { rest_column + length raw_rest.now ≤ LINE + 1 }
-    ensures value { part_seen result
+    ensures value { part_view result
         ≡ conditional_part IfElse column (conditional_of rest_column raw_rest.now) }
-    ensures fits { FitsPart (part_seen result) }
+    ensures fits { FitsPart (part_view result) }
 {
     let read = read_conditional(raw_rest, rest_column);
     let branch = Branch::IfElse(read.condition);
@@ -255,8 +255,8 @@ fn if_else_part(raw_rest: &[u8], column: u32, rest_column: u32) -> Part<&[u8]>
 fn else_part(raw_rest: &[u8], column: u32, rest_column: u32) -> Part<&[u8]>
     requires short { length raw_rest.now ≤ LINE }
     requires room { rest_column + length raw_rest.now ≤ LINE + 1 }
-    ensures value { part_seen result ≡ else_part column (guarded_of rest_column raw_rest.now) }
-    ensures fits { FitsPart (part_seen result) }
+    ensures value { part_view result ≡ else_part column (guarded_of rest_column raw_rest.now) }
+    ensures fits { FitsPart (part_view result) }
 {
     let branch = Branch::Else;
     head_part(Head { column, branch }, read_guarded(raw_rest, rest_column))
@@ -265,8 +265,8 @@ fn else_part(raw_rest: &[u8], column: u32, rest_column: u32) -> Part<&[u8]>
 /// The first part of a line as it is written. Only the head of a region is parted from its comment.
 pub(crate) fn written_part(line: &[u8]) -> Part<&[u8]>
     requires { length line.now ≤ LINE }
-    ensures value { part_seen result ≡ written_part line.now }
-    ensures fits { FitsPart (part_seen result) }
+    ensures value { part_view result ≡ written_part line.now }
+    ensures fits { FitsPart (part_view result) }
 {
     match control_name(line) {
         Some(name) => keyword_part(keyword_of(name), line, columns_of(line, name)),
@@ -287,7 +287,7 @@ fn heads_nothing(line: &[u8]) -> bool
 /// Whether a line of at most [`LINE`] bytes is one part, a leaf.
 pub fn is_leaf(line: &[u8]) -> bool
     requires { length line.now ≤ LINE }
-    ensures { result ≡ true → atoms line.now ≡ Leaf line.now ∷ [] }
+    ensures { result ≡ true → line_parts line.now ≡ Leaf line.now ∷ [] }
 {
     if !heads_nothing(line) {
         return false;

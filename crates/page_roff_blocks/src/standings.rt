@@ -1,7 +1,7 @@
 //! Where a page stands between two lines (roff(7), "if", "while", "de").
 
 ghost use Rattle.std.specs.Prelude.{◌≡◌};
-ghost use Rattle.page_roff_regions.specs.OpenRegions.{opened_seen};
+ghost use Rattle.page_roff_regions.specs.OpenRegions.{opened_view};
 
 use crate::levels::Levels;
 use page_roff_regions::OpenRegion;
@@ -24,7 +24,7 @@ impl Model for Standing {
 
 // The same region, where one is open.
 fn region_copy(region: Option<&OpenRegion>) -> Option<OpenRegion>
-    ensures { result ≡ opened_seen region.entry }
+    ensures { result ≡ opened_view region.entry }
 {
     match region {
         Some(region) => Some(region.copy()),
@@ -35,7 +35,7 @@ fn region_copy(region: Option<&OpenRegion>) -> Option<OpenRegion>
 impl Standing {
     /// In this region, if one is open, and at these levels.
     pub fn of(region: Option<&OpenRegion>, levels: &Levels) -> Standing
-        ensures { result ≡ record { region = opened_seen region.entry; levels = levels.now } }
+        ensures { result ≡ record { region = opened_view region.entry; levels = levels.now } }
     {
         Standing {
             region: region_copy(region),

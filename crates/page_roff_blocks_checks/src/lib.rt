@@ -2,6 +2,6 @@
 #![tactic(auto)]
 
 #[cfg(test)]
-mod atoms;
+mod line_parts;
 #[cfg(test)]
 mod sources;

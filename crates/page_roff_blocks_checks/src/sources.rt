@@ -2,7 +2,7 @@
 
 use arrayvec::ArrayVec;
 use page_roff_blocks::{
-    Answer, Atom, Branch, Ended, Head, LinePlace, Opening, Pass, Reached, Spot, Way, loop_text,
+    Answer, LinePart, Branch, Ended, Head, LinePlace, Opening, Pass, Reached, BlockCursor, Way, loop_text,
 };
 use page_roff_heads::{Condition, LoopHead, Test};
 use page_roff_regions::OpenRegion;
@@ -11,7 +11,7 @@ use std::process::Abort;
 // A source that is run line by line.
 #[derive(Drop)]
 struct Source {
-    spot: Spot,
+    cursor: BlockCursor,
     region: Option<OpenRegion>,
     // The leaves that were run, with a bar after each; the regions: in brackets where they are run, else in
     // braces; and the loops: their condition and lines, each after a colon, in angles.
@@ -26,7 +26,7 @@ struct Source {
 impl Source {
     fn new() -> Source {
         Source {
-            spot: Spot::new(),
+            cursor: BlockCursor::new(),
             region: None,
             given: ArrayVec::new(),
             taken: 0,
@@ -41,7 +41,7 @@ impl Source {
 
     // Whether the next part is run.
     fn meets(&mut self) -> bool {
-        match self.spot.reached() {
+        match self.cursor.reached() {
             Reached::PassedOver => false,
             Reached::First => true,
             Reached::Remainder => {
@@ -55,13 +55,13 @@ impl Source {
         match head.branch {
             Branch::If(condition) => holds(condition),
             Branch::IfElse(condition) => holds(condition),
-            Branch::Else => self.spot.levels().bit(),
+            Branch::Else => self.cursor.levels().bit(),
         }
     }
 
     fn pass(&mut self, rt: &impl Abort, pass: Pass) {
-        assert!(rt; self.spot.levels().skipped() < 1000);
-        self.spot.pass(pass);
+        assert!(rt; self.cursor.levels().skipped() < 1000);
+        self.cursor.pass(pass);
     }
 
     fn leaf(&mut self, rt: &impl Abort, text: &[u8]) {
@@ -78,7 +78,7 @@ impl Source {
             return None;
         }
         let value = self.value(head);
-        head.branch.answered(self.spot.levels().bit(), Some(value))
+        head.branch.answered(self.cursor.levels().bit(), Some(value))
     }
 
     fn guard(&mut self, rt: &impl Abort, head: Head<&[u8]>) {
@@ -122,7 +122,7 @@ impl Source {
     fn enter(&mut self, head: Head<&[u8]>) -> Option<Answer> {
         let answer = self.answer(head);
         if let Some(answer) = answer {
-            if matches!(self.spot.levels().way(answer.value), Way::Exceeds) {
+            if matches!(self.cursor.levels().way(answer.value), Way::Exceeds) {
                 self.exceeding = self.exceeding.saturating_add(1);
             }
         }
@@ -130,7 +130,7 @@ impl Source {
     }
 
     fn end(&mut self, rt: &impl Abort) {
-        match self.spot.levels().ended() {
+        match self.cursor.levels().ended() {
             Ended::Block => {}
             Ended::Loop => self.give(b">"),
             Ended::Nothing => self.unopened = self.unopened.saturating_add(1),
@@ -138,14 +138,14 @@ impl Source {
         self.pass(rt, Pass::End);
     }
 
-    fn part(&mut self, rt: &impl Abort, atom: Atom<&[u8]>) {
-        match atom {
-            Atom::Leaf(text) => self.leaf(rt, text),
-            Atom::Guard(head) => self.guard(rt, head),
-            Atom::Block(opening) => self.block(rt, opening),
-            Atom::Loop(head) => self.one_line(rt, head),
-            Atom::End => self.end(rt),
-            Atom::Region(head) => {
+    fn part(&mut self, rt: &impl Abort, line_part: LinePart<&[u8]>) {
+        match line_part {
+            LinePart::Leaf(text) => self.leaf(rt, text),
+            LinePart::Guard(head) => self.guard(rt, head),
+            LinePart::Block(opening) => self.block(rt, opening),
+            LinePart::Loop(head) => self.one_line(rt, head),
+            LinePart::End => self.end(rt),
+            LinePart::Region(head) => {
                 let is_run = self.meets();
                 self.give(if is_run { b"[" } else { b"{" });
                 if let Some(name) = head.name {
@@ -163,7 +163,7 @@ impl Source {
             None => return false,
             Some(region) => (region.is_ended_by(line), region.is_run()),
         };
-        if self.spot.levels().in_loop() {
+        if self.cursor.levels().in_loop() {
             self.collect(Some(line));
         }
         if ends {
@@ -176,9 +176,9 @@ impl Source {
     // A line begins, in a loop that is collected or not.
     fn begin(&mut self, rt: &impl Abort, line: &[u8]) {
         assert!(rt; line.len() < 100);
-        self.spot.begin_line();
-        if self.spot.levels().in_loop() {
-            let open_blocks = self.spot.levels().skipped();
+        self.cursor.begin_line();
+        if self.cursor.levels().in_loop() {
+            let open_blocks = self.cursor.levels().skipped();
             assert!(rt; open_blocks < 1000);
             self.collect(loop_text(line, open_blocks));
         }
@@ -193,8 +193,8 @@ impl Source {
         self.begin(rt, line.as_bytes());
         let mut place = LinePlace::start(line.as_bytes());
         for _ in 0..50 {
-            if let Some(atom) = place.next_atom(line.as_bytes()) {
-                self.part(rt, atom);
+            if let Some(line_part) = place.next_line_part(line.as_bytes()) {
+                self.part(rt, line_part);
             }
         }
     }

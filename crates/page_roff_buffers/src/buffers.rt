@@ -2,10 +2,10 @@
 
 ghost use Rattle.std.specs.Prelude.{◌≡◌, ◌≤◌, ◌+◌, [], ◌∷◌, ◌++◌, length, IfOk, IfSome, None, Some};
 ghost use Rattle.std.specs.Vec.{vec_len, vec_capacity};
-ghost use Rattle.page_core_base.specs.LinesTaken.{line_seen};
+ghost use Rattle.page_core_base.specs.LinesTaken.{line_view};
 ghost use Rattle.page_core_limits.specs.declared.TheConstants.{BODY, LINE};
 ghost use Rattle.page_roff_buffers.specs.Buffers.{no_line, AddsLine};
-ghost use Rattle.page_roff_requests.specs.Regions.{text_seen};
+ghost use Rattle.page_roff_requests.specs.Regions.{text_view};
 
 use page_core_base::{Form, Taken};
 use page_core_limits::{BODY, LINE};
@@ -82,7 +82,7 @@ impl LineBuffer {
 
     /// Lends the line, of at most [`LINE`] bytes.
     pub fn taken(&self) -> Taken<'_>
-        ensures line { line_seen result ≡ self.now }
+        ensures line { line_view result ≡ self.now }
         ensures short { length result.text.now ≤ LINE }
     {
         Taken {
@@ -154,7 +154,7 @@ impl BodyBuffer {
 
     /// What the body has so far, if there is one.
     pub fn text(&self) -> Option<&[u8]>
-        ensures text { text_seen result ≡ self.now }
+        ensures text { text_view result ≡ self.now }
         ensures short { IfSome result (λ body. length body.now ≤ BODY) }
     {
         if self.is_open {

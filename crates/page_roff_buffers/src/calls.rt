@@ -3,7 +3,7 @@
 ghost use Rattle.std.specs.Prelude.{◌≡◌, ℕ, true, ◌≤◌, ◌+◌, [], ◌∷◌, ◌++◌, length, nat_le, IfOk};
 ghost use Rattle.std.specs.Vec.{vec_len, vec_capacity};
 ghost use Rattle.page_core_limits.specs.declared.TheConstants.{BODY, LINE};
-ghost use Rattle.page_roff_forms.specs.Arguments.{argument_seen, argument_value, arguments, unpaired};
+ghost use Rattle.page_roff_forms.specs.Arguments.{argument_view, argument_value, arguments, unpaired};
 ghost use Rattle.page_roff_definitions.specs.Arguments.{closing_notes, closings_notes};
 ghost use Rattle.page_roff_buffers.specs.Buffers.{no_call, Packs};
 ghost use Rattle.page_roff_buffers.specs.Calls.{packed};
@@ -34,7 +34,7 @@ fn append_unpaired(text: &mut Vec<u8>, quoted: &[u8])
 fn append_argument(text: &mut Vec<u8>, argument: Argument<&[u8]>)
     requires { vec_len text.old + length argument.text.now + 1 ≤ vec_capacity text.old }
     ensures items { text.new.items ≡ text.old.items
-        ++ (argument_value (argument_seen argument.entry) ++ (10 ∷ [])) }
+        ++ (argument_value (argument_view argument.entry) ++ (10 ∷ [])) }
     ensures capacity { vec_capacity text.old ≤ vec_capacity text.new }
 {
     if argument.is_quoted() && memchr(b'"', argument.text).is_some() {
@@ -57,7 +57,7 @@ pub struct Packing {
 // Whether an argument too is known not to lack its last quote.
 fn are_closed(is_closed: bool, argument: &Argument<&[u8]>) -> bool
     ensures before { result ≡ true → is_closed ≡ true }
-    ensures none { result ≡ true → (line : ℕ) → closing_notes line (argument_seen argument.now) ≡ [] }
+    ensures none { result ≡ true → (line : ℕ) → closing_notes line (argument_view argument.now) ≡ [] }
 {
     match argument.quoting {
         Quoting::Bare | Quoting::Closed => is_closed,

@@ -4,8 +4,8 @@ ghost use Rattle.std.specs.Prelude.{◌≡◌, false, ◌-◌, ◌≤◌, ◌^�
 ghost use Rattle.std.specs.Str.{bytes_eq};
 ghost use Rattle.page_roff_conditions.specs.Answers as asked;
 ghost use Rattle.page_roff_conditions.specs.Answers.{Gives};
-ghost use Rattle.page_roff_heads.specs.Conditions.{condition_seen, test_seen, FitsTest};
-ghost use Rattle.page_roff_heads.specs.Texts.{placed_seen, FitsPlaced};
+ghost use Rattle.page_roff_heads.specs.Conditions.{condition_view, test_view, FitsTest};
+ghost use Rattle.page_roff_heads.specs.Texts.{placed_view, FitsPlaced};
 ghost use Rattle.page_roff_values.specs.Views.{surroundings_of};
 ghost use Rattle.page_roff_values.specs.Latches.{Goes};
 ghost use Rattle.page_roff_values.specs.Values.{nothing};
@@ -58,11 +58,11 @@ fn is_positive<O: NoteOut>(
     line: &mut Expansion,
     out: &mut O,
 ) -> bool
-    requires fits { FitsPlaced (placed_seen text.now) }
+    requires fits { FitsPlaced (placed_view text.now) }
     requires going { line.old.ended ≡ false }
     ensures { Gives O.left out.old out.new result line.new
         (asked.test_answer (surroundings_of env.now) place is_turned
-        (Test.Expression (placed_seen text.now)) line.old) }
+        (Test.Expression (placed_view text.now)) line.old) }
 {
     if expand_text(text.text, text.column.saturating_sub(1), env, line, out) {
         return false;
@@ -88,12 +88,12 @@ fn are_equal<O: NoteOut>(
     line: &mut Expansion,
     out: &mut O,
 ) -> bool
-    requires first { FitsPlaced (placed_seen first.now) }
-    requires second { FitsPlaced (placed_seen second.now) }
+    requires first { FitsPlaced (placed_view first.now) }
+    requires second { FitsPlaced (placed_view second.now) }
     requires going { line.old.ended ≡ false }
     ensures { Gives O.left out.old out.new result line.new
         (asked.test_answer (surroundings_of env.now) place is_turned
-        (Test.Texts (placed_seen first.now) (placed_seen second.now)) line.old) }
+        (Test.Texts (placed_view first.now) (placed_view second.now)) line.old) }
 {
     if expand_text(first.text, first.column.saturating_sub(1), env, line, out) {
         return false;
@@ -119,9 +119,9 @@ pub fn holds<O: NoteOut>(
     expansion: &mut Expansion,
     out: &mut O,
 ) -> bool
-    requires { FitsTest (test_seen condition.now.test) }
+    requires { FitsTest (test_view condition.now.test) }
     ensures { Gives O.left out.old out.new result expansion.new
-        (asked.condition_answer (surroundings_of env.now) line (condition_seen condition.now)) }
+        (asked.condition_answer (surroundings_of env.now) line (condition_view condition.now)) }
 {
     expansion.begin(line);
     let is_turned = condition.is_turned;

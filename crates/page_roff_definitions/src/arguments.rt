@@ -3,7 +3,7 @@
 ghost use Rattle.std.specs.Prelude.{◌≡◌, ◌≤◌, ◌+◌, length};
 ghost use Rattle.std.specs.List.{prefix_len};
 ghost use Rattle.page_core_base.specs.Latches.{Came};
-ghost use Rattle.page_roff_forms.specs.Arguments.{argument_seen, arguments, is_blank};
+ghost use Rattle.page_roff_forms.specs.Arguments.{argument_view, arguments, is_blank};
 ghost use Rattle.page_roff_definitions.specs.Arguments as ends;
 ghost use Rattle.page_roff_definitions.specs.Arguments.{closing_notes, closings_notes, end_of, after_blanks, without_quote, value_after};
 
@@ -14,7 +14,7 @@ use page_roff_forms::{Argument, Arguments, Quoting};
 
 // Reports an argument without its closing quote, at its opening one.
 fn report_closing<O: NoteOut>(out: &mut O, line: u32, argument: Argument<&[u8]>)
-    ensures { Came O.left out.old (closing_notes line (argument_seen argument.entry)) out.new }
+    ensures { Came O.left out.old (closing_notes line (argument_view argument.entry)) out.new }
 {
     let place = Place {
         line,
@@ -81,7 +81,7 @@ fn without_quote(text: &[u8]) -> &[u8]
 /// column.
 pub(crate) fn value_after<'a>(rest: &'a [u8], column: u32, name: Argument<&[u8]>) -> &'a [u8]
     requires { length name.text.now ≤ LINE }
-    ensures { result.now ≡ value_after column rest.now (argument_seen name.entry) }
+    ensures { result.now ≡ value_after column rest.now (argument_view name.entry) }
 {
     let before = name.column.saturating_sub(column) as usize;
     let end = before + name.text.len() + closing_len(name.quoting);

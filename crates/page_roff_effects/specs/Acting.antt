@@ -7,8 +7,8 @@ use Rattle.page_core_base.specs.LinesTaken.{Line}
 use Rattle.page_core_base.specs.declared.lines_taken.Form.{Form}
 use Rattle.page_core_base.specs.declared.lines_taken.Form.TheVariants.{Text, Blank}
 use Rattle.page_core_base.specs.declared.page_settings.Output.{Output}
-use Rattle.page_roff_blocks.specs.declared.atoms.Atom.TheVariants.{Leaf}
-use Rattle.page_roff_blocks.specs.Atoms.{atoms}
+use Rattle.page_roff_blocks.specs.declared.line_parts.LinePart.TheVariants.{Leaf}
+use Rattle.page_roff_blocks.specs.LineParts.{line_parts}
 use Rattle.page_roff_forms.specs.LineForms.{has_word}
 use Rattle.page_core_base.specs.Latches.{Came}
 use Rattle.page_roff_values.specs.Values.{Spot, Laid, expanded}
@@ -155,11 +155,11 @@ pub record Takes (old : Acting) (o : Outcome) (result : ProductKind) (new : Acti
 -- a raw line whose name is left to the set of macros, and which is one part then, where it has a name
 abbrev pub IsPassed : List ℕ → Option (List ℕ) → Definitions → Type 0
 IsPassed raw None d = Unit {0}
-IsPassed raw (Some name) d = (command_of name d ≡ Pass) × (atoms raw ≡ Leaf raw ∷ [])
+IsPassed raw (Some name) d = (command_of name d ≡ Pass) × (line_parts raw ≡ Leaf raw ∷ [])
 
 -- a raw line that is one part was taken without a message, whether one more macro may run or not; or nothing was done
 pub record IsTaken (old : Acting) (raw : List ℕ) (outcome : Bool → Outcome) (new : Acting) : Type 0 where
-  pub leaf : atoms raw ≡ Leaf raw ∷ []
+  pub leaf : line_parts raw ≡ Leaf raw ∷ []
   pub setting : new.setting ≡ old.setting
   pub memory : new.memory ≡ old.memory
   pub given : (may_call : Bool) → outcome may_call ≡ record { notes = []; product = line_product new.line; memory = old.memory }
@@ -180,8 +180,8 @@ pub record IsNew (output : Output) (a : Acting) : Type 0 where
 
 -- ---- of the program, with what its texts hold
 
-abbrev pub control_seen : ControlLine → leaves.ControlLine
-control_seen line =
+abbrev pub control_view : ControlLine → leaves.ControlLine
+control_view line =
     record { name = line.name.now; column = line.column; name_end = line.name_end; text = line.text.now }
 
 -- the form of a line of plain text

@@ -1,9 +1,9 @@
 //! What the parts of a source do, with what is remembered from part to part (roff(7), "LANGUAGE SYNTAX").
 
 ghost use Rattle.std.specs.Prelude.{◌≡◌, ◌≤◌, [], ◌∷◌, false, length, IfOk, None, Some};
-ghost use Rattle.page_core_base.specs.LinesTaken.{line_seen};
+ghost use Rattle.page_core_base.specs.LinesTaken.{line_view};
 ghost use Rattle.page_core_limits.specs.declared.TheConstants.{ARGS, LINE};
-ghost use Rattle.page_roff_heads.specs.Conditions.{condition_seen, test_seen, FitsTest};
+ghost use Rattle.page_roff_heads.specs.Conditions.{condition_view, test_view, FitsTest};
 ghost use Rattle.page_roff_values.specs.Arguments.{arguments_in};
 ghost use Rattle.page_roff_values.specs.Views.{surroundings_of};
 ghost use Rattle.page_roff_values.specs.Values as laying;
@@ -172,7 +172,7 @@ impl Actions {
     ///
     /// [`LINE`]: page_core_limits::LINE
     pub fn line(&self) -> Taken<'_>
-        ensures line { line_seen result ≡ self.now.line }
+        ensures line { line_view result ≡ self.now.line }
         ensures short { length result.text.now ≤ LINE }
     {
         self.line.taken()
@@ -249,9 +249,9 @@ impl Actions {
     /// Whether a condition holds.
     #[tactic(auto, unfolding(crate::specs::Effects::answer_of))]
     pub fn test<O: NoteOut>(&mut self, condition: &Condition<&[u8]>, out: &mut O) -> bool
-        requires { FitsTest (test_seen condition.now.test) }
+        requires { FitsTest (test_view condition.now.test) }
         ensures { Tests O.left self.old out.old
-            (answer_of (measured self.old.setting) (condition_seen condition.now) self.old.memory) result self.new out.new }
+            (answer_of (measured self.old.setting) (condition_view condition.now) self.old.memory) result self.new out.new }
     {
         let env = Environment {
             copy: false,

@@ -2,11 +2,11 @@
 
 ghost use Rattle.std.specs.Prelude.{◌≡◌, ◌≤◌, [], ◌∷◌, true, length};
 ghost use Rattle.page_core_limits.specs.declared.TheConstants.{LINE};
-ghost use Rattle.page_roff_blocks.specs.declared.atoms.Atom.TheVariants.{Leaf};
-ghost use Rattle.page_roff_blocks.specs.Atoms.{atoms};
+ghost use Rattle.page_roff_blocks.specs.declared.line_parts.LinePart.TheVariants.{Leaf};
+ghost use Rattle.page_roff_blocks.specs.LineParts.{line_parts};
 ghost use Rattle.page_roff_forms.specs.LineForms.{form_of, name_of};
 ghost use Rattle.page_roff_effects.specs.declared.commands.Command.TheVariants as commands;
-ghost use Rattle.page_roff_effects.specs.Acting.{control_seen, measured, IsPassed, TakesIf};
+ghost use Rattle.page_roff_effects.specs.Acting.{control_view, measured, IsPassed, TakesIf};
 ghost use Rattle.page_roff_effects.specs.Commands.{command_of};
 ghost use Rattle.page_roff_effects.specs.Leaves.{control_outcome, leaf_outcome, text_outcome};
 
@@ -68,9 +68,9 @@ impl Actions {
         requires raw { length raw.now ≤ LINE }
         requires text { length line.text.now ≤ LINE }
         requires passed { command_of line.name.now self.old.memory.definitions ≡ commands.Pass }
-        requires leaf { atoms raw.now ≡ Leaf raw.now ∷ [] }
+        requires leaf { line_parts raw.now ≡ Leaf raw.now ∷ [] }
         ensures { TakesIf result self.old raw.now
-            (λ may_call. control_outcome (measured self.old.setting) may_call (control_seen line.entry) self.old.memory) self.new }
+            (λ may_call. control_outcome (measured self.old.setting) may_call (control_view line.entry) self.old.memory) self.new }
     {
         if line.name.is_empty() || !gives_itself(line.text) {
             return false;

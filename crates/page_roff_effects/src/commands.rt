@@ -2,7 +2,7 @@
 
 ghost use Rattle.std.specs.Prelude.{◌≡◌, ◌≤◌, [], length, IfSome, is_some, unwrap_or};
 ghost use Rattle.page_core_limits.specs.declared.TheConstants.{BODY};
-ghost use Rattle.page_roff_regions.specs.Regions.{text_seen};
+ghost use Rattle.page_roff_regions.specs.Regions.{text_view};
 ghost use Rattle.page_roff_effects.specs.Commands as named;
 
 use page_core_limits::BODY;
@@ -40,7 +40,7 @@ pub enum ProductKind {
 
 // The body of a macro of the page.
 fn called_body<'a>(name: &[u8], names: &'a Names) -> Option<&'a [u8]>
-    ensures value { text_seen result ≡ named.called_body name.now names.now }
+    ensures value { text_view result ≡ named.called_body name.now names.now }
     ensures short { IfSome result (λ body. length body.now ≤ BODY) }
 {
     match names.body(name) {

@@ -5,7 +5,7 @@ ghost use Rattle.page_core_limits.specs.declared.TheConstants.{LINE};
 ghost use Rattle.page_roff_forms.specs.LineForms.{form_of};
 ghost use Rattle.page_roff_forms.specs.declared.line_forms.LineForm.TheVariants.{Control};
 ghost use Rattle.page_core_base.specs.Latches.{Came};
-ghost use Rattle.page_roff_effects.specs.Acting.{control_seen, measured, plain_form, text_given, Does, Gives, Takes, IfCalled, IsCallable};
+ghost use Rattle.page_roff_effects.specs.Acting.{control_view, measured, plain_form, text_given, Does, Gives, Takes, IfCalled, IsCallable};
 ghost use Rattle.page_core_base.specs.declared.lines_taken.Form.TheVariants as forms;
 ghost use Rattle.page_roff_effects.specs.Leaves as leaves;
 ghost use Rattle.page_roff_effects.specs.Leaves.{leaf_outcome};
@@ -41,7 +41,7 @@ pub(crate) fn control_line<'a>(
 ) -> ControlLine<'a>
     requires form { form_of text.now ≡ Control name.now column rest.now rest_column }
     requires short { length text.now ≤ LINE }
-    ensures value { control_seen result ≡ leaves.control_line text.now name.now column rest_column }
+    ensures value { control_view result ≡ leaves.control_line text.now name.now column rest_column }
     ensures fits { result.name_end ≤ LINE }
     ensures short { length result.text.now ≤ LINE }
 {
@@ -153,7 +153,7 @@ impl Actions {
         requires name { line.name_end ≤ LINE }
         requires short { length line.text.now ≤ LINE }
         ensures { Gives O.left self.old out.old
-            (leaves.does may_call Command.Call (control_seen line.entry) (text_given is_plain line.entry.text.now self.old) self.old.memory)
+            (leaves.does may_call Command.Call (control_view line.entry) (text_given is_plain line.entry.text.now self.old) self.old.memory)
             result self.new out.new }
     {
         let finished = finished_text(is_plain, line.text, &self.expansion);
@@ -189,7 +189,7 @@ impl Actions {
         requires name { line.name_end ≤ LINE }
         requires short { length line.text.now ≤ LINE }
         ensures { Does O.left self.old out.old
-            (leaves.does true (Command.Define request) (control_seen line.entry) (text_given is_plain line.entry.text.now self.old) self.old.memory)
+            (leaves.does true (Command.Define request) (control_view line.entry) (text_given is_plain line.entry.text.now self.old) self.old.memory)
             self.new out.new }
     {
         let finished = finished_text(is_plain, line.text, &self.expansion);
@@ -216,7 +216,7 @@ impl Actions {
         requires name { line.name_end ≤ LINE }
         requires short { length line.text.now ≤ LINE }
         ensures { Gives O.left self.old out.old
-            (leaves.does may_call command (control_seen line.entry) (text_given is_plain line.entry.text.now self.old) self.old.memory)
+            (leaves.does may_call command (control_view line.entry) (text_given is_plain line.entry.text.now self.old) self.old.memory)
             result self.new out.new }
     {
         match command {
@@ -251,7 +251,7 @@ impl Actions {
         requires name { line.name_end ≤ LINE }
         requires short { length line.text.now ≤ LINE }
         ensures { Gives O.left self.old out.old
-            (leaves.control_outcome (measured self.old.setting) may_call (control_seen line.entry) self.old.memory)
+            (leaves.control_outcome (measured self.old.setting) may_call (control_view line.entry) self.old.memory)
             result self.new out.new }
     {
         if line.name.is_empty() {

@@ -1,7 +1,7 @@
 //! Heads and lines of loops (roff(7), "while").
 
 ghost use Rattle.std.specs.Prelude.{◌≡◌, length, Some};
-ghost use Rattle.page_roff_blocks.specs.Atoms.{loop_head_seen};
+ghost use Rattle.page_roff_blocks.specs.LineParts.{loop_head_view};
 ghost use Rattle.page_roff_effects.specs.Acting.{Does, Gives, IfRepeated, IsRepeatable};
 ghost use Rattle.page_roff_effects.specs.LoopLines as loops;
 ghost use Rattle.page_roff_effects.specs.RegionLines as regions;
@@ -29,7 +29,7 @@ impl Actions {
     #[tactic(auto, unfolding(crate::specs::LoopLines::loop_outcome))]
     pub fn open_loop<O: NoteOut>(&mut self, head: &LoopHead<&[u8]>, out: &mut O)
         ensures { Does O.left self.old out.old
-            (loops.loop_outcome (loop_head_seen head.now) self.old.memory) self.new out.new }
+            (loops.loop_outcome (loop_head_view head.now) self.old.memory) self.new out.new }
     {
         self.body.begin(b"");
         self.keep_line(head.condition, out);

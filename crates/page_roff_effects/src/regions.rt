@@ -6,8 +6,8 @@ ghost use Rattle.page_core_base.specs.declared.note_kinds.NoteKind.TheVariants a
 ghost use Rattle.page_core_limits.specs.Limits.{name_of};
 ghost use Rattle.page_core_limits.specs.declared.Limit.TheVariants as limits;
 ghost use Rattle.page_core_limits.specs.declared.TheConstants.{BODY, LINE};
-ghost use Rattle.page_roff_regions.specs.OpenRegions.{within_limit, opened_seen};
-ghost use Rattle.page_roff_regions.specs.Regions.{macro_name, region_seen, text_seen};
+ghost use Rattle.page_roff_regions.specs.OpenRegions.{within_limit, opened_view};
+ghost use Rattle.page_roff_regions.specs.Regions.{macro_name, region_view, text_view};
 ghost use Rattle.page_roff_definitions.specs.Definitions as defining;
 ghost use Rattle.page_core_base.specs.Latches.{Came};
 ghost use Rattle.page_roff_effects.specs.Acting.{measured, Does, Gives};
@@ -25,7 +25,7 @@ use page_roff_requests::RegionKind;
 
 // Reports a name or an end name that is longer than names may be.
 fn report_name<O: NoteOut>(head: &RegionHead<&[u8]>, line: u32, out: &mut O)
-    ensures { Came O.left out.old (regions.name_notes (region_seen head.now) line) out.new }
+    ensures { Came O.left out.old (regions.name_notes (region_view head.now) line) out.new }
 {
     if head.has_long_name() {
         report_at(
@@ -79,7 +79,7 @@ fn begin_within(kind: RegionKind, name: &[u8], names: &Names, body: &mut BodyBuf
 #[tactic(auto, unfolding(page_roff_regions::specs::OpenRegions::within_limit))]
 fn begin_body(head: &RegionHead<&[u8]>, names: &Names, body: &mut BodyBuffer)
     ensures { body.new
-        ≡ regions.body_begun head.now.kind (within_limit (macro_name (region_seen head.now))) names.now }
+        ≡ regions.body_begun head.now.kind (within_limit (macro_name (region_view head.now))) names.now }
 {
     match &head.name {
         Some(argument) => begin_within(head.kind, argument.name().as_slice(), names, body),
@@ -106,7 +106,7 @@ fn define_body<O: NoteOut>(
     out: &mut O,
 )
     ensures { defining.Does O.left out.old out.new names.new
-        (regions.macro_definition (text_seen name.entry) (text_seen body.entry) place names.old) }
+        (regions.macro_definition (text_view name.entry) (text_view body.entry) place names.old) }
 {
     if let Some(name) = name {
         if let Some(body) = body {
@@ -136,7 +136,7 @@ impl Actions {
     #[tactic(auto, unfolding(crate::specs::RegionLines::head_outcome))]
     pub fn open_region<O: NoteOut>(&mut self, head: &RegionHead<&[u8]>, is_run: bool, out: &mut O)
         ensures { Does O.left self.old out.old
-            (regions.head_outcome (region_seen head.now) is_run self.old.memory) self.new out.new }
+            (regions.head_outcome (region_view head.now) is_run self.old.memory) self.new out.new }
     {
         if is_run {
             report_name(head, self.number, out);
@@ -248,7 +248,7 @@ impl Actions {
         out: &mut O,
     )
         ensures { Does O.left self.old out.old
-            (regions.finish_outcome (opened_seen region.entry) in_loop gave_up self.old.memory) self.new out.new }
+            (regions.finish_outcome (opened_view region.entry) in_loop gave_up self.old.memory) self.new out.new }
     {
         if in_loop {
             self.finish_loop(gave_up, out);

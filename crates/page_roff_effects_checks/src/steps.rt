@@ -1,7 +1,7 @@
 //! What is done over the parts of a source.
 
 use page_core_base::NoteOut;
-use page_roff_blocks::{Atom, LinePlace, Opening};
+use page_roff_blocks::{LinePart, LinePlace, Opening};
 use page_roff_effects::{Actions, ProductKind};
 use page_roff_regions::OpenRegion;
 use std::process::Abort;
@@ -67,8 +67,8 @@ fn open<O: NoteOut>(
     out: &mut O,
 ) -> Option<OpenRegion> {
     assert!(rt; line.len() <= 65_000);
-    match LinePlace::start(line.as_bytes()).next_atom(line.as_bytes()) {
-        Some(Atom::Region(head)) => {
+    match LinePlace::start(line.as_bytes()).next_line_part(line.as_bytes()) {
+        Some(LinePart::Region(head)) => {
             actions.open_region(&head, is_run, out);
             Some(OpenRegion::new(&head, is_run))
         }
@@ -104,8 +104,8 @@ fn close<O: NoteOut>(
 
 fn open_loop<O: NoteOut>(rt: &impl Abort, actions: &mut Actions, line: &str, out: &mut O) {
     assert!(rt; line.len() <= 65_000);
-    match LinePlace::start(line.as_bytes()).next_atom(line.as_bytes()) {
-        Some(Atom::Loop(head) | Atom::Block(Opening::Loop(head))) => actions.open_loop(&head, out),
+    match LinePlace::start(line.as_bytes()).next_line_part(line.as_bytes()) {
+        Some(LinePart::Loop(head) | LinePart::Block(Opening::Loop(head))) => actions.open_loop(&head, out),
         _ => panic!(rt; "{line}"),
     }
 }

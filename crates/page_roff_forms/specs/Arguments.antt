@@ -94,17 +94,17 @@ abbrev pub has_arguments : List ℕ → Bool
 has_arguments rest = nat_lt (prefix_len is_blank rest) (length rest)
 
 -- an argument of the program, with what its text holds
-abbrev pub argument_seen : Argument (Bor (List ℕ)) → Argument (List ℕ)
-argument_seen argument =
+abbrev pub argument_view : Argument (Bor (List ℕ)) → Argument (List ℕ)
+argument_view argument =
     record { text = argument.text.now; column = argument.column; quoting = argument.quoting }
 
 -- the first of a text's arguments, if there is one, and the bytes after which the others begin
 abbrev pub ReadsFirst : ℕ → List ℕ → Option (Argument (Bor (List ℕ)) × ℕ) → Type 0
 ReadsFirst column text result =
     MatchOption result (arguments column text ≡ [])
-    (λ read. (read.1 ≤ length text) × (arguments column text ≡ argument_seen read.0 ∷ arguments (column + read.1) (drop read.1 text)))
+    (λ read. (read.1 ≤ length text) × (arguments column text ≡ argument_view read.0 ∷ arguments (column + read.1) (drop read.1 text)))
 
 -- the first of the arguments that are still to be read, if there is one, and then the others
 abbrev pub ReadsNext : List (Argument (List ℕ)) → Option (Argument (Bor (List ℕ))) → List (Argument (List ℕ)) → Type 0
 ReadsNext old result new =
-    MatchOption result ((old ≡ []) × (new ≡ [])) (λ argument. old ≡ argument_seen argument ∷ new)
+    MatchOption result ((old ≡ []) × (new ≡ [])) (λ argument. old ≡ argument_view argument ∷ new)

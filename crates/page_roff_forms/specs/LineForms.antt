@@ -69,15 +69,15 @@ name_of (Text text) = None
 name_of (Control name column rest rest_column) = Some name
 
 -- a name of the program, with what its text holds
-abbrev pub name_seen : Option (Bor (List ℕ)) → Option (List ℕ)
-name_seen name = option_map (λ text. text.now) name
+abbrev pub name_view : Option (Bor (List ℕ)) → Option (List ℕ)
+name_view name = option_map (λ text. text.now) name
 
 -- a form of the program, with what its texts hold
-abbrev pub form_seen : LineForm (Bor (List ℕ)) → LineForm (List ℕ)
-form_seen Comment = Comment
-form_seen BlankLine = BlankLine
-form_seen (Text text) = Text text.now
-form_seen (Control name column rest rest_column) = Control name.now column rest.now rest_column
+abbrev pub form_view : LineForm (Bor (List ℕ)) → LineForm (List ℕ)
+form_view Comment = Comment
+form_view BlankLine = BlankLine
+form_view (Text text) = Text text.now
+form_view (Control name column rest rest_column) = Control name.now column rest.now rest_column
 
 -- texts and columns lie within a line
 abbrev pub FitsLine : LineForm (List ℕ) → Type 0

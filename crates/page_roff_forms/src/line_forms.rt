@@ -3,7 +3,7 @@
 ghost use Rattle.std.specs.Prelude.{◌≡◌, ◌≤◌, ◌<◌, false, length};
 ghost use Rattle.std.specs.List.{prefix_len};
 ghost use Rattle.page_roff_forms.specs.LineForms.{is_white, is_name, has_word, begins_control, without_comment, control_line, form_of, FitsLine};
-ghost use Rattle.page_roff_forms.specs.LineForms.{form_seen, name_of, name_seen};
+ghost use Rattle.page_roff_forms.specs.LineForms.{form_view, name_of, name_view};
 
 use crate::comments::uncommented_len;
 use page_core_limits::LINE;
@@ -96,8 +96,8 @@ fn without_comment(line: &[u8]) -> &[u8]
 // A control line, of which the bytes after the control character are given with their comment.
 fn control_line(bytes: &[u8]) -> LineForm<&[u8]>
     requires { length bytes.now < LINE }
-    ensures value { form_seen result ≡ control_line (without_comment bytes.now) }
-    ensures fits { FitsLine (form_seen result) }
+    ensures value { form_view result ≡ control_line (without_comment bytes.now) }
+    ensures fits { FitsLine (form_view result) }
 {
     let white = white_len(bytes);
     let named = &bytes[white..];
@@ -114,8 +114,8 @@ fn control_line(bytes: &[u8]) -> LineForm<&[u8]>
 fn text_form(line: &[u8]) -> LineForm<&[u8]>
     requires short { length line.now ≤ LINE }
     requires text { begins_control line.now ≡ false }
-    ensures value { form_seen result ≡ form_of line.now }
-    ensures fits { FitsLine (form_seen result) }
+    ensures value { form_view result ≡ form_of line.now }
+    ensures fits { FitsLine (form_view result) }
 {
     if !has_word(line) {
         return LineForm::BlankLine;
@@ -131,8 +131,8 @@ fn text_form(line: &[u8]) -> LineForm<&[u8]>
 /// The form of a raw line of at most [`LINE`] bytes.
 pub fn form_of(line: &[u8]) -> LineForm<&[u8]>
     requires { length line.now ≤ LINE }
-    ensures value { form_seen result ≡ form_of line.now }
-    ensures fits { FitsLine (form_seen result) }
+    ensures value { form_view result ≡ form_of line.now }
+    ensures fits { FitsLine (form_view result) }
 {
     if begins_control(line) {
         return control_line(&line[1..]);
@@ -142,7 +142,7 @@ pub fn form_of(line: &[u8]) -> LineForm<&[u8]>
 
 /// The name of a control line; none of another line. No comment is looked for.
 pub fn control_name(line: &[u8]) -> Option<&[u8]>
-    ensures { name_seen result ≡ name_of (form_of line.now) }
+    ensures { name_view result ≡ name_of (form_of line.now) }
 {
     if !begins_control(line) {
         return None;

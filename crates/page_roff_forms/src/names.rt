@@ -1,7 +1,7 @@
 //! The name that an argument is (roff(7), "Macro syntax", "ds", "nr", "de").
 
 ghost use Rattle.std.specs.Prelude.{◌≡◌, ◌≤◌, ◌∷◌, length, take};
-ghost use Rattle.page_roff_forms.specs.Arguments.{argument_seen, unpaired, argument_name};
+ghost use Rattle.page_roff_forms.specs.Arguments.{argument_view, unpaired, argument_name};
 
 use crate::quotes::Argument;
 use arrayvec::ArrayVec;
@@ -62,7 +62,7 @@ fn written_name(text: &[u8]) -> Name
 impl<'a> Argument<&'a [u8]> {
     /// The name that it is.
     pub fn name(&self) -> Name
-        ensures { result.items ≡ argument_name (argument_seen self.now) }
+        ensures { result.items ≡ argument_name (argument_view self.now) }
     {
         if self.is_quoted() {
             unpaired_name(self.text)

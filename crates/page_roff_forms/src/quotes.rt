@@ -1,7 +1,7 @@
 //! The first argument of a text (roff(7), "Macro syntax").
 
 ghost use Rattle.std.specs.Prelude.{◌≡◌, ◌≢◌, ◌≤◌, ◌<◌, ◌+◌, ◌^◌, length, min, drop, get_or};
-ghost use Rattle.page_roff_forms.specs.Arguments.{argument_seen, is_quoted, bare_len, quoted_len, quoted_argument, begins_quoted, first_argument, argument_len};
+ghost use Rattle.page_roff_forms.specs.Arguments.{argument_view, is_quoted, bare_len, quoted_len, quoted_argument, begins_quoted, first_argument, argument_len};
 
 use memchr::memchr2;
 use std::alloc::AllocError;
@@ -117,7 +117,7 @@ fn begins_quoted(text: &[u8]) -> bool
 // with its quotes.
 fn quoted_argument(inner: &[u8], column: u32) -> (Argument<&[u8]>, usize)
     requires { column + 1 + length inner.now < 2 ^ 32 }
-    ensures value { argument_seen result.0 ≡ quoted_argument column inner.now }
+    ensures value { argument_view result.0 ≡ quoted_argument column inner.now }
     ensures len { result.1 ≡ min (length inner.now + 1) (quoted_len inner.now + 2) }
     ensures within { result.0.column + length result.0.text.now ≤ column + 1 + length inner.now }
 {
@@ -138,7 +138,7 @@ fn quoted_argument(inner: &[u8], column: u32) -> (Argument<&[u8]>, usize)
 /// with its quotes.
 pub(crate) fn first_argument(text: &[u8], column: u32) -> (Argument<&[u8]>, usize)
     requires { column + length text.now < 2 ^ 32 }
-    ensures value { argument_seen result.0 ≡ first_argument column text.now }
+    ensures value { argument_view result.0 ≡ first_argument column text.now }
     ensures len { result.1 ≡ argument_len text.now }
     ensures size { result.1 ≤ length text.now }
     ensures within { result.0.column + length result.0.text.now ≤ column + length text.now }

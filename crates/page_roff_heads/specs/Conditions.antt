@@ -11,7 +11,7 @@ use Rattle.page_roff_heads.specs.declared.conditions.Test.{Test}
 use Rattle.page_roff_heads.specs.declared.conditions.Test.TheVariants as tests
 use Rattle.page_roff_heads.specs.declared.conditions.TestRead.{TestRead}
 use Rattle.page_roff_heads.specs.Delimiters.{delimiter_len, delimiter_of, place_of, expression_len}
-use Rattle.page_roff_heads.specs.Texts.{placed, placed_seen, FitsPlaced, blank_len, after_blanks}
+use Rattle.page_roff_heads.specs.Texts.{placed, placed_view, FitsPlaced, blank_len, after_blanks}
 
 abbrev pub is_among : List ℕ → ℕ → Bool
 is_among bytes byte = list_any (λ one. byte == one) bytes
@@ -138,21 +138,21 @@ starts_with_letter (byte ∷ bytes) = is_always (kind_of byte)
 
 -- ---- of the program, with what its texts hold
 
-abbrev pub test_seen : Test (Bor (List ℕ)) → Test (List ℕ)
-test_seen (tests.Always holds) = tests.Always holds
-test_seen (tests.Unknown letter) = tests.Unknown letter.now
-test_seen (tests.IsDefined name) = tests.IsDefined name.now
-test_seen (tests.IsRegister name) = tests.IsRegister name.now
-test_seen (tests.Expression text) = tests.Expression (placed_seen text)
-test_seen (tests.Texts first second) = tests.Texts (placed_seen first) (placed_seen second)
-test_seen tests.Missing = tests.Missing
+abbrev pub test_view : Test (Bor (List ℕ)) → Test (List ℕ)
+test_view (tests.Always holds) = tests.Always holds
+test_view (tests.Unknown letter) = tests.Unknown letter.now
+test_view (tests.IsDefined name) = tests.IsDefined name.now
+test_view (tests.IsRegister name) = tests.IsRegister name.now
+test_view (tests.Expression text) = tests.Expression (placed_view text)
+test_view (tests.Texts first second) = tests.Texts (placed_view first) (placed_view second)
+test_view tests.Missing = tests.Missing
 
-abbrev pub read_seen : TestRead (Bor (List ℕ)) → TestRead (List ℕ)
-read_seen read = reads (test_seen read.test) read.len
+abbrev pub read_view : TestRead (Bor (List ℕ)) → TestRead (List ℕ)
+read_view read = reads (test_view read.test) read.len
 
-abbrev pub condition_seen : Condition (Bor (List ℕ)) → Condition (List ℕ)
-condition_seen condition =
-    record { column = condition.column; is_turned = condition.is_turned; test = test_seen condition.test }
+abbrev pub condition_view : Condition (Bor (List ℕ)) → Condition (List ℕ)
+condition_view condition =
+    record { column = condition.column; is_turned = condition.is_turned; test = test_view condition.test }
 
 -- its texts lie within a line
 abbrev pub FitsTest : Test (List ℕ) → Type 0

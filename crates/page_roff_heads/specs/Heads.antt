@@ -7,8 +7,8 @@ use Rattle.page_roff_heads.specs.declared.heads.BlockEnd.{BlockEnd}
 use Rattle.page_roff_heads.specs.declared.heads.Conditional.{Conditional}
 use Rattle.page_roff_heads.specs.declared.heads.Guarded.{Guarded}
 use Rattle.page_roff_heads.specs.declared.texts.Placed.{Placed}
-use Rattle.page_roff_heads.specs.Conditions.{condition_of, condition_len, condition_seen, FitsTest}
-use Rattle.page_roff_heads.specs.Texts.{blank_len, after_blanks, begins_pair, remainder_of, remainder_seen, FitsPlaced}
+use Rattle.page_roff_heads.specs.Conditions.{condition_of, condition_len, condition_view, FitsTest}
+use Rattle.page_roff_heads.specs.Texts.{blank_len, after_blanks, begins_pair, remainder_of, remainder_view, FitsPlaced}
 
 abbrev pub guards : Bool → Option (Placed (List ℕ)) → Guarded (List ℕ)
 guards opens remainder = record { opens_block = opens; remainder = remainder }
@@ -54,17 +54,17 @@ block_end_of line =
 
 -- ---- of the program, with what its texts hold
 
-abbrev pub guarded_seen : Guarded (Bor (List ℕ)) → Guarded (List ℕ)
-guarded_seen guarded = record { opens_block = guarded.opens_block; remainder = remainder_seen guarded.remainder }
+abbrev pub guarded_view : Guarded (Bor (List ℕ)) → Guarded (List ℕ)
+guarded_view guarded = record { opens_block = guarded.opens_block; remainder = remainder_view guarded.remainder }
 
-abbrev pub conditional_seen : Conditional (Bor (List ℕ)) → Conditional (List ℕ)
-conditional_seen head = record { condition = condition_seen head.condition; guarded = guarded_seen head.guarded }
+abbrev pub conditional_view : Conditional (Bor (List ℕ)) → Conditional (List ℕ)
+conditional_view head = record { condition = condition_view head.condition; guarded = guarded_view head.guarded }
 
-abbrev pub one_end_seen : BlockEnd (Bor (List ℕ)) → BlockEnd (List ℕ)
-one_end_seen end = record { before = end.before.now; remainder = remainder_seen end.remainder }
+abbrev pub one_end_view : BlockEnd (Bor (List ℕ)) → BlockEnd (List ℕ)
+one_end_view end = record { before = end.before.now; remainder = remainder_view end.remainder }
 
-abbrev pub block_end_seen : Option (BlockEnd (Bor (List ℕ))) → Option (BlockEnd (List ℕ))
-block_end_seen end = option_map one_end_seen end
+abbrev pub block_end_view : Option (BlockEnd (Bor (List ℕ))) → Option (BlockEnd (List ℕ))
+block_end_view end = option_map one_end_view end
 
 -- texts and columns lie within a line
 abbrev pub FitsGuarded : Guarded (List ℕ) → Type 0

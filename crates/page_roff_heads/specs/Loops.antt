@@ -5,7 +5,7 @@ use Rattle.page_core_limits.specs.declared.TheConstants.{LINE}
 use Rattle.page_roff_forms.specs.LineForms.{without_comment}
 use Rattle.page_roff_heads.specs.declared.loops.LoopRead.{LoopRead}
 use Rattle.page_roff_heads.specs.Conditions.{condition_len}
-use Rattle.page_roff_heads.specs.Heads.{guarded_of, guarded_seen, FitsGuarded}
+use Rattle.page_roff_heads.specs.Heads.{guarded_of, guarded_view, FitsGuarded}
 use Rattle.page_roff_heads.specs.Texts.{blank_len, after_blanks, begins_pair}
 
 -- What follows the \{ (123) that opens a block, without the blanks before it. Its comment is kept. Nothing where
@@ -29,8 +29,8 @@ loop_of column rest = loop_at (column + blank_len rest) (after_blanks rest)
 
 -- ---- of the program, with what its texts hold
 
-abbrev pub loop_seen : LoopRead (Bor (List ℕ)) → LoopRead (List ℕ)
-loop_seen read = record { condition = read.condition.now; guarded = guarded_seen read.guarded; first = read.first.now }
+abbrev pub loop_view : LoopRead (Bor (List ℕ)) → LoopRead (List ℕ)
+loop_view read = record { condition = read.condition.now; guarded = guarded_view read.guarded; first = read.first.now }
 
 -- texts lie within a line
 pub record FitsLoop (read : LoopRead (List ℕ)) : Type 0 where

@@ -11,8 +11,8 @@ abbrev pub placed : ℕ → List ℕ → Placed (List ℕ)
 placed column text = record { text = text; column = column }
 
 -- a text of the program, with what it holds
-abbrev pub placed_seen : Placed (Bor (List ℕ)) → Placed (List ℕ)
-placed_seen text = placed text.column text.text.now
+abbrev pub placed_view : Placed (Bor (List ℕ)) → Placed (List ℕ)
+placed_view text = placed text.column text.text.now
 
 -- it lies within a line
 abbrev pub FitsPlaced : Placed (List ℕ) → Type 0
@@ -44,5 +44,5 @@ remainder_at column text = if is_some_line text then Some (placed column text) e
 unfoldable pub remainder_of : ℕ → List ℕ → Option (Placed (List ℕ))
 remainder_of column text = remainder_at (column + blank_len text) (after_blanks text)
 
-abbrev pub remainder_seen : Option (Placed (Bor (List ℕ))) → Option (Placed (List ℕ))
-remainder_seen remainder = option_map placed_seen remainder
+abbrev pub remainder_view : Option (Placed (Bor (List ℕ))) → Option (Placed (List ℕ))
+remainder_view remainder = option_map placed_view remainder

@@ -4,7 +4,7 @@ ghost use Rattle.std.specs.Prelude.{◌≡◌, ◌≤◌, ◌<◌, ◌+◌, ◌^
 ghost use Rattle.std.specs.List.{prefix_len};
 ghost use Rattle.page_roff_forms.specs.LineForms.{is_name, without_comment};
 ghost use Rattle.page_roff_heads.specs.Conditions as written;
-ghost use Rattle.page_roff_heads.specs.Conditions.{read_seen, test_seen, condition_seen, FitsTest};
+ghost use Rattle.page_roff_heads.specs.Conditions.{read_view, test_view, condition_view, FitsTest};
 ghost use Rattle.page_roff_heads.specs.declared.conditions.Kind.TheVariants as kinds;
 ghost use Rattle.page_roff_heads.specs.declared.conditions.Test.TheVariants as tests;
 ghost use Rattle.page_roff_heads.specs.Texts.{blank_len};
@@ -137,7 +137,7 @@ fn name_len(text: &[u8]) -> usize
 
 // A test of one letter.
 fn letter(test: Test<&[u8]>) -> TestRead<&[u8]>
-    ensures { read_seen result ≡ written.reads (test_seen test.entry) 1 }
+    ensures { read_view result ≡ written.reads (test_view test.entry) 1 }
 {
     TestRead { test, len: 1 }
 }
@@ -145,7 +145,7 @@ fn letter(test: Test<&[u8]>) -> TestRead<&[u8]>
 // A test of a letter and a name after it.
 fn named(test: Test<&[u8]>, len: usize) -> TestRead<&[u8]>
     requires { len < 2 ^ 63 }
-    ensures { read_seen result ≡ written.reads (test_seen test.entry) (1 + len) }
+    ensures { read_view result ≡ written.reads (test_view test.entry) (1 + len) }
 {
     TestRead { test, len: 1 + len }
 }
@@ -160,7 +160,7 @@ fn turn_len(text: &[u8]) -> usize
 
 // No condition: it takes the whole rest of a line.
 fn missing(text: &[u8]) -> TestRead<&[u8]>
-    ensures { read_seen result ≡ written.reads tests.Missing (length text.now) }
+    ensures { read_view result ≡ written.reads tests.Missing (length text.now) }
 {
     TestRead {
         test: Test::Missing,
@@ -172,9 +172,9 @@ fn missing(text: &[u8]) -> TestRead<&[u8]>
 fn texts_after<'a>(delimiter: &[u8], text: &'a [u8], column: u32) -> TestRead<&'a [u8]>
     requires short { length text.now ≤ LINE }
     requires room { column + length text.now ≤ LINE + 1 }
-    ensures value { read_seen result ≡ written.texts_after delimiter.now column text.now }
+    ensures value { read_view result ≡ written.texts_after delimiter.now column text.now }
     ensures within { result.len ≤ length text.now }
-    ensures fits { FitsTest (test_seen result.test) }
+    ensures fits { FitsTest (test_view result.test) }
 {
     let end = place_of(delimiter, text);
     if end == text.len() {
@@ -205,9 +205,9 @@ fn texts_after<'a>(delimiter: &[u8], text: &'a [u8], column: u32) -> TestRead<&'
 fn read_texts(text: &[u8], column: u32) -> TestRead<&[u8]>
     requires short { length text.now ≤ LINE }
     requires room { column + length text.now ≤ LINE + 1 }
-    ensures value { read_seen result ≡ written.texts_at column text.now }
+    ensures value { read_view result ≡ written.texts_at column text.now }
     ensures within { result.len ≤ length text.now }
-    ensures fits { FitsTest (test_seen result.test) }
+    ensures fits { FitsTest (test_view result.test) }
 {
     let len = delimiter_len(text);
     let (delimiter, rest) = text.split_at(len);
@@ -222,9 +222,9 @@ fn read_texts(text: &[u8], column: u32) -> TestRead<&[u8]>
 fn read_expression(text: &[u8], column: u32) -> TestRead<&[u8]>
     requires short { length text.now ≤ LINE }
     requires room { column + length text.now ≤ LINE + 1 }
-    ensures value { read_seen result ≡ written.read_kind kinds.Expression column text.now }
+    ensures value { read_view result ≡ written.read_kind kinds.Expression column text.now }
     ensures within { result.len ≤ length text.now }
-    ensures fits { FitsTest (test_seen result.test) }
+    ensures fits { FitsTest (test_view result.test) }
 {
     let len = expression_len(text);
     TestRead {
@@ -241,9 +241,9 @@ fn read_kind(kind: Kind, text: &[u8], column: u32) -> TestRead<&[u8]>
     requires some { 0 < length text.now }
     requires short { length text.now ≤ LINE }
     requires room { column + length text.now ≤ LINE + 1 }
-    ensures value { read_seen result ≡ written.read_kind kind column text.now }
+    ensures value { read_view result ≡ written.read_kind kind column text.now }
     ensures within { result.len ≤ length text.now }
-    ensures fits { FitsTest (test_seen result.test) }
+    ensures fits { FitsTest (test_view result.test) }
 {
     let (name, len) = name_after(&text[1..]);
     match kind {
@@ -262,9 +262,9 @@ fn read_kind(kind: Kind, text: &[u8], column: u32) -> TestRead<&[u8]>
 fn read_test(text: &[u8], column: u32) -> TestRead<&[u8]>
     requires short { length text.now ≤ LINE }
     requires room { column + length text.now ≤ LINE + 1 }
-    ensures value { read_seen result ≡ written.read_test column text.now }
+    ensures value { read_view result ≡ written.read_test column text.now }
     ensures within { result.len ≤ length text.now }
-    ensures fits { FitsTest (test_seen result.test) }
+    ensures fits { FitsTest (test_view result.test) }
 {
     match text {
         [] => missing(text),
@@ -287,10 +287,10 @@ fn starts_with_letter(text: &[u8]) -> bool
 pub fn read_condition(text: &[u8], column: u32) -> (Condition<&[u8]>, usize)
     requires short { length text.now ≤ LINE }
     requires room { column + length text.now ≤ LINE + 1 }
-    ensures value { condition_seen result.0 ≡ written.condition_of column text.now }
+    ensures value { condition_view result.0 ≡ written.condition_of column text.now }
     ensures len { result.1 ≡ written.condition_len column text.now }
     ensures within { result.1 ≤ length text.now }
-    ensures fits { FitsTest (test_seen result.0.test) }
+    ensures fits { FitsTest (test_view result.0.test) }
 {
     let turns = turn_len(text);
     let read = read_test(&text[turns..], column + turns as u32);
@@ -308,10 +308,10 @@ pub fn read_condition(text: &[u8], column: u32) -> (Condition<&[u8]>, usize)
 pub(crate) fn read_before_comment(text: &[u8], column: u32) -> (Condition<&[u8]>, usize)
     requires short { length text.now ≤ LINE }
     requires room { column + length text.now ≤ LINE + 1 }
-    ensures value { condition_seen result.0 ≡ written.condition_of column (without_comment text.now) }
+    ensures value { condition_view result.0 ≡ written.condition_of column (without_comment text.now) }
     ensures len { result.1 ≡ written.condition_len column (without_comment text.now) }
     ensures within { result.1 ≤ length text.now }
-    ensures fits { FitsTest (test_seen result.0.test) }
+    ensures fits { FitsTest (test_view result.0.test) }
 {
     if starts_with_letter(text) {
         return read_condition(&text[..1], column);

@@ -1,7 +1,7 @@
 //! The heads of conditionals, and the ends of their blocks (roff(7), `if`, `ie`, `el` and `\}`).
 
 ghost use Rattle.std.specs.Prelude.{◌≡◌, ◌≤◌, ◌<◌, ◌+◌, length, IfSome};
-ghost use Rattle.page_roff_heads.specs.Heads.{guarded_of, guarded_seen, conditional_at, conditional_of, conditional_seen, end_place, block_end_of, block_end_seen, FitsGuarded, FitsConditional, FitsBlockEnd};
+ghost use Rattle.page_roff_heads.specs.Heads.{guarded_of, guarded_view, conditional_at, conditional_of, conditional_view, end_place, block_end_of, block_end_view, FitsGuarded, FitsConditional, FitsBlockEnd};
 
 use crate::conditions::{Condition, read_before_comment};
 use crate::texts::{Placed, begins_pair, blank_len, remainder};
@@ -73,8 +73,8 @@ impl<W: Copy> Clone for BlockEnd<W> {
 pub fn read_guarded(text: &[u8], column: u32) -> Guarded<&[u8]>
     requires short { length text.now ≤ LINE }
     requires room { column + length text.now ≤ LINE + 1 }
-    ensures value { guarded_seen result ≡ guarded_of column text.now }
-    ensures fits { FitsGuarded (guarded_seen result) }
+    ensures value { guarded_view result ≡ guarded_of column text.now }
+    ensures fits { FitsGuarded (guarded_view result) }
 {
     let blanks = blank_len(text);
     let body = &text[blanks..];
@@ -94,8 +94,8 @@ pub fn read_guarded(text: &[u8], column: u32) -> Guarded<&[u8]>
 fn conditional_at(text: &[u8], column: u32) -> Conditional<&[u8]>
     requires short { length text.now ≤ LINE }
     requires room { column + length text.now ≤ LINE + 1 }
-    ensures value { conditional_seen result ≡ conditional_at column text.now }
-    ensures fits { FitsConditional (conditional_seen result) }
+    ensures value { conditional_view result ≡ conditional_at column text.now }
+    ensures fits { FitsConditional (conditional_view result) }
 {
     let (condition, len) = read_before_comment(text, column);
     Conditional {
@@ -110,8 +110,8 @@ fn conditional_at(text: &[u8], column: u32) -> Conditional<&[u8]>
 pub fn read_conditional(rest: &[u8], column: u32) -> Conditional<&[u8]>
     requires short { length rest.now ≤ LINE }
     requires room { column + length rest.now ≤ LINE + 1 }
-    ensures value { conditional_seen result ≡ conditional_of column rest.now }
-    ensures fits { FitsConditional (conditional_seen result) }
+    ensures value { conditional_view result ≡ conditional_of column rest.now }
+    ensures fits { FitsConditional (conditional_view result) }
 {
     let blanks = blank_len(rest);
     conditional_at(&rest[blanks..], column + blanks as u32)
@@ -144,8 +144,8 @@ fn end_place(line: &[u8]) -> usize
 #[tactic(auto, unfolding(crate::specs::Heads::block_end_of))]
 pub fn block_end(line: &[u8]) -> Option<BlockEnd<&[u8]>>
     requires { length line.now ≤ LINE }
-    ensures value { block_end_seen result ≡ block_end_of line.now }
-    ensures fits { IfSome (block_end_seen result) FitsBlockEnd }
+    ensures value { block_end_view result ≡ block_end_of line.now }
+    ensures fits { IfSome (block_end_view result) FitsBlockEnd }
 {
     let place = end_place(line);
     if place == line.len() {

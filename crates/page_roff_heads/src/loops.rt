@@ -1,7 +1,7 @@
 //! The heads of loops (roff(7), `while`).
 
 ghost use Rattle.std.specs.Prelude.{◌≡◌, ◌≤◌, ◌+◌, length};
-ghost use Rattle.page_roff_heads.specs.Loops.{first_of, loop_at, loop_of, loop_seen, FitsLoop};
+ghost use Rattle.page_roff_heads.specs.Loops.{first_of, loop_at, loop_of, loop_view, FitsLoop};
 
 use crate::conditions::read_before_comment;
 use crate::heads::{Guarded, read_guarded};
@@ -69,8 +69,8 @@ fn first_of(text: &[u8]) -> &[u8]
 fn loop_at(text: &[u8], column: u32) -> LoopRead<&[u8]>
     requires short { length text.now ≤ LINE }
     requires room { column + length text.now ≤ LINE + 1 }
-    ensures value { loop_seen result ≡ loop_at column text.now }
-    ensures fits { FitsLoop (loop_seen result) }
+    ensures value { loop_view result ≡ loop_at column text.now }
+    ensures fits { FitsLoop (loop_view result) }
 {
     let (_, len) = read_before_comment(text, column);
     let guarded = &text[len..];
@@ -86,8 +86,8 @@ fn loop_at(text: &[u8], column: u32) -> LoopRead<&[u8]>
 pub fn read_loop(rest: &[u8], column: u32) -> LoopRead<&[u8]>
     requires short { length rest.now ≤ LINE }
     requires room { column + length rest.now ≤ LINE + 1 }
-    ensures value { loop_seen result ≡ loop_of column rest.now }
-    ensures fits { FitsLoop (loop_seen result) }
+    ensures value { loop_view result ≡ loop_of column rest.now }
+    ensures fits { FitsLoop (loop_view result) }
 {
     let blanks = blank_len(rest);
     loop_at(&rest[blanks..], column + blanks as u32)

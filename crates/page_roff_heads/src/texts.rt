@@ -1,7 +1,7 @@
 //! Texts at their places in a line.
 
 ghost use Rattle.std.specs.Prelude.{◌≡◌, ◌≤◌, ◌+◌, length, drop, IfSome};
-ghost use Rattle.page_roff_heads.specs.Texts.{placed_seen, FitsPlaced, blank_len, begins_pair, is_some_line, remainder_at, remainder_of, remainder_seen};
+ghost use Rattle.page_roff_heads.specs.Texts.{placed_view, FitsPlaced, blank_len, begins_pair, is_some_line, remainder_at, remainder_of, remainder_view};
 
 use page_core_limits::LINE;
 use std::alloc::AllocError;
@@ -56,7 +56,7 @@ fn is_some_line(text: &[u8]) -> bool
 
 // The remainder that begins at a column, if it is a line.
 fn remainder_at(text: &[u8], column: u32) -> Option<Placed<&[u8]>>
-    ensures { remainder_seen result ≡ remainder_at column text.now }
+    ensures { remainder_view result ≡ remainder_at column text.now }
 {
     if is_some_line(text) {
         Some(Placed { text, column })
@@ -71,8 +71,8 @@ fn remainder_at(text: &[u8], column: u32) -> Option<Placed<&[u8]>>
 pub fn remainder(text: &[u8], column: u32) -> Option<Placed<&[u8]>>
     requires short { length text.now ≤ LINE }
     requires room { column + length text.now ≤ LINE + 1 }
-    ensures value { remainder_seen result ≡ remainder_of column text.now }
-    ensures fits { IfSome result (λ line. FitsPlaced (placed_seen line)) }
+    ensures value { remainder_view result ≡ remainder_of column text.now }
+    ensures fits { IfSome result (λ line. FitsPlaced (placed_view line)) }
 {
     let blanks = blank_len(text);
     remainder_at(&text[blanks..], column + blanks as u32)

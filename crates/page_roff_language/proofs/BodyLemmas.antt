@@ -1,6 +1,6 @@
 -- What a re-read line and all effects of parts keep, the bodies that run keep: helpers of proofs.
 use Rattle.std.proofs.Common.{ℕ, zero, suc, Bool, true, false, not, ◌&&◌, List, Option, Some, None}
-use Rattle.page_roff_blocks.specs.Atoms.{atoms}
+use Rattle.page_roff_blocks.specs.LineParts.{line_parts}
 use Rattle.page_roff_blocks.specs.Levels.{first_place}
 use Rattle.page_roff_blocks.specs.Loops.{loop_text}
 use Rattle.page_roff_blocks.specs.Run.{run_lines}
@@ -82,7 +82,7 @@ module _ {R : Type 0} (e : Effects R) (P : Budgeted R → Type 0) (charge_keeps 
       let m = meaning_at (language e) d (body args) in
       let a = run_lines m (λ t. t) lines (record { place = first_place; state = s }) in
       rest_keeps a.state (e.finish a.place.region a.place.levels.in_loop a.state.gave_up a.state.rest)
-      (run_keeps IsAny m P (parts_with d (body args) done_keeps) (λ line t. any_leaves (atoms line)) (lines_keep d args) lines
+      (run_keeps IsAny m P (parts_with d (body args) done_keeps) (λ line t. any_leaves (line_parts line)) (lines_keep d args) lines
       (record { place = first_place; state = s }) (any_lines lines) h)
 
   turns_with : (d : ℕ) (args : Option (List (List ℕ))) → DoneKeeps d → (condition : List ℕ) (lines : List (List ℕ)) (s : Budgeted R) → P s

@@ -1,6 +1,6 @@
 -- What a source line takes of its budget: helpers of proofs.
 use Rattle.std.proofs.Common.{ℕ, zero, suc, ◌+◌, ◌≤◌, Bool, true, false, List, [], ◌∷◌, Option, Some, None, sym, subst, arith}
-use Rattle.page_roff_blocks.specs.Atoms.{atoms}
+use Rattle.page_roff_blocks.specs.LineParts.{line_parts}
 use Rattle.page_roff_regions.specs.Regions.{is_ending}
 use Rattle.page_roff_blocks.specs.Levels.{Levels, at_line}
 use Rattle.page_roff_regions.specs.OpenRegions.{Opened}
@@ -92,8 +92,8 @@ module _ {R : Type 0} (e : Effects R) where
   line_within None line l s =
       let n = s.taken + 1 + REREAD in
       let m = meaning_at (language e) CALLS page in
-      keep.parts_keep IsAny m (Within n) (parts_keep e (Within n) (charge_within n) (rest_within n) CALLS page) (atoms line) (at_line l) (steps.begin_line m line l s)
-      (any_leaves (atoms line)) (collected_within n l.in_loop l.skipped line (m.begins line s) (begins_page line s))
+      keep.parts_keep IsAny m (Within n) (parts_keep e (Within n) (charge_within n) (rest_within n) CALLS page) (line_parts line) (at_line l) (steps.begin_line m line l s)
+      (any_leaves (line_parts line)) (collected_within n l.in_loop l.skipped line (m.begins line s) (begins_page line s))
   line_within (Some o) line l s = inside_within (is_ending o.ending line) o line l s
 
   taken_bound : (n : ℕ) (s : Budgeted R) → Within n s → s.taken ≤ n

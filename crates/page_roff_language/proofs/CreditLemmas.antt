@@ -1,16 +1,16 @@
 -- How many macros may still be called, and turns begun, after a step: helpers of proofs.
 use Rattle.std.proofs.Common.{◌≡◌, ℕ, zero, suc, ◌+◌, ◌≤◌, Bool, true, false, not, ◌&&◌, List, [], ◌∷◌, length, Option, Some, None, refl, ap, ◌∙◌, arith}
 use Rattle.page_roff_heads.specs.declared.loops.LoopHead.{LoopHead}
-use Rattle.page_roff_blocks.specs.declared.atoms.Atom.{Atom}
-use Rattle.page_roff_blocks.specs.declared.atoms.Branch.{Branch}
-use Rattle.page_roff_blocks.specs.declared.atoms.Branch.TheVariants.{If, IfElse, Else}
-use Rattle.page_roff_blocks.specs.declared.atoms.Head.{Head}
-use Rattle.page_roff_blocks.specs.declared.atoms.Opening.{Opening}
-use Rattle.page_roff_blocks.specs.declared.atoms.Opening.TheVariants as openings
+use Rattle.page_roff_blocks.specs.declared.line_parts.LinePart.{LinePart}
+use Rattle.page_roff_blocks.specs.declared.line_parts.Branch.{Branch}
+use Rattle.page_roff_blocks.specs.declared.line_parts.Branch.TheVariants.{If, IfElse, Else}
+use Rattle.page_roff_blocks.specs.declared.line_parts.Head.{Head}
+use Rattle.page_roff_blocks.specs.declared.line_parts.Opening.{Opening}
+use Rattle.page_roff_blocks.specs.declared.line_parts.Opening.TheVariants as openings
 use Rattle.page_roff_regions.specs.declared.regions.RegionHead.{RegionHead}
 use Rattle.page_roff_blocks.specs.declared.levels.Way.{Way}
 use Rattle.page_roff_blocks.specs.declared.levels.Way.TheVariants.{Runs, Skips, Exceeds}
-use Rattle.page_roff_blocks.specs.Levels.{Levels, way_of, Spot, after_part, guarded_by, reached, reached_in, reached_from, reached_if}
+use Rattle.page_roff_blocks.specs.Levels.{Levels, way_of, BlockCursor, after_part, guarded_by, reached, reached_in, reached_from, reached_if}
 use Rattle.page_roff_regions.specs.OpenRegions.{Opened}
 use Rattle.page_roff_blocks.specs.Loops.{loop_text}
 use Rattle.page_roff_blocks.specs.Run.{Meaning, At, meet_as, value, keep_if, refuse_if}
@@ -29,19 +29,19 @@ credit_more false left f g h = omega arith
 le_trans : {a b c : ℕ} → a ≤ b → b ≤ c → a ≤ c
 le_trans h k = omega arith
 
-pub fresh_one : (parts : List (Atom (List ℕ))) (spot : Spot) → fresh_at parts spot ≤ 1
+pub fresh_one : (parts : List (LinePart (List ℕ))) (cursor : BlockCursor) → fresh_at parts cursor ≤ 1
 unfolding fresh_at fresh_if
-fresh_one [] spot = omega arith
-fresh_one (part ∷ more) spot = by spot.begun
+fresh_one [] cursor = omega arith
+fresh_one (part ∷ more) cursor = by cursor.begun
   where
     by : (begun : Bool) → fresh_if begun ≤ 1
     by true = omega arith
     by false = omega arith
 
-pub fresh_past : (parts : List (Atom (List ℕ))) (spot : Spot) → spot.begun ≡ true → fresh_at parts spot ≡ 0
+pub fresh_past : (parts : List (LinePart (List ℕ))) (cursor : BlockCursor) → cursor.begun ≡ true → fresh_at parts cursor ≡ 0
 unfolding fresh_at fresh_if
-fresh_past [] spot e = refl
-fresh_past (part ∷ more) spot e = ap fresh_if e
+fresh_past [] cursor e = refl
+fresh_past (part ∷ more) cursor e = ap fresh_if e
 
 module _ {R : Type 0} (e : Effects R) where
   charge_credit_of : (left : ℕ) (gave_up : Bool) (taken : ℕ) (rest : R) (f g : ℕ) → g ≤ f + 2
@@ -151,13 +151,13 @@ module _ {R : Type 0} (e : Effects R) where
     met_paid false zero false true s f h =
         le_trans (charge_paid_of s.left s.gave_up s.taken s.rest f h) (credit_more s.gave_up s.left f (0 + f) (omega arith))
 
-    pub less_at : (spot : Spot) (s : Budgeted R) (f : ℕ) → credit (met how spot s).1 f ≤ credit s (fresh_if spot.begun + f)
+    pub less_at : (cursor : BlockCursor) (s : Budgeted R) (f : ℕ) → credit (met how cursor s).1 f ≤ credit s (fresh_if cursor.begun + f)
     unfolding met reached
-    less_at spot s f = met_less spot.levels.in_loop spot.levels.skipped spot.passing spot.begun s f
+    less_at cursor s f = met_less cursor.levels.in_loop cursor.levels.skipped cursor.passing cursor.begun s f
 
-    pub paid_at : (spot : Spot) (s : Budgeted R) (f : ℕ) → (met how spot s).0 ≡ true → suc (credit (met how spot s).1 f) ≤ credit s (fresh_if spot.begun + f)
+    pub paid_at : (cursor : BlockCursor) (s : Budgeted R) (f : ℕ) → (met how cursor s).0 ≡ true → suc (credit (met how cursor s).1 f) ≤ credit s (fresh_if cursor.begun + f)
     unfolding met reached
-    paid_at spot s f h = met_paid spot.levels.in_loop spot.levels.skipped spot.passing spot.begun s f h
+    paid_at cursor s f h = met_paid cursor.levels.in_loop cursor.levels.skipped cursor.passing cursor.begun s f h
 
     value_credit : (branch : Branch (List ℕ)) (bit : Bool) (s : Budgeted R) (f : ℕ) → credit (value how branch bit s).1 f ≡ credit s f
     unfolding how meaning_at meaning_by language meaning value test with_rest credit
@@ -165,15 +165,15 @@ module _ {R : Type 0} (e : Effects R) where
     value_credit (IfElse condition) bit s f = refl
     value_credit Else bit s f = refl
 
-    pub guard_credit : (is_met : Bool) (h : Head (List ℕ)) (spot : Spot) (s : Budgeted R) (f : ℕ) → credit (guard_met how is_met h spot s).1 f ≡ credit s f
+    pub guard_credit : (is_met : Bool) (h : Head (List ℕ)) (cursor : BlockCursor) (s : Budgeted R) (f : ℕ) → credit (guard_met how is_met h cursor s).1 f ≡ credit s f
     unfolding guard_met guard_with
-    guard_credit true h spot s f = value_credit h.branch spot.levels.bit s f
-    guard_credit false h spot s f = refl
+    guard_credit true h cursor s f = value_credit h.branch cursor.levels.bit s f
+    guard_credit false h cursor s f = refl
 
-    pub guard_begun : (is_met : Bool) (h : Head (List ℕ)) (spot : Spot) (s : Budgeted R) → (guard_met how is_met h spot s).0.begun ≡ true
+    pub guard_begun : (is_met : Bool) (h : Head (List ℕ)) (cursor : BlockCursor) (s : Budgeted R) → (guard_met how is_met h cursor s).0.begun ≡ true
     unfolding guard_met guard_with guarded_by
-    guard_begun true h spot s = refl
-    guard_begun false h spot s = refl
+    guard_begun true h cursor s = refl
+    guard_begun false h cursor s = refl
 
     refuse_credit : (way : Way) (h : Head (List ℕ)) (s : Budgeted R) (f : ℕ) → credit (refuse_if how way h s) f ≡ credit s f
     unfolding how meaning_at meaning_by language meaning refuse_if with_rest credit
@@ -185,27 +185,27 @@ module _ {R : Type 0} (e : Effects R) where
     unfolding how meaning_at meaning_by language meaning with_rest credit
     opens_loop_credit h s f = refl
 
-    opening_credit : (opening : Opening (List ℕ)) (spot : Spot) (s : Budgeted R) (f : ℕ) → credit (opening_met how opening spot s).1 f ≡ credit s f
+    opening_credit : (opening : Opening (List ℕ)) (cursor : BlockCursor) (s : Budgeted R) (f : ℕ) → credit (opening_met how opening cursor s).1 f ≡ credit s f
     unfolding opening_met block_with
-    opening_credit (openings.Conditional h) spot s f =
-        let v = value how h.branch spot.levels.bit s in
-        refuse_credit (way_of v.0 (length spot.levels.outer)) h v.1 f ∙ value_credit h.branch spot.levels.bit s f
-    opening_credit (openings.Loop h) spot s f = opens_loop_credit h s f
+    opening_credit (openings.Conditional h) cursor s f =
+        let v = value how h.branch cursor.levels.bit s in
+        refuse_credit (way_of v.0 (length cursor.levels.outer)) h v.1 f ∙ value_credit h.branch cursor.levels.bit s f
+    opening_credit (openings.Loop h) cursor s f = opens_loop_credit h s f
 
-    pub block_credit : (is_met : Bool) (opening : Opening (List ℕ)) (spot : Spot) (s : Budgeted R) (f : ℕ) → credit (block_met how is_met opening spot s).1 f ≡ credit s f
+    pub block_credit : (is_met : Bool) (opening : Opening (List ℕ)) (cursor : BlockCursor) (s : Budgeted R) (f : ℕ) → credit (block_met how is_met opening cursor s).1 f ≡ credit s f
     unfolding block_met
-    block_credit true opening spot s f = opening_credit opening spot s f
-    block_credit false opening spot s f = refl
+    block_credit true opening cursor s f = opening_credit opening cursor s f
+    block_credit false opening cursor s f = refl
 
-    opening_begun : (opening : Opening (List ℕ)) (spot : Spot) (s : Budgeted R) → (opening_met how opening spot s).0.begun ≡ true
+    opening_begun : (opening : Opening (List ℕ)) (cursor : BlockCursor) (s : Budgeted R) → (opening_met how opening cursor s).0.begun ≡ true
     unfolding opening_met block_with after_part
-    opening_begun (openings.Conditional h) spot s = refl
-    opening_begun (openings.Loop h) spot s = refl
+    opening_begun (openings.Conditional h) cursor s = refl
+    opening_begun (openings.Loop h) cursor s = refl
 
-    pub block_begun : (is_met : Bool) (opening : Opening (List ℕ)) (spot : Spot) (s : Budgeted R) → (block_met how is_met opening spot s).0.begun ≡ true
+    pub block_begun : (is_met : Bool) (opening : Opening (List ℕ)) (cursor : BlockCursor) (s : Budgeted R) → (block_met how is_met opening cursor s).0.begun ≡ true
     unfolding block_met after_part
-    block_begun true opening spot s = opening_begun opening spot s
-    block_begun false opening spot s = refl
+    block_begun true opening cursor s = opening_begun opening cursor s
+    block_begun false opening cursor s = refl
 
     unopened_credit : (kind : Kind) (gave_up : Bool) (s : Budgeted R) (f : ℕ) → credit (unopened_by e kind gave_up s) f ≡ credit s f
     unfolding unopened_by with_rest credit

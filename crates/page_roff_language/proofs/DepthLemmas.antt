@@ -1,7 +1,7 @@
 -- How many macros and loops run: helpers of proofs.
 use Rattle.std.proofs.Common.{◌≡◌, ℕ, zero, suc, ◌≤◌, Bool, true, false, List, [], ◌∷◌, length, Option, Some, None, refl, subst, arith}
-use Rattle.page_roff_blocks.specs.declared.atoms.Atom.{Atom}
-use Rattle.page_roff_blocks.specs.declared.atoms.Atom.TheVariants.{Leaf, Guard, Block, Loop, End, Region}
+use Rattle.page_roff_blocks.specs.declared.line_parts.LinePart.{LinePart}
+use Rattle.page_roff_blocks.specs.declared.line_parts.LinePart.TheVariants.{Leaf, Guard, Block, Loop, End, Region}
 use Rattle.page_roff_blocks.specs.declared.levels.Ended.{Ended}
 use Rattle.page_roff_blocks.specs.declared.levels.Ended.TheVariants as endings
 use Rattle.page_roff_heads.specs.declared.loops.LoopHead.{LoopHead}
@@ -56,15 +56,15 @@ module _ {S : Type 0} (l : Language S) where
   end_fits m endings.Loop f under s k = loop_fits f under s k
   end_fits m endings.Nothing f under s k = k
 
-  part_fits : (m : Meaning (List ℕ) S) (part : Atom (List ℕ)) (more : List (Atom (List ℕ))) (f : Frame) (under : List Frame) (s : S) → length under ≤ CALLS → Fits (part_next l m part more f under s)
+  part_fits : (m : Meaning (List ℕ) S) (part : LinePart (List ℕ)) (more : List (LinePart (List ℕ))) (f : Frame) (under : List Frame) (s : S) → length under ≤ CALLS → Fits (part_next l m part more f under s)
   unfolding part_next Fits
   part_fits m (Leaf text) more f under s k =
-      let q = met m f.spot s in leaf_fits q.0 text (at_part f more (after_part f.spot.levels)) under q.1 k
+      let q = met m f.cursor s in leaf_fits q.0 text (at_part f more (after_part f.cursor.levels)) under q.1 k
   part_fits m (Guard h) more f under s k = k
   part_fits m (Block h) more f under s k = k
   part_fits m (Loop h) more f under s k =
-      let q = met m f.spot s in loop_if_fits m q.0 h (at_part f more (after_part f.spot.levels)) under q.1 k
-  part_fits m End more f under s k = end_fits m (what_ends f.spot.levels) (at_part f more (after_part (leave f.spot.levels))) under s k
+      let q = met m f.cursor s in loop_if_fits m q.0 h (at_part f more (after_part f.cursor.levels)) under q.1 k
+  part_fits m End more f under s k = end_fits m (what_ends f.cursor.levels) (at_part f more (after_part (leave f.cursor.levels))) under s k
   part_fits m (Region head) more f under s k = k
 
   region_fits : (m : Meaning (List ℕ) S) (is_end : Bool) (o : Opened) (line : List ℕ) (more : List (List ℕ)) (f : Frame) (under : List Frame) (s : S) → length under ≤ CALLS
@@ -107,17 +107,17 @@ module _ {S : Type 0} (l : Language S) where
   source_fits turning kind [] a q k x = absurd (cc)
   source_fits turning kind (g ∷ gs) a q k x = same_fits (body_next l turning kind g gs a) q (body_fits turning kind g gs a k) x
 
-  step_fits : (m : Meaning (List ℕ) S) (region : Option Opened) (parts : List (Atom (List ℕ))) (lines : List (List ℕ)) (f : Frame) (under : List Frame) (s : S) (q : Running S)
+  step_fits : (m : Meaning (List ℕ) S) (region : Option Opened) (parts : List (LinePart (List ℕ))) (lines : List (List ℕ)) (f : Frame) (under : List Frame) (s : S) (q : Running S)
       → length under ≤ CALLS → next_in l m region parts lines f under s ≡ Some q → Fits q
   unfolding next_in
   step_fits m None (part ∷ more) lines f under s q k x = same_fits (part_next l m part more f under s) q (part_fits m part more f under s k) x
   step_fits m None [] (line ∷ more) f under s q k x = same_fits (line_next l m line more f under s) q (line_fits m line more f under s k) x
   step_fits m None [] [] f under s q k x =
-      source_fits f.turning f.kind under (record { place = record { region = None; levels = f.spot.levels }; state = s }) q k x
+      source_fits f.turning f.kind under (record { place = record { region = None; levels = f.cursor.levels }; state = s }) q k x
   step_fits m (Some o) parts (line ∷ more) f under s q k x =
       same_fits (region_next l m (is_ending o.ending line) o line more f under s) q (region_fits m (is_ending o.ending line) o line more f under s k) x
   step_fits m (Some o) parts [] f under s q k x =
-      source_fits f.turning f.kind under (record { place = record { region = Some o; levels = f.spot.levels }; state = s }) q k x
+      source_fits f.turning f.kind under (record { place = record { region = Some o; levels = f.cursor.levels }; state = s }) q k x
 
   pub next_fits : (r q : Running S) → length r.under ≤ CALLS → next l r ≡ Some q → length q.under ≤ CALLS
   unfolding next Fits

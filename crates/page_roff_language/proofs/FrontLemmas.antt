@@ -1,23 +1,23 @@
 -- What stands in front stays there: helpers of proofs.
 use Rattle.std.proofs.Common.{◌≡◌, ℕ, zero, suc, Bool, true, false, List, [], ◌∷◌, length, Option, Some, None, refl, sym, ap, ◌∙◌}
-use Rattle.page_roff_blocks.specs.declared.atoms.Atom.{Atom}
-use Rattle.page_roff_blocks.specs.declared.atoms.Atom.TheVariants.{Leaf, Guard, Block, Loop, End, Region}
-use Rattle.page_roff_blocks.specs.declared.atoms.Branch.{Branch}
-use Rattle.page_roff_blocks.specs.declared.atoms.Branch.TheVariants.{If, IfElse, Else}
-use Rattle.page_roff_blocks.specs.declared.atoms.Head.{Head}
-use Rattle.page_roff_blocks.specs.declared.atoms.Opening.{Opening}
-use Rattle.page_roff_blocks.specs.declared.atoms.Opening.TheVariants as openings
+use Rattle.page_roff_blocks.specs.declared.line_parts.LinePart.{LinePart}
+use Rattle.page_roff_blocks.specs.declared.line_parts.LinePart.TheVariants.{Leaf, Guard, Block, Loop, End, Region}
+use Rattle.page_roff_blocks.specs.declared.line_parts.Branch.{Branch}
+use Rattle.page_roff_blocks.specs.declared.line_parts.Branch.TheVariants.{If, IfElse, Else}
+use Rattle.page_roff_blocks.specs.declared.line_parts.Head.{Head}
+use Rattle.page_roff_blocks.specs.declared.line_parts.Opening.{Opening}
+use Rattle.page_roff_blocks.specs.declared.line_parts.Opening.TheVariants as openings
 use Rattle.page_roff_heads.specs.declared.loops.LoopHead.{LoopHead}
 use Rattle.page_roff_blocks.specs.declared.levels.Ended.{Ended}
 use Rattle.page_roff_blocks.specs.declared.levels.Ended.TheVariants as endings
 use Rattle.page_roff_blocks.specs.declared.levels.Way.{Way}
 use Rattle.page_roff_blocks.specs.declared.levels.Way.TheVariants.{Runs, Skips, Exceeds}
 use Rattle.page_roff_regions.specs.declared.regions.RegionHead.{RegionHead}
-use Rattle.page_roff_blocks.specs.declared.spots.Reached.{Reached}
-use Rattle.page_roff_blocks.specs.declared.spots.Reached.TheVariants.{PassedOver, First, Remainder}
-use Rattle.page_roff_blocks.specs.Atoms.{atoms}
+use Rattle.page_roff_blocks.specs.declared.block_cursors.Reached.{Reached}
+use Rattle.page_roff_blocks.specs.declared.block_cursors.Reached.TheVariants.{PassedOver, First, Remainder}
+use Rattle.page_roff_blocks.specs.LineParts.{line_parts}
 use Rattle.page_roff_regions.specs.Regions.{is_ending}
-use Rattle.page_roff_blocks.specs.Levels.{Levels, bit_after, way_of, enter, open_loop, what_ends, Spot, at_line, after_part, reached, first_place}
+use Rattle.page_roff_blocks.specs.Levels.{Levels, bit_after, way_of, enter, open_loop, what_ends, BlockCursor, at_line, after_part, reached, first_place}
 use Rattle.page_roff_regions.specs.OpenRegions.{Opened, opened}
 use Rattle.page_roff_blocks.specs.Run.{Meaning, At, meet_as, value, keep_if, leaf_if, loop_if, refuse_if, end_by, run_lines}
 use Rattle.page_roff_blocks.specs.Steps.{met, step_leaf, guard_with, guard_met, step_guard, block_with, opening_met, block_met, step_block, step_loop, step_end, step_region, step_parts, step_inside, collect_if, begin_line, step_from, step, step_lines}
@@ -33,9 +33,9 @@ module _ {S : Type 0} (front : S → S) (m : Meaning (List ℕ) S) (k : IsFrontO
   meet_front First s = k.meets false s
   meet_front Remainder s = k.meets true s
 
-  met_front : (spot : Spot) (s : S) → met m spot (front s) ≡ over_pair front (met m spot s)
+  met_front : (cursor : BlockCursor) (s : S) → met m cursor (front s) ≡ over_pair front (met m cursor s)
   unfolding met
-  met_front spot s = meet_front (reached spot) s
+  met_front cursor s = meet_front (reached cursor) s
 
   value_front : (branch : Branch (List ℕ)) (bit : Bool) (s : S) → value m branch bit (front s) ≡ over_pair front (value m branch bit s)
   unfolding value
@@ -48,25 +48,25 @@ module _ {S : Type 0} (front : S → S) (m : Meaning (List ℕ) S) (k : IsFrontO
   leaf_front true text s = gives_front text s
   leaf_front false text s = refl
 
-  step_leaf_front : (text : List ℕ) (spot : Spot) (s : S) → step_leaf m text spot (front s) ≡ over_pair front (step_leaf m text spot s)
+  step_leaf_front : (text : List ℕ) (cursor : BlockCursor) (s : S) → step_leaf m text cursor (front s) ≡ over_pair front (step_leaf m text cursor s)
   unfolding step_leaf
-  step_leaf_front text spot s =
-      let q = met m spot s in
-      let then : Bool × S → Spot × S = λ q. (after_part spot.levels, leaf_if m q.0 text q.1) in
-      let pair : S → Spot × S = λ s. (after_part spot.levels, s) in
-      ap then (met_front spot s) ∙ ap pair (leaf_front q.0 text q.1)
+  step_leaf_front text cursor s =
+      let q = met m cursor s in
+      let then : Bool × S → BlockCursor × S = λ q. (after_part cursor.levels, leaf_if m q.0 text q.1) in
+      let pair : S → BlockCursor × S = λ s. (after_part cursor.levels, s) in
+      ap then (met_front cursor s) ∙ ap pair (leaf_front q.0 text q.1)
 
-  guard_front : (is_met : Bool) (h : Head (List ℕ)) (spot : Spot) (s : S) → guard_met m is_met h spot (front s) ≡ over_pair front (guard_met m is_met h spot s)
+  guard_front : (is_met : Bool) (h : Head (List ℕ)) (cursor : BlockCursor) (s : S) → guard_met m is_met h cursor (front s) ≡ over_pair front (guard_met m is_met h cursor s)
   unfolding guard_met guard_with
-  guard_front true h spot s = ap (guard_with m h spot) (value_front h.branch spot.levels.bit s)
-  guard_front false h spot s = refl
+  guard_front true h cursor s = ap (guard_with m h cursor) (value_front h.branch cursor.levels.bit s)
+  guard_front false h cursor s = refl
 
-  step_guard_front : (h : Head (List ℕ)) (spot : Spot) (s : S) → step_guard m h spot (front s) ≡ over_pair front (step_guard m h spot s)
+  step_guard_front : (h : Head (List ℕ)) (cursor : BlockCursor) (s : S) → step_guard m h cursor (front s) ≡ over_pair front (step_guard m h cursor s)
   unfolding step_guard
-  step_guard_front h spot s =
-      let q = met m spot s in
-      let then : Bool × S → Spot × S = λ q. guard_met m q.0 h spot q.1 in
-      ap then (met_front spot s) ∙ guard_front q.0 h spot q.1
+  step_guard_front h cursor s =
+      let q = met m cursor s in
+      let then : Bool × S → BlockCursor × S = λ q. guard_met m q.0 h cursor q.1 in
+      ap then (met_front cursor s) ∙ guard_front q.0 h cursor q.1
 
   refuse_front : (way : Way) (h : Head (List ℕ)) (s : S) → refuse_if m way h (front s) ≡ front (refuse_if m way h s)
   unfolding refuse_if
@@ -74,44 +74,44 @@ module _ {S : Type 0} (front : S → S) (m : Meaning (List ℕ) S) (k : IsFrontO
   refuse_front Skips h s = refl
   refuse_front Exceeds h s = k.refuses h s
 
-  block_with_front : (h : Head (List ℕ)) (spot : Spot) (v : Bool × S) → block_with m h spot (over_pair front v) ≡ over_pair front (block_with m h spot v)
+  block_with_front : (h : Head (List ℕ)) (cursor : BlockCursor) (v : Bool × S) → block_with m h cursor (over_pair front v) ≡ over_pair front (block_with m h cursor v)
   unfolding block_with
-  block_with_front h spot v =
-      let way = way_of v.0 (length spot.levels.outer) in
-      let pair : S → Spot × S = λ s. (after_part (enter way (bit_after h.branch v.0 spot.levels.bit) spot.levels), s) in
+  block_with_front h cursor v =
+      let way = way_of v.0 (length cursor.levels.outer) in
+      let pair : S → BlockCursor × S = λ s. (after_part (enter way (bit_after h.branch v.0 cursor.levels.bit) cursor.levels), s) in
       ap pair (refuse_front way h v.1)
 
-  opening_front : (opening : Opening (List ℕ)) (spot : Spot) (s : S) → opening_met m opening spot (front s) ≡ over_pair front (opening_met m opening spot s)
+  opening_front : (opening : Opening (List ℕ)) (cursor : BlockCursor) (s : S) → opening_met m opening cursor (front s) ≡ over_pair front (opening_met m opening cursor s)
   unfolding opening_met
-  opening_front (openings.Conditional h) spot s =
-      ap (block_with m h spot) (value_front h.branch spot.levels.bit s) ∙ block_with_front h spot (value m h.branch spot.levels.bit s)
-  opening_front (openings.Loop h) spot s =
-      let pair : S → Spot × S = λ s. (after_part (open_loop spot.levels), s) in ap pair (k.opens_loop h s)
+  opening_front (openings.Conditional h) cursor s =
+      ap (block_with m h cursor) (value_front h.branch cursor.levels.bit s) ∙ block_with_front h cursor (value m h.branch cursor.levels.bit s)
+  opening_front (openings.Loop h) cursor s =
+      let pair : S → BlockCursor × S = λ s. (after_part (open_loop cursor.levels), s) in ap pair (k.opens_loop h s)
 
-  block_front : (is_met : Bool) (opening : Opening (List ℕ)) (spot : Spot) (s : S) → block_met m is_met opening spot (front s) ≡ over_pair front (block_met m is_met opening spot s)
+  block_front : (is_met : Bool) (opening : Opening (List ℕ)) (cursor : BlockCursor) (s : S) → block_met m is_met opening cursor (front s) ≡ over_pair front (block_met m is_met opening cursor s)
   unfolding block_met
-  block_front true opening spot s = opening_front opening spot s
-  block_front false opening spot s = refl
+  block_front true opening cursor s = opening_front opening cursor s
+  block_front false opening cursor s = refl
 
-  step_block_front : (opening : Opening (List ℕ)) (spot : Spot) (s : S) → step_block m opening spot (front s) ≡ over_pair front (step_block m opening spot s)
+  step_block_front : (opening : Opening (List ℕ)) (cursor : BlockCursor) (s : S) → step_block m opening cursor (front s) ≡ over_pair front (step_block m opening cursor s)
   unfolding step_block
-  step_block_front opening spot s =
-      let q = met m spot s in
-      let then : Bool × S → Spot × S = λ q. block_met m q.0 opening spot q.1 in
-      ap then (met_front spot s) ∙ block_front q.0 opening spot q.1
+  step_block_front opening cursor s =
+      let q = met m cursor s in
+      let then : Bool × S → BlockCursor × S = λ q. block_met m q.0 opening cursor q.1 in
+      ap then (met_front cursor s) ∙ block_front q.0 opening cursor q.1
 
   loop_front : (is_met : Bool) (h : LoopHead (List ℕ)) (s : S) → loop_if m is_met h (front s) ≡ front (loop_if m is_met h s)
   unfolding loop_if
   loop_front true h s = ap m.closes_loop (k.opens_loop h s) ∙ closes_front (m.opens_loop h s)
   loop_front false h s = refl
 
-  step_loop_front : (h : LoopHead (List ℕ)) (spot : Spot) (s : S) → step_loop m h spot (front s) ≡ over_pair front (step_loop m h spot s)
+  step_loop_front : (h : LoopHead (List ℕ)) (cursor : BlockCursor) (s : S) → step_loop m h cursor (front s) ≡ over_pair front (step_loop m h cursor s)
   unfolding step_loop
-  step_loop_front h spot s =
-      let q = met m spot s in
-      let then : Bool × S → Spot × S = λ q. (after_part spot.levels, loop_if m q.0 h q.1) in
-      let pair : S → Spot × S = λ s. (after_part spot.levels, s) in
-      ap then (met_front spot s) ∙ ap pair (loop_front q.0 h q.1)
+  step_loop_front h cursor s =
+      let q = met m cursor s in
+      let then : Bool × S → BlockCursor × S = λ q. (after_part cursor.levels, loop_if m q.0 h q.1) in
+      let pair : S → BlockCursor × S = λ s. (after_part cursor.levels, s) in
+      ap then (met_front cursor s) ∙ ap pair (loop_front q.0 h q.1)
 
   end_front : (ending : Ended) (s : S) → end_by m ending (front s) ≡ front (end_by m ending s)
   unfolding end_by
@@ -119,33 +119,33 @@ module _ {S : Type 0} (front : S → S) (m : Meaning (List ℕ) S) (k : IsFrontO
   end_front endings.Loop s = closes_front s
   end_front endings.Nothing s = k.unopened s
 
-  region_front : (head : RegionHead (List ℕ)) (spot : Spot) (s : S) → step_region m head spot (front s) ≡ over front (step_region m head spot s)
+  region_front : (head : RegionHead (List ℕ)) (cursor : BlockCursor) (s : S) → step_region m head cursor (front s) ≡ over front (step_region m head cursor s)
   unfolding step_region
-  region_front head spot s =
-      let q = met m spot s in
-      let then : Bool × S → At S = λ q. record { place = record { region = Some (opened head q.0); levels = spot.levels }; state = m.opens_region head q.0 q.1 } in
-      let at : S → At S = λ s. record { place = record { region = Some (opened head q.0); levels = spot.levels }; state = s } in
-      ap then (met_front spot s) ∙ ap at (k.opens_region head q.0 q.1)
+  region_front head cursor s =
+      let q = met m cursor s in
+      let then : Bool × S → At S = λ q. record { place = record { region = Some (opened head q.0); levels = cursor.levels }; state = m.opens_region head q.0 q.1 } in
+      let at : S → At S = λ s. record { place = record { region = Some (opened head q.0); levels = cursor.levels }; state = s } in
+      ap then (met_front cursor s) ∙ ap at (k.opens_region head q.0 q.1)
 
-  pub parts_front : (parts : List (Atom (List ℕ))) (spot : Spot) (s : S) → step_parts m parts spot (front s) ≡ over front (step_parts m parts spot s)
+  pub parts_front : (parts : List (LinePart (List ℕ))) (cursor : BlockCursor) (s : S) → step_parts m parts cursor (front s) ≡ over front (step_parts m parts cursor s)
   unfolding step_parts step_end
-  parts_front [] spot s = refl
-  parts_front (Leaf text ∷ rest) spot s =
-      let r = step_leaf m text spot s in
-      ap (λ (r : Spot × S). step_parts m rest r.0 r.1) (step_leaf_front text spot s) ∙ parts_front rest r.0 r.1
-  parts_front (Guard head ∷ rest) spot s =
-      let r = step_guard m head spot s in
-      ap (λ (r : Spot × S). step_parts m rest r.0 r.1) (step_guard_front head spot s) ∙ parts_front rest r.0 r.1
-  parts_front (Block head ∷ rest) spot s =
-      let r = step_block m head spot s in
-      ap (λ (r : Spot × S). step_parts m rest r.0 r.1) (step_block_front head spot s) ∙ parts_front rest r.0 r.1
-  parts_front (Loop head ∷ rest) spot s =
-      let r = step_loop m head spot s in
-      ap (λ (r : Spot × S). step_parts m rest r.0 r.1) (step_loop_front head spot s) ∙ parts_front rest r.0 r.1
-  parts_front (End ∷ rest) spot s =
-      let r = step_end m spot s in
-      ap (step_parts m rest r.0) (end_front (what_ends spot.levels) s) ∙ parts_front rest r.0 r.1
-  parts_front (Region head ∷ rest) spot s = region_front head spot s
+  parts_front [] cursor s = refl
+  parts_front (Leaf text ∷ rest) cursor s =
+      let r = step_leaf m text cursor s in
+      ap (λ (r : BlockCursor × S). step_parts m rest r.0 r.1) (step_leaf_front text cursor s) ∙ parts_front rest r.0 r.1
+  parts_front (Guard head ∷ rest) cursor s =
+      let r = step_guard m head cursor s in
+      ap (λ (r : BlockCursor × S). step_parts m rest r.0 r.1) (step_guard_front head cursor s) ∙ parts_front rest r.0 r.1
+  parts_front (Block head ∷ rest) cursor s =
+      let r = step_block m head cursor s in
+      ap (λ (r : BlockCursor × S). step_parts m rest r.0 r.1) (step_block_front head cursor s) ∙ parts_front rest r.0 r.1
+  parts_front (Loop head ∷ rest) cursor s =
+      let r = step_loop m head cursor s in
+      ap (λ (r : BlockCursor × S). step_parts m rest r.0 r.1) (step_loop_front head cursor s) ∙ parts_front rest r.0 r.1
+  parts_front (End ∷ rest) cursor s =
+      let r = step_end m cursor s in
+      ap (step_parts m rest r.0) (end_front (what_ends cursor.levels) s) ∙ parts_front rest r.0 r.1
+  parts_front (Region head ∷ rest) cursor s = region_front head cursor s
 
   keep_front : (in_loop : Bool) (line : List ℕ) (s : S) → keep_if m in_loop line (front s) ≡ front (keep_if m in_loop line s)
   unfolding keep_if
@@ -172,7 +172,7 @@ module _ {S : Type 0} (front : S → S) (m : Meaning (List ℕ) S) (k : IsFrontO
 
   from_front : (o : Option Opened) (line : List ℕ) (l : Levels) (s : S) → step_from m (λ t. t) o line l (front s) ≡ over front (step_from m (λ t. t) o line l s)
   unfolding step_from
-  from_front None line l s = ap (step_parts m (atoms line) (at_line l)) (begin_front line l s) ∙ parts_front (atoms line) (at_line l) (begin_line m line l s)
+  from_front None line l s = ap (step_parts m (line_parts line) (at_line l)) (begin_front line l s) ∙ parts_front (line_parts line) (at_line l) (begin_line m line l s)
   from_front (Some o) line l s = inside_front (is_ending o.ending line) o line l s
 
   pub lines_front : (lines : List (List ℕ)) (a : At S) → step_lines m (λ t. t) lines (over front a) ≡ over front (step_lines m (λ t. t) lines a)
@@ -256,7 +256,7 @@ module _ {S : Type 0} (front : S → S) (l : Language S) (f : IsFront front l) w
   in_front : (d : ℕ) (kind : Kind) (region : Option Opened) (g : Frame) (s : S) → line_in l (meaning_at l d kind) region g (front s) ≡ over front (line_in l (meaning_at l d kind) region g s)
   unfolding line_in
   in_front d kind None g s =
-      parts_front front (meaning_at l d kind) (same_parts d kind) (gives_front d (done_front d) kind) (closes_front d (done_front d) kind) g.parts g.spot s
+      parts_front front (meaning_at l d kind) (same_parts d kind) (gives_front d (done_front d) kind) (closes_front d (done_front d) kind) g.parts g.cursor s
   in_front d kind (Some o) g s = refl
 
   lines_over : (d : ℕ) (kind : Kind) (lines : List (List ℕ)) (a : At S)

@@ -2,23 +2,23 @@
 use Rattle.std.proofs.Common.{ℕ, zero, suc, Bool, true, false, List, [], ◌∷◌, length, Option, Some, None, sym, subst}
 use Rattle.page_roff_heads.specs.declared.conditions.Condition.{Condition}
 use Rattle.page_roff_heads.specs.declared.loops.LoopHead.{LoopHead}
-use Rattle.page_roff_blocks.specs.declared.atoms.Atom.{Atom}
-use Rattle.page_roff_blocks.specs.declared.atoms.Atom.TheVariants.{Leaf, Guard, Block, Loop, End, Region}
-use Rattle.page_roff_blocks.specs.declared.atoms.Branch.{Branch}
-use Rattle.page_roff_blocks.specs.declared.atoms.Branch.TheVariants.{If, IfElse, Else}
-use Rattle.page_roff_blocks.specs.declared.atoms.Head.{Head}
-use Rattle.page_roff_blocks.specs.declared.atoms.Opening.{Opening}
-use Rattle.page_roff_blocks.specs.declared.atoms.Opening.TheVariants as openings
+use Rattle.page_roff_blocks.specs.declared.line_parts.LinePart.{LinePart}
+use Rattle.page_roff_blocks.specs.declared.line_parts.LinePart.TheVariants.{Leaf, Guard, Block, Loop, End, Region}
+use Rattle.page_roff_blocks.specs.declared.line_parts.Branch.{Branch}
+use Rattle.page_roff_blocks.specs.declared.line_parts.Branch.TheVariants.{If, IfElse, Else}
+use Rattle.page_roff_blocks.specs.declared.line_parts.Head.{Head}
+use Rattle.page_roff_blocks.specs.declared.line_parts.Opening.{Opening}
+use Rattle.page_roff_blocks.specs.declared.line_parts.Opening.TheVariants as openings
 use Rattle.page_roff_blocks.specs.declared.levels.Ended.{Ended}
 use Rattle.page_roff_blocks.specs.declared.levels.Ended.TheVariants as endings
 use Rattle.page_roff_blocks.specs.declared.levels.Way.{Way}
 use Rattle.page_roff_blocks.specs.declared.levels.Way.TheVariants.{Runs, Skips, Exceeds}
 use Rattle.page_roff_regions.specs.declared.regions.RegionHead.{RegionHead}
-use Rattle.page_roff_blocks.specs.declared.spots.Reached.{Reached}
-use Rattle.page_roff_blocks.specs.declared.spots.Reached.TheVariants.{PassedOver, First, Remainder}
-use Rattle.page_roff_blocks.specs.Atoms.{atoms}
+use Rattle.page_roff_blocks.specs.declared.block_cursors.Reached.{Reached}
+use Rattle.page_roff_blocks.specs.declared.block_cursors.Reached.TheVariants.{PassedOver, First, Remainder}
+use Rattle.page_roff_blocks.specs.LineParts.{line_parts}
 use Rattle.page_roff_regions.specs.Regions.{is_ending}
-use Rattle.page_roff_blocks.specs.Levels.{Levels, way_of, what_ends, Spot, at_line, reached}
+use Rattle.page_roff_blocks.specs.Levels.{Levels, way_of, what_ends, BlockCursor, at_line, reached}
 use Rattle.page_roff_regions.specs.OpenRegions.{Opened}
 use Rattle.page_roff_blocks.specs.Loops.{loop_text}
 use Rattle.page_roff_blocks.specs.Run.{Meaning, At, meet_as, value, leaf_if, loop_if, refuse_if, keep_if, end_by, run_lines}
@@ -40,7 +40,7 @@ IsOpening T (openings.Conditional head) = Unit {0}
 IsOpening T (openings.Loop head) = IsLoopHead T head
 
 -- the leaves of a line are such texts, and the heads of its loops hold such
-abbrev pub AreLeaves : (List ℕ → Type 0) → List (Atom (List ℕ)) → Type 0
+abbrev pub AreLeaves : (List ℕ → Type 0) → List (LinePart (List ℕ)) → Type 0
 AreLeaves T [] = Unit {0}
 AreLeaves T (Leaf text ∷ rest) = T text × AreLeaves T rest
 AreLeaves T (Guard head ∷ rest) = AreLeaves T rest
@@ -56,7 +56,7 @@ AreSuch T (line ∷ lines) = T line × AreSuch T lines
 
 -- the leaves of such a line are such texts
 abbrev pub HasLeaves : (List ℕ → Type 0) → Type 0
-HasLeaves T = (line : List ℕ) → T line → AreLeaves T (atoms line)
+HasLeaves T = (line : List ℕ) → T line → AreLeaves T (line_parts line)
 
 -- what of such a line belongs to a loop is such a text
 abbrev pub HasLoopTexts : (List ℕ → Type 0) → Type 0
@@ -77,7 +77,7 @@ any_opening : (opening : Opening (List ℕ)) → IsOpening IsAny opening
 any_opening (openings.Conditional head) = tt
 any_opening (openings.Loop head) = any_head head
 
-pub any_leaves : (parts : List (Atom (List ℕ))) → AreLeaves IsAny parts
+pub any_leaves : (parts : List (LinePart (List ℕ))) → AreLeaves IsAny parts
 any_leaves [] = tt
 any_leaves (Leaf text ∷ rest) = (tt, any_leaves rest)
 any_leaves (Guard head ∷ rest) = any_leaves rest
@@ -116,9 +116,9 @@ module _ {S : Type 0} (T : List ℕ → Type 0) (m : Meaning (List ℕ) S) (P : 
   meet_keeps First s h = k.meets false s h
   meet_keeps Remainder s h = k.meets true s h
 
-  pub met_keeps : (spot : Spot) (s : S) → P s → P (met m spot s).1
+  pub met_keeps : (cursor : BlockCursor) (s : S) → P s → P (met m cursor s).1
   unfolding met
-  met_keeps spot s h = meet_keeps (reached spot) s h
+  met_keeps cursor s h = meet_keeps (reached cursor) s h
 
   pub value_keeps : (branch : Branch (List ℕ)) (bit : Bool) (s : S) → P s → P (value m branch bit s).1
   unfolding value
@@ -131,10 +131,10 @@ module _ {S : Type 0} (T : List ℕ → Type 0) (m : Meaning (List ℕ) S) (P : 
   leaf_keeps true text s t h = k.gives text s t h
   leaf_keeps false text s t h = h
 
-  pub guard_keeps : (is_met : Bool) (h : Head (List ℕ)) (spot : Spot) (s : S) → P s → P (guard_met m is_met h spot s).1
+  pub guard_keeps : (is_met : Bool) (h : Head (List ℕ)) (cursor : BlockCursor) (s : S) → P s → P (guard_met m is_met h cursor s).1
   unfolding guard_met guard_with
-  guard_keeps true h spot s p = value_keeps h.branch spot.levels.bit s p
-  guard_keeps false h spot s p = p
+  guard_keeps true h cursor s p = value_keeps h.branch cursor.levels.bit s p
+  guard_keeps false h cursor s p = p
 
   refuse_keeps : (way : Way) (h : Head (List ℕ)) (s : S) → P s → P (refuse_if m way h s)
   unfolding refuse_if
@@ -142,17 +142,17 @@ module _ {S : Type 0} (T : List ℕ → Type 0) (m : Meaning (List ℕ) S) (P : 
   refuse_keeps Skips h s p = p
   refuse_keeps Exceeds h s p = k.refuses h s p
 
-  opening_keeps : (opening : Opening (List ℕ)) (spot : Spot) (s : S) → IsOpening T opening → P s → P (opening_met m opening spot s).1
+  opening_keeps : (opening : Opening (List ℕ)) (cursor : BlockCursor) (s : S) → IsOpening T opening → P s → P (opening_met m opening cursor s).1
   unfolding opening_met block_with
-  opening_keeps (openings.Conditional h) spot s t p =
-      let v = value m h.branch spot.levels.bit s in
-      refuse_keeps (way_of v.0 (length spot.levels.outer)) h v.1 (value_keeps h.branch spot.levels.bit s p)
-  opening_keeps (openings.Loop h) spot s t p = k.opens_loop h s t p
+  opening_keeps (openings.Conditional h) cursor s t p =
+      let v = value m h.branch cursor.levels.bit s in
+      refuse_keeps (way_of v.0 (length cursor.levels.outer)) h v.1 (value_keeps h.branch cursor.levels.bit s p)
+  opening_keeps (openings.Loop h) cursor s t p = k.opens_loop h s t p
 
-  pub block_keeps : (is_met : Bool) (opening : Opening (List ℕ)) (spot : Spot) (s : S) → IsOpening T opening → P s → P (block_met m is_met opening spot s).1
+  pub block_keeps : (is_met : Bool) (opening : Opening (List ℕ)) (cursor : BlockCursor) (s : S) → IsOpening T opening → P s → P (block_met m is_met opening cursor s).1
   unfolding block_met
-  block_keeps true opening spot s t p = opening_keeps opening spot s t p
-  block_keeps false opening spot s t p = p
+  block_keeps true opening cursor s t p = opening_keeps opening cursor s t p
+  block_keeps false opening cursor s t p = p
 
   pub loop_keeps : (is_met : Bool) (h : LoopHead (List ℕ)) (s : S) → IsLoopHead T h → P s → P (loop_if m is_met h s)
   unfolding loop_if
@@ -165,30 +165,30 @@ module _ {S : Type 0} (T : List ℕ → Type 0) (m : Meaning (List ℕ) S) (P : 
   end_keeps endings.Loop s h = k.closes_loop s h
   end_keeps endings.Nothing s h = k.unopened s h
 
-  pub parts_keep : (parts : List (Atom (List ℕ))) (spot : Spot) (s : S) → AreLeaves T parts → P s → P (step_parts m parts spot s).state
+  pub parts_keep : (parts : List (LinePart (List ℕ))) (cursor : BlockCursor) (s : S) → AreLeaves T parts → P s → P (step_parts m parts cursor s).state
   unfolding step_parts step_leaf step_guard step_block step_loop step_end step_region
-  parts_keep [] spot s t h = h
-  parts_keep (Leaf text ∷ rest) spot s t h =
-      let q = met m spot s in
-      let r = step_leaf m text spot s in
-      parts_keep rest r.0 r.1 t.1 (leaf_keeps q.0 text q.1 t.0 (met_keeps spot s h))
-  parts_keep (Guard head ∷ rest) spot s t h =
-      let q = met m spot s in
-      let r = step_guard m head spot s in
-      parts_keep rest r.0 r.1 t (guard_keeps q.0 head spot q.1 (met_keeps spot s h))
-  parts_keep (Block opening ∷ rest) spot s t h =
-      let q = met m spot s in
-      let r = step_block m opening spot s in
-      parts_keep rest r.0 r.1 t.1 (block_keeps q.0 opening spot q.1 t.0 (met_keeps spot s h))
-  parts_keep (Loop head ∷ rest) spot s t h =
-      let q = met m spot s in
-      let r = step_loop m head spot s in
-      parts_keep rest r.0 r.1 t.1 (loop_keeps q.0 head q.1 t.0 (met_keeps spot s h))
-  parts_keep (End ∷ rest) spot s t h =
-      let r = step_end m spot s in
-      parts_keep rest r.0 r.1 t (end_keeps (what_ends spot.levels) s h)
-  parts_keep (Region head ∷ rest) spot s t h =
-      let q = met m spot s in k.opens_region head q.0 q.1 (met_keeps spot s h)
+  parts_keep [] cursor s t h = h
+  parts_keep (Leaf text ∷ rest) cursor s t h =
+      let q = met m cursor s in
+      let r = step_leaf m text cursor s in
+      parts_keep rest r.0 r.1 t.1 (leaf_keeps q.0 text q.1 t.0 (met_keeps cursor s h))
+  parts_keep (Guard head ∷ rest) cursor s t h =
+      let q = met m cursor s in
+      let r = step_guard m head cursor s in
+      parts_keep rest r.0 r.1 t (guard_keeps q.0 head cursor q.1 (met_keeps cursor s h))
+  parts_keep (Block opening ∷ rest) cursor s t h =
+      let q = met m cursor s in
+      let r = step_block m opening cursor s in
+      parts_keep rest r.0 r.1 t.1 (block_keeps q.0 opening cursor q.1 t.0 (met_keeps cursor s h))
+  parts_keep (Loop head ∷ rest) cursor s t h =
+      let q = met m cursor s in
+      let r = step_loop m head cursor s in
+      parts_keep rest r.0 r.1 t.1 (loop_keeps q.0 head q.1 t.0 (met_keeps cursor s h))
+  parts_keep (End ∷ rest) cursor s t h =
+      let r = step_end m cursor s in
+      parts_keep rest r.0 r.1 t (end_keeps (what_ends cursor.levels) s h)
+  parts_keep (Region head ∷ rest) cursor s t h =
+      let q = met m cursor s in k.opens_region head q.0 q.1 (met_keeps cursor s h)
 
   module _ (leaves : HasLeaves T) (n : KeepsLines T m P) where
     kept_keeps : (in_loop : Bool) (line : List ℕ) (s : S) → T line → P s → P (keep_if m in_loop line s)
@@ -212,7 +212,7 @@ module _ {S : Type 0} (T : List ℕ → Type 0) (m : Meaning (List ℕ) S) (P : 
 
     pub from_keeps : (o : Option Opened) (line : List ℕ) (l : Levels) (s : S) → T line → P s → P (step_from m (λ t. t) o line l s).state
     unfolding step_from
-    from_keeps None line l s t h = parts_keep (atoms line) (at_line l) (begin_line m line l s) (leaves line t) (begun_keeps line l s t h)
+    from_keeps None line l s t h = parts_keep (line_parts line) (at_line l) (begin_line m line l s) (leaves line t) (begun_keeps line l s t h)
     from_keeps (Some o) line l s t h = inside_keeps (is_ending o.ending line) o line l s t h
 
     pub lines_keep : (lines : List (List ℕ)) (a : At S) → AreSuch T lines → P a.state → P (step_lines m (λ t. t) lines a).state

@@ -1,8 +1,8 @@
 -- Lines of the page are run by themselves: helpers of proofs.
 use Rattle.std.proofs.Common.{◌≡◌, ℕ, zero, suc, Bool, true, false, List, [], ◌∷◌, Option, Some, None, refl, subst}
 use Rattle.page_roff_heads.specs.declared.loops.LoopHead.{LoopHead}
-use Rattle.page_roff_blocks.specs.declared.atoms.Atom.{Atom}
-use Rattle.page_roff_blocks.specs.declared.atoms.Atom.TheVariants.{Leaf, Guard, Block, Loop, End, Region}
+use Rattle.page_roff_blocks.specs.declared.line_parts.LinePart.{LinePart}
+use Rattle.page_roff_blocks.specs.declared.line_parts.LinePart.TheVariants.{Leaf, Guard, Block, Loop, End, Region}
 use Rattle.page_roff_blocks.specs.declared.levels.Ended.{Ended}
 use Rattle.page_roff_blocks.specs.declared.levels.Ended.TheVariants as endings
 use Rattle.page_roff_regions.specs.Regions.{is_ending}
@@ -55,16 +55,16 @@ module _ {R : Type 0} (e : Effects R) where
   end_on m endings.Loop f under s h k = loop_next_on f under s h k
   end_on m endings.Nothing f under s h k = (h, k)
 
-  pub part_on : (m : Meaning (List ℕ) (Budgeted R)) (part : Atom (List ℕ)) (more : List (Atom (List ℕ))) (f : Frame) (under : List Frame) (s : Budgeted R)
+  pub part_on : (m : Meaning (List ℕ) (Budgeted R)) (part : LinePart (List ℕ)) (more : List (LinePart (List ℕ))) (f : Frame) (under : List Frame) (s : Budgeted R)
       → IsOnLine f → AreOnLine under → HasMeasure (part_next (language e) m part more f under s)
   unfolding part_next at_part between HasMeasure IsOnLine
   part_on m (Leaf text) more f under s h k =
-      let q = met m f.spot s in leaf_if_on q.0 text (at_part f more (after_part f.spot.levels)) under q.1 h k
+      let q = met m f.cursor s in leaf_if_on q.0 text (at_part f more (after_part f.cursor.levels)) under q.1 h k
   part_on m (Guard head) more f under s h k = (h, k)
   part_on m (Block head) more f under s h k = (h, k)
   part_on m (Loop head) more f under s h k =
-      let q = met m f.spot s in loop_if_on m q.0 head (at_part f more (after_part f.spot.levels)) under q.1 h k
-  part_on m End more f under s h k = end_on m (what_ends f.spot.levels) (at_part f more (after_part (leave f.spot.levels))) under s h k
+      let q = met m f.cursor s in loop_if_on m q.0 head (at_part f more (after_part f.cursor.levels)) under q.1 h k
+  part_on m End more f under s h k = end_on m (what_ends f.cursor.levels) (at_part f more (after_part (leave f.cursor.levels))) under s h k
   part_on m (Region head) more f under s h k = (h, k)
 
   pub line_on : (m : Meaning (List ℕ) (Budgeted R)) (line : List ℕ) (more : List (List ℕ)) (f : Frame) (under : List Frame) (s : Budgeted R) → f.lines ≡ line ∷ more
@@ -118,7 +118,7 @@ module _ {R : Type 0} (e : Effects R) where
   first_in m (Some o) line f s q t x =
       same_measure (region_next (language e) m (is_ending o.ending line) o line [] f [] s) q (first_region m (is_ending o.ending line) o line f s t) x
 
-  first_at : (m : Meaning (List ℕ) (Budgeted R)) (region : Option Opened) (parts : List (Atom (List ℕ))) (lines : List (List ℕ)) (f : Frame) (under : List Frame) (s : Budgeted R)
+  first_at : (m : Meaning (List ℕ) (Budgeted R)) (region : Option Opened) (parts : List (LinePart (List ℕ))) (lines : List (List ℕ)) (f : Frame) (under : List Frame) (s : Budgeted R)
       (line : List ℕ) (q : Running (Budgeted R)) → lines ≡ line ∷ [] → parts ≡ [] → under ≡ [] → f.turning ≡ None
       → next_in (language e) m region parts lines f under s ≡ Some q → HasMeasure q
   first_at m region parts lines f under s line q a b c t x = first_in m region line f s q t (rw (a, b, c) at x)

@@ -2,23 +2,23 @@
 use Rattle.std.proofs.Common.{◌≡◌, ℕ, Bool, true, false, List, [], ◌∷◌, length, Option, Some, None, refl, sym, ap, ◌∙◌}
 use Rattle.page_roff_heads.specs.declared.conditions.Condition.{Condition}
 use Rattle.page_roff_heads.specs.declared.loops.LoopHead.{LoopHead}
-use Rattle.page_roff_blocks.specs.declared.atoms.Atom.{Atom}
-use Rattle.page_roff_blocks.specs.declared.atoms.Atom.TheVariants.{Leaf, Guard, Block, Loop, End, Region}
-use Rattle.page_roff_blocks.specs.declared.atoms.Branch.{Branch}
-use Rattle.page_roff_blocks.specs.declared.atoms.Branch.TheVariants.{If, IfElse, Else}
-use Rattle.page_roff_blocks.specs.declared.atoms.Head.{Head}
-use Rattle.page_roff_blocks.specs.declared.atoms.Opening.{Opening}
-use Rattle.page_roff_blocks.specs.declared.atoms.Opening.TheVariants as openings
+use Rattle.page_roff_blocks.specs.declared.line_parts.LinePart.{LinePart}
+use Rattle.page_roff_blocks.specs.declared.line_parts.LinePart.TheVariants.{Leaf, Guard, Block, Loop, End, Region}
+use Rattle.page_roff_blocks.specs.declared.line_parts.Branch.{Branch}
+use Rattle.page_roff_blocks.specs.declared.line_parts.Branch.TheVariants.{If, IfElse, Else}
+use Rattle.page_roff_blocks.specs.declared.line_parts.Head.{Head}
+use Rattle.page_roff_blocks.specs.declared.line_parts.Opening.{Opening}
+use Rattle.page_roff_blocks.specs.declared.line_parts.Opening.TheVariants as openings
 use Rattle.page_roff_blocks.specs.declared.levels.Ended.{Ended}
 use Rattle.page_roff_blocks.specs.declared.levels.Ended.TheVariants as endings
 use Rattle.page_roff_blocks.specs.declared.levels.Way.{Way}
 use Rattle.page_roff_blocks.specs.declared.levels.Way.TheVariants.{Runs, Skips, Exceeds}
 use Rattle.page_roff_regions.specs.declared.regions.RegionHead.{RegionHead}
-use Rattle.page_roff_blocks.specs.declared.spots.Reached.{Reached}
-use Rattle.page_roff_blocks.specs.declared.spots.Reached.TheVariants.{PassedOver, First, Remainder}
-use Rattle.page_roff_blocks.specs.Atoms.{atoms}
+use Rattle.page_roff_blocks.specs.declared.block_cursors.Reached.{Reached}
+use Rattle.page_roff_blocks.specs.declared.block_cursors.Reached.TheVariants.{PassedOver, First, Remainder}
+use Rattle.page_roff_blocks.specs.LineParts.{line_parts}
 use Rattle.page_roff_regions.specs.Regions.{is_ending}
-use Rattle.page_roff_blocks.specs.Levels.{Levels, bit_after, way_of, enter, open_loop, leave, what_ends, Spot, at_line, after_part, guarded_by, reached}
+use Rattle.page_roff_blocks.specs.Levels.{Levels, bit_after, way_of, enter, open_loop, leave, what_ends, BlockCursor, at_line, after_part, guarded_by, reached}
 use Rattle.page_roff_regions.specs.OpenRegions.{Opened, opened}
 use Rattle.page_roff_blocks.specs.Run.{Meaning, At, meet_as, value, leaf_if, loop_if, refuse_if, keep_if, end_by, run_lines}
 use Rattle.page_roff_blocks.specs.Steps.{met, step_leaf, guard_with, guard_met, step_guard, block_with, opening_met, block_met, step_block, step_loop, step_end, step_region, step_parts, step_inside, collect_if, begin_line, step_from, step, step_lines}
@@ -36,7 +36,7 @@ IsTestedOpening C (openings.Conditional head) = IsTested C head.branch
 IsTestedOpening C (openings.Loop head) = Unit {0}
 
 -- the conditions of a line's conditionals are such
-abbrev pub AreTested : (Condition (List ℕ) → Type 0) → List (Atom (List ℕ)) → Type 0
+abbrev pub AreTested : (Condition (List ℕ) → Type 0) → List (LinePart (List ℕ)) → Type 0
 AreTested C [] = Unit {0}
 AreTested C (Leaf text ∷ rest) = AreTested C rest
 AreTested C (Guard head ∷ rest) = IsTested C head.branch × AreTested C rest
@@ -46,7 +46,7 @@ AreTested C (End ∷ rest) = AreTested C rest
 AreTested C (Region head ∷ rest) = AreTested C rest
 
 abbrev pub HasTests : (List ℕ → Type 0) → (Condition (List ℕ) → Type 0) → Type 0
-HasTests T C = (line : List ℕ) → T line → AreTested C (atoms line)
+HasTests T C = (line : List ℕ) → T line → AreTested C (line_parts line)
 
 -- what the parts of such a line do to a state that is kept is the same
 pub record SameParts {S : Type 0} (T : List ℕ → Type 0) (C : Condition (List ℕ) → Type 0) (m n : Meaning (List ℕ) S) (P : S → Type 0) : Type 0 where
@@ -74,9 +74,9 @@ module _ {S : Type 0} (T : List ℕ → Type 0) (C : Condition (List ℕ) → Ty
   meet_same First s h = e.meets false s h
   meet_same Remainder s h = e.meets true s h
 
-  met_same : (spot : Spot) (s : S) → P s → met m spot s ≡ met n spot s
+  met_same : (cursor : BlockCursor) (s : S) → P s → met m cursor s ≡ met n cursor s
   unfolding met
-  met_same spot s h = meet_same (reached spot) s h
+  met_same cursor s h = meet_same (reached cursor) s h
 
   value_same : (branch : Branch (List ℕ)) (bit : Bool) (s : S) → IsTested C branch → P s → value m branch bit s ≡ value n branch bit s
   unfolding value
@@ -89,11 +89,11 @@ module _ {S : Type 0} (T : List ℕ → Type 0) (C : Condition (List ℕ) → Ty
   leaf_same true text s t h = e.gives text s t h
   leaf_same false text s t h = refl
 
-  guard_same : (is_met : Bool) (h : Head (List ℕ)) (spot : Spot) (s : S) → IsTested C h.branch → P s → guard_met m is_met h spot s ≡ guard_met n is_met h spot s
+  guard_same : (is_met : Bool) (h : Head (List ℕ)) (cursor : BlockCursor) (s : S) → IsTested C h.branch → P s → guard_met m is_met h cursor s ≡ guard_met n is_met h cursor s
   unfolding guard_met guard_with
-  guard_same true h spot s c p =
-      ap (λ (v : Bool × S). (guarded_by h.branch v.0 spot.levels, v.1)) (value_same h.branch spot.levels.bit s c p)
-  guard_same false h spot s c p = refl
+  guard_same true h cursor s c p =
+      ap (λ (v : Bool × S). (guarded_by h.branch v.0 cursor.levels, v.1)) (value_same h.branch cursor.levels.bit s c p)
+  guard_same false h cursor s c p = refl
 
   refuse_same : (way : Way) (h : Head (List ℕ)) (s : S) → P s → refuse_if m way h s ≡ refuse_if n way h s
   unfolding refuse_if
@@ -101,25 +101,25 @@ module _ {S : Type 0} (T : List ℕ → Type 0) (C : Condition (List ℕ) → Ty
   refuse_same Skips h s p = refl
   refuse_same Exceeds h s p = e.refuses h s p
 
-  with_same : (h : Head (List ℕ)) (spot : Spot) (v : Bool × S) → P v.1 → block_with m h spot v ≡ block_with n h spot v
+  with_same : (h : Head (List ℕ)) (cursor : BlockCursor) (v : Bool × S) → P v.1 → block_with m h cursor v ≡ block_with n h cursor v
   unfolding block_with
-  with_same h spot v p =
-      let way = way_of v.0 (length spot.levels.outer) in
-      ap (λ (s : S). (after_part (enter way (bit_after h.branch v.0 spot.levels.bit) spot.levels), s)) (refuse_same way h v.1 p)
+  with_same h cursor v p =
+      let way = way_of v.0 (length cursor.levels.outer) in
+      ap (λ (s : S). (after_part (enter way (bit_after h.branch v.0 cursor.levels.bit) cursor.levels), s)) (refuse_same way h v.1 p)
 
-  opening_same : (opening : Opening (List ℕ)) (spot : Spot) (s : S) → IsOpening T opening → IsTestedOpening C opening → P s
-      → opening_met m opening spot s ≡ opening_met n opening spot s
+  opening_same : (opening : Opening (List ℕ)) (cursor : BlockCursor) (s : S) → IsOpening T opening → IsTestedOpening C opening → P s
+      → opening_met m opening cursor s ≡ opening_met n opening cursor s
   unfolding opening_met
-  opening_same (openings.Conditional h) spot s t c p =
-      with_same h spot (value m h.branch spot.levels.bit s) (value_keeps T m P k h.branch spot.levels.bit s p)
-      ∙ ap (block_with n h spot) (value_same h.branch spot.levels.bit s c p)
-  opening_same (openings.Loop h) spot s t c p = ap (λ (s : S). (after_part (open_loop spot.levels), s)) (e.opens_loop h s t p)
+  opening_same (openings.Conditional h) cursor s t c p =
+      with_same h cursor (value m h.branch cursor.levels.bit s) (value_keeps T m P k h.branch cursor.levels.bit s p)
+      ∙ ap (block_with n h cursor) (value_same h.branch cursor.levels.bit s c p)
+  opening_same (openings.Loop h) cursor s t c p = ap (λ (s : S). (after_part (open_loop cursor.levels), s)) (e.opens_loop h s t p)
 
-  block_same : (is_met : Bool) (opening : Opening (List ℕ)) (spot : Spot) (s : S) → IsOpening T opening → IsTestedOpening C opening → P s
-      → block_met m is_met opening spot s ≡ block_met n is_met opening spot s
+  block_same : (is_met : Bool) (opening : Opening (List ℕ)) (cursor : BlockCursor) (s : S) → IsOpening T opening → IsTestedOpening C opening → P s
+      → block_met m is_met opening cursor s ≡ block_met n is_met opening cursor s
   unfolding block_met
-  block_same true opening spot s t c p = opening_same opening spot s t c p
-  block_same false opening spot s t c p = refl
+  block_same true opening cursor s t c p = opening_same opening cursor s t c p
+  block_same false opening cursor s t c p = refl
 
   loop_same : (is_met : Bool) (h : LoopHead (List ℕ)) (s : S) → IsLoopHead T h → P s → loop_if m is_met h s ≡ loop_if n is_met h s
   unfolding loop_if
@@ -134,86 +134,86 @@ module _ {S : Type 0} (T : List ℕ → Type 0) (C : Condition (List ℕ) → Ty
 
   -- ---- the parts of a line
 
-  step_leaf_same : (text : List ℕ) (spot : Spot) (s : S) → T text → P s → step_leaf m text spot s ≡ step_leaf n text spot s
+  step_leaf_same : (text : List ℕ) (cursor : BlockCursor) (s : S) → T text → P s → step_leaf m text cursor s ≡ step_leaf n text cursor s
   unfolding step_leaf
-  step_leaf_same text spot s t h =
-      let q = met m spot s in
-      ap (λ (s : S). (after_part spot.levels, s)) (leaf_same q.0 text q.1 t (met_keeps T m P k spot s h))
-      ∙ ap (λ (q : Bool × S). (after_part spot.levels, leaf_if n q.0 text q.1)) (met_same spot s h)
+  step_leaf_same text cursor s t h =
+      let q = met m cursor s in
+      ap (λ (s : S). (after_part cursor.levels, s)) (leaf_same q.0 text q.1 t (met_keeps T m P k cursor s h))
+      ∙ ap (λ (q : Bool × S). (after_part cursor.levels, leaf_if n q.0 text q.1)) (met_same cursor s h)
 
-  step_guard_same : (head : Head (List ℕ)) (spot : Spot) (s : S) → IsTested C head.branch → P s → step_guard m head spot s ≡ step_guard n head spot s
+  step_guard_same : (head : Head (List ℕ)) (cursor : BlockCursor) (s : S) → IsTested C head.branch → P s → step_guard m head cursor s ≡ step_guard n head cursor s
   unfolding step_guard
-  step_guard_same head spot s c h =
-      let q = met m spot s in
-      guard_same q.0 head spot q.1 c (met_keeps T m P k spot s h) ∙ ap (λ (q : Bool × S). guard_met n q.0 head spot q.1) (met_same spot s h)
+  step_guard_same head cursor s c h =
+      let q = met m cursor s in
+      guard_same q.0 head cursor q.1 c (met_keeps T m P k cursor s h) ∙ ap (λ (q : Bool × S). guard_met n q.0 head cursor q.1) (met_same cursor s h)
 
-  step_block_same : (opening : Opening (List ℕ)) (spot : Spot) (s : S) → IsOpening T opening → IsTestedOpening C opening → P s
-      → step_block m opening spot s ≡ step_block n opening spot s
+  step_block_same : (opening : Opening (List ℕ)) (cursor : BlockCursor) (s : S) → IsOpening T opening → IsTestedOpening C opening → P s
+      → step_block m opening cursor s ≡ step_block n opening cursor s
   unfolding step_block
-  step_block_same opening spot s t c h =
-      let q = met m spot s in
-      block_same q.0 opening spot q.1 t c (met_keeps T m P k spot s h) ∙ ap (λ (q : Bool × S). block_met n q.0 opening spot q.1) (met_same spot s h)
+  step_block_same opening cursor s t c h =
+      let q = met m cursor s in
+      block_same q.0 opening cursor q.1 t c (met_keeps T m P k cursor s h) ∙ ap (λ (q : Bool × S). block_met n q.0 opening cursor q.1) (met_same cursor s h)
 
-  step_loop_same : (head : LoopHead (List ℕ)) (spot : Spot) (s : S) → IsLoopHead T head → P s → step_loop m head spot s ≡ step_loop n head spot s
+  step_loop_same : (head : LoopHead (List ℕ)) (cursor : BlockCursor) (s : S) → IsLoopHead T head → P s → step_loop m head cursor s ≡ step_loop n head cursor s
   unfolding step_loop
-  step_loop_same head spot s t h =
-      let q = met m spot s in
-      ap (λ (s : S). (after_part spot.levels, s)) (loop_same q.0 head q.1 t (met_keeps T m P k spot s h))
-      ∙ ap (λ (q : Bool × S). (after_part spot.levels, loop_if n q.0 head q.1)) (met_same spot s h)
+  step_loop_same head cursor s t h =
+      let q = met m cursor s in
+      ap (λ (s : S). (after_part cursor.levels, s)) (loop_same q.0 head q.1 t (met_keeps T m P k cursor s h))
+      ∙ ap (λ (q : Bool × S). (after_part cursor.levels, loop_if n q.0 head q.1)) (met_same cursor s h)
 
-  step_end_same : (spot : Spot) (s : S) → P s → step_end m spot s ≡ step_end n spot s
+  step_end_same : (cursor : BlockCursor) (s : S) → P s → step_end m cursor s ≡ step_end n cursor s
   unfolding step_end
-  step_end_same spot s h = ap (λ (s : S). (after_part (leave spot.levels), s)) (end_same (what_ends spot.levels) s h)
+  step_end_same cursor s h = ap (λ (s : S). (after_part (leave cursor.levels), s)) (end_same (what_ends cursor.levels) s h)
 
-  step_region_same : (head : RegionHead (List ℕ)) (spot : Spot) (s : S) → P s → step_region m head spot s ≡ step_region n head spot s
+  step_region_same : (head : RegionHead (List ℕ)) (cursor : BlockCursor) (s : S) → P s → step_region m head cursor s ≡ step_region n head cursor s
   unfolding step_region
-  step_region_same head spot s h =
-      let q = met m spot s in
-      ap (λ (s : S). record { place = record { region = Some (opened head q.0); levels = spot.levels }; state = s })
-      (e.opens_region head q.0 q.1 (met_keeps T m P k spot s h))
-      ∙ ap (λ (q : Bool × S). record { place = record { region = Some (opened head q.0); levels = spot.levels }; state = n.opens_region head q.0 q.1 })
-      (met_same spot s h)
+  step_region_same head cursor s h =
+      let q = met m cursor s in
+      ap (λ (s : S). record { place = record { region = Some (opened head q.0); levels = cursor.levels }; state = s })
+      (e.opens_region head q.0 q.1 (met_keeps T m P k cursor s h))
+      ∙ ap (λ (q : Bool × S). record { place = record { region = Some (opened head q.0); levels = cursor.levels }; state = n.opens_region head q.0 q.1 })
+      (met_same cursor s h)
 
-  leaf_kept : (text : List ℕ) (spot : Spot) (s : S) → T text → P s → P (step_leaf m text spot s).1
+  leaf_kept : (text : List ℕ) (cursor : BlockCursor) (s : S) → T text → P s → P (step_leaf m text cursor s).1
   unfolding step_leaf
-  leaf_kept text spot s t h = let q = met m spot s in leaf_keeps T m P k q.0 text q.1 t (met_keeps T m P k spot s h)
+  leaf_kept text cursor s t h = let q = met m cursor s in leaf_keeps T m P k q.0 text q.1 t (met_keeps T m P k cursor s h)
 
-  guard_kept : (head : Head (List ℕ)) (spot : Spot) (s : S) → P s → P (step_guard m head spot s).1
+  guard_kept : (head : Head (List ℕ)) (cursor : BlockCursor) (s : S) → P s → P (step_guard m head cursor s).1
   unfolding step_guard
-  guard_kept head spot s h = let q = met m spot s in guard_keeps T m P k q.0 head spot q.1 (met_keeps T m P k spot s h)
+  guard_kept head cursor s h = let q = met m cursor s in guard_keeps T m P k q.0 head cursor q.1 (met_keeps T m P k cursor s h)
 
-  block_kept : (opening : Opening (List ℕ)) (spot : Spot) (s : S) → IsOpening T opening → P s → P (step_block m opening spot s).1
+  block_kept : (opening : Opening (List ℕ)) (cursor : BlockCursor) (s : S) → IsOpening T opening → P s → P (step_block m opening cursor s).1
   unfolding step_block
-  block_kept opening spot s t h = let q = met m spot s in block_keeps T m P k q.0 opening spot q.1 t (met_keeps T m P k spot s h)
+  block_kept opening cursor s t h = let q = met m cursor s in block_keeps T m P k q.0 opening cursor q.1 t (met_keeps T m P k cursor s h)
 
-  loop_kept : (head : LoopHead (List ℕ)) (spot : Spot) (s : S) → IsLoopHead T head → P s → P (step_loop m head spot s).1
+  loop_kept : (head : LoopHead (List ℕ)) (cursor : BlockCursor) (s : S) → IsLoopHead T head → P s → P (step_loop m head cursor s).1
   unfolding step_loop
-  loop_kept head spot s t h = let q = met m spot s in loop_keeps T m P k q.0 head q.1 t (met_keeps T m P k spot s h)
+  loop_kept head cursor s t h = let q = met m cursor s in loop_keeps T m P k q.0 head q.1 t (met_keeps T m P k cursor s h)
 
-  end_kept : (spot : Spot) (s : S) → P s → P (step_end m spot s).1
+  end_kept : (cursor : BlockCursor) (s : S) → P s → P (step_end m cursor s).1
   unfolding step_end
-  end_kept spot s h = end_keeps T m P k (what_ends spot.levels) s h
+  end_kept cursor s h = end_keeps T m P k (what_ends cursor.levels) s h
 
-  parts_same : (parts : List (Atom (List ℕ))) (spot : Spot) (s : S) → AreLeaves T parts → AreTested C parts → P s → step_parts m parts spot s ≡ step_parts n parts spot s
+  parts_same : (parts : List (LinePart (List ℕ))) (cursor : BlockCursor) (s : S) → AreLeaves T parts → AreTested C parts → P s → step_parts m parts cursor s ≡ step_parts n parts cursor s
   unfolding step_parts
-  parts_same [] spot s t c h = refl
-  parts_same (Leaf text ∷ rest) spot s t c h =
-      let r = step_leaf m text spot s in
-      parts_same rest r.0 r.1 t.1 c (leaf_kept text spot s t.0 h) ∙ ap (λ (r : Spot × S). step_parts n rest r.0 r.1) (step_leaf_same text spot s t.0 h)
-  parts_same (Guard head ∷ rest) spot s t c h =
-      let r = step_guard m head spot s in
-      parts_same rest r.0 r.1 t c.1 (guard_kept head spot s h) ∙ ap (λ (r : Spot × S). step_parts n rest r.0 r.1) (step_guard_same head spot s c.0 h)
-  parts_same (Block opening ∷ rest) spot s t c h =
-      let r = step_block m opening spot s in
-      parts_same rest r.0 r.1 t.1 c.1 (block_kept opening spot s t.0 h)
-      ∙ ap (λ (r : Spot × S). step_parts n rest r.0 r.1) (step_block_same opening spot s t.0 c.0 h)
-  parts_same (Loop head ∷ rest) spot s t c h =
-      let r = step_loop m head spot s in
-      parts_same rest r.0 r.1 t.1 c (loop_kept head spot s t.0 h) ∙ ap (λ (r : Spot × S). step_parts n rest r.0 r.1) (step_loop_same head spot s t.0 h)
-  parts_same (End ∷ rest) spot s t c h =
-      let r = step_end m spot s in
-      parts_same rest r.0 r.1 t c (end_kept spot s h) ∙ ap (λ (r : Spot × S). step_parts n rest r.0 r.1) (step_end_same spot s h)
-  parts_same (Region head ∷ rest) spot s t c h = step_region_same head spot s h
+  parts_same [] cursor s t c h = refl
+  parts_same (Leaf text ∷ rest) cursor s t c h =
+      let r = step_leaf m text cursor s in
+      parts_same rest r.0 r.1 t.1 c (leaf_kept text cursor s t.0 h) ∙ ap (λ (r : BlockCursor × S). step_parts n rest r.0 r.1) (step_leaf_same text cursor s t.0 h)
+  parts_same (Guard head ∷ rest) cursor s t c h =
+      let r = step_guard m head cursor s in
+      parts_same rest r.0 r.1 t c.1 (guard_kept head cursor s h) ∙ ap (λ (r : BlockCursor × S). step_parts n rest r.0 r.1) (step_guard_same head cursor s c.0 h)
+  parts_same (Block opening ∷ rest) cursor s t c h =
+      let r = step_block m opening cursor s in
+      parts_same rest r.0 r.1 t.1 c.1 (block_kept opening cursor s t.0 h)
+      ∙ ap (λ (r : BlockCursor × S). step_parts n rest r.0 r.1) (step_block_same opening cursor s t.0 c.0 h)
+  parts_same (Loop head ∷ rest) cursor s t c h =
+      let r = step_loop m head cursor s in
+      parts_same rest r.0 r.1 t.1 c (loop_kept head cursor s t.0 h) ∙ ap (λ (r : BlockCursor × S). step_parts n rest r.0 r.1) (step_loop_same head cursor s t.0 h)
+  parts_same (End ∷ rest) cursor s t c h =
+      let r = step_end m cursor s in
+      parts_same rest r.0 r.1 t c (end_kept cursor s h) ∙ ap (λ (r : BlockCursor × S). step_parts n rest r.0 r.1) (step_end_same cursor s h)
+  parts_same (Region head ∷ rest) cursor s t c h = step_region_same head cursor s h
 
   -- ---- lines
 
@@ -249,8 +249,8 @@ module _ {S : Type 0} (T : List ℕ → Type 0) (C : Condition (List ℕ) → Ty
         → step_from m (λ t. t) o line levels s ≡ step_from n (λ t. t) o line levels s
     unfolding step_from
     from_same None line levels s t h =
-        parts_same (atoms line) (at_line levels) (begin_line m line levels s) (leaves line t) (tested line t) (begun_keeps T m P k leaves l line levels s t h)
-        ∙ ap (step_parts n (atoms line) (at_line levels)) (begun_same line levels s t h)
+        parts_same (line_parts line) (at_line levels) (begin_line m line levels s) (leaves line t) (tested line t) (begun_keeps T m P k leaves l line levels s t h)
+        ∙ ap (step_parts n (line_parts line) (at_line levels)) (begun_same line levels s t h)
     from_same (Some o) line levels s t h = inside_same (is_ending o.ending line) o line levels s t h
 
     lines_same : (lines : List (List ℕ)) (a : At S) → AreSuch T lines → P a.state → step_lines m (λ t. t) lines a ≡ step_lines n (λ t. t) lines a

@@ -1,21 +1,21 @@
 -- Each line taken spends so much at most: helpers of proofs.
 use Rattle.std.proofs.Common.{◌≡◌, ℕ, zero, suc, ◌+◌, ◌*◌, ◌≤◌, Bool, true, false, ◌&&◌, not, List, [], ◌∷◌, length, Option, Some, None, refl, sym, subst, arith}
-use Rattle.page_roff_blocks.specs.declared.atoms.Atom.{Atom}
-use Rattle.page_roff_blocks.specs.declared.atoms.Atom.TheVariants.{Leaf, Guard, Block, Loop, End, Region}
-use Rattle.page_roff_blocks.specs.declared.atoms.Branch.{Branch}
-use Rattle.page_roff_blocks.specs.declared.atoms.Branch.TheVariants.{If, IfElse, Else}
-use Rattle.page_roff_blocks.specs.declared.atoms.Head.{Head}
-use Rattle.page_roff_blocks.specs.declared.atoms.Opening.{Opening}
-use Rattle.page_roff_blocks.specs.declared.atoms.Opening.TheVariants as openings
+use Rattle.page_roff_blocks.specs.declared.line_parts.LinePart.{LinePart}
+use Rattle.page_roff_blocks.specs.declared.line_parts.LinePart.TheVariants.{Leaf, Guard, Block, Loop, End, Region}
+use Rattle.page_roff_blocks.specs.declared.line_parts.Branch.{Branch}
+use Rattle.page_roff_blocks.specs.declared.line_parts.Branch.TheVariants.{If, IfElse, Else}
+use Rattle.page_roff_blocks.specs.declared.line_parts.Head.{Head}
+use Rattle.page_roff_blocks.specs.declared.line_parts.Opening.{Opening}
+use Rattle.page_roff_blocks.specs.declared.line_parts.Opening.TheVariants as openings
 use Rattle.page_roff_heads.specs.declared.loops.LoopHead.{LoopHead}
 use Rattle.page_roff_blocks.specs.declared.levels.Ended.{Ended}
 use Rattle.page_roff_blocks.specs.declared.levels.Ended.TheVariants as endings
 use Rattle.page_roff_regions.specs.declared.regions.RegionHead.{RegionHead}
 use Rattle.page_roff_blocks.specs.declared.levels.Way.{Way}
 use Rattle.page_roff_blocks.specs.declared.levels.Way.TheVariants.{Runs, Skips, Exceeds}
-use Rattle.page_roff_blocks.specs.Atoms.{atoms}
+use Rattle.page_roff_blocks.specs.LineParts.{line_parts}
 use Rattle.page_roff_regions.specs.Regions.{is_ending}
-use Rattle.page_roff_blocks.specs.Levels.{Levels, way_of, leave, what_ends, Spot, at_line, after_part, guarded_by, reached, reached_in, reached_from, reached_if, first_place}
+use Rattle.page_roff_blocks.specs.Levels.{Levels, way_of, leave, what_ends, BlockCursor, at_line, after_part, guarded_by, reached, reached_in, reached_from, reached_if, first_place}
 use Rattle.page_roff_regions.specs.OpenRegions.{Opened}
 use Rattle.page_roff_blocks.specs.Loops.{loop_text}
 use Rattle.page_roff_blocks.specs.Run.{Meaning, At, meet_as, value, keep_if, leaf_if, loop_if, refuse_if, end_by, run_lines}
@@ -31,23 +31,23 @@ use Rattle.page_roff_language.specs.Spent.{Spends}
 use Rattle.page_roff_language.specs.Spending.{unspent_if, unspent_at, unspent, AreMet, LeadsIn, Leads}
 use Rattle.page_roff_language.proofs.KeepLemmas.{turns_keep}
 
-guard_past : {S : Type 0} (m : Meaning (List ℕ) S) (is_met : Bool) (h : Head (List ℕ)) (spot : Spot) (s : S) → (guard_met m is_met h spot s).0.begun ≡ true
+guard_past : {S : Type 0} (m : Meaning (List ℕ) S) (is_met : Bool) (h : Head (List ℕ)) (cursor : BlockCursor) (s : S) → (guard_met m is_met h cursor s).0.begun ≡ true
 unfolding guard_met guard_with guarded_by
-guard_past m true h spot s = refl
-guard_past m false h spot s = refl
+guard_past m true h cursor s = refl
+guard_past m false h cursor s = refl
 
-opening_past : {S : Type 0} (m : Meaning (List ℕ) S) (opening : Opening (List ℕ)) (spot : Spot) (s : S) → (opening_met m opening spot s).0.begun ≡ true
+opening_past : {S : Type 0} (m : Meaning (List ℕ) S) (opening : Opening (List ℕ)) (cursor : BlockCursor) (s : S) → (opening_met m opening cursor s).0.begun ≡ true
 unfolding opening_met block_with after_part
-opening_past m (openings.Conditional h) spot s = refl
-opening_past m (openings.Loop h) spot s = refl
+opening_past m (openings.Conditional h) cursor s = refl
+opening_past m (openings.Loop h) cursor s = refl
 
-block_past : {S : Type 0} (m : Meaning (List ℕ) S) (is_met : Bool) (opening : Opening (List ℕ)) (spot : Spot) (s : S) → (block_met m is_met opening spot s).0.begun ≡ true
+block_past : {S : Type 0} (m : Meaning (List ℕ) S) (is_met : Bool) (opening : Opening (List ℕ)) (cursor : BlockCursor) (s : S) → (block_met m is_met opening cursor s).0.begun ≡ true
 unfolding block_met after_part
-block_past m true opening spot s = opening_past m opening spot s
-block_past m false opening spot s = refl
+block_past m true opening cursor s = opening_past m opening cursor s
+block_past m false opening cursor s = refl
 
 -- nothing is left to spend past the first part of a line, and where no part is left
-past_none : (region : Option Opened) (parts : List (Atom (List ℕ))) (begun gave_up : Bool) (most : ℕ) → begun ≡ true → unspent_at region parts begun gave_up most ≡ 0
+past_none : (region : Option Opened) (parts : List (LinePart (List ℕ))) (begun gave_up : Bool) (most : ℕ) → begun ≡ true → unspent_at region parts begun gave_up most ≡ 0
 unfolding unspent_at unspent_if
 past_none (Some o) parts begun gave_up most h = refl
 past_none None [] begun gave_up most h = refl
@@ -59,7 +59,7 @@ unfolding unspent_at
 empty_none (Some o) begun gave_up most = refl
 empty_none None begun gave_up most = refl
 
-unspent_most : (region : Option Opened) (parts : List (Atom (List ℕ))) (begun gave_up : Bool) (most : ℕ) → unspent_at region parts begun gave_up most ≤ most
+unspent_most : (region : Option Opened) (parts : List (LinePart (List ℕ))) (begun gave_up : Bool) (most : ℕ) → unspent_at region parts begun gave_up most ≤ most
 unfolding unspent_at unspent_if
 unspent_most (Some o) parts begun gave_up most = omega arith
 unspent_most None [] begun gave_up most = omega arith
@@ -125,9 +125,9 @@ module _ {R : Type 0} (spent : R → ℕ) (most : ℕ) (e : Effects R) (p : Spen
   unfolding Fresh
   fresh_ready s h = h
 
-  past_line : (spot : Spot) (s : Budgeted R) → spot.begun ≡ true → Base s → Line spot.begun s
+  past_line : (cursor : BlockCursor) (s : Budgeted R) → cursor.begun ≡ true → Base s → Line cursor.begun s
   unfolding Line
-  past_line spot s begun h = subst (λ (b : Bool). Line b s) (sym begun) h
+  past_line cursor s begun h = subst (λ (b : Bool). Line b s) (sym begun) h
 
   turned_base : (kind : Kind) (condition : List ℕ) (gave_up : Bool) (s : Budgeted R) → Ready (not gave_up) s → Base (turn_by e gave_up kind condition s).1
   unfolding turn_by with_rest Ready Full Base
@@ -187,9 +187,9 @@ module _ {R : Type 0} (spent : R → ℕ) (most : ℕ) (e : Effects R) (p : Spen
     met_of false zero false false s h = h
     met_of false zero false true s h = charge_fresh s h
 
-    met_ready : (spot : Spot) (s : Budgeted R) → Line spot.begun s → Ready (met how spot s).0 (met how spot s).1
+    met_ready : (cursor : BlockCursor) (s : Budgeted R) → Line cursor.begun s → Ready (met how cursor s).0 (met how cursor s).1
     unfolding met reached
-    met_ready spot s h = met_of spot.levels.in_loop spot.levels.skipped spot.passing spot.begun s h
+    met_ready cursor s h = met_of cursor.levels.in_loop cursor.levels.skipped cursor.passing cursor.begun s h
 
     value_base : (branch : Branch (List ℕ)) (bit : Bool) (s : Budgeted R) → Full s → Base (value how branch bit s).1
     unfolding how meaning_at meaning_by language meaning value test with_rest Full Base
@@ -197,10 +197,10 @@ module _ {R : Type 0} (spent : R → ℕ) (most : ℕ) (e : Effects R) (p : Spen
     value_base (IfElse condition) bit s h = omega (arith, h, p.tests kind condition s.rest)
     value_base Else bit s h = omega (arith, h)
 
-    guard_base : (is_met : Bool) (h : Head (List ℕ)) (spot : Spot) (s : Budgeted R) → Ready is_met s → Base (guard_met how is_met h spot s).1
+    guard_base : (is_met : Bool) (h : Head (List ℕ)) (cursor : BlockCursor) (s : Budgeted R) → Ready is_met s → Base (guard_met how is_met h cursor s).1
     unfolding guard_met guard_with Ready
-    guard_base true h spot s r = value_base h.branch spot.levels.bit s r
-    guard_base false h spot s r = r
+    guard_base true h cursor s r = value_base h.branch cursor.levels.bit s r
+    guard_base false h cursor s r = r
 
     refuse_base : (way : Way) (h : Head (List ℕ)) (s : Budgeted R) → Base s → Base (refuse_if how way h s)
     unfolding how meaning_at meaning_by language meaning refuse_if with_rest Base
@@ -212,17 +212,17 @@ module _ {R : Type 0} (spent : R → ℕ) (most : ℕ) (e : Effects R) (p : Spen
     unfolding how meaning_at meaning_by language meaning with_rest Base
     opens_loop_base h s r = omega (arith, r, p.opens_loop h s.rest)
 
-    opening_base : (opening : Opening (List ℕ)) (spot : Spot) (s : Budgeted R) → Full s → Base (opening_met how opening spot s).1
+    opening_base : (opening : Opening (List ℕ)) (cursor : BlockCursor) (s : Budgeted R) → Full s → Base (opening_met how opening cursor s).1
     unfolding opening_met block_with
-    opening_base (openings.Conditional h) spot s r =
-        let v = value how h.branch spot.levels.bit s in
-        refuse_base (way_of v.0 (length spot.levels.outer)) h v.1 (value_base h.branch spot.levels.bit s r)
-    opening_base (openings.Loop h) spot s r = opens_loop_base h s (full_base s r)
+    opening_base (openings.Conditional h) cursor s r =
+        let v = value how h.branch cursor.levels.bit s in
+        refuse_base (way_of v.0 (length cursor.levels.outer)) h v.1 (value_base h.branch cursor.levels.bit s r)
+    opening_base (openings.Loop h) cursor s r = opens_loop_base h s (full_base s r)
 
-    block_base : (is_met : Bool) (opening : Opening (List ℕ)) (spot : Spot) (s : Budgeted R) → Ready is_met s → Base (block_met how is_met opening spot s).1
+    block_base : (is_met : Bool) (opening : Opening (List ℕ)) (cursor : BlockCursor) (s : Budgeted R) → Ready is_met s → Base (block_met how is_met opening cursor s).1
     unfolding block_met Ready
-    block_base true opening spot s r = opening_base opening spot s r
-    block_base false opening spot s r = r
+    block_base true opening cursor s r = opening_base opening cursor s r
+    block_base false opening cursor s r = r
 
     unopened_base : (kind : Kind) (gave_up : Bool) (s : Budgeted R) → Base s → Base (unopened_by e kind gave_up s)
     unfolding unopened_by with_rest Base
@@ -300,31 +300,31 @@ module _ {R : Type 0} (spent : R → ℕ) (most : ℕ) (e : Effects R) (p : Spen
       end_base endings.Loop s h = closes_base s h
       end_base endings.Nothing s h = nothing_base s h
 
-      parts_base : (parts : List (Atom (List ℕ))) (spot : Spot) (s : Budgeted R) → Line spot.begun s → Base (step_parts how parts spot s).state
+      parts_base : (parts : List (LinePart (List ℕ))) (cursor : BlockCursor) (s : Budgeted R) → Line cursor.begun s → Base (step_parts how parts cursor s).state
       unfolding step_parts step_leaf step_guard step_block step_loop step_end step_region after_part Line
-      parts_base [] spot s h = line_base spot.begun s h
-      parts_base (Leaf text ∷ rest) spot s h =
-          let q = met how spot s in
-          let r = step_leaf how text spot s in
-          parts_base rest r.0 r.1 (leaf_base q.0 text q.1 (met_ready spot s h))
-      parts_base (Guard head ∷ rest) spot s h =
-          let q = met how spot s in
-          let r = step_guard how head spot s in
-          parts_base rest r.0 r.1 (past_line r.0 r.1 (guard_past how q.0 head spot q.1) (guard_base q.0 head spot q.1 (met_ready spot s h)))
-      parts_base (Block head ∷ rest) spot s h =
-          let q = met how spot s in
-          let r = step_block how head spot s in
-          parts_base rest r.0 r.1 (past_line r.0 r.1 (block_past how q.0 head spot q.1) (block_base q.0 head spot q.1 (met_ready spot s h)))
-      parts_base (Loop head ∷ rest) spot s h =
-          let q = met how spot s in
-          let r = step_loop how head spot s in
-          parts_base rest r.0 r.1 (loop_base q.0 head q.1 (ready_base q.0 q.1 (met_ready spot s h)))
-      parts_base (End ∷ rest) spot s h =
-          let r = step_end how spot s in
-          parts_base rest r.0 r.1 (end_base (what_ends spot.levels) s (line_base spot.begun s h))
-      parts_base (Region head ∷ rest) spot s h =
-          let q = met how spot s in
-          opens_base head q.0 q.1 (ready_base q.0 q.1 (met_ready spot s h))
+      parts_base [] cursor s h = line_base cursor.begun s h
+      parts_base (Leaf text ∷ rest) cursor s h =
+          let q = met how cursor s in
+          let r = step_leaf how text cursor s in
+          parts_base rest r.0 r.1 (leaf_base q.0 text q.1 (met_ready cursor s h))
+      parts_base (Guard head ∷ rest) cursor s h =
+          let q = met how cursor s in
+          let r = step_guard how head cursor s in
+          parts_base rest r.0 r.1 (past_line r.0 r.1 (guard_past how q.0 head cursor q.1) (guard_base q.0 head cursor q.1 (met_ready cursor s h)))
+      parts_base (Block head ∷ rest) cursor s h =
+          let q = met how cursor s in
+          let r = step_block how head cursor s in
+          parts_base rest r.0 r.1 (past_line r.0 r.1 (block_past how q.0 head cursor q.1) (block_base q.0 head cursor q.1 (met_ready cursor s h)))
+      parts_base (Loop head ∷ rest) cursor s h =
+          let q = met how cursor s in
+          let r = step_loop how head cursor s in
+          parts_base rest r.0 r.1 (loop_base q.0 head q.1 (ready_base q.0 q.1 (met_ready cursor s h)))
+      parts_base (End ∷ rest) cursor s h =
+          let r = step_end how cursor s in
+          parts_base rest r.0 r.1 (end_base (what_ends cursor.levels) s (line_base cursor.begun s h))
+      parts_base (Region head ∷ rest) cursor s h =
+          let q = met how cursor s in
+          opens_base head q.0 q.1 (ready_base q.0 q.1 (met_ready cursor s h))
 
       inside_base : (is_end : Bool) (o : Opened) (line : List ℕ) (l : Levels) (s : Budgeted R) → Base s → Base (step_inside how is_end o line l s).state
       unfolding step_inside
@@ -333,7 +333,7 @@ module _ {R : Type 0} (spent : R → ℕ) (most : ℕ) (e : Effects R) (p : Spen
 
       from_base : (o : Option Opened) (line : List ℕ) (l : Levels) (s : Budgeted R) → Base s → Base (step_from how (λ t. t) o line l s).state
       unfolding step_from at_line Line
-      from_base None line l s h = parts_base (atoms line) (at_line l) (steps.begin_line how line l s) (begins_fresh line l s h)
+      from_base None line l s h = parts_base (line_parts line) (at_line l) (steps.begin_line how line l s) (begins_fresh line l s h)
       from_base (Some o) line l s h = inside_base (is_ending o.ending line) o line l s h
 
       lines_base : (lines : List (List ℕ)) (x : At (Budgeted R)) → Base x.state → Base (step_lines how (λ t. t) lines x).state
@@ -376,14 +376,14 @@ module _ {R : Type 0} (spent : R → ℕ) (most : ℕ) (e : Effects R) (p : Spen
   Kept : Running (Budgeted R) → Type 0
   Kept r = AreMet r.under × Due r
 
-  kept_past : (f : Frame) (under : List Frame) (s : Budgeted R) → f.spot.begun ≡ true → AreMet under → Base s → Kept (record { top = f; under = under; state = s })
+  kept_past : (f : Frame) (under : List Frame) (s : Budgeted R) → f.cursor.begun ≡ true → AreMet under → Base s → Kept (record { top = f; under = under; state = s })
   unfolding Kept Due Base unspent
-  kept_past f under s t u h = (u, omega (arith, h, past_none f.region f.parts f.spot.begun s.gave_up most t))
+  kept_past f under s t u h = (u, omega (arith, h, past_none f.region f.parts f.cursor.begun s.gave_up most t))
 
   kept_empty : (f : Frame) (under : List Frame) (s : Budgeted R) → f.parts ≡ [] → AreMet under → Base s → Kept (record { top = f; under = under; state = s })
   unfolding Kept Due Base unspent
   kept_empty f under s t u h =
-      let k : unspent_at f.region f.parts f.spot.begun s.gave_up most ≡ 0 = rw t (empty_none f.region f.spot.begun s.gave_up most) in
+      let k : unspent_at f.region f.parts f.cursor.begun s.gave_up most ≡ 0 = rw t (empty_none f.region f.cursor.begun s.gave_up most) in
       (u, omega (arith, h, k))
 
   due_if : (begun gave_up : Bool) (left taken : ℕ) (rest : R)
@@ -396,14 +396,14 @@ module _ {R : Type 0} (spent : R → ℕ) (most : ℕ) (e : Effects R) (p : Spen
 
   fresh_due : (gave_up : Bool) (left taken : ℕ) (rest : R)
       → let s : Budgeted R = record { left = left; gave_up = gave_up; taken = taken; rest = rest } in
-      Fresh s → (parts : List (Atom (List ℕ))) → spent rest + unspent_at None parts false gave_up most + a ≤ most * taken + b
+      Fresh s → (parts : List (LinePart (List ℕ))) → spent rest + unspent_at None parts false gave_up most + a ≤ most * taken + b
   unfolding unspent_at unspent_if Base Full Ready Fresh
   fresh_due true left taken rest h [] = omega (arith, h)
   fresh_due false left taken rest h [] = omega (arith, h)
   fresh_due true left taken rest h (part ∷ more) = omega (arith, h)
   fresh_due false left taken rest h (part ∷ more) = omega (arith, h)
 
-  done_kept : (may_run : Bool) (f : Frame) (under : List Frame) (done : Done (Budgeted R)) → f.spot.begun ≡ true → AreMet under → Base (state_of done)
+  done_kept : (may_run : Bool) (f : Frame) (under : List Frame) (done : Done (Budgeted R)) → f.cursor.begun ≡ true → AreMet under → Base (state_of done)
       → Kept (leaf_next (language e) may_run f under done)
   unfolding leaf_next entered looped AreMet
   done_kept may_run f under (gives s) t u h = kept_past f under s t u h
@@ -412,7 +412,7 @@ module _ {R : Type 0} (spent : R → ℕ) (most : ℕ) (e : Effects R) (p : Spen
   done_kept false f under (repeats condition ls s) t u h = kept_past f under s t u h
   done_kept true f under (repeats condition ls s) t u h = kept_empty (looped f.kind condition ls) (f ∷ under) s refl (t, u) h
 
-  leaf_kept : (is_met : Bool) (text : List ℕ) (f : Frame) (under : List Frame) (s : Budgeted R) → f.spot.begun ≡ true → AreMet under → Ready is_met s
+  leaf_kept : (is_met : Bool) (text : List ℕ) (f : Frame) (under : List Frame) (s : Budgeted R) → f.cursor.begun ≡ true → AreMet under → Ready is_met s
       → Kept (machine.leaf_if (language e) is_met text f under s)
   unfolding machine.leaf_if Ready
   leaf_kept true text f under s t u h =
@@ -420,67 +420,67 @@ module _ {R : Type 0} (spent : R → ℕ) (most : ℕ) (e : Effects R) (p : Spen
       done_kept may_run f under ((language e).leaf may_run f.kind text s) t u (leaf_paid may_run f.kind text s h)
   leaf_kept false text f under s t u h = kept_past f under s t u h
 
-  whole_kept : (f : Frame) (under : List Frame) (s : Budgeted R) → f.spot.begun ≡ true → AreMet under → Base s → Kept (loop_next (language e) f under s)
+  whole_kept : (f : Frame) (under : List Frame) (s : Budgeted R) → f.cursor.begun ≡ true → AreMet under → Base s → Kept (loop_next (language e) f under s)
   unfolding loop_next
   whole_kept f under s t u h =
       let may_run = is_some (depth under) in done_kept may_run f under ((language e).closes may_run s) t u (loop_paid may_run s h)
 
   module _ (d : ℕ) (kind : Kind) where
-    loop_kept : (is_met : Bool) (h : LoopHead (List ℕ)) (f : Frame) (under : List Frame) (s : Budgeted R) → f.spot.begun ≡ true → AreMet under → Base s
+    loop_kept : (is_met : Bool) (h : LoopHead (List ℕ)) (f : Frame) (under : List Frame) (s : Budgeted R) → f.cursor.begun ≡ true → AreMet under → Base s
         → Kept (machine.loop_if (language e) (how d kind) is_met h f under s)
     unfolding machine.loop_if
     loop_kept true h f under s t u b = whole_kept f under ((how d kind).opens_loop h s) t u (opens_loop_base d kind h s b)
     loop_kept false h f under s t u b = kept_past f under s t u b
 
-    end_kept : (ending : Ended) (f : Frame) (under : List Frame) (s : Budgeted R) → f.spot.begun ≡ true → AreMet under → Base s
+    end_kept : (ending : Ended) (f : Frame) (under : List Frame) (s : Budgeted R) → f.cursor.begun ≡ true → AreMet under → Base s
         → Kept (end_next (language e) (how d kind) ending f under s)
     unfolding end_next
     end_kept endings.Block f under s t u h = kept_past f under s t u h
     end_kept endings.Loop f under s t u h = whole_kept f under s t u h
     end_kept endings.Nothing f under s t u h = kept_past f under ((how d kind).unopened s) t u (nothing_base d kind s h)
 
-    part_kept : (part : Atom (List ℕ)) (more : List (Atom (List ℕ))) (f : Frame) (under : List Frame) (s : Budgeted R) → AreMet under → Line f.spot.begun s
+    part_kept : (part : LinePart (List ℕ)) (more : List (LinePart (List ℕ))) (f : Frame) (under : List Frame) (s : Budgeted R) → AreMet under → Line f.cursor.begun s
         → Kept (part_next (language e) (how d kind) part more f under s)
     unfolding part_next step_guard step_block step_region at_part between after_part
     part_kept (Leaf text) more f under s u h =
-        let q = met (how d kind) f.spot s in
-        leaf_kept q.0 text (at_part f more (after_part f.spot.levels)) under q.1 refl u (met_ready d kind f.spot s h)
+        let q = met (how d kind) f.cursor s in
+        leaf_kept q.0 text (at_part f more (after_part f.cursor.levels)) under q.1 refl u (met_ready d kind f.cursor s h)
     part_kept (Guard head) more f under s u h =
-        let q = met (how d kind) f.spot s in
-        let r = step_guard (how d kind) head f.spot s in
-        kept_past (at_part f more r.0) under r.1 (guard_past (how d kind) q.0 head f.spot q.1) u (guard_base d kind q.0 head f.spot q.1 (met_ready d kind f.spot s h))
+        let q = met (how d kind) f.cursor s in
+        let r = step_guard (how d kind) head f.cursor s in
+        kept_past (at_part f more r.0) under r.1 (guard_past (how d kind) q.0 head f.cursor q.1) u (guard_base d kind q.0 head f.cursor q.1 (met_ready d kind f.cursor s h))
     part_kept (Block head) more f under s u h =
-        let q = met (how d kind) f.spot s in
-        let r = step_block (how d kind) head f.spot s in
-        kept_past (at_part f more r.0) under r.1 (block_past (how d kind) q.0 head f.spot q.1) u (block_base d kind q.0 head f.spot q.1 (met_ready d kind f.spot s h))
+        let q = met (how d kind) f.cursor s in
+        let r = step_block (how d kind) head f.cursor s in
+        kept_past (at_part f more r.0) under r.1 (block_past (how d kind) q.0 head f.cursor q.1) u (block_base d kind q.0 head f.cursor q.1 (met_ready d kind f.cursor s h))
     part_kept (Loop head) more f under s u h =
-        let q = met (how d kind) f.spot s in
-        loop_kept q.0 head (at_part f more (after_part f.spot.levels)) under q.1 refl u (ready_base q.0 q.1 (met_ready d kind f.spot s h))
+        let q = met (how d kind) f.cursor s in
+        loop_kept q.0 head (at_part f more (after_part f.cursor.levels)) under q.1 refl u (ready_base q.0 q.1 (met_ready d kind f.cursor s h))
     part_kept End more f under s u h =
-        end_kept (what_ends f.spot.levels) (at_part f more (after_part (leave f.spot.levels))) under s refl u (line_base f.spot.begun s h)
+        end_kept (what_ends f.cursor.levels) (at_part f more (after_part (leave f.cursor.levels))) under s refl u (line_base f.cursor.begun s h)
     part_kept (Region head) more f under s u h =
-        let q = met (how d kind) f.spot s in
-        let x = step_region (how d kind) head f.spot s in
-        kept_empty (between f x.place.region f.lines) under x.state refl u (opens_base d kind head q.0 q.1 (ready_base q.0 q.1 (met_ready d kind f.spot s h)))
+        let q = met (how d kind) f.cursor s in
+        let x = step_region (how d kind) head f.cursor s in
+        kept_empty (between f x.place.region f.lines) under x.state refl u (opens_base d kind head q.0 q.1 (ready_base q.0 q.1 (met_ready d kind f.cursor s h)))
 
     region_kept : (is_end : Bool) (o : Opened) (line : List ℕ) (more : List (List ℕ)) (f : Frame) (under : List Frame) (s : Budgeted R) → AreMet under → Base s
         → Kept (region_next (language e) (how d kind) is_end o line more f under s)
     unfolding region_next between
     region_kept true o line more f under s u h =
         let m = how d kind in
-        kept_empty (between f None more) under (keep_if m f.spot.levels.in_loop line (m.ends_region o line s)) refl u
-        (keeps_base d kind f.spot.levels.in_loop line (m.ends_region o line s) (over_base d kind o line s h))
+        kept_empty (between f None more) under (keep_if m f.cursor.levels.in_loop line (m.ends_region o line s)) refl u
+        (keeps_base d kind f.cursor.levels.in_loop line (m.ends_region o line s) (over_base d kind o line s h))
     region_kept false o line more f under s u h =
         let m = how d kind in
-        kept_empty (between f (Some o) more) under (keep_if m f.spot.levels.in_loop line (m.reads o line s)) refl u
-        (keeps_base d kind f.spot.levels.in_loop line (m.reads o line s) (within_base d kind o line s h))
+        kept_empty (between f (Some o) more) under (keep_if m f.cursor.levels.in_loop line (m.reads o line s)) refl u
+        (keeps_base d kind f.cursor.levels.in_loop line (m.reads o line s) (within_base d kind o line s h))
 
     line_kept : (line : List ℕ) (more : List (List ℕ)) (f : Frame) (under : List Frame) (s : Budgeted R) → AreMet under → Base s
         → Kept (line_next (language e) (how d kind) line more f under s)
     unfolding line_next at_line Kept Due unspent
     line_kept line more f under s u h =
-        let t = steps.begin_line (how d kind) line f.spot.levels s in
-        (u, fresh_due t.gave_up t.left t.taken t.rest (begins_fresh d kind line f.spot.levels s h) (atoms line))
+        let t = steps.begin_line (how d kind) line f.cursor.levels s in
+        (u, fresh_due t.gave_up t.left t.taken t.rest (begins_fresh d kind line f.cursor.levels s h) (line_parts line))
 
     same_kept : (x y : Running (Budgeted R)) → Kept x → Some x ≡ Some y → Kept y
     same_kept x y h k = let l : x ≡ y = cc in subst Kept l h
@@ -515,22 +515,22 @@ module _ {R : Type 0} (spent : R → ℕ) (most : ℕ) (e : Effects R) (p : Spen
     source_kept turning kind [] x q u h k = absurd (cc)
     source_kept turning kind (g ∷ gs) x q u h k = same_kept (body_next (language e) turning kind g gs x) q (body_kept turning kind g gs x u h) k
 
-    next_kept : (region : Option Opened) (parts : List (Atom (List ℕ))) (lines : List (List ℕ)) (f : Frame) (under : List Frame) (s : Budgeted R) (q : Running (Budgeted R))
-        → AreMet under → spent s.rest + unspent_at region parts f.spot.begun s.gave_up most + a ≤ most * s.taken + b
+    next_kept : (region : Option Opened) (parts : List (LinePart (List ℕ))) (lines : List (List ℕ)) (f : Frame) (under : List Frame) (s : Budgeted R) (q : Running (Budgeted R))
+        → AreMet under → spent s.rest + unspent_at region parts f.cursor.begun s.gave_up most + a ≤ most * s.taken + b
         → next_in (language e) (how d kind) region parts lines f under s ≡ Some q → Kept q
     unfolding next_in unspent_at Base
     next_kept None (part ∷ more) lines f under s q u h x =
         same_kept (part_next (language e) (how d kind) part more f under s) q
-        (part_kept part more f under s u (due_if f.spot.begun s.gave_up s.left s.taken s.rest h)) x
+        (part_kept part more f under s u (due_if f.cursor.begun s.gave_up s.left s.taken s.rest h)) x
     next_kept None [] (line ∷ more) f under s q u h x =
         same_kept (line_next (language e) (how d kind) line more f under s) q (line_kept line more f under s u (omega (arith, h))) x
     next_kept None [] [] f under s q u h x =
-        source_kept f.turning f.kind under (record { place = record { region = None; levels = f.spot.levels }; state = s }) q u (omega (arith, h)) x
+        source_kept f.turning f.kind under (record { place = record { region = None; levels = f.cursor.levels }; state = s }) q u (omega (arith, h)) x
     next_kept (Some o) parts (line ∷ more) f under s q u h x =
         same_kept (region_next (language e) (how d kind) (is_ending o.ending line) o line more f under s) q
         (region_kept (is_ending o.ending line) o line more f under s u (omega (arith, h))) x
     next_kept (Some o) parts [] f under s q u h x =
-        source_kept f.turning f.kind under (record { place = record { region = Some o; levels = f.spot.levels }; state = s }) q u (omega (arith, h)) x
+        source_kept f.turning f.kind under (record { place = record { region = Some o; levels = f.cursor.levels }; state = s }) q u (omega (arith, h)) x
 
   pub step_due : (r q : Running (Budgeted R)) → AreMet r.under → spent r.state.rest + unspent most r + a ≤ most * r.state.taken + b
       → next (language e) r ≡ Some q → AreMet q.under × (spent q.state.rest + unspent most q + a ≤ most * q.state.taken + b)
@@ -572,7 +572,7 @@ unfolding unspent
 line_spends spent most e p r q u x t =
     let k = leads_due spent most e p (most * r.state.taken) (spent r.state.rest + unspent most r) r q u (omega arith) x in
     let j = rw t at k.1 in
-    omega (arith, j, unspent_most r.top.region r.top.parts r.top.spot.begun r.state.gave_up most)
+    omega (arith, j, unspent_most r.top.region r.top.parts r.top.cursor.begun r.state.gave_up most)
 
 -- around each moment that comes later, too, each source stands past a part
 pub leads_met : {R : Type 0} (spent : R → ℕ) (most : ℕ) (e : Effects R) → Spends spent most e → (r q : Running (Budgeted R)) → AreMet r.under → Leads (language e) r q

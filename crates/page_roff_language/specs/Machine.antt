@@ -2,13 +2,13 @@
 -- run. Source: roff(7), "Macros", "while".
 use Rattle.std.specs.Prelude.{ℕ, zero, suc, ◌-◌, Bool, true, false, List, [], ◌∷◌, length, Option, Some, None}
 use Rattle.page_roff_heads.specs.declared.loops.LoopHead.{LoopHead}
-use Rattle.page_roff_blocks.specs.declared.atoms.Atom.{Atom}
-use Rattle.page_roff_blocks.specs.declared.atoms.Atom.TheVariants.{Leaf, Guard, Block, Loop, End, Region}
+use Rattle.page_roff_blocks.specs.declared.line_parts.LinePart.{LinePart}
+use Rattle.page_roff_blocks.specs.declared.line_parts.LinePart.TheVariants.{Leaf, Guard, Block, Loop, End, Region}
 use Rattle.page_roff_blocks.specs.declared.levels.Ended.{Ended}
 use Rattle.page_roff_blocks.specs.declared.levels.Ended.TheVariants as endings
-use Rattle.page_roff_blocks.specs.Atoms.{atoms}
+use Rattle.page_roff_blocks.specs.LineParts.{line_parts}
 use Rattle.page_roff_regions.specs.Regions.{is_ending}
-use Rattle.page_roff_blocks.specs.Levels.{Spot, at_line, after_part, outside, leave, what_ends}
+use Rattle.page_roff_blocks.specs.Levels.{BlockCursor, at_line, after_part, outside, leave, what_ends}
 use Rattle.page_roff_regions.specs.OpenRegions.{Opened}
 use Rattle.page_roff_blocks.specs.Run.{Meaning, At, keep_if}
 use Rattle.page_roff_blocks.specs.Steps.{met, step_guard, step_block, step_region, step_parts, begin_line, step_lines}
@@ -22,12 +22,12 @@ pub record Turning : Type 0 where
   pub left : ℕ
   pub begun : Bool
 
--- A source that is being run: its open region, what is left of its present line, the spot there, the lines after it, and for a loop its turns.
+-- A source that is being run: its open region, what is left of its present line, the cursor there, the lines after it, and for a loop its turns.
 pub record Frame : Type 0 where
   pub kind : Kind
   pub region : Option Opened
-  pub parts : List (Atom (List ℕ))
-  pub spot : Spot
+  pub parts : List (LinePart (List ℕ))
+  pub cursor : BlockCursor
   pub lines : List (List ℕ)
   pub turning : Option Turning
 
@@ -40,7 +40,7 @@ pub record Running (S : Type 0) : Type 0 where
 -- a macro begins
 unfoldable pub entered : List (List ℕ) → List (List ℕ) → Frame
 entered lines args =
-    record { kind = body (Some args); region = None; parts = []; spot = at_line outside; lines = lines; turning = None }
+    record { kind = body (Some args); region = None; parts = []; cursor = at_line outside; lines = lines; turning = None }
 
 -- a loop begins in a source of this kind: it is over, so that its first turn comes as all others do
 unfoldable pub looped : Kind → List ℕ → List (List ℕ) → Frame
@@ -49,7 +49,7 @@ looped kind condition lines =
       kind = inner kind;
       region = None;
       parts = [];
-      spot = at_line outside;
+      cursor = at_line outside;
       lines = [];
       turning = Some (record { condition = condition; lines = lines; left = TURNS; begun = false });
     }
@@ -61,23 +61,23 @@ turned kind t left =
       kind = kind;
       region = None;
       parts = [];
-      spot = at_line outside;
+      cursor = at_line outside;
       lines = t.lines;
       turning = Some (record { condition = t.condition; lines = t.lines; left = left; begun = true });
     }
 
-unfoldable pub at_part : Frame → List (Atom (List ℕ)) → Spot → Frame
-at_part f parts spot = record f { parts = parts; spot = spot }
+unfoldable pub at_part : Frame → List (LinePart (List ℕ)) → BlockCursor → Frame
+at_part f parts cursor = record f { parts = parts; cursor = cursor }
 
 -- between two lines
 unfoldable pub between : Frame → Option Opened → List (List ℕ) → Frame
-between f region lines = record f { region = region; parts = []; spot = at_line f.spot.levels; lines = lines }
+between f region lines = record f { region = region; parts = []; cursor = at_line f.cursor.levels; lines = lines }
 
 -- a line of the page, from where the lines before it left it
 unfoldable pub at_page : {S : Type 0} → List ℕ → At S → Running S
 at_page line a =
     record {
-      top = record { kind = page; region = a.place.region; parts = []; spot = at_line a.place.levels; lines = line ∷ []; turning = None };
+      top = record { kind = page; region = a.place.region; parts = []; cursor = at_line a.place.levels; lines = line ∷ []; turning = None };
       under = [];
       state = a.state;
     }
@@ -88,13 +88,13 @@ depth under = CALLS - length under
 
 -- where the innermost source stands between two lines
 unfoldable pub stands_at : {S : Type 0} → Running S → At S
-stands_at r = record { place = record { region = r.top.region; levels = r.top.spot.levels }; state = r.state }
+stands_at r = record { place = record { region = r.top.region; levels = r.top.cursor.levels }; state = r.state }
 
 module _ {S : Type 0} (l : Language S) where
   -- what is left of a source's present line
   unfoldable pub line_in : Meaning (List ℕ) S → Option Opened → Frame → S → At S
-  line_in m None f s = step_parts m f.parts f.spot s
-  line_in m (Some o) f s = record { place = record { region = Some o; levels = f.spot.levels }; state = s }
+  line_in m None f s = step_parts m f.parts f.cursor s
+  line_in m (Some o) f s = record { place = record { region = Some o; levels = f.cursor.levels }; state = s }
 
   unfoldable pub line_rest : Meaning (List ℕ) S → Frame → S → At S
   line_rest m f s = line_in m f.region f s
@@ -152,34 +152,34 @@ module _ {S : Type 0} (l : Language S) where
   end_next m endings.Nothing f under s = record { top = f; under = under; state = m.unopened s }
 
   -- a part of a line
-  unfoldable pub part_next : Meaning (List ℕ) S → Atom (List ℕ) → List (Atom (List ℕ)) → Frame → List Frame → S → Running S
+  unfoldable pub part_next : Meaning (List ℕ) S → LinePart (List ℕ) → List (LinePart (List ℕ)) → Frame → List Frame → S → Running S
   part_next m (Leaf text) more f under s =
-      let q = met m f.spot s in leaf_if q.0 text (at_part f more (after_part f.spot.levels)) under q.1
+      let q = met m f.cursor s in leaf_if q.0 text (at_part f more (after_part f.cursor.levels)) under q.1
   part_next m (Guard h) more f under s =
-      let r = step_guard m h f.spot s in record { top = at_part f more r.0; under = under; state = r.1 }
+      let r = step_guard m h f.cursor s in record { top = at_part f more r.0; under = under; state = r.1 }
   part_next m (Block h) more f under s =
-      let r = step_block m h f.spot s in record { top = at_part f more r.0; under = under; state = r.1 }
+      let r = step_block m h f.cursor s in record { top = at_part f more r.0; under = under; state = r.1 }
   part_next m (Loop h) more f under s =
-      let q = met m f.spot s in loop_if m q.0 h (at_part f more (after_part f.spot.levels)) under q.1
+      let q = met m f.cursor s in loop_if m q.0 h (at_part f more (after_part f.cursor.levels)) under q.1
   part_next m End more f under s =
-      end_next m (what_ends f.spot.levels) (at_part f more (after_part (leave f.spot.levels))) under s
+      end_next m (what_ends f.cursor.levels) (at_part f more (after_part (leave f.cursor.levels))) under s
   part_next m (Region head) more f under s =
-      let a = step_region m head f.spot s in record { top = between f a.place.region f.lines; under = under; state = a.state }
+      let a = step_region m head f.cursor s in record { top = between f a.place.region f.lines; under = under; state = a.state }
 
   -- a line in a region, which belongs to the loop around it, if one is collected
   unfoldable pub region_next : Meaning (List ℕ) S → Bool → Opened → List ℕ → List (List ℕ) → Frame → List Frame → S → Running S
   region_next m true o line more f under s =
-      record { top = between f None more; under = under; state = keep_if m f.spot.levels.in_loop line (m.ends_region o line s) }
+      record { top = between f None more; under = under; state = keep_if m f.cursor.levels.in_loop line (m.ends_region o line s) }
   region_next m false o line more f under s =
-      record { top = between f (Some o) more; under = under; state = keep_if m f.spot.levels.in_loop line (m.reads o line s) }
+      record { top = between f (Some o) more; under = under; state = keep_if m f.cursor.levels.in_loop line (m.reads o line s) }
 
   -- a line begins
   unfoldable pub line_next : Meaning (List ℕ) S → List ℕ → List (List ℕ) → Frame → List Frame → S → Running S
   line_next m line more f under s =
       record {
-        top = record f { region = None; parts = atoms line; spot = at_line f.spot.levels; lines = more };
+        top = record f { region = None; parts = line_parts line; cursor = at_line f.cursor.levels; lines = more };
         under = under;
-        state = begin_line m line f.spot.levels s;
+        state = begin_line m line f.cursor.levels s;
       }
 
   -- a turn of a loop comes, or the loop is over
@@ -201,14 +201,14 @@ module _ {S : Type 0} (l : Language S) where
   source_next turning kind [] a = None
   source_next turning kind (g ∷ gs) a = Some (body_next turning kind g gs a)
 
-  unfoldable pub next_in : Meaning (List ℕ) S → Option Opened → List (Atom (List ℕ)) → List (List ℕ) → Frame → List Frame → S → Option (Running S)
+  unfoldable pub next_in : Meaning (List ℕ) S → Option Opened → List (LinePart (List ℕ)) → List (List ℕ) → Frame → List Frame → S → Option (Running S)
   next_in m None (part ∷ more) lines f under s = Some (part_next m part more f under s)
   next_in m None [] (line ∷ more) f under s = Some (line_next m line more f under s)
   next_in m None [] [] f under s =
-      source_next f.turning f.kind under (record { place = record { region = None; levels = f.spot.levels }; state = s })
+      source_next f.turning f.kind under (record { place = record { region = None; levels = f.cursor.levels }; state = s })
   next_in m (Some o) parts (line ∷ more) f under s = Some (region_next m (is_ending o.ending line) o line more f under s)
   next_in m (Some o) parts [] f under s =
-      source_next f.turning f.kind under (record { place = record { region = Some o; levels = f.spot.levels }; state = s })
+      source_next f.turning f.kind under (record { place = record { region = Some o; levels = f.cursor.levels }; state = s })
 
   -- one step
   unfoldable pub next : Running S → Option (Running S)

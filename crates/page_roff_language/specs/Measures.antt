@@ -1,7 +1,7 @@
 -- How much work is left of sources that are run, at most: steps of the code. Trust needs no reading of it. Source: mandoc(1), "input stack limit".
 use Rattle.std.specs.Prelude.{◌≡◌, ℕ, suc, ◌+◌, ◌*◌, ◌≤◌, Bool, true, false, List, [], ◌∷◌, length, Option, Some, None}
-use Rattle.page_roff_blocks.specs.declared.atoms.Atom.{Atom}
-use Rattle.page_roff_blocks.specs.Levels.{Spot}
+use Rattle.page_roff_blocks.specs.declared.line_parts.LinePart.{LinePart}
+use Rattle.page_roff_blocks.specs.Levels.{BlockCursor}
 use Rattle.page_roff_language.specs.Languages.{page}
 use Rattle.page_roff_language.specs.Machine.{Frame, Turning, Running}
 use Rattle.page_roff_language.specs.Budgets.{Budgeted}
@@ -23,12 +23,12 @@ unfoldable pub fresh_if : Bool → ℕ
 fresh_if true = 0
 fresh_if false = 1
 
-unfoldable pub fresh_at : List (Atom (List ℕ)) → Spot → ℕ
-fresh_at [] spot = 0
-fresh_at (part ∷ more) spot = fresh_if spot.begun
+unfoldable pub fresh_at : List (LinePart (List ℕ)) → BlockCursor → ℕ
+fresh_at [] cursor = 0
+fresh_at (part ∷ more) cursor = fresh_if cursor.begun
 
 unfoldable pub fresh_in : Frame → ℕ
-fresh_in f = fresh_at f.parts f.spot
+fresh_in f = fresh_at f.parts f.cursor
 
 unfoldable pub freshes : List Frame → ℕ
 freshes [] = 0

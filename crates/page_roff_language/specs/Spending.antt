@@ -1,6 +1,6 @@
 -- A machine: what the lines taken spend, as interpolations, step by step. Trust needs no reading of it. Source: mandoc(1), "input stack limit".
 use Rattle.std.specs.Prelude.{◌≡◌, ℕ, zero, suc, Bool, true, false, List, [], ◌∷◌, Option, Some, None}
-use Rattle.page_roff_blocks.specs.declared.atoms.Atom.{Atom}
+use Rattle.page_roff_blocks.specs.declared.line_parts.LinePart.{LinePart}
 use Rattle.page_roff_regions.specs.OpenRegions.{Opened}
 use Rattle.page_roff_language.specs.Languages.{Language}
 use Rattle.page_roff_language.specs.Machine.{Frame, Running, next}
@@ -12,18 +12,18 @@ unspent_if true gave_up most = 0
 unspent_if false true most = 0
 unspent_if false false most = most
 
-unfoldable pub unspent_at : Option Opened → List (Atom (List ℕ)) → Bool → Bool → ℕ → ℕ
+unfoldable pub unspent_at : Option Opened → List (LinePart (List ℕ)) → Bool → Bool → ℕ → ℕ
 unspent_at (Some o) parts begun gave_up most = 0
 unspent_at None [] begun gave_up most = 0
 unspent_at None (part ∷ more) begun gave_up most = unspent_if begun gave_up most
 
 unfoldable pub unspent : {R : Type 0} → ℕ → Running (Budgeted R) → ℕ
-unspent most r = unspent_at r.top.region r.top.parts r.top.spot.begun r.state.gave_up most
+unspent most r = unspent_at r.top.region r.top.parts r.top.cursor.begun r.state.gave_up most
 
 -- each source around the innermost one stands past a part, which called the next
 unfoldable pub AreMet : List Frame → Type 0
 AreMet [] = Unit {0}
-AreMet (f ∷ fs) = (f.spot.begun ≡ true) × AreMet fs
+AreMet (f ∷ fs) = (f.cursor.begun ≡ true) × AreMet fs
 
 module _ {S : Type 0} (l : Language S) where
   -- a number of steps leads from one moment to another

@@ -3,23 +3,23 @@ use Rattle.std.proofs.Common.{◌≡◌, ℕ, ◌<◌, ◌≤◌, ◌^◌, inl, 
 use Rattle.page_core_base.specs.Messages.{Message}
 use Rattle.page_core_base.specs.declared.page_settings.Output.{Output}
 use Rattle.page_roff_heads.specs.declared.loops.LoopHead.{LoopHead}
-use Rattle.page_roff_blocks.specs.declared.atoms.Atom.{Atom}
-use Rattle.page_roff_blocks.specs.declared.atoms.Atom.TheVariants.{Leaf, Guard, Block, Loop, End, Region}
-use Rattle.page_roff_blocks.specs.declared.atoms.Branch.{Branch}
-use Rattle.page_roff_blocks.specs.declared.atoms.Branch.TheVariants.{If, IfElse, Else}
-use Rattle.page_roff_blocks.specs.declared.atoms.Head.{Head}
-use Rattle.page_roff_blocks.specs.declared.atoms.Opening.{Opening}
-use Rattle.page_roff_blocks.specs.declared.atoms.Opening.TheVariants as openings
+use Rattle.page_roff_blocks.specs.declared.line_parts.LinePart.{LinePart}
+use Rattle.page_roff_blocks.specs.declared.line_parts.LinePart.TheVariants.{Leaf, Guard, Block, Loop, End, Region}
+use Rattle.page_roff_blocks.specs.declared.line_parts.Branch.{Branch}
+use Rattle.page_roff_blocks.specs.declared.line_parts.Branch.TheVariants.{If, IfElse, Else}
+use Rattle.page_roff_blocks.specs.declared.line_parts.Head.{Head}
+use Rattle.page_roff_blocks.specs.declared.line_parts.Opening.{Opening}
+use Rattle.page_roff_blocks.specs.declared.line_parts.Opening.TheVariants as openings
 use Rattle.page_roff_blocks.specs.declared.levels.Ended.{Ended}
 use Rattle.page_roff_blocks.specs.declared.levels.Ended.TheVariants as endings
 use Rattle.page_roff_blocks.specs.declared.levels.Way.{Way}
 use Rattle.page_roff_blocks.specs.declared.levels.Way.TheVariants.{Runs, Skips, Exceeds}
 use Rattle.page_roff_regions.specs.declared.regions.RegionHead.{RegionHead}
-use Rattle.page_roff_blocks.specs.declared.spots.Pass.TheVariants as passes
-use Rattle.page_roff_blocks.specs.declared.spots.Reached.{Reached}
-use Rattle.page_roff_blocks.specs.declared.spots.Reached.TheVariants.{PassedOver, First, Remainder}
-use Rattle.page_roff_blocks.specs.Atoms.{atoms}
-use Rattle.page_roff_blocks.specs.Levels.{Levels, Spot, answered, after_part, guarded_by, way_of, passed, reached, reached_in, skip, what_ends, at_line, leave}
+use Rattle.page_roff_blocks.specs.declared.block_cursors.Pass.TheVariants as passes
+use Rattle.page_roff_blocks.specs.declared.block_cursors.Reached.{Reached}
+use Rattle.page_roff_blocks.specs.declared.block_cursors.Reached.TheVariants.{PassedOver, First, Remainder}
+use Rattle.page_roff_blocks.specs.LineParts.{line_parts}
+use Rattle.page_roff_blocks.specs.Levels.{Levels, BlockCursor, answered, after_part, guarded_by, way_of, passed, reached, reached_in, skip, what_ends, at_line, leave}
 use Rattle.page_roff_regions.specs.OpenRegions.{Opened, opened}
 use Rattle.page_roff_blocks.specs.Run.{Meaning, meet_as, value, refuse_if, keep_if}
 use Rattle.page_roff_blocks.specs.Steps as steps
@@ -37,7 +37,7 @@ use Rattle.page_roff_effects.specs.Effects.{effects}
 use Rattle.page_roff_effects.specs.States.{State, says}
 use Rattle.page_roff_stack.specs.declared.next.Next.{Next}
 use Rattle.page_roff_stack.specs.declared.next.Next.TheVariants.{Part, Line, RegionLine, Turn, SourceEnd, Nothing}
-use Rattle.page_roff_stack.specs.Changes.{is_page, next_line, first_atoms, first_region, region_of, past}
+use Rattle.page_roff_stack.specs.Changes.{is_page, next_line, first_line_parts, first_region, region_of, past}
 use Rattle.page_roff_stack.specs.declared.movements.Movement.TheVariants as moves
 use Rattle.page_roff_stack.specs.Stacks as stacks
 use Rattle.page_roff_stack.specs.Stacks.{Stack, running, with_top, has_begun, turn_in, turn_or_end, next_around, next_in, next_of, part_in, is_part, is_line, is_turn, may_end, is_nothing, end_of, turn_if, step_in, step_of}
@@ -90,56 +90,56 @@ module _ (output : Output) (d : ℕ) (kind : Kind) where
   refuse_same Exceeds h s = refl
 
   -- heads of conditionals
-  guard_same_if : (h : Head (List ℕ)) (is_run : Bool) (spot : Spot) (s : Budgeted State)
-      → guard_met m is_run h spot s ≡ (let a = answer_if m h.branch spot.levels.bit is_run s in (passed (passes.Guard (answered h.branch spot.levels.bit a.0)) spot, a.1))
+  guard_same_if : (h : Head (List ℕ)) (is_run : Bool) (cursor : BlockCursor) (s : Budgeted State)
+      → guard_met m is_run h cursor s ≡ (let a = answer_if m h.branch cursor.levels.bit is_run s in (passed (passes.Guard (answered h.branch cursor.levels.bit a.0)) cursor, a.1))
   unfolding guard_met guard_with guarded_by
-  guard_same_if h true spot s = refl
-  guard_same_if h false spot s = refl
+  guard_same_if h true cursor s = refl
+  guard_same_if h false cursor s = refl
 
-  guard_same : (h : Head (List ℕ)) (spot : Spot) (s : Budgeted State)
-      → step_guard m h spot s ≡ (let a = answer_after p h.branch spot.levels.bit (meet_as p (reached spot) s) in (passed (passes.Guard (answered h.branch spot.levels.bit a.0)) spot, a.1))
+  guard_same : (h : Head (List ℕ)) (cursor : BlockCursor) (s : Budgeted State)
+      → step_guard m h cursor s ≡ (let a = answer_after p h.branch cursor.levels.bit (meet_as p (reached cursor) s) in (passed (passes.Guard (answered h.branch cursor.levels.bit a.0)) cursor, a.1))
   unfolding step_guard met
-  guard_same h spot s =
-      let q = meet_as m (reached spot) s in
-      guard_same_if h q.0 spot q.1
-      ∙ ap (λ (a : Option Bool × Budgeted State). (passed (passes.Guard (answered h.branch spot.levels.bit a.0)) spot, a.1)) (answer_same h.branch spot.levels.bit (reached spot) s)
+  guard_same h cursor s =
+      let q = meet_as m (reached cursor) s in
+      guard_same_if h q.0 cursor q.1
+      ∙ ap (λ (a : Option Bool × Budgeted State). (passed (passes.Guard (answered h.branch cursor.levels.bit a.0)) cursor, a.1)) (answer_same h.branch cursor.levels.bit (reached cursor) s)
 
-  block_same_if : (h : Head (List ℕ)) (is_run : Bool) (spot : Spot) (s : Budgeted State)
-      → block_met m is_run (openings.Conditional h) spot s
-      ≡ (let a = answer_if m h.branch spot.levels.bit is_run s in (passed (passes.Block (answered h.branch spot.levels.bit a.0)) spot, refused output (answered h.branch spot.levels.bit a.0) h.column spot a.1))
+  block_same_if : (h : Head (List ℕ)) (is_run : Bool) (cursor : BlockCursor) (s : Budgeted State)
+      → block_met m is_run (openings.Conditional h) cursor s
+      ≡ (let a = answer_if m h.branch cursor.levels.bit is_run s in (passed (passes.Block (answered h.branch cursor.levels.bit a.0)) cursor, refused output (answered h.branch cursor.levels.bit a.0) h.column cursor a.1))
   unfolding block_met opening_met block_with refuse_if
-  block_same_if h true spot s =
-      let v = value m h.branch spot.levels.bit s in
-      ap (λ (t : Budgeted State). (passed (passes.Block (answered h.branch spot.levels.bit (Some v.0))) spot, t)) (refuse_same (way_of v.0 (length spot.levels.outer)) h v.1)
-  block_same_if h false spot s = refl
+  block_same_if h true cursor s =
+      let v = value m h.branch cursor.levels.bit s in
+      ap (λ (t : Budgeted State). (passed (passes.Block (answered h.branch cursor.levels.bit (Some v.0))) cursor, t)) (refuse_same (way_of v.0 (length cursor.levels.outer)) h v.1)
+  block_same_if h false cursor s = refl
 
-  block_same : (h : Head (List ℕ)) (spot : Spot) (s : Budgeted State)
-      → step_block m (openings.Conditional h) spot s
-      ≡ (let a = answer_after p h.branch spot.levels.bit (meet_as p (reached spot) s) in (passed (passes.Block (answered h.branch spot.levels.bit a.0)) spot, refused output (answered h.branch spot.levels.bit a.0) h.column spot a.1))
+  block_same : (h : Head (List ℕ)) (cursor : BlockCursor) (s : Budgeted State)
+      → step_block m (openings.Conditional h) cursor s
+      ≡ (let a = answer_after p h.branch cursor.levels.bit (meet_as p (reached cursor) s) in (passed (passes.Block (answered h.branch cursor.levels.bit a.0)) cursor, refused output (answered h.branch cursor.levels.bit a.0) h.column cursor a.1))
   unfolding step_block met
-  block_same h spot s =
-      let q = meet_as m (reached spot) s in
-      block_same_if h q.0 spot q.1
-      ∙ ap (λ (a : Option Bool × Budgeted State). (passed (passes.Block (answered h.branch spot.levels.bit a.0)) spot, refused output (answered h.branch spot.levels.bit a.0) h.column spot a.1)) (answer_same h.branch spot.levels.bit (reached spot) s)
+  block_same h cursor s =
+      let q = meet_as m (reached cursor) s in
+      block_same_if h q.0 cursor q.1
+      ∙ ap (λ (a : Option Bool × Budgeted State). (passed (passes.Block (answered h.branch cursor.levels.bit a.0)) cursor, refused output (answered h.branch cursor.levels.bit a.0) h.column cursor a.1)) (answer_same h.branch cursor.levels.bit (reached cursor) s)
 
-  passed_same : (h : Opening (List ℕ)) (spot : Spot) (s : Budgeted State) → reached spot ≡ PassedOver → step_block m h spot s ≡ (after_part (skip spot.levels), s)
+  passed_same : (h : Opening (List ℕ)) (cursor : BlockCursor) (s : Budgeted State) → reached cursor ≡ PassedOver → step_block m h cursor s ≡ (after_part (skip cursor.levels), s)
   unfolding step_block met meet_as block_met
-  passed_same h spot s e = rw e refl
+  passed_same h cursor s e = rw e refl
 
   -- heads of loops
-  opening_same_if : (h : LoopHead (List ℕ)) (is_run : Bool) (spot : Spot) (s : Budgeted State)
-      → block_met m is_run (openings.Loop h) spot s ≡ (let q = opens_if p h is_run s in (passed (passes.Loop q.0) spot, q.1))
+  opening_same_if : (h : LoopHead (List ℕ)) (is_run : Bool) (cursor : BlockCursor) (s : Budgeted State)
+      → block_met m is_run (openings.Loop h) cursor s ≡ (let q = opens_if p h is_run s in (passed (passes.Loop q.0) cursor, q.1))
   unfolding block_met opening_met m p meaning_at meaning_by language
-  opening_same_if h true spot s = refl
-  opening_same_if h false spot s = refl
+  opening_same_if h true cursor s = refl
+  opening_same_if h false cursor s = refl
 
-  opening_same : (h : LoopHead (List ℕ)) (spot : Spot) (s : Budgeted State)
-      → step_block m (openings.Loop h) spot s ≡ (let q = opens_after p h (meet_as p (reached spot) s) in (passed (passes.Loop q.0) spot, q.1))
+  opening_same : (h : LoopHead (List ℕ)) (cursor : BlockCursor) (s : Budgeted State)
+      → step_block m (openings.Loop h) cursor s ≡ (let q = opens_after p h (meet_as p (reached cursor) s) in (passed (passes.Loop q.0) cursor, q.1))
   unfolding step_block met
-  opening_same h spot s =
-      let q = meet_as m (reached spot) s in
-      opening_same_if h q.0 spot q.1
-      ∙ ap (λ (q : Bool × Budgeted State). let a = opens_after p h q in (passed (passes.Loop a.0) spot, a.1)) (met_same (reached spot) s)
+  opening_same h cursor s =
+      let q = meet_as m (reached cursor) s in
+      opening_same_if h q.0 cursor q.1
+      ∙ ap (λ (q : Bool × Budgeted State). let a = opens_after p h q in (passed (passes.Loop a.0) cursor, a.1)) (met_same (reached cursor) s)
 
   loop_same_if : (may_run is_run : Bool) (h : LoopHead (List ℕ)) (f : Frame) (under : List Frame) (s : Budgeted State) → is_some (depth under) ≡ may_run
       → machine.loop_if (language (acting_effects output)) m is_run h f under s
@@ -205,7 +205,7 @@ is_the_line (SourceEnd region begun) e = absurd (cc)
 is_the_line Nothing e = absurd (cc)
 
 -- the part that comes next
-pub is_the_part : (x : Next (List ℕ) Opened) (part : Atom (List ℕ)) → Some part ≡ part_in x → Part part ≡ x
+pub is_the_part : (x : Next (List ℕ) Opened) (part : LinePart (List ℕ)) → Some part ≡ part_in x → Part part ≡ x
 is_the_part (Part first) part e = let k : part ≡ first = cc in ap (λ part. Part part) k
 is_the_part (Line line) part e = absurd (cc)
 is_the_part (RegionLine o line is_end) part e = absurd (cc)
@@ -245,10 +245,10 @@ no_region_line : (turning : Option Turning) (region : Option Opened) (under : Li
     → RegionLine o line is_last ≡ next_around turning region under → ⊥
 no_region_line turning region under o line is_last e = let k : is_around (RegionLine o line is_last) ≡ true = ap is_around e ∙ end_around turning region under in cc
 
-no_part : (turning : Option Turning) (region : Option Opened) (under : List Frame) (part : Atom (List ℕ)) → Part part ≡ next_around turning region under → ⊥
+no_part : (turning : Option Turning) (region : Option Opened) (under : List Frame) (part : LinePart (List ℕ)) → Part part ≡ next_around turning region under → ⊥
 no_part turning region under part e = let k : is_around (Part part) ≡ true = ap is_around e ∙ end_around turning region under in cc
 
-part_first : (turning : Option Turning) (region : Option Opened) (parts : List (Atom (List ℕ))) (lines : List (List ℕ)) (under : List Frame) (part : Atom (List ℕ)) (is_run : Bool)
+part_first : (turning : Option Turning) (region : Option Opened) (parts : List (LinePart (List ℕ))) (lines : List (List ℕ)) (under : List Frame) (part : LinePart (List ℕ)) (is_run : Bool)
     → Part part ≡ next_in turning region parts lines under → first_region is_run parts ≡ region_of is_run part
 part_first turning None (first ∷ more) lines under part is_run e = let k : first ≡ part = cc in ap (region_of is_run) k
 part_first turning None [] (first ∷ more) under part is_run e = absurd (cc)
@@ -257,13 +257,13 @@ part_first turning (Some o) parts (first ∷ more) under part is_run e = absurd 
 part_first turning (Some o) parts [] under part is_run e = absurd (no_part turning (Some o) under part e)
 
 -- the region of the head that comes next
-region_there : (s : Stack) (part : Atom (List ℕ)) (is_run : Bool) → Part part ≡ next_of s → first_region is_run s.top.parts ≡ region_of is_run part
+region_there : (s : Stack) (part : LinePart (List ℕ)) (is_run : Bool) → Part part ≡ next_of s → first_region is_run s.top.parts ≡ region_of is_run part
 region_there s part is_run e = part_first s.top.turning s.top.region s.top.parts s.top.lines s.under part is_run e
 
-line_first : (turning : Option Turning) (region : Option Opened) (parts : List (Atom (List ℕ))) (lines : List (List ℕ)) (under : List Frame) (line : List ℕ)
-    → Line line ≡ next_in turning region parts lines under → (first_atoms lines ≡ atoms line) × (region ≡ None) × (0 < length lines)
+line_first : (turning : Option Turning) (region : Option Opened) (parts : List (LinePart (List ℕ))) (lines : List (List ℕ)) (under : List Frame) (line : List ℕ)
+    → Line line ≡ next_in turning region parts lines under → (first_line_parts lines ≡ line_parts line) × (region ≡ None) × (0 < length lines)
 line_first turning None (part ∷ more) lines under line e = absurd (cc)
-line_first turning None [] (first ∷ more) under line e = let k : first ≡ line = cc in (ap atoms k, refl, omega arith)
+line_first turning None [] (first ∷ more) under line e = let k : first ≡ line = cc in (ap line_parts k, refl, omega arith)
 line_first turning None [] [] under line e = absurd (no_line turning None under line e)
 line_first turning (Some o) parts (first ∷ more) under line e = absurd (cc)
 line_first turning (Some o) parts [] under line e = absurd (no_line turning (Some o) under line e)
@@ -271,7 +271,7 @@ line_first turning (Some o) parts [] under line e = absurd (no_line turning (Som
 pub line_there : (s : Stack) (line : List ℕ) → Line line ≡ next_of s → 0 < length s.top.lines
 line_there s line e = (line_first s.top.turning s.top.region s.top.parts s.top.lines s.under line e).2
 
-region_first : (turning : Option Turning) (region : Option Opened) (parts : List (Atom (List ℕ))) (lines : List (List ℕ)) (under : List Frame) (o : Opened) (line : List ℕ) (is_last : Bool)
+region_first : (turning : Option Turning) (region : Option Opened) (parts : List (LinePart (List ℕ))) (lines : List (List ℕ)) (under : List Frame) (o : Opened) (line : List ℕ) (is_last : Bool)
     → RegionLine o line is_last ≡ next_in turning region parts lines under → (region ≡ Some o) × (0 < length lines)
 region_first turning None (part ∷ more) lines under o line is_last e = absurd (cc)
 region_first turning None [] (first ∷ more) under o line is_last e = absurd (cc)
@@ -283,7 +283,7 @@ pub region_line_there : (s : Stack) (o : Opened) (line : List ℕ) (is_last : Bo
 region_line_there s o line is_last e = (region_first s.top.turning s.top.region s.top.parts s.top.lines s.under o line is_last e).1
 
 -- in a loop that is collected a region is passed over
-pub region_passed : (r : Runner) (o : Opened) (line : List ℕ) (is_last in_loop : Bool) → RegionLine o line is_last ≡ next_of r.stack → in_loop ≡ r.stack.top.spot.levels.in_loop
+pub region_passed : (r : Runner) (o : Opened) (line : List ℕ) (is_last in_loop : Bool) → RegionLine o line is_last ≡ next_of r.stack → in_loop ≡ r.stack.top.cursor.levels.in_loop
     → IsSound r → in_loop ≡ true → o.is_run ≡ false
 region_passed r o line is_last in_loop e el sound h =
     let s = r.stack in
@@ -325,20 +325,20 @@ can_repeat kinds.Line may_run s b e h = absurd h
 can_repeat kinds.Call may_run s b e h = absurd h
 can_repeat kinds.Loop may_run s b e h = rw (← e) h
 
-reached_in_loop : (spot : Spot) → spot.levels.in_loop ≡ true → reached spot ≡ PassedOver
+reached_in_loop : (cursor : BlockCursor) → cursor.levels.in_loop ≡ true → reached cursor ≡ PassedOver
 unfolding reached reached_in
-reached_in_loop spot e = rw e refl
+reached_in_loop cursor e = rw e refl
 
 -- a source that was begun ends
 finish_same : (b : BudgetedActions) (begun : Bool) (region : Option Opened) (f : Frame) (s : Budgeted State)
-    → finish_if (language (acting_effects (output_of b))) begun (end_of region f s) ≡ finished_in b begun region f.spot.levels.in_loop f.kind s
+    → finish_if (language (acting_effects (output_of b))) begun (end_of region f s) ≡ finished_in b begun region f.cursor.levels.in_loop f.kind s
 unfolding finish_if finish_at
 finish_same b true region f s = refl
 finish_same b false region f s = refl
 
 module _ {P S : Type 0} (left : P → S → List Message → Type 0) (old : Runner) (new : BudgetedActions) (out out_new : S) where
   pub decides_leaf : (text : List ℕ) (r : Reached) (may_call : Bool) (result : ProductKind)
-      → Part (Leaf text) ≡ next_of old.stack → r ≡ reached old.stack.top.spot → may_call ≡ is_some (depth old.stack.under)
+      → Part (Leaf text) ≡ next_of old.stack → r ≡ reached old.stack.top.cursor → may_call ≡ is_some (depth old.stack.under)
       → IsIn old.stack.top.kind old.doing
       → Makes left old.doing out (λ kind. IsIn kind old.doing) (leaf_in old.doing may_call text r) new (done_as result) out_new
       → IfCalled result (IsCallable may_call new.actions.call)
@@ -349,9 +349,9 @@ module _ {P S : Type 0} (left : P → S → List Message → Type 0) (old : Runn
       let l = language (acting_effects output) in
       let s = old.stack in
       let d = depth s.under in
-      let f = past (after_part s.top.spot.levels) s.top in
+      let f = past (after_part s.top.cursor.levels) s.top in
       let state = state_in [] old.doing in
-      let q = meet_as (meaning_at l d s.top.kind) (reached s.top.spot) state in
+      let q = meet_as (meaning_at l d s.top.kind) (reached s.top.cursor) state in
       record {
         stack = refl;
         setting = a.setting;
@@ -361,14 +361,14 @@ module _ {P S : Type 0} (left : P → S → List Message → Type 0) (old : Runn
             step_next output s (Part (Leaf text)) state e
             ∙ ap (λ next. Some next) (leaf_same l may_call q.0 text f s.under q.1 (sym em))
             ∙ ap (λ (q : Bool × Budgeted State). Some (leaf_next l may_call f s.under (leaf_after l may_call s.top.kind text q)))
-            (met_same output d s.top.kind (reached s.top.spot) state ∙ ap (λ r. meet_as (meaning (acting_effects output) s.top.kind) r state) (sym er))
+            (met_same output d s.top.kind (reached s.top.cursor) state ∙ ap (λ r. meet_as (meaning (acting_effects output) s.top.kind) r state) (sym er))
             ∙ ap (λ done. Some (leaf_next l may_call f s.under done)) (a.state s.top.kind k [])
             ∙ ap (λ may_call. Some (leaf_next l may_call f s.under (done_as result new (map says a.notes)))) em;
         suits = can_call result may_call s new em callable;
       }
 
   pub decides_loop : (head : LoopHead (List ℕ)) (r : Reached) (may_run : Bool) (result : ProductKind)
-      → Part (Loop head) ≡ next_of old.stack → r ≡ reached old.stack.top.spot → may_run ≡ is_some (depth old.stack.under)
+      → Part (Loop head) ≡ next_of old.stack → r ≡ reached old.stack.top.cursor → may_run ≡ is_some (depth old.stack.under)
       → IsIn old.stack.top.kind old.doing
       → Makes left old.doing out (λ kind. IsIn kind old.doing) (passed_in old.doing may_run head r) new (done_as result) out_new
       → IfRepeated result (IsRepeatable may_run new.actions.call.body)
@@ -379,9 +379,9 @@ module _ {P S : Type 0} (left : P → S → List Message → Type 0) (old : Runn
       let l = language (acting_effects output) in
       let s = old.stack in
       let d = depth s.under in
-      let f = past (after_part s.top.spot.levels) s.top in
+      let f = past (after_part s.top.cursor.levels) s.top in
       let state = state_in [] old.doing in
-      let q = meet_as (meaning_at l d s.top.kind) (reached s.top.spot) state in
+      let q = meet_as (meaning_at l d s.top.kind) (reached s.top.cursor) state in
       record {
         stack = refl;
         setting = a.setting;
@@ -391,14 +391,14 @@ module _ {P S : Type 0} (left : P → S → List Message → Type 0) (old : Runn
             step_next output s (Part (Loop head)) state e
             ∙ ap (λ next. Some next) (loop_same_if output d s.top.kind may_run q.0 head f s.under q.1 (sym em))
             ∙ ap (λ (q : Bool × Budgeted State). Some (leaf_next l may_run f s.under (closes_after l may_run (opens_after (parts_of old.doing s.top.kind) head q))))
-            (met_same output d s.top.kind (reached s.top.spot) state ∙ ap (λ r. meet_as (meaning (acting_effects output) s.top.kind) r state) (sym er))
+            (met_same output d s.top.kind (reached s.top.cursor) state ∙ ap (λ r. meet_as (meaning (acting_effects output) s.top.kind) r state) (sym er))
             ∙ ap (λ done. Some (leaf_next l may_run f s.under done)) (a.state s.top.kind k [])
             ∙ ap (λ may_run. Some (leaf_next l may_run f s.under (done_as result new (map says a.notes)))) em;
         suits = can_repeat result may_run s new em repeatable;
       }
 
   pub decides_guard : (h : Head (List ℕ)) (r : Reached) (bit : Bool) (result : Option Bool)
-      → Part (Guard h) ≡ next_of old.stack → r ≡ reached old.stack.top.spot → bit ≡ old.stack.top.spot.levels.bit
+      → Part (Guard h) ≡ next_of old.stack → r ≡ reached old.stack.top.cursor → bit ≡ old.stack.top.cursor.levels.bit
       → IsIn old.stack.top.kind old.doing
       → Answers left old.doing out (answer_in old.doing h.branch bit r) result new out_new
       → Decides left old out (acts.Move (moves.Part (passes.Guard (answered h.branch bit result)))) (record { stack = old.stack; doing = new }) out_new
@@ -408,7 +408,7 @@ module _ {P S : Type 0} (left : P → S → List Message → Type 0) (old : Runn
       let s = old.stack in
       let d = depth s.under in
       let state = state_in [] old.doing in
-      let to : Spot × Budgeted State → Option (Running (Budgeted State)) = λ t. Some (running (with_top (past t.0 s.top) s) t.1) in
+      let to : BlockCursor × Budgeted State → Option (Running (Budgeted State)) = λ t. Some (running (with_top (past t.0 s.top) s) t.1) in
       record {
         stack = refl;
         setting = a.setting;
@@ -416,17 +416,17 @@ module _ {P S : Type 0} (left : P → S → List Message → Type 0) (old : Runn
         came = a.came;
         step =
             step_next output s (Part (Guard h)) state e
-            ∙ ap to (guard_same output d s.top.kind h s.top.spot state)
-            ∙ ap (λ (a : Option Bool × Budgeted State). to (passed (passes.Guard (answered h.branch s.top.spot.levels.bit a.0)) s.top.spot, a.1))
-            (ap (λ r. answer_in old.doing h.branch s.top.spot.levels.bit r s.top.kind state) (sym er)
+            ∙ ap to (guard_same output d s.top.kind h s.top.cursor state)
+            ∙ ap (λ (a : Option Bool × Budgeted State). to (passed (passes.Guard (answered h.branch s.top.cursor.levels.bit a.0)) s.top.cursor, a.1))
+            (ap (λ r. answer_in old.doing h.branch s.top.cursor.levels.bit r s.top.kind state) (sym er)
             ∙ ap (λ bit. answer_in old.doing h.branch bit r s.top.kind state) (sym eb)
             ∙ a.state s.top.kind k [])
-            ∙ ap (λ bit. to (passed (passes.Guard (answered h.branch bit result)) s.top.spot, state_in (map says a.notes) new)) (sym eb);
+            ∙ ap (λ bit. to (passed (passes.Guard (answered h.branch bit result)) s.top.cursor, state_in (map says a.notes) new)) (sym eb);
         suits = (tt, tt);
       }
 
   pub decides_block : (h : Head (List ℕ)) (r : Reached) (bit : Bool) (result : Option Bool)
-      → Part (Block (openings.Conditional h)) ≡ next_of old.stack → r ≡ reached old.stack.top.spot → bit ≡ old.stack.top.spot.levels.bit
+      → Part (Block (openings.Conditional h)) ≡ next_of old.stack → r ≡ reached old.stack.top.cursor → bit ≡ old.stack.top.cursor.levels.bit
       → IsIn old.stack.top.kind old.doing
       → Answers left old.doing out (answer_in old.doing h.branch bit r) result new out_new
       → Decides left old out (acts.Block (answered h.branch bit result) h.column) (record { stack = old.stack; doing = new }) out_new
@@ -436,7 +436,7 @@ module _ {P S : Type 0} (left : P → S → List Message → Type 0) (old : Runn
       let s = old.stack in
       let d = depth s.under in
       let state = state_in [] old.doing in
-      let to : Spot × Budgeted State → Option (Running (Budgeted State)) = λ t. Some (running (with_top (past t.0 s.top) s) t.1) in
+      let to : BlockCursor × Budgeted State → Option (Running (Budgeted State)) = λ t. Some (running (with_top (past t.0 s.top) s) t.1) in
       record {
         stack = refl;
         setting = a.setting;
@@ -444,17 +444,17 @@ module _ {P S : Type 0} (left : P → S → List Message → Type 0) (old : Runn
         came = a.came;
         step =
             step_next output s (Part (Block (openings.Conditional h))) state e
-            ∙ ap to (block_same output d s.top.kind h s.top.spot state)
-            ∙ ap (λ (a : Option Bool × Budgeted State). let answer = answered h.branch s.top.spot.levels.bit a.0 in to (passed (passes.Block answer) s.top.spot, refused output answer h.column s.top.spot a.1))
-            (ap (λ r. answer_in old.doing h.branch s.top.spot.levels.bit r s.top.kind state) (sym er)
+            ∙ ap to (block_same output d s.top.kind h s.top.cursor state)
+            ∙ ap (λ (a : Option Bool × Budgeted State). let answer = answered h.branch s.top.cursor.levels.bit a.0 in to (passed (passes.Block answer) s.top.cursor, refused output answer h.column s.top.cursor a.1))
+            (ap (λ r. answer_in old.doing h.branch s.top.cursor.levels.bit r s.top.kind state) (sym er)
             ∙ ap (λ bit. answer_in old.doing h.branch bit r s.top.kind state) (sym eb)
             ∙ a.state s.top.kind k [])
-            ∙ ap (λ bit. let answer = answered h.branch bit result in to (passed (passes.Block answer) s.top.spot, refused output answer h.column s.top.spot (state_in (map says a.notes) new))) (sym eb);
+            ∙ ap (λ bit. let answer = answered h.branch bit result in to (passed (passes.Block answer) s.top.cursor, refused output answer h.column s.top.cursor (state_in (map says a.notes) new))) (sym eb);
         suits = ap is_part (sym e);
       }
 
   pub decides_open_loop : (head : LoopHead (List ℕ)) (r : Reached) (result : Bool)
-      → Part (Block (openings.Loop head)) ≡ next_of old.stack → r ≡ reached old.stack.top.spot
+      → Part (Block (openings.Loop head)) ≡ next_of old.stack → r ≡ reached old.stack.top.cursor
       → IsIn old.stack.top.kind old.doing
       → Answers left old.doing out (opened_in old.doing head r) result new out_new
       → Decides left old out (acts.Move (moves.Part (passes.Loop result))) (record { stack = old.stack; doing = new }) out_new
@@ -464,7 +464,7 @@ module _ {P S : Type 0} (left : P → S → List Message → Type 0) (old : Runn
       let s = old.stack in
       let d = depth s.under in
       let state = state_in [] old.doing in
-      let to : Spot × Budgeted State → Option (Running (Budgeted State)) = λ t. Some (running (with_top (past t.0 s.top) s) t.1) in
+      let to : BlockCursor × Budgeted State → Option (Running (Budgeted State)) = λ t. Some (running (with_top (past t.0 s.top) s) t.1) in
       record {
         stack = refl;
         setting = a.setting;
@@ -472,14 +472,14 @@ module _ {P S : Type 0} (left : P → S → List Message → Type 0) (old : Runn
         came = a.came;
         step =
             step_next output s (Part (Block (openings.Loop head))) state e
-            ∙ ap to (opening_same output d s.top.kind head s.top.spot state)
-            ∙ ap (λ (q : Bool × Budgeted State). to (passed (passes.Loop q.0) s.top.spot, q.1))
+            ∙ ap to (opening_same output d s.top.kind head s.top.cursor state)
+            ∙ ap (λ (q : Bool × Budgeted State). to (passed (passes.Loop q.0) s.top.cursor, q.1))
             (ap (λ r. opened_in old.doing head r s.top.kind state) (sym er) ∙ a.state s.top.kind k []);
         suits = (ap is_part (sym e), tt);
       }
 
   pub decides_region : (head : RegionHead (List ℕ)) (r : Reached) (result : Bool)
-      → Part (Region head) ≡ next_of old.stack → r ≡ reached old.stack.top.spot
+      → Part (Region head) ≡ next_of old.stack → r ≡ reached old.stack.top.cursor
       → IsIn old.stack.top.kind old.doing
       → Answers left old.doing out (region_in old.doing head r) result new out_new
       → Decides left old out (acts.Move (moves.Region result)) (record { stack = old.stack; doing = new }) out_new
@@ -490,7 +490,7 @@ module _ {P S : Type 0} (left : P → S → List Message → Type 0) (old : Runn
       let d = depth s.under in
       let state = state_in [] old.doing in
       let frame : Option Opened → Frame =
-      λ region. record { kind = s.top.kind; region = region; parts = []; spot = at_line s.top.spot.levels; lines = s.top.lines; turning = s.top.turning } in
+      λ region. record { kind = s.top.kind; region = region; parts = []; cursor = at_line s.top.cursor.levels; lines = s.top.lines; turning = s.top.turning } in
       let to : Bool × Budgeted State → Option (Running (Budgeted State)) = λ t. Some (running (with_top (frame (Some (opened head t.0))) s) t.1) in
       record {
         stack = refl;
@@ -500,19 +500,19 @@ module _ {P S : Type 0} (left : P → S → List Message → Type 0) (old : Runn
         step =
             step_next output s (Part (Region head)) state e
             ∙ ap (λ (q : Bool × Budgeted State). to (region_after (parts_of old.doing s.top.kind) head q))
-            (met_same output d s.top.kind (reached s.top.spot) state ∙ ap (λ r. meet_as (parts_of old.doing s.top.kind) r state) (sym er))
+            (met_same output d s.top.kind (reached s.top.cursor) state ∙ ap (λ r. meet_as (parts_of old.doing s.top.kind) r state) (sym er))
             ∙ ap to (a.state s.top.kind k [])
             ∙ ap (λ region. Some (running (with_top (frame region) s) (state_in (map says a.notes) new))) (sym (region_there s (Region head) result e));
         suits = (
           ap is_part (sym e),
           λ h.
               sym (ap (λ (q : Bool × Budgeted State). q.0) (a.state s.top.kind k []))
-              ∙ ap (λ r. (meet_as (parts_of old.doing s.top.kind) r state).0) (er ∙ reached_in_loop s.top.spot h),
+              ∙ ap (λ r. (meet_as (parts_of old.doing s.top.kind) r state).0) (er ∙ reached_in_loop s.top.cursor h),
         );
       }
 
   pub decides_region_line : (o : Opened) (line : List ℕ) (is_page_now in_loop : Bool) (result : ProductKind)
-      → RegionLine o line false ≡ next_of old.stack → is_page_now ≡ is_page old.stack.top.kind → in_loop ≡ old.stack.top.spot.levels.in_loop
+      → RegionLine o line false ≡ next_of old.stack → is_page_now ≡ is_page old.stack.top.kind → in_loop ≡ old.stack.top.cursor.levels.in_loop
       → IsIn old.stack.top.kind old.doing
       → Makes left old.doing out (IsAt is_page_now old.doing) (read_kept_in old.doing in_loop o line) new (line_after result) out_new
       → Decides left old out (acts.RegionLine result) (record { stack = old.stack; doing = new }) out_new
@@ -524,7 +524,7 @@ module _ {P S : Type 0} (left : P → S → List Message → Type 0) (old : Runn
       let state = state_in [] old.doing in
       let to : Option Opened → Budgeted State → Option (Running (Budgeted State)) =
       λ region state.
-      Some (running (with_top (record { kind = s.top.kind; region = region; parts = []; spot = at_line s.top.spot.levels; lines = drop 1 s.top.lines; turning = s.top.turning }) s) state) in
+      Some (running (with_top (record { kind = s.top.kind; region = region; parts = []; cursor = at_line s.top.cursor.levels; lines = drop 1 s.top.lines; turning = s.top.turning }) s) state) in
       record {
         stack = refl;
         setting = a.setting;
@@ -533,7 +533,7 @@ module _ {P S : Type 0} (left : P → S → List Message → Type 0) (old : Runn
         step =
             step_next output s (RegionLine o line false) state e
             ∙ ap (to (Some o))
-            (keep_same output d s.top.kind s.top.spot.levels.in_loop line ((parts_of old.doing s.top.kind).reads o line state)
+            (keep_same output d s.top.kind s.top.cursor.levels.in_loop line ((parts_of old.doing s.top.kind).reads o line state)
             ∙ ap (λ in_loop. read_kept_in old.doing in_loop o line s.top.kind state) (sym el)
             ∙ a.state s.top.kind (record { page = sym ep; setting = k }) [])
             ∙ ap (λ region. to region (state_in (map says a.notes ++ line_of result new.actions) new))
@@ -542,7 +542,7 @@ module _ {P S : Type 0} (left : P → S → List Message → Type 0) (old : Runn
       }
 
   pub decides_region_end : (o : Opened) (line : List ℕ) (is_page_now in_loop : Bool)
-      → RegionLine o line true ≡ next_of old.stack → is_page_now ≡ is_page old.stack.top.kind → in_loop ≡ old.stack.top.spot.levels.in_loop
+      → RegionLine o line true ≡ next_of old.stack → is_page_now ≡ is_page old.stack.top.kind → in_loop ≡ old.stack.top.cursor.levels.in_loop
       → IsIn old.stack.top.kind old.doing
       → Makes left old.doing out (IsAt is_page_now old.doing) (ended_kept_in old.doing in_loop o line) new state_after out_new
       → Decides left old out (acts.Move moves.RegionEnd) (record { stack = old.stack; doing = new }) out_new
@@ -553,7 +553,7 @@ module _ {P S : Type 0} (left : P → S → List Message → Type 0) (old : Runn
       let d = depth s.under in
       let state = state_in [] old.doing in
       let to : Budgeted State → Option (Running (Budgeted State)) =
-      λ state. Some (running (with_top (record { kind = s.top.kind; region = None; parts = []; spot = at_line s.top.spot.levels; lines = drop 1 s.top.lines; turning = s.top.turning }) s) state) in
+      λ state. Some (running (with_top (record { kind = s.top.kind; region = None; parts = []; cursor = at_line s.top.cursor.levels; lines = drop 1 s.top.lines; turning = s.top.turning }) s) state) in
       record {
         stack = refl;
         setting = a.setting;
@@ -562,14 +562,14 @@ module _ {P S : Type 0} (left : P → S → List Message → Type 0) (old : Runn
         step =
             step_next output s (RegionLine o line true) state e
             ∙ ap to
-            (keep_same output d s.top.kind s.top.spot.levels.in_loop line ((parts_of old.doing s.top.kind).ends_region o line state)
+            (keep_same output d s.top.kind s.top.cursor.levels.in_loop line ((parts_of old.doing s.top.kind).ends_region o line state)
             ∙ ap (λ in_loop. ended_kept_in old.doing in_loop o line s.top.kind state) (sym el)
             ∙ a.state s.top.kind (record { page = sym ep; setting = k }) []);
         suits = (tt, tt);
       }
 
   pub decides_source_end : (region : Option Opened) (begun in_loop : Bool)
-      → SourceEnd region begun ≡ next_of old.stack → in_loop ≡ old.stack.top.spot.levels.in_loop
+      → SourceEnd region begun ≡ next_of old.stack → in_loop ≡ old.stack.top.cursor.levels.in_loop
       → IsIn old.stack.top.kind old.doing
       → Does left old.doing out (finished_in old.doing begun region in_loop) new out_new
       → Decides left old out acts.SourceEnd (record { stack = old.stack; doing = new }) out_new
@@ -610,7 +610,7 @@ module _ {P S : Type 0} (left : P → S → List Message → Type 0) (old : Runn
       (sym (ap (λ setting. setting.output) a.setting)))
 
   turn_step : (region : Option Opened) (begun in_loop : Bool) (condition : List ℕ) (result : Bool)
-      → Turn region begun condition ≡ next_of old.stack → in_loop ≡ old.stack.top.spot.levels.in_loop
+      → Turn region begun condition ≡ next_of old.stack → in_loop ≡ old.stack.top.cursor.levels.in_loop
       → IsIn old.stack.top.kind old.doing
       → (a : Answers left old.doing out (λ kind s. turned_in old.doing condition kind (finished_in old.doing begun region in_loop kind s)) result new out_new)
       → next (language (acting_effects (output_of old.doing))) (running old.stack (state_in [] old.doing))
@@ -626,7 +626,7 @@ module _ {P S : Type 0} (left : P → S → List Message → Type 0) (old : Runn
       ∙ ap (λ (v : Bool × Budgeted State). turn_if v.0 s.top s.under v.1) (a.state s.top.kind k [])
 
   pub decides_turn : (region : Option Opened) (begun in_loop : Bool) (condition : List ℕ)
-      → Turn region begun condition ≡ next_of old.stack → in_loop ≡ old.stack.top.spot.levels.in_loop
+      → Turn region begun condition ≡ next_of old.stack → in_loop ≡ old.stack.top.cursor.levels.in_loop
       → IsSound old
       → Does left old.doing out (finished_in old.doing begun region in_loop) mid out_mid
       → Answers left mid out_mid (turned_in mid condition) true new out_new
@@ -644,7 +644,7 @@ module _ {P S : Type 0} (left : P → S → List Message → Type 0) (old : Runn
       }
 
   pub decides_last_turn : (region : Option Opened) (begun in_loop : Bool) (condition : List ℕ)
-      → Turn region begun condition ≡ next_of old.stack → in_loop ≡ old.stack.top.spot.levels.in_loop
+      → Turn region begun condition ≡ next_of old.stack → in_loop ≡ old.stack.top.cursor.levels.in_loop
       → IsSound old
       → Does left old.doing out (finished_in old.doing begun region in_loop) mid out_mid
       → Answers left mid out_mid (turned_in mid condition) false new out_new
@@ -665,10 +665,10 @@ module _ {P S : Type 0} (left : P → S → List Message → Type 0) (old : Runn
 
 module _ {P S : Type 0} (left : P → S → List Message → Type 0) (old : Runner) where
   -- a line outside of loops
-  pub collects_nothing : (out : S) → old.stack.top.spot.levels.in_loop ≡ false → Collects left old out old out
+  pub collects_nothing : (out : S) → old.stack.top.cursor.levels.in_loop ≡ false → Collects left old out old out
   unfolding collect_if
   collects_nothing out e =
-      let l = old.stack.top.spot.levels in
+      let l = old.stack.top.cursor.levels in
       let line = line_in (next_of old.stack) in
       record {
         stack = refl;
@@ -678,13 +678,13 @@ module _ {P S : Type 0} (left : P → S → List Message → Type 0) (old : Runn
       }
 
   -- a line in the loop that is collected
-  pub collects_here : (doing : BudgetedActions) (out out_new : S) (line : List ℕ) (open_blocks : ℕ) → old.stack.top.spot.levels.in_loop ≡ true
-      → open_blocks ≡ old.stack.top.spot.levels.skipped → Line line ≡ next_of old.stack
+  pub collects_here : (doing : BudgetedActions) (out out_new : S) (line : List ℕ) (open_blocks : ℕ) → old.stack.top.cursor.levels.in_loop ≡ true
+      → open_blocks ≡ old.stack.top.cursor.levels.skipped → Line line ≡ next_of old.stack
       → Does left old.doing out (collected_in old.doing open_blocks line) doing out_new
       → Collects left old out (record { stack = old.stack; doing = doing }) out_new
   unfolding collect_if
   collects_here doing out out_new line open_blocks e eb el d =
-      let l = old.stack.top.spot.levels in
+      let l = old.stack.top.cursor.levels in
       record {
         stack = refl;
         does = record {
@@ -705,11 +705,11 @@ module _ {P S : Type 0} (left : P → S → List Message → Type 0) (old collec
       → Makes left old.doing out (IsAt is_page_now old.doing) (begun_in old.doing) mid state_after out_mid
       → Collects left (record { stack = old.stack; doing = mid }) out_mid collected out_new
       → Makes left old.doing out (IsAt is_page_now old.doing)
-      (λ kind s. let l = old.stack.top.spot.levels in
+      (λ kind s. let l = old.stack.top.cursor.levels in
       collect_if (parts_of old.doing kind) l.in_loop l.skipped (line_in (next_of old.stack)) (begun_in old.doing kind s))
       collected.doing state_after out_new
   begins_in is_page_now a c =
-      let l = old.stack.top.spot.levels in
+      let l = old.stack.top.cursor.levels in
       let line = line_in (next_of old.stack) in
       both left old.doing mid collected.doing out out_mid out_new (IsAt is_page_now old.doing) (λ kind. IsIn kind mid)
       (begun_in old.doing) (λ kind s. collect_if (parts_of old.doing kind) l.in_loop l.skipped line s)
@@ -725,7 +725,7 @@ module _ {P S : Type 0} (left : P → S → List Message → Type 0) (old collec
       → IsIn old.stack.top.kind old.doing
       → Makes left old.doing out (IsAt is_page_now old.doing) (begun_in old.doing) mid state_after out_mid
       → Collects left (record { stack = old.stack; doing = mid }) out_mid collected out_new
-      → stack ≡ with_top (next_line None (first_atoms collected.stack.top.lines) collected.stack.top) collected.stack
+      → stack ≡ with_top (next_line None (first_line_parts collected.stack.top.lines) collected.stack.top) collected.stack
       → Steps left old out More (record { stack = stack; doing = collected.doing }) out_new
   unfolding reached_with step_in line_next meaning_at meaning_by language meaning m p
   begins is_page_now stack h ep k a c es =
@@ -735,10 +735,10 @@ module _ {P S : Type 0} (left : P → S → List Message → Type 0) (old collec
       let line = line_in (next_of s) in
       let e = is_the_line (next_of s) h in
       let b = begins_in is_page_now a c in
-      let same : stack ≡ with_top (next_line None (first_atoms s.top.lines) s.top) s =
-      es ∙ ap (λ (s : Stack). with_top (next_line None (first_atoms s.top.lines) s.top) s) c.stack in
-      let frame : List (Atom (List ℕ)) → Frame =
-      λ parts. record { kind = s.top.kind; region = None; parts = parts; spot = at_line s.top.spot.levels; lines = drop 1 s.top.lines; turning = s.top.turning } in
+      let same : stack ≡ with_top (next_line None (first_line_parts s.top.lines) s.top) s =
+      es ∙ ap (λ (s : Stack). with_top (next_line None (first_line_parts s.top.lines) s.top) s) c.stack in
+      let frame : List (LinePart (List ℕ)) → Frame =
+      λ parts. record { kind = s.top.kind; region = None; parts = parts; cursor = at_line s.top.cursor.levels; lines = drop 1 s.top.lines; turning = s.top.turning } in
       record {
         output = ap (λ setting. setting.output) b.setting;
         setting = rw (same, b.setting) k;
@@ -746,8 +746,8 @@ module _ {P S : Type 0} (left : P → S → List Message → Type 0) (old collec
         came = b.came;
         step =
             step_next output s (Line line) state e
-            ∙ ap (λ state. Some (running (with_top (frame (atoms line)) s) state))
-            (begin_same output (depth s.under) s.top.kind line s.top.spot.levels state
+            ∙ ap (λ state. Some (running (with_top (frame (line_parts line)) s) state))
+            (begin_same output (depth s.under) s.top.kind line s.top.cursor.levels state
             ∙ b.state s.top.kind (record { page = sym ep; setting = k }) [])
             ∙ ap (λ parts. Some (running (with_top (frame parts) s) (state_in (map says b.notes) collected.doing)))
             (sym (line_first s.top.turning s.top.region s.top.parts s.top.lines s.under line e).0)
@@ -774,7 +774,7 @@ passed_block PassedOver (SourceEnd region begun) e = absurd (cc)
 passed_block PassedOver Nothing e = absurd (cc)
 
 module _ {P S : Type 0} (left : P → S → List Message → Type 0) (old : Runner) (out : S) where
-  pub decides_passed : (r : Reached) → r ≡ reached old.stack.top.spot → passes_block r (next_of old.stack) ≡ true → Decides left old out (acts.Move (moves.Part (passes.Block None))) old out
+  pub decides_passed : (r : Reached) → r ≡ reached old.stack.top.cursor → passes_block r (next_of old.stack) ≡ true → Decides left old out (acts.Move (moves.Part (passes.Block None))) old out
   unfolding moved step_in part_next at_part meaning_at m
   decides_passed r er e =
       let output = output_of old.doing in
@@ -788,8 +788,8 @@ module _ {P S : Type 0} (left : P → S → List Message → Type 0) (old : Runn
         came = came_none left out;
         step =
             step_next output s (Part (Block k.1.0)) state k.1.1
-            ∙ ap (λ (t : Spot × Budgeted State). Some (running (with_top (past t.0 s.top) s) t.1))
-            (passed_same output (depth s.under) s.top.kind k.1.0 s.top.spot state (sym er ∙ k.0));
+            ∙ ap (λ (t : BlockCursor × Budgeted State). Some (running (with_top (past t.0 s.top) s) t.1))
+            (passed_same output (depth s.under) s.top.kind k.1.0 s.top.cursor state (sym er ∙ k.0));
         suits = (ap is_part (sym k.1.1), tt);
       }
 
@@ -807,6 +807,6 @@ module _ {P S : Type 0} (left : P → S → List Message → Type 0) (old : Runn
         step =
             step_next output s (Part End) state e
             ∙ ap (λ next. Some next)
-            (end_same output (depth s.under) s.top.kind (what_ends s.top.spot.levels) (past (after_part (leave s.top.spot.levels)) s.top) s.under state);
+            (end_same output (depth s.under) s.top.kind (what_ends s.top.cursor.levels) (past (after_part (leave s.top.cursor.levels)) s.top) s.under state);
         suits = tt;
       }

@@ -3,10 +3,10 @@ use Rattle.std.proofs.Common.{◌≡◌, ℕ, ◌+◌, ◌≤◌, ◌^◌, Bool,
 use Rattle.page_core_base.specs.LinesTaken.{Line}
 use Rattle.page_core_base.specs.declared.page_settings.Output.{Output}
 use Rattle.page_core_limits.specs.declared.TheConstants.{REREAD}
-use Rattle.page_roff_blocks.specs.declared.atoms.Atom.{Atom}
-use Rattle.page_roff_blocks.specs.declared.atoms.Atom.TheVariants.{Leaf}
-use Rattle.page_roff_blocks.specs.Atoms.{atoms}
-use Rattle.page_roff_blocks.specs.Levels.{Levels, Spot, at_line, after_part, reached, reached_in, reached_from, reached_if}
+use Rattle.page_roff_blocks.specs.declared.line_parts.LinePart.{LinePart}
+use Rattle.page_roff_blocks.specs.declared.line_parts.LinePart.TheVariants.{Leaf}
+use Rattle.page_roff_blocks.specs.LineParts.{line_parts}
+use Rattle.page_roff_blocks.specs.Levels.{Levels, BlockCursor, at_line, after_part, reached, reached_in, reached_from, reached_if}
 use Rattle.page_roff_regions.specs.OpenRegions.{Opened}
 use Rattle.page_roff_blocks.specs.Run.{At, meet_as}
 use Rattle.page_roff_blocks.specs.Steps.{met, begin_line, collect_if}
@@ -42,15 +42,15 @@ state_with taken m given = record { left = REREAD; gave_up = false; taken = take
 abbrev at_levels : Option Opened → Levels → Budgeted State → At (Budgeted State)
 at_levels region levels s = record { place = record { region = region; levels = levels }; state = s }
 
-abbrev frame_at : List (Atom (List ℕ)) → Spot → Frame
-frame_at parts spot = record { kind = page; region = None; parts = parts; spot = spot; lines = []; turning = None }
+abbrev frame_at : List (LinePart (List ℕ)) → BlockCursor → Frame
+frame_at parts cursor = record { kind = page; region = None; parts = parts; cursor = cursor; lines = []; turning = None }
 
 abbrev alone : Frame → Budgeted State → Running (Budgeted State)
 alone f s = record { top = f; under = []; state = s }
 
 line_begins : (output : Output) (line : List ℕ) (bit : Bool) (outer : List Bool) (m : Memory) (count : ℕ)
     → next (language (acting_effects output)) (at_page line (at_levels None (level bit outer false 0) (state_with count m [])))
-    ≡ Some (alone (frame_at (atoms line) (at_line (level bit outer false 0))) (state_with (count + 1) m []))
+    ≡ Some (alone (frame_at (line_parts line) (at_line (level bit outer false 0))) (state_with (count + 1) m []))
 unfolding next next_in line_next at_page at_line begin_line collect_if meaning_at meaning_by language meaning budgets.begin_line
 line_begins output line bit outer m count = refl
 
@@ -77,12 +77,12 @@ leaf_taken output line bit outer m count taken e =
     ap (λ (d : Done (Budgeted State)). Some (leaf_next l b f [] d)) (line_given output line m count taken b (e b))
     ∙ ap (λ (r : Running (Budgeted State)). Some r) (given_next l b f (state_with count m (takes taken ∷ [])))
 
-nothing_left : (output : Output) (spot : Spot) (s : Budgeted State) → next (language (acting_effects output)) (alone (frame_at [] spot) s) ≡ None
+nothing_left : (output : Output) (cursor : BlockCursor) (s : Budgeted State) → next (language (acting_effects output)) (alone (frame_at [] cursor) s) ≡ None
 unfolding next next_in source_next
-nothing_left output spot s = refl
+nothing_left output cursor s = refl
 
 run_leaf : (output : Output) (line : List ℕ) (bit : Bool) (outer : List Bool) (m : Memory) (count : ℕ) (taken : Line)
-    → atoms line ≡ Leaf line ∷ []
+    → line_parts line ≡ Leaf line ∷ []
     → ((may_call : Bool) → leaf_outcome (measured (acting_setting output page)) may_call line m ≡ record { notes = []; product = line_product taken; memory = m })
     → run_page (language (acting_effects output)) (line ∷ []) (at_levels None (level bit outer false 0) (state_with count m []))
     ≡ at_levels None (level bit outer false 0) (state_with (count + 1) m (takes taken ∷ []))
@@ -94,7 +94,7 @@ run_leaf output line bit outer m count taken ea eo =
     let last = alone (frame_at [] (after_part (level bit outer false 0))) (state_with (count + 1) m (takes taken ∷ [])) in
     let first : next l (at_page line at) ≡ Some one =
     line_begins output line bit outer m count
-    ∙ ap (λ (parts : List (Atom (List ℕ))). Some (alone (frame_at parts (at_line (level bit outer false 0))) (state_with (count + 1) m []))) ea in
+    ∙ ap (λ (parts : List (LinePart (List ℕ))). Some (alone (frame_at parts (at_line (level bit outer false 0))) (state_with (count + 1) m []))) ea in
     sym (page_law l line at)
     ∙ next_law l (at_page line at) one first
     ∙ next_law l one last (leaf_taken output line bit outer m (count + 1) taken eo)
@@ -111,7 +111,7 @@ levels_are l e s = ap₂ (λ (i : Bool) (k : ℕ). level l.bit l.outer i k) e s
 
 -- where a stack stands, with a budget and what is remembered and given
 abbrev standing : Stack → Budget → Memory → List Given → At (Budgeted State)
-standing s b m given = at_levels s.top.region s.top.spot.levels (budgeted b (record { memory = m; out = given }))
+standing s b m given = at_levels s.top.region s.top.cursor.levels (budgeted b (record { memory = m; out = given }))
 
 pub takes_line : (old new : Runner) (line : List ℕ) (number : ℕ) → is_idle (machine_of old) ≡ true → IsSound old → TakesAtOnce line number old new
     → Takes line number (machine_of old) (machine_of new)
@@ -119,7 +119,7 @@ takes_line old new line number idle sound h =
     let output = old.doing.actions.setting.output in
     let m = numbered number old.doing.actions.memory in
     let taken = new.doing.actions.line in
-    let levels = old.stack.top.spot.levels in
+    let levels = old.stack.top.cursor.levels in
     let count = old.doing.budget.taken in
     let given = takes taken ∷ [] in
     let es : old.doing.actions.setting ≡ acting_setting output page =
@@ -142,7 +142,7 @@ takes_line old new line number idle sound h =
     }
 
 -- a line that is to come is not nothing
-line_comes : (turning : Option Turning) (region : Option Opened) (parts : List (Atom (List ℕ))) (lines : List (List ℕ)) (under : List Frame) (line : List ℕ)
+line_comes : (turning : Option Turning) (region : Option Opened) (parts : List (LinePart (List ℕ))) (lines : List (List ℕ)) (under : List Frame) (line : List ℕ)
     → region ≡ None → parts ≡ [] → lines ≡ line ∷ [] → is_nothing (stacks.next_in turning region parts lines under) ≡ true → ⊥
 line_comes turning region parts lines under line er ep el e =
     let h : is_nothing (stacks.next_in turning None [] (line ∷ []) under) ≡ true = rw (er, ep, el) at e in

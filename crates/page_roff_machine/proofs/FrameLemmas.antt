@@ -1,13 +1,13 @@
 -- What is so of each source that runs: helpers of proofs.
 use Rattle.std.proofs.Common.{◌≡◌, ℕ, zero, suc, ◌+◌, ◌*◌, ◌≤◌, ◌==◌, Bool, true, false, List, [], ◌∷◌, drop, length, Option, Some, None, refl, sym, ap, if◌then◌else◌, arith}
 use Rattle.page_core_limits.specs.declared.TheConstants.{BODY}
-use Rattle.page_roff_blocks.specs.declared.atoms.Atom.{Atom}
-use Rattle.page_roff_blocks.specs.declared.atoms.Atom.TheVariants.{Leaf, Guard, Block, Loop, End, Region}
-use Rattle.page_roff_blocks.specs.declared.spots.Pass.{Pass}
-use Rattle.page_roff_blocks.specs.declared.spots.Pass.TheVariants as passes
+use Rattle.page_roff_blocks.specs.declared.line_parts.LinePart.{LinePart}
+use Rattle.page_roff_blocks.specs.declared.line_parts.LinePart.TheVariants.{Leaf, Guard, Block, Loop, End, Region}
+use Rattle.page_roff_blocks.specs.declared.block_cursors.Pass.{Pass}
+use Rattle.page_roff_blocks.specs.declared.block_cursors.Pass.TheVariants as passes
 use Rattle.page_roff_blocks.specs.declared.levels.Way.{Way}
 use Rattle.page_roff_blocks.specs.declared.levels.Way.TheVariants.{Runs, Skips, Exceeds}
-use Rattle.page_roff_blocks.specs.Levels.{Levels, Spot, at_line, after_part, way_of, enter, skip, leave_level, leave_loop, leave_from, leave, passed}
+use Rattle.page_roff_blocks.specs.Levels.{Levels, BlockCursor, at_line, after_part, way_of, enter, skip, leave_level, leave_loop, leave_from, leave, passed}
 use Rattle.page_roff_regions.specs.OpenRegions.{Opened, opened}
 use Rattle.page_roff_values.specs.Arguments.{begin_first, arguments_in, lines_in}
 use Rattle.page_roff_language.specs.Machine.{Frame, Turning, turned, at_part}
@@ -61,14 +61,14 @@ pub same_frames : (old new : Stack) → new.under ≡ old.under → (IsKept old.
 same_frames old new eu f h = (f h.0, rw eu h.1)
 
 -- the turns of a loop and its open region stay as they are, where it is not collected from now on
-pub same_kept : (f : Frame) (spot : Spot) → (spot.levels.in_loop ≡ true → f.spot.levels.in_loop ≡ true) → IsKept f → IsKept (past spot f)
+pub same_kept : (f : Frame) (cursor : BlockCursor) → (cursor.levels.in_loop ≡ true → f.cursor.levels.in_loop ≡ true) → IsKept f → IsKept (past cursor f)
 unfolding at_part
-same_kept f spot h k = record { turning = k.turning; region = λ e. k.region (h e) }
+same_kept f cursor h k = record { turning = k.turning; region = λ e. k.region (h e) }
 
 -- a loop is collected from now on, where no region is open
-pub open_kept : (f : Frame) (spot : Spot) → f.region ≡ None → IsKept f → IsKept (past spot f)
+pub open_kept : (f : Frame) (cursor : BlockCursor) → f.region ≡ None → IsKept f → IsKept (past cursor f)
 unfolding at_part
-open_kept f spot h k = record { turning = k.turning; region = λ e. rw h tt }
+open_kept f cursor h k = record { turning = k.turning; region = λ e. rw h tt }
 
 -- ---- the bit of a loop that is collected
 
@@ -112,7 +112,7 @@ not_part_around turning region [] e = cc
 not_part_around turning region (f ∷ fs) e = not_part (turn_in turning) region (has_begun turning) e
 
 -- a part comes next where no region is open
-part_outside : (turning : Option Turning) (region : Option Opened) (parts : List (Atom (List ℕ))) (lines : List (List ℕ)) (under : List Frame)
+part_outside : (turning : Option Turning) (region : Option Opened) (parts : List (LinePart (List ℕ))) (lines : List (List ℕ)) (under : List Frame)
     → is_part (next_in turning region parts lines under) ≡ true → region ≡ None
 part_outside turning None parts lines under e = refl
 part_outside turning (Some o) parts (line ∷ more) under e = absurd (cc)
@@ -121,7 +121,7 @@ part_outside turning (Some o) parts [] under e = absurd (not_part_around turning
 pub outside_regions : (s : Stack) → is_part (next_of s) ≡ true → s.top.region ≡ None
 outside_regions s e = part_outside s.top.turning s.top.region s.top.parts s.top.lines s.under e
 
-head_passed : (is_run : Bool) (part : Atom (List ℕ)) → is_run ≡ false → IsPassed (region_of is_run part)
+head_passed : (is_run : Bool) (part : LinePart (List ℕ)) → is_run ≡ false → IsPassed (region_of is_run part)
 unfolding opened
 head_passed is_run (Leaf text) e = tt
 head_passed is_run (Guard head) e = tt
@@ -130,7 +130,7 @@ head_passed is_run (Loop head) e = tt
 head_passed is_run End e = tt
 head_passed is_run (Region head) e = e
 
-region_passed : (is_run : Bool) (parts : List (Atom (List ℕ))) → is_run ≡ false → IsPassed (first_region is_run parts)
+region_passed : (is_run : Bool) (parts : List (LinePart (List ℕ))) → is_run ≡ false → IsPassed (first_region is_run parts)
 region_passed is_run [] e = tt
 region_passed is_run (part ∷ more) e = head_passed is_run part e
 
@@ -150,17 +150,17 @@ turn_within (Some turning) f e h t = h
 -- ---- what comes next is passed
 
 -- by a part
-pass_kept : (pass : Pass) (s : Stack) → IfEnters pass (is_part (next_of s) ≡ true) → IsKept s.top → IsKept (past (passed pass s.top.spot) s.top)
+pass_kept : (pass : Pass) (s : Stack) → IfEnters pass (is_part (next_of s) ≡ true) → IsKept s.top → IsKept (past (passed pass s.top.cursor) s.top)
 unfolding after_part skip
-pass_kept passes.Leaf s h = same_kept s.top (passed passes.Leaf s.top.spot) (λ e. e)
-pass_kept (passes.Guard None) s h = same_kept s.top (passed (passes.Guard None) s.top.spot) (λ e. e)
-pass_kept (passes.Guard (Some a)) s h = same_kept s.top (passed (passes.Guard (Some a)) s.top.spot) (λ e. e)
-pass_kept (passes.Block None) s h = same_kept s.top (passed (passes.Block None) s.top.spot) (λ e. e)
+pass_kept passes.Leaf s h = same_kept s.top (passed passes.Leaf s.top.cursor) (λ e. e)
+pass_kept (passes.Guard None) s h = same_kept s.top (passed (passes.Guard None) s.top.cursor) (λ e. e)
+pass_kept (passes.Guard (Some a)) s h = same_kept s.top (passed (passes.Guard (Some a)) s.top.cursor) (λ e. e)
+pass_kept (passes.Block None) s h = same_kept s.top (passed (passes.Block None) s.top.cursor) (λ e. e)
 pass_kept (passes.Block (Some a)) s h =
-    let l = s.top.spot.levels in same_kept s.top (passed (passes.Block (Some a)) s.top.spot) (enter_in (way_of a.value (length l.outer)) a.bit l)
-pass_kept (passes.Loop true) s h = open_kept s.top (passed (passes.Loop true) s.top.spot) (outside_regions s h)
-pass_kept (passes.Loop false) s h = same_kept s.top (passed (passes.Loop false) s.top.spot) (λ e. e)
-pass_kept passes.End s h = same_kept s.top (passed passes.End s.top.spot) (leave_in s.top.spot.levels)
+    let l = s.top.cursor.levels in same_kept s.top (passed (passes.Block (Some a)) s.top.cursor) (enter_in (way_of a.value (length l.outer)) a.bit l)
+pass_kept (passes.Loop true) s h = open_kept s.top (passed (passes.Loop true) s.top.cursor) (outside_regions s h)
+pass_kept (passes.Loop false) s h = same_kept s.top (passed (passes.Loop false) s.top.cursor) (λ e. e)
+pass_kept passes.End s h = same_kept s.top (passed passes.End s.top.cursor) (leave_in s.top.cursor.levels)
 
 pub moved_kept : (movement : Movement) (s : Stack) → Suits movement (next_of s) → Keeps movement s.top → IsKept s.top → IsKept (went movement s.top)
 unfolding at_line

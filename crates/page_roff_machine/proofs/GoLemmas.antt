@@ -7,9 +7,9 @@ use Rattle.page_roff_blocks.specs.declared.levels.Ended.{Ended}
 use Rattle.page_roff_blocks.specs.declared.levels.Ended.TheVariants as endings
 use Rattle.page_roff_blocks.specs.declared.levels.Way.{Way}
 use Rattle.page_roff_blocks.specs.declared.levels.Way.TheVariants.{Runs, Skips, Exceeds}
-use Rattle.page_roff_blocks.specs.declared.atoms.Branch.TheVariants.{Else}
+use Rattle.page_roff_blocks.specs.declared.line_parts.Branch.TheVariants.{Else}
 use Rattle.page_roff_blocks.specs.declared.levels.Answer.{Answer}
-use Rattle.page_roff_blocks.specs.declared.spots.Pass.TheVariants as passes
+use Rattle.page_roff_blocks.specs.declared.block_cursors.Pass.TheVariants as passes
 use Rattle.page_roff_blocks.specs.Levels.{after_part, leave, what_ends}
 use Rattle.page_roff_blocks.specs.Run.{refuse_if}
 use Rattle.page_roff_values.specs.Arguments.{arguments_in, lines_in}
@@ -69,29 +69,29 @@ shifts_to old new act progress s e ek eu et kept k step = record {
   frames = λ h. rw e (same_frames old.stack s eu kept h);
 }
 
-pub shifts_leaf : (old new : Runner) → new ≡ record { stack = with_top (past (after_part old.stack.top.spot.levels) old.stack.top) old.stack; doing = old.doing }
+pub shifts_leaf : (old new : Runner) → new ≡ record { stack = with_top (past (after_part old.stack.top.cursor.levels) old.stack.top) old.stack; doing = old.doing }
     → IsIn old.stack.top.kind old.doing → Shifts old (acts.Leaf kinds.Nothing) More new
 unfolding moved reached_with at_part after_part
 shifts_leaf old new e k =
-    let s = with_top (past (after_part old.stack.top.spot.levels) old.stack.top) old.stack in
-    shifts_to old new (acts.Leaf kinds.Nothing) More s e refl refl refl (same_kept old.stack.top (after_part old.stack.top.spot.levels) (λ h. h)) k
+    let s = with_top (past (after_part old.stack.top.cursor.levels) old.stack.top) old.stack in
+    shifts_to old new (acts.Leaf kinds.Nothing) More s e refl refl refl (same_kept old.stack.top (after_part old.stack.top.cursor.levels) (λ h. h)) k
     (λ given. ap (λ next. Some next) (gives_next (language (acting_effects (output_of old.doing))) (is_some (depth old.stack.under)) s.top s.under (state_in given old.doing)))
 
-pub shifts_leaf_line : (old new : Runner) → new ≡ record { stack = with_top (past (after_part old.stack.top.spot.levels) old.stack.top) old.stack; doing = old.doing }
+pub shifts_leaf_line : (old new : Runner) → new ≡ record { stack = with_top (past (after_part old.stack.top.cursor.levels) old.stack.top) old.stack; doing = old.doing }
     → IsIn old.stack.top.kind old.doing → Shifts old (acts.Leaf kinds.Line) Line new
 unfolding moved reached_with at_part after_part
 shifts_leaf_line old new e k =
-    let s = with_top (past (after_part old.stack.top.spot.levels) old.stack.top) old.stack in
-    shifts_to old new (acts.Leaf kinds.Line) Line s e refl refl refl (same_kept old.stack.top (after_part old.stack.top.spot.levels) (λ h. h)) k
+    let s = with_top (past (after_part old.stack.top.cursor.levels) old.stack.top) old.stack in
+    shifts_to old new (acts.Leaf kinds.Line) Line s e refl refl refl (same_kept old.stack.top (after_part old.stack.top.cursor.levels) (λ h. h)) k
     (λ given. ap (λ next. Some next)
     (gives_next (language (acting_effects (output_of old.doing))) (is_some (depth old.stack.under)) s.top s.under (state_in (given ++ (takes old.doing.actions.line ∷ [])) old.doing)))
 
-pub shifts_call : (old mid new : Runner) → mid ≡ record { stack = with_top (past (after_part old.stack.top.spot.levels) old.stack.top) old.stack; doing = old.doing }
+pub shifts_call : (old mid new : Runner) → mid ≡ record { stack = with_top (past (after_part old.stack.top.cursor.levels) old.stack.top) old.stack; doing = old.doing }
     → new ≡ called mid → IsCallable (is_some (depth old.stack.under)) old.doing.actions.call
     → Shifts old (acts.Leaf kinds.Call) More new
 unfolding moved reached_with at_part after_part entered
 shifts_call old mid new em e callable =
-    let s = with_top (past (after_part old.stack.top.spot.levels) old.stack.top) old.stack in
+    let s = with_top (past (after_part old.stack.top.cursor.levels) old.stack.top) old.stack in
     let r : Runner = record { stack = s; doing = old.doing } in
     let k : new ≡ called r = e ∙ ap called em in
     let call = old.doing.actions.call in
@@ -107,7 +107,7 @@ shifts_call old mid new em e callable =
         turns = λ h t. let n : length new.stack.under ≡ suc (length old.stack.under) = ap (λ (r : Runner). length r.stack.under) k in absurd (omega arith);
       };
       frames = λ h.
-          rw k (record { turning = tt; region = λ e. tt }, (same_kept old.stack.top (after_part old.stack.top.spot.levels) (λ h. h) h.0, h.1));
+          rw k (record { turning = tt; region = λ e. tt }, (same_kept old.stack.top (after_part old.stack.top.cursor.levels) (λ h. h) h.0, h.1));
     }
 
 -- the macro that was taken last is called
@@ -220,7 +220,7 @@ module _ {P S : Type 0} (left : P → S → List Message → Type 0) where
   block_kept old answer h = moved_kept (moves.Part (passes.Block answer)) old.stack h tt
 
   block_step : (old : Runner) (answer : Option Answer) (column : ℕ) (way : Way) (given : List Given) (doing : BudgetedActions) (given_then : List Given)
-      → way ≡ way_after answer old.stack.top.spot
+      → way ≡ way_after answer old.stack.top.cursor
       → refuse_if (meaning (acting_effects (output_of old.doing)) page) way (record { column = column; branch = Else }) (state_in given old.doing) ≡ state_in given_then doing
       → moved (output_of old.doing) (acts.Block answer column) old.stack given old.doing
       ≡ reached_with More given_then (record { stack = in_block old answer; doing = doing })
@@ -237,7 +237,7 @@ module _ {P S : Type 0} (left : P → S → List Message → Type 0) where
   not_refused output Exceeds column state h = absurd (h refl)
 
   pub moves_block : (old new : Runner) (out : S) (answer : Option Answer) (column : ℕ) (way : Way)
-      → way ≡ way_after answer old.stack.top.spot → (way ≡ Exceeds → ⊥)
+      → way ≡ way_after answer old.stack.top.cursor → (way ≡ Exceeds → ⊥)
       → new ≡ record { stack = with_top (went (moves.Part (passes.Block answer)) old.stack.top) old.stack; doing = old.doing }
       → IsIn old.stack.top.kind old.doing → is_part (next_of old.stack) ≡ true → Moves left old out (acts.Block answer column) More new out
   unfolding at_part in_block
@@ -247,7 +247,7 @@ module _ {P S : Type 0} (left : P → S → List Message → Type 0) where
       (λ given. block_step old answer column way given old.doing given ew (not_refused (output_of old.doing) way column (state_in given old.doing) not_over))) tt
 
   pub moves_exceeds : (old : Runner) (actions : Acting) (out out_new : S) (answer : Option Answer) (column : ℕ)
-      → Exceeds ≡ way_after answer old.stack.top.spot
+      → Exceeds ≡ way_after answer old.stack.top.cursor
       → acting.Does left old.doing.actions out (block_outcome column old.doing.actions.memory) actions out_new
       → IsIn old.stack.top.kind old.doing → is_part (next_of old.stack) ≡ true
       → Moves left old out (acts.Block answer column) More
@@ -274,13 +274,13 @@ module _ {P S : Type 0} (left : P → S → List Message → Type 0) where
 
   -- a block ends
   left_block : Runner → Stack
-  left_block old = with_top (past (after_part (leave old.stack.top.spot.levels)) old.stack.top) old.stack
+  left_block old = with_top (past (after_part (leave old.stack.top.cursor.levels)) old.stack.top) old.stack
 
   left_kept : (old : Runner) → IsKept old.stack.top → IsKept (left_block old).top
   unfolding left_block
-  left_kept old = same_kept old.stack.top (after_part (leave old.stack.top.spot.levels)) (leave_in old.stack.top.spot.levels)
+  left_kept old = same_kept old.stack.top (after_part (leave old.stack.top.cursor.levels)) (leave_in old.stack.top.cursor.levels)
 
-  ends_as : (old : Runner) (ended : Ended) (given : List Given) → ended ≡ what_ends old.stack.top.spot.levels
+  ends_as : (old : Runner) (ended : Ended) (given : List Given) → ended ≡ what_ends old.stack.top.cursor.levels
       → moved (output_of old.doing) acts.BlockEnd old.stack given old.doing
       ≡ Some (end_next (language (acting_effects (output_of old.doing))) (meaning (acting_effects (output_of old.doing)) old.stack.top.kind) ended
       (left_block old).top old.stack.under (state_in given old.doing))
@@ -291,8 +291,8 @@ module _ {P S : Type 0} (left : P → S → List Message → Type 0) where
       (left_block old).top old.stack.under (state_in given old.doing))) (sym e)
 
   pub leaves_block : (old new : Runner) (out : S)
-      → endings.Block ≡ what_ends old.stack.top.spot.levels
-      → new ≡ record { stack = with_top (past (after_part (leave old.stack.top.spot.levels)) old.stack.top) old.stack; doing = old.doing }
+      → endings.Block ≡ what_ends old.stack.top.cursor.levels
+      → new ≡ record { stack = with_top (past (after_part (leave old.stack.top.cursor.levels)) old.stack.top) old.stack; doing = old.doing }
       → IsIn old.stack.top.kind old.doing → Moves left old out acts.BlockEnd More new out
   unfolding reached_with at_part end_next left_block
   leaves_block old new out ended e k =
@@ -300,11 +300,11 @@ module _ {P S : Type 0} (left : P → S → List Message → Type 0) where
       (shifts_to old new acts.BlockEnd More (left_block old) e refl refl refl (left_kept old) k (λ given. ends_as old endings.Block given ended)) tt
 
   pub leaves_none : (old : Runner) (doing : BudgetedActions) (out out_new : S) (is_page_now : Bool)
-      → endings.Nothing ≡ what_ends old.stack.top.spot.levels → is_page_now ≡ is_page old.stack.top.kind
+      → endings.Nothing ≡ what_ends old.stack.top.cursor.levels → is_page_now ≡ is_page old.stack.top.kind
       → Makes left old.doing out (IsAt is_page_now old.doing) (unopened_in old.doing) doing state_after out_new
       → IsIn old.stack.top.kind old.doing
       → Moves left old out acts.BlockEnd More
-      (record { stack = with_top (past (after_part (leave old.stack.top.spot.levels)) old.stack.top) old.stack; doing = doing }) out_new
+      (record { stack = with_top (past (after_part (leave old.stack.top.cursor.levels)) old.stack.top) old.stack; doing = doing }) out_new
   unfolding reached_with at_part end_next left_block
   leaves_none old doing out out_new is_page_now ended ep a k = record {
     output = ap (λ setting. setting.output) a.setting;
@@ -321,14 +321,14 @@ module _ {P S : Type 0} (left : P → S → List Message → Type 0) where
 
   -- the loop that is collected ends
   pub leaves_setting : (old : Runner) (stack : Stack)
-      → stack ≡ with_top (past (after_part (leave old.stack.top.spot.levels)) old.stack.top) old.stack
+      → stack ≡ with_top (past (after_part (leave old.stack.top.cursor.levels)) old.stack.top) old.stack
       → IsIn old.stack.top.kind old.doing → IsIn stack.top.kind old.doing
   unfolding at_part
   leaves_setting old stack e k = rw e k
 
   pub leaves_loop : (old mid new : Runner) (out out_new : S)
-      → endings.Loop ≡ what_ends old.stack.top.spot.levels
-      → mid ≡ record { stack = with_top (past (after_part (leave old.stack.top.spot.levels)) old.stack.top) old.stack; doing = old.doing }
+      → endings.Loop ≡ what_ends old.stack.top.cursor.levels
+      → mid ≡ record { stack = with_top (past (after_part (leave old.stack.top.cursor.levels)) old.stack.top) old.stack; doing = old.doing }
       → Closes left mid out new out_new → Moves left old out acts.BlockEnd More new out_new
   unfolding at_part end_next left_block
   leaves_loop old mid new out out_new ended e c =

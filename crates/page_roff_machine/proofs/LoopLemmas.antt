@@ -95,12 +95,12 @@ module _ (mid new : Runner) (r : Repeats mid new) where
 
 -- ---- past a loop without a block
 
-pub shifts_loop : (old mid new : Runner) → mid ≡ record { stack = with_top (past (after_part old.stack.top.spot.levels) old.stack.top) old.stack; doing = old.doing }
+pub shifts_loop : (old mid new : Runner) → mid ≡ record { stack = with_top (past (after_part old.stack.top.cursor.levels) old.stack.top) old.stack; doing = old.doing }
     → Repeats mid new → IsRepeatable (is_some (depth old.stack.under)) old.doing.actions.call.body → IsIn old.stack.top.kind old.doing
     → Shifts old (acts.Leaf kinds.Loop) More new
 unfolding moved at_part after_part
 shifts_loop old mid new e rep c k =
-    let s = with_top (past (after_part old.stack.top.spot.levels) old.stack.top) old.stack in
+    let s = with_top (past (after_part old.stack.top.cursor.levels) old.stack.top) old.stack in
     let m : Runner = record { stack = s; doing = old.doing } in
     let r : Repeats m new = rw e at rep in
     let within = repeats_within m new r in
@@ -110,7 +110,7 @@ shifts_loop old mid new e rep c k =
       step = λ given. repeats_step m new r (language (acting_effects (output_of old.doing))) (is_some (depth old.stack.under)) given c.room;
       body = record { begins = within.begins; turns = within.turns };
       frames = λ h.
-          repeats_frames m new r (is_some (depth old.stack.under)) c (same_kept old.stack.top (after_part old.stack.top.spot.levels) (λ h. h) h.0, h.1);
+          repeats_frames m new r (is_some (depth old.stack.under)) c (same_kept old.stack.top (after_part old.stack.top.cursor.levels) (λ h. h) h.0, h.1);
     }
 
 -- ---- a loop that was collected is whole

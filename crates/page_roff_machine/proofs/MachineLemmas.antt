@@ -3,7 +3,7 @@ use Rattle.std.proofs.Common.{◌≡◌, ℕ, ◌≤◌, ◌^◌, inl, inr, true
 use Rattle.std.proofs.lemmas.List.{append-nil}
 use Rattle.page_core_base.specs.Messages.{Message}
 use Rattle.page_core_base.specs.declared.page_settings.Output.{Output}
-use Rattle.page_roff_blocks.specs.declared.atoms.Atom.{Atom}
+use Rattle.page_roff_blocks.specs.declared.line_parts.LinePart.{LinePart}
 use Rattle.page_roff_blocks.specs.Levels.{Place, at_line}
 use Rattle.page_roff_regions.specs.OpenRegions.{Opened}
 use Rattle.page_roff_blocks.specs.Run.{Meaning, At}
@@ -66,7 +66,7 @@ outcome_end m e = end_law (language_of m) (running_of [] m) e
 
 -- ---- where nothing is left
 
-none_next : {S : Type 0} (l : Language S) (m : Meaning (List ℕ) S) (x : Next (List ℕ) Opened) (parts : List (Atom (List ℕ))) (lines : List (List ℕ)) (f : Frame) (under : List Frame) (s : S)
+none_next : {S : Type 0} (l : Language S) (m : Meaning (List ℕ) S) (x : Next (List ℕ) Opened) (parts : List (LinePart (List ℕ))) (lines : List (List ℕ)) (f : Frame) (under : List Frame) (s : S)
     → is_nothing x ≡ true → step_in l m x parts lines f under s ≡ None
 unfolding step_in
 none_next l m (things.Part part) parts lines f under s e = absurd (cc)

@@ -251,7 +251,7 @@ module _ {P S : Type 0} (left : P → S → List Message → Type 0) where
 
   pub calls_macro : (old mid passed new : Runner) (out out_mid : S) (act : Act) → IsIn old.stack.top.kind old.doing
       → Decides left old out act mid out_mid → act ≡ acts.Leaf kinds.Call
-      → passed ≡ record { stack = with_top (past (after_part mid.stack.top.spot.levels) mid.stack.top) mid.stack; doing = mid.doing }
+      → passed ≡ record { stack = with_top (past (after_part mid.stack.top.cursor.levels) mid.stack.top) mid.stack; doing = mid.doing }
       → new ≡ called passed → Steps left old out More new out_mid
   calls_macro old mid passed new out out_mid act k a em e en =
       let d = decided old mid out out_mid act k a in
@@ -260,7 +260,7 @@ module _ {P S : Type 0} (left : P → S → List Message → Type 0) where
 
   pub calls_nothing : (old mid new : Runner) (out out_mid : S) (act : Act) → IsIn old.stack.top.kind old.doing
       → Decides left old out act mid out_mid → act ≡ acts.Leaf kinds.Call → mid.doing.actions.call.body ≡ []
-      → new ≡ record { stack = with_top (past (after_part mid.stack.top.spot.levels) mid.stack.top) mid.stack; doing = mid.doing }
+      → new ≡ record { stack = with_top (past (after_part mid.stack.top.cursor.levels) mid.stack.top) mid.stack; doing = mid.doing }
       → StepsTwice left old out More new out_mid
   unfolding at_part after_part
   calls_nothing old mid new out out_mid act k a em eb e =

@@ -11,8 +11,8 @@ use Rattle.page_roff_machine.specs.declared.runners.Runner.{Runner}
 pub record IsOutside (s : Stack) : Type 0 where
   pub page : is_page s.top.kind ≡ true
   pub region : s.top.region ≡ None
-  pub loop : s.top.spot.levels.in_loop ≡ false
-  pub skipped : s.top.spot.levels.skipped ≡ 0
+  pub loop : s.top.cursor.levels.in_loop ≡ false
+  pub skipped : s.top.cursor.levels.skipped ≡ 0
 
 -- a line was taken at once: the stack stays
 pub record TakesAtOnce (line : List ℕ) (number : ℕ) (old new : Runner) : Type 0 where

@@ -65,7 +65,7 @@ is_idle m = is_nothing (next_of m.stack)
 
 -- where the page stands between two lines, and the state there
 abbrev pub place_of : Machine → Place
-place_of m = record { region = m.stack.top.region; levels = m.stack.top.spot.levels }
+place_of m = record { region = m.stack.top.region; levels = m.stack.top.cursor.levels }
 
 abbrev pub stands : Machine → At (Budgeted State)
 stands m = record { place = place_of m; state = (running_of [] m).state }
@@ -139,7 +139,7 @@ pub record Resumes (output : Output) (place : Place) (memory : Memory) (taken : 
 
 -- the page ends: a region or a loop that is open is dropped with a message
 abbrev pub end_notes : Machine → List Message
-end_notes m = (finish_outcome m.stack.top.region m.stack.top.spot.levels.in_loop false m.actions.memory).notes
+end_notes m = (finish_outcome m.stack.top.region m.stack.top.cursor.levels.in_loop false m.actions.memory).notes
 
 abbrev pub end_memory : Machine → Memory
-end_memory m = (finish_outcome m.stack.top.region m.stack.top.spot.levels.in_loop false m.actions.memory).memory
+end_memory m = (finish_outcome m.stack.top.region m.stack.top.cursor.levels.in_loop false m.actions.memory).memory

@@ -2,14 +2,14 @@
 use Rattle.std.specs.Prelude.{◌≡◌, ℕ, ◌≤◌, suc, Bool, true, false, List, [], ◌∷◌, ◌++◌, length, map, Option, Some, None, IfSome}
 use Rattle.page_core_base.specs.Messages.{Message}
 use Rattle.page_core_base.specs.declared.page_settings.Output.{Output}
-use Rattle.page_roff_blocks.specs.declared.atoms.Branch.TheVariants.{Else}
+use Rattle.page_roff_blocks.specs.declared.line_parts.Branch.TheVariants.{Else}
 use Rattle.page_roff_blocks.specs.declared.levels.Answer.{Answer}
 use Rattle.page_roff_blocks.specs.declared.levels.Way.{Way}
 use Rattle.page_roff_blocks.specs.declared.levels.Way.TheVariants.{Skips}
-use Rattle.page_roff_blocks.specs.declared.spots.Pass.TheVariants as passes
-use Rattle.page_roff_blocks.specs.declared.spots.Reached.{Reached}
-use Rattle.page_roff_blocks.specs.declared.spots.Reached.TheVariants.{PassedOver, First, Remainder}
-use Rattle.page_roff_blocks.specs.Levels.{Spot, way_of, what_ends}
+use Rattle.page_roff_blocks.specs.declared.block_cursors.Pass.TheVariants as passes
+use Rattle.page_roff_blocks.specs.declared.block_cursors.Reached.{Reached}
+use Rattle.page_roff_blocks.specs.declared.block_cursors.Reached.TheVariants.{PassedOver, First, Remainder}
+use Rattle.page_roff_blocks.specs.Levels.{BlockCursor, way_of, what_ends}
 use Rattle.page_roff_regions.specs.OpenRegions.{Opened}
 use Rattle.page_roff_blocks.specs.Run.{refuse_if}
 use Rattle.page_roff_blocks.specs.Steps.{collect_if}
@@ -40,14 +40,14 @@ use Rattle.page_roff_machine.specs.declared.runners.Runner.{Runner}
 use Rattle.page_roff_machine.specs.Doing.{Makes, IsIn, output_of, state_in, state_after, parts_of, line_of, done_as}
 
 -- how a block is entered whose head leaves this, if it was run
-abbrev pub way_after : Option Answer → Spot → Way
-way_after None spot = Skips
-way_after (Some a) spot = way_of a.value (length spot.levels.outer)
+abbrev pub way_after : Option Answer → BlockCursor → Way
+way_after None cursor = Skips
+way_after (Some a) cursor = way_of a.value (length cursor.levels.outer)
 
 -- a true block beyond the limit of open ones
-abbrev pub refused : Output → Option Answer → ℕ → Spot → Budgeted State → Budgeted State
-refused output answer column spot s =
-    refuse_if (meaning (acting_effects output) page) (way_after answer spot) (record { column = column; branch = Else }) s
+abbrev pub refused : Output → Option Answer → ℕ → BlockCursor → Budgeted State → Budgeted State
+refused output answer column cursor s =
+    refuse_if (meaning (acting_effects output) page) (way_after answer cursor) (record { column = column; branch = Else }) s
 
 -- the stack moves on, and what was done is the state
 unfoldable pub moved : Output → Act → Stack → List Given → BudgetedActions
@@ -57,9 +57,9 @@ moved output (acts.Leaf product) s given b =
     Some (leaf_next (language (acting_effects output)) (is_some (depth s.under)) (went (moves.Part passes.Leaf) s.top) s.under (done_as product b given))
 moved output (acts.Block answer column) s given b =
     Some (running (with_top (went (moves.Part (passes.Block answer)) s.top) s)
-    (refused output answer column s.top.spot (state_in given b)))
+    (refused output answer column s.top.cursor (state_in given b)))
 moved output acts.BlockEnd s given b =
-    Some (end_next (language (acting_effects output)) (meaning (acting_effects output) s.top.kind) (what_ends s.top.spot.levels)
+    Some (end_next (language (acting_effects output)) (meaning (acting_effects output) s.top.kind) (what_ends s.top.cursor.levels)
     (went (moves.Part passes.End) s.top) s.under (state_in given b))
 moved output (acts.RegionLine product) s given b =
     Some (running (with_top (went moves.RegionLine s.top) s) (state_in (given ++ line_of product b.actions) b))
@@ -124,7 +124,7 @@ IsPassed region = IfSome region (λ o. o.is_run ≡ false)
 -- in each turn of a loop its body has less, and in a loop that is collected no region is run
 pub record IsKept (f : Frame) : Type 0 where
   pub turning : IsTurningWithin f.turning
-  pub region : f.spot.levels.in_loop ≡ true → IsPassed f.region
+  pub region : f.cursor.levels.in_loop ≡ true → IsPassed f.region
 
 abbrev pub AreKept : List Frame → Type 0
 AreKept [] = Unit {0}
@@ -155,13 +155,13 @@ pub record Collects {P S : Type 0} (left : P → S → List Message → Type 0) 
     (new : Runner) (out_new : S) : Type 0 where
   pub stack : new.stack ≡ old.stack
   pub does : Makes left old.doing out (λ kind. IsIn kind old.doing)
-      (λ kind s. let l = old.stack.top.spot.levels in collect_if (parts_of old.doing kind) l.in_loop l.skipped (line_in (next_of old.stack)) s)
+      (λ kind s. let l = old.stack.top.cursor.levels in collect_if (parts_of old.doing kind) l.in_loop l.skipped (line_in (next_of old.stack)) s)
       new.doing state_after out_new
 
 -- what is so of each source that runs stays so
 abbrev pub Keeps : Movement → Frame → Type 0
 Keeps (moves.Part pass) f = Unit {0}
-Keeps (moves.Region is_run) f = f.spot.levels.in_loop ≡ true → is_run ≡ false
+Keeps (moves.Region is_run) f = f.cursor.levels.in_loop ≡ true → is_run ≡ false
 Keeps moves.Line f = Unit {0}
 Keeps moves.RegionLine f = Unit {0}
 Keeps moves.RegionEnd f = Unit {0}

@@ -2,9 +2,9 @@
 
 ghost use Rattle.std.specs.Prelude.{◌≡◌, ◌≤◌, ◌<◌, ◌^◌, ◌&&◌, true, false, not, length};
 ghost use Rattle.page_core_limits.specs.declared.TheConstants.{LINE};
-ghost use Rattle.page_roff_blocks.specs.Atoms.{branch_seen, loop_head_seen, FitsBranch};
-ghost use Rattle.page_roff_regions.specs.Regions.{region_seen};
-ghost use Rattle.page_roff_regions.specs.OpenRegions.{opened_seen};
+ghost use Rattle.page_roff_blocks.specs.LineParts.{branch_view, loop_head_view, FitsBranch};
+ghost use Rattle.page_roff_regions.specs.Regions.{region_view};
+ghost use Rattle.page_roff_regions.specs.OpenRegions.{opened_view};
 ghost use Rattle.page_roff_machine.specs.Doing.{Does, Answers, Makes, IsAt, IsIn, HasRoom, state_after, line_after, done_as};
 ghost use Rattle.page_roff_machine.specs.Doing.{charged_in, begun_in, met_in, value_in, answer_in, region_in, leaf_in};
 ghost use Rattle.page_roff_machine.specs.Doing.{opened_in, closed_in, passed_in, kept_in, collected_in, turned_in};
@@ -65,8 +65,8 @@ impl BudgetedActions {
 
     // The value of a head that is run, at a level with this bit.
     fn value<O: NoteOut>(&mut self, branch: &Branch<&[u8]>, bit: bool, out: &mut O) -> bool
-        requires { FitsBranch (branch_seen branch.now) }
-        ensures { Answers O.left self.old out.old (value_in self.old (branch_seen branch.now) bit) result
+        requires { FitsBranch (branch_view branch.now) }
+        ensures { Answers O.left self.old out.old (value_in self.old (branch_view branch.now) bit) result
             self.new out.new }
     {
         match branch {
@@ -84,9 +84,9 @@ impl BudgetedActions {
         bit: bool,
         out: &mut O,
     ) -> Option<bool>
-        requires { FitsBranch (branch_seen branch.now) }
+        requires { FitsBranch (branch_view branch.now) }
         ensures { Answers O.left self.old out.old
-            (answer_in self.old (branch_seen branch.now) bit reached) result
+            (answer_in self.old (branch_view branch.now) bit reached) result
             self.new out.new }
     {
         if self.meet(reached, out) {
@@ -103,7 +103,7 @@ impl BudgetedActions {
         head: &RegionHead<&[u8]>,
         out: &mut O,
     ) -> bool
-        ensures { Answers O.left self.old out.old (region_in self.old (region_seen head.now) reached) result
+        ensures { Answers O.left self.old out.old (region_in self.old (region_view head.now) reached) result
             self.new out.new }
     {
         let is_run = self.meet(reached, out);
@@ -118,7 +118,7 @@ impl BudgetedActions {
         head: &LoopHead<&[u8]>,
         out: &mut O,
     ) -> bool
-        ensures { Answers O.left self.old out.old (opened_in self.old (loop_head_seen head.now) reached) result
+        ensures { Answers O.left self.old out.old (opened_in self.old (loop_head_view head.now) reached) result
             self.new out.new }
     {
         if self.meet(reached, out) {
@@ -150,7 +150,7 @@ impl BudgetedActions {
         out: &mut O,
     ) -> ProductKind
         ensures done { Makes O.left self.old out.old (λ kind. IsIn kind self.old)
-            (passed_in self.old may_run (loop_head_seen head.now) reached) self.new (done_as result) out.new }
+            (passed_in self.old may_run (loop_head_view head.now) reached) self.new (done_as result) out.new }
         ensures repeats { IfRepeated result (IsRepeatable may_run self.new.actions.call.body) }
     {
         if self.open_loop(reached, head, out) {
@@ -322,7 +322,7 @@ impl BudgetedActions {
         out: &mut O,
     )
         ensures { Does O.left self.old out.old
-            (finished_in self.old has_begun (opened_seen region.entry) in_loop) self.new out.new }
+            (finished_in self.old has_begun (opened_view region.entry) in_loop) self.new out.new }
     {
         if has_begun {
             let gave_up = self.budget.gave_up();

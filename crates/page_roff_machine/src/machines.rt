@@ -1,7 +1,7 @@
 //! The machine that runs the lines of a page (roff(7), "LANGUAGE SYNTAX"): its macros, conditionals, loops and regions.
 
 ghost use Rattle.std.specs.Prelude.{◌≡◌, ◌+◌, ◌*◌, ◌<◌, ◌≤◌, ◌^◌, true, IfOk, length, sum_by};
-ghost use Rattle.page_core_base.specs.LinesTaken.{line_seen};
+ghost use Rattle.page_core_base.specs.LinesTaken.{line_view};
 ghost use Rattle.page_core_base.specs.Texts.{IsLine};
 ghost use Rattle.page_core_limits.specs.declared.TheConstants.{ARGS, BODY, CALLS, LINE};
 ghost use Rattle.page_roff_blocks.specs.Caps.{PlaceFits};
@@ -115,7 +115,7 @@ impl Machine {
     pub fn begin(&mut self, line: &[u8], number: u32) -> bool
         requires idle { is_idle self.old ≡ true }
         requires line { IsLine line.now }
-        requires skips { self.old.stack.top.spot.levels.skipped < 2 ^ 62 }
+        requires skips { self.old.stack.top.cursor.levels.skipped < 2 ^ 62 }
         requires count { self.old.budget.taken ≤ 2 ^ 62 }
         ensures { BeginsOrTakes result line.now number self.old self.new }
     {
@@ -138,7 +138,7 @@ impl Machine {
 
     /// Lends the line that was taken last.
     pub fn line(&self) -> Taken<'_>
-        ensures line { line_seen result ≡ self.now.actions.line }
+        ensures line { line_view result ≡ self.now.actions.line }
         ensures short { length result.text.now ≤ LINE }
     {
         self.runner.doing.actions.line()

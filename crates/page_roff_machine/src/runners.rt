@@ -18,7 +18,7 @@ use crate::budgeted_actions::BudgetedActions;
 use arrayvec::ArrayVec;
 use page_core_base::NoteOut;
 use page_core_limits::ARGS;
-use page_roff_blocks::{Answer, Atom, Ended, Opening, Pass, Reached, Way};
+use page_roff_blocks::{Answer, LinePart, Ended, Opening, Pass, Reached, Way};
 use page_roff_effects::ProductKind;
 use page_roff_stack::{InputStack, Movement, Next};
 
@@ -111,32 +111,32 @@ impl Runner {
         requires sound { IsSound self.old }
         requires begun { is_line (next_of self.old.stack) ≡ false }
         requires left { is_nothing (next_of self.old.stack) ≡ false }
-        requires reached { reached ≡ levels.reached self.old.stack.top.spot }
+        requires reached { reached ≡ levels.reached self.old.stack.top.cursor }
         ensures { Decides O.left self.old out.old result self.new out.new }
     {
         let bit = self.stack.levels().bit();
         let may_run = self.stack.may_call();
         match self.stack.read_part() {
             None => self.act_between_lines(out),
-            Some(Atom::Leaf(text)) => Act::Leaf(self.doing.leaf(reached, may_run, text, out)),
-            Some(Atom::Guard(head)) => {
+            Some(LinePart::Leaf(text)) => Act::Leaf(self.doing.leaf(reached, may_run, text, out)),
+            Some(LinePart::Guard(head)) => {
                 let value = self.doing.answer(reached, &head.branch, bit, out);
                 let answer = head.branch.answered(bit, value);
                 Act::Move(Movement::Part(Pass::Guard(answer)))
             }
-            Some(Atom::Block(Opening::Conditional(head))) => {
+            Some(LinePart::Block(Opening::Conditional(head))) => {
                 let value = self.doing.answer(reached, &head.branch, bit, out);
                 Act::Block(head.branch.answered(bit, value), head.column)
             }
-            Some(Atom::Block(Opening::Loop(head))) => {
+            Some(LinePart::Block(Opening::Loop(head))) => {
                 let is_run = self.doing.open_loop(reached, &head, out);
                 Act::Move(Movement::Part(Pass::Loop(is_run)))
             }
-            Some(Atom::Loop(head)) => {
+            Some(LinePart::Loop(head)) => {
                 Act::Leaf(self.doing.pass_loop(reached, may_run, &head, out))
             }
-            Some(Atom::End) => Act::BlockEnd,
-            Some(Atom::Region(head)) => {
+            Some(LinePart::End) => Act::BlockEnd,
+            Some(LinePart::Region(head)) => {
                 Act::Move(Movement::Region(self.doing.open_region(reached, &head, out)))
             }
         }
@@ -241,7 +241,7 @@ impl Runner {
 
     // How a block is entered whose head leaves this, if it was run.
     fn way(&self, answer: Option<Answer>) -> Way
-        ensures { result ≡ way_after answer self.now.stack.top.spot }
+        ensures { result ≡ way_after answer self.now.stack.top.cursor }
     {
         match answer {
             Some(answer) => self.stack.levels().way(answer.value),

@@ -28,9 +28,9 @@ opened head is_run =
     record { kind = head.kind; name = within_limit (macro_name head); ending = end_name head; is_run = is_run }
 
 -- the open region that is lent, if there is one
-abbrev pub opened_seen : Option (Bor Opened) → Option Opened
-opened_seen None = None
-opened_seen (Some region) = Some region.now
+abbrev pub opened_view : Option (Bor Opened) → Option Opened
+opened_view None = None
+opened_view (Some region) = Some region.now
 
 -- ---- its caps
 

@@ -3,13 +3,13 @@ use Rattle.std.specs.Prelude.{◌≡◌, ℕ, ◌==◌, ◌||◌, Bool, false, n
 use Rattle.std.specs.Str.{bytes_eq}
 use Rattle.std.specs.Borrow.{Bor}
 use Rattle.page_core_limits.specs.declared.TheConstants.{NAME}
-use Rattle.page_roff_forms.specs.Arguments.{arguments, argument_name, argument_seen}
+use Rattle.page_roff_forms.specs.Arguments.{arguments, argument_name, argument_view}
 use Rattle.page_roff_forms.specs.LineForms.{form_of}
 use Rattle.page_roff_forms.specs.declared.line_forms.LineForm.{LineForm}
 use Rattle.page_roff_forms.specs.declared.line_forms.LineForm.TheVariants.{Comment, BlankLine, Text, Control}
 use Rattle.page_roff_forms.specs.declared.quotes.Argument.{Argument}
 use Rattle.page_roff_requests.specs.Regions.{fixed_ending}
-pub use Rattle.page_roff_requests.specs.Regions.{text_seen}
+pub use Rattle.page_roff_requests.specs.Regions.{text_view}
 use Rattle.page_roff_requests.specs.declared.regions.RegionKind.{RegionKind}
 use Rattle.page_roff_requests.specs.declared.regions.RegionKind.TheVariants.{Define, Append, Ignore, Table, Equation, Picture}
 use Rattle.page_roff_regions.specs.declared.regions.RegionHead.{RegionHead}
@@ -101,11 +101,11 @@ is_ending ending line = is_called ending (form_of line)
 
 -- ---- of the program, with what its texts hold
 
-abbrev pub region_seen : RegionHead (Bor (List ℕ)) → RegionHead (List ℕ)
-region_seen head =
+abbrev pub region_view : RegionHead (Bor (List ℕ)) → RegionHead (List ℕ)
+region_view head =
     record {
       kind = head.kind;
       column = head.column;
-      name = option_map argument_seen head.name;
-      ending = option_map argument_seen head.ending;
+      name = option_map argument_view head.name;
+      ending = option_map argument_view head.ending;
     }

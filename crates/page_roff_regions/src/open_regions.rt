@@ -4,8 +4,8 @@ ghost use Rattle.std.specs.Prelude.{◌≡◌, ◌≤◌, length, option_map};
 ghost use Rattle.page_core_limits.specs.declared.TheConstants.{LINE, NAME};
 ghost use Rattle.page_roff_regions.specs.OpenRegions.{RegionFits};
 ghost use Rattle.page_roff_regions.specs.OpenRegions.{name_if, within_limit, opened};
-ghost use Rattle.page_roff_regions.specs.Regions.{is_ending, text_seen, region_seen};
-ghost use Rattle.page_roff_forms.specs.Arguments.{argument_seen, argument_name};
+ghost use Rattle.page_roff_regions.specs.Regions.{is_ending, text_view, region_view};
+ghost use Rattle.page_roff_forms.specs.Arguments.{argument_view, argument_name};
 
 use crate::regions::{RegionHead, copy_of, is_ending};
 use arrayvec::ArrayVec;
@@ -55,7 +55,7 @@ fn short_name(name: &[u8]) -> (ArrayVec<u8, NAME>, bool)
 #[tactic(auto, unfolding(crate::specs::OpenRegions::within_limit))]
 fn usable_name(name: Option<Argument<&[u8]>>) -> (ArrayVec<u8, NAME>, bool)
     ensures { name_if result.1 result.0.items
-        ≡ within_limit (option_map argument_name (option_map argument_seen name.entry)) }
+        ≡ within_limit (option_map argument_name (option_map argument_view name.entry)) }
 {
     match name {
         Some(argument) => short_name(argument.name().as_slice()),
@@ -67,7 +67,7 @@ impl OpenRegion {
     /// The region of a head, which may be run or not.
     #[tactic(auto, unfolding(crate::specs::OpenRegions::opened))]
     pub fn new(head: &RegionHead<&[u8]>, is_run: bool) -> OpenRegion
-        ensures { result ≡ opened (region_seen head.now) is_run }
+        ensures { result ≡ opened (region_view head.now) is_run }
     {
         let (name, has_name) = usable_name(head.name);
         OpenRegion {
@@ -108,7 +108,7 @@ impl OpenRegion {
 
     /// The macro that it defines, if it defines one.
     pub fn name(&self) -> Option<&[u8]>
-        ensures { text_seen result ≡ self.now.name }
+        ensures { text_view result ≡ self.now.name }
     {
         if self.has_name {
             Some(self.name.as_slice())

@@ -2,8 +2,8 @@
 
 ghost use Rattle.std.specs.Prelude.{◌≡◌, ◌≤◌, ◌+◌, length, option_map};
 ghost use Rattle.page_core_limits.specs.declared.TheConstants.{LINE, NAME};
-ghost use Rattle.page_roff_forms.specs.Arguments.{argument_seen, argument_name, arguments};
-ghost use Rattle.page_roff_regions.specs.Regions.{ending_of, end_name, has_long_name, is_too_long, region_head, is_ending, region_seen, NameOfNext};
+ghost use Rattle.page_roff_forms.specs.Arguments.{argument_view, argument_name, arguments};
+ghost use Rattle.page_roff_regions.specs.Regions.{ending_of, end_name, has_long_name, is_too_long, region_head, is_ending, region_view, NameOfNext};
 
 use arrayvec::ArrayVec;
 use page_core_limits::{LINE, NAME};
@@ -37,7 +37,7 @@ impl<W: Copy> Clone for RegionHead<W> {
 
 // The next argument, if there is one more that has bytes: an empty name is none.
 fn next_named<'a>(arguments: &mut Arguments<'a>) -> Option<Argument<&'a [u8]>>
-    ensures { NameOfNext arguments.old (option_map argument_seen result) arguments.new }
+    ensures { NameOfNext arguments.old (option_map argument_view result) arguments.new }
 {
     match arguments.next_argument() {
         Some(argument) if !argument.text.is_empty() => Some(argument),
@@ -68,7 +68,7 @@ fn ending_of(asked: &[u8]) -> ArrayVec<u8, NAME>
 
 // Whether a name is longer than names may be.
 fn is_too_long(name: Option<Argument<&[u8]>>) -> bool
-    ensures { result ≡ is_too_long (option_map argument_name (option_map argument_seen name.entry)) }
+    ensures { result ≡ is_too_long (option_map argument_name (option_map argument_view name.entry)) }
 {
     match name {
         Some(argument) => argument.name().len() > NAME,
@@ -79,7 +79,7 @@ fn is_too_long(name: Option<Argument<&[u8]>>) -> bool
 impl<'a> RegionHead<&'a [u8]> {
     /// The name of the control line that ends it: at most [`NAME`] bytes.
     pub fn end_name(&self) -> ArrayVec<u8, NAME>
-        ensures { result.items ≡ end_name (region_seen self.now) }
+        ensures { result.items ≡ end_name (region_view self.now) }
     {
         if let Some(name) = self.kind.fixed_ending() {
             return ending_of(name);
@@ -92,7 +92,7 @@ impl<'a> RegionHead<&'a [u8]> {
 
     /// Whether its name or its end name is longer than names may be.
     pub fn has_long_name(&self) -> bool
-        ensures { result ≡ has_long_name (region_seen self.now) }
+        ensures { result ≡ has_long_name (region_view self.now) }
     {
         is_too_long(self.name) || is_too_long(self.ending)
     }
@@ -109,7 +109,7 @@ pub fn region_head(
 ) -> RegionHead<&[u8]>
     requires short { length rest.now ≤ LINE }
     requires room { rest_column + length rest.now ≤ LINE + 1 }
-    ensures { region_seen result ≡ region_head kind column rest_column rest.now }
+    ensures { region_view result ≡ region_head kind column rest_column rest.now }
 {
     let mut arguments = Arguments::new(rest, rest_column);
     let first = next_named(&mut arguments);

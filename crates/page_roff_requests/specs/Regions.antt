@@ -22,6 +22,6 @@ fixed_ending Equation = Some (codes "EN")
 fixed_ending Picture = Some (codes "PE")
 
 -- a text of the program, if there is one
-abbrev pub text_seen : Option (Bor (List ℕ)) → Option (List ℕ)
-text_seen None = None
-text_seen (Some text) = Some text.now
+abbrev pub text_view : Option (Bor (List ℕ)) → Option (List ℕ)
+text_view None = None
+text_view (Some text) = Some text.now

@@ -2,7 +2,7 @@
 //! "de", "am", "ig", "TS", "EQ", "PS").
 
 ghost use Rattle.std.specs.Prelude.{◌≡◌};
-ghost use Rattle.page_roff_requests.specs.Regions.{region_name, fixed_ending, text_seen};
+ghost use Rattle.page_roff_requests.specs.Regions.{region_name, fixed_ending, text_view};
 
 /// The request or macro that begins a region.
 #[derive(Clone, Copy)]
@@ -38,7 +38,7 @@ impl RegionKind {
 
     /// The name that ends it, where its head may not choose one.
     pub fn fixed_ending(self) -> Option<&'static [u8]>
-        ensures { text_seen result ≡ fixed_ending self }
+        ensures { text_view result ≡ fixed_ending self }
     {
         match self {
             RegionKind::Define | RegionKind::Append | RegionKind::Ignore => None,

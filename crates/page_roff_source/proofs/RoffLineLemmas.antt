@@ -54,7 +54,7 @@ begun_with output a source = edge_with output a source (Some a.state.rest.out)
 abbrev at_stack : Output → stack.Stack → Memory → ℕ → Edge
 at_stack output s memory taken = record {
   output = output;
-  place = record { region = s.top.region; levels = s.top.spot.levels };
+  place = record { region = s.top.region; levels = s.top.cursor.levels };
   memory = memory;
   source = 0;
   taken = taken;
@@ -235,7 +235,7 @@ done_idle m source remaining.End p none = absurd (cc)
 done_idle m source remaining.Run p none = absurd (cc)
 
 pub begin_room : (m : Machine) (source : ℕ) (left : Remaining) → IsAtEdge m source left → (edge_of m source left).to_come ≡ None
-    → (m.budget.taken ≤ 2 ^ 62) × (m.stack.top.spot.levels.skipped < 2 ^ 62)
+    → (m.budget.taken ≤ 2 ^ 62) × (m.stack.top.cursor.levels.skipped < 2 ^ 62)
 begin_room m source remaining.Nothing p none = room_to_begin m source p
 begin_room m source remaining.Line p none = absurd (cc)
 begin_room m source remaining.End p none = absurd (cc)
@@ -393,7 +393,7 @@ ended_counted old new source i j s b c =
     let t : (outcome_of new).state.taken ≡ (outcome_of old).state.taken =
     ap (λ (a : At (Budgeted State)). a.state.taken) n ∙ ap (λ (x : Budget). x.taken) b ∙ sym (ap (λ (a : At (Budgeted State)). a.state.taken) o) in
     let k : (outcome_of new).place.levels.skipped ≡ (outcome_of old).place.levels.skipped =
-    ap (λ (a : At (Budgeted State)). a.place.levels.skipped) n ∙ ap (λ (x : stack.Stack). x.top.spot.levels.skipped) s
+    ap (λ (a : At (Budgeted State)). a.place.levels.skipped) n ∙ ap (λ (x : stack.Stack). x.top.cursor.levels.skipped) s
     ∙ sym (ap (λ (a : At (Budgeted State)). a.place.levels.skipped) o) in
     record { source = c.source; taken = omega (arith, t, c.taken); skipped = omega (arith, k, c.skipped) }
 
@@ -403,7 +403,7 @@ unfolding AreGiven
 end_invariant old new source remaining.Nothing p none s b m =
     let i = ap (λ (x : stack.Stack). is_nothing (stack.next_of x)) s ∙ p.idle in
     let held : HoldsTexts old.actions.memory = subst (λ (a : At (Budgeted State)). HoldsTexts a.state.rest.memory) (idle_stands old p.idle) p.texts in
-    let left = finish_holds old.stack.top.region old.stack.top.spot.levels.in_loop false old.actions.memory held in
+    let left = finish_holds old.stack.top.region old.stack.top.cursor.levels.in_loop false old.actions.memory held in
     record {
       idle = i;
       counted = ended_counted old new source p.idle i s b p.counted;

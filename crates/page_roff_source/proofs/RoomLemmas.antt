@@ -1,13 +1,13 @@
 -- How many skipped blocks a line begins: helpers of proofs.
 use Rattle.std.proofs.Common.{ℕ, ◌+◌, ◌*◌, ◌≤◌, Bool, true, false, List, [], ◌∷◌, length, Option, Some, None, sym, subst, arith}
-use Rattle.page_roff_blocks.specs.Atoms.{atoms}
+use Rattle.page_roff_blocks.specs.LineParts.{line_parts}
 use Rattle.page_roff_regions.specs.Regions.{is_ending}
 use Rattle.page_roff_blocks.specs.Levels.{Levels, at_line}
 use Rattle.page_roff_regions.specs.OpenRegions.{Opened}
 use Rattle.page_roff_blocks.specs.Run.{Meaning, At, run_lines}
 use Rattle.page_roff_blocks.specs.Steps.{begin_line, step_inside, step_from, step, step_lines}
 use Rattle.page_roff_blocks.proofs.FoldLemmas.{run_is_steps}
-use Rattle.page_roff_blocks.proofs.RoomLemmas.{atoms_room, step_room}
+use Rattle.page_roff_blocks.proofs.RoomLemmas.{line_parts_room, step_room}
 use Rattle.page_roff_values.specs.Values.{units_of}
 use Rattle.page_roff_language.specs.Languages.{page, meaning_at, run_page}
 use Rattle.page_core_limits.specs.declared.TheConstants.{CALLS}
@@ -28,7 +28,7 @@ module _ {S : Type 0} (m : Meaning (List ℕ) S) where
   from_room : (o : Option Opened) (line : List ℕ) (l : Levels) (s : S) → IsRoomy l line (step_from m (λ t. t) o line l s)
   unfolding step_from IsRoomy at_line
   from_room None line l s =
-      omega (arith, step_room m (atoms line) (at_line l) (begin_line m line l s), atoms_room line)
+      omega (arith, step_room m (line_parts line) (at_line l) (begin_line m line l s), line_parts_room line)
   from_room (Some o) line l s = inside_room (is_ending o.ending line) o line l s
 
   line_room : (line : List ℕ) (a : At S) → IsRoomy a.place.levels line (run_lines m (λ t. t) (line ∷ []) a)

@@ -3,7 +3,7 @@
 ghost use Rattle.std.specs.Prelude.{◌≡◌, ◌≤◌, ◌<◌, ◌^◌, ⊤, [], length, IfOk, IfSome, None, option_map};
 ghost use mathlib.Core.Option.{none};
 ghost use Rattle.std.specs.Borrow.{sem, follows_so};
-ghost use Rattle.page_core_base.specs.LinesTaken.{line_seen};
+ghost use Rattle.page_core_base.specs.LinesTaken.{line_view};
 ghost use Rattle.page_core_base.specs.Texts.{IsLine};
 ghost use Rattle.page_core_limits.specs.declared.TheConstants.{LINE};
 ghost use Rattle.page_core_base.specs.Latches.{Came};
@@ -158,7 +158,7 @@ impl RoffLines {
 
     /// The finished line that was given last.
     pub(crate) fn line(&self) -> Taken<'_>
-        ensures line { line_seen result ≡ self.now.line }
+        ensures line { line_view result ≡ self.now.line }
         ensures short { length result.text.now ≤ LINE }
     {
         self.machine.line()
@@ -168,7 +168,7 @@ impl RoffLines {
     /// line is done. The messages before it are reported first.
     pub fn take_into<O: NoteOut>(&mut self, out: &mut O) -> Option<Taken<'_>>
         ensures came { Came O.left out.old (notes_before (given_of self.old.edge)) out.new }
-        ensures line { option_map line_seen result ≡ next_line (given_of self.old.edge) }
+        ensures line { option_map line_view result ≡ next_line (given_of self.old.edge) }
         ensures text { IfSome result (λ taken. IsLine taken.text.now) }
         ensures* after { sem 𝓛 (follows_so the_row the_row self.entry.ghost_name none (λ _ _. ⊤)
             (λ v. v.edge ≡ line_taken self.old.edge)) }

@@ -3,7 +3,7 @@
 ghost use Rattle.std.specs.Prelude.{◌≡◌, true, ◌<◌, ◌^◌, ⊤, [], None, Some, Ok, Err, IfOk, IfErr, IfSome, MatchResult, option_map};
 ghost use mathlib.Core.Option.{none};
 ghost use Rattle.std.specs.Borrow.{sem, follows_so};
-ghost use Rattle.page_core_base.specs.LinesTaken.{line_seen};
+ghost use Rattle.page_core_base.specs.LinesTaken.{line_view};
 ghost use Rattle.page_core_base.specs.Texts.{IsLine};
 ghost use Rattle.page_roff_machine.specs.Giving.{notes_before, next_line};
 ghost use Rattle.page_roff_source.specs.Caps.{RoffFits, RunsWithin};
@@ -165,7 +165,7 @@ impl Roff {
         ensures reports { (e : Edge) → self.old.edge ≡ Some e
             → Reports N.gave N.within N.failed result notes.old (notes_before (given_of e)) notes.new }
         ensures line { (e : Edge) → self.old.edge ≡ Some e
-            → IfOk result (λ taken. option_map line_seen taken ≡ next_line (given_of e)) }
+            → IfOk result (λ taken. option_map line_view taken ≡ next_line (given_of e)) }
         ensures text { IfOk result (λ taken. IfSome taken (λ t. IsLine t.text.now)) }
         ensures closed { self.old.edge ≡ None → (result ≡ Err Fault.Failed) × (notes.new ≡ notes.old) }
         ensures same { N.loans notes.new ≡ N.loans notes.old }

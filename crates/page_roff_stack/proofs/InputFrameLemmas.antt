@@ -3,16 +3,16 @@ use Rattle.std.proofs.Common.{◌≡◌, ℕ, ◌+◌, ◌-◌, ◌*◌, ◌<◌
 use Rattle.std.proofs.lemmas.Bool.Decides.{nat_tests}
 use Rattle.std.specs.Borrow.{Bor}
 use Rattle.page_core_limits.specs.declared.TheConstants.{LINE}
-use Rattle.page_roff_blocks.specs.declared.atoms.Atom.{Atom}
+use Rattle.page_roff_blocks.specs.declared.line_parts.LinePart.{LinePart}
 use Rattle.page_roff_blocks.specs.declared.line_places.LinePlace.{LinePlace}
-use Rattle.page_roff_blocks.specs.Atoms.{atoms, ReadsNext}
-use Rattle.page_roff_blocks.specs.declared.spots.Pass.{Pass}
-use Rattle.page_roff_blocks.specs.declared.spots.Pass.TheVariants as passes
-use Rattle.page_roff_blocks.specs.Levels.{Spot, at_line, after_part, way_of, open_loop, skip, passed}
+use Rattle.page_roff_blocks.specs.LineParts.{line_parts, ReadsNext}
+use Rattle.page_roff_blocks.specs.declared.block_cursors.Pass.{Pass}
+use Rattle.page_roff_blocks.specs.declared.block_cursors.Pass.TheVariants as passes
+use Rattle.page_roff_blocks.specs.Levels.{BlockCursor, at_line, after_part, way_of, open_loop, skip, passed}
 use Rattle.page_roff_regions.specs.OpenRegions.{Opened}
 use Rattle.page_roff_blocks.specs.LinePlaces.{parts_at, line_end, is_at_end, IsPlaceIn}
-use Rattle.page_roff_blocks.proofs.AtomLemmas.{atoms_cons}
-use Rattle.page_roff_blocks.proofs.RoomLemmas.{atoms_room, enter_room, leave_room}
+use Rattle.page_roff_blocks.proofs.LinePartLemmas.{line_parts_cons}
+use Rattle.page_roff_blocks.proofs.RoomLemmas.{line_parts_room, enter_room, leave_room}
 use Rattle.page_roff_language.specs.Machine.{Frame, at_part}
 use Rattle.page_roff_language.specs.Measures.{weight, work_in}
 use Rattle.page_roff_stack.specs.declared.input_frames.InputFrame.{InputFrame}
@@ -21,58 +21,58 @@ use Rattle.page_roff_stack.specs.declared.source_kinds.SourceKind.TheVariants as
 use Rattle.page_roff_stack.specs.declared.spans.Span.{Span}
 use Rattle.page_roff_values.specs.Arguments.{lines_in}
 use Rattle.page_roff_stack.specs.Ahead.{IsAfter}
-use Rattle.page_roff_stack.specs.Changes.{past, in_region, next_line, first_atoms, begins_next, begins_line, ends_with, is_over, HasPart, IfEnters, AreShort, IsBounded}
+use Rattle.page_roff_stack.specs.Changes.{past, in_region, next_line, first_line_parts, begins_next, begins_line, ends_with, is_over, HasPart, IfEnters, AreShort, IsBounded}
 use Rattle.page_roff_stack.specs.Held.{span_text, only_line, AreLinesOf, IsSpanIn, IsFirstLine}
 use Rattle.page_roff_stack.specs.InputFrames.{frame_of, IsHeld}
-use Rattle.page_roff_stack.specs.Views.{parts_seen, IsNextLine}
+use Rattle.page_roff_stack.specs.Views.{parts_view, IsNextLine}
 use Rattle.page_roff_stack.proofs.LineLemmas.{span_len, some_line, no_lines}
 
 -- ---- a part is read
 
-pub reads_rest : (old : List (Atom (List ℕ))) (part : Option (Atom (Bor (List ℕ)))) (new : List (Atom (List ℕ))) → ReadsNext old part new → new ≡ drop 1 old
+pub reads_rest : (old : List (LinePart (List ℕ))) (part : Option (LinePart (Bor (List ℕ)))) (new : List (LinePart (List ℕ))) → ReadsNext old part new → new ≡ drop 1 old
 reads_rest old None new h = h.1 ∙ sym (ap (drop 1) h.0)
 reads_rest old (Some part) new h = sym (ap (drop 1) h)
 
-pub reads_first : (old : List (Atom (List ℕ))) (part : Option (Atom (Bor (List ℕ)))) (new : List (Atom (List ℕ))) → ReadsNext old part new → parts_seen part ≡ take 1 old
+pub reads_first : (old : List (LinePart (List ℕ))) (part : Option (LinePart (Bor (List ℕ)))) (new : List (LinePart (List ℕ))) → ReadsNext old part new → parts_view part ≡ take 1 old
 reads_first old None new h = sym (ap (take 1) h.0)
 reads_first old (Some part) new h = sym (ap (take 1) h)
 
 -- ---- a part is passed
 
-abbrev pub after_it : InputFrame → LinePlace → Spot → InputFrame
-after_it a place spot = record a { place = place; ahead = None; spot = spot }
+abbrev pub after_it : InputFrame → LinePlace → BlockCursor → InputFrame
+after_it a place cursor = record a { place = place; ahead = None; cursor = cursor }
 
-pub past_view : (a : InputFrame) (all text : List ℕ) (place : LinePlace) (spot : Spot) → text ≡ span_text a.line all → IsAfter text a.place place
-    → frame_of (after_it a place spot) all ≡ past spot (frame_of a all)
+pub past_view : (a : InputFrame) (all text : List ℕ) (place : LinePlace) (cursor : BlockCursor) → text ≡ span_text a.line all → IsAfter text a.place place
+    → frame_of (after_it a place cursor) all ≡ past cursor (frame_of a all)
 unfolding at_part
-past_view a all text place spot e h =
+past_view a all text place cursor e h =
     let next = rw e at h.next in
-    ap (λ parts. let f : Frame = record { kind = (frame_of a all).kind; region = a.region; parts = parts; spot = spot; lines = (frame_of a all).lines; turning = (frame_of a all).turning } in f) next
+    ap (λ parts. let f : Frame = record { kind = (frame_of a all).kind; region = a.region; parts = parts; cursor = cursor; lines = (frame_of a all).lines; turning = (frame_of a all).turning } in f) next
 
-past_bounded : (f : Frame) (spot : Spot) → spot.levels.skipped + 2 * length (drop 1 f.parts) ≤ f.spot.levels.skipped + 2 * length f.parts → IsBounded f → IsBounded (past spot f)
+past_bounded : (f : Frame) (cursor : BlockCursor) → cursor.levels.skipped + 2 * length (drop 1 f.parts) ≤ f.cursor.levels.skipped + 2 * length f.parts → IsBounded f → IsBounded (past cursor f)
 unfolding at_part work_in
-past_bounded f spot p h = record { short = h.short; skips = omega (arith, p, h.skips) }
+past_bounded f cursor p h = record { short = h.short; skips = omega (arith, p, h.skips) }
 
 -- a part skips one block at most, where there is one
 pass_room : (pass : Pass) (f : Frame) → IfEnters pass (HasPart f)
-    → (passed pass f.spot).levels.skipped + 2 * length (drop 1 f.parts) ≤ f.spot.levels.skipped + 2 * length f.parts
+    → (passed pass f.cursor).levels.skipped + 2 * length (drop 1 f.parts) ≤ f.cursor.levels.skipped + 2 * length f.parts
 unfolding after_part skip open_loop
 pass_room passes.Leaf f h = omega (arith, length-drop 1 f.parts)
 pass_room (passes.Guard None) f h = omega (arith, length-drop 1 f.parts)
 pass_room (passes.Guard (Some a)) f h = omega (arith, length-drop 1 f.parts)
 pass_room (passes.Block None) f h = omega (arith, h, length-drop 1 f.parts)
 pass_room (passes.Block (Some a)) f h =
-    omega (arith, h, length-drop 1 f.parts, enter_room (way_of a.value (length f.spot.levels.outer)) a.bit f.spot.levels)
+    omega (arith, h, length-drop 1 f.parts, enter_room (way_of a.value (length f.cursor.levels.outer)) a.bit f.cursor.levels)
 pass_room (passes.Loop true) f h = omega (arith, length-drop 1 f.parts)
 pass_room (passes.Loop false) f h = omega (arith, h, length-drop 1 f.parts)
 pass_room passes.End f h =
-    let l = f.spot.levels in omega (arith, length-drop 1 f.parts, leave_room l.bit l.outer l.in_loop l.skipped)
+    let l = f.cursor.levels in omega (arith, length-drop 1 f.parts, leave_room l.bit l.outer l.in_loop l.skipped)
 
-pub past_held : (a : InputFrame) (all text : List ℕ) (place : LinePlace) (pass : Pass) (spot : Spot) → text ≡ span_text a.line all → IsAfter text a.place place
-    → spot ≡ passed pass a.spot → IfEnters pass (HasPart (frame_of a all)) → IsHeld a all → IsHeld (after_it a place spot) all
-past_held a all text place pass spot e r g p h =
+pub past_held : (a : InputFrame) (all text : List ℕ) (place : LinePlace) (pass : Pass) (cursor : BlockCursor) → text ≡ span_text a.line all → IsAfter text a.place place
+    → cursor ≡ passed pass a.cursor → IfEnters pass (HasPart (frame_of a all)) → IsHeld a all → IsHeld (after_it a place cursor) all
+past_held a all text place pass cursor e r g p h =
     let f = frame_of a all in
-    let room : spot.levels.skipped + 2 * length (drop 1 f.parts) ≤ f.spot.levels.skipped + 2 * length f.parts = rw g (pass_room pass f p) in
+    let room : cursor.levels.skipped + 2 * length (drop 1 f.parts) ≤ f.cursor.levels.skipped + 2 * length f.parts = rw g (pass_room pass f p) in
     record {
       line = h.line;
       short = h.short;
@@ -82,7 +82,7 @@ past_held a all text place pass spot e r g p h =
       only = h.only;
       arguments = h.arguments;
       turns = h.turns;
-      bounds = rw (past_view a all text place spot e r) (past_bounded f spot room h.bounds);
+      bounds = rw (past_view a all text place cursor e r) (past_bounded f cursor room h.bounds);
     }
 
 -- what was read changes nothing of what is seen
@@ -102,20 +102,20 @@ ahead_held a all text ahead e r h =
 
 -- ---- the rest of the present line is passed
 
-abbrev pub closed : InputFrame → LinePlace → Option Opened → Spot → InputFrame
-closed a place region spot = record a { place = place; ahead = None; region = region; spot = spot }
+abbrev pub closed : InputFrame → LinePlace → Option Opened → BlockCursor → InputFrame
+closed a place region cursor = record a { place = place; ahead = None; region = region; cursor = cursor }
 
-pub closed_view : (a : InputFrame) (all : List ℕ) (place : LinePlace) (region : Option Opened) (spot : Spot) → place ≡ line_end → spot ≡ at_line a.spot.levels
-    → frame_of (closed a place region spot) all ≡ in_region region (frame_of a all)
-closed_view a all place region spot e g = rw (e, g) refl
+pub closed_view : (a : InputFrame) (all : List ℕ) (place : LinePlace) (region : Option Opened) (cursor : BlockCursor) → place ≡ line_end → cursor ≡ at_line a.cursor.levels
+    → frame_of (closed a place region cursor) all ≡ in_region region (frame_of a all)
+closed_view a all place region cursor e g = rw (e, g) refl
 
 closed_bounded : (region : Option Opened) (f : Frame) → IsBounded f → IsBounded (in_region region f)
 unfolding work_in at_line
 closed_bounded region f h = record { short = h.short; skips = omega (arith, h.skips) }
 
-pub closed_held : (a : InputFrame) (all : List ℕ) (place : LinePlace) (region : Option Opened) (spot : Spot) → place ≡ line_end → spot ≡ at_line a.spot.levels → IsHeld a all
-    → IsHeld (closed a place region spot) all
-closed_held a all place region spot e g h =
+pub closed_held : (a : InputFrame) (all : List ℕ) (place : LinePlace) (region : Option Opened) (cursor : BlockCursor) → place ≡ line_end → cursor ≡ at_line a.cursor.levels → IsHeld a all
+    → IsHeld (closed a place region cursor) all
+closed_held a all place region cursor e g h =
     record {
       line = h.line;
       short = h.short;
@@ -125,7 +125,7 @@ closed_held a all place region spot e g h =
       only = h.only;
       arguments = h.arguments;
       turns = h.turns;
-      bounds = rw (closed_view a all place region spot e g) (closed_bounded region (frame_of a all) h.bounds);
+      bounds = rw (closed_view a all place region cursor e g) (closed_bounded region (frame_of a all) h.bounds);
     }
 
 -- ---- a line is passed
@@ -137,10 +137,10 @@ pub record IsPassed (a : InputFrame) (all : List ℕ) (line lines : Span) : Type
   pub line_within : IsSpanIn line all
   pub lines_within : IsSpanIn lines all
 
-abbrev pub lined : InputFrame → Span → LinePlace → Span → Option Opened → Spot → InputFrame
-lined a line place lines region spot = record a { line = line; place = place; ahead = None; lines = lines; region = region; spot = spot }
+abbrev pub lined : InputFrame → Span → LinePlace → Span → Option Opened → BlockCursor → InputFrame
+lined a line place lines region cursor = record a { line = line; place = place; ahead = None; lines = lines; region = region; cursor = cursor }
 
-first_parts : (lines : List (List ℕ)) (text : List ℕ) → 0 < length lines → IsFirstLine lines text → atoms text ≡ first_atoms lines
+first_parts : (lines : List (List ℕ)) (text : List ℕ) → 0 < length lines → IsFirstLine lines text → line_parts text ≡ first_line_parts lines
 first_parts [] text p h = absurd (omega arith)
 first_parts (line ∷ lines) text p h = rw h refl
 
@@ -148,10 +148,10 @@ first_short : (lines : List (List ℕ)) (text : List ℕ) → 0 < length lines �
 first_short [] text p h s = absurd (omega arith)
 first_short (line ∷ lines) text p h s = rw h s.0
 
-first_weight : (lines : List (List ℕ)) → 2 * length (first_atoms lines) + weight (drop 1 lines) ≤ weight lines
+first_weight : (lines : List (List ℕ)) → 2 * length (first_line_parts lines) + weight (drop 1 lines) ≤ weight lines
 unfolding weight
 first_weight [] = omega arith
-first_weight (line ∷ lines) = omega (arith, atoms_room line)
+first_weight (line ∷ lines) = omega (arith, line_parts_room line)
 
 rest_weight : (lines : List (List ℕ)) → weight (drop 1 lines) ≤ weight lines
 unfolding weight
@@ -162,14 +162,14 @@ rest_short : (lines : List (List ℕ)) → AreShort lines → AreShort (drop 1 l
 rest_short [] h = tt
 rest_short (line ∷ lines) h = h.1
 
-next_bounded : (region : Option Opened) (parts : List (Atom (List ℕ))) (f : Frame) → 2 * length parts + weight (drop 1 f.lines) ≤ weight f.lines → IsBounded f
+next_bounded : (region : Option Opened) (parts : List (LinePart (List ℕ))) (f : Frame) → 2 * length parts + weight (drop 1 f.lines) ≤ weight f.lines → IsBounded f
     → IsBounded (next_line region parts f)
 unfolding work_in at_line
 next_bounded region parts f p h = record { short = rest_short f.lines h.short; skips = omega (arith, p, h.skips) }
 
 -- the place before the first part of a text
 pub record IsStart (text : List ℕ) (place : LinePlace) : Type 0 where
-  pub parts : parts_at text place ≡ atoms text
+  pub parts : parts_at text place ≡ line_parts text
   pub within : IsPlaceIn text place
 
 -- after the only line of the page nothing is left
@@ -189,7 +189,7 @@ only_rest sources.Page old new h e = none_left new (e ∙ ap (drop 1) h ∙ drop
 only_rest (sources.Body arguments) old new h e = tt
 
 -- a line begins outside of regions
-pub outside_regions : (region : Option Opened) (parts : List (Atom (List ℕ))) (lines : List (List ℕ)) → begins_next region parts lines ≡ true
+pub outside_regions : (region : Option Opened) (parts : List (LinePart (List ℕ))) (lines : List (List ℕ)) → begins_next region parts lines ≡ true
     → (region ≡ None) × (0 < length lines)
 outside_regions None [] (line ∷ more) e = (refl, omega arith)
 outside_regions None [] [] e = cc
@@ -197,20 +197,20 @@ outside_regions None (part ∷ more) lines e = cc
 outside_regions (Some o) parts lines e = cc
 
 -- a line begins
-pub begun_view : (a : InputFrame) (all : List ℕ) (line : Span) (place : LinePlace) (lines : Span) (spot : Spot) → IsPassed a all line lines → begins_line (frame_of a all) ≡ true
-    → IsStart (span_text line all) place → spot ≡ at_line a.spot.levels
-    → frame_of (lined a line place lines a.region spot) all ≡ next_line None (first_atoms (frame_of a all).lines) (frame_of a all)
-begun_view a all line place lines spot h b e g =
+pub begun_view : (a : InputFrame) (all : List ℕ) (line : Span) (place : LinePlace) (lines : Span) (cursor : BlockCursor) → IsPassed a all line lines → begins_line (frame_of a all) ≡ true
+    → IsStart (span_text line all) place → cursor ≡ at_line a.cursor.levels
+    → frame_of (lined a line place lines a.region cursor) all ≡ next_line None (first_line_parts (frame_of a all).lines) (frame_of a all)
+begun_view a all line place lines cursor h b e g =
     let outside = outside_regions a.region (frame_of a all).parts (frame_of a all).lines b in
     let p = outside.1 in
     rw (e.parts, g, h.rest, outside.0) (
-    ap (λ parts. let f : Frame = record { kind = (frame_of a all).kind; region = None; parts = parts; spot = at_line a.spot.levels; lines = drop 1 (frame_of a all).lines; turning = (frame_of a all).turning } in f)
+    ap (λ parts. let f : Frame = record { kind = (frame_of a all).kind; region = None; parts = parts; cursor = at_line a.cursor.levels; lines = drop 1 (frame_of a all).lines; turning = (frame_of a all).turning } in f)
     (first_parts (frame_of a all).lines (span_text line all) p h.first)
     )
 
-pub begun_held : (a : InputFrame) (all : List ℕ) (line : Span) (place : LinePlace) (lines : Span) (spot : Spot) → IsPassed a all line lines → begins_line (frame_of a all) ≡ true
-    → IsStart (span_text line all) place → spot ≡ at_line a.spot.levels → IsHeld a all → IsHeld (lined a line place lines a.region spot) all
-begun_held a all line place lines spot h b e g held =
+pub begun_held : (a : InputFrame) (all : List ℕ) (line : Span) (place : LinePlace) (lines : Span) (cursor : BlockCursor) → IsPassed a all line lines → begins_line (frame_of a all) ≡ true
+    → IsStart (span_text line all) place → cursor ≡ at_line a.cursor.levels → IsHeld a all → IsHeld (lined a line place lines a.region cursor) all
+begun_held a all line place lines cursor h b e g held =
     let p = (outside_regions a.region (frame_of a all).parts (frame_of a all).lines b).1 in
     let f = frame_of a all in
     let l = span_len line all h.line_within in
@@ -224,20 +224,20 @@ begun_held a all line place lines spot h b e g held =
       only = only_rest a.kind (span_text a.lines all) (span_text lines all) held.only h.rest;
       arguments = held.arguments;
       turns = held.turns;
-      bounds = rw (begun_view a all line place lines spot h b e g) (next_bounded None (first_atoms f.lines) f (first_weight f.lines) held.bounds);
+      bounds = rw (begun_view a all line place lines cursor h b e g) (next_bounded None (first_line_parts f.lines) f (first_weight f.lines) held.bounds);
     }
 
 -- a line in a region is passed
-abbrev pub skipped : InputFrame → LinePlace → Span → Spot → InputFrame
-skipped a place lines spot = record a { place = place; ahead = None; lines = lines; spot = spot }
+abbrev pub skipped : InputFrame → LinePlace → Span → BlockCursor → InputFrame
+skipped a place lines cursor = record a { place = place; ahead = None; lines = lines; cursor = cursor }
 
-pub skipped_view : (a : InputFrame) (all : List ℕ) (line : Span) (place : LinePlace) (lines : Span) (spot : Spot) → IsPassed a all line lines → place ≡ line_end → spot ≡ at_line a.spot.levels
-    → frame_of (skipped a place lines spot) all ≡ next_line a.region [] (frame_of a all)
-skipped_view a all line place lines spot h e g = rw (e, g, h.rest) refl
+pub skipped_view : (a : InputFrame) (all : List ℕ) (line : Span) (place : LinePlace) (lines : Span) (cursor : BlockCursor) → IsPassed a all line lines → place ≡ line_end → cursor ≡ at_line a.cursor.levels
+    → frame_of (skipped a place lines cursor) all ≡ next_line a.region [] (frame_of a all)
+skipped_view a all line place lines cursor h e g = rw (e, g, h.rest) refl
 
-pub skipped_held : (a : InputFrame) (all : List ℕ) (line : Span) (place : LinePlace) (lines : Span) (spot : Spot) → IsPassed a all line lines → place ≡ line_end → spot ≡ at_line a.spot.levels
-    → IsHeld a all → IsHeld (skipped a place lines spot) all
-skipped_held a all line place lines spot h e g held =
+pub skipped_held : (a : InputFrame) (all : List ℕ) (line : Span) (place : LinePlace) (lines : Span) (cursor : BlockCursor) → IsPassed a all line lines → place ≡ line_end → cursor ≡ at_line a.cursor.levels
+    → IsHeld a all → IsHeld (skipped a place lines cursor) all
+skipped_held a all line place lines cursor h e g held =
     let f = frame_of a all in
     record {
       line = held.line;
@@ -248,7 +248,7 @@ skipped_held a all line place lines spot h e g held =
       only = only_rest a.kind (span_text a.lines all) (span_text lines all) held.only h.rest;
       arguments = held.arguments;
       turns = held.turns;
-      bounds = rw (skipped_view a all line place lines spot h e g) (next_bounded a.region [] f (omega (arith, rest_weight f.lines)) held.bounds);
+      bounds = rw (skipped_view a all line place lines cursor h e g) (next_bounded a.region [] f (omega (arith, rest_weight f.lines)) held.bounds);
     }
 
 -- a region ends
@@ -294,13 +294,13 @@ some_parts text place e = at_parts text place.is_whole place.is_end place.rest e
     at_parts text true is_end rest e = omega arith
     at_parts text false true rest e = omega arith
     at_parts text false false None e = absurd (cc)
-    at_parts text false false (Some start) e = rw (atoms_cons (drop start text)) (omega arith)
+    at_parts text false false (Some start) e = rw (line_parts_cons (drop start text)) (omega arith)
 
-begins_region : (region : Option Opened) (parts : List (Atom (List ℕ))) (lines : List (List ℕ)) → is_some region ≡ true → false ≡ begins_next region parts lines
+begins_region : (region : Option Opened) (parts : List (LinePart (List ℕ))) (lines : List (List ℕ)) → is_some region ≡ true → false ≡ begins_next region parts lines
 begins_region None parts lines e = absurd (cc)
 begins_region (Some o) parts lines e = refl
 
-begins_part : (region : Option Opened) (parts : List (Atom (List ℕ))) (lines : List (List ℕ)) → 0 < length parts → false ≡ begins_next region parts lines
+begins_part : (region : Option Opened) (parts : List (LinePart (List ℕ))) (lines : List (List ℕ)) → 0 < length parts → false ≡ begins_next region parts lines
 begins_part None [] lines h = absurd (omega arith)
 begins_part None (part ∷ more) lines h = refl
 begins_part (Some o) parts lines h = refl
@@ -311,7 +311,7 @@ begins_lines [] false some none = refl
 begins_lines (line ∷ more) true some none = refl
 begins_lines (line ∷ more) false some none = let h = none refl in absurd (cc)
 
-begins_outside : (region : Option Opened) (parts : List (Atom (List ℕ))) (lines : List (List ℕ)) (b : Bool) → is_some region ≡ false → parts ≡ []
+begins_outside : (region : Option Opened) (parts : List (LinePart (List ℕ))) (lines : List (List ℕ)) (b : Bool) → is_some region ≡ false → parts ≡ []
     → (b ≡ true → 0 < length lines) → (b ≡ false → lines ≡ []) → b ≡ begins_next region parts lines
 begins_outside None parts lines b e p some none = rw p (begins_lines lines b some none)
 begins_outside (Some o) parts lines b e p some none = absurd (cc)
@@ -345,18 +345,18 @@ begins_here a all e p h =
 
 -- ---- whether nothing is left
 
-lines_left : (region : Option Opened) (parts : List (Atom (List ℕ))) (lines : List (List ℕ)) → 0 < length lines → false ≡ ends_with region parts lines
+lines_left : (region : Option Opened) (parts : List (LinePart (List ℕ))) (lines : List (List ℕ)) → 0 < length lines → false ≡ ends_with region parts lines
 lines_left None [] [] h = absurd (omega arith)
 lines_left None [] (line ∷ more) h = refl
 lines_left None (part ∷ more) lines h = refl
 lines_left (Some o) parts [] h = absurd (omega arith)
 lines_left (Some o) parts (line ∷ more) h = refl
 
-region_over : (region : Option Opened) (parts : List (Atom (List ℕ))) → is_some region ≡ true → true ≡ ends_with region parts []
+region_over : (region : Option Opened) (parts : List (LinePart (List ℕ))) → is_some region ≡ true → true ≡ ends_with region parts []
 region_over None parts e = absurd (cc)
 region_over (Some o) parts e = refl
 
-line_over : (region : Option Opened) (parts : List (Atom (List ℕ))) (b : Bool) → is_some region ≡ false
+line_over : (region : Option Opened) (parts : List (LinePart (List ℕ))) (b : Bool) → is_some region ≡ false
     → (b ≡ true → parts ≡ []) → (b ≡ false → 0 < length parts) → b ≡ ends_with region parts []
 line_over None [] true e none some = refl
 line_over None [] false e none some = absurd (let h = some refl in omega (arith, h))

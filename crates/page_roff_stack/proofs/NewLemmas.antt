@@ -3,7 +3,7 @@ use Rattle.std.proofs.Common.{◌≡◌, ℕ, false, suc, ◌-◌, ◌<◌, ◌�
 use Rattle.std.proofs.Math.Seq.{take-append_seam, drop-append_seam}
 use Rattle.page_core_base.specs.Texts.{IsLine}
 use Rattle.page_core_limits.specs.declared.TheConstants.{BODY, LINE}
-use Rattle.page_roff_blocks.specs.Levels.{Spot, at_line, outside}
+use Rattle.page_roff_blocks.specs.Levels.{BlockCursor, at_line, outside}
 use Rattle.page_roff_regions.specs.OpenRegions.{Opened}
 use Rattle.page_roff_blocks.specs.LinePlaces.{line_end}
 use Rattle.page_roff_language.specs.Languages.{Kind, page, body, inner, TURNS}
@@ -22,8 +22,8 @@ use Rattle.page_roff_stack.proofs.LineLemmas.{lines_short, lines_weight, no_text
 abbrev pub span : ℕ → ℕ → Span
 span start end = record { start = start; end = end }
 
-abbrev pub frame : Kind → Option Opened → Spot → List (List ℕ) → Option Turning → Frame
-frame kind region spot lines turning = record { kind = kind; region = region; parts = []; spot = spot; lines = lines; turning = turning }
+abbrev pub frame : Kind → Option Opened → BlockCursor → List (List ℕ) → Option Turning → Frame
+frame kind region cursor lines turning = record { kind = kind; region = region; parts = []; cursor = cursor; lines = lines; turning = turning }
 
 -- no line has begun, and these lines are to come, after what comes before them in the text
 pub record IsNew (a : InputFrame) (all before lines : List ℕ) : Type 0 where
@@ -39,10 +39,10 @@ pub record IsNew (a : InputFrame) (all before lines : List ℕ) : Type 0 where
 length_after : (before lines : List ℕ) → length (before ++ lines) - length before ≡ length lines
 length_after before lines = omega (arith, length-append before lines)
 
-new_view : (a : InputFrame) (all before lines : List ℕ) → IsNew a all before lines → frame_of a all ≡ frame (kind_in a.kind all) a.region a.spot (lines_in lines) (turning_in a.turning all)
+new_view : (a : InputFrame) (all before lines : List ℕ) → IsNew a all before lines → frame_of a all ≡ frame (kind_in a.kind all) a.region a.cursor (lines_in lines) (turning_in a.turning all)
 new_view a all before lines h =
     rw (h.place, h.lines_are) (
-    ap (λ text. frame (kind_in a.kind all) a.region a.spot (lines_in text) (turning_in a.turning all)) (ap (λ n. take n (drop (length before) all)) (length_after before lines) ∙ h.front)
+    ap (λ text. frame (kind_in a.kind all) a.region a.cursor (lines_in text) (turning_in a.turning all)) (ap (λ n. take n (drop (length before) all)) (length_after before lines) ∙ h.front)
     )
 
 new_held : (a : InputFrame) (all before lines : List ℕ) → IsNew a all before lines → AreLinesOf a.kind lines → IsBounded (frame_of a all) → IsHeld a all
@@ -76,14 +76,14 @@ new_of a all before lines more e l p k n h t =
 
 -- ---- a line of the page
 
-line_bounded : (region : Option Opened) (spot : Spot) (line : List ℕ) → length line ≤ LINE → spot.levels.skipped < 2 ^ 62 → IsBounded (frame page region spot (line ∷ []) None)
+line_bounded : (region : Option Opened) (cursor : BlockCursor) (line : List ℕ) → length line ≤ LINE → cursor.levels.skipped < 2 ^ 62 → IsBounded (frame page region cursor (line ∷ []) None)
 unfolding work_in weight
-line_bounded region spot line p s = record { short = (p, tt); skips = omega arith }
+line_bounded region cursor line p s = record { short = (p, tt); skips = omega arith }
 
-line_view : (a : InputFrame) (all line : List ℕ) → IsLine line → IsNew a all [] (line ++ (10 ∷ [])) → a.kind ≡ sources.Page → a.turning ≡ None → frame_of a all ≡ frame page a.region a.spot (line ∷ []) None
+line_view : (a : InputFrame) (all line : List ℕ) → IsLine line → IsNew a all [] (line ++ (10 ∷ [])) → a.kind ≡ sources.Page → a.turning ≡ None → frame_of a all ≡ frame page a.region a.cursor (line ∷ []) None
 line_view a all line h n e t =
     new_view a all [] (line ++ (10 ∷ [])) n
-    ∙ rw (e, t) (ap (λ lines. frame page a.region a.spot lines None) (page_line_in 0 line h.plain))
+    ∙ rw (e, t) (ap (λ lines. frame page a.region a.cursor lines None) (page_line_in 0 line h.plain))
 
 line_only : (line : List ℕ) → only_line (line ++ (10 ∷ [])) ≡ line ∷ []
 line_only [] = refl
@@ -92,12 +92,12 @@ line_only (byte ∷ bytes) =
     rw n (ap (λ text. text ∷ []) (take-append_seam (byte ∷ bytes) (10 ∷ [])))
 
 -- a line of the page is to come
-pub page_set : (a : InputFrame) (all line : List ℕ) → IsLine line → IsNew a all [] (line ++ (10 ∷ [])) → a.kind ≡ sources.Page → a.turning ≡ None → a.spot.levels.skipped < 2 ^ 62
-    → IsHeld a all × (frame_of a all ≡ frame page a.region a.spot (line ∷ []) None)
+pub page_set : (a : InputFrame) (all line : List ℕ) → IsLine line → IsNew a all [] (line ++ (10 ∷ [])) → a.kind ≡ sources.Page → a.turning ≡ None → a.cursor.levels.skipped < 2 ^ 62
+    → IsHeld a all × (frame_of a all ≡ frame page a.region a.cursor (line ∷ []) None)
 page_set a all line h n e t s =
     let view = line_view a all line h n e t in
     let only : AreLinesOf a.kind (line ++ (10 ∷ [])) = rw e (page_line_in 0 line h.plain ∙ sym (line_only line)) in
-    (new_held a all [] (line ++ (10 ∷ [])) n only (rw view (line_bounded a.region a.spot line h.bounded s)), view)
+    (new_held a all [] (line ++ (10 ∷ [])) n only (rw view (line_bounded a.region a.cursor line h.bounded s)), view)
 
 -- ---- a macro
 
@@ -106,7 +106,7 @@ unfolding work_in at_line outside
 body_bounded kind region text p turning = record { short = lines_short text (omega (arith, p)); skips = omega (arith, lines_weight text, p) }
 
 body_view : (a : InputFrame) (all before text args : List ℕ) → IsNew a all before text → a.kind ≡ sources.Body (Some (length (before ++ text)))
-    → drop (length (before ++ text)) all ≡ args → a.region ≡ None → a.spot ≡ at_line outside → a.turning ≡ None
+    → drop (length (before ++ text)) all ≡ args → a.region ≡ None → a.cursor ≡ at_line outside → a.turning ≡ None
     → frame_of a all ≡ entered (lines_in text) (arguments_in args)
 unfolding entered
 body_view a all before text args n e d r s t =
@@ -115,7 +115,7 @@ body_view a all before text args n e d r s t =
 
 -- a macro begins
 pub body_set : (a : InputFrame) (all before text args : List ℕ) → IsNew a all before text → a.kind ≡ sources.Body (Some (length (before ++ text)))
-    → drop (length (before ++ text)) all ≡ args → a.region ≡ None → a.spot ≡ at_line outside → a.turning ≡ None → length text ≤ BODY
+    → drop (length (before ++ text)) all ≡ args → a.region ≡ None → a.cursor ≡ at_line outside → a.turning ≡ None → length text ≤ BODY
     → IsHeld a all × (frame_of a all ≡ entered (lines_in text) (arguments_in args))
 unfolding entered
 body_set a all before text args n e d r s t p =
@@ -132,7 +132,7 @@ unfolding arguments_in
 empty_only = refl
 
 -- the page, before its first line
-pub empty_set : (a : InputFrame) → a.kind ≡ sources.Page → a.line ≡ span 0 0 → a.place ≡ line_end → a.ahead ≡ None → a.lines ≡ span 0 0 → a.region ≡ None → a.spot ≡ at_line outside
+pub empty_set : (a : InputFrame) → a.kind ≡ sources.Page → a.line ≡ span 0 0 → a.place ≡ line_end → a.ahead ≡ None → a.lines ≡ span 0 0 → a.region ≡ None → a.cursor ≡ at_line outside
     → a.turning ≡ None → IsHeld a [] × (frame_of a [] ≡ frame page None (at_line outside) [] None)
 unfolding arguments_in
 empty_set a e l p k n r s t =
@@ -141,17 +141,17 @@ empty_set a e l p k n r s t =
     (new_held a [] [] [] new (rw e empty_only) (rw view (empty_bounded page None)), view)
 
 -- the page between two lines
-place_bounded : (region : Option Opened) (spot : Spot) → spot.levels.skipped < 2 ^ 62 → IsBounded (frame page region spot [] None)
+place_bounded : (region : Option Opened) (cursor : BlockCursor) → cursor.levels.skipped < 2 ^ 62 → IsBounded (frame page region cursor [] None)
 unfolding work_in weight
-place_bounded region spot s = record { short = tt; skips = omega (arith, s) }
+place_bounded region cursor s = record { short = tt; skips = omega (arith, s) }
 
 pub place_set : (a : InputFrame) → a.kind ≡ sources.Page → a.line ≡ span 0 0 → a.place ≡ line_end → a.ahead ≡ None → a.lines ≡ span 0 0
-    → a.turning ≡ None → a.spot.levels.skipped < 2 ^ 62 → IsHeld a [] × (frame_of a [] ≡ frame page a.region a.spot [] None)
+    → a.turning ≡ None → a.cursor.levels.skipped < 2 ^ 62 → IsHeld a [] × (frame_of a [] ≡ frame page a.region a.cursor [] None)
 unfolding arguments_in
 place_set a e l p k n t s =
     let new = new_of a [] [] [] [] refl l p k n (rw e tt) (rw t tt) in
-    let view : frame_of a [] ≡ frame page a.region a.spot [] None = new_view a [] [] [] new ∙ rw (e, t) refl in
-    (new_held a [] [] [] new (rw e empty_only) (rw view (place_bounded a.region a.spot s)), view)
+    let view : frame_of a [] ≡ frame page a.region a.cursor [] None = new_view a [] [] [] new ∙ rw (e, t) refl in
+    (new_held a [] [] [] new (rw e empty_only) (rw view (place_bounded a.region a.cursor s)), view)
 
 pub page_none : (kind : SourceKind) (text : List ℕ) → kind_in kind text ≡ page → kind ≡ sources.Page
 page_none sources.Page text e = refl
@@ -164,7 +164,7 @@ unturned condition lines = record { condition = condition; lines = lines; left =
 
 -- a loop begins: nothing of it is to come before its first turn
 pub loop_set : (a : InputFrame) (all condition : List ℕ) (lines : List (List ℕ)) (args : Option (List (List ℕ))) → IsNew a all [] []
-    → kind_in a.kind all ≡ body args → AreLinesOf a.kind [] → a.region ≡ None → a.spot ≡ at_line outside
+    → kind_in a.kind all ≡ body args → AreLinesOf a.kind [] → a.region ≡ None → a.cursor ≡ at_line outside
     → turning_in a.turning all ≡ Some (unturned condition lines) → IsHeld a all × (frame_of a all ≡ looped (body args) condition lines)
 unfolding looped inner
 loop_set a all condition lines args n e o r s t =

@@ -1,12 +1,12 @@
 -- What comes next in the sources that run: helpers of proofs.
 use Rattle.std.proofs.Common.{◌≡◌, ℕ, zero, suc, ◌-◌, ◌<◌, Bool, true, false, List, [], ◌∷◌, length, Option, Some, None, refl, ◌∙◌, arith}
-use Rattle.page_roff_blocks.specs.declared.atoms.Atom.{Atom}
+use Rattle.page_roff_blocks.specs.declared.line_parts.LinePart.{LinePart}
 use Rattle.page_roff_regions.specs.OpenRegions.{Opened}
 use Rattle.page_roff_blocks.specs.Run.{Meaning}
 use Rattle.page_roff_language.specs.Languages.{arguments_of, Kind, page, body, inner, Language, meaning_at}
 use Rattle.page_roff_language.specs.Machine as machine
 use Rattle.page_roff_language.specs.Machine.{Frame, Turning, depth, looped}
-use Rattle.page_roff_blocks.specs.declared.spots.Pass.TheVariants as passes
+use Rattle.page_roff_blocks.specs.declared.block_cursors.Pass.TheVariants as passes
 use Rattle.page_roff_stack.specs.declared.movements.Movement.{Movement}
 use Rattle.page_roff_stack.specs.declared.movements.Movement.TheVariants as moves
 use Rattle.page_roff_stack.specs.Changes.{is_page, begins_next, ends_with, MayGo}
@@ -19,7 +19,7 @@ unfolding machine.turn_if
 turn_step l t n true f g gs s e h = let k : t.left - 1 ≡ n = omega arith in rw (e, k) refl
 turn_step l t n false f g gs s e h = refl
 
-turns_step : {S : Type 0} (l : Language S) (m : Meaning (List ℕ) S) (t : Turning) (left : ℕ) (region : Option Opened) (parts : List (Atom (List ℕ))) (lines : List (List ℕ)) (f g : Frame) (gs : List Frame) (s : S)
+turns_step : {S : Type 0} (l : Language S) (m : Meaning (List ℕ) S) (t : Turning) (left : ℕ) (region : Option Opened) (parts : List (LinePart (List ℕ))) (lines : List (List ℕ)) (f g : Frame) (gs : List Frame) (s : S)
     → f.turning ≡ Some t → t.left ≡ left
     → Some (machine.turn_next l left f.kind t g gs (machine.finish_if l t.begun (end_of region f s))) ≡ step_in l m (turn_or_end (turn_left left t.condition) region t.begun) parts lines f (g ∷ gs) s
 unfolding step_in machine.turn_next
@@ -27,20 +27,20 @@ turns_step l m t zero region parts lines f g gs s e h = refl
 turns_step l m t (suc n) region parts lines f g gs s e h =
     let v = l.turn f.kind t.condition (machine.finish_if l t.begun (end_of region f s)) in turn_step l t n v.0 f g gs v.1 e h
 
-end_step : {S : Type 0} (l : Language S) (m : Meaning (List ℕ) S) (turning : Option Turning) (region : Option Opened) (parts : List (Atom (List ℕ))) (lines : List (List ℕ)) (f g : Frame) (gs : List Frame) (s : S)
+end_step : {S : Type 0} (l : Language S) (m : Meaning (List ℕ) S) (turning : Option Turning) (region : Option Opened) (parts : List (LinePart (List ℕ))) (lines : List (List ℕ)) (f g : Frame) (gs : List Frame) (s : S)
     → f.turning ≡ turning
     → Some (machine.body_next l turning f.kind g gs (end_of region f s)) ≡ step_in l m (turn_or_end (turn_in turning) region (has_begun turning)) parts lines f (g ∷ gs) s
 unfolding step_in machine.body_next machine.finish_if
 end_step l m None region parts lines f g gs s e = refl
 end_step l m (Some t) region parts lines f g gs s e = turns_step l m t t.left region parts lines f g gs s e refl
 
-step_around : {S : Type 0} (l : Language S) (m : Meaning (List ℕ) S) (region : Option Opened) (parts : List (Atom (List ℕ))) (lines : List (List ℕ)) (f : Frame) (under : List Frame) (s : S)
+step_around : {S : Type 0} (l : Language S) (m : Meaning (List ℕ) S) (region : Option Opened) (parts : List (LinePart (List ℕ))) (lines : List (List ℕ)) (f : Frame) (under : List Frame) (s : S)
     → machine.source_next l f.turning f.kind under (end_of region f s) ≡ step_in l m (next_around f.turning region under) parts lines f under s
 unfolding step_in machine.source_next
 step_around l m region parts lines f [] s = refl
 step_around l m region parts lines f (g ∷ gs) s = end_step l m f.turning region parts lines f g gs s refl
 
-steps : {S : Type 0} (l : Language S) (m : Meaning (List ℕ) S) (region : Option Opened) (parts : List (Atom (List ℕ))) (lines : List (List ℕ)) (f : Frame) (under : List Frame) (s : S)
+steps : {S : Type 0} (l : Language S) (m : Meaning (List ℕ) S) (region : Option Opened) (parts : List (LinePart (List ℕ))) (lines : List (List ℕ)) (f : Frame) (under : List Frame) (s : S)
     → machine.next_in l m region parts lines f under s ≡ step_in l m (next_in f.turning region parts lines under) parts lines f under s
 unfolding step_in machine.next_in
 steps l m None (part ∷ more) lines f under s = refl
@@ -72,7 +72,7 @@ around_line turning region (f ∷ fs) e = end_line (turn_in turning) e
     end_line (Some condition) e = cc
 
 -- a part comes next: it is the first of those that are left
-pub part_there : (turning : Option Turning) (region : Option Opened) (parts : List (Atom (List ℕ))) (lines : List (List ℕ)) (under : List Frame)
+pub part_there : (turning : Option Turning) (region : Option Opened) (parts : List (LinePart (List ℕ))) (lines : List (List ℕ)) (under : List Frame)
     → let next = next_in turning region parts lines under in
     is_part next ≡ true
     → 0 < length parts
@@ -87,7 +87,7 @@ around_end : (turning : Option Turning) (region : Option Opened) (under : List F
 around_end turning region [] e = cc
 around_end turning region (f ∷ fs) e = omega arith
 
-pub end_there : (turning : Option Turning) (region : Option Opened) (parts : List (Atom (List ℕ))) (lines : List (List ℕ)) (under : List Frame)
+pub end_there : (turning : Option Turning) (region : Option Opened) (parts : List (LinePart (List ℕ))) (lines : List (List ℕ)) (under : List Frame)
     → may_end (next_in turning region parts lines under) ≡ true → 0 < length under
 end_there turning None (part ∷ more) lines under e = cc
 end_there turning None [] (line ∷ more) under e = cc
@@ -103,7 +103,7 @@ around_nothing : (turning : Option Turning) (region : Option Opened) (under : Li
 around_nothing turning region [] e = refl
 around_nothing turning region (f ∷ fs) e = let n = not_nothing (turn_in turning) region (has_begun turning) in cc
 
-pub nothing_there : (turning : Option Turning) (region : Option Opened) (parts : List (Atom (List ℕ))) (lines : List (List ℕ)) (under : List Frame)
+pub nothing_there : (turning : Option Turning) (region : Option Opened) (parts : List (LinePart (List ℕ))) (lines : List (List ℕ)) (under : List Frame)
     → is_nothing (next_in turning region parts lines under) ≡ true → under ≡ []
 nothing_there turning None (part ∷ more) lines under e = cc
 nothing_there turning None [] (line ∷ more) under e = cc
@@ -112,7 +112,7 @@ nothing_there turning (Some o) parts (line ∷ more) under e = cc
 nothing_there turning (Some o) parts [] under e = around_nothing turning (Some o) under e
 
 -- where no source is around the innermost one, the page's line is done once nothing is left of it
-pub alone_over : (turning : Option Turning) (region : Option Opened) (parts : List (Atom (List ℕ))) (lines : List (List ℕ)) (under : List Frame) → under ≡ []
+pub alone_over : (turning : Option Turning) (region : Option Opened) (parts : List (LinePart (List ℕ))) (lines : List (List ℕ)) (under : List Frame) → under ≡ []
     → ends_with region parts lines ≡ is_nothing (next_in turning region parts lines under)
 alone_over turning None [] [] under e = rw e refl
 alone_over turning None [] (line ∷ more) under e = refl
@@ -120,7 +120,7 @@ alone_over turning None (part ∷ more) lines under e = refl
 alone_over turning (Some o) parts [] under e = rw e refl
 alone_over turning (Some o) parts (line ∷ more) under e = refl
 
-pub something_around : (turning : Option Turning) (region : Option Opened) (parts : List (Atom (List ℕ))) (lines : List (List ℕ)) (under : List Frame) → 0 < length under
+pub something_around : (turning : Option Turning) (region : Option Opened) (parts : List (LinePart (List ℕ))) (lines : List (List ℕ)) (under : List Frame) → 0 < length under
     → false ≡ is_nothing (next_in turning region parts lines under)
 something_around turning region parts lines [] h = absurd (omega arith)
 something_around turning None [] [] (f ∷ fs) h = not_nothing (turn_in turning) None (has_begun turning)
@@ -143,7 +143,7 @@ not_line : (turn : Option (List ℕ)) (region : Option Opened) (begun : Bool) �
 not_line None region begun = refl
 not_line (Some condition) region begun = refl
 
-pub line_next : (turning : Option Turning) (region : Option Opened) (parts : List (Atom (List ℕ))) (lines : List (List ℕ)) (under : List Frame)
+pub line_next : (turning : Option Turning) (region : Option Opened) (parts : List (LinePart (List ℕ))) (lines : List (List ℕ)) (under : List Frame)
     → begins_next region parts lines ≡ is_line (next_in turning region parts lines under)
 line_next turning None (part ∷ more) lines under = refl
 line_next turning None [] (line ∷ more) under = refl

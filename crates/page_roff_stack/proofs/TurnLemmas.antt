@@ -5,7 +5,7 @@ use Rattle.std.proofs.lemmas.Bool.{cases_Bool}
 use Rattle.std.proofs.lemmas.Bool.Decides.{nat_tests}
 use Rattle.page_core_limits.specs.declared.TheConstants.{BODY}
 use Rattle.page_roff_blocks.specs.declared.line_places.LinePlace.{LinePlace}
-use Rattle.page_roff_blocks.specs.Levels.{Spot, at_line, outside}
+use Rattle.page_roff_blocks.specs.Levels.{BlockCursor, at_line, outside}
 use Rattle.page_roff_blocks.specs.LinePlaces.{line_end}
 use Rattle.page_roff_language.specs.Machine.{Frame, turned}
 use Rattle.page_roff_language.specs.Measures.{work_in}
@@ -25,15 +25,15 @@ abbrev pub after_begin : Turns → Turns
 after_begin t = record t { left = t.left - 1; begun = true }
 
 -- a turn begins of a source with these turns, and leaves those
-abbrev pub begun : InputFrame → Turns → Turns → LinePlace → Spot → InputFrame
-begun a t after place spot = record a { place = place; ahead = None; lines = t.lines; region = None; spot = spot; turning = Some after }
+abbrev pub begun : InputFrame → Turns → Turns → LinePlace → BlockCursor → InputFrame
+begun a t after place cursor = record a { place = place; ahead = None; lines = t.lines; region = None; cursor = cursor; turning = Some after }
 
-pub begun_view : (a : InputFrame) (all : List ℕ) (t after : Turns) (place : LinePlace) (spot : Spot) → place ≡ line_end → spot ≡ at_line outside → a.turning ≡ Some t
-    → after ≡ after_begin t → frame_of (begun a t after place spot) all ≡ in_turn (frame_of a all)
+pub begun_view : (a : InputFrame) (all : List ℕ) (t after : Turns) (place : LinePlace) (cursor : BlockCursor) → place ≡ line_end → cursor ≡ at_line outside → a.turning ≡ Some t
+    → after ≡ after_begin t → frame_of (begun a t after place cursor) all ≡ in_turn (frame_of a all)
 unfolding turned
-begun_view a all t after place spot e g h k = rw (e, g, h, k) refl
+begun_view a all t after place cursor e g h k = rw (e, g, h, k) refl
 
-lines_bounded : (f : Frame) (text : List ℕ) → f.lines ≡ lines_in text → length text ≤ BODY → f.spot ≡ at_line outside → length f.parts ≡ 0 → IsBounded f
+lines_bounded : (f : Frame) (text : List ℕ) → f.lines ≡ lines_in text → length text ≤ BODY → f.cursor ≡ at_line outside → length f.parts ≡ 0 → IsBounded f
 unfolding work_in at_line outside
 lines_bounded f text e p s n =
     record {
@@ -48,9 +48,9 @@ after_held kind t after all e h =
 held_turns : (kind : SourceKind) (turning : Option Turns) (t : Turns) (all : List ℕ) → turning ≡ Some t → AreTurnsIn kind turning all → AreTurns kind t all
 held_turns kind turning t all e h = rw e at h
 
-pub begun_held : (a : InputFrame) (all : List ℕ) (t after : Turns) (place : LinePlace) (spot : Spot) → place ≡ line_end → spot ≡ at_line outside → a.turning ≡ Some t
-    → after ≡ after_begin t → IsHeld a all → IsHeld (begun a t after place spot) all
-begun_held a all t after place spot e g i k h =
+pub begun_held : (a : InputFrame) (all : List ℕ) (t after : Turns) (place : LinePlace) (cursor : BlockCursor) → place ≡ line_end → cursor ≡ at_line outside → a.turning ≡ Some t
+    → after ≡ after_begin t → IsHeld a all → IsHeld (begun a t after place cursor) all
+begun_held a all t after place cursor e g i k h =
     let turns = held_turns a.kind a.turning t all i h.turns in
     let l = span_len t.lines all turns.lines in
     record {
@@ -62,7 +62,7 @@ begun_held a all t after place spot e g i k h =
       only = turns.only;
       arguments = h.arguments;
       turns = after_held a.kind t after all k turns;
-      bounds = lines_bounded (frame_of (begun a t after place spot) all) (span_text t.lines all) refl (omega (arith, l, turns.bounded)) g (rw e refl);
+      bounds = lines_bounded (frame_of (begun a t after place cursor) all) (span_text t.lines all) refl (omega (arith, l, turns.bounded)) g (rw e refl);
     }
 
 -- ---- the text of a loop

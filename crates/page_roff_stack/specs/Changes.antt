@@ -2,12 +2,12 @@
 -- Source: roff(7), "Macros".
 use Rattle.std.specs.Prelude.{ℕ, ◌+◌, ◌-◌, ◌≤◌, ◌<◌, ◌≡◌, ◌^◌, Bool, true, false, List, [], ◌∷◌, length, drop, Option, Some, None}
 use Rattle.page_core_limits.specs.declared.TheConstants.{LINE}
-use Rattle.page_roff_blocks.specs.declared.atoms.Atom.{Atom}
-use Rattle.page_roff_blocks.specs.declared.atoms.Atom.TheVariants.{Leaf, Guard, Block, Loop, End, Region}
-use Rattle.page_roff_blocks.specs.declared.spots.Pass.{Pass}
-use Rattle.page_roff_blocks.specs.declared.spots.Pass.TheVariants as passes
-use Rattle.page_roff_blocks.specs.Atoms.{atoms}
-use Rattle.page_roff_blocks.specs.Levels.{Place, Spot, at_line, outside, passed}
+use Rattle.page_roff_blocks.specs.declared.line_parts.LinePart.{LinePart}
+use Rattle.page_roff_blocks.specs.declared.line_parts.LinePart.TheVariants.{Leaf, Guard, Block, Loop, End, Region}
+use Rattle.page_roff_blocks.specs.declared.block_cursors.Pass.{Pass}
+use Rattle.page_roff_blocks.specs.declared.block_cursors.Pass.TheVariants as passes
+use Rattle.page_roff_blocks.specs.LineParts.{line_parts}
+use Rattle.page_roff_blocks.specs.Levels.{Place, BlockCursor, at_line, outside, passed}
 use Rattle.page_roff_regions.specs.OpenRegions.{Opened, opened}
 use Rattle.page_roff_language.specs.Languages.{Kind, page, body}
 use Rattle.page_roff_language.specs.Machine.{Frame, Turning, turned, at_part}
@@ -17,14 +17,14 @@ use Rattle.page_roff_stack.specs.declared.movements.Movement.TheVariants as move
 
 -- the page before its first line
 abbrev pub first_frame : Frame
-first_frame = record { kind = page; region = None; parts = []; spot = at_line outside; lines = []; turning = None }
+first_frame = record { kind = page; region = None; parts = []; cursor = at_line outside; lines = []; turning = None }
 
 -- the page between two lines, where it stands so
 abbrev pub page_at : Place → Frame
-page_at p = record { kind = page; region = p.region; parts = []; spot = at_line p.levels; lines = []; turning = None }
+page_at p = record { kind = page; region = p.region; parts = []; cursor = at_line p.levels; lines = []; turning = None }
 
 -- whether a line begins next, outside of regions
-abbrev pub begins_next : Option Opened → List (Atom (List ℕ)) → List (List ℕ) → Bool
+abbrev pub begins_next : Option Opened → List (LinePart (List ℕ)) → List (List ℕ) → Bool
 begins_next None [] (line ∷ more) = true
 begins_next None [] [] = false
 begins_next None (part ∷ more) lines = false
@@ -34,7 +34,7 @@ abbrev pub begins_line : Frame → Bool
 begins_line f = begins_next f.region f.parts f.lines
 
 -- whether nothing is left
-abbrev pub ends_with : Option Opened → List (Atom (List ℕ)) → List (List ℕ) → Bool
+abbrev pub ends_with : Option Opened → List (LinePart (List ℕ)) → List (List ℕ) → Bool
 ends_with None [] [] = true
 ends_with None [] (line ∷ more) = false
 ends_with None (part ∷ more) lines = false
@@ -47,14 +47,14 @@ is_over f = ends_with f.region f.parts f.lines
 -- a line of the page is to come
 abbrev pub page_line : List ℕ → Frame → Frame
 page_line line f =
-    record { kind = page; region = f.region; parts = []; spot = at_line f.spot.levels; lines = line ∷ []; turning = None }
+    record { kind = page; region = f.region; parts = []; cursor = at_line f.cursor.levels; lines = line ∷ []; turning = None }
 
--- the part that comes next is passed, and this is the spot after it
-abbrev pub past : Spot → Frame → Frame
-past spot f = at_part f (drop 1 f.parts) spot
+-- the part that comes next is passed, and this is the cursor after it
+abbrev pub past : BlockCursor → Frame → Frame
+past cursor f = at_part f (drop 1 f.parts) cursor
 
 -- the region of the head that comes first
-abbrev pub region_of : Bool → Atom (List ℕ) → Option Opened
+abbrev pub region_of : Bool → LinePart (List ℕ) → Option Opened
 region_of is_run (Leaf text) = None
 region_of is_run (Guard head) = None
 region_of is_run (Block opening) = None
@@ -62,23 +62,23 @@ region_of is_run (Loop head) = None
 region_of is_run End = None
 region_of is_run (Region head) = Some (opened head is_run)
 
-abbrev pub first_region : Bool → List (Atom (List ℕ)) → Option Opened
+abbrev pub first_region : Bool → List (LinePart (List ℕ)) → Option Opened
 first_region is_run [] = None
 first_region is_run (part ∷ more) = region_of is_run part
 
 -- the head of a region is passed, and its line with it
 abbrev pub in_region : Option Opened → Frame → Frame
 in_region region f =
-    record { kind = f.kind; region = region; parts = []; spot = at_line f.spot.levels; lines = f.lines; turning = f.turning }
+    record { kind = f.kind; region = region; parts = []; cursor = at_line f.cursor.levels; lines = f.lines; turning = f.turning }
 
 -- the line that comes next begins with these parts, in this region
-abbrev pub next_line : Option Opened → List (Atom (List ℕ)) → Frame → Frame
+abbrev pub next_line : Option Opened → List (LinePart (List ℕ)) → Frame → Frame
 next_line region parts f =
-    record { kind = f.kind; region = region; parts = parts; spot = at_line f.spot.levels; lines = drop 1 f.lines; turning = f.turning }
+    record { kind = f.kind; region = region; parts = parts; cursor = at_line f.cursor.levels; lines = drop 1 f.lines; turning = f.turning }
 
-abbrev pub first_atoms : List (List ℕ) → List (Atom (List ℕ))
-first_atoms [] = []
-first_atoms (line ∷ more) = atoms line
+abbrev pub first_line_parts : List (List ℕ) → List (LinePart (List ℕ))
+first_line_parts [] = []
+first_line_parts (line ∷ more) = line_parts line
 
 -- a turn of a loop begins: all lines of its body are to come
 abbrev pub in_turn_of : Option Turning → Frame → Frame
@@ -94,9 +94,9 @@ is_page (body args) = false
 
 -- what comes next is passed
 abbrev pub went : Movement → Frame → Frame
-went (moves.Part pass) f = past (passed pass f.spot) f
+went (moves.Part pass) f = past (passed pass f.cursor) f
 went (moves.Region is_run) f = in_region (first_region is_run f.parts) f
-went moves.Line f = next_line None (first_atoms f.lines) f
+went moves.Line f = next_line None (first_line_parts f.lines) f
 went moves.RegionLine f = next_line f.region [] f
 went moves.RegionEnd f = next_line None [] f
 went moves.Turn f = in_turn f
@@ -131,4 +131,4 @@ AreShort (line ∷ lines) = (length line ≤ LINE) × AreShort lines
 -- lines are short enough, and few enough that the count of skipped blocks is not too large
 pub record IsBounded (f : Frame) : Type 0 where
   pub short : AreShort f.lines
-  pub skips : f.spot.levels.skipped + work_in f < 2 ^ 63
+  pub skips : f.cursor.levels.skipped + work_in f < 2 ^ 63

@@ -15,7 +15,7 @@ frame_of a text = record {
   kind = kind_in a.kind text;
   region = a.region;
   parts = parts_at (span_text a.line text) a.place;
-  spot = a.spot;
+  cursor = a.cursor;
   lines = lines_in (span_text a.lines text);
   turning = turning_in a.turning text;
 }

@@ -1,7 +1,7 @@
 -- The input stack, as the code goes through it: the sources that run, one inside another, and what comes next in them. Trust needs no reading
 -- of it. Source: mandoc(1), "input stack limit"; roff(7), "Macros".
 use Rattle.std.specs.Prelude.{◌≡◌, ℕ, zero, suc, Bool, true, false, List, [], ◌∷◌, ◌++◌, drop, Option, Some, None}
-use Rattle.page_roff_blocks.specs.declared.atoms.Atom.{Atom}
+use Rattle.page_roff_blocks.specs.declared.line_parts.LinePart.{LinePart}
 use Rattle.page_roff_blocks.specs.Levels.{Place}
 use Rattle.page_roff_regions.specs.OpenRegions.{Opened}
 use Rattle.page_roff_blocks.specs.LinePlaces.{is_block}
@@ -38,7 +38,7 @@ stack_at p = record { top = page_at p; under = []; texts = [] }
 
 -- where the innermost source stands
 abbrev pub standing_of : Stack → Place
-standing_of s = record { region = s.top.region; levels = s.top.spot.levels }
+standing_of s = record { region = s.top.region; levels = s.top.cursor.levels }
 
 abbrev pub with_top : Frame → Stack → Stack
 with_top f s = record { top = f; under = s.under; texts = s.texts }
@@ -88,7 +88,7 @@ abbrev pub next_around : Option Turning → Option Opened → List Frame → Nex
 next_around turning region [] = Nothing
 next_around turning region (f ∷ fs) = turn_or_end (turn_in turning) region (has_begun turning)
 
-abbrev pub next_in : Option Turning → Option Opened → List (Atom (List ℕ)) → List (List ℕ) → List Frame → Next (List ℕ) Opened
+abbrev pub next_in : Option Turning → Option Opened → List (LinePart (List ℕ)) → List (List ℕ) → List Frame → Next (List ℕ) Opened
 next_in turning None (part ∷ more) lines under = Part part
 next_in turning None [] (line ∷ more) under = Line line
 next_in turning None [] [] under = next_around turning None under
@@ -107,7 +107,7 @@ is_part (SourceEnd region begun) = false
 is_part Nothing = false
 
 -- the part that comes next
-abbrev pub part_in : Next (List ℕ) Opened → Option (Atom (List ℕ))
+abbrev pub part_in : Next (List ℕ) Opened → Option (LinePart (List ℕ))
 part_in (Part part) = Some part
 part_in (Line line) = None
 part_in (RegionLine o line is_end) = None
@@ -176,7 +176,7 @@ AreStacked kind (f ∷ fs) = AreStacked f.kind fs
 
 -- where the innermost source ends
 abbrev pub end_of : {S : Type 0} → Option Opened → Frame → S → At S
-end_of region f s = record { place = record { region = region; levels = f.spot.levels }; state = s }
+end_of region f s = record { place = record { region = region; levels = f.cursor.levels }; state = s }
 
 -- the innermost source is left
 abbrev pub left : {S : Type 0} → List Frame → S → Option (Running S)
@@ -190,7 +190,7 @@ turn_if false f under s = left under s
 
 module _ {S : Type 0} (l : Language S) where
   -- what is next is done to the state: the step of the machine
-  unfoldable pub step_in : Meaning (List ℕ) S → Next (List ℕ) Opened → List (Atom (List ℕ)) → List (List ℕ) → Frame → List Frame → S → Option (Running S)
+  unfoldable pub step_in : Meaning (List ℕ) S → Next (List ℕ) Opened → List (LinePart (List ℕ)) → List (List ℕ) → Frame → List Frame → S → Option (Running S)
   step_in m (Part part) parts lines f under s = Some (part_next l m part (drop 1 parts) f under s)
   step_in m (Line line) parts lines f under s = Some (line_next l m line (drop 1 lines) f under s)
   step_in m (RegionLine o line is_end) parts lines f under s = Some (region_next l m is_end o line (drop 1 lines) f under s)

@@ -2,9 +2,9 @@
 use Rattle.std.specs.Prelude.{◌≡◌, ◌≤◌, ℕ, List, [], ◌∷◌, length, Option, Some, None}
 use Rattle.std.specs.Borrow.{Bor}
 use Rattle.page_core_limits.specs.declared.TheConstants.{LINE}
-use Rattle.page_roff_blocks.specs.declared.atoms.Atom.{Atom}
-use Rattle.page_roff_blocks.specs.Atoms.{atom_seen, FitsAtom}
-use Rattle.page_roff_regions.specs.OpenRegions.{Opened, opened_seen}
+use Rattle.page_roff_blocks.specs.declared.line_parts.LinePart.{LinePart}
+use Rattle.page_roff_blocks.specs.LineParts.{line_part_view, FitsLinePart}
+use Rattle.page_roff_regions.specs.OpenRegions.{Opened, opened_view}
 use Rattle.page_roff_values.specs.Arguments.{arguments_in}
 use Rattle.page_roff_stack.specs.declared.next.Next.{Next}
 use Rattle.page_roff_stack.specs.declared.next.Next.TheVariants.{Part, Line, RegionLine, Turn, SourceEnd, Nothing}
@@ -20,9 +20,9 @@ packed_text None = []
 packed_text (Some packed) = packed
 
 -- a part as a list of one
-abbrev pub parts_seen : Option (Atom (Bor (List ℕ))) → List (Atom (List ℕ))
-parts_seen None = []
-parts_seen (Some part) = atom_seen part ∷ []
+abbrev pub parts_view : Option (LinePart (Bor (List ℕ))) → List (LinePart (List ℕ))
+parts_view None = []
+parts_view (Some part) = line_part_view part ∷ []
 
 -- the first of these lines, if there is one, which is short enough
 abbrev pub IsNextLine : List (List ℕ) → Option (List ℕ) → Type 0
@@ -30,17 +30,17 @@ IsNextLine lines None = lines ≡ []
 IsNextLine [] (Some text) = [] ≡ text ∷ []
 IsNextLine (line ∷ lines) (Some text) = (text ≡ line) × (length text ≤ LINE)
 
-abbrev pub next_seen : Next (Bor (List ℕ)) (Bor Opened) → Next (List ℕ) Opened
-next_seen (Part part) = Part (atom_seen part)
-next_seen (Line line) = Line line.now
-next_seen (RegionLine region line is_end) = RegionLine region.now line.now is_end
-next_seen (Turn region begun condition) = Turn (opened_seen region) begun condition.now
-next_seen (SourceEnd region begun) = SourceEnd (opened_seen region) begun
-next_seen Nothing = Nothing
+abbrev pub next_view : Next (Bor (List ℕ)) (Bor Opened) → Next (List ℕ) Opened
+next_view (Part part) = Part (line_part_view part)
+next_view (Line line) = Line line.now
+next_view (RegionLine region line is_end) = RegionLine region.now line.now is_end
+next_view (Turn region begun condition) = Turn (opened_view region) begun condition.now
+next_view (SourceEnd region begun) = SourceEnd (opened_view region) begun
+next_view Nothing = Nothing
 
 -- texts lie within a line
 abbrev pub FitsNext : Next (List ℕ) Opened → Type 0
-FitsNext (Part part) = FitsAtom part
+FitsNext (Part part) = FitsLinePart part
 FitsNext (Line line) = length line ≤ LINE
 FitsNext (RegionLine region line is_end) = length line ≤ LINE
 FitsNext (Turn region begun condition) = length condition ≤ LINE

@@ -2,24 +2,24 @@
 
 ghost use Rattle.std.specs.Prelude.{◌≡◌, ◌≤◌, length, take, IfSome};
 ghost use Rattle.page_core_limits.specs.declared.TheConstants.{LINE};
-ghost use Rattle.page_roff_blocks.specs.Atoms.{atom_seen, FitsAtom};
+ghost use Rattle.page_roff_blocks.specs.LineParts.{line_part_view, FitsLinePart};
 ghost use Rattle.page_roff_blocks.specs.LinePlaces.{parts_at, IsPlaceIn};
 ghost use Rattle.page_roff_stack.specs.Ahead.{IsAfter, IsAfterIn};
-ghost use Rattle.page_roff_stack.specs.Views.{parts_seen};
+ghost use Rattle.page_roff_stack.specs.Views.{parts_view};
 
-use page_roff_blocks::{Atom, LinePlace};
+use page_roff_blocks::{LinePart, LinePlace};
 
 /// Reads the part of a line that comes next, if one does: that part, and the place after it.
 #[inline(always)]
-pub(crate) fn read_ahead(line: &[u8], place: LinePlace) -> (Option<Atom<&[u8]>>, LinePlace)
+pub(crate) fn read_ahead(line: &[u8], place: LinePlace) -> (Option<LinePart<&[u8]>>, LinePlace)
     requires short { length line.now ≤ LINE }
     requires within { IsPlaceIn line.now place }
-    ensures value { parts_seen result.0 ≡ take 1 (parts_at line.now place) }
-    ensures fits { IfSome result.0 (λ part. FitsAtom (atom_seen part)) }
+    ensures value { parts_view result.0 ≡ take 1 (parts_at line.now place) }
+    ensures fits { IfSome result.0 (λ part. FitsLinePart (line_part_view part)) }
     ensures after { IsAfter line.now place result.1 }
 {
     let mut after = place;
-    let part = after.next_atom(line);
+    let part = after.next_line_part(line);
     (part, after)
 }
 
@@ -34,7 +34,7 @@ pub(crate) fn place_past(line: &[u8], place: LinePlace, ahead: Option<LinePlace>
         Some(after) => after,
         None => {
             let mut after = place;
-            after.pass_atom(line);
+            after.pass_line_part(line);
             after
         }
     }

@@ -4,21 +4,21 @@ ghost use Rattle.std.specs.Prelude.{◌≡◌, ℕ, List, [], ◌∷◌, ◌+◌
 ghost use Rattle.std.specs.Vec.{vec_len, vec_capacity};
 ghost use Rattle.page_core_base.specs.Texts.{IsLine};
 ghost use Rattle.page_core_limits.specs.declared.TheConstants.{ARGS, BODY, LINE};
-ghost use Rattle.page_roff_blocks.specs.declared.atoms.Atom.TheVariants.{Leaf};
-ghost use Rattle.page_roff_blocks.specs.Atoms.{atom_seen, FitsAtom};
+ghost use Rattle.page_roff_blocks.specs.declared.line_parts.LinePart.TheVariants.{Leaf};
+ghost use Rattle.page_roff_blocks.specs.LineParts.{line_part_view, FitsLinePart};
 ghost use Rattle.page_roff_blocks.specs.Caps.{PlaceFits};
 ghost use Rattle.page_roff_blocks.specs.LinePlaces.{opens_block};
 ghost use Rattle.page_roff_blocks.specs.Levels.{passed};
-ghost use Rattle.page_roff_regions.specs.OpenRegions.{opened_seen};
-ghost use Rattle.page_roff_regions.specs.Regions.{text_seen};
+ghost use Rattle.page_roff_regions.specs.OpenRegions.{opened_view};
+ghost use Rattle.page_roff_regions.specs.Regions.{text_view};
 ghost use Rattle.page_roff_language.specs.Languages.{arguments_of, page, body};
 ghost use Rattle.page_roff_language.specs.Machine.{entered, looped};
 ghost use Rattle.page_roff_values.specs.Arguments.{arguments_in, lines_in};
-ghost use Rattle.page_roff_stack.specs.Changes.{first_frame, page_at, page_line, past, first_region, in_region, next_line, in_turn, first_atoms, is_page, begins_line, is_over, went, HasPart, IfEnters, MayGo};
+ghost use Rattle.page_roff_stack.specs.Changes.{first_frame, page_at, page_line, past, first_region, in_region, next_line, in_turn, first_line_parts, is_page, begins_line, is_over, went, HasPart, IfEnters, MayGo};
 ghost use Rattle.page_roff_stack.specs.Held.{span_text, kind_in, arguments_at, turning_in, AreArgumentsAt, AreLinesOf, IsSpanIn, IsFirstLine, IsCut};
 ghost use Rattle.page_roff_stack.specs.InputFrames.{frame_of, IsHeld};
 ghost use Rattle.page_roff_stack.specs.Stacks.{first_text, turn_in, has_begun};
-ghost use Rattle.page_roff_stack.specs.Views.{parts_seen, packed_text, unpacked, IsNextLine};
+ghost use Rattle.page_roff_stack.specs.Views.{parts_view, packed_text, unpacked, IsNextLine};
 
 use crate::ahead::{place_past, read_ahead};
 use crate::movements::Movement;
@@ -27,7 +27,7 @@ use crate::spans::{NOWHERE, Span};
 use crate::turns::Turns;
 use memchr::memchr;
 use page_core_limits::{ARGS, BODY, LINE, REREAD};
-use page_roff_blocks::{Atom, LinePlace, Pass, Spot, Standing};
+use page_roff_blocks::{LinePart, LinePlace, Pass, BlockCursor, Standing};
 use page_roff_regions::OpenRegion;
 
 // The turns that a loop has at most, and one more: each takes a line, or is given up.
@@ -47,7 +47,7 @@ pub(crate) struct InputFrame {
     lines: Span,
     region: Option<OpenRegion>,
     /// Where it stands in its line.
-    pub(crate) spot: Spot,
+    pub(crate) cursor: BlockCursor,
     // The turns of a loop.
     turning: Option<Turns>,
 }
@@ -66,10 +66,10 @@ fn append(text: &mut Vec<u8>, more: &[u8])
 
 // Puts the arguments of the macro in which a loop stands at the end, if it stands in one: where they begin.
 fn append_arguments(text: &mut Vec<u8>, arguments: Option<&[u8]>) -> Option<usize>
-    requires short { length (packed_text (text_seen arguments)) ≤ ARGS }
+    requires short { length (packed_text (text_view arguments)) ≤ ARGS }
     requires room { length text.old.items + ARGS ≤ vec_capacity text.old }
-    ensures items { text.new.items ≡ text.old.items ++ packed_text (text_seen arguments.entry) }
-    ensures arguments { arguments_at result text.new.items ≡ unpacked (text_seen arguments.entry) }
+    ensures items { text.new.items ≡ text.old.items ++ packed_text (text_view arguments.entry) }
+    ensures arguments { arguments_at result text.new.items ≡ unpacked (text_view arguments.entry) }
     ensures within { AreArgumentsAt result text.new.items }
     ensures capacity { vec_capacity text.old ≤ vec_capacity text.new }
 {
@@ -131,12 +131,12 @@ fn pass_line(kind: SourceKind, text: &[u8], lines: &mut Span) -> Span
 }
 
 // The region of a part that heads one.
-fn region_of(part: &Option<Atom<&[u8]>>, is_run: bool) -> Option<OpenRegion>
-    requires { IfSome part.now (λ part. FitsAtom (atom_seen part)) }
-    ensures { result ≡ first_region is_run (parts_seen part.now) }
+fn region_of(part: &Option<LinePart<&[u8]>>, is_run: bool) -> Option<OpenRegion>
+    requires { IfSome part.now (λ part. FitsLinePart (line_part_view part)) }
+    ensures { result ≡ first_region is_run (parts_view part.now) }
 {
     match part {
-        Some(Atom::Region(head)) => Some(OpenRegion::new(head, is_run)),
+        Some(LinePart::Region(head)) => Some(OpenRegion::new(head, is_run)),
         _ => None,
     }
 }
@@ -154,7 +154,7 @@ impl InputFrame {
             ahead: None,
             lines: NOWHERE,
             region: None,
-            spot: Spot::new(),
+            cursor: BlockCursor::new(),
             turning: None,
         }
     }
@@ -172,23 +172,23 @@ impl InputFrame {
             ahead: None,
             lines: NOWHERE,
             region: standing.region(),
-            spot: Spot::at(standing.levels()),
+            cursor: BlockCursor::at(standing.levels()),
             turning: None,
         }
     }
 
     /// Where it stands, outside of lines.
     pub(crate) fn standing(&self) -> Standing
-        ensures { result ≡ record { region = self.now.region; levels = self.now.spot.levels } }
+        ensures { result ≡ record { region = self.now.region; levels = self.now.cursor.levels } }
     {
-        Standing::of(self.region(), self.spot.levels())
+        Standing::of(self.region(), self.cursor.levels())
     }
 
     /// A line of the page is to come, and is all of the text.
     pub(crate) fn set_line(&mut self, text: &mut Vec<u8>, line: &[u8])
         requires page { kind_in self.old.kind text.old.items ≡ page }
         requires line { IsLine line.now }
-        requires skips { self.old.spot.levels.skipped < 2 ^ 62 }
+        requires skips { self.old.cursor.levels.skipped < 2 ^ 62 }
         requires room { LINE + 1 ≤ vec_capacity text.old }
         ensures held { IsHeld self.new text.new.items }
         ensures frame { frame_of self.new text.new.items ≡ page_line line.now (frame_of self.old text.old.items) }
@@ -205,7 +205,7 @@ impl InputFrame {
             start: 0,
             end: text.len(),
         };
-        self.spot.begin_line();
+        self.cursor.begin_line();
         self.turning = None;
     }
 
@@ -230,7 +230,7 @@ impl InputFrame {
             ahead: None,
             lines: Span { start, end },
             region: None,
-            spot: Spot::new(),
+            cursor: BlockCursor::new(),
             turning: None,
         }
     }
@@ -239,11 +239,11 @@ impl InputFrame {
     /// the end of the text, and then the arguments of the macro in which it stands. No line of it is to come before its first turn.
     pub(crate) fn repeat(text: &mut Vec<u8>, more: &[u8], arguments: Option<&[u8]>) -> InputFrame
         requires text { length more.now ≤ BODY }
-        requires arguments { length (packed_text (text_seen arguments)) ≤ ARGS }
+        requires arguments { length (packed_text (text_view arguments)) ≤ ARGS }
         requires room { length text.old.items + BODY + ARGS ≤ vec_capacity text.old }
         ensures held { IsHeld result text.new.items }
-        ensures frame { frame_of result text.new.items ≡ looped (body (unpacked (text_seen arguments.entry))) (first_text (lines_in more.now)) (drop 1 (lines_in more.now)) }
-        ensures text { text.new.items ≡ text.old.items ++ (more.now ++ packed_text (text_seen arguments.entry)) }
+        ensures frame { frame_of result text.new.items ≡ looped (body (unpacked (text_view arguments.entry))) (first_text (lines_in more.now)) (drop 1 (lines_in more.now)) }
+        ensures text { text.new.items ≡ text.old.items ++ (more.now ++ packed_text (text_view arguments.entry)) }
         ensures capacity { vec_capacity text.old ≤ vec_capacity text.new }
     {
         let start = text.len();
@@ -262,7 +262,7 @@ impl InputFrame {
             ahead: None,
             lines: NOWHERE,
             region: None,
-            spot: Spot::new(),
+            cursor: BlockCursor::new(),
             turning: Some(Turns {
                 condition,
                 lines,
@@ -274,16 +274,16 @@ impl InputFrame {
 
     /// The part that comes next in the present line.
     #[inline(always)]
-    pub(crate) fn part<'a>(&self, text: &'a [u8]) -> Option<Atom<&'a [u8]>>
+    pub(crate) fn part<'a>(&self, text: &'a [u8]) -> Option<LinePart<&'a [u8]>>
         requires { IsHeld self.now text.now }
-        ensures value { parts_seen result ≡ take 1 (frame_of self.now text.now).parts }
-        ensures fits { IfSome result (λ part. FitsAtom (atom_seen part)) }
+        ensures value { parts_view result ≡ take 1 (frame_of self.now text.now).parts }
+        ensures fits { IfSome result (λ part. FitsLinePart (line_part_view part)) }
     {
         if self.place.is_at_end() {
             return None;
         }
         let mut place = self.place;
-        place.next_atom(self.line.of(text))
+        place.next_line_part(self.line.of(text))
     }
 
     /// The present line, if all of it comes next as one part.
@@ -297,10 +297,10 @@ impl InputFrame {
 
     /// The part that comes next in the present line. Remembers where the line goes on after it.
     #[inline(always)]
-    pub(crate) fn read_part<'a>(&mut self, text: &'a [u8]) -> Option<Atom<&'a [u8]>>
+    pub(crate) fn read_part<'a>(&mut self, text: &'a [u8]) -> Option<LinePart<&'a [u8]>>
         requires { IsHeld self.old text.now }
-        ensures value { parts_seen result ≡ take 1 (frame_of self.old text.now).parts }
-        ensures fits { IfSome result (λ part. FitsAtom (atom_seen part)) }
+        ensures value { parts_view result ≡ take 1 (frame_of self.old text.now).parts }
+        ensures fits { IfSome result (λ part. FitsLinePart (line_part_view part)) }
         ensures held { IsHeld self.new text.now }
         ensures same { frame_of self.new text.now ≡ frame_of self.old text.now }
     {
@@ -349,7 +349,7 @@ impl InputFrame {
     /// The line that comes next.
     pub(crate) fn line<'a>(&self, text: &'a [u8]) -> Option<&'a [u8]>
         requires { IsHeld self.now text.now }
-        ensures { IsNextLine (frame_of self.now text.now).lines (text_seen result) }
+        ensures { IsNextLine (frame_of self.now text.now).lines (text_view result) }
     {
         let lines = self.lines.of(text);
         if lines.is_empty() {
@@ -360,7 +360,7 @@ impl InputFrame {
 
     /// The open region.
     pub(crate) fn region(&self) -> Option<&OpenRegion>
-        ensures { opened_seen result ≡ self.now.region }
+        ensures { opened_view result ≡ self.now.region }
     {
         match &self.region {
             Some(region) => Some(region),
@@ -378,7 +378,7 @@ impl InputFrame {
     /// The arguments of a macro, or of the one in which a loop stands, each with a line feed at its end.
     pub(crate) fn arguments<'a>(&self, text: &'a [u8]) -> Option<&'a [u8]>
         requires { IsHeld self.now text.now }
-        ensures value { unpacked (text_seen result) ≡ arguments_of (kind_in self.now.kind text.now) }
+        ensures value { unpacked (text_view result) ≡ arguments_of (kind_in self.now.kind text.now) }
         ensures short { IfSome result (λ packed. length packed.now ≤ ARGS) }
     {
         match self.kind {
@@ -390,7 +390,7 @@ impl InputFrame {
     /// The condition of a loop that may have one more turn.
     pub(crate) fn turn<'a>(&self, text: &'a [u8]) -> Option<&'a [u8]>
         requires { IsHeld self.now text.now }
-        ensures value { text_seen result ≡ turn_in (turning_in self.now.turning text.now) }
+        ensures value { text_view result ≡ turn_in (turning_in self.now.turning text.now) }
         ensures short { IfSome result (λ condition. length condition.now ≤ LINE) }
     {
         match self.turning {
@@ -433,11 +433,11 @@ impl InputFrame {
         requires held { IsHeld self.old text.now }
         requires part { IfEnters pass (HasPart (frame_of self.old text.now)) }
         ensures held { IsHeld self.new text.now }
-        ensures frame { frame_of self.new text.now ≡ past (passed pass self.old.spot) (frame_of self.old text.now) }
+        ensures frame { frame_of self.new text.now ≡ past (passed pass self.old.cursor) (frame_of self.old text.now) }
     {
         self.place = place_past(self.line.of(text), self.place, self.ahead);
         self.ahead = None;
-        self.spot.pass(pass);
+        self.cursor.pass(pass);
     }
 
     // Goes past the head of a region, which opens. It is a call of its own too.
@@ -448,11 +448,11 @@ impl InputFrame {
         ensures frame { frame_of self.new text.now ≡ in_region
             (first_region is_run (frame_of self.old text.now).parts) (frame_of self.old text.now) }
     {
-        let part = self.place.next_atom(self.line.of(text));
+        let part = self.place.next_line_part(self.line.of(text));
         self.region = region_of(&part, is_run);
         self.place = LinePlace::end();
         self.ahead = None;
-        self.spot.begin_line();
+        self.cursor.begin_line();
     }
 
     // A line begins.
@@ -461,12 +461,12 @@ impl InputFrame {
         requires line { begins_line (frame_of self.old text.now) ≡ true }
         ensures held { IsHeld self.new text.now }
         ensures frame { frame_of self.new text.now ≡ next_line None
-            (first_atoms (frame_of self.old text.now).lines) (frame_of self.old text.now) }
+            (first_line_parts (frame_of self.old text.now).lines) (frame_of self.old text.now) }
     {
         self.line = pass_line(self.kind, text, &mut self.lines);
         self.place = LinePlace::start(self.line.of(text));
         self.ahead = None;
-        self.spot.begin_line();
+        self.cursor.begin_line();
     }
 
     // Goes past a line in the open region.
@@ -478,7 +478,7 @@ impl InputFrame {
         let _line = pass_line(self.kind, text, &mut self.lines);
         self.place = LinePlace::end();
         self.ahead = None;
-        self.spot.begin_line();
+        self.cursor.begin_line();
     }
 
     // Goes past the end of the open region.
@@ -502,16 +502,16 @@ impl InputFrame {
             self.ahead = None;
             self.lines = turns.lines;
             self.region = None;
-            self.spot = Spot::new();
+            self.cursor = BlockCursor::new();
             self.turning = Some(turns.begin());
         }
     }
 
     /// Where it stands is within its limits. Nothing is done: the region and the levels show it.
     pub(crate) fn caps_law(&self)
-        ensures { PlaceFits (record { region = self.now.region; levels = self.now.spot.levels }) }
+        ensures { PlaceFits (record { region = self.now.region; levels = self.now.cursor.levels }) }
     {
-        self.spot.caps_law();
+        self.cursor.caps_law();
         if let Some(region) = &self.region {
             region.caps_law();
         }

@@ -5,23 +5,23 @@ ghost use mathlib.Core.Option.{none};
 ghost use Rattle.std.specs.Borrow.{sem, follows_so};
 ghost use Rattle.page_core_base.specs.Texts.{IsLine};
 ghost use Rattle.page_core_limits.specs.declared.TheConstants.{ARGS, BODY, CALLS};
-ghost use Rattle.page_roff_blocks.specs.declared.atoms.Atom.TheVariants.{Leaf};
-ghost use Rattle.page_roff_blocks.specs.Atoms.{atom_seen, FitsAtom};
+ghost use Rattle.page_roff_blocks.specs.declared.line_parts.LinePart.TheVariants.{Leaf};
+ghost use Rattle.page_roff_blocks.specs.LineParts.{line_part_view, FitsLinePart};
 ghost use Rattle.page_roff_blocks.specs.Caps.{PlaceFits};
 ghost use Rattle.page_roff_blocks.specs.Levels.{reached};
-ghost use Rattle.page_roff_regions.specs.OpenRegions.{opened_seen};
-ghost use Rattle.page_roff_regions.specs.Regions.{text_seen};
+ghost use Rattle.page_roff_regions.specs.OpenRegions.{opened_view};
+ghost use Rattle.page_roff_regions.specs.Regions.{text_view};
 ghost use Rattle.page_roff_language.specs.Languages.{arguments_of, is_some};
 ghost use Rattle.page_roff_language.specs.Machine.{depth};
 ghost use Rattle.page_roff_stack.specs.Changes.{page_line, is_page, went};
 ghost use Rattle.page_roff_stack.specs.Stacks.{first_stack, stack_at, standing_of, with_top, call_of, loop_of, next_around, next_of, part_in, opens_block, is_line, may_end, is_nothing, Suits};
-ghost use Rattle.page_roff_stack.specs.Views.{packed_text, unpacked, next_seen, FitsNext};
+ghost use Rattle.page_roff_stack.specs.Views.{packed_text, unpacked, next_view, FitsNext};
 
 use crate::input_frames::InputFrame;
 use crate::movements::Movement;
 use crate::next::Next;
 use page_core_limits::{ARGS, BODY, CALLS, LINE};
-use page_roff_blocks::{Atom, Levels, Reached, Standing};
+use page_roff_blocks::{LinePart, Levels, Reached, Standing};
 use page_roff_regions::OpenRegion;
 use std::alloc::{AllocError, Global};
 use std::marker::Model;
@@ -105,8 +105,8 @@ impl InputStack {
 
     // What comes next where nothing is left of the innermost source.
     fn next_around<'a>(&'a self, region: Option<&'a OpenRegion>) -> Next<&'a [u8], &'a OpenRegion>
-        ensures value { next_seen result ≡ next_around self.now.top.turning (opened_seen region.entry) self.now.under }
-        ensures fits { FitsNext (next_seen result) }
+        ensures value { next_view result ≡ next_around self.now.top.turning (opened_view region.entry) self.now.under }
+        ensures fits { FitsNext (next_view result) }
     {
         if self.callers.is_empty() {
             return Next::Nothing;
@@ -126,8 +126,8 @@ impl InputStack {
 
     /// What comes next.
     pub fn peek(&self) -> Next<&[u8], &OpenRegion>
-        ensures value { next_seen result ≡ next_of self.now }
-        ensures fits { FitsNext (next_seen result) }
+        ensures value { next_view result ≡ next_of self.now }
+        ensures fits { FitsNext (next_view result) }
     {
         match self.top.region() {
             Some(region) => self.peek_in_region(region),
@@ -138,8 +138,8 @@ impl InputStack {
     // What comes next in an open region.
     fn peek_in_region<'a>(&'a self, region: &'a OpenRegion) -> Next<&'a [u8], &'a OpenRegion>
         requires { self.now.top.region ≡ Some region.now }
-        ensures value { next_seen result ≡ next_of self.now }
-        ensures fits { FitsNext (next_seen result) }
+        ensures value { next_view result ≡ next_of self.now }
+        ensures fits { FitsNext (next_view result) }
     {
         match self.top.line(&self.text) {
             Some(line) => Next::RegionLine {
@@ -154,8 +154,8 @@ impl InputStack {
     // What comes next outside of regions.
     fn peek_outside(&self) -> Next<&[u8], &OpenRegion>
         requires { self.now.top.region ≡ None }
-        ensures value { next_seen result ≡ next_of self.now }
-        ensures fits { FitsNext (next_seen result) }
+        ensures value { next_view result ≡ next_of self.now }
+        ensures fits { FitsNext (next_view result) }
     {
         if let Some(part) = self.top.part(&self.text) {
             return Next::Part(part);
@@ -168,9 +168,9 @@ impl InputStack {
 
     /// The part of a line that comes next, if one does.
     #[inline(always)]
-    pub fn part(&self) -> Option<Atom<&[u8]>>
-        ensures value { option_map atom_seen result ≡ part_in (next_of self.now) }
-        ensures fits { IfSome result (λ part. FitsAtom (atom_seen part)) }
+    pub fn part(&self) -> Option<LinePart<&[u8]>>
+        ensures value { option_map line_part_view result ≡ part_in (next_of self.now) }
+        ensures fits { IfSome result (λ part. FitsLinePart (line_part_view part)) }
     {
         if self.top.region().is_some() {
             return None;
@@ -191,9 +191,9 @@ impl InputStack {
 
     /// The part of a line that comes next, if one does. Remembers where the line goes on after it: to go past it then takes less.
     #[inline(always)]
-    pub fn read_part(&mut self) -> Option<Atom<&[u8]>>
-        ensures value { option_map atom_seen result ≡ part_in (next_of self.old) }
-        ensures fits { IfSome result (λ part. FitsAtom (atom_seen part)) }
+    pub fn read_part(&mut self) -> Option<LinePart<&[u8]>>
+        ensures value { option_map line_part_view result ≡ part_in (next_of self.old) }
+        ensures fits { IfSome result (λ part. FitsLinePart (line_part_view part)) }
         ensures* after { sem 𝓛 (follows_so the_row the_row self.entry.ghost_name none (λ _ _. ⊤) (λ v. v ≡ self.old)) }
     {
         if self.top.region().is_some() {
@@ -221,17 +221,17 @@ impl InputStack {
 
     /// How the part that comes next is reached.
     pub fn reached(&self) -> Reached
-        ensures { result ≡ reached self.now.top.spot }
+        ensures { result ≡ reached self.now.top.cursor }
     {
-        self.top.spot.reached()
+        self.top.cursor.reached()
     }
 
     /// The levels of the blocks of the innermost source.
     pub fn levels(&self) -> &Levels
-        ensures value { result.now ≡ self.now.top.spot.levels }
+        ensures value { result.now ≡ self.now.top.cursor.levels }
         ensures room { result.now.skipped < 2 ^ 63 }
     {
-        self.top.spot.levels()
+        self.top.cursor.levels()
     }
 
     /// Whether one more macro or loop may run inside the innermost source.
@@ -250,7 +250,7 @@ impl InputStack {
 
     /// The arguments of the innermost macro, each with a line feed at its end; none on the page, and in its loops.
     pub fn arguments(&self) -> Option<&[u8]>
-        ensures value { unpacked (text_seen result) ≡ arguments_of self.now.top.kind }
+        ensures value { unpacked (text_view result) ≡ arguments_of self.now.top.kind }
         ensures short { IfSome result (λ packed. length packed.now ≤ ARGS) }
     {
         self.top.arguments(&self.text)
@@ -258,7 +258,7 @@ impl InputStack {
 
     /// The open region of the innermost source.
     pub fn region(&self) -> Option<&OpenRegion>
-        ensures { opened_seen result ≡ self.now.top.region }
+        ensures { opened_view result ≡ self.now.top.region }
     {
         self.top.region()
     }
@@ -267,7 +267,7 @@ impl InputStack {
     pub fn set_line(&mut self, line: &[u8])
         requires idle { is_nothing (next_of self.old) ≡ true }
         requires line { IsLine line.now }
-        requires skips { self.old.top.spot.levels.skipped < 2 ^ 62 }
+        requires skips { self.old.top.cursor.levels.skipped < 2 ^ 62 }
         ensures { self.new ≡ record { top = page_line line.now self.old.top; under = []; texts = [] } }
     {
         self.top.set_line(&mut self.text, line);
@@ -300,8 +300,8 @@ impl InputStack {
     pub fn repeat(&mut self, text: &[u8], arguments: Option<&[u8]>)
         requires room { is_some (depth self.old.under) ≡ true }
         requires text { length text.now ≤ BODY }
-        requires arguments { length (packed_text (text_seen arguments)) ≤ ARGS }
-        ensures { self.new ≡ loop_of text.now (text_seen arguments.entry) self.old }
+        requires arguments { length (packed_text (text_view arguments)) ≤ ARGS }
+        ensures { self.new ≡ loop_of text.now (text_view arguments.entry) self.old }
     {
         let end = self.text.len();
         let body = InputFrame::repeat(&mut self.text, text, arguments);
@@ -323,7 +323,7 @@ impl InputStack {
     /// Where the innermost source stands, and what is held of the macros and loops that run, their bodies and arguments, is within its limits. Nothing
     /// is done: the source and those around it show it.
     pub fn caps_law(&self)
-        ensures place { PlaceFits (record { region = self.now.top.region; levels = self.now.top.spot.levels }) }
+        ensures place { PlaceFits (record { region = self.now.top.region; levels = self.now.top.cursor.levels }) }
         ensures macros { length self.now.texts ≡ length self.now.under }
         ensures count { length self.now.texts ≤ CALLS }
         ensures bytes { sum_by length self.now.texts ≤ CALLS * (BODY + ARGS) }

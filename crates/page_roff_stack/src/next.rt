@@ -2,13 +2,13 @@
 
 ghost use Rattle.std.specs.Prelude.{◌≡◌};
 
-use page_roff_blocks::Atom;
+use page_roff_blocks::LinePart;
 use std::alloc::AllocError;
 
 /// What comes next in the sources that run; `W` is a text, and `R` an open region.
 pub enum Next<W, R> {
     /// A part of the innermost source's present line.
-    Part(Atom<W>),
+    Part(LinePart<W>),
     /// A line begins there, outside of regions.
     Line(W),
     /// A line in its open region.

@@ -4,7 +4,7 @@
 use arrayvec::ArrayVec;
 use page_core_base::is_line;
 use page_core_limits::{ARGS, BODY};
-use page_roff_blocks::{Atom, Branch, Ended, Head, Opening, Pass, Reached, loop_text};
+use page_roff_blocks::{LinePart, Branch, Ended, Head, Opening, Pass, Reached, loop_text};
 use page_roff_heads::{Condition, LoopHead, Test};
 use page_roff_stack::{InputStack, Movement, Next};
 use std::alloc::AllocError;
@@ -69,7 +69,7 @@ fn is_passed_over(stack: &InputStack) -> bool {
 fn leaf(stack: &mut InputStack, macros: &[Macro], trace: &mut Trace) {
     let is_run = !is_passed_over(stack);
     let call = match stack.peek() {
-        Next::Part(Atom::Leaf(text)) if is_run => {
+        Next::Part(LinePart::Leaf(text)) if is_run => {
             show(&mut trace.shown, text);
             show(&mut trace.shown, b"|");
             call_of(macros, text)
@@ -128,12 +128,12 @@ fn repeat(stack: &mut InputStack, trace: &mut Trace) {
 // The head of a block that is run.
 fn block(stack: &mut InputStack, trace: &mut Trace) {
     match stack.peek() {
-        Next::Part(Atom::Block(Opening::Conditional(head))) => {
+        Next::Part(LinePart::Block(Opening::Conditional(head))) => {
             let bit = stack.levels().bit();
             let answer = head.branch.answered(bit, Some(value(head, bit)));
             stack.go(Movement::Part(Pass::Block(answer)));
         }
-        Next::Part(Atom::Block(Opening::Loop(head))) => {
+        Next::Part(LinePart::Block(Opening::Loop(head))) => {
             open_loop(trace, head);
             stack.go(Movement::Part(Pass::Loop(true)));
         }
@@ -144,7 +144,7 @@ fn block(stack: &mut InputStack, trace: &mut Trace) {
 // A loop without a block.
 fn line_loop(stack: &mut InputStack, trace: &mut Trace) {
     let is_run = !is_passed_over(stack);
-    if let Next::Part(Atom::Loop(head)) = stack.peek() {
+    if let Next::Part(LinePart::Loop(head)) = stack.peek() {
         open_loop(trace, head);
     }
     stack.go(Movement::Part(Pass::Leaf));
@@ -167,23 +167,23 @@ fn block_end(stack: &mut InputStack, trace: &mut Trace) {
 fn part(stack: &mut InputStack, macros: &[Macro], trace: &mut Trace) {
     let is_run = !is_passed_over(stack);
     match stack.peek() {
-        Next::Part(Atom::Leaf(_)) => leaf(stack, macros, trace),
-        Next::Part(Atom::Guard(head)) => {
+        Next::Part(LinePart::Leaf(_)) => leaf(stack, macros, trace),
+        Next::Part(LinePart::Guard(head)) => {
             let bit = stack.levels().bit();
             let value = if is_run { Some(value(head, bit)) } else { None };
             let answer = head.branch.answered(bit, value);
             stack.go(Movement::Part(Pass::Guard(answer)));
         }
-        Next::Part(Atom::Block(_)) => {
+        Next::Part(LinePart::Block(_)) => {
             if is_run {
                 block(stack, trace);
             } else {
                 stack.go(Movement::Part(Pass::Block(None)));
             }
         }
-        Next::Part(Atom::Loop(_)) => line_loop(stack, trace),
-        Next::Part(Atom::End) => block_end(stack, trace),
-        Next::Part(Atom::Region(_)) => {
+        Next::Part(LinePart::Loop(_)) => line_loop(stack, trace),
+        Next::Part(LinePart::End) => block_end(stack, trace),
+        Next::Part(LinePart::Region(_)) => {
             show(&mut trace.shown, if is_run { b"[" } else { b"{" });
             stack.go(Movement::Region(is_run));
         }

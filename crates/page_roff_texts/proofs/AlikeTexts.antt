@@ -24,7 +24,7 @@ use Rattle.page_roff_effects.specs.Leaves.{ControlLine, after_expansion, does, c
 use Rattle.page_roff_effects.specs.RegionLines.{longer, body_outcome, kind_outcome, line_outcome}
 use Rattle.page_roff_effects.specs.States.{Memory, State, surroundings, gives_line, nothing, after}
 use Rattle.page_roff_texts.specs.Texts.{AreLines, HoldsTexts}
-use Rattle.page_roff_texts.proofs.AtomTexts.{line_leaves, loop_texts, line_tests}
+use Rattle.page_roff_texts.proofs.LinePartTexts.{line_leaves, loop_texts, line_tests}
 use Rattle.page_roff_texts.proofs.BodyTexts.{such}
 use Rattle.page_roff_texts.proofs.ConditionTexts.{IsTextCondition, condition_texts}
 use Rattle.page_roff_texts.proofs.Cuts.{text_of}

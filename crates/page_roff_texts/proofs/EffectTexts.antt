@@ -42,7 +42,7 @@ use Rattle.page_roff_effects.specs.LoopLines.{longer_if_some, loop_outcome, coll
 use Rattle.page_roff_effects.specs.States.{Memory, first_memory, Setting, surroundings, counted, Product, no_product, line_product, call_product, loop_product, lines_of, Given, says, takes, State, Outcome, nothing, after}
 use Rattle.page_roff_texts.specs.Texts.{AreLines, IsBody, IsPacked, AreEntries, IsBodyIfSome, HoldsTexts, AreGiven}
 use Rattle.page_roff_texts.proofs.ArgumentTexts.{arguments_texts}
-use Rattle.page_roff_texts.proofs.AtomTexts.{line_leaves, loop_texts}
+use Rattle.page_roff_texts.proofs.LinePartTexts.{line_leaves, loop_texts}
 use Rattle.page_roff_texts.proofs.BodyTexts.{such, body_lines, loop_condition, loop_lines, packed_texts, no_body, body_more, packed_is}
 use Rattle.page_roff_texts.proofs.Cuts.{text_of, line_of}
 use Rattle.page_roff_texts.proofs.DefinitionTexts.{IsTextIfSome, string_text, called_is, defines_holds, request_holds}

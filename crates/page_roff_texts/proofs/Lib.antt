@@ -1,6 +1,6 @@
 pub mod AlikeTexts
 pub mod ArgumentTexts
-pub mod AtomTexts
+pub mod LinePartTexts
 pub mod BodyTexts
 pub mod ConditionTexts
 pub mod Cuts

@@ -150,25 +150,25 @@ seen_if : (b : Bool) (o p : Option SeenText) → (b ≡ true → SeenTexts o) �
 seen_if true o p h k = h refl
 seen_if false o p h k = k refl
 
-or_seen : (o : Option SeenText) (x : SeenText) → SeenTexts o → IsSeen x → IsSeen (unwrap_or o x)
-or_seen None x h k = k
-or_seen (Some y) x h k = h
+or_view : (o : Option SeenText) (x : SeenText) → SeenTexts o → IsSeen x → IsSeen (unwrap_or o x)
+or_view None x h k = k
+or_view (Some y) x h k = h
 
-either_seen : (b : Bool) (x y : SeenText) → (b ≡ true → IsSeen x) → (b ≡ false → IsSeen y) → IsSeen (if b then x else y)
-either_seen true x y h k = h refl
-either_seen false x y h k = k refl
+either_view : (b : Bool) (x y : SeenText) → (b ≡ true → IsSeen x) → (b ≡ false → IsSeen y) → IsSeen (if b then x else y)
+either_view true x y h k = h refl
+either_view false x y h k = k refl
 
-string_seen : (o : Option CutText) → RestText o → SeenTexts (option_map (λ c. calls (String c.front) c.rest) o)
-string_seen None h = tt
-string_seen (Some c) h = record { part = tt; rest = h }
+string_view : (o : Option CutText) → RestText o → SeenTexts (option_map (λ c. calls (String c.front) c.rest) o)
+string_view None h = tt
+string_view (Some c) h = record { part = tt; rest = h }
 
-register_seen : (o : Option CutText) → RestText o → SeenTexts (option_map (λ c. calls (Register c.front) c.rest) o)
-register_seen None h = tt
-register_seen (Some c) h = record { part = tt; rest = h }
+register_view : (o : Option CutText) → RestText o → SeenTexts (option_map (λ c. calls (Register c.front) c.rest) o)
+register_view None h = tt
+register_view (Some c) h = record { part = tt; rest = h }
 
-width_seen : (o : Option CutText) → CutTexts o → SeenTexts (option_map (λ c. calls (Width c.front) c.rest) o)
-width_seen None h = tt
-width_seen (Some c) h = record { part = h.0; rest = h.1 }
+width_view : (o : Option CutText) → CutTexts o → SeenTexts (option_map (λ c. calls (Width c.front) c.rest) o)
+width_view None h = tt
+width_view (Some c) h = record { part = h.0; rest = h.1 }
 
 and_first : (a b : Bool) → (a && b) ≡ true → a ≡ true
 and_first true b h = refl
@@ -184,10 +184,10 @@ call_texts copy letter bs h =
     let argument = if letter == 36 then Some (argument_call bs) else wide in
     let register = if letter == 110 then option_map (λ c. calls (Register c.front) c.rest) (name_cut bs) else argument in
     seen_if (letter == 42) (option_map (λ c. calls (String c.front) c.rest) (name_cut bs)) register
-    (λ e. let is : letter ≡ 42 = eqb-true letter 42 e in string_seen (name_cut bs) (name_rest bs (text_after letter bs h (omega (arith, is)))))
+    (λ e. let is : letter ≡ 42 = eqb-true letter 42 e in string_view (name_cut bs) (name_rest bs (text_after letter bs h (omega (arith, is)))))
     (λ _.
     seen_if (letter == 110) (option_map (λ c. calls (Register c.front) c.rest) (name_cut bs)) argument
-    (λ e. let is : letter ≡ 110 = eqb-true letter 110 e in register_seen (name_cut bs) (name_rest bs (text_after letter bs h (omega (arith, is)))))
+    (λ e. let is : letter ≡ 110 = eqb-true letter 110 e in register_view (name_cut bs) (name_rest bs (text_after letter bs h (omega (arith, is)))))
     (λ _.
     seen_if (letter == 36) (Some (argument_call bs)) wide
     (λ e.
@@ -196,7 +196,7 @@ call_texts copy letter bs h =
     record { part = tt; rest = (text_cut bs (character_len bs) t (character_cut bs t.utf8)).1 })
     (λ _.
     seen_if (letter == 119 && not copy) (option_map (λ c. calls (Width c.front) c.rest) (width_cut bs)) None
-    (λ e. let is : letter ≡ 119 = eqb-true letter 119 (and_first (letter == 119) (not copy) e) in width_seen (width_cut bs) (width_texts bs (text_after letter bs h (omega (arith, is)))))
+    (λ e. let is : letter ≡ 119 = eqb-true letter 119 (and_first (letter == 119) (not copy) e) in width_view (width_cut bs) (width_texts bs (text_after letter bs h (omega (arith, is)))))
     (λ _. tt))))
 
 slash_text : IsText (92 ∷ [])
@@ -207,9 +207,9 @@ escape_texts copy [] h = record { part = slash_text; rest = nil_text }
 escape_texts copy (letter ∷ bs) h =
     let n = character_len (letter ∷ bs) in
     let halves = text_cut (letter ∷ bs) n h (character_cut (letter ∷ bs) h.utf8) in
-    either_seen (is_doubled copy letter) (copies (92 ∷ []) bs) (unwrap_or (call_cut copy letter bs) (pair (letter ∷ bs)))
+    either_view (is_doubled copy letter) (copies (92 ∷ []) bs) (unwrap_or (call_cut copy letter bs) (pair (letter ∷ bs)))
     (λ e. let is : letter ≡ 92 = eqb-true letter 92 (and_second copy (letter == 92) e) in record { part = slash_text; rest = text_after letter bs h (omega (arith, is)) })
-    (λ _. or_seen (call_cut copy letter bs) (pair (letter ∷ bs)) (call_texts copy letter bs h) (record { part = text_append (92 ∷ []) (take n (letter ∷ bs)) slash_text halves.0; rest = halves.1 }))
+    (λ _. or_view (call_cut copy letter bs) (pair (letter ∷ bs)) (call_texts copy letter bs h) (record { part = text_append (92 ∷ []) (take n (letter ∷ bs)) slash_text halves.0; rest = halves.1 }))
 
 plain_if : (c : Bool) (b : ℕ) (bs : List ℕ) → plain bs ++ after_plain bs ≡ bs → (if c then [] else b ∷ plain bs) ++ (if c then b ∷ bs else after_plain bs) ≡ b ∷ bs
 plain_if true b bs e = refl
@@ -231,7 +231,7 @@ after_begins (b ∷ bs) h = after_if (b == 92) b bs refl (after_begins bs) h
 seen_texts : (copy : Bool) (b : ℕ) (bs : List ℕ) → IsText (b ∷ bs) → IsSeen (seen copy (b ∷ bs))
 unfolding seen
 seen_texts copy b bs h =
-    either_seen (b == 92) (escape copy bs) (copies (b ∷ plain bs) (after_plain bs))
+    either_view (b == 92) (escape copy bs) (copies (b ∷ plain bs) (after_plain bs))
     (λ e. let is : b ≡ 92 = eqb-true b 92 e in escape_texts copy bs (text_after b bs h (omega (arith, is))))
     (λ _. let halves = text_seam (b ∷ plain bs) (after_plain bs) (subst IsText (sym (ap (λ l. b ∷ l) (plain_whole bs))) h) (after_begins bs) in record { part = halves.0; rest = halves.1 })
 

@@ -75,11 +75,11 @@ plain_part copy (b ∷ bs) (Some (suc k)) h l p =
     let r = plain_to bs k (omega (arith, h.0.high)) (λ i u. n (suc i) (omega arith)) (λ u. h.1) in
     rw (n 0 (omega arith), r.0, r.1) refl
 
-pub argument_seen : (copy : Bool) (text : List ℕ) → begins_escape text ≡ true → 2 ≤ length text → get_or text 1 0 ≡ 36
+pub argument_view : (copy : Bool) (text : List ℕ) → begins_escape text ≡ true → 2 ≤ length text → get_or text 1 0 ≡ 36
     → (let n = 2 + character_len (drop 2 text) in Some (calls (Argument (take n text)) (drop n text)) ≡ call_cut copy (get_or text 1 0) (drop 2 text))
-argument_seen copy [] e h k = absurd (omega arith)
-argument_seen copy (b ∷ []) e h k = absurd (omega arith)
-argument_seen copy (b ∷ c ∷ bs) e h k =
+argument_view copy [] e h k = absurd (omega arith)
+argument_view copy (b ∷ []) e h k = absurd (omega arith)
+argument_view copy (b ∷ c ∷ bs) e h k =
     let n = character_len bs in
     let s : 2 + n ≡ suc (suc n) = omega arith in
     rw (s, k, eqb-true b 92 e) refl

@@ -80,12 +80,12 @@ unfolding run_len
 run_is [] = (refl, refl)
 run_is (b ∷ bs) = run_if (b == 92) b (run_len bs) bs (plain bs) (after_plain bs) (run_is bs)
 
-run_seen : (b : ℕ) (bs : List ℕ) → (b == 92) ≡ false → copies (take (suc (run_len bs)) (b ∷ bs)) (drop (suc (run_len bs)) (b ∷ bs)) ≡ seen false (b ∷ bs)
+run_view : (b : ℕ) (bs : List ℕ) → (b == 92) ≡ false → copies (take (suc (run_len bs)) (b ∷ bs)) (drop (suc (run_len bs)) (b ∷ bs)) ≡ seen false (b ∷ bs)
 unfolding seen
-run_seen b bs e = rw (e, (run_is bs).0, (run_is bs).1) refl
+run_view b bs e = rw (e, (run_is bs).0, (run_is bs).1) refl
 
 free_run : (b : ℕ) (bs : List ℕ) → (b == 92) ≡ false → IsVerbatim false (drop (suc (run_len bs)) (b ∷ bs)) → IsVerbatim false (b ∷ bs)
-free_run b bs e v = copied_more false (b ∷ bs) (suc (run_len bs)) (omega arith) (run_seen b bs e) v
+free_run b bs e v = copied_more false (b ∷ bs) (suc (run_len bs)) (omega arith) (run_view b bs e) v
 
 -- what is free stays so without its front
 free_after : (n : ℕ) (text : List ℕ) → IsFree text → IsFree (drop n text)

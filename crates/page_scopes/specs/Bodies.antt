@@ -7,10 +7,10 @@ use Rattle.page_core_base.specs.declared.page_settings.Output.{Output}
 use Rattle.page_core_base.specs.declared.places.Place.{Place}
 use Rattle.page_core_numbers.specs.declared.scales.Scale.TheVariants.{Basic}
 use Rattle.page_roff_forms.specs.declared.quotes.Argument.{Argument}
-use Rattle.page_scopes_blocks.specs.NameHangs.{deed_counted}
+use Rattle.page_scopes_blocks.specs.NameHangs.{kind_counted}
 use Rattle.page_scopes_layout.specs.Nodes.{margin_items}
 use Rattle.page_scopes_layout.specs.declared.contexts.Context.{Context}
-use Rattle.page_scopes_leaves.specs.Deeds.{deed_outcome, name_after}
+use Rattle.page_scopes_leaves.specs.EventKinds.{kind_outcome, name_after}
 use Rattle.page_scopes_phrases.specs.LineWords.{argument_word, line_word}
 use Rattle.page_scopes_phrases.specs.Outcomes.{Outcome, nothing}
 use Rattle.page_scopes_phrases.specs.Runnings.{row_ended}
@@ -23,8 +23,8 @@ use Rattle.page_scopes_words.specs.Words.{at, says}
 use Rattle.page_sets_lines.specs.declared.blocks.BlockCloser.{BlockCloser}
 use Rattle.page_sets_lines.specs.declared.blocks.BlockCloser.TheVariants as block_closers
 use Rattle.page_sets_lines.specs.declared.events.Event.{Event}
-use Rattle.page_sets_lines.specs.declared.events.Deed.{Deed}
-use Rattle.page_sets_lines.specs.declared.events.Deed.TheVariants as deeds
+use Rattle.page_sets_lines.specs.declared.events.EventKind.{EventKind}
+use Rattle.page_sets_lines.specs.declared.events.EventKind.TheVariants as kinds
 use Rattle.page_sets_lines.specs.declared.events.Join.TheVariants.{Glued}
 use Rattle.page_sets_lines.specs.declared.leaves.Leaf.{Leaf}
 use Rattle.page_sets_lines.specs.declared.leaves.Leaf.TheVariants as leaves
@@ -46,7 +46,7 @@ step_begins steps.FunctionEnd = true
 step_begins _ = false
 
 abbrev pub leaf_begins : Leaf (List ℕ) → Bool
-leaf_begins (leaves.Own word) = true
+leaf_begins (leaves.Generated word) = true
 leaf_begins leaves.FurtherTag = true
 leaf_begins (leaves.Step step) = step_begins step
 leaf_begins _ = false
@@ -60,40 +60,40 @@ abbrev pub line_begins : LineOpener → Bool
 line_begins lines.Head = false
 line_begins _ = true
 
-abbrev pub deed_begins : Deed (List ℕ) → Bool
-deed_begins (deeds.Word word) = true
-deed_begins (deeds.Open opener) = opener_begins opener
-deed_begins (deeds.Close closer) = false
-deed_begins (deeds.LineScope opener) = line_begins opener
-deed_begins (deeds.Leaf leaf) = leaf_begins leaf
-deed_begins (deeds.Raw text) = true
-deed_begins (deeds.End fills) = false
-deed_begins (deeds.Note kind detail is_quoted begins_body) = begins_body
+abbrev pub kind_begins : EventKind (List ℕ) → Bool
+kind_begins (kinds.Word word) = true
+kind_begins (kinds.Open opener) = opener_begins opener
+kind_begins (kinds.Close closer) = false
+kind_begins (kinds.LineScope opener) = line_begins opener
+kind_begins (kinds.Leaf leaf) = leaf_begins leaf
+kind_begins (kinds.Raw text) = true
+kind_begins (kinds.End fills) = false
+kind_begins (kinds.Note kind detail is_quoted begins_body) = begins_body
 
-abbrev pub begins : Deed (List ℕ) → (has_begun : Bool) → Bool
-begins deed has_begun = not has_begun && deed_begins deed
+abbrev pub begins : EventKind (List ℕ) → (has_begun : Bool) → Bool
+begins kind has_begun = not has_begun && kind_begins kind
 
 -- a body that has begun stays so
-abbrev pub begun_after : Deed (List ℕ) → (has_begun : Bool) → Bool
-begun_after deed has_begun = if begins deed has_begun then true else has_begun
+abbrev pub begun_after : EventKind (List ℕ) → (has_begun : Bool) → Bool
+begun_after kind has_begun = if begins kind has_begun then true else has_begun
 
 -- it is to begin by a section
 abbrev pub opens_section : Opener (List ℕ) → Bool
 opens_section openers.Section = true
 opens_section _ = false
 
-abbrev pub is_section : Deed (List ℕ) → Bool
-is_section (deeds.Open opener) = opens_section opener
+abbrev pub is_section : EventKind (List ℕ) → Bool
+is_section (kinds.Open opener) = opens_section opener
 is_section _ = false
 
-abbrev pub section_notes : Place → Deed (List ℕ) → List Item
-section_notes place deed = if is_section deed then [] else says BeforeSection (at place.line 1) [] ∷ []
+abbrev pub section_notes : Place → EventKind (List ℕ) → List Item
+section_notes place kind = if is_section kind then [] else says BeforeSection (at place.line 1) [] ∷ []
 
-abbrev pub front_items : Place → Deed (List ℕ) → Context → List Item
-front_items place deed c = section_notes place deed ++ shown (pieces.Literal c.is_literal.value) ∷ margin_items c
+abbrev pub front_items : Place → EventKind (List ℕ) → Context → List Item
+front_items place kind c = section_notes place kind ++ shown (pieces.Literal c.is_literal.value) ∷ margin_items c
 
-abbrev pub body_items : Place → Deed (List ℕ) → Context → (has_begun : Bool) → List Item
-body_items place deed c has_begun = if begins deed has_begun then front_items place deed c else []
+abbrev pub body_items : Place → EventKind (List ℕ) → Context → (has_begun : Bool) → List Item
+body_items place kind c has_begun = if begins kind has_begun then front_items place kind c else []
 
 -- ---- an event comes: it may begin the body, and the number of its closer is read
 
@@ -101,12 +101,12 @@ abbrev pub closer_notes : Place → Closer (List ℕ) → List Item
 closer_notes place (closers.RelativeMargin (Some number)) = number_notes Basic place number
 closer_notes place _ = []
 
-abbrev pub deed_notes : Place → Deed (List ℕ) → List Item
-deed_notes place (deeds.Close closer) = closer_notes place closer
-deed_notes place _ = []
+abbrev pub kind_notes : Place → EventKind (List ℕ) → List Item
+kind_notes place (kinds.Close closer) = closer_notes place closer
+kind_notes place _ = []
 
-unfoldable pub coming : Place → Deed (List ℕ) → Context → (has_begun : Bool) → List Item
-coming place deed c has_begun = body_items place deed c has_begun ++ deed_notes place deed
+unfoldable pub coming : Place → EventKind (List ℕ) → Context → (has_begun : Bool) → List Item
+coming place kind c has_begun = body_items place kind c has_begun ++ kind_notes place kind
 
 -- ---- an act stands that opens nothing: after a closer its suffix is glued to what its scope ended with
 
@@ -139,17 +139,17 @@ is_early leaf has_begun = not has_begun && leaf_waits leaf
 
 abbrev pub leaf_stands : Place → Leaf (List ℕ) → Option KeptText → (has_begun : Bool) → Context → Running → Outcome
 leaf_stands place leaf name has_begun c r =
-    if is_early leaf has_begun then nothing c r else deed_outcome place (deeds.Leaf leaf) name c r
+    if is_early leaf has_begun then nothing c r else kind_outcome place (kinds.Leaf leaf) name c r
 
-abbrev pub deed_stands : Place → Deed (List ℕ) → Option KeptText → (has_begun : Bool) → Context → Running → Outcome
-deed_stands place (deeds.Close closer) name has_begun c r = suffix place.line closer c r
-deed_stands place (deeds.Leaf leaf) name has_begun c r = leaf_stands place leaf name has_begun c r
-deed_stands place deed name has_begun c r = deed_outcome place deed name c r
+abbrev pub kind_stands : Place → EventKind (List ℕ) → Option KeptText → (has_begun : Bool) → Context → Running → Outcome
+kind_stands place (kinds.Close closer) name has_begun c r = suffix place.line closer c r
+kind_stands place (kinds.Leaf leaf) name has_begun c r = leaf_stands place leaf name has_begun c r
+kind_stands place kind name has_begun c r = kind_outcome place kind name c r
 
 -- with the columns of a name that begins a row of the SYNOPSIS
 abbrev pub event_stands : Output → Event (List ℕ) → Option KeptText → (has_begun : Bool) → Context → Running → Outcome
 event_stands output event name has_begun c r =
-    deed_stands event.place event.deed name has_begun c (deed_counted output event.deed name r)
+    kind_stands event.place event.kind name has_begun c (kind_counted output event.kind name r)
 
 -- at the page's end the row ends
 abbrev pub page_ends : Context → Running → Outcome
@@ -161,5 +161,5 @@ stands output (acts.Event event) name has_begun c r = event_stands output event 
 stands output (acts.PageEnd line) name has_begun c r = page_ends c r
 
 abbrev pub act_name : Act (Event (List ℕ)) → Option KeptText → Option KeptText
-act_name (acts.Event event) name = name_after event.deed name
+act_name (acts.Event event) name = name_after event.kind name
 act_name (acts.PageEnd line) name = name

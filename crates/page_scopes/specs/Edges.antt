@@ -44,4 +44,4 @@ end_after edge line = page_end_edge layout_tables edge line
 
 -- whether an event begins the page's body
 abbrev pub begins_body : PageEdge → Event (List ℕ) → Bool
-begins_body edge event = not edge.mode && begins event.deed edge.state.has_begun
+begins_body edge event = not edge.mode && begins event.kind edge.state.has_begun

@@ -21,15 +21,15 @@ abbrev pub leaves : LayoutState → Outcome → LayoutState
 leaves s o = record s { context = o.context; running = o.running }
 
 abbrev pub kept : Event (List ℕ) → LayoutState → Kept
-kept event s = record { context = s.context; target = kept_target event.deed }
+kept event s = record { context = s.context; target = kept_target event.kind }
 
 abbrev pub layout_tables : Tables LayoutState Kept
 layout_tables = record {
   keep = λ label event s. kept event s;
   begin_items = λ label event s. (begun_by s.page event s.context s.running).items;
   begin_state = λ label event s. leaves s (begun_by s.page event s.context s.running);
-  coming_items = λ event s. coming event.place event.deed s.context s.has_begun;
-  coming_state = λ event s. record s { has_begun = begun_after event.deed s.has_begun };
+  coming_items = λ event s. coming event.place event.kind s.context s.has_begun;
+  coming_state = λ event s. record s { has_begun = begun_after event.kind s.has_begun };
   leaf_items = λ act s. (stands s.page.output act s.name s.has_begun s.context s.running).items;
   leaf_state = λ act s. record (leaves s (stands s.page.output act s.name s.has_begun s.context s.running)) { name = act_name act s.name };
   end_items = λ label before place s. (ended label before.context before.target place s.context s.running).items;

@@ -3,27 +3,27 @@
 ghost use Rattle.std.specs.Prelude.{◌≡◌};
 ghost use Rattle.page_core_base.specs.Latches.{Came};
 ghost use Rattle.page_scopes.specs.Bodies as bodies;
-ghost use Rattle.page_scopes_leaves.specs.Deeds.{name_after};
-ghost use Rattle.page_sets_lines.specs.Fits.{CloserFits, DeedFits};
+ghost use Rattle.page_scopes_leaves.specs.EventKinds.{name_after};
+ghost use Rattle.page_sets_lines.specs.Fits.{CloserFits, KindFits};
 ghost use Rattle.page_scopes_phrases.specs.Outcomes.{GivesOutcome};
-ghost use Rattle.page_scopes_tree.specs.Acts.{TakesAct, act_seen};
-ghost use Rattle.page_sets_lines.specs.Events.{closer_seen, deed_seen, given_seen, leaf_seen, opener_seen, step_seen};
+ghost use Rattle.page_scopes_tree.specs.Acts.{TakesAct, act_view};
+ghost use Rattle.page_sets_lines.specs.Events.{closer_view, kind_view, given_view, leaf_view, opener_view, step_view};
 
 use page_core_base::{NoteKind, Output, Piece, PieceOut, Place};
 use page_core_numbers::Scale;
 use page_roff_forms::Argument;
 use page_scopes_blocks::count_name;
 use page_scopes_layout::{Context, give_margins};
-use page_scopes_leaves::give_deed;
+use page_scopes_leaves::give_kind;
 use page_scopes_phrases::{KeptText, Running, argument_word, give_line_word};
 use page_scopes_text::give_number;
 use page_scopes_tree::Act;
 use page_scopes_words::report;
-use page_sets_lines::{BlockCloser, Closer, Deed, Event, Join, Leaf, LineOpener, LineStep, Opener};
+use page_sets_lines::{BlockCloser, Closer, EventKind, Event, Join, Leaf, LineOpener, LineStep, Opener};
 
 // Whether a step of a line may begin the body: the address of `Lk`, the name of the manual, and the end of a function.
 fn step_begins(step: &LineStep<&[u8]>) -> bool
-    ensures { result ≡ bodies.step_begins (step_seen step.now) }
+    ensures { result ≡ bodies.step_begins (step_view step.now) }
 {
     matches!(
         step,
@@ -33,10 +33,10 @@ fn step_begins(step: &LineStep<&[u8]>) -> bool
 
 // Whether a leaf may begin the body.
 fn leaf_begins(leaf: &Leaf<&[u8]>) -> bool
-    ensures { result ≡ bodies.leaf_begins (leaf_seen leaf.now) }
+    ensures { result ≡ bodies.leaf_begins (leaf_view leaf.now) }
 {
     match leaf {
-        Leaf::Own(_) | Leaf::FurtherTag => true,
+        Leaf::Generated(_) | Leaf::FurtherTag => true,
         Leaf::Step(step) => step_begins(step),
         _ => false,
     }
@@ -44,7 +44,7 @@ fn leaf_begins(leaf: &Leaf<&[u8]>) -> bool
 
 // Whether an opener may begin the body: an item needs a list that has begun it.
 fn opener_begins(opener: &Opener<&[u8]>) -> bool
-    ensures { result ≡ bodies.opener_begins (opener_seen opener.now) }
+    ensures { result ≡ bodies.opener_begins (opener_view opener.now) }
 {
     !matches!(opener, Opener::Item)
 }
@@ -56,41 +56,41 @@ fn line_begins(opener: LineOpener) -> bool
     !matches!(opener, LineOpener::Head)
 }
 
-// Whether a deed may begin the body.
-fn deed_begins(deed: &Deed<&[u8]>) -> bool
-    ensures { result ≡ bodies.deed_begins (deed_seen deed.now) }
+// Whether an event may begin the body.
+fn kind_begins(kind: &EventKind<&[u8]>) -> bool
+    ensures { result ≡ bodies.kind_begins (kind_view kind.now) }
 {
-    match deed {
-        Deed::Word(_) | Deed::Raw(_) => true,
-        Deed::Open(opener) => opener_begins(opener),
-        Deed::LineScope(opener) => line_begins(*opener),
-        Deed::Leaf(leaf) => leaf_begins(leaf),
-        Deed::Note { begins_body, .. } => *begins_body,
-        Deed::Close(_) | Deed::End { .. } => false,
+    match kind {
+        EventKind::Word(_) | EventKind::Raw(_) => true,
+        EventKind::Open(opener) => opener_begins(opener),
+        EventKind::LineScope(opener) => line_begins(*opener),
+        EventKind::Leaf(leaf) => leaf_begins(leaf),
+        EventKind::Note { begins_body, .. } => *begins_body,
+        EventKind::Close(_) | EventKind::End { .. } => false,
     }
 }
 
-/// Whether a deed begins the body.
-pub(crate) fn begins(deed: &Deed<&[u8]>, has_begun: bool) -> bool
-    ensures { result ≡ bodies.begins (deed_seen deed.now) has_begun }
+/// Whether an event begins the body.
+pub(crate) fn begins(kind: &EventKind<&[u8]>, has_begun: bool) -> bool
+    ensures { result ≡ bodies.begins (kind_view kind.now) has_begun }
 {
-    !has_begun && deed_begins(deed)
+    !has_begun && kind_begins(kind)
 }
 
-// Whether a deed opens a section.
-fn is_section(deed: &Deed<&[u8]>) -> bool
-    ensures { result ≡ bodies.is_section (deed_seen deed.now) }
+// Whether an event opens a section.
+fn is_section(kind: &EventKind<&[u8]>) -> bool
+    ensures { result ≡ bodies.is_section (kind_view kind.now) }
 {
-    matches!(deed, Deed::Open(Opener::Section))
+    matches!(kind, EventKind::Open(Opener::Section))
 }
 
-// Gives the front of the body, which a deed begins.
+// Gives the front of the body, which an event begins.
 #[inline(never)]
-fn give_front<O: PieceOut>(out: &mut O, place: Place, deed: &Deed<&[u8]>, context: &Context)
+fn give_front<O: PieceOut>(out: &mut O, place: Place, kind: &EventKind<&[u8]>, context: &Context)
     ensures { Came O.left out.old
-        (bodies.front_items place (deed_seen deed.now) context.now) out.new }
+        (bodies.front_items place (kind_view kind.now) context.now) out.new }
 {
-    if !is_section(deed) {
+    if !is_section(kind) {
         let front = Place {
             line: place.line,
             column: 1,
@@ -103,10 +103,10 @@ fn give_front<O: PieceOut>(out: &mut O, place: Place, deed: &Deed<&[u8]>, contex
 
 // Gives the messages of a closer's number.
 #[inline(always)]
-fn report_number<O: PieceOut>(out: &mut O, place: Place, deed: &Deed<&[u8]>)
-    ensures { Came O.left out.old (bodies.deed_notes place (deed_seen deed.now)) out.new }
+fn report_number<O: PieceOut>(out: &mut O, place: Place, kind: &EventKind<&[u8]>)
+    ensures { Came O.left out.old (bodies.kind_notes place (kind_view kind.now)) out.new }
 {
-    if let Deed::Close(Closer::RelativeMargin(Some(number))) = deed {
+    if let EventKind::Close(Closer::RelativeMargin(Some(number))) = kind {
         let _ = give_number(out, Scale::Basic, place, number);
     }
 }
@@ -117,24 +117,24 @@ fn report_number<O: PieceOut>(out: &mut O, place: Place, deed: &Deed<&[u8]>)
 pub(crate) fn give_coming<O: PieceOut>(
     out: &mut O,
     place: Place,
-    deed: &Deed<&[u8]>,
+    kind: &EventKind<&[u8]>,
     context: &Context,
     has_begun: &mut bool,
 )
     ensures came { Came O.left out.old
-        (bodies.coming place (deed_seen deed.now) context.now has_begun.old) out.new }
-    ensures begun { has_begun.new ≡ bodies.begun_after (deed_seen deed.now) has_begun.old }
+        (bodies.coming place (kind_view kind.now) context.now has_begun.old) out.new }
+    ensures begun { has_begun.new ≡ bodies.begun_after (kind_view kind.now) has_begun.old }
 {
-    if begins(deed, *has_begun) {
-        give_front(out, place, deed, context);
+    if begins(kind, *has_begun) {
+        give_front(out, place, kind, context);
         *has_begun = true;
     }
-    report_number(out, place, deed);
+    report_number(out, place, kind);
 }
 
 // What follows the end of a closer's scope: the suffix of `UE` and `ME`, and the mark of `Ec`.
 fn closer_suffix<'a>(closer: &Closer<&'a [u8]>) -> Option<Argument<&'a [u8]>>
-    ensures { given_seen result ≡ bodies.closer_suffix (closer_seen closer.now) }
+    ensures { given_view result ≡ bodies.closer_suffix (closer_view closer.now) }
 {
     match *closer {
         Closer::Target(_, suffix) => suffix,
@@ -152,9 +152,9 @@ fn give_suffix<O: PieceOut>(
     context: &mut Context,
     running: &mut Running,
 )
-    requires { CloserFits (closer_seen closer.now) }
+    requires { CloserFits (closer_view closer.now) }
     ensures { GivesOutcome O.left out.old
-        (bodies.suffix line (closer_seen closer.now) context.old running.old)
+        (bodies.suffix line (closer_view closer.now) context.old running.old)
         out.new context.new running.new }
 {
     if let Some(suffix) = closer_suffix(closer) {
@@ -165,36 +165,36 @@ fn give_suffix<O: PieceOut>(
 
 // Whether a leaf comes before the body and gives nothing there.
 fn is_early(leaf: &Leaf<&[u8]>, has_begun: bool) -> bool
-    ensures { result ≡ bodies.is_early (leaf_seen leaf.now) has_begun }
+    ensures { result ≡ bodies.is_early (leaf_view leaf.now) has_begun }
 {
     !has_begun && matches!(leaf, Leaf::BlankLine | Leaf::Wordless(_) | Leaf::Request(_))
 }
 
-// Gives a deed that opens nothing. The name is that of the manual.
+// Gives an event that opens nothing. The name is that of the manual.
 #[inline(always)]
-fn give_deed_standing<O: PieceOut>(
+fn give_kind_standing<O: PieceOut>(
     out: &mut O,
     place: Place,
-    deed: &Deed<&[u8]>,
+    kind: &EventKind<&[u8]>,
     name: &mut Option<KeptText>,
     has_begun: bool,
     context: &mut Context,
     running: &mut Running,
 )
-    requires { DeedFits (deed_seen deed.now) }
+    requires { KindFits (kind_view kind.now) }
     ensures gives { GivesOutcome O.left out.old
-        (bodies.deed_stands place (deed_seen deed.now) name.old has_begun context.old running.old)
+        (bodies.kind_stands place (kind_view kind.now) name.old has_begun context.old running.old)
         out.new context.new running.new }
-    ensures name { name.new ≡ name_after (deed_seen deed.now) name.old }
+    ensures name { name.new ≡ name_after (kind_view kind.now) name.old }
 {
-    match deed {
-        Deed::Close(closer) => give_suffix(out, place.line, closer, context, running),
-        Deed::Leaf(leaf) => {
+    match kind {
+        EventKind::Close(closer) => give_suffix(out, place.line, closer, context, running),
+        EventKind::Leaf(leaf) => {
             if !is_early(leaf, has_begun) {
-                give_deed(out, place, deed, name, context, running);
+                give_kind(out, place, kind, name, context, running);
             }
         }
-        _ => give_deed(out, place, deed, name, context, running),
+        _ => give_kind(out, place, kind, name, context, running),
     }
 }
 
@@ -210,19 +210,19 @@ pub(crate) fn give_standing<O: PieceOut>(
     context: &mut Context,
     running: &mut Running,
 )
-    requires { TakesAct (λ event. DeedFits event.deed) (act_seen act.now) }
+    requires { TakesAct (λ event. KindFits event.kind) (act_view act.now) }
     ensures gives { GivesOutcome O.left out.old
-        (bodies.stands output (act_seen act.now) name.old has_begun context.old running.old)
+        (bodies.stands output (act_view act.now) name.old has_begun context.old running.old)
         out.new context.new running.new }
-    ensures name { name.new ≡ bodies.act_name (act_seen act.now) name.old }
+    ensures name { name.new ≡ bodies.act_name (act_view act.now) name.old }
 {
     match act {
         Act::Event(event) => {
-            count_name(output, &event.deed, name, running);
-            give_deed_standing(
+            count_name(output, &event.kind, name, running);
+            give_kind_standing(
                 out,
                 event.place,
-                &event.deed,
+                &event.kind,
                 name,
                 has_begun,
                 context,

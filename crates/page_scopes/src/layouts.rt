@@ -1,7 +1,7 @@
 //! The layout of man(7) and mdoc(7).
 
 ghost use Rattle.std.specs.Prelude.{◌≡◌, ◌<◌, ◌∷◌, reverse, vec_capacity, vec_len};
-ghost use Rattle.page_roff_forms.specs.Arguments.{argument_seen};
+ghost use Rattle.page_roff_forms.specs.Arguments.{argument_view};
 ghost use Rattle.page_scopes.specs.Tables.{start};
 ghost use Rattle.page_scopes_phrases.specs.KeptTexts.{kept_of};
 ghost use Rattle.page_scopes_tree.specs.Stacks.{Keeps};
@@ -14,8 +14,8 @@ use page_scopes_laws::Scope;
 use page_scopes_layout::Context;
 use page_scopes_nodes::{PageLayout, give_begun, give_ended};
 use page_scopes_phrases::{KeptText, Running};
-use page_scopes_tree::{Act, Laying};
-use page_sets_lines::{Deed, Event, Opener};
+use page_scopes_tree::{Act, Renderer};
+use page_sets_lines::{EventKind, Event, Opener};
 
 /// What scopes and other events are laid out by.
 #[derive(Drop)]
@@ -90,7 +90,7 @@ impl LayoutState {
     fn keep_link(&self, label: Label, target: Argument<&[u8]>, scopes: &mut Vec<Scope<Label, Kept>>)
         requires { vec_len scopes.old < vec_capacity scopes.old }
         ensures { Keeps scopes.old scopes.new
-            (record { label = label; before = record { context = self.now.context; target = Some (kept_of (argument_seen target.entry)) } }
+            (record { label = label; before = record { context = self.now.context; target = Some (kept_of (argument_view target.entry)) } }
             ∷ reverse scopes.old.items) }
     {
         scopes.push_reserved(Scope {
@@ -103,15 +103,15 @@ impl LayoutState {
     }
 }
 
-impl Laying for LayoutState {
+impl Renderer for LayoutState {
     ghost use Rattle.page_scopes.specs.Tables.{layout_tables};
-    ghost use Rattle.page_sets_lines.specs.Fits.{DeedFits};
+    ghost use Rattle.page_sets_lines.specs.Fits.{KindFits};
 
     type Kept = Kept;
 
     ghost tables = { layout_tables };
 
-    ghost Takes = { λ event. DeedFits event.deed };
+    ghost Takes = { λ event. KindFits event.kind };
 
     fn copy_kept(kept: &Kept) -> Kept {
         kept.copy()
@@ -119,8 +119,8 @@ impl Laying for LayoutState {
 
     #[inline(always)]
     fn keep(&self, label: Label, event: &Event<&[u8]>, scopes: &mut Vec<Scope<Label, Kept>>) {
-        match event.deed {
-            Deed::Open(Opener::Target(_, target)) => self.keep_link(label, target, scopes),
+        match event.kind {
+            EventKind::Open(Opener::Target(_, target)) => self.keep_link(label, target, scopes),
             _ => scopes.push_reserved(Scope {
                 label,
                 before: Kept {
@@ -140,7 +140,7 @@ impl Laying for LayoutState {
         give_coming(
             out,
             event.place,
-            &event.deed,
+            &event.kind,
             &self.context,
             &mut self.has_begun,
         );

@@ -4,8 +4,8 @@ ghost use Rattle.std.specs.Prelude.{◌≡◌, ◌≤◌, IfOk, length};
 ghost use Rattle.page_core_base.specs.Latches.{Came};
 ghost use Rattle.page_scopes.specs.Caps.{ScopesFit};
 ghost use Rattle.page_scopes.specs.Edges.{begins_body, end_after, end_items, event_after, event_items, start_edge, under};
-ghost use Rattle.page_sets_lines.specs.Fits.{DeedFits};
-ghost use Rattle.page_sets_lines.specs.Events.{deed_seen, event_seen};
+ghost use Rattle.page_sets_lines.specs.Fits.{KindFits};
+ghost use Rattle.page_sets_lines.specs.Events.{kind_view, event_view};
 
 use crate::LayoutState;
 use crate::bodies::begins;
@@ -82,17 +82,17 @@ impl OpenScopes {
     /// Whether an event begins the body of the page.
     #[inline(always)]
     pub fn begins_body(&self, event: &Event<&[u8]>) -> bool
-        ensures { result ≡ begins_body self.now (event_seen event.now) }
+        ensures { result ≡ begins_body self.now (event_view event.now) }
     {
-        !self.stack.skips() && begins(&event.deed, self.stack.state().has_begun)
+        !self.stack.skips() && begins(&event.kind, self.stack.state().has_begun)
     }
 
     /// Takes an event of a line, and gives what it settles.
     #[inline(always)]
     pub fn give_event<O: PieceOut>(&mut self, event: &Event<&[u8]>, out: &mut O)
-        requires { DeedFits (deed_seen event.now.deed) }
-        ensures came { Came O.left out.old (event_items self.old (event_seen event.now)) out.new }
-        ensures edge { self.new ≡ event_after self.old (event_seen event.now) }
+        requires { KindFits (kind_view event.now.kind) }
+        ensures came { Came O.left out.old (event_items self.old (event_view event.now)) out.new }
+        ensures edge { self.new ≡ event_after self.old (event_view event.now) }
     {
         self.stack.apply(event, out);
     }

@@ -4,8 +4,8 @@ ghost use Rattle.std.specs.Prelude.{◌≡◌, ◌≤◌, None, Some, Err, IfSom
 ghost use Rattle.page_core_base.specs.Fails.{FailsByPieces};
 ghost use Rattle.page_scopes.specs.Edges.{end_items, event_items, start_edge};
 ghost use Rattle.page_scopes.specs.Sinks.{GoesOn, Settles, SinkEdge, after_event, chosen, layout_of, part_of, resumed, start_of};
-ghost use Rattle.page_sets_lines.specs.Fits.{DeedFits};
-ghost use Rattle.page_sets_lines.specs.Events.{deed_seen, event_seen};
+ghost use Rattle.page_sets_lines.specs.Fits.{KindFits};
+ghost use Rattle.page_sets_lines.specs.Events.{kind_view, event_view};
 
 use crate::OpenScopes;
 use page_core_base::{Fault, PieceLatch, PieceSink, Settings};
@@ -147,12 +147,12 @@ impl Scopes {
     /// Takes an event of a line, and gives what it settles. Its faults are those of the sink: [`Fault::WriteText`] where rows
     /// failed, [`Fault::WriteNotes`] where messages did.
     pub fn apply<O: PieceSink>(&mut self, event: Event<&[u8]>, out: &mut O) -> Result<(), Fault>
-        requires { DeedFits (deed_seen event.deed) }
+        requires { KindFits (kind_view event.kind) }
         ensures gives { Settles result O.took O.broke self.old
-            (λ sink. event_items sink.page (event_seen event.entry)) out.old out.new }
+            (λ sink. event_items sink.page (event_view event.entry)) out.old out.new }
         ensures faults { FailsByPieces result (O.row_failed out.old) (O.row_failed out.new)
             (O.failed out.old) (O.failed out.new) }
-        ensures edge { GoesOn result self.old (after_event (event_seen event.entry)) self.new }
+        ensures edge { GoesOn result self.old (after_event (event_view event.entry)) self.new }
         ensures same { O.loans out.new ≡ O.loans out.old }
     {
         if self.is_over {

@@ -7,7 +7,7 @@ use Rattle.page_roff_forms.specs.declared.quotes.Argument.{Argument}
 use Rattle.page_scopes_layout.specs.declared.contexts.Context.{Context}
 use Rattle.page_scopes_layout.specs.declared.contexts.SeriesSoFar.{SeriesSoFar}
 use Rattle.page_scopes_layout.specs.declared.contexts.SeriesSoFar.TheVariants.{Begun}
-use Rattle.page_scopes_phrases.specs.LineWords.{argument_word, line_word, own_word}
+use Rattle.page_scopes_phrases.specs.LineWords.{argument_word, line_word, generated_word}
 use Rattle.page_scopes_phrases.specs.Outcomes.{Outcome, followed_by, nothing}
 use Rattle.page_scopes_leaves.specs.Steps.{function_end}
 use Rattle.page_scopes_phrases.specs.Phrases.{phrase_context, phrase_items, phrase_running}
@@ -24,8 +24,8 @@ use Rattle.page_sets_lines.specs.declared.blocks.BlockOpener.{BlockOpener}
 use Rattle.page_sets_lines.specs.declared.blocks.BlockOpener.TheVariants as openers
 use Rattle.page_sets_lines.specs.declared.events.Join.TheVariants.{Apart, Glued}
 use Rattle.page_sets_lines.specs.declared.events.Word.{Word}
-use Rattle.page_sets_names.specs.declared.own_texts.Own.TheVariants.{FullStop, OpenParenthesis}
-use Rattle.page_sets_lines.specs.declared.leaves.OwnWord.{OwnWord}
+use Rattle.page_sets_names.specs.declared.generated_texts.GeneratedText.TheVariants.{FullStop, OpenParenthesis}
+use Rattle.page_sets_lines.specs.declared.leaves.GeneratedWord.{GeneratedWord}
 use Rattle.page_sets_names.specs.declared.marks.Marks.{Marks}
 use Rattle.page_sets_lines.specs.declared.openers.LineOpener.{LineOpener}
 use Rattle.page_sets_lines.specs.declared.openers.LineOpener.TheVariants as lines
@@ -33,8 +33,8 @@ use Rattle.page_sets_lines.specs.declared.openers.LineOpener.TheVariants as line
 -- ---- where a scope begins
 
 -- the words of an enclosure are glued to its marks
-abbrev pub opening_word : Marks → OwnWord
-opening_word marks = record { own = opening marks; font = None; before = Apart; after = Glued }
+abbrev pub opening_word : Marks → GeneratedWord
+opening_word marks = record { text = opening marks; font = None; before = Apart; after = Glued }
 
 -- a dash stands before a description (`Nd`)
 abbrev pub dash_phrase : Place → Phrase (List ℕ)
@@ -58,7 +58,7 @@ dash place c r = record {
 
 -- `Aq Bq Brq Dq Op Pq Ql Qq Sq`, and `Nd`
 abbrev pub line_words : Place → LineOpener → Context → Running → Outcome
-line_words place (lines.Enclosure marks) c r = own_word place (opening_word marks) c r
+line_words place (lines.Enclosure marks) c r = generated_word place (opening_word marks) c r
 line_words place lines.Description c r = dash place c r
 line_words place _ c r = nothing c r
 
@@ -72,33 +72,33 @@ given_mark line (Some mark) c r = line_word line (mark_word mark) c r
 
 -- `Ao Bo Bro Do Oo Po Qo So`, and `Eo`; no other block has a mark
 abbrev pub block_words : Place → BlockOpener (List ℕ) → Context → Running → Outcome
-block_words place (openers.Quotation quotation) c r = own_word place (opening_word (quotation_marks quotation)) c r
+block_words place (openers.Quotation quotation) c r = generated_word place (opening_word (quotation_marks quotation)) c r
 block_words place (openers.Custom mark) c r = given_mark place.line mark c r
 block_words place _ c r = nothing c r
 
 -- a function (`Fo`) begins with its name in bold, and what opens its arguments
-abbrev pub arguments_mark : OwnWord
-arguments_mark = record { own = OpenParenthesis; font = None; before = Glued; after = Glued }
+abbrev pub arguments_mark : GeneratedWord
+arguments_mark = record { text = OpenParenthesis; font = None; before = Glued; after = Glued }
 
 abbrev pub function_name : Place → Argument (List ℕ) → Context → Running → Outcome
 function_name place name c r =
-    followed_by (line_word place.line (argument_word (Some B) Apart name) c r) (own_word place arguments_mark)
+    followed_by (line_word place.line (argument_word (Some B) Apart name) c r) (generated_word place arguments_mark)
 
 -- ---- where it ends, by its closer, with its line, by force or with the page
 
-abbrev pub closing_word : Marks → OwnWord
-closing_word marks = record { own = closing marks; font = None; before = Glued; after = Apart }
+abbrev pub closing_word : Marks → GeneratedWord
+closing_word marks = record { text = closing marks; font = None; before = Glued; after = Apart }
 
 -- after the last field of a reference (`Rs`), where it has one
-abbrev pub full_stop : OwnWord
-full_stop = record { own = FullStop; font = None; before = Glued; after = Apart }
+abbrev pub full_stop : GeneratedWord
+full_stop = record { text = FullStop; font = None; before = Glued; after = Apart }
 
 abbrev pub reference_end : SeriesSoFar → Place → Context → Running → Outcome
-reference_end Begun place c r = own_word place full_stop c r
+reference_end Begun place c r = generated_word place full_stop c r
 reference_end _ place c r = nothing c r
 
 abbrev pub block_last_words : Place → Block → Context → Running → Outcome
-block_last_words place (blocks.Quotation quotation) c r = own_word place (closing_word (quotation_marks quotation)) c r
+block_last_words place (blocks.Quotation quotation) c r = generated_word place (closing_word (quotation_marks quotation)) c r
 block_last_words place blocks.Reference c r = reference_end c.fields place c r
 block_last_words place blocks.Function c r = function_end place c r
 block_last_words place _ c r = nothing c r
@@ -108,7 +108,7 @@ explicit_last_words place (explicits.Block block) c r = block_last_words place b
 explicit_last_words place _ c r = nothing c r
 
 abbrev pub line_last_words : Place → LineOpener → Context → Running → Outcome
-line_last_words place (lines.Enclosure marks) c r = own_word place (closing_word marks) c r
+line_last_words place (lines.Enclosure marks) c r = generated_word place (closing_word marks) c r
 line_last_words place _ c r = nothing c r
 
 -- the mark of `Ec` is a word after its block has ended

@@ -7,8 +7,8 @@ use Rattle.page_scopes_leaves.specs.Steps.{counting}
 use Rattle.page_scopes_phrases.specs.declared.kept_texts.KeptText.{KeptText}
 use Rattle.page_scopes_phrases.specs.declared.runnings.Running.{Running}
 use Rattle.page_scopes_widths.specs.Names.{name_columns}
-use Rattle.page_sets_lines.specs.declared.events.Deed.{Deed}
-use Rattle.page_sets_lines.specs.declared.events.Deed.TheVariants as deeds
+use Rattle.page_sets_lines.specs.declared.events.EventKind.{EventKind}
+use Rattle.page_sets_lines.specs.declared.events.EventKind.TheVariants as kinds
 use Rattle.page_sets_lines.specs.declared.events.Role.TheVariants as roles
 use Rattle.page_sets_lines.specs.declared.events.Role.{Role}
 use Rattle.page_sets_lines.specs.declared.events.Word.{Word}
@@ -34,7 +34,7 @@ abbrev pub manual_columns : Output → Option KeptText → ℕ
 manual_columns output None = 0
 manual_columns output (Some name) = name_columns output name.is_quoted name.text
 
--- the columns of a deed: of a word that is no delimiter, and of the name of the manual
+-- the columns of an event: of a word that is no delimiter, and of the name of the manual
 abbrev pub role_columns : Output → Role → Word (List ℕ) → Option ℕ
 role_columns output roles.Delimiter word = None
 role_columns output _ word = Some (word_columns output word)
@@ -47,15 +47,15 @@ abbrev pub leaf_columns : Output → Leaf (List ℕ) → Option KeptText → Opt
 leaf_columns output (leaves.Step step) name = step_columns output step name
 leaf_columns output _ name = None
 
-abbrev pub deed_columns : Output → Deed (List ℕ) → Option KeptText → Option ℕ
-deed_columns output (deeds.Word word) name = role_columns output word.role word
-deed_columns output (deeds.Leaf leaf) name = leaf_columns output leaf name
-deed_columns output _ name = None
+abbrev pub kind_columns : Output → EventKind (List ℕ) → Option KeptText → Option ℕ
+kind_columns output (kinds.Word word) name = role_columns output word.role word
+kind_columns output (kinds.Leaf leaf) name = leaf_columns output leaf name
+kind_columns output _ name = None
 
 abbrev pub counted_if : Option ℕ → Option ℕ → Running → Running
 counted_if so_far None r = r
 counted_if so_far (Some columns) r = counted so_far columns r
 
--- before a deed is laid out, on a page whose manual has this name
-unfoldable pub deed_counted : Output → Deed (List ℕ) → Option KeptText → Running → Running
-deed_counted output deed name r = counted_if r.line.name_columns (deed_columns output deed name) r
+-- before an event is laid out, on a page whose manual has this name
+unfoldable pub kind_counted : Output → EventKind (List ℕ) → Option KeptText → Running → Running
+kind_counted output kind name r = counted_if r.line.name_columns (kind_columns output kind name) r

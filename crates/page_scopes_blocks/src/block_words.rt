@@ -1,12 +1,12 @@
 //! The words that blocks and line scopes of mdoc(7) print themselves (mdoc(7), "MACRO REFERENCE").
 
 ghost use Rattle.std.specs.Prelude.{◌≡◌};
-ghost use Rattle.page_roff_forms.specs.Arguments.{argument_seen};
+ghost use Rattle.page_roff_forms.specs.Arguments.{argument_view};
 ghost use Rattle.page_scopes_blocks.specs.BlockWords as words;
 ghost use Rattle.page_sets_lines.specs.Fits.{ArgumentFits, BlockOpenerFits, FitsAt, GivenFits};
 ghost use Rattle.page_scopes_phrases.specs.Outcomes.{GivesOutcome};
-ghost use Rattle.page_scopes_phrases.specs.Phrases.{phrase_seen};
-ghost use Rattle.page_sets_lines.specs.Events.{block_opener_seen, given_seen, word_seen};
+ghost use Rattle.page_scopes_phrases.specs.Phrases.{phrase_view};
+ghost use Rattle.page_sets_lines.specs.Events.{block_opener_view, given_view, word_view};
 
 use page_core_base::{Font, PieceOut, Place};
 use page_core_limits::LINE;
@@ -15,16 +15,16 @@ use page_scopes_labels::{Explicit, Label};
 use page_scopes_layout::{Context, SeriesSoFar};
 use page_scopes_leaves::give_function_end;
 use page_scopes_phrases::{
-    Phrase, Running, argument_word, give_line_word, give_own_word, give_phrase,
+    Phrase, Running, argument_word, give_line_word, give_generated_word, give_phrase,
 };
-use page_sets_lines::{Block, BlockOpener, Join, LineOpener, Marks, Own, OwnWord, Word};
+use page_sets_lines::{Block, BlockOpener, Join, LineOpener, Marks, GeneratedText, GeneratedWord, Word};
 
 // The mark before the words of an enclosure.
-fn opening_word(marks: Marks) -> OwnWord
+fn opening_word(marks: Marks) -> GeneratedWord
     ensures { result ≡ words.opening_word marks }
 {
-    OwnWord {
-        own: marks.opening(),
+    GeneratedWord {
+        text: marks.opening(),
         font: None,
         before: Join::Apart,
         after: Join::Glued,
@@ -32,11 +32,11 @@ fn opening_word(marks: Marks) -> OwnWord
 }
 
 // The mark after the words of an enclosure.
-fn closing_word(marks: Marks) -> OwnWord
+fn closing_word(marks: Marks) -> GeneratedWord
     ensures { result ≡ words.closing_word marks }
 {
-    OwnWord {
-        own: marks.closing(),
+    GeneratedWord {
+        text: marks.closing(),
         font: None,
         before: Join::Glued,
         after: Join::Apart,
@@ -45,7 +45,7 @@ fn closing_word(marks: Marks) -> OwnWord
 
 // The dash of `Nd`, at its macro.
 fn dash_phrase(place: Place) -> Phrase<&'static [u8]>
-    ensures seen { phrase_seen result ≡ words.dash_phrase place }
+    ensures seen { phrase_view result ≡ words.dash_phrase place }
     ensures fits { FitsAt result.column result.text.now }
 {
     Phrase {
@@ -83,7 +83,7 @@ pub fn give_line_words<O: PieceOut>(
 {
     match opener {
         LineOpener::Enclosure(marks) => {
-            give_own_word(out, place, opening_word(marks), context, running);
+            give_generated_word(out, place, opening_word(marks), context, running);
         }
         LineOpener::Description => give_dash(out, place, context, running),
         _ => {}
@@ -92,7 +92,7 @@ pub fn give_line_words<O: PieceOut>(
 
 // The mark of `Eo` as a word, to which the next one is glued.
 fn mark_word<'a>(mark: Argument<&'a [u8]>) -> Word<&'a [u8]>
-    ensures { word_seen result ≡ words.mark_word (argument_seen mark.entry) }
+    ensures { word_view result ≡ words.mark_word (argument_view mark.entry) }
 {
     Word {
         after: Join::Glued,
@@ -108,9 +108,9 @@ fn give_mark<O: PieceOut>(
     context: &mut Context,
     running: &mut Running,
 )
-    requires { GivenFits (given_seen mark) }
+    requires { GivenFits (given_view mark) }
     ensures { GivesOutcome O.left out.old
-        (words.given_mark line (given_seen mark.entry) context.old running.old)
+        (words.given_mark line (given_view mark.entry) context.old running.old)
         out.new context.new running.new }
 {
     if let Some(mark) = mark {
@@ -126,15 +126,15 @@ pub(crate) fn give_block_words<O: PieceOut>(
     context: &mut Context,
     running: &mut Running,
 )
-    requires { BlockOpenerFits (block_opener_seen opener.now) }
+    requires { BlockOpenerFits (block_opener_view opener.now) }
     ensures { GivesOutcome O.left out.old
-        (words.block_words place (block_opener_seen opener.now) context.old running.old)
+        (words.block_words place (block_opener_view opener.now) context.old running.old)
         out.new context.new running.new }
 {
     match *opener {
         BlockOpener::Quotation(quotation) => {
             let word = opening_word(quotation.marks());
-            give_own_word(out, place, word, context, running);
+            give_generated_word(out, place, word, context, running);
         }
         BlockOpener::Custom(mark) => give_mark(out, place.line, mark, context, running),
         _ => {}
@@ -142,11 +142,11 @@ pub(crate) fn give_block_words<O: PieceOut>(
 }
 
 // What opens the arguments of a function.
-fn arguments_mark() -> OwnWord
+fn arguments_mark() -> GeneratedWord
     ensures { result ≡ words.arguments_mark }
 {
-    OwnWord {
-        own: Own::OpenParenthesis,
+    GeneratedWord {
+        text: GeneratedText::OpenParenthesis,
         font: None,
         before: Join::Glued,
         after: Join::Glued,
@@ -161,22 +161,22 @@ pub(crate) fn give_function_name<O: PieceOut>(
     context: &mut Context,
     running: &mut Running,
 )
-    requires { ArgumentFits (argument_seen name) }
+    requires { ArgumentFits (argument_view name) }
     ensures { GivesOutcome O.left out.old
-        (words.function_name place (argument_seen name.entry) context.old running.old)
+        (words.function_name place (argument_view name.entry) context.old running.old)
         out.new context.new running.new }
 {
     let word = argument_word(Some(Font::B), Join::Apart, name);
     give_line_word(out, place.line, &word, context, running);
-    give_own_word(out, place, arguments_mark(), context, running);
+    give_generated_word(out, place, arguments_mark(), context, running);
 }
 
 // The full stop after the fields of a reference.
-fn full_stop() -> OwnWord
+fn full_stop() -> GeneratedWord
     ensures { result ≡ words.full_stop }
 {
-    OwnWord {
-        own: Own::FullStop,
+    GeneratedWord {
+        text: GeneratedText::FullStop,
         font: None,
         before: Join::Glued,
         after: Join::Apart,
@@ -195,7 +195,7 @@ fn give_reference_end<O: PieceOut>(
         out.new context.new running.new }
 {
     if let SeriesSoFar::Begun = context.fields {
-        give_own_word(out, place, full_stop(), context, running);
+        give_generated_word(out, place, full_stop(), context, running);
     }
 }
 
@@ -214,7 +214,7 @@ fn give_block_last_words<O: PieceOut>(
     match block {
         Block::Quotation(quotation) => {
             let word = closing_word(quotation.marks());
-            give_own_word(out, place, word, context, running);
+            give_generated_word(out, place, word, context, running);
         }
         Block::Reference => give_reference_end(out, place, context, running),
         Block::Function => give_function_end(out, place, context, running),
@@ -222,7 +222,7 @@ fn give_block_last_words<O: PieceOut>(
     }
 }
 
-/// Gives the words that a scope ends with, in its own context: the mark after an enclosure's words, the full stop of a reference (`Rs`) and the end of a
+/// Gives the words that a scope ends with, in its text context: the mark after an enclosure's words, the full stop of a reference (`Rs`) and the end of a
 /// function (`Fo`), of whatever ends it.
 pub fn give_last_words<O: PieceOut>(
     out: &mut O,
@@ -237,7 +237,7 @@ pub fn give_last_words<O: PieceOut>(
 {
     match label {
         Label::Line(LineOpener::Enclosure(marks)) => {
-            give_own_word(out, place, closing_word(marks), context, running);
+            give_generated_word(out, place, closing_word(marks), context, running);
         }
         Label::Explicit(Explicit::Block(block)) => {
             give_block_last_words(out, place, block, context, running);

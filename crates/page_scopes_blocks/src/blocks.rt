@@ -2,13 +2,13 @@
 
 ghost use Rattle.std.specs.Prelude.{◌≡◌};
 ghost use Rattle.page_core_base.specs.Latches.{Came};
-ghost use Rattle.page_roff_forms.specs.Arguments.{argument_seen};
+ghost use Rattle.page_roff_forms.specs.Arguments.{argument_view};
 ghost use Rattle.page_scopes_blocks.specs.BlockWords.{function_name};
 ghost use Rattle.page_scopes_blocks.specs.Blocks as blocks;
 ghost use Rattle.page_scopes_layout.specs.Begins.{function_begun};
 ghost use Rattle.page_sets_lines.specs.Fits.{ArgumentFits, BlockOpenerFits, GivenFits};
 ghost use Rattle.page_scopes_phrases.specs.Outcomes.{GivesOutcome};
-ghost use Rattle.page_sets_lines.specs.Events.{block_opener_seen, given_seen};
+ghost use Rattle.page_sets_lines.specs.Events.{block_opener_view, given_view};
 
 use crate::block_words::{give_block_words, give_function_name};
 use page_core_base::{Output, Piece, PieceOut, Place};
@@ -25,9 +25,9 @@ fn give_offset<O: PieceOut>(
     place: Place,
     offset: Option<Argument<&[u8]>>,
 ) -> i32
-    requires { GivenFits (given_seen offset) }
-    ensures columns { result ≡ blocks.offset_columns output (given_seen offset.entry) }
-    ensures came { Came O.left out.old (blocks.offset_notes place (given_seen offset.entry)) out.new }
+    requires { GivenFits (given_view offset) }
+    ensures columns { result ≡ blocks.offset_columns output (given_view offset.entry) }
+    ensures came { Came O.left out.old (blocks.offset_notes place (given_view offset.entry)) out.new }
 {
     match offset {
         Some(offset) => give_width(out, output, place, offset),
@@ -67,9 +67,9 @@ fn begin_display<O: PieceOut>(
     context: &mut Context,
     running: &mut Running,
 )
-    requires { GivenFits (given_seen offset) }
+    requires { GivenFits (given_view offset) }
     ensures { GivesOutcome O.left out.old
-        (blocks.display output place is_literal is_compact (given_seen offset.entry) context.old running.old)
+        (blocks.display output place is_literal is_compact (given_view offset.entry) context.old running.old)
         out.new context.new running.new }
 {
     let columns = give_offset(out, output, place, offset);
@@ -85,9 +85,9 @@ fn begin_function<O: PieceOut>(
     context: &mut Context,
     running: &mut Running,
 )
-    requires { ArgumentFits (argument_seen name) }
+    requires { ArgumentFits (argument_view name) }
     ensures { GivesOutcome O.left out.old
-        (function_name place (argument_seen name.entry) (function_begun context.old) running.old)
+        (function_name place (argument_view name.entry) (function_begun context.old) running.old)
         out.new context.new running.new }
 {
     *context = context.function_begun();
@@ -105,9 +105,9 @@ pub fn give_block<O: PieceOut>(
     context: &mut Context,
     running: &mut Running,
 )
-    requires { BlockOpenerFits (block_opener_seen opener.now) }
+    requires { BlockOpenerFits (block_opener_view opener.now) }
     ensures { GivesOutcome O.left out.old
-        (blocks.block_opened output place (block_opener_seen opener.now) context.old running.old)
+        (blocks.block_opened output place (block_opener_view opener.now) context.old running.old)
         out.new context.new running.new }
 {
     *context = context.entered();

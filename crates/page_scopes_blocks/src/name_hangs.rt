@@ -3,14 +3,14 @@
 ghost use Rattle.std.specs.Prelude.{◌≡◌, ◌≤◌, ◌*◌};
 ghost use Rattle.page_core_limits.specs.declared.TheConstants.{LINE};
 ghost use Rattle.page_scopes_blocks.specs.NameHangs as hangs;
-ghost use Rattle.page_sets_lines.specs.Fits.{DeedFits, FitsAt};
-ghost use Rattle.page_sets_lines.specs.Events.{deed_seen, word_seen};
+ghost use Rattle.page_sets_lines.specs.Fits.{KindFits, FitsAt};
+ghost use Rattle.page_sets_lines.specs.Events.{kind_view, word_view};
 
 use page_core_base::Output;
 use page_scopes_layout::MARGIN;
 use page_scopes_phrases::{KeptText, Running};
 use page_scopes_widths::name_columns;
-use page_sets_lines::{Deed, Leaf, LineStep, Role, Word};
+use page_sets_lines::{EventKind, Leaf, LineStep, Role, Word};
 
 // The columns with those of a word more, and the blank after it.
 fn columns_after(so_far: u16, columns: u32) -> u16
@@ -32,7 +32,7 @@ fn count(columns: u32, so_far: u16, running: &mut Running)
 #[inline(never)]
 fn count_word(output: Output, word: &Word<&[u8]>, so_far: u16, running: &mut Running)
     requires { FitsAt word.now.arg.column word.now.arg.text.now }
-    ensures { running.new ≡ hangs.counted (Some so_far) (hangs.word_columns output (word_seen word.now)) running.old }
+    ensures { running.new ≡ hangs.counted (Some so_far) (hangs.word_columns output (word_view word.now)) running.old }
 {
     count(
         name_columns(output, word.arg.is_quoted(), word.arg.text),
@@ -56,27 +56,27 @@ fn count_manual_name(output: Output, name: &Option<KeptText>, so_far: u16, runni
     }
 }
 
-/// Counts the columns of what a deed prints, before it is laid out, where the words of a name that begins a row of the SYNOPSIS are counted; delimiters
+/// Counts the columns of what an event prints, before it is laid out, where the words of a name that begins a row of the SYNOPSIS are counted; delimiters
 /// do not count. The name is that of the manual.
-#[tactic(auto, unfolding(crate::specs::NameHangs::deed_counted))]
+#[tactic(auto, unfolding(crate::specs::NameHangs::kind_counted))]
 #[inline(always)]
 pub fn count_name(
     output: Output,
-    deed: &Deed<&[u8]>,
+    kind: &EventKind<&[u8]>,
     name: &Option<KeptText>,
     running: &mut Running,
 )
-    requires { DeedFits (deed_seen deed.now) }
-    ensures { running.new ≡ hangs.deed_counted output (deed_seen deed.now) name.now running.old }
+    requires { KindFits (kind_view kind.now) }
+    ensures { running.new ≡ hangs.kind_counted output (kind_view kind.now) name.now running.old }
 {
     let Some(so_far) = running.line.name_columns else {
         return;
     };
-    match deed {
-        Deed::Word(word) if !matches!(word.role, Role::Delimiter) => {
+    match kind {
+        EventKind::Word(word) if !matches!(word.role, Role::Delimiter) => {
             count_word(output, word, so_far, running);
         }
-        Deed::Leaf(Leaf::Step(LineStep::ManualName)) => {
+        EventKind::Leaf(Leaf::Step(LineStep::ManualName)) => {
             count_manual_name(output, name, so_far, running);
         }
         _ => {}

@@ -1,11 +1,11 @@
 //! A page, whose lines come one by one.
 
 ghost use Rattle.std.specs.Prelude.{◌≡◌, ◌≤◌, length};
-ghost use Rattle.page_sets_lines.specs.Fits.{DeedFits};
-ghost use Rattle.page_sets_lines.specs.Events.{deed_seen};
+ghost use Rattle.page_sets_lines.specs.Fits.{KindFits};
+ghost use Rattle.page_sets_lines.specs.Events.{kind_view};
 
 use crate::shown::{Shown, nothing};
-use crate::spelled::{deed_of, list_deed, read_part};
+use crate::spelled::{kind_of, list_kind, read_part};
 use page_core_base::{Form, Output, Place, Taken};
 use page_core_limits::LINE;
 use page_roff_forms::{LineForm, form_of};
@@ -13,7 +13,7 @@ use page_scopes::OpenScopes;
 use page_scopes_nodes::PageLayout;
 use page_sets::Man;
 use page_sets_checks::Verbatim;
-use page_sets_lines::{Deed, Event, MacroSet};
+use page_sets_lines::{EventKind, Event, MacroSet};
 use std::alloc::{AllocError, Global};
 
 /// The scopes of a page, and the number of its next line.
@@ -76,10 +76,10 @@ where
 }
 
 // Gives what an event settles.
-fn give_deed(scopes: &mut OpenScopes, out: &mut Shown, place: Place, deed: Deed<&[u8]>)
-    requires { DeedFits (deed_seen deed) }
+fn give_kind(scopes: &mut OpenScopes, out: &mut Shown, place: Place, kind: EventKind<&[u8]>)
+    requires { KindFits (kind_view kind) }
 {
-    scopes.give_event(&Event { place, deed }, out);
+    scopes.give_event(&Event { place, kind }, out);
 }
 
 // Gives what the events of a line settle, which are spelled, each in its column.
@@ -87,11 +87,11 @@ fn give_spelled(text: &str, line: u32, scopes: &mut OpenScopes, out: &mut Shown)
     let mut column = 2u32;
     for part in text.split(' ') {
         let (name, text) = read_part(part, column);
-        give_deed(
+        give_kind(
             scopes,
             out,
             Place { line, column },
-            deed_of(name, column, text),
+            kind_of(name, column, text),
         );
         let len = u32::try_from(part.len()).unwrap_or(u32::MAX);
         column = column.saturating_add(1).saturating_add(len);
@@ -103,12 +103,12 @@ fn give_mdoc(text: &str, line: u32, scopes: &mut OpenScopes, out: &mut Shown) {
     match text.strip_prefix("Bl ") {
         Some(options) => {
             let place = Place { line, column: 2 };
-            give_deed(scopes, out, place, list_deed(options.as_bytes()));
+            give_kind(scopes, out, place, list_kind(options.as_bytes()));
         }
         None => give_spelled(text, line, scopes, out),
     }
     let place = Place { line, column: 1 };
-    give_deed(scopes, out, place, Deed::End { fills: true });
+    give_kind(scopes, out, place, EventKind::End { fills: true });
 }
 
 impl Page {

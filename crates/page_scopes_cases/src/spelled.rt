@@ -5,15 +5,15 @@
 //! item, and `label` its head; `Bl` takes its arguments, which are the rest of its line.
 
 ghost use Rattle.std.specs.Prelude.{IfSome};
-ghost use Rattle.page_sets_lines.specs.Fits.{ArgumentFits, DeedFits, GivenFits};
-ghost use Rattle.page_roff_forms.specs.Arguments.{argument_seen};
-ghost use Rattle.page_sets_lines.specs.Events.{deed_seen, given_seen, word_seen};
+ghost use Rattle.page_sets_lines.specs.Fits.{ArgumentFits, KindFits, GivenFits};
+ghost use Rattle.page_roff_forms.specs.Arguments.{argument_view};
+ghost use Rattle.page_sets_lines.specs.Events.{kind_view, given_view, word_view};
 
 use page_core_base::Font;
 use page_roff_forms::{Argument, Quoting};
 use page_sets_lines::{
-    BlockCloser, BlockOpener, BodyParagraphName, Closer, Deed, HeadingName, Join, Leaf, LineOpener,
-    LineStep, ListKind, Marks, OneLineName, Opener, Own, OwnWord, Quotation, Role, SynopsisStep,
+    BlockCloser, BlockOpener, BodyParagraphName, Closer, EventKind, HeadingName, Join, Leaf, LineOpener,
+    LineStep, ListKind, Marks, OneLineName, Opener, GeneratedText, GeneratedWord, Quotation, Role, SynopsisStep,
     Word, read_list_options,
 };
 
@@ -65,54 +65,54 @@ fn closed_of(name: &str) -> Option<Quotation> {
 }
 
 // What needs no text.
-fn bare_deed<'a>(name: &str) -> Option<Deed<&'a [u8]>>
-    ensures { IfSome result (λ deed. DeedFits (deed_seen deed)) }
+fn bare_kind<'a>(name: &str) -> Option<EventKind<&'a [u8]>>
+    ensures { IfSome result (λ kind. KindFits (kind_view kind)) }
 {
     match name {
-        "Sh" => Some(Deed::Open(Opener::Section)),
-        "Ss" => Some(Deed::Open(Opener::Subsection)),
-        "head" => Some(Deed::LineScope(LineOpener::Heading(HeadingName::Sh))),
-        "subhead" => Some(Deed::LineScope(LineOpener::Heading(HeadingName::Ss))),
-        "Nd" => Some(Deed::LineScope(LineOpener::Description)),
-        "D1" => Some(Deed::LineScope(LineOpener::OneLine(OneLineName::D1))),
-        "Pp" => Some(Deed::Leaf(Leaf::Step(LineStep::BodyParagraph(BodyParagraphName::Pp)))),
-        "It" => Some(Deed::Open(Opener::Item)),
-        "label" => Some(Deed::LineScope(LineOpener::Head)),
-        "tail" => Some(Deed::Close(Closer::Enclosures)),
-        "field" => Some(Deed::Leaf(Leaf::Step(LineStep::NextField))),
-        _ => block_deed(name),
+        "Sh" => Some(EventKind::Open(Opener::Section)),
+        "Ss" => Some(EventKind::Open(Opener::Subsection)),
+        "head" => Some(EventKind::LineScope(LineOpener::Heading(HeadingName::Sh))),
+        "subhead" => Some(EventKind::LineScope(LineOpener::Heading(HeadingName::Ss))),
+        "Nd" => Some(EventKind::LineScope(LineOpener::Description)),
+        "D1" => Some(EventKind::LineScope(LineOpener::OneLine(OneLineName::D1))),
+        "Pp" => Some(EventKind::Leaf(Leaf::Step(LineStep::BodyParagraph(BodyParagraphName::Pp)))),
+        "It" => Some(EventKind::Open(Opener::Item)),
+        "label" => Some(EventKind::LineScope(LineOpener::Head)),
+        "tail" => Some(EventKind::Close(Closer::Enclosures)),
+        "field" => Some(EventKind::Leaf(Leaf::Step(LineStep::NextField))),
+        _ => block_kind(name),
     }
 }
 
 // What has marks of its own.
-fn marked_deed<'a>(name: &str, text: Option<Argument<&'a [u8]>>) -> Option<Deed<&'a [u8]>>
-    requires { GivenFits (given_seen text) }
-    ensures { IfSome result (λ deed. DeedFits (deed_seen deed)) }
+fn marked_kind<'a>(name: &str, text: Option<Argument<&'a [u8]>>) -> Option<EventKind<&'a [u8]>>
+    requires { GivenFits (given_view text) }
+    ensures { IfSome result (λ kind. KindFits (kind_view kind)) }
 {
     if let Some(marks) = marks_of(name) {
-        return Some(Deed::LineScope(LineOpener::Enclosure(marks)));
+        return Some(EventKind::LineScope(LineOpener::Enclosure(marks)));
     }
     if let Some(quotation) = opened_of(name) {
         let opener = BlockOpener::Quotation(quotation);
-        return Some(Deed::Open(Opener::Block(opener)));
+        return Some(EventKind::Open(Opener::Block(opener)));
     }
     if let Some(quotation) = closed_of(name) {
         let closer = BlockCloser::Quotation(quotation);
-        return Some(Deed::Close(Closer::Block(closer)));
+        return Some(EventKind::Close(Closer::Block(closer)));
     }
     match name {
-        "Eo" => Some(Deed::Open(Opener::Block(BlockOpener::Custom(text)))),
-        "Ec" => Some(Deed::Close(Closer::Block(BlockCloser::Custom(text)))),
-        "Xo" => Some(Deed::Open(Opener::Block(BlockOpener::Extension))),
-        "Xc" => Some(Deed::Close(Closer::Block(BlockCloser::Extension))),
-        _ => display_deed(name, text),
+        "Eo" => Some(EventKind::Open(Opener::Block(BlockOpener::Custom(text)))),
+        "Ec" => Some(EventKind::Close(Closer::Block(BlockCloser::Custom(text)))),
+        "Xo" => Some(EventKind::Open(Opener::Block(BlockOpener::Extension))),
+        "Xc" => Some(EventKind::Close(Closer::Block(BlockCloser::Extension))),
+        _ => display_kind(name, text),
     }
 }
 
 // A display, with its offset as its text.
-fn display_deed<'a>(name: &str, offset: Option<Argument<&'a [u8]>>) -> Option<Deed<&'a [u8]>>
-    requires { GivenFits (given_seen offset) }
-    ensures { IfSome result (λ deed. DeedFits (deed_seen deed)) }
+fn display_kind<'a>(name: &str, offset: Option<Argument<&'a [u8]>>) -> Option<EventKind<&'a [u8]>>
+    requires { GivenFits (given_view offset) }
+    ensures { IfSome result (λ kind. KindFits (kind_view kind)) }
 {
     let (is_literal, is_compact) = match name {
         "Bd" => (false, false),
@@ -120,7 +120,7 @@ fn display_deed<'a>(name: &str, offset: Option<Argument<&'a [u8]>>) -> Option<De
         "Bd-literal" => (true, false),
         _ => return None,
     };
-    Some(Deed::Open(Opener::Block(BlockOpener::Display {
+    Some(EventKind::Open(Opener::Block(BlockOpener::Display {
         is_literal,
         is_compact,
         offset,
@@ -128,22 +128,22 @@ fn display_deed<'a>(name: &str, offset: Option<Argument<&'a [u8]>>) -> Option<De
 }
 
 // A block of lines without a text.
-fn block_deed<'a>(name: &str) -> Option<Deed<&'a [u8]>>
-    ensures { IfSome result (λ deed. DeedFits (deed_seen deed)) }
+fn block_kind<'a>(name: &str) -> Option<EventKind<&'a [u8]>>
+    ensures { IfSome result (λ kind. KindFits (kind_view kind)) }
 {
     let opener = match name {
         "Bf" => BlockOpener::Fonts(None),
         "Bf-italic" => BlockOpener::Fonts(Some(Font::I)),
         "Bk" => BlockOpener::Keep,
         "Rs" => BlockOpener::Reference,
-        _ => return block_end_deed(name),
+        _ => return block_end_kind(name),
     };
-    Some(Deed::Open(Opener::Block(opener)))
+    Some(EventKind::Open(Opener::Block(opener)))
 }
 
 // The end of one.
-fn block_end_deed<'a>(name: &str) -> Option<Deed<&'a [u8]>>
-    ensures { IfSome result (λ deed. DeedFits (deed_seen deed)) }
+fn block_end_kind<'a>(name: &str) -> Option<EventKind<&'a [u8]>>
+    ensures { IfSome result (λ kind. KindFits (kind_view kind)) }
 {
     let closer = match name {
         "Ed" => BlockCloser::Display,
@@ -152,14 +152,14 @@ fn block_end_deed<'a>(name: &str) -> Option<Deed<&'a [u8]>>
         "Re" => BlockCloser::Reference,
         "Fc" => BlockCloser::Function,
         "El" => BlockCloser::List,
-        _ => return step_deed(name),
+        _ => return step_kind(name),
     };
-    Some(Deed::Close(Closer::Block(closer)))
+    Some(EventKind::Close(Closer::Block(closer)))
 }
 
 // What a macro changes in its line, or does in the SYNOPSIS.
-fn step_deed<'a>(name: &str) -> Option<Deed<&'a [u8]>>
-    ensures { IfSome result (λ deed. DeedFits (deed_seen deed)) }
+fn step_kind<'a>(name: &str) -> Option<EventKind<&'a [u8]>>
+    ensures { IfSome result (λ kind. KindFits (kind_view kind)) }
 {
     let step = match name {
         "argument" => LineStep::NextArgument,
@@ -174,13 +174,13 @@ fn step_deed<'a>(name: &str) -> Option<Deed<&'a [u8]>>
         "hung" => LineStep::Synopsis(SynopsisStep::NameEnds),
         _ => return None,
     };
-    Some(Deed::Leaf(Leaf::Step(step)))
+    Some(EventKind::Leaf(Leaf::Step(step)))
 }
 
 // A word as it is spelled: its role and font, and how it stands beside others.
 fn word_of<'a>(name: &str, column: u32, argument: Argument<&'a [u8]>) -> Word<&'a [u8]>
-    requires { ArgumentFits (argument_seen argument) }
-    ensures { ArgumentFits (word_seen result).arg }
+    requires { ArgumentFits (argument_view argument) }
+    ensures { ArgumentFits (word_view result).arg }
 {
     let (role, font) = match name {
         "Nm" => (Role::Name { column }, Some(Font::B)),
@@ -204,10 +204,10 @@ fn word_of<'a>(name: &str, column: u32, argument: Argument<&'a [u8]>) -> Word<&'
 }
 
 // A text that a macro prints itself.
-fn own_deed<'a>(own: Own, font: Font, after: Join) -> Deed<&'a [u8]>
-    ensures { DeedFits (deed_seen result) }
+fn generated_kind<'a>(own: GeneratedText, font: Font, after: Join) -> EventKind<&'a [u8]>
+    ensures { KindFits (kind_view result) }
 {
-    Deed::Leaf(Leaf::Own(OwnWord {
+    EventKind::Leaf(Leaf::Generated(GeneratedWord {
         own,
         font: Some(font),
         before: Join::Apart,
@@ -216,57 +216,57 @@ fn own_deed<'a>(own: Own, font: Font, after: Join) -> Deed<&'a [u8]>
 }
 
 // What has no text.
-fn unworded_deed<'a>(name: &str) -> Deed<&'a [u8]>
-    ensures { DeedFits (deed_seen result) }
+fn unworded_kind<'a>(name: &str) -> EventKind<&'a [u8]>
+    ensures { KindFits (kind_view result) }
 {
     match name {
-        "Nm" => Deed::Leaf(Leaf::Step(LineStep::ManualName)),
-        "Ns" => Deed::Leaf(Leaf::Step(LineStep::Glue)),
-        "Fl" => own_deed(Own::Dash, Font::B, Join::Glued),
-        "Ar" => own_deed(Own::Files, Font::I, Join::Apart),
-        "Ex" => own_deed(Own::UtilityExits, Font::R, Join::Apart),
-        _ => Deed::End { fills: true },
+        "Nm" => EventKind::Leaf(Leaf::Step(LineStep::ManualName)),
+        "Ns" => EventKind::Leaf(Leaf::Step(LineStep::Glue)),
+        "Fl" => generated_kind(GeneratedText::Dash, Font::B, Join::Glued),
+        "Ar" => generated_kind(GeneratedText::Files, Font::I, Join::Apart),
+        "Ex" => generated_kind(GeneratedText::UtilityExits, Font::R, Join::Apart),
+        _ => EventKind::End { fills: true },
     }
 }
 
 /// What an event does, by its name in a column and its text.
-pub(crate) fn deed_of<'a>(
+pub(crate) fn kind_of<'a>(
     name: &str,
     column: u32,
     text: Option<Argument<&'a [u8]>>,
-) -> Deed<&'a [u8]>
-    requires { GivenFits (given_seen text) }
-    ensures { DeedFits (deed_seen result) }
+) -> EventKind<&'a [u8]>
+    requires { GivenFits (given_view text) }
+    ensures { KindFits (kind_view result) }
 {
-    if let Some(deed) = bare_deed(name) {
-        return deed;
+    if let Some(kind) = bare_kind(name) {
+        return kind;
     }
-    if let Some(deed) = marked_deed(name, text) {
-        return deed;
+    if let Some(kind) = marked_kind(name, text) {
+        return kind;
     }
     match text {
-        None => unworded_deed(name),
+        None => unworded_kind(name),
         Some(argument) => {
             if name == "Lk" {
-                return Deed::Leaf(Leaf::Step(LineStep::Uri(argument)));
+                return EventKind::Leaf(Leaf::Step(LineStep::Uri(argument)));
             }
             if name == "Fo" {
-                return Deed::Open(Opener::Block(BlockOpener::Function(argument)));
+                return EventKind::Open(Opener::Block(BlockOpener::Function(argument)));
             }
-            Deed::Word(word_of(name, column, argument))
+            EventKind::Word(word_of(name, column, argument))
         }
     }
 }
 
 /// The list that begins with these arguments.
-pub(crate) fn list_deed<'a>(options: &'a [u8]) -> Deed<&'a [u8]>
-    ensures { DeedFits (deed_seen result) }
+pub(crate) fn list_kind<'a>(options: &'a [u8]) -> EventKind<&'a [u8]>
+    ensures { KindFits (kind_view result) }
 {
     if options.len() > MOST {
-        return Deed::End { fills: true };
+        return EventKind::End { fills: true };
     }
     let said = read_list_options(options, 0);
-    Deed::Open(Opener::Block(BlockOpener::List {
+    EventKind::Open(Opener::Block(BlockOpener::List {
         kind: said.kind.unwrap_or(ListKind::Item),
         is_compact: said.is_compact,
         options,
@@ -275,7 +275,7 @@ pub(crate) fn list_deed<'a>(options: &'a [u8]) -> Deed<&'a [u8]>
 
 /// The name and the text of an event that begins in a column.
 pub(crate) fn read_part(part: &str, column: u32) -> (&str, Option<Argument<&[u8]>>)
-    ensures { GivenFits (given_seen result.1) }
+    ensures { GivenFits (given_view result.1) }
 {
     let Some((name, text)) = part.split_once('=') else {
         return (part, None);

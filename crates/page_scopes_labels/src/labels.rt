@@ -86,7 +86,7 @@ impl<W: Copy> Clone for LabelRow<W> {
 // The row of a scope that keeps nothing apart.
 #[inline(always)]
 fn plain_row(name: &'static str, end: ScopeEnd<&'static str>) -> LabelRow<&'static str>
-    ensures { labels.row_seen result ≡ labels.plain_row name.now (labels.end_seen end.entry) }
+    ensures { labels.row_view result ≡ labels.plain_row name.now (labels.end_view end.entry) }
 {
     LabelRow {
         name,
@@ -100,7 +100,7 @@ fn plain_row(name: &'static str, end: ScopeEnd<&'static str>) -> LabelRow<&'stat
 // The row of a scope with paragraphs and a prevailing indent of its own.
 #[inline(always)]
 fn level_row(name: &'static str, end: ScopeEnd<&'static str>) -> LabelRow<&'static str>
-    ensures { labels.row_seen result ≡ labels.level_row name.now (labels.end_seen end.entry) }
+    ensures { labels.row_view result ≡ labels.level_row name.now (labels.end_view end.entry) }
 {
     LabelRow {
         name,
@@ -114,7 +114,7 @@ fn level_row(name: &'static str, end: ScopeEnd<&'static str>) -> LabelRow<&'stat
 // The row of a line scope that leaves the fonts as they were.
 #[inline(always)]
 fn guard_row(name: &'static str) -> LabelRow<&'static str>
-    ensures { labels.row_seen result ≡ labels.guard_row name.now }
+    ensures { labels.row_view result ≡ labels.guard_row name.now }
 {
     LabelRow {
         name,
@@ -128,7 +128,7 @@ fn guard_row(name: &'static str) -> LabelRow<&'static str>
 // The row of a scope that ends with a line.
 #[inline(always)]
 fn line_row(opener: LineOpener) -> LabelRow<&'static str>
-    ensures { labels.row_seen result ≡ labels.line_row opener }
+    ensures { labels.row_view result ≡ labels.line_row opener }
 {
     match opener {
         LineOpener::Head => plain_row("It", ScopeEnd::Line),
@@ -155,7 +155,7 @@ impl Label {
     /// What is known of the scope by its label alone.
     #[inline(always)]
     pub fn row(self) -> LabelRow<&'static str>
-        ensures { labels.row_seen result ≡ labels.label_row self }
+        ensures { labels.row_view result ≡ labels.label_row self }
     {
         match self {
             Label::Item => plain_row("It", ScopeEnd::Implied),

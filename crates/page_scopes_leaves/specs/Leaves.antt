@@ -8,7 +8,7 @@ use Rattle.page_core_base.specs.declared.places.Place.{Place}
 use Rattle.page_scopes_layout.specs.Begins.{font_begun}
 use Rattle.page_scopes_words.specs.Settings.{set_to}
 use Rattle.page_scopes_layout.specs.declared.contexts.Context.{Context}
-use Rattle.page_scopes_phrases.specs.LineWords.{own_word}
+use Rattle.page_scopes_phrases.specs.LineWords.{generated_word}
 use Rattle.page_scopes_phrases.specs.Outcomes.{Outcome, nothing, row_margin_items}
 use Rattle.page_scopes_leaves.specs.Requests.{given_rows, given_rows_notes, literal, request}
 use Rattle.page_scopes_phrases.specs.Runnings.{row_ended, with_content}
@@ -96,7 +96,7 @@ leaf_outcome place leaves.BlankLine name c r = blank_line place c r
 leaf_outcome place (leaves.Wordless text) name c r = wordless_line c.is_literal.value place text c r
 leaf_outcome place (leaves.Request row_request) name c r = request place row_request c r
 leaf_outcome place (leaves.Prologue macro rest) name c r = nothing c r
-leaf_outcome place (leaves.Own word) name c r = own_word place word c r
+leaf_outcome place (leaves.Generated word) name c r = generated_word place word c r
 leaf_outcome place (leaves.Example begins) name c r = literal begins c r
 leaf_outcome place (leaves.Distance rows) name c r = distance place rows c r
 leaf_outcome place (leaves.Fonts font) name c r = fonts font c r

@@ -4,4 +4,4 @@ pub mod RawLines
 pub mod Steps
 pub mod Leaves
 pub mod LineEnds
-pub mod Deeds
+pub mod EventKinds

@@ -13,7 +13,7 @@ use Rattle.page_scopes_layout.specs.declared.contexts.SeriesSoFar.{SeriesSoFar}
 use Rattle.page_scopes_layout.specs.declared.contexts.SeriesSoFar.TheVariants as series
 use Rattle.page_scopes_layout.specs.declared.contexts.PageSection.{PageSection}
 use Rattle.page_scopes_layout.specs.declared.contexts.PageSection.TheVariants.{Synopsis}
-use Rattle.page_scopes_phrases.specs.LineWords.{argument_word, line_word, own_word}
+use Rattle.page_scopes_phrases.specs.LineWords.{argument_word, line_word, generated_word}
 use Rattle.page_scopes_phrases.specs.ManualNames.{manual_name}
 use Rattle.page_scopes_phrases.specs.Headings.{is_heading}
 use Rattle.page_scopes_phrases.specs.Outcomes.{Outcome, followed_by, nothing, row_margin_items}
@@ -24,9 +24,9 @@ use Rattle.page_scopes_phrases.specs.declared.runnings.Running.{Running}
 use Rattle.page_scopes_words.specs.Words.{says}
 use Rattle.page_sets_names.specs.MacroNames.{body_paragraph_name}
 use Rattle.page_sets_lines.specs.declared.events.Join.TheVariants.{Apart, Glued}
-use Rattle.page_sets_names.specs.declared.own_texts.Own.TheVariants.{CloseParenthesis, Comma, Semicolon}
-use Rattle.page_sets_names.specs.declared.own_texts.Own.TheVariants as owns
-use Rattle.page_sets_lines.specs.declared.leaves.OwnWord.{OwnWord}
+use Rattle.page_sets_names.specs.declared.generated_texts.GeneratedText.TheVariants.{CloseParenthesis, Comma, Semicolon}
+use Rattle.page_sets_names.specs.declared.generated_texts.GeneratedText.TheVariants as owns
+use Rattle.page_sets_lines.specs.declared.leaves.GeneratedWord.{GeneratedWord}
 use Rattle.page_sets_lines.specs.declared.line_steps.LineStep.{LineStep}
 use Rattle.page_sets_lines.specs.declared.line_steps.LineStep.TheVariants as steps
 use Rattle.page_sets_lines.specs.declared.line_steps.SynopsisStep.{SynopsisStep}
@@ -48,19 +48,19 @@ body_paragraph place name c r =
     else record { items = says SkipPara place (body_paragraph_name name) ∷ []; context = c; running = r }
 
 -- a field of a reference (`%A` and so on): a comma parts it from the one before
-abbrev pub comma : OwnWord
-comma = record { own = Comma; font = None; before = Glued; after = Apart }
+abbrev pub comma : GeneratedWord
+comma = record { text = Comma; font = None; before = Glued; after = Apart }
 
 abbrev pub next_field : SeriesSoFar → Place → Context → Running → Outcome
 next_field series.Outside place c r = nothing c r
 next_field series.Empty place c r = record { items = []; context = record c { fields = series.Begun }; running = r }
-next_field series.Begun place c r = own_word place comma c r
+next_field series.Begun place c r = generated_word place comma c r
 
 -- so are the arguments of a function parted (`Fo`, `Fa`)
 abbrev pub next_argument : SeriesSoFar → Place → Context → Running → Outcome
 next_argument series.Outside place c r = nothing c r
 next_argument series.Empty place c r = record { items = []; context = record c { arguments = series.Begun }; running = r }
-next_argument series.Begun place c r = own_word place comma c r
+next_argument series.Begun place c r = generated_word place comma c r
 
 -- ---- the section SYNOPSIS
 
@@ -73,8 +73,8 @@ abbrev pub in_synopsis : Context → Bool
 in_synopsis c = is_synopsis c.section && not (is_heading c.part)
 
 -- `In`: this stands before its file
-abbrev pub include_word : OwnWord
-include_word = record { own = owns.Include; font = None; before = Apart; after = Apart }
+abbrev pub include_word : GeneratedWord
+include_word = record { text = owns.Include; font = None; before = Apart; after = Apart }
 
 -- `Nm`: the columns of its words are counted from here on, and later rows stand as many further in
 abbrev pub counting : Option ℕ → Running → Running
@@ -90,7 +90,7 @@ name_hung (Some columns) c r = record {
 
 abbrev pub synopsis_step : Place → SynopsisStep → Context → Running → Outcome
 synopsis_step place Break c r = record { items = shown pieces.Break ∷ []; context = c; running = row_ended r }
-synopsis_step place Include c r = own_word place include_word c r
+synopsis_step place Include c r = generated_word place include_word c r
 synopsis_step place NameBegins c r = record {
   items = row_margin_items (name_begun c);
   context = name_begun c;
@@ -102,20 +102,20 @@ abbrev pub if_synopsis : Place → SynopsisStep → Context → Running → Outc
 if_synopsis place step c r = if in_synopsis c then synopsis_step place step c r else nothing c r
 
 -- the end of a function (`Fn`, `Fo`): in the SYNOPSIS a semicolon follows, and the row ends
-abbrev pub closing_mark : OwnWord
-closing_mark = record { own = CloseParenthesis; font = None; before = Glued; after = Apart }
+abbrev pub closing_mark : GeneratedWord
+closing_mark = record { text = CloseParenthesis; font = None; before = Glued; after = Apart }
 
-abbrev pub semicolon : OwnWord
-semicolon = record { own = Semicolon; font = None; before = Glued; after = Apart }
+abbrev pub semicolon : GeneratedWord
+semicolon = record { text = Semicolon; font = None; before = Glued; after = Apart }
 
 abbrev pub row_break : Context → Running → Outcome
 row_break c r = record { items = shown pieces.Break ∷ []; context = c; running = row_ended r }
 
 abbrev pub declaration_end : Place → Context → Running → Outcome
-declaration_end place c r = if in_synopsis c then followed_by (own_word place semicolon c r) row_break else nothing c r
+declaration_end place c r = if in_synopsis c then followed_by (generated_word place semicolon c r) row_break else nothing c r
 
 unfoldable pub function_end : Place → Context → Running → Outcome
-function_end place c r = followed_by (own_word place closing_mark c r) (declaration_end place)
+function_end place c r = followed_by (generated_word place closing_mark c r) (declaration_end place)
 
 -- ---- `Sm`
 

@@ -5,14 +5,14 @@ ghost use Rattle.page_core_base.specs.Latches.{Came};
 ghost use Rattle.page_sets_lines.specs.Fits.{LeafFits};
 ghost use Rattle.page_scopes_leaves.specs.Leaves as leaves;
 ghost use Rattle.page_scopes_phrases.specs.Outcomes.{GivesOutcome};
-ghost use Rattle.page_sets_lines.specs.Events.{leaf_seen, text_seen};
+ghost use Rattle.page_sets_lines.specs.Events.{leaf_view, text_view};
 
 use crate::margins::give_row_margins;
 use crate::requests::{give_given_rows, give_literal, give_request};
 use crate::steps::give_step;
 use page_core_base::{Font, NoteKind, Piece, PieceOut, Place};
 use page_scopes_layout::Context;
-use page_scopes_phrases::{KeptText, Running, give_own_word};
+use page_scopes_phrases::{KeptText, Running, give_generated_word};
 use page_scopes_words::{Setting, give_white_cells, report};
 use page_sets_lines::Leaf;
 
@@ -56,8 +56,8 @@ fn give_wordless_line<O: PieceOut>(
 
 // Sets the distance of paragraphs: `PD`.
 fn give_distance<O: PieceOut>(out: &mut O, place: Place, rows: Option<&[u8]>, context: &mut Context)
-    ensures came { Came O.left out.old (leaves.distance_notes place (text_seen rows.entry)) out.new }
-    ensures context { context.new ≡ leaves.with_distance (text_seen rows.entry) context.old }
+    ensures came { Came O.left out.old (leaves.distance_notes place (text_view rows.entry)) out.new }
+    ensures context { context.new ≡ leaves.with_distance (text_view rows.entry) context.old }
 {
     let rows = give_given_rows(out, place, rows);
     context.distance = Setting::set_to(rows);
@@ -103,9 +103,9 @@ pub fn give_leaf<O: PieceOut>(
     context: &mut Context,
     running: &mut Running,
 )
-    requires { LeafFits (leaf_seen leaf.now) }
+    requires { LeafFits (leaf_view leaf.now) }
     ensures { GivesOutcome O.left out.old
-        (leaves.leaf_outcome place (leaf_seen leaf.now) name.now context.old running.old)
+        (leaves.leaf_outcome place (leaf_view leaf.now) name.now context.old running.old)
         out.new context.new running.new }
 {
     match *leaf {
@@ -113,7 +113,7 @@ pub fn give_leaf<O: PieceOut>(
         Leaf::Wordless(text) => give_wordless_line(out, place, text, context, running),
         Leaf::Request(request) => give_request(out, place, &request, context, running),
         Leaf::Prologue(..) => {}
-        Leaf::Own(word) => give_own_word(out, place, word, context, running),
+        Leaf::Generated(word) => give_generated_word(out, place, word, context, running),
         Leaf::Example(begins) => give_literal(out, begins, context, running),
         Leaf::Distance(rows) => give_distance(out, place, rows, context),
         Leaf::Fonts(font) => set_fonts(font, context, running),

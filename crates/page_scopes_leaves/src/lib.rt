@@ -3,11 +3,11 @@
 //! Leaves of events, raw lines, requests, tags and the ends of lines come in, in the context of the open scopes; each gives an outcome, and
 //! words go to `page_scopes_phrases`. Read `specs/Leaves.antt` first (a row for each leaf), then `Steps.antt` (of mdoc(7)).
 //!
-//! Proved: `give_deed`, `give_leaf`, `give_raw_line`, `give_tag`, `end_line`: what each blank line, request, raw line and tag gives, with the context
-//! and what is known after it (`specs/Leaves.antt`, `Requests.antt`, `RawLines.antt`, `Tags.antt`, `Deeds.antt`).
+//! Proved: `give_kind`, `give_leaf`, `give_raw_line`, `give_tag`, `end_line`: what each blank line, request, raw line and tag gives, with the context
+//! and what is known after it (`specs/Leaves.antt`, `Requests.antt`, `RawLines.antt`, `Tags.antt`, `EventKinds.antt`).
 #![tactic(auto)]
 
-mod deeds;
+mod event_kinds;
 mod leaves;
 mod line_ends;
 mod margins;
@@ -16,7 +16,7 @@ mod requests;
 mod steps;
 mod tags;
 
-pub use deeds::give_deed;
+pub use event_kinds::give_kind;
 pub use leaves::give_leaf;
 pub use line_ends::end_line;
 pub use raw_lines::give_raw_line;

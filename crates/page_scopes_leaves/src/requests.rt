@@ -2,13 +2,13 @@
 
 ghost use Rattle.std.specs.Prelude.{◌≡◌, Some};
 ghost use Rattle.page_core_base.specs.Latches.{Came};
-ghost use Rattle.page_core_escapes.specs.Escapes.{face_seen};
-ghost use Rattle.page_roff_forms.specs.Arguments.{argument_seen};
+ghost use Rattle.page_core_escapes.specs.Escapes.{face_view};
+ghost use Rattle.page_roff_forms.specs.Arguments.{argument_view};
 ghost use Rattle.page_scopes_phrases.specs.Outcomes.{GivesOutcome};
 ghost use Rattle.page_scopes_leaves.specs.Requests as requests;
 ghost use Rattle.page_scopes_phrases.specs.Runnings.{row_ended, with_content};
 ghost use Rattle.page_scopes_text.specs.Numbers.{columns_notes};
-ghost use Rattle.page_sets_lines.specs.Events.{given_seen, request_seen, text_seen};
+ghost use Rattle.page_sets_lines.specs.Events.{given_view, request_view, text_view};
 
 use crate::margins::give_row_margins;
 use page_core_base::{Piece, PieceOut, Place};
@@ -22,8 +22,8 @@ use page_sets_lines::Request;
 
 /// The rows that are given, one where they are not, with the messages of their number.
 pub(crate) fn give_given_rows<O: PieceOut>(out: &mut O, place: Place, rows: Option<&[u8]>) -> u32
-    ensures value { result ≡ requests.given_rows (text_seen rows.entry) }
-    ensures came { Came O.left out.old (requests.given_rows_notes place (text_seen rows.entry)) out.new }
+    ensures value { result ≡ requests.given_rows (text_view rows.entry) }
+    ensures came { Came O.left out.old (requests.given_rows_notes place (text_view rows.entry)) out.new }
 {
     match rows {
         None => 1,
@@ -33,7 +33,7 @@ pub(crate) fn give_given_rows<O: PieceOut>(out: &mut O, place: Place, rows: Opti
 
 // Gives blank rows: `sp`.
 fn give_space<O: PieceOut>(out: &mut O, place: Place, rows: Option<&[u8]>, running: &mut Running)
-    ensures came { Came O.left out.old (requests.space_items place (text_seen rows.entry)) out.new }
+    ensures came { Came O.left out.old (requests.space_items place (text_view rows.entry)) out.new }
     ensures running { running.new ≡ row_ended (with_content running.old) }
 {
     let rows = give_given_rows(out, place, rows);
@@ -72,8 +72,8 @@ fn give_given_shift<O: PieceOut>(
     columns: Option<&[u8]>,
     shift: i32,
 ) -> i32
-    ensures value { result ≡ requests.given_shift (text_seen columns.entry) shift }
-    ensures came { Came O.left out.old (requests.given_shift_notes place (text_seen columns.entry)) out.new }
+    ensures value { result ≡ requests.given_shift (text_view columns.entry) shift }
+    ensures came { Came O.left out.old (requests.given_shift_notes place (text_view columns.entry)) out.new }
 {
     match columns {
         None => 0,
@@ -83,8 +83,8 @@ fn give_given_shift<O: PieceOut>(
 
 // Sets the shift of margins, with the messages of its number.
 fn set_shift<O: PieceOut>(out: &mut O, place: Place, columns: Option<&[u8]>, context: &mut Context)
-    ensures came { Came O.left out.old (requests.given_shift_notes place (text_seen columns.entry)) out.new }
-    ensures context { context.new ≡ requests.shifted (text_seen columns.entry) context.old }
+    ensures came { Came O.left out.old (requests.given_shift_notes place (text_view columns.entry)) out.new }
+    ensures context { context.new ≡ requests.shifted (text_view columns.entry) context.old }
 {
     let shift = give_given_shift(out, place, columns, context.shift.value);
     context.shift = Setting::set_to(shift);
@@ -99,8 +99,8 @@ fn give_shift<O: PieceOut>(
     running: &mut Running,
 )
     ensures came { Came O.left out.old
-        (requests.shift_items place (text_seen columns.entry) context.old) out.new }
-    ensures context { context.new ≡ requests.shifted (text_seen columns.entry) context.old }
+        (requests.shift_items place (text_view columns.entry) context.old) out.new }
+    ensures context { context.new ≡ requests.shifted (text_view columns.entry) context.old }
     ensures running { running.new ≡ row_ended running.old }
 {
     set_shift(out, place, columns, context);
@@ -110,7 +110,7 @@ fn give_shift<O: PieceOut>(
 
 // The fonts after one is asked for by its name.
 fn fonts_named(name: FontName<'_>, fonts: Setting<Fonts>) -> Setting<Fonts>
-    ensures { result ≡ requests.fonts_named (face_seen name.entry) fonts }
+    ensures { result ≡ requests.fonts_named (face_view name.entry) fonts }
 {
     Setting {
         value: fonts.value.named(name),
@@ -126,9 +126,9 @@ fn give_named_font<O: PieceOut>(
     context: &mut Context,
 )
     ensures came { Came O.left out.old
-        (requests.font_notes place (Some (argument_seen name.entry))) out.new }
+        (requests.font_notes place (Some (argument_view name.entry))) out.new }
     ensures context { context.new
-        ≡ requests.with_font_named (Some (argument_seen name.entry)) context.old }
+        ≡ requests.with_font_named (Some (argument_view name.entry)) context.old }
 {
     let font = read_font(name.text);
     report_font(out, name.is_quoted(), place, font);
@@ -142,8 +142,8 @@ fn give_font<O: PieceOut>(
     name: Option<Argument<&[u8]>>,
     context: &mut Context,
 )
-    ensures came { Came O.left out.old (requests.font_notes place (given_seen name.entry)) out.new }
-    ensures context { context.new ≡ requests.with_font_named (given_seen name.entry) context.old }
+    ensures came { Came O.left out.old (requests.font_notes place (given_view name.entry)) out.new }
+    ensures context { context.new ≡ requests.with_font_named (given_view name.entry) context.old }
 {
     match name {
         None => context.fonts = fonts_named(FontName::Former, context.fonts),
@@ -177,7 +177,7 @@ pub(crate) fn give_request<O: PieceOut>(
     running: &mut Running,
 )
     ensures { GivesOutcome O.left out.old
-        (requests.request place (request_seen request.now) context.old running.old)
+        (requests.request place (request_view request.now) context.old running.old)
         out.new context.new running.new }
 {
     match *request {

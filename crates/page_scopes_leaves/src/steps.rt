@@ -4,17 +4,17 @@ ghost use Rattle.std.specs.Prelude.{◌≡◌};
 ghost use Rattle.page_sets_lines.specs.Fits.{StepFits};
 ghost use Rattle.page_scopes_phrases.specs.Outcomes.{GivesOutcome};
 ghost use Rattle.page_scopes_leaves.specs.Steps as steps;
-ghost use Rattle.page_sets_lines.specs.Events.{step_seen};
+ghost use Rattle.page_sets_lines.specs.Events.{step_view};
 
 use crate::margins::give_row_margins;
 use page_core_base::{NoteKind, Piece, PieceOut, Place};
 use page_scopes_layout::{Context, PageSection, SeriesSoFar, give_margins};
 use page_scopes_phrases::{
     KeptText, Running, argument_word, blanks_part, give_column_step, give_line_word,
-    give_manual_name, give_own_word, is_heading, joined_gap,
+    give_manual_name, give_generated_word, is_heading, joined_gap,
 };
 use page_scopes_words::{Setting, report};
-use page_sets_lines::{BodyParagraphName, Join, LineStep, Own, OwnWord, SynopsisStep};
+use page_sets_lines::{BodyParagraphName, Join, LineStep, GeneratedText, GeneratedWord, SynopsisStep};
 
 // The next word is glued to the one before: `Ns`.
 fn glue(context: &Context, running: &mut Running)
@@ -47,11 +47,11 @@ fn give_body_paragraph<O: PieceOut>(
 }
 
 // The comma between two fields of a reference.
-fn comma() -> OwnWord
+fn comma() -> GeneratedWord
     ensures { result ≡ steps.comma }
 {
-    OwnWord {
-        own: Own::Comma,
+    GeneratedWord {
+        text: GeneratedText::Comma,
         font: None,
         before: Join::Glued,
         after: Join::Apart,
@@ -72,7 +72,7 @@ fn give_next_field<O: PieceOut>(
     match context.fields {
         SeriesSoFar::Outside => {}
         SeriesSoFar::Empty => context.fields = SeriesSoFar::Begun,
-        SeriesSoFar::Begun => give_own_word(out, place, comma(), context, running),
+        SeriesSoFar::Begun => give_generated_word(out, place, comma(), context, running),
     }
 }
 
@@ -90,7 +90,7 @@ fn give_next_argument<O: PieceOut>(
     match context.arguments {
         SeriesSoFar::Outside => {}
         SeriesSoFar::Empty => context.arguments = SeriesSoFar::Begun,
-        SeriesSoFar::Begun => give_own_word(out, place, comma(), context, running),
+        SeriesSoFar::Begun => give_generated_word(out, place, comma(), context, running),
     }
 }
 
@@ -102,11 +102,11 @@ fn in_synopsis(context: &Context) -> bool
 }
 
 // What stands before the file of `In`.
-fn include_word() -> OwnWord
+fn include_word() -> GeneratedWord
     ensures { result ≡ steps.include_word }
 {
-    OwnWord {
-        own: Own::Include,
+    GeneratedWord {
+        text: GeneratedText::Include,
         font: None,
         before: Join::Apart,
         after: Join::Apart,
@@ -143,7 +143,7 @@ fn give_synopsis_step<O: PieceOut>(
             out.give(Piece::Break);
             running.end_row();
         }
-        SynopsisStep::Include => give_own_word(out, place, include_word(), context, running),
+        SynopsisStep::Include => give_generated_word(out, place, include_word(), context, running),
         SynopsisStep::NameBegins => {
             *context = context.name_begun();
             give_row_margins(out, context);
@@ -172,11 +172,11 @@ fn give_if_synopsis<O: PieceOut>(
 }
 
 // What closes the arguments of a function.
-fn closing_mark() -> OwnWord
+fn closing_mark() -> GeneratedWord
     ensures { result ≡ steps.closing_mark }
 {
-    OwnWord {
-        own: Own::CloseParenthesis,
+    GeneratedWord {
+        text: GeneratedText::CloseParenthesis,
         font: None,
         before: Join::Glued,
         after: Join::Apart,
@@ -184,11 +184,11 @@ fn closing_mark() -> OwnWord
 }
 
 // What ends a declaration of one.
-fn semicolon() -> OwnWord
+fn semicolon() -> GeneratedWord
     ensures { result ≡ steps.semicolon }
 {
-    OwnWord {
-        own: Own::Semicolon,
+    GeneratedWord {
+        text: GeneratedText::Semicolon,
         font: None,
         before: Join::Glued,
         after: Join::Apart,
@@ -216,7 +216,7 @@ fn give_declaration_end<O: PieceOut>(
         out.new context.new running.new }
 {
     if in_synopsis(context) {
-        give_own_word(out, place, semicolon(), context, running);
+        give_generated_word(out, place, semicolon(), context, running);
         give_row_break(out, context, running);
     }
 }
@@ -233,7 +233,7 @@ pub fn give_function_end<O: PieceOut>(
         (steps.function_end place context.old running.old)
         out.new context.new running.new }
 {
-    give_own_word(out, place, closing_mark(), context, running);
+    give_generated_word(out, place, closing_mark(), context, running);
     give_declaration_end(out, place, context, running);
 }
 
@@ -258,9 +258,9 @@ pub(crate) fn give_step<O: PieceOut>(
     context: &mut Context,
     running: &mut Running,
 )
-    requires { StepFits (step_seen step.now) }
+    requires { StepFits (step_view step.now) }
     ensures { GivesOutcome O.left out.old
-        (steps.step_outcome place (step_seen step.now) name.now context.old running.old)
+        (steps.step_outcome place (step_view step.now) name.now context.old running.old)
         out.new context.new running.new }
 {
     match *step {

@@ -4,9 +4,9 @@ ghost use Rattle.std.specs.Prelude.{◌≡◌};
 ghost use Rattle.page_core_base.specs.Latches.{Came};
 ghost use Rattle.page_sets_lines.specs.Fits.{ArgumentFits, FitsAt};
 ghost use Rattle.page_scopes_phrases.specs.Outcomes.{GivesOutcome};
-ghost use Rattle.page_scopes_phrases.specs.Phrases.{phrase_seen};
+ghost use Rattle.page_scopes_phrases.specs.Phrases.{phrase_view};
 ghost use Rattle.page_scopes_leaves.specs.Tags as tags;
-ghost use Rattle.page_sets_lines.specs.Events.{word_seen};
+ghost use Rattle.page_sets_lines.specs.Events.{word_view};
 
 use page_core_base::{Piece, PieceOut, TagForm};
 use page_scopes_layout::{Context, PagePart, give_margins};
@@ -89,7 +89,7 @@ fn give_tag_phrase<O: PieceOut>(
 )
     requires { FitsAt phrase.now.column phrase.now.text.now }
     ensures { GivesOutcome O.left out.old
-        (tags.tag_phrase line (phrase_seen phrase.now) before.now context.old running.old)
+        (tags.tag_phrase line (phrase_view phrase.now) before.now context.old running.old)
         out.new context.new running.new }
 {
     give_phrase(out, line, phrase, context, running);
@@ -108,7 +108,7 @@ pub fn give_phrase_tag<O: PieceOut>(
 )
     requires { FitsAt phrase.now.column phrase.now.text.now }
     ensures { GivesOutcome O.left out.old
-        (tags.phrase_tag tag line (phrase_seen phrase.now) context.old running.old)
+        (tags.phrase_tag tag line (phrase_view phrase.now) context.old running.old)
         out.new context.new running.new }
 {
     let before = *context;
@@ -125,9 +125,9 @@ fn give_tag_words<O: PieceOut>(
     context: &mut Context,
     running: &mut Running,
 )
-    requires { ArgumentFits (word_seen word.now).arg }
+    requires { ArgumentFits (word_view word.now).arg }
     ensures { GivesOutcome O.left out.old
-        (tags.tag_words line (word_seen word.now) before.now context.old running.old)
+        (tags.tag_words line (word_view word.now) before.now context.old running.old)
         out.new context.new running.new }
 {
     give_line_word(out, line, word, context, running);
@@ -144,9 +144,9 @@ pub fn give_tag<O: PieceOut>(
     context: &mut Context,
     running: &mut Running,
 )
-    requires { ArgumentFits (word_seen word.now).arg }
+    requires { ArgumentFits (word_view word.now).arg }
     ensures { GivesOutcome O.left out.old
-        (tags.tag tag line (word_seen word.now) context.old running.old)
+        (tags.tag tag line (word_view word.now) context.old running.old)
         out.new context.new running.new }
 {
     let before = *context;

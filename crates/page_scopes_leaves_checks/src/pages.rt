@@ -3,10 +3,10 @@
 use page_core_base::{Form, Taken};
 use page_roff_forms::{LineForm, form_of};
 use page_scopes_layout::Context;
-use page_scopes_leaves::give_deed;
+use page_scopes_leaves::give_kind;
 use page_scopes_phrases::Running;
 use page_scopes_shown::Shown;
-use page_sets::{Deed, Event, Leaf, Man};
+use page_sets::{EventKind, Event, Leaf, Man};
 use page_sets_checks::events_of;
 use std::alloc::Global;
 use std::process::Abort;
@@ -33,24 +33,24 @@ impl Page {
     /// Gives what an event gives.
     pub fn give_event(&mut self, out: &mut Shown, event: &Event<&[u8]>) {
         let mut name = None;
-        match event.deed {
-            Deed::Word(word) => {
+        match event.kind {
+            EventKind::Word(word) => {
                 if word.arg.text.len() <= MOST && word.arg.column <= MOST as u32 {
-                    give_deed(
+                    give_kind(
                         out,
                         event.place,
-                        &Deed::Word(word),
+                        &EventKind::Word(word),
                         &mut name,
                         &mut self.context,
                         &mut self.running,
                     );
                 }
             }
-            Deed::Open(_) | Deed::Close(_) | Deed::Leaf(Leaf::Step(_)) => {}
-            _ => give_deed(
+            EventKind::Open(_) | EventKind::Close(_) | EventKind::Leaf(Leaf::Step(_)) => {}
+            _ => give_kind(
                 out,
                 event.place,
-                &event.deed,
+                &event.kind,
                 &mut name,
                 &mut self.context,
                 &mut self.running,

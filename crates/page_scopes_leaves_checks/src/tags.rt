@@ -2,22 +2,22 @@
 
 ghost use Rattle.std.specs.Prelude.{◌≤◌, length};
 ghost use Rattle.page_sets_lines.specs.Fits.{ArgumentFits};
-ghost use Rattle.page_sets_lines.specs.Events.{word_seen};
+ghost use Rattle.page_sets_lines.specs.Events.{word_view};
 
 use crate::pages::{MOST, Page, check_shown};
 use page_core_base::{Font, Place};
 use page_roff_forms::{Argument, Quoting};
 use page_scopes_leaves::{TagPlace, end_line, give_leaf, give_raw_line, give_tag};
-use page_scopes_phrases::{give_line_word, give_own_word};
+use page_scopes_phrases::{give_line_word, give_generated_word};
 use page_scopes_shown::Shown;
-use page_sets::{Join, Leaf, Own, OwnWord, Role, Word};
+use page_sets::{Join, Leaf, GeneratedText, GeneratedWord, Role, Word};
 use std::alloc::Global;
 use std::process::Abort;
 
 // An argument in column 5.
 fn argument(text: &str, font: Option<Font>) -> Word<&[u8]>
     requires { length text.now ≤ MOST }
-    ensures { ArgumentFits (word_seen result).arg }
+    ensures { ArgumentFits (word_view result).arg }
 {
     Word {
         arg: Argument {
@@ -91,16 +91,16 @@ fn marked(alloc: Global) -> Shown {
         line: 1,
         column: u32::MAX,
     };
-    let mark = OwnWord {
-        own: Own::CloseBracket,
+    let mark = GeneratedWord {
+        own: GeneratedText::CloseBracket,
         font: None,
         before: Join::Glued,
         after: Join::Apart,
     };
     give_line_word(&mut out, 1, &argument("a.", None), context, running);
-    give_own_word(&mut out, place, mark, context, running);
+    give_generated_word(&mut out, place, mark, context, running);
     end_line(&mut out, context, running);
-    give_leaf(&mut out, place, &Leaf::Own(mark), &None, context, running);
+    give_leaf(&mut out, place, &Leaf::Generated(mark), &None, context, running);
     give_raw_line(&mut out, place, b"b", context, running);
     out.add_number(running.gap);
     out

@@ -3,7 +3,7 @@
 ghost use Rattle.std.specs.Prelude.{◌≡◌, ◌≤◌, ◌++◌, length, codes, decimal};
 ghost use Rattle.page_sets_lines.specs.Fits.{FitsAt};
 ghost use Rattle.page_scopes_phrases.specs.Outcomes.{GivesOutcome};
-ghost use Rattle.page_scopes_phrases.specs.Phrases.{phrase_seen};
+ghost use Rattle.page_scopes_phrases.specs.Phrases.{phrase_view};
 ghost use Rattle.page_scopes_lists.specs.Items as items;
 
 use arrayvec::ArrayVec;
@@ -33,7 +33,7 @@ fn number_text(number: u32) -> NumberText
 // A mark at its macro.
 fn mark_phrase<'a>(place: Place, mark: &'a [u8]) -> Phrase<&'a [u8]>
     requires { length mark.now ≤ 48 }
-    ensures seen { phrase_seen result ≡ items.mark_phrase place mark.now }
+    ensures seen { phrase_view result ≡ items.mark_phrase place mark.now }
     ensures fits { FitsAt result.column result.text.now }
 {
     Phrase {

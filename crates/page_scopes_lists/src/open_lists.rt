@@ -6,7 +6,7 @@ ghost use Rattle.page_scopes_layout.specs.Lists.{list_begun};
 ghost use Rattle.page_scopes_phrases.specs.Outcomes.{GivesOutcome};
 ghost use Rattle.page_scopes_lists.specs.ListWidths.{LengthFits};
 ghost use Rattle.page_scopes_lists.specs.OpenLists as lists;
-ghost use Rattle.page_sets_lines.specs.Lists.{options_seen};
+ghost use Rattle.page_sets_lines.specs.Lists.{options_view};
 
 use crate::widths::{give_columns, give_given, hang_of};
 use page_core_base::{Output, Piece, PieceOut, Place};
@@ -51,10 +51,10 @@ fn give_said<O: PieceOut>(
     options: &ListOptions<&[u8]>,
 ) -> SaidList
     requires text { length text.now ≤ LINE }
-    requires width { LengthFits (options_seen options.now).width }
-    requires offset { LengthFits (options_seen options.now).offset }
-    ensures value { result ≡ lists.said_list output kind is_compact text.now (options_seen options.now) }
-    ensures came { Came O.left out.old (lists.list_notes output place kind text.now (options_seen options.now)) out.new }
+    requires width { LengthFits (options_view options.now).width }
+    requires offset { LengthFits (options_view options.now).offset }
+    ensures value { result ≡ lists.said_list output kind is_compact text.now (options_view options.now) }
+    ensures came { Came O.left out.old (lists.list_notes output place kind text.now (options_view options.now)) out.new }
 {
     let width = give_given(out, output, place, options.width);
     let offset = give_given(out, output, place, options.offset);

@@ -2,10 +2,10 @@
 
 ghost use Rattle.std.specs.Prelude.{◌≡◌, ◌≤◌, length};
 ghost use Rattle.page_core_base.specs.Latches.{Came};
-ghost use Rattle.page_roff_forms.specs.Arguments.{argument_seen};
+ghost use Rattle.page_roff_forms.specs.Arguments.{argument_view};
 ghost use Rattle.page_scopes_lists.specs.ListWidths as widths;
 ghost use Rattle.page_scopes_lists.specs.ListWidths.{LengthFits};
-ghost use Rattle.page_sets_lines.specs.Events.{given_seen};
+ghost use Rattle.page_sets_lines.specs.Events.{given_view};
 
 use page_core_base::{NoteKind, Output, PieceOut, Place};
 use page_core_limits::{LINE, Limit};
@@ -79,9 +79,9 @@ pub(crate) fn give_given<O: PieceOut>(
     place: Place,
     given: Option<Argument<&[u8]>>,
 ) -> Option<i32>
-    requires { LengthFits (given_seen given) }
-    ensures columns { result ≡ widths.given_columns output (given_seen given.entry) }
-    ensures came { Came O.left out.old (widths.given_notes place (given_seen given.entry)) out.new }
+    requires { LengthFits (given_view given) }
+    ensures columns { result ≡ widths.given_columns output (given_view given.entry) }
+    ensures came { Came O.left out.old (widths.given_notes place (given_view given.entry)) out.new }
 {
     match given {
         Some(width) => Some(give_width(out, output, place, width)),
@@ -92,7 +92,7 @@ pub(crate) fn give_given<O: PieceOut>(
 // The width of a column: that of its text.
 fn column_width(output: Output, word: Argument<&[u8]>) -> u32
     requires { length word.text.now ≤ LINE }
-    ensures { result ≡ widths.column_width output (argument_seen word.entry) }
+    ensures { result ≡ widths.column_width output (argument_view word.entry) }
 {
     hold(i64::from(name_columns(output, word.is_quoted(), word.text)))
 }
@@ -111,7 +111,7 @@ impl GivenWidths {
     // One more is given.
     fn add(&mut self, output: Output, word: Argument<&[u8]>)
         requires { length word.text.now ≤ LINE }
-        ensures { self.new ≡ widths.one_more output self.old (argument_seen word.entry) }
+        ensures { self.new ≡ widths.one_more output self.old (argument_view word.entry) }
     {
         if self.widths.has_room() {
             self.widths.add(column_width(output, word));

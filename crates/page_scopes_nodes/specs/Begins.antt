@@ -14,8 +14,8 @@ use Rattle.page_scopes_phrases.specs.Outcomes.{Outcome, followed_by, nothing}
 use Rattle.page_scopes_phrases.specs.Runnings.{row_ended}
 use Rattle.page_scopes_phrases.specs.declared.kept_texts.KeptText.{KeptText}
 use Rattle.page_scopes_phrases.specs.declared.runnings.Running.{Running}
-use Rattle.page_sets_lines.specs.declared.events.Deed.{Deed}
-use Rattle.page_sets_lines.specs.declared.events.Deed.TheVariants as deeds
+use Rattle.page_sets_lines.specs.declared.events.EventKind.{EventKind}
+use Rattle.page_sets_lines.specs.declared.events.EventKind.TheVariants as kinds
 use Rattle.page_sets_lines.specs.declared.events.Event.{Event}
 use Rattle.page_sets_names.specs.declared.macro_names.FontMacro.{FontMacro}
 use Rattle.page_sets_names.specs.declared.macro_names.FontMacro.TheVariants as fonts
@@ -74,13 +74,13 @@ line_opened place opener c r = followed_by (line_front opener c r) (line_words p
 
 -- ---- an event that opens a scope
 
-abbrev pub deed_begun : PageLayout → Event (List ℕ) → Deed (List ℕ) → Context → Running → Outcome
-deed_begun page event (deeds.Open opener) c r = opened page event.place opener c r
-deed_begun page event (deeds.LineScope opener) c r = line_opened event.place opener c r
-deed_begun page event _ c r = nothing c r
+abbrev pub kind_begun : PageLayout → Event (List ℕ) → EventKind (List ℕ) → Context → Running → Outcome
+kind_begun page event (kinds.Open opener) c r = opened page event.place opener c r
+kind_begun page event (kinds.LineScope opener) c r = line_opened event.place opener c r
+kind_begun page event _ c r = nothing c r
 
 unfoldable pub begun_by : PageLayout → Event (List ℕ) → Context → Running → Outcome
-begun_by page event c r = deed_begun page event event.deed c r
+begun_by page event c r = kind_begun page event event.kind c r
 
 -- ---- what a link keeps
 
@@ -88,6 +88,6 @@ abbrev pub opener_target : Opener (List ℕ) → Option KeptText
 opener_target (openers.Target link target) = Some (kept_of target)
 opener_target _ = None
 
-abbrev pub kept_target : Deed (List ℕ) → Option KeptText
-kept_target (deeds.Open opener) = opener_target opener
+abbrev pub kept_target : EventKind (List ℕ) → Option KeptText
+kept_target (kinds.Open opener) = opener_target opener
 kept_target _ = None

@@ -2,10 +2,10 @@
 
 ghost use Rattle.std.specs.Prelude.{◌≡◌};
 ghost use Rattle.page_scopes_layout.specs.Begins.{entered_context};
-ghost use Rattle.page_sets_lines.specs.Fits.{DeedFits};
+ghost use Rattle.page_sets_lines.specs.Fits.{KindFits};
 ghost use Rattle.page_scopes_phrases.specs.Outcomes.{GivesOutcome};
 ghost use Rattle.page_scopes_nodes.specs.Begins as begins;
-ghost use Rattle.page_sets_lines.specs.Events.{deed_seen, event_seen};
+ghost use Rattle.page_sets_lines.specs.Events.{kind_view, event_view};
 
 use crate::PageLayout;
 use crate::openers::give_opened;
@@ -14,7 +14,7 @@ use page_scopes_blocks::give_line_words;
 use page_scopes_labels::Label;
 use page_scopes_layout::{Context, give_begin};
 use page_scopes_phrases::{HeadingSoFar, Running};
-use page_sets_lines::{Deed, Event, FontMacro, HeadingName, LineOpener};
+use page_sets_lines::{EventKind, Event, FontMacro, HeadingName, LineOpener};
 
 // The column of the heading of `SH`, `SS`, `Sh` or `Ss`.
 fn heading_column(name: HeadingName) -> u32
@@ -98,14 +98,14 @@ pub fn give_begun<O: PieceOut>(
     context: &mut Context,
     running: &mut Running,
 )
-    requires { DeedFits (deed_seen event.now.deed) }
+    requires { KindFits (kind_view event.now.kind) }
     ensures { GivesOutcome O.left out.old
-        (begins.begun_by page.now (event_seen event.now) context.old running.old)
+        (begins.begun_by page.now (event_view event.now) context.old running.old)
         out.new context.new running.new }
 {
-    match &event.deed {
-        Deed::Open(opener) => give_opened(out, page, event.place, opener, context, running),
-        Deed::LineScope(opener) => {
+    match &event.kind {
+        EventKind::Open(opener) => give_opened(out, page, event.place, opener, context, running),
+        EventKind::LineScope(opener) => {
             give_line_opened(out, event.place, *opener, context, running);
         }
         _ => {}

@@ -2,11 +2,11 @@
 
 ghost use Rattle.std.specs.Prelude.{◌≡◌};
 ghost use Rattle.page_core_base.specs.Latches.{Came};
-ghost use Rattle.page_roff_forms.specs.Arguments.{argument_seen};
+ghost use Rattle.page_roff_forms.specs.Arguments.{argument_view};
 ghost use Rattle.page_sets_lines.specs.Fits.{ArgumentFits, BlockOpenerFits, GivenFits, OpenerFits};
 ghost use Rattle.page_scopes_phrases.specs.Outcomes.{GivesOutcome};
 ghost use Rattle.page_scopes_nodes.specs.Openers as openers;
-ghost use Rattle.page_sets_lines.specs.Events.{block_opener_seen, given_seen, opener_seen, text_seen};
+ghost use Rattle.page_sets_lines.specs.Events.{block_opener_view, given_view, opener_view, text_view};
 
 use crate::PageLayout;
 use crate::targets::report_target;
@@ -25,8 +25,8 @@ use page_sets_lines::{BlockOpener, Join, Opener, ParagraphName};
 
 // The columns of a number that may be given, with its messages.
 fn give_given<O: PieceOut>(out: &mut O, place: Place, number: Option<&[u8]>) -> Option<i32>
-    ensures came { Came O.left out.old (openers.given_notes place (text_seen number.entry)) out.new }
-    ensures columns { result ≡ openers.given_columns (text_seen number.entry) }
+    ensures came { Came O.left out.old (openers.given_notes place (text_view number.entry)) out.new }
+    ensures columns { result ≡ openers.given_columns (text_view number.entry) }
 {
     match number {
         None => None,
@@ -112,7 +112,7 @@ fn begin_indented<O: PieceOut>(
     running: &mut Running,
 )
     ensures { GivesOutcome O.left out.old
-        (openers.indented place (text_seen hang.entry) context.old running.old)
+        (openers.indented place (text_view hang.entry) context.old running.old)
         out.new context.new running.new }
 {
     let columns = give_given(out, place, hang);
@@ -128,9 +128,9 @@ fn give_given_tag<O: PieceOut>(
     context: &mut Context,
     running: &mut Running,
 )
-    requires { GivenFits (given_seen tag) }
+    requires { GivenFits (given_view tag) }
     ensures { GivesOutcome O.left out.old
-        (openers.given_tag line (given_seen tag.entry) context.old running.old)
+        (openers.given_tag line (given_view tag.entry) context.old running.old)
         out.new context.new running.new }
 {
     if let Some(argument) = tag {
@@ -152,7 +152,7 @@ fn begin_hanging<O: PieceOut>(
     running: &mut Running,
 )
     ensures { GivesOutcome O.left out.old
-        (openers.hanging place (text_seen hang.entry) context.old running.old)
+        (openers.hanging place (text_view hang.entry) context.old running.old)
         out.new context.new running.new }
 {
     let columns = give_given(out, place, hang);
@@ -169,7 +169,7 @@ fn begin_margin<O: PieceOut>(
     running: &mut Running,
 )
     ensures { GivesOutcome O.left out.old
-        (openers.margin place (text_seen columns.entry) context.old running.old)
+        (openers.margin place (text_view columns.entry) context.old running.old)
         out.new context.new running.new }
 {
     let further = give_given(out, place, columns);
@@ -185,8 +185,8 @@ fn begin_margin<O: PieceOut>(
 
 // The columns of the name of `SY`, and of the blank after it.
 fn name_hang(page: &PageLayout, name: Argument<&[u8]>) -> u32
-    requires { ArgumentFits (argument_seen name) }
-    ensures { result ≡ openers.name_hang page.now (argument_seen name.entry) }
+    requires { ArgumentFits (argument_view name) }
+    ensures { result ≡ openers.name_hang page.now (argument_view name.entry) }
 {
     name_columns(page.output, name.is_quoted(), name.text) + 1
 }
@@ -200,9 +200,9 @@ fn give_name<O: PieceOut>(
     context: &mut Context,
     running: &mut Running,
 )
-    requires { ArgumentFits (argument_seen name) }
+    requires { ArgumentFits (argument_view name) }
     ensures { GivesOutcome O.left out.old
-        (openers.bold_tag line tag (argument_seen name.entry) context.old running.old)
+        (openers.bold_tag line tag (argument_view name.entry) context.old running.old)
         out.new context.new running.new }
 {
     let word = argument_word(Some(Font::B), Join::Apart, name);
@@ -218,9 +218,9 @@ fn begin_synopsis<O: PieceOut>(
     context: &mut Context,
     running: &mut Running,
 )
-    requires { ArgumentFits (argument_seen name) }
+    requires { ArgumentFits (argument_view name) }
     ensures { GivesOutcome O.left out.old
-        (openers.synopsis page.now line (argument_seen name.entry) context.old running.old)
+        (openers.synopsis page.now line (argument_view name.entry) context.old running.old)
         out.new context.new running.new }
 {
     let hang = name_hang(page, name);
@@ -250,9 +250,9 @@ fn begin_block<O: PieceOut>(
     context: &mut Context,
     running: &mut Running,
 )
-    requires { BlockOpenerFits (block_opener_seen opener.now) }
+    requires { BlockOpenerFits (block_opener_view opener.now) }
     ensures { GivesOutcome O.left out.old
-        (openers.block page.now place (block_opener_seen opener.now) context.old running.old)
+        (openers.block page.now place (block_opener_view opener.now) context.old running.old)
         out.new context.new running.new }
 {
     match *opener {
@@ -284,9 +284,9 @@ pub(crate) fn give_opened<O: PieceOut>(
     context: &mut Context,
     running: &mut Running,
 )
-    requires { OpenerFits (opener_seen opener.now) }
+    requires { OpenerFits (opener_view opener.now) }
     ensures { GivesOutcome O.left out.old
-        (openers.opened page.now place (opener_seen opener.now) context.old running.old)
+        (openers.opened page.now place (opener_view opener.now) context.old running.old)
         out.new context.new running.new }
 {
     match *opener {

@@ -2,8 +2,8 @@
 
 ghost use Rattle.std.specs.Prelude.{◌≡◌, ◌≤◌, ◌<◌, length, false};
 ghost use Rattle.page_core_base.specs.Latches.{Came};
-ghost use Rattle.page_core_escapes.specs.Tokens.{token_seen, tokens_of};
-ghost use Rattle.page_roff_forms.specs.Arguments.{argument_seen};
+ghost use Rattle.page_core_escapes.specs.Tokens.{token_view, tokens_of};
+ghost use Rattle.page_roff_forms.specs.Arguments.{argument_view};
 ghost use Rattle.page_scopes_phrases.specs.Outcomes.{GivesOutcome};
 ghost use Rattle.page_scopes_nodes.specs.Targets as targets;
 
@@ -31,7 +31,7 @@ fn report_escapes<O: PieceOut>(out: &mut O, quoted: bool, place: Place, text: &[
 /// Gives the messages of the target of a macro at a place.
 pub(crate) fn report_target<O: PieceOut>(out: &mut O, place: Place, argument: Argument<&[u8]>)
     requires { length argument.text.now ≤ LINE }
-    ensures { Came O.left out.old (targets.target_notes place (argument_seen argument.entry)) out.new }
+    ensures { Came O.left out.old (targets.target_notes place (argument_view argument.entry)) out.new }
 {
     let at = Place {
         line: place.line,

@@ -17,14 +17,14 @@ use Rattle.page_scopes_phrases.specs.declared.phrases.Phrase.{Phrase}
 use Rattle.page_scopes_phrases.specs.declared.runnings.Running.{Running}
 use Rattle.page_scopes_words.specs.Sentences.{ends_sentence}
 use Rattle.page_scopes_words.specs.Words.{at, says}
-use Rattle.page_sets_names.specs.OwnTexts.{own_ends_sentence, own_is_word, own_joins_next, own_spaced, own_text}
+use Rattle.page_sets_names.specs.GeneratedTexts.{generated_ends_sentence, generated_is_word, generated_joins_next, generated_spaced, generated_text}
 use Rattle.page_sets_lines.specs.declared.events.Join.{Join}
 use Rattle.page_sets_lines.specs.declared.events.Join.TheVariants.{Apart}
 use Rattle.page_sets_lines.specs.declared.events.Role.{Role}
 use Rattle.page_sets_lines.specs.declared.events.Role.TheVariants as roles
 use Rattle.page_sets_lines.specs.declared.events.Word.{Word}
-use Rattle.page_sets_names.specs.declared.own_texts.Own.{Own}
-use Rattle.page_sets_lines.specs.declared.leaves.OwnWord.{OwnWord}
+use Rattle.page_sets_names.specs.declared.generated_texts.GeneratedText.{GeneratedText}
+use Rattle.page_sets_lines.specs.declared.leaves.GeneratedWord.{GeneratedWord}
 
 abbrev pub is_line : Role → Bool
 is_line roles.Line = true
@@ -68,9 +68,9 @@ argument_word font before argument = record { arg = argument; role = roles.Argum
 -- ---- words of a macro's own
 
 -- it stands at its macro, which stands in a line
-abbrev pub own_phrase : Place → (spacing : Bool) → OwnWord → Phrase (List ℕ)
-own_phrase place spacing word = record {
-  text = own_text (own_spaced spacing word.own);
+abbrev pub generated_phrase : Place → (spacing : Bool) → GeneratedWord → Phrase (List ℕ)
+generated_phrase place spacing word = record {
+  text = generated_text (generated_spaced spacing word.text);
   column = min place.column LINE;
   is_quoted = false;
   is_line = false;
@@ -81,17 +81,17 @@ own_phrase place spacing word = record {
 }
 
 -- a mark of a macro ends no sentence, and leaves one that has ended; after a word none has ended, but after those of `Ex` and `Rv` one has. A dash may be glued to what comes after it in its line
-abbrev pub after_own : Own → Running → Running
-after_own own r = record r {
+abbrev pub after_generated : GeneratedText → Running → Running
+after_generated own r = record r {
   line = record r.line {
-    is_sentence = own_ends_sentence own || (r.line.is_sentence && not (own_is_word own));
-    joins_next = own_joins_next own;
+    is_sentence = generated_ends_sentence own || (r.line.is_sentence && not (generated_is_word own));
+    joins_next = generated_joins_next own;
   };
 }
 
-unfoldable pub own_word : Place → OwnWord → Context → Running → Outcome
-own_word place word c r = record {
-  items = phrase_items place.line (own_phrase place c.has_spacing.value word) c r;
-  context = phrase_context (own_phrase place c.has_spacing.value word) c r;
-  running = after_own word.own (phrase_running (own_phrase place c.has_spacing.value word) c r);
+unfoldable pub generated_word : Place → GeneratedWord → Context → Running → Outcome
+generated_word place word c r = record {
+  items = phrase_items place.line (generated_phrase place c.has_spacing.value word) c r;
+  context = phrase_context (generated_phrase place c.has_spacing.value word) c r;
+  running = after_generated word.text (phrase_running (generated_phrase place c.has_spacing.value word) c r);
 }

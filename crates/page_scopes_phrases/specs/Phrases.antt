@@ -22,8 +22,8 @@ use Rattle.page_sets_lines.specs.declared.events.Join.{Join}
 use Rattle.page_sets_lines.specs.declared.events.Join.TheVariants.{Apart, Glued}
 
 -- a phrase of the program, with what its text holds
-abbrev pub phrase_seen : Phrase (Bor (List ℕ)) → Phrase (List ℕ)
-phrase_seen p = record {
+abbrev pub phrase_view : Phrase (Bor (List ℕ)) → Phrase (List ℕ)
+phrase_view p = record {
   text = p.text.now;
   column = p.column;
   is_quoted = p.is_quoted;

@@ -3,11 +3,11 @@
 ghost use Rattle.std.specs.Prelude.{◌≡◌, ◌≤◌, ◌<◌, ◌==◌, if◌then◌else◌, length, position, IfSome};
 ghost use Rattle.std.specs.List.{prefix_len};
 ghost use Rattle.page_core_base.specs.Latches.{Came};
-ghost use Rattle.page_core_escapes.specs.Tokens.{is_space, token_bytes, token_seen};
+ghost use Rattle.page_core_escapes.specs.Tokens.{is_space, token_bytes, token_view};
 ghost use Rattle.page_scopes_phrases.specs.Cells as cells;
 ghost use Rattle.page_sets_lines.specs.Fits.{FitsAt};
 ghost use Rattle.page_scopes_phrases.specs.Outcomes.{GivesOutcome};
-ghost use Rattle.page_scopes_phrases.specs.Phrases.{phrase_seen};
+ghost use Rattle.page_scopes_phrases.specs.Phrases.{phrase_view};
 
 use crate::phrases::is_text;
 use crate::{Phrase, Running, give_phrase};
@@ -80,9 +80,9 @@ fn find_tab(white: &[u8]) -> Option<usize>
 
 // The bytes of a token before its first tab, where it has one.
 fn tab_in(token: &Token<'_>) -> Option<usize>
-    requires { 0 < length (token_bytes (token_seen token.now)) }
-    ensures value { result ≡ cells.tab_in (token_seen token.now) }
-    ensures within { IfSome result (λ n. n < length (token_bytes (token_seen token.now))) }
+    requires { 0 < length (token_bytes (token_view token.now)) }
+    ensures value { result ≡ cells.tab_in (token_view token.now) }
+    ensures within { IfSome result (λ n. n < length (token_bytes (token_view token.now))) }
 {
     match *token {
         Token::White(white) => find_tab(white),
@@ -96,7 +96,7 @@ fn tab_in(token: &Token<'_>) -> Option<usize>
 
 // Where a cell ends after a token: blanks at its end are none of it.
 fn end_after(token: &Token<'_>, before: usize, after: usize) -> usize
-    ensures { result ≡ (if is_space (token_seen token.now) then before else after) }
+    ensures { result ≡ (if is_space (token_view token.now) then before else after) }
 {
     if matches!(token, Token::White(_)) {
         before
@@ -166,7 +166,7 @@ fn without_blanks(text: &[u8]) -> &[u8]
 // The text of the first cell.
 fn first_cell<'a>(span: CellSpan, phrase: &Phrase<&'a [u8]>) -> Phrase<&'a [u8]>
     requires { span.end ≤ length phrase.now.text.now }
-    ensures { phrase_seen result ≡ cells.first_cell span (phrase_seen phrase.now) }
+    ensures { phrase_view result ≡ cells.first_cell span (phrase_view phrase.now) }
 {
     Phrase {
         text: &phrase.text[..span.end],
@@ -179,7 +179,7 @@ fn first_cell<'a>(span: CellSpan, phrase: &Phrase<&'a [u8]>) -> Phrase<&'a [u8]>
 fn other_cells<'a>(span: CellSpan, phrase: &Phrase<&'a [u8]>) -> Phrase<&'a [u8]>
     requires within { span.tab < length phrase.now.text.now }
     requires fits { FitsAt phrase.now.column phrase.now.text.now }
-    ensures { phrase_seen result ≡ cells.other_cells span (phrase_seen phrase.now) }
+    ensures { phrase_view result ≡ cells.other_cells span (phrase_view phrase.now) }
 {
     let text = without_blanks(after_tab(&phrase.text[span.tab..]));
     Phrase {
@@ -200,7 +200,7 @@ fn give_cell<O: PieceOut>(
     running: &mut Running,
 )
     requires { FitsAt phrase.now.column phrase.now.text.now }
-    ensures { GivesOutcome O.left out.old (cells.cell line (phrase_seen phrase.now) context.old running.old)
+    ensures { GivesOutcome O.left out.old (cells.cell line (phrase_view phrase.now) context.old running.old)
         out.new context.new running.new }
 {
     if !phrase.text.is_empty() {
@@ -219,7 +219,7 @@ fn give_first_cell<O: PieceOut>(
 )
     requires end { span.end ≤ length phrase.now.text.now }
     requires fits { FitsAt phrase.now.column phrase.now.text.now }
-    ensures { GivesOutcome O.left out.old (cells.first_part span line (phrase_seen phrase.now) context.old running.old)
+    ensures { GivesOutcome O.left out.old (cells.first_part span line (phrase_view phrase.now) context.old running.old)
         out.new context.new running.new }
 {
     give_cell(out, line, &first_cell(span, phrase), context, running);
@@ -237,7 +237,7 @@ pub(crate) fn give_cells<O: PieceOut>(
     running: &mut Running,
 )
     requires { FitsAt phrase.now.column phrase.now.text.now }
-    ensures { GivesOutcome O.left out.old (cells.cells line (phrase_seen phrase.now) context.old running.old)
+    ensures { GivesOutcome O.left out.old (cells.cells line (phrase_view phrase.now) context.old running.old)
         out.new context.new running.new }
 {
     let mut left = *phrase;

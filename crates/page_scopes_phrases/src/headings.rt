@@ -2,8 +2,8 @@
 
 ghost use Rattle.std.specs.Prelude.{◌≡◌, ◌≤◌, length};
 ghost use Rattle.std.specs.Str.{chars};
-ghost use Rattle.page_core_escapes.specs.Escapes.{meaning_seen};
-ghost use Rattle.page_core_escapes.specs.Tokens.{token_seen, tokens_of};
+ghost use Rattle.page_core_escapes.specs.Escapes.{meaning_view};
+ghost use Rattle.page_core_escapes.specs.Tokens.{token_view, tokens_of};
 ghost use Rattle.page_core_tables.specs.Glyphs.{glyph_of};
 ghost use Rattle.page_scopes_phrases.specs.Headings as headings;
 
@@ -129,7 +129,7 @@ fn plain_further(text: &[u8], heading: HeadingSoFar) -> HeadingSoFar
 
 // Goes on after an escape.
 fn escape_further(meaning: Escape<'_>, heading: HeadingSoFar) -> HeadingSoFar
-    ensures { result ≡ headings.escape_further (meaning_seen meaning.entry) heading }
+    ensures { result ≡ headings.escape_further (meaning_view meaning.entry) heading }
 {
     match meaning {
         Escape::Glyph(name) => printed_further(glyph_spelled(name).as_bytes(), heading),
@@ -149,7 +149,7 @@ fn escape_further(meaning: Escape<'_>, heading: HeadingSoFar) -> HeadingSoFar
 
 // Goes on after a token.
 fn token_further(token: &Token<'_>, heading: HeadingSoFar) -> HeadingSoFar
-    ensures { result ≡ headings.token_further (token_seen token.now) heading }
+    ensures { result ≡ headings.token_further (token_view token.now) heading }
 {
     match *token {
         Token::White(_) => HeadingSoFar {

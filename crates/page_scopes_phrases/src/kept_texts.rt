@@ -61,7 +61,7 @@ pub struct KeptText {
 }
 
 impl KeptText {
-    ghost use Rattle.page_roff_forms.specs.Arguments.{argument_seen};
+    ghost use Rattle.page_roff_forms.specs.Arguments.{argument_view};
     ghost use Rattle.page_scopes_phrases.specs.KeptTexts.{kept_of};
 
     /// The same text.
@@ -76,7 +76,7 @@ impl KeptText {
 
     /// What is kept of an argument.
     pub fn of(argument: Argument<&[u8]>) -> KeptText
-        ensures { result ≡ kept_of (argument_seen argument.entry) }
+        ensures { result ≡ kept_of (argument_view argument.entry) }
     {
         KeptText {
             text: FieldText::of(text_front(argument.text, FIELD).as_bytes()),

@@ -2,7 +2,7 @@
 
 ghost use Rattle.std.specs.Prelude.{◌≡◌, ◌≤◌, ◌<◌, length, false};
 ghost use Rattle.page_core_base.specs.Latches.{Came};
-ghost use Rattle.page_core_escapes.specs.Tokens.{token_seen, tokens_of};
+ghost use Rattle.page_core_escapes.specs.Tokens.{token_view, tokens_of};
 ghost use Rattle.page_core_limits.specs.declared.TheConstants.{FIELD};
 ghost use Rattle.page_scopes_phrases.specs.KeptTexts as kept;
 
@@ -63,7 +63,7 @@ fn give_part<O: PieceOut>(
     token: &Token<'_>,
 )
     ensures { Came O.left out.old
-        (kept.part_items is_literal quoted gap place font (token_seen token.now)) out.new }
+        (kept.part_items is_literal quoted gap place font (token_view token.now)) out.new }
 {
     match *token {
         Token::White(white) => give_white(out, is_literal, gap, place, white),
@@ -109,7 +109,7 @@ fn give_parts<O: PieceOut>(
 
 // Whether a token of a kept text prints a cell.
 fn part_prints(is_literal: bool, token: &Token<'_>) -> bool
-    ensures { result ≡ kept.part_prints is_literal (token_seen token.now) }
+    ensures { result ≡ kept.part_prints is_literal (token_view token.now) }
 {
     match *token {
         Token::White(_) => is_literal,

@@ -4,7 +4,7 @@
 //! is parted into cells first. What it says of a heading, and what is kept of a name, is followed beside. Read `src/runnings.rt` first, then
 //! `specs/Outcomes.antt`, `Phrases.antt` (one text) and `LineWords.antt` (a word of a line).
 //!
-//! Proved: `give_line_word`, `give_own_word`, `give_phrase`, `give_column_step`: a word of a line and a word of a macro's own, in rows and in
+//! Proved: `give_line_word`, `give_generated_word`, `give_phrase`, `give_column_step`: a word of a line and a word of a macro's own, in rows and in
 //! columns: its pieces and messages, the context after it, and what is then known along the page (`specs/LineWords.antt`, `Phrases.antt`,
 //! `Cells.antt`). `give_manual_name`, `keep_name`, `KeptText::of`, `give_kept`: what is kept of a name, and what it gives (`specs/ManualNames.antt`,
 //! `KeptTexts.antt`).
@@ -23,7 +23,7 @@ pub use cells::give_column_step;
 pub use headings::{HeadingSoFar, is_heading};
 pub use kept_texts::{FieldText, KeptText};
 pub use kept_words::{give_kept, give_kept_gap, report_cut};
-pub use line_words::{argument_word, give_line_word, give_own_word};
+pub use line_words::{argument_word, give_line_word, give_generated_word};
 pub use manual_names::{give_manual_name, keep_name};
 pub use phrases::{Phrase, blanks_part, give_phrase, joined_gap};
 pub use runnings::{LineSoFar, Running};

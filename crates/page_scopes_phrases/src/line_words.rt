@@ -2,13 +2,13 @@
 
 ghost use Rattle.std.specs.Prelude.{◌≡◌};
 ghost use Rattle.page_core_base.specs.Latches.{Came};
-ghost use Rattle.page_roff_forms.specs.Arguments.{argument_seen};
+ghost use Rattle.page_roff_forms.specs.Arguments.{argument_view};
 ghost use Rattle.page_sets_lines.specs.Fits.{FitsAt};
 ghost use Rattle.page_scopes_phrases.specs.Cells.{text_outcome};
 ghost use Rattle.page_scopes_phrases.specs.LineWords as lines;
 ghost use Rattle.page_scopes_phrases.specs.Outcomes.{GivesOutcome};
-ghost use Rattle.page_scopes_phrases.specs.Phrases.{phrase_seen};
-ghost use Rattle.page_sets_lines.specs.Events.{word_seen};
+ghost use Rattle.page_scopes_phrases.specs.Phrases.{phrase_view};
+ghost use Rattle.page_sets_lines.specs.Events.{word_view};
 
 use crate::cells::{give_cells, in_columns};
 use crate::{Phrase, Running, give_phrase};
@@ -17,7 +17,7 @@ use page_core_limits::LINE;
 use page_roff_forms::{Argument, Quoting};
 use page_scopes_layout::Context;
 use page_scopes_words::{ends_sentence, report};
-use page_sets_lines::{Join, OwnWord, Role, Word};
+use page_sets_lines::{Join, GeneratedWord, Role, Word};
 
 // Reports a quote without its end.
 fn report_quote<O: PieceOut>(out: &mut O, line: u32, quoting: Quoting, column: u32)
@@ -48,7 +48,7 @@ pub fn argument_word<'a>(
     before: Join,
     argument: Argument<&'a [u8]>,
 ) -> Word<&'a [u8]>
-    ensures { word_seen result ≡ lines.argument_word font before (argument_seen argument.entry) }
+    ensures { word_view result ≡ lines.argument_word font before (argument_view argument.entry) }
 {
     Word {
         arg: argument,
@@ -61,7 +61,7 @@ pub fn argument_word<'a>(
 
 // A word of a line as a phrase.
 fn word_phrase<'a>(word: &Word<&'a [u8]>) -> Phrase<&'a [u8]>
-    ensures { phrase_seen result ≡ lines.word_phrase (word_seen word.now) }
+    ensures { phrase_view result ≡ lines.word_phrase (word_view word.now) }
 {
     Phrase {
         text: word.arg.text,
@@ -85,7 +85,7 @@ fn give_parted<O: PieceOut>(
     running: &mut Running,
 )
     requires { FitsAt phrase.now.column phrase.now.text.now }
-    ensures { GivesOutcome O.left out.old (text_outcome line (phrase_seen phrase.now) context.old running.old)
+    ensures { GivesOutcome O.left out.old (text_outcome line (phrase_view phrase.now) context.old running.old)
         out.new context.new running.new }
 {
     if in_columns(context) && !phrase.text.is_empty() {
@@ -107,7 +107,7 @@ pub fn give_line_word<O: PieceOut>(
 )
     requires { FitsAt word.now.arg.column word.now.arg.text.now }
     ensures { GivesOutcome O.left out.old
-        (lines.line_word line (word_seen word.now) context.old running.old)
+        (lines.line_word line (word_view word.now) context.old running.old)
         out.new context.new running.new }
 {
     report_quote(out, line, word.arg.quoting, word.arg.column);
@@ -116,12 +116,12 @@ pub fn give_line_word<O: PieceOut>(
 }
 
 // A word of a macro's own as a phrase.
-fn own_phrase(place: Place, has_spacing: bool, word: OwnWord) -> Phrase<&'static [u8]>
-    ensures seen { phrase_seen result ≡ lines.own_phrase place has_spacing word }
+fn generated_phrase(place: Place, has_spacing: bool, word: GeneratedWord) -> Phrase<&'static [u8]>
+    ensures seen { phrase_view result ≡ lines.generated_phrase place has_spacing word }
     ensures fits { FitsAt result.column result.text.now }
 {
     Phrase {
-        text: word.own.spaced(has_spacing).text().as_bytes(),
+        text: word.text.spaced(has_spacing).text().as_bytes(),
         column: place.column.min(LINE as u32),
         is_quoted: false,
         is_line: false,
@@ -133,21 +133,21 @@ fn own_phrase(place: Place, has_spacing: bool, word: OwnWord) -> Phrase<&'static
 }
 
 /// Gives a word of a macro's own, at the macro's place.
-#[tactic(auto, unfolding(crate::specs::LineWords::own_word))]
-pub fn give_own_word<O: PieceOut>(
+#[tactic(auto, unfolding(crate::specs::LineWords::generated_word))]
+pub fn give_generated_word<O: PieceOut>(
     out: &mut O,
     place: Place,
-    word: OwnWord,
+    word: GeneratedWord,
     context: &mut Context,
     running: &mut Running,
 )
     ensures { GivesOutcome O.left out.old
-        (lines.own_word place word context.old running.old)
+        (lines.generated_word place word context.old running.old)
         out.new context.new running.new }
 {
-    let phrase = own_phrase(place, context.has_spacing.value, word);
+    let phrase = generated_phrase(place, context.has_spacing.value, word);
     give_phrase(out, place.line, &phrase, context, running);
-    running.line.is_sentence = word.own.ends_sentence()
-        || (running.line.is_sentence && !word.own.is_word());
-    running.line.joins_next = word.own.joins_next();
+    running.line.is_sentence = word.text.ends_sentence()
+        || (running.line.is_sentence && !word.text.is_word());
+    running.line.joins_next = word.text.joins_next();
 }

@@ -2,11 +2,11 @@
 
 ghost use Rattle.std.specs.Prelude.{◌≡◌};
 ghost use Rattle.page_core_base.specs.Latches.{Came};
-ghost use Rattle.page_roff_forms.specs.Arguments.{argument_seen};
+ghost use Rattle.page_roff_forms.specs.Arguments.{argument_view};
 ghost use Rattle.page_sets_lines.specs.Fits.{FitsAt};
 ghost use Rattle.page_scopes_phrases.specs.ManualNames as names;
 ghost use Rattle.page_scopes_phrases.specs.Outcomes.{GivesOutcome};
-ghost use Rattle.page_scopes_phrases.specs.Phrases.{phrase_seen};
+ghost use Rattle.page_scopes_phrases.specs.Phrases.{phrase_view};
 
 use crate::kept_words::{give_kept, give_kept_gap, kept_prints_cell, report_cut};
 use crate::phrases::{Phrase, give_phrase, is_text, own_fonts};
@@ -26,8 +26,8 @@ fn keep_word<O: PieceOut>(
     argument: Argument<&[u8]>,
     name: &mut Option<KeptText>,
 )
-    ensures came { Came O.left out.old (names.first_notes place (argument_seen argument.entry) name.old) out.new }
-    ensures name { name.new ≡ names.first_name (argument_seen argument.entry) name.old }
+    ensures came { Came O.left out.old (names.first_notes place (argument_view argument.entry) name.old) out.new }
+    ensures name { name.new ≡ names.first_name (argument_view argument.entry) name.old }
 {
     if name.is_none() {
         report_cut(out, place, argument.text);
@@ -44,8 +44,8 @@ pub fn keep_name<O: PieceOut>(
     argument: Argument<&[u8]>,
     name: &mut Option<KeptText>,
 )
-    ensures came { Came O.left out.old (names.name_notes line role (argument_seen argument.entry) name.old) out.new }
-    ensures name { name.new ≡ names.named role (argument_seen argument.entry) name.old }
+    ensures came { Came O.left out.old (names.name_notes line role (argument_view argument.entry) name.old) out.new }
+    ensures name { name.new ≡ names.named role (argument_view argument.entry) name.old }
 {
     if let Role::Name { column } = role {
         keep_word(out, Place { line, column }, argument, name);
@@ -54,7 +54,7 @@ pub fn keep_name<O: PieceOut>(
 
 // A word of no bytes, in the place of a name.
 fn nameless(place: Place) -> Phrase<&'static [u8]>
-    ensures seen { phrase_seen result ≡ names.nameless place }
+    ensures seen { phrase_view result ≡ names.nameless place }
     ensures fits { FitsAt result.column result.text.now }
 {
     Phrase {

@@ -4,7 +4,7 @@ ghost use Rattle.std.specs.Prelude.{◌≡◌};
 ghost use Rattle.page_sets_lines.specs.Fits.{FitsAt};
 ghost use Rattle.page_scopes_phrases.specs.Outcomes.{GivesOutcome};
 ghost use Rattle.page_scopes_phrases.specs.Phrases as phrases;
-ghost use Rattle.page_scopes_phrases.specs.Phrases.{phrase_seen};
+ghost use Rattle.page_scopes_phrases.specs.Phrases.{phrase_view};
 
 use crate::Running;
 use page_core_base::{Font, PieceOut};
@@ -80,7 +80,7 @@ pub fn blanks_part(ends_blank: bool, context: &Context) -> bool
 
 // How a phrase is read.
 fn phrase_style(phrase: &Phrase<&[u8]>, context: &Context) -> TextStyle
-    ensures { result ≡ phrases.phrase_style (phrase_seen phrase.now) context.now }
+    ensures { result ≡ phrases.phrase_style (phrase_view phrase.now) context.now }
 {
     TextStyle {
         is_quoted: phrase.is_quoted,
@@ -91,7 +91,7 @@ fn phrase_style(phrase: &Phrase<&[u8]>, context: &Context) -> TextStyle
 
 // Whether a row may end within the words of a phrase: where rows are filled, in what is written in the page, but for tags.
 fn splits(phrase: &Phrase<&[u8]>, context: &Context) -> bool
-    ensures { result ≡ phrases.splits (phrase_seen phrase.now) context.now }
+    ensures { result ≡ phrases.splits (phrase_view phrase.now) context.now }
 {
     phrase.is_written && !context.is_literal.value && !matches!(context.part, PagePart::Tag)
 }
@@ -99,7 +99,7 @@ fn splits(phrase: &Phrase<&[u8]>, context: &Context) -> bool
 // What is known at a phrase's front.
 #[inline(always)]
 fn phrase_pen(phrase: &Phrase<&[u8]>, context: &Context, running: &Running) -> Pen
-    ensures { result ≡ phrases.phrase_pen (phrase_seen phrase.now) context.now running.now }
+    ensures { result ≡ phrases.phrase_pen (phrase_view phrase.now) context.now running.now }
 {
     Pen {
         fonts: own_fonts(phrase.font, context.fonts),
@@ -142,7 +142,7 @@ fn kept_fonts(
 // The context goes on after a phrase; `is_guarded` says whether it is one of a font macro's words.
 fn pass_context(context: &mut Context, phrase: &Phrase<&[u8]>, is_guarded: bool, pen: &Pen)
     ensures { context.new
-        ≡ phrases.context_after (phrase_seen phrase.now) is_guarded pen.now context.old }
+        ≡ phrases.context_after (phrase_view phrase.now) is_guarded pen.now context.old }
 {
     context.fonts = kept_fonts(phrase.font, is_guarded, context.fonts, pen.fonts);
     context.has_row = context.has_row || pen.has_cell;
@@ -172,7 +172,7 @@ pub(crate) fn is_text(part: PagePart) -> bool
 #[inline(always)]
 fn pass_running(running: &mut Running, phrase: &Phrase<&[u8]>, context: &Context, pen: &Pen)
     ensures { running.new
-        ≡ phrases.running_after (phrase_seen phrase.now) pen.now context.now running.old }
+        ≡ phrases.running_after (phrase_view phrase.now) pen.now context.now running.old }
 {
     running.has_content = true;
     running.gap = joined_gap(
@@ -199,7 +199,7 @@ pub fn give_phrase<O: PieceOut>(
 )
     requires { FitsAt phrase.now.column phrase.now.text.now }
     ensures { GivesOutcome O.left out.old
-        (phrases.phrase_outcome line (phrase_seen phrase.now) context.old running.old)
+        (phrases.phrase_outcome line (phrase_view phrase.now) context.old running.old)
         out.new context.new running.new }
 {
     let is_guarded = running.line.fonts_before.is_some();

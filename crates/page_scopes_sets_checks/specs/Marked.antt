@@ -14,8 +14,8 @@ use Rattle.page_sets_lines.specs.declared.openers.Closer.TheVariants as closers
 use Rattle.page_sets_lines.specs.declared.plain_lines.PlainLine.{PlainLine}
 use Rattle.page_sets_lines.specs.declared.events.Join.TheVariants.{Apart}
 use Rattle.page_sets_lines.specs.declared.events.Role.TheVariants as roles
-use Rattle.page_sets_lines.specs.declared.events.Deed.{Deed}
-use Rattle.page_sets_lines.specs.declared.events.Deed.TheVariants as deeds
+use Rattle.page_sets_lines.specs.declared.events.EventKind.{EventKind}
+use Rattle.page_sets_lines.specs.declared.events.EventKind.TheVariants as kinds
 use Rattle.page_sets_lines.specs.declared.events.Event.{Event}
 use Rattle.page_sets_lines.specs.ControlLines.{before_name, name_end, name_of, is_nameless, arguments_after}
 use Rattle.page_sets_lines.specs.PlainLines.{event_at, line_end, plain_line, plain_events}
@@ -29,20 +29,20 @@ name_column text = before_name text + 1
 abbrev pub italic : ℕ → Argument (List ℕ) → Event (List ℕ)
 italic number argument =
     event_at number argument.column
-    (deeds.Word (record { arg = argument; role = roles.Argument; font = Some I; before = Apart; after = Apart }))
+    (kinds.Word (record { arg = argument; role = roles.Argument; font = Some I; before = Apart; after = Apart }))
 
 abbrev pub italic_words : ℕ → List (Argument (List ℕ)) → Bool → List (Event (List ℕ))
 italic_words number [] filled = line_end number filled ∷ []
 italic_words number (argument ∷ arguments) filled = italic number argument ∷ italic_words number arguments filled
 
 -- a quotation begins, or ends
-abbrev pub quotation : Bool → Deed (List ℕ)
-quotation true = deeds.Open (openers.Block (block_openers.Quotation Do))
-quotation false = deeds.Close (closers.Block (block_closers.Quotation Do))
+abbrev pub quotation : Bool → EventKind (List ℕ)
+quotation true = kinds.Open (openers.Block (block_openers.Quotation Do))
+quotation false = kinds.Close (closers.Block (block_closers.Quotation Do))
 
 -- a name that is none of the set's
 abbrev pub unknown : Line → Event (List ℕ)
-unknown line = event_at line.number (name_column line.text) (deeds.Note UnknownMacro (name_of line) false false)
+unknown line = event_at line.number (name_column line.text) (kinds.Note UnknownMacro (name_of line) false false)
 
 -- the events of a line from a place on
 abbrev pub events_from : Line → MarkedPlace → List (Event (List ℕ))

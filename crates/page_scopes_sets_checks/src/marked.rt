@@ -1,9 +1,9 @@
 //! A third set, which keeps the laws of macro sets: `I` sets its words in italic, `Open` begins a quotation, and `Close` ends it.
 
 ghost use Rattle.std.specs.Prelude.{◌≡◌, ◌≤◌, length};
-ghost use Rattle.page_core_base.specs.LinesTaken.{line_seen};
-ghost use Rattle.page_roff_forms.specs.Arguments.{argument_seen};
-ghost use Rattle.page_sets_lines.specs.Events.{event_seen, deed_seen};
+ghost use Rattle.page_core_base.specs.LinesTaken.{line_view};
+ghost use Rattle.page_roff_forms.specs.Arguments.{argument_view};
+ghost use Rattle.page_sets_lines.specs.Events.{event_view, kind_view};
 ghost use Rattle.page_sets_lines.specs.PlainLines.{event_at};
 ghost use Rattle.page_scopes_sets_checks.specs.Marked as marked;
 
@@ -11,7 +11,7 @@ use page_core_base::{Font, NoteKind, Place, Taken};
 use page_core_limits::LINE;
 use page_roff_forms::{Argument, has_arguments};
 use page_sets::{
-    BlockCloser, BlockOpener, Closer, Deed, Event, Join, MacroSet, Opener, Quotation, Role, Word,
+    BlockCloser, BlockOpener, Closer, EventKind, Event, Join, MacroSet, Opener, Quotation, Role, Word,
 };
 use page_sets_lines::{PlainLine, find_name, read_after};
 
@@ -37,40 +37,40 @@ pub enum MarkedPlace {
 }
 
 // An event in a column of a line.
-fn event_at<'a>(number: u32, column: u32, deed: Deed<&'a [u8]>) -> Event<&'a [u8]>
-    ensures { event_seen result ≡ event_at number column (deed_seen deed.entry) }
+fn event_at<'a>(number: u32, column: u32, kind: EventKind<&'a [u8]>) -> Event<&'a [u8]>
+    ensures { event_view result ≡ event_at number column (kind_view kind.entry) }
 {
     Event {
         place: Place {
             line: number,
             column,
         },
-        deed,
+        kind,
     }
 }
 
 // A word in italic.
 fn italic(number: u32, argument: Argument<&[u8]>) -> Event<&[u8]>
-    ensures { event_seen result ≡ marked.italic number (argument_seen argument.entry) }
+    ensures { event_view result ≡ marked.italic number (argument_view argument.entry) }
 {
-    let deed = Deed::Word(Word {
+    let kind = EventKind::Word(Word {
         arg: argument,
         role: Role::Argument,
         font: Some(Font::I),
         before: Join::Apart,
         after: Join::Apart,
     });
-    event_at(number, argument.column, deed)
+    event_at(number, argument.column, kind)
 }
 
 // A quotation begins, or ends.
-fn quotation<'a>(begins: bool) -> Deed<&'a [u8]>
-    ensures { deed_seen result ≡ marked.quotation begins }
+fn quotation<'a>(begins: bool) -> EventKind<&'a [u8]>
+    ensures { kind_view result ≡ marked.quotation begins }
 {
     if begins {
-        Deed::Open(Opener::Block(BlockOpener::Quotation(Quotation::Do)))
+        EventKind::Open(Opener::Block(BlockOpener::Quotation(Quotation::Do)))
     } else {
-        Deed::Close(Closer::Block(BlockCloser::Quotation(Quotation::Do)))
+        EventKind::Close(Closer::Block(BlockCloser::Quotation(Quotation::Do)))
     }
 }
 
@@ -93,7 +93,7 @@ fn macro_place(name: &[u8], text: &[u8], start: usize) -> MarkedPlace
 
 // The place before the events of a control line.
 fn control_place(line: Taken<'_>) -> MarkedPlace
-    ensures { result ≡ marked.control_place (line_seen line.entry) }
+    ensures { result ≡ marked.control_place (line_view line.entry) }
 {
     let name = find_name(line);
     if name.is_empty() {
@@ -106,16 +106,16 @@ fn control_place(line: Taken<'_>) -> MarkedPlace
 // The message about a name that is none of the set's.
 fn unknown<'a>(line: Taken<'a>) -> Event<&'a [u8]>
     requires { length line.text.now ≤ LINE }
-    ensures { event_seen result ≡ marked.unknown (line_seen line.entry) }
+    ensures { event_view result ≡ marked.unknown (line_view line.entry) }
 {
     let name = find_name(line);
-    let deed = Deed::Note {
+    let kind = EventKind::Note {
         kind: NoteKind::UnknownMacro,
         detail: &line.text[name.start..name.end],
         is_quoted: false,
         begins_body: false,
     };
-    event_at(line.line, name.start as u32 + 1, deed)
+    event_at(line.line, name.start as u32 + 1, kind)
 }
 
 // The column of a line's name.
@@ -163,7 +163,7 @@ impl MacroSet for Marked {
         match *place {
             MarkedPlace::Plain(plain) => {
                 *place = MarkedPlace::End(plain.fills());
-                Some(event_at(line.line, 1, plain.deed(line.text)))
+                Some(event_at(line.line, 1, plain.kind(line.text)))
             }
             MarkedPlace::Unknown => {
                 *place = MarkedPlace::End(false);
@@ -179,11 +179,11 @@ impl MacroSet for Marked {
                     return Some(italic(line.line, argument));
                 }
                 *place = MarkedPlace::Nothing;
-                Some(event_at(line.line, 1, Deed::End { fills }))
+                Some(event_at(line.line, 1, EventKind::End { fills }))
             }
             MarkedPlace::End(fills) => {
                 *place = MarkedPlace::Nothing;
-                Some(event_at(line.line, 1, Deed::End { fills }))
+                Some(event_at(line.line, 1, EventKind::End { fills }))
             }
             MarkedPlace::Nothing => None,
         }

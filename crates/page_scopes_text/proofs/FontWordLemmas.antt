@@ -9,7 +9,7 @@ use Rattle.page_core_base.specs.declared.places.Place.{Place}
 use Rattle.page_core_escapes.specs.Meanings as meanings
 use Rattle.page_core_escapes.specs.Meanings.{Face, face, is_known}
 use Rattle.page_core_escapes.specs.ShortEscapes.{ShortFont}
-use Rattle.page_core_escapes.specs.Tokens.{TextToken, plain, escaped, begins_word, prints_itself, token_at, token_len, token_seen}
+use Rattle.page_core_escapes.specs.Tokens.{TextToken, plain, escaped, begins_word, prints_itself, token_at, token_len, token_view}
 use Rattle.page_scopes_words.specs.Words.{at, face_notes}
 use Rattle.page_scopes_text.proofs.PartedLemmas.{no_word, plain_begins, plain_token, words_more}
 use Rattle.page_scopes_text.proofs.PlainWordLemmas.{blank_len}
@@ -80,13 +80,13 @@ reads_font text font n s known =
 
 -- ---- the whole word
 
-pub reads_font_word : (quoted : Bool) (text inner later last rest : List ℕ) (word : FontWord) → ReadsFont text (token_seen word.before) inner
-    → ReadsPart quoted inner word.text.now later → ReadsFont later (token_seen word.after) last → ReadsPart quoted last word.tail.now rest
+pub reads_font_word : (quoted : Bool) (text inner later last rest : List ℕ) (word : FontWord) → ReadsFont text (token_view word.before) inner
+    → ReadsPart quoted inner word.text.now later → ReadsFont later (token_view word.after) last → ReadsPart quoted last word.tail.now rest
     → begins_word rest ≡ false → ReadsFontWord quoted text word rest
 reads_font_word quoted text inner later last rest word a b c d ends =
-    let front = token_seen word.before in
+    let front = token_view word.before in
     let part = part_tokens word.text.now in
-    let next = token_seen word.after in
+    let next = token_view word.after in
     let tail = part_tokens word.tail.now in
     record {
       len = omega (arith, a.len, b.len, c.len, d.len);
@@ -140,15 +140,15 @@ pub part_pen : (pen : Pen) (bytes : List ℕ) (tokens : List TextToken)
 part_pen pen [] tokens = refl
 part_pen pen (b ∷ bs) tokens = refl
 
-pub font_items : (place : Place) (pen : Pen) (word : FontWord) → Silent (token_seen word.before) → Silent (token_seen word.after)
+pub font_items : (place : Place) (pen : Pen) (word : FontWord) → Silent (token_view word.before) → Silent (token_view word.after)
     → tokens_items false place pen (font_tokens word)
-    ≡ tokens_items false place (pen_after pen (token_seen word.before)) (part_tokens word.text.now)
-    ++ tokens_items false place (pen_after (pen_through (pen_after pen (token_seen word.before)) (part_tokens word.text.now)) (token_seen word.after)) (part_tokens word.tail.now)
+    ≡ tokens_items false place (pen_after pen (token_view word.before)) (part_tokens word.text.now)
+    ++ tokens_items false place (pen_after (pen_through (pen_after pen (token_view word.before)) (part_tokens word.text.now)) (token_view word.after)) (part_tokens word.tail.now)
 font_items place pen word b a =
-    let inner = pen_after pen (token_seen word.before) in
+    let inner = pen_after pen (token_view word.before) in
     let later = pen_through inner (part_tokens word.text.now) in
-    let last = pen_after later (token_seen word.after) in
-    let more = token_seen word.after ∷ part_tokens word.tail.now in
+    let last = pen_after later (token_view word.after) in
+    let more = token_view word.after ∷ part_tokens word.tail.now in
     ap (λ (i : List Item). i ++ tokens_items false place inner (part_tokens word.text.now ++ more)) (b.items false pen.splits pen.fonts.value.font place)
     ∙ part_items place inner word.text.now more
     ∙ ap (λ (i : List Item). tokens_items false place inner (part_tokens word.text.now) ++ (i ++ tokens_items false place last (part_tokens word.tail.now))) (a.items false later.splits later.fonts.value.font place)
@@ -172,15 +172,15 @@ tail_alike : (quoted : Bool) (place : Place) (bytes : List ℕ) (pen : Pen) → 
 tail_alike quoted place [] pen = refl
 tail_alike quoted place (b ∷ bs) pen = refl
 
-word_alike : (quoted : Bool) (place : Place) (pen : Pen) (word : FontWord) → Silent (token_seen word.before) → Silent (token_seen word.after)
+word_alike : (quoted : Bool) (place : Place) (pen : Pen) (word : FontWord) → Silent (token_view word.before) → Silent (token_view word.after)
     → tokens_items quoted place pen (font_tokens word) ≡ tokens_items false place pen (font_tokens word)
 word_alike quoted place pen word b a =
-    let next = token_seen word.after in
+    let next = token_view word.after in
     let tail = part_tokens word.tail.now in
     let more = part_alike quoted place word.text.now (next ∷ tail) (λ p. silent_alike quoted place p next tail a (tail_alike quoted place word.tail.now)) in
-    silent_alike quoted place pen (token_seen word.before) (part_tokens word.text.now ++ (next ∷ tail)) b more
+    silent_alike quoted place pen (token_view word.before) (part_tokens word.text.now ++ (next ∷ tail)) b more
 
-body_alike : (quoted : Bool) (place : Place) (pen : Pen) (word : FontWord) → Silent (token_seen word.before) → Silent (token_seen word.after)
+body_alike : (quoted : Bool) (place : Place) (pen : Pen) (word : FontWord) → Silent (token_view word.before) → Silent (token_view word.after)
     → body_items quoted place pen (font_tokens word) ≡ body_items false place pen (font_tokens word)
 body_alike quoted place pen word b a =
     ap (λ (i : List Item). i ++ empty_items (pen_through (word_begun pen) (font_tokens word)).has_cell place) (word_alike quoted place (word_begun pen) word b a)
@@ -194,15 +194,15 @@ tail_notes : (quoted : Bool) (place : Place) (bytes : List ℕ) → word_notes q
 tail_notes quoted place [] = refl
 tail_notes quoted place (b ∷ bs) = refl
 
-word_silent : (quoted : Bool) (place : Place) (word : FontWord) → Silent (token_seen word.before) → Silent (token_seen word.after)
+word_silent : (quoted : Bool) (place : Place) (word : FontWord) → Silent (token_view word.before) → Silent (token_view word.after)
     → word_notes quoted place (font_tokens word) ≡ []
 word_silent quoted place word b a =
-    let next = token_seen word.after in
+    let next = token_view word.after in
     let last = ap₂ (λ (x y : List Item). x ++ y) (a.notes quoted place) (tail_notes quoted place word.tail.now) in
     ap₂ (λ (x y : List Item). x ++ y) (b.notes quoted place) (part_notes quoted place word.text.now (next ∷ part_tokens word.tail.now) ∙ last)
 
 -- such a word has no messages, and gives the same in a quoted argument
-pub font_word_items : (style : TextStyle) (line : ℕ) (tab : Bool) (pen : Pen) (word : FontWord) → Silent (token_seen word.before) → Silent (token_seen word.after)
+pub font_word_items : (style : TextStyle) (line : ℕ) (tab : Bool) (pen : Pen) (word : FontWord) → Silent (token_view word.before) → Silent (token_view word.after)
     → word_items style line tab pen (font_tokens word)
     ≡ gap_items style tab (at line pen.column) pen ++ body_items false (at line pen.column) (gap_after style pen) (font_tokens word)
 font_word_items style line tab pen word b a =

@@ -3,7 +3,7 @@
 use Rattle.std.specs.Prelude.{◌≡◌, ℕ, ◌+◌, Bool, false, true, List, [], ◌∷◌, ◌++◌, length, take, drop}
 use Rattle.page_core_base.specs.declared.cells.Font.{Font}
 use Rattle.page_core_base.specs.declared.places.Place.{Place}
-use Rattle.page_core_escapes.specs.Tokens.{TextToken, plain, begins_word, token_bytes, token_len, token_seen}
+use Rattle.page_core_escapes.specs.Tokens.{TextToken, plain, begins_word, token_bytes, token_len, token_view}
 use Rattle.page_scopes_text.specs.Parted.{words_of}
 use Rattle.page_scopes_text.specs.Words.{printed_items, token_notes}
 use Rattle.page_scopes_text.specs.declared.font_words.FontWord.{FontWord}
@@ -30,11 +30,11 @@ pub record ReadsPart (quoted : Bool) (text part rest : List ℕ) : Type 0 where
   pub words : words_of quoted text ≡ record { word = part_tokens part ++ (words_of quoted rest).word; others = (words_of quoted rest).others }
 
 abbrev pub font_tokens : FontWord → List TextToken
-font_tokens word = token_seen word.before ∷ (part_tokens word.text.now ++ (token_seen word.after ∷ part_tokens word.tail.now))
+font_tokens word = token_view word.before ∷ (part_tokens word.text.now ++ (token_view word.after ∷ part_tokens word.tail.now))
 
 abbrev pub word_len : FontWord → ℕ
 word_len word =
-    length (token_bytes (token_seen word.before)) + (length word.text.now + (length (token_bytes (token_seen word.after)) + length word.tail.now))
+    length (token_bytes (token_view word.before)) + (length word.text.now + (length (token_bytes (token_view word.after)) + length word.tail.now))
 
 -- such a word was read at a text's front
 pub record ReadsFontWord (quoted : Bool) (text : List ℕ) (word : FontWord) (rest : List ℕ) : Type 0 where
@@ -42,8 +42,8 @@ pub record ReadsFontWord (quoted : Bool) (text : List ℕ) (word : FontWord) (re
   pub only : (words_of quoted text).word ≡ font_tokens word
   pub ends : begins_word rest ≡ false
   pub others : (words_of quoted rest).others ≡ (words_of quoted text).others
-  pub before : Silent (token_seen word.before)
-  pub after : Silent (token_seen word.after)
+  pub before : Silent (token_view word.before)
+  pub after : Silent (token_view word.after)
 
 -- the one blank at a text's front was read, and such a word after it
 pub record ReadsBlankFontWord (quoted : Bool) (text : List ℕ) (word : FontWord) (rest : List ℕ) : Type 0 where
@@ -54,5 +54,5 @@ pub record ReadsBlankFontWord (quoted : Bool) (text : List ℕ) (word : FontWord
   pub only : (words_of quoted (drop 1 text)).word ≡ font_tokens word
   pub ends : begins_word rest ≡ false
   pub others : (words_of quoted rest).others ≡ (words_of quoted (drop 1 text)).others
-  pub before : Silent (token_seen word.before)
-  pub after : Silent (token_seen word.after)
+  pub before : Silent (token_view word.before)
+  pub after : Silent (token_view word.after)

@@ -2,7 +2,7 @@
 
 ghost use Rattle.std.specs.Prelude.{◌≡◌, ◌<◌, ◌+◌, ◌^◌, false, length, IfSome};
 ghost use Rattle.page_core_base.specs.Latches.{Came};
-ghost use Rattle.page_core_escapes.specs.Tokens.{token_seen};
+ghost use Rattle.page_core_escapes.specs.Tokens.{token_view};
 ghost use Rattle.page_scopes_text.specs.FontWords.{ReadsFont, ReadsFontWord, ReadsPart, Silent, font_tokens, part_tokens, word_len};
 ghost use Rattle.page_scopes_text.specs.Words as words;
 
@@ -23,7 +23,7 @@ pub(crate) struct FontWord<'a> {
 // The escape at a text's front that asks for a font that there is, and what is left after it, where few bytes say so.
 #[inline(always)]
 fn split_font(text: &[u8]) -> Option<(Token<'_>, &[u8])>
-    ensures { IfSome result (λ parts. ReadsFont text.now (token_seen parts.0) parts.1.now) }
+    ensures { IfSome result (λ parts. ReadsFont text.now (token_view parts.0) parts.1.now) }
 {
     let (name, len) = short_font(text)?;
     if !name.is_known() {
@@ -86,8 +86,8 @@ pub(crate) fn give_font_tokens<O: PieceOut>(
     word: &FontWord<'_>,
 )
     requires room { pen.old.column + word_len word.now < 2 ^ 32 }
-    requires before { Silent (token_seen word.now.before) }
-    requires after { Silent (token_seen word.now.after) }
+    requires before { Silent (token_view word.now.before) }
+    requires after { Silent (token_view word.now.after) }
     ensures came { Came O.left out.old (words.tokens_items false place pen.old (font_tokens word.now)) out.new }
     ensures pen { pen.new ≡ words.pen_through pen.old (font_tokens word.now) }
 {

@@ -2,7 +2,7 @@
 
 ghost use Rattle.std.specs.Prelude.{◌≡◌, ◌<◌, ◌==◌, false, length};
 ghost use Rattle.page_core_base.specs.Latches.{Came, CameUpTo};
-ghost use Rattle.page_core_escapes.specs.Tokens.{is_space, token_seen};
+ghost use Rattle.page_core_escapes.specs.Tokens.{is_space, token_view};
 ghost use Rattle.page_scopes_text.specs.Parts.{later_items};
 ghost use Rattle.page_scopes_text.specs.Words as words;
 
@@ -77,9 +77,9 @@ pub(crate) fn give_printed<O: PieceOut>(
     place: Place,
     token: &Token<'_>,
 )
-    requires { is_space (token_seen token.now) ≡ false }
+    requires { is_space (token_view token.now) ≡ false }
     ensures { Came O.left out.old
-        (words.printed_items quoted splits font place (token_seen token.now)) out.new }
+        (words.printed_items quoted splits font place (token_view token.now)) out.new }
 {
     if let Token::Plain(bytes) = *token {
         give_plain_token(out, splits, font, place, bytes);

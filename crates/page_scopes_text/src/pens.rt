@@ -1,7 +1,7 @@
 //! What is known between two tokens of a text (roff(7), `\f` and `\c`).
 
 ghost use Rattle.std.specs.Prelude.{◌≡◌, ◌<◌, ◌+◌, ◌^◌, [], ◌∷◌, length, IsTrue};
-ghost use Rattle.page_core_escapes.specs.Tokens.{plain, token_bytes, token_seen};
+ghost use Rattle.page_core_escapes.specs.Tokens.{plain, token_bytes, token_view};
 ghost use Rattle.page_scopes_text.specs.Reads.{resting};
 ghost use Rattle.page_scopes_text.specs.Texts.{indented_pen, white_after};
 ghost use Rattle.page_scopes_text.specs.Words.{body_after, gap_after, has_gap_cells, pen_after, word_begun, word_ended};
@@ -45,8 +45,8 @@ impl Pen {
     /// Goes on after a token of a word.
     #[inline(always)]
     pub(crate) fn pass(&mut self, token: &Token<'_>)
-        requires { self.old.column + length (token_bytes (token_seen token.now)) < 2 ^ 32 }
-        ensures { self.new ≡ pen_after self.old (token_seen token.now) }
+        requires { self.old.column + length (token_bytes (token_view token.now)) < 2 ^ 32 }
+        ensures { self.new ≡ pen_after self.old (token_view token.now) }
     {
         self.fonts = fonts_after(token, self.fonts);
         self.column += token.len() as u32;

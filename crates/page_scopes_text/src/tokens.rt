@@ -3,8 +3,8 @@
 ghost use Rattle.std.specs.Prelude.{◌≡◌, ◌≤◌, false, [], ◌∷◌};
 ghost use Rattle.page_core_base.specs.Latches.{Came};
 ghost use Rattle.page_core_base.specs.Pieces.{shown};
-ghost use Rattle.page_core_escapes.specs.Escapes.{meaning_seen};
-ghost use Rattle.page_core_escapes.specs.Tokens.{is_space, token_seen};
+ghost use Rattle.page_core_escapes.specs.Escapes.{meaning_view};
+ghost use Rattle.page_core_escapes.specs.Tokens.{is_space, token_view};
 ghost use Rattle.page_scopes_text.specs.Words as words;
 ghost use Rattle.page_scopes_words.specs.Words.{is_glue};
 
@@ -17,7 +17,7 @@ use page_scopes_words::{Fonts, Setting, give_glyph, report_escape, token_piece};
 /// Gives the messages of a token; `quoted` says whether it is that of a quoted argument.
 #[inline(always)]
 pub fn report_token<O: PieceOut>(out: &mut O, quoted: bool, place: Place, token: &Token<'_>)
-    ensures { Came O.left out.old (words.token_notes quoted place (token_seen token.now)) out.new }
+    ensures { Came O.left out.old (words.token_notes quoted place (token_view token.now)) out.new }
 {
     if let Token::Escaped {
         meaning: Escape::Blanks(expression),
@@ -77,8 +77,8 @@ pub fn give_token<O: PieceOut>(
     place: Place,
     token: &Token<'_>,
 )
-    requires { is_space (token_seen token.now) ≡ false }
-    ensures { Came O.left out.old (words.token_items quoted font place (token_seen token.now)) out.new }
+    requires { is_space (token_view token.now) ≡ false }
+    ensures { Came O.left out.old (words.token_items quoted font place (token_view token.now)) out.new }
 {
     if let Token::Escaped {
         meaning: Escape::Blanks(expression),
@@ -99,7 +99,7 @@ pub fn give_token<O: PieceOut>(
 
 // Whether an escape prints a cell.
 fn escape_prints(meaning: Escape<'_>) -> bool
-    ensures { result ≡ words.escape_prints (meaning_seen meaning.entry) }
+    ensures { result ≡ words.escape_prints (meaning_view meaning.entry) }
 {
     match meaning {
         Escape::Glyph(_) | Escape::Char(_) | Escape::Tab | Escape::Blank | Escape::Undefined(_) =>
@@ -112,7 +112,7 @@ fn escape_prints(meaning: Escape<'_>) -> bool
 /// Whether a token prints a cell.
 #[inline(always)]
 pub fn token_prints(token: &Token<'_>) -> bool
-    ensures { result ≡ words.token_prints (token_seen token.now) }
+    ensures { result ≡ words.token_prints (token_view token.now) }
 {
     match *token {
         Token::White(_) | Token::Plain(_) | Token::Quotes(_) => true,
@@ -123,7 +123,7 @@ pub fn token_prints(token: &Token<'_>) -> bool
 /// Whether an escape glues the next line's text.
 #[inline(always)]
 pub(crate) fn is_glue(token: &Token<'_>) -> bool
-    ensures { result ≡ is_glue (token_seen token.now) }
+    ensures { result ≡ is_glue (token_view token.now) }
 {
     match *token {
         Token::Escaped { meaning, .. } => matches!(meaning, Escape::Glue),
@@ -133,7 +133,7 @@ pub(crate) fn is_glue(token: &Token<'_>) -> bool
 
 // Whether a token asks for a font that there is.
 fn token_sets(token: &Token<'_>) -> bool
-    ensures { result ≡ words.token_sets (token_seen token.now) }
+    ensures { result ≡ words.token_sets (token_view token.now) }
 {
     match *token {
         Token::Escaped {
@@ -147,7 +147,7 @@ fn token_sets(token: &Token<'_>) -> bool
 /// The fonts after a token, and whether they were set.
 #[inline(always)]
 pub fn fonts_after(token: &Token<'_>, fonts: Setting<Fonts>) -> Setting<Fonts>
-    ensures { result ≡ words.fonts_after (token_seen token.now) fonts }
+    ensures { result ≡ words.fonts_after (token_view token.now) fonts }
 {
     Setting {
         value: fonts.value.after(token),

@@ -2,7 +2,7 @@
 
 ghost use Rattle.std.specs.Prelude.{◌≡◌, ◌≤◌, ◌<◌, ◌+◌, ◌^◌, false, [], ◌∷◌, IfSome, length};
 ghost use Rattle.page_core_base.specs.Latches.{Came};
-ghost use Rattle.page_core_escapes.specs.Tokens.{plain, token_seen};
+ghost use Rattle.page_core_escapes.specs.Tokens.{plain, token_view};
 ghost use Rattle.page_scopes_text.specs.FontWords.{Silent, font_tokens, word_len};
 ghost use Rattle.page_scopes_text.specs.Parted.{words_of};
 ghost use Rattle.page_scopes_text.specs.Reads.{Fits, ReadsPlain, ReadsWord};
@@ -89,8 +89,8 @@ pub(crate) fn give_body<'a, O: PieceOut>(
 #[inline(always)]
 fn give_font_body<O: PieceOut>(out: &mut O, place: Place, pen: &mut Pen, word: &FontWord<'_>)
     requires room { pen.old.column + word_len word.now < 2 ^ 32 }
-    requires before { Silent (token_seen word.now.before) }
-    requires after { Silent (token_seen word.now.after) }
+    requires before { Silent (token_view word.now.before) }
+    requires after { Silent (token_view word.now.after) }
     ensures came { Came O.left out.old (words.body_items false place pen.old (font_tokens word.now)) out.new }
     ensures pen { pen.new ≡ words.body_after pen.old (font_tokens word.now) }
 {
@@ -167,8 +167,8 @@ pub(crate) fn give_font_word<O: PieceOut>(
     word: &FontWord<'_>,
 )
     requires room { pen.old.column + word_len word.now < 2 ^ 32 }
-    requires before { Silent (token_seen word.now.before) }
-    requires after { Silent (token_seen word.now.after) }
+    requires before { Silent (token_view word.now.before) }
+    requires after { Silent (token_view word.now.after) }
     ensures came { Came O.left out.old
         (words.word_items style line has_tab pen.old (font_tokens word.now)) out.new }
     ensures pen { pen.new ≡ words.word_after style pen.old (font_tokens word.now) }

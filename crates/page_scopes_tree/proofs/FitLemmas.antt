@@ -8,8 +8,8 @@ use Rattle.page_core_numbers.specs.declared.scales.Scale.TheVariants.{Basic}
 use Rattle.page_scopes_laws.specs.Nestings.{as_node, as_nothing, IsSound}
 use Rattle.page_sets_lines.specs.Blocks.{closed_block}
 use Rattle.page_sets_lines.specs.declared.events.Event.{Event}
-use Rattle.page_sets_lines.specs.declared.events.Deed.{Deed}
-use Rattle.page_sets_lines.specs.declared.events.Deed.TheVariants as deeds
+use Rattle.page_sets_lines.specs.declared.events.EventKind.{EventKind}
+use Rattle.page_sets_lines.specs.declared.events.EventKind.TheVariants as kinds
 use Rattle.page_sets_lines.specs.declared.leaves.Leaf.{Leaf}
 use Rattle.page_sets_lines.specs.declared.leaves.Leaf.TheVariants as leaves
 use Rattle.page_sets_lines.specs.declared.leaves.Request.{Request}
@@ -20,10 +20,10 @@ use Rattle.page_sets_lines.specs.declared.openers.LineOpener.TheVariants as line
 use Rattle.page_sets_lines.specs.declared.openers.Closer.{Closer}
 use Rattle.page_sets_lines.specs.declared.openers.Closer.TheVariants as closers
 use Rattle.page_scopes_tree.specs.Acts.{Step, comes, does}
-use Rattle.page_scopes_tree.specs.Ends.{inside, up_to, line_scopes, up_to_explicit, up_to_item, up_to_paragraph, place_of_margin, but_outside, up_to_margin, opener_ends, closer_ends, leaf_ends, deed_ends, act_ends}
+use Rattle.page_scopes_tree.specs.Ends.{inside, up_to, line_scopes, up_to_explicit, up_to_item, up_to_paragraph, place_of_margin, but_outside, up_to_margin, opener_ends, closer_ends, leaf_ends, kind_ends, act_ends}
 use Rattle.page_scopes_labels.specs.Labels.{is_line, is_enclosure, is_section, is_paragraph, is_item, is_list, is_explicit, is_level}
 use Rattle.page_scopes_tree.specs.Nests.{standing_by, step_ends, step_standing, scopes_nesting}
-use Rattle.page_scopes_tree.specs.Standings.{has_room, in_list, in_headed_list, opened, item_fate, opener_fate, head_fate, line_fate, closed, closer_fate, in_line_scope, is_dropped, request_fate, leaf_fate, deed_fate, act_fate, opener_label, is_passed_over}
+use Rattle.page_scopes_tree.specs.Placements.{has_room, in_list, in_headed_list, opened, item_placement, opener_placement, head_placement, line_placement, closed, closer_placement, in_line_scope, is_dropped, request_placement, leaf_placement, kind_placement, act_placement, opener_label, is_passed_over}
 use Rattle.page_core_limits.specs.declared.TheConstants.{SCOPES}
 use Rattle.page_scopes_tree.specs.declared.acts.Act.{Act}
 use Rattle.page_scopes_tree.specs.declared.acts.Act.TheVariants as acts
@@ -31,10 +31,10 @@ use Rattle.page_scopes_labels.specs.declared.labels.Explicit.{Explicit}
 use Rattle.page_scopes_labels.specs.declared.labels.Explicit.TheVariants.{RelativeMargin, Target, Syntax, Block}
 use Rattle.page_scopes_labels.specs.declared.labels.Label.{Label}
 use Rattle.page_scopes_labels.specs.declared.labels.Label.TheVariants as labels
-use Rattle.page_scopes_tree.specs.declared.standings.Fate.{Fate}
-use Rattle.page_scopes_tree.specs.declared.standings.Fate.TheVariants as fates
-use Rattle.page_scopes_tree.specs.declared.standings.Obstacle.{Obstacle}
-use Rattle.page_scopes_tree.specs.declared.standings.Obstacle.TheVariants.{Scopes}
+use Rattle.page_scopes_tree.specs.declared.placements.Placement.{Placement}
+use Rattle.page_scopes_tree.specs.declared.placements.Placement.TheVariants as placements
+use Rattle.page_scopes_tree.specs.declared.placements.Obstacle.{Obstacle}
+use Rattle.page_scopes_tree.specs.declared.placements.Obstacle.TheVariants.{Scopes}
 
 up_to-fits : (found end most : ℕ) → end ≤ most → up_to found end ≤ most
 up_to-fits found end most h = grind (arith, nat_tests, h)
@@ -88,18 +88,18 @@ leaf-fits : (leaf : Leaf (List ℕ)) (nodes : List Label) → leaf_ends leaf nod
 leaf-fits leaves.BlankLine nodes = prefix_len-le-length is_line nodes
 leaf-fits _ nodes = omega arith
 
-deed-fits : (deed : Deed (List ℕ)) (nodes : List Label) → deed_ends deed nodes ≤ length nodes
-deed-fits (deeds.Word word) nodes = omega arith
-deed-fits (deeds.Open opener) nodes = opener-fits opener nodes
-deed-fits (deeds.Close closer) nodes = closer-fits closer nodes
-deed-fits (deeds.LineScope opener) nodes = omega arith
-deed-fits (deeds.Leaf leaf) nodes = leaf-fits leaf nodes
-deed-fits (deeds.Raw text) nodes = prefix_len-le-length is_line nodes
-deed-fits (deeds.End fills) nodes = either-fits fills (line_scopes nodes) 0 (length nodes) (prefix_len-le-length is_line nodes) (omega arith)
-deed-fits (deeds.Note kind detail is_quoted begins_body) nodes = omega arith
+kind-fits : (kind : EventKind (List ℕ)) (nodes : List Label) → kind_ends kind nodes ≤ length nodes
+kind-fits (kinds.Word word) nodes = omega arith
+kind-fits (kinds.Open opener) nodes = opener-fits opener nodes
+kind-fits (kinds.Close closer) nodes = closer-fits closer nodes
+kind-fits (kinds.LineScope opener) nodes = omega arith
+kind-fits (kinds.Leaf leaf) nodes = leaf-fits leaf nodes
+kind-fits (kinds.Raw text) nodes = prefix_len-le-length is_line nodes
+kind-fits (kinds.End fills) nodes = either-fits fills (line_scopes nodes) 0 (length nodes) (prefix_len-le-length is_line nodes) (omega arith)
+kind-fits (kinds.Note kind detail is_quoted begins_body) nodes = omega arith
 
 pub act-fits : (act : Act (Event (List ℕ))) (nodes : List Label) → act_ends act nodes ≤ length nodes
-act-fits (acts.Event event) nodes = deed-fits event.deed nodes
+act-fits (acts.Event event) nodes = kind-fits event.kind nodes
 act-fits (acts.PageEnd line) nodes = omega arith
 
 step-fits : (skips : Bool) (step : Step) (nodes : List Label) → step_ends skips step nodes ≤ length nodes
@@ -108,13 +108,13 @@ step-fits skips (does act) nodes = either-fits (is_passed_over skips act) 0 _ (l
 
 -- ---- room
 
--- whether an fate opens a scope
-Opens : Fate → Type 0
-Opens (fates.Node label) = Unit {0}
+-- whether a placement opens a scope
+Opens : Placement → Type 0
+Opens (placements.Node label) = Unit {0}
 Opens _ = ⊥
 
 opened-by : (room : Bool) (remaining : List Label) (label : Label) → has_room remaining ≡ room
-    → Opens (if room then fates.Node label else fates.Refused Scopes) → length remaining < SCOPES
+    → Opens (if room then placements.Node label else placements.Refused Scopes) → length remaining < SCOPES
 unfolding Opens
 opened-by true remaining label e k = grind (arith, nat_tests)
 opened-by false remaining label e k = absurd k
@@ -122,13 +122,13 @@ opened-by false remaining label e k = absurd k
 opened-room : (remaining : List Label) (label : Label) → Opens (opened remaining label) → length remaining < SCOPES
 opened-room remaining label h = opened-by (has_room remaining) remaining label refl h
 
-item-room : (test : Bool) (remaining : List Label) → Opens (item_fate test remaining) → length remaining < SCOPES
+item-room : (test : Bool) (remaining : List Label) → Opens (item_placement test remaining) → length remaining < SCOPES
 unfolding Opens
 item-room true remaining h = opened-room remaining labels.Item h
 item-room false remaining h = absurd h
 
-opener-room : (opener : Opener (List ℕ)) (remaining : List Label) → Opens (opener_fate opener remaining) → length remaining < SCOPES
-unfolding opener_fate
+opener-room : (opener : Opener (List ℕ)) (remaining : List Label) → Opens (opener_placement opener remaining) → length remaining < SCOPES
+unfolding opener_placement
 opener-room openers.Item remaining h = item-room (in_list remaining) remaining h
 opener-room openers.Section remaining h = opened-room remaining (opener_label openers.Section) h
 opener-room openers.Subsection remaining h = opened-room remaining (opener_label openers.Subsection) h
@@ -141,13 +141,13 @@ opener-room (openers.Target link target) remaining h = opened-room remaining (op
 opener-room (openers.Syntax name) remaining h = opened-room remaining (opener_label (openers.Syntax name)) h
 opener-room (openers.Block opener) remaining h = opened-room remaining (opener_label (openers.Block opener)) h
 
-head-room : (test : Bool) (remaining : List Label) → Opens (head_fate test remaining) → length remaining < SCOPES
+head-room : (test : Bool) (remaining : List Label) → Opens (head_placement test remaining) → length remaining < SCOPES
 unfolding Opens
 head-room true remaining h = opened-room remaining (labels.Line lines.Head) h
 head-room false remaining h = absurd h
 
-line-room : (opener : LineOpener) (remaining : List Label) → Opens (line_fate opener remaining) → length remaining < SCOPES
-unfolding line_fate
+line-room : (opener : LineOpener) (remaining : List Label) → Opens (line_placement opener remaining) → length remaining < SCOPES
+unfolding line_placement
 line-room lines.Head remaining h = head-room (in_headed_list remaining) remaining h
 line-room (lines.Heading name) remaining h = opened-room remaining (labels.Line (lines.Heading name)) h
 line-room (lines.Tag name) remaining h = opened-room remaining (labels.Line (lines.Tag name)) h
@@ -161,7 +161,7 @@ unfolding Opens
 closed-opens obstacle zero h = h
 closed-opens obstacle (suc n) h = h
 
-closer-opens : (closer : Closer (List ℕ)) (n : ℕ) → Opens (closer_fate closer n) → ⊥
+closer-opens : (closer : Closer (List ℕ)) (n : ℕ) → Opens (closer_placement closer n) → ⊥
 unfolding Opens
 closer-opens closers.Line n h = h
 closer-opens (closers.RelativeMargin number) n h = closed-opens _ n h
@@ -170,55 +170,55 @@ closer-opens closers.Syntax n h = closed-opens _ n h
 closer-opens closers.Enclosures n h = h
 closer-opens (closers.Block closer) n h = closed-opens _ n h
 
-dropped-opens : (test : Bool) → Opens (if test then fates.Nothing else fates.Leaf) → ⊥
+dropped-opens : (test : Bool) → Opens (if test then placements.Nothing else placements.Leaf) → ⊥
 unfolding Opens
 dropped-opens true h = h
 dropped-opens false h = h
 
-request-opens : (inner : Bool) (request : Request (List ℕ)) → Opens (request_fate inner request) → ⊥
+request-opens : (inner : Bool) (request : Request (List ℕ)) → Opens (request_placement inner request) → ⊥
 unfolding Opens
 request-opens true request h = dropped-opens (is_dropped request) h
 request-opens false request h = h
 
-leaf-opens : (leaf : Leaf (List ℕ)) (remaining : List Label) → Opens (leaf_fate leaf remaining) → ⊥
+leaf-opens : (leaf : Leaf (List ℕ)) (remaining : List Label) → Opens (leaf_placement leaf remaining) → ⊥
 unfolding Opens
 leaf-opens (leaves.Request request) remaining h = request-opens (in_line_scope remaining) request h
 leaf-opens leaves.BlankLine remaining h = h
 leaf-opens (leaves.Wordless text) remaining h = h
 leaf-opens (leaves.Prologue name rest) remaining h = h
-leaf-opens (leaves.Own word) remaining h = h
+leaf-opens (leaves.Generated word) remaining h = h
 leaf-opens (leaves.Example begins) remaining h = h
 leaf-opens (leaves.Distance rows) remaining h = h
 leaf-opens (leaves.Fonts font) remaining h = h
 leaf-opens leaves.FurtherTag remaining h = h
 leaf-opens (leaves.Step step) remaining h = h
 
-deed-room : (deed : Deed (List ℕ)) (n : ℕ) (remaining : List Label) → Opens (deed_fate deed n remaining) → length remaining < SCOPES
+kind-room : (kind : EventKind (List ℕ)) (n : ℕ) (remaining : List Label) → Opens (kind_placement kind n remaining) → length remaining < SCOPES
 unfolding Opens
-deed-room (deeds.Word word) n remaining h = absurd h
-deed-room (deeds.Open opener) n remaining h = opener-room opener remaining h
-deed-room (deeds.Close closer) n remaining h = absurd (closer-opens closer n h)
-deed-room (deeds.LineScope opener) n remaining h = line-room opener remaining h
-deed-room (deeds.Leaf leaf) n remaining h = absurd (leaf-opens leaf remaining h)
-deed-room (deeds.Raw text) n remaining h = absurd h
-deed-room (deeds.End fills) n remaining h = absurd h
-deed-room (deeds.Note kind detail is_quoted begins_body) n remaining h = absurd h
+kind-room (kinds.Word word) n remaining h = absurd h
+kind-room (kinds.Open opener) n remaining h = opener-room opener remaining h
+kind-room (kinds.Close closer) n remaining h = absurd (closer-opens closer n h)
+kind-room (kinds.LineScope opener) n remaining h = line-room opener remaining h
+kind-room (kinds.Leaf leaf) n remaining h = absurd (leaf-opens leaf remaining h)
+kind-room (kinds.Raw text) n remaining h = absurd h
+kind-room (kinds.End fills) n remaining h = absurd h
+kind-room (kinds.Note kind detail is_quoted begins_body) n remaining h = absurd h
 
-pub act-room : (act : Act (Event (List ℕ))) (n : ℕ) (remaining : List Label) (label : Label) → act_fate act n remaining ≡ fates.Node label → length remaining < SCOPES
+pub act-room : (act : Act (Event (List ℕ))) (n : ℕ) (remaining : List Label) (label : Label) → act_placement act n remaining ≡ placements.Node label → length remaining < SCOPES
 unfolding Opens
-act-room (acts.Event event) n remaining label h = deed-room event.deed n remaining (rw h tt)
+act-room (acts.Event event) n remaining label h = kind-room event.kind n remaining (rw h tt)
 act-room (acts.PageEnd line) n remaining label h = let no : ⊥ = cc in absurd no
 
-node-fate : (act : Act (Event (List ℕ))) (fate : Fate) (label : Label) → standing_by act fate ≡ as_node label → fate ≡ fates.Node label
-node-fate act (fates.Node other) label h = cc
-node-fate act fates.Leaf label h = let no : ⊥ = cc in absurd no
-node-fate act (fates.Refused obstacle) label h = let no : ⊥ = cc in absurd no
-node-fate act fates.Nothing label h = let no : ⊥ = cc in absurd no
+node-placement : (act : Act (Event (List ℕ))) (placement : Placement) (label : Label) → standing_by act placement ≡ as_node label → placement ≡ placements.Node label
+node-placement act (placements.Node other) label h = cc
+node-placement act placements.Leaf label h = let no : ⊥ = cc in absurd no
+node-placement act (placements.Refused obstacle) label h = let no : ⊥ = cc in absurd no
+node-placement act placements.Nothing label h = let no : ⊥ = cc in absurd no
 
 placed-room : (test : Bool) (act : Act (Event (List ℕ))) (n : ℕ) (remaining : List Label) (label : Label)
-    → (if test then as_nothing else standing_by act (act_fate act n remaining)) ≡ as_node label → length remaining < SCOPES
+    → (if test then as_nothing else standing_by act (act_placement act n remaining)) ≡ as_node label → length remaining < SCOPES
 placed-room true act n remaining label h = let no : ⊥ = cc in absurd no
-placed-room false act n remaining label h = act-room act n remaining label (node-fate act (act_fate act n remaining) label h)
+placed-room false act n remaining label h = act-room act n remaining label (node-placement act (act_placement act n remaining) label h)
 
 step-room : (skips : Bool) (step : Step) (n : ℕ) (remaining : List Label) (label : Label) → step_standing skips step n remaining ≡ as_node label → length remaining < SCOPES
 step-room true (comes event) n remaining label h = let no : ⊥ = cc in absurd no

@@ -4,12 +4,12 @@ use Rattle.page_scopes_laws.specs.Nestings.{Standing, as_node, as_leaf, as_nothi
 use Rattle.page_sets_lines.specs.declared.events.Event.{Event}
 use Rattle.page_scopes_tree.specs.Acts.{does}
 use Rattle.page_scopes_tree.specs.Nests.{Fact, standing, refused, standing_by, step_standing}
-use Rattle.page_scopes_tree.specs.Standings.{act_fate, is_passed_over}
+use Rattle.page_scopes_tree.specs.Placements.{act_placement, is_passed_over}
 use Rattle.page_scopes_tree.specs.declared.acts.Act.{Act}
 use Rattle.page_scopes_labels.specs.declared.labels.Label.{Label}
-use Rattle.page_scopes_tree.specs.declared.standings.Fate.{Fate}
-use Rattle.page_scopes_tree.specs.declared.standings.Fate.TheVariants as fates
-use Rattle.page_scopes_tree.specs.declared.standings.Obstacle.{Obstacle}
+use Rattle.page_scopes_tree.specs.declared.placements.Placement.{Placement}
+use Rattle.page_scopes_tree.specs.declared.placements.Placement.TheVariants as placements
+use Rattle.page_scopes_tree.specs.declared.placements.Obstacle.{Obstacle}
 
 -- what holds of each of these
 pub record OfDone (P : Standing Label Fact → Type 0) : Type 0 where
@@ -19,11 +19,11 @@ pub record OfDone (P : Standing Label Fact → Type 0) : Type 0 where
   pub nothing : P as_nothing
 
 module _ (P : Standing Label Fact → Type 0) (k : OfDone P) where
-  fate-standing : (a : Act (Event (List ℕ))) (fate : Fate) → P (standing_by a fate)
-  fate-standing a (fates.Node label) = k.node label
-  fate-standing a fates.Leaf = k.leaf a
-  fate-standing a (fates.Refused obstacle) = k.refusal obstacle a
-  fate-standing a fates.Nothing = k.nothing
+  placement-standing : (a : Act (Event (List ℕ))) (placement : Placement) → P (standing_by a placement)
+  placement-standing a (placements.Node label) = k.node label
+  placement-standing a placements.Leaf = k.leaf a
+  placement-standing a (placements.Refused obstacle) = k.refusal obstacle a
+  placement-standing a placements.Nothing = k.nothing
 
   either-standing : (test : Bool) (x : Standing Label Fact) → P x → P (if test then as_nothing else x)
   either-standing true x h = k.nothing
@@ -31,4 +31,4 @@ module _ (P : Standing Label Fact → Type 0) (k : OfDone P) where
 
   pub done-standing : (skips : Bool) (a : Act (Event (List ℕ))) (n : ℕ) (nodes : List Label) → P (step_standing skips (does a) n nodes)
   done-standing skips a n nodes =
-      either-standing (is_passed_over skips a) (standing_by a (act_fate a n nodes)) (fate-standing a (act_fate a n nodes))
+      either-standing (is_passed_over skips a) (standing_by a (act_placement a n nodes)) (placement-standing a (act_placement a n nodes))

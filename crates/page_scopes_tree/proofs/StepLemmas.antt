@@ -13,7 +13,7 @@ use Rattle.page_scopes_tree.specs.Ends.{act_ends}
 use Rattle.page_scopes_tree.specs.Frames.{Tables, framed}
 use Rattle.page_scopes_tree.specs.Nests.{Fact, scopes_nesting, standing_by, step_ends, step_standing}
 use Rattle.page_scopes_tree.specs.Stacks.{TakesStep}
-use Rattle.page_scopes_tree.specs.Standings.{act_fate, act_skips, is_passed_over}
+use Rattle.page_scopes_tree.specs.Placements.{act_placement, act_skips, is_passed_over}
 use Rattle.page_scopes_tree.specs.declared.acts.Act.{Act}
 use Rattle.page_scopes_labels.specs.declared.labels.Label.{Label}
 
@@ -30,18 +30,18 @@ pub step-taken : {P O S B : Type 0} (left : P → O → List Item → Type 0) (t
     (inner mid last : List (Scope Label B)) (s t u : S) (out ended given : O) (n : ℕ)
     → is_passed_over skips act ≡ false → n ≡ act_ends act (labels inner) → mid ≡ drop n inner → next ≡ act_skips skips act (labels mid)
     → t ≡ ended_state (framed tables) n (does act) inner s → Came left out (ended_items (framed tables) n (does act) inner s) ended
-    → Came left ended (placed_items (framed tables) (standing_by act (act_fate act n (labels mid))) (does act) t) given
-    → u ≡ placed_state (framed tables) (standing_by act (act_fate act n (labels mid))) (does act) t
-    → last ≡ placed_scopes (framed tables) (standing_by act (act_fate act n (labels mid))) (does act) mid t
+    → Came left ended (placed_items (framed tables) (standing_by act (act_placement act n (labels mid))) (does act) t) given
+    → u ≡ placed_state (framed tables) (standing_by act (act_placement act n (labels mid))) (does act) t
+    → last ≡ placed_scopes (framed tables) (standing_by act (act_placement act n (labels mid))) (does act) mid t
     → TakesStep left tables (does act) (record { mode = skips; scopes = inner; state = s }) out (record { mode = next; scopes = last; state = u }) given
 step-taken {P} {O} {S} {B} left tables act skips next inner mid last s t u out ended given n goes count cut skip state came placed put kept =
     let lays : Layout Label Step Fact S B Item = framed tables in
-    let stands = standing_by act (act_fate act n (labels mid)) in
+    let stands = standing_by act (act_placement act n (labels mid)) in
     let ends : step_ends skips (does act) (labels inner) ≡ n = second_of (is_passed_over skips act) 0 (act_ends act (labels inner)) goes ∙ sym count in
     let remaining : drop n (labels inner) ≡ labels mid = left_labels n inner ∙ ap labels (sym cut) in
     let standing : step_standing skips (does act) n (drop n (labels inner)) ≡ stands =
-    second_of (is_passed_over skips act) as_nothing (standing_by act (act_fate act n (drop n (labels inner)))) goes
-    ∙ ap (λ nodes. standing_by act (act_fate act n nodes)) remaining in
+    second_of (is_passed_over skips act) as_nothing (standing_by act (act_placement act n (drop n (labels inner)))) goes
+    ∙ ap (λ nodes. standing_by act (act_placement act n nodes)) remaining in
     let of_ends = λ (m : ℕ). step_standing skips (does act) m (drop m (labels inner)) in
     let items : step_items scopes_nesting lays (record { mode = skips; scopes = inner; state = s }) (does act)
     ≡ ended_items lays n (does act) inner s ++ placed_items lays stands (does act) t =

@@ -2,15 +2,15 @@
 use Rattle.std.specs.Prelude.{ℕ, List, [], ◌∷◌}
 use Rattle.std.specs.Borrow.{Bor}
 use Rattle.page_core_base.specs.declared.places.Place.{Place}
-use Rattle.page_sets_lines.specs.Events.{event_seen}
+use Rattle.page_sets_lines.specs.Events.{event_view}
 use Rattle.page_sets_lines.specs.declared.events.Event.{Event}
 use Rattle.page_scopes_tree.specs.declared.acts.Act.{Act}
 use Rattle.page_scopes_tree.specs.declared.acts.Act.TheVariants as acts
 
 -- an act of the program, with what its texts hold
-abbrev pub act_seen : Act (Bor (Event (Bor (List ℕ)))) → Act (Event (List ℕ))
-act_seen (acts.Event event) = acts.Event (event_seen event.now)
-act_seen (acts.PageEnd line) = acts.PageEnd line
+abbrev pub act_view : Act (Bor (Event (Bor (List ℕ)))) → Act (Event (List ℕ))
+act_view (acts.Event event) = acts.Event (event_view event.now)
+act_view (acts.PageEnd line) = acts.PageEnd line
 
 -- the page's end stands at the first column of its line
 abbrev pub act_place : Act (Event (List ℕ)) → Place

@@ -4,13 +4,13 @@ use Rattle.std.specs.Str.{bytes_eq}
 use Rattle.page_core_base.specs.Messages.{message_about}
 use Rattle.page_core_base.specs.Pieces.{Item, noted}
 use Rattle.page_core_base.specs.declared.note_kinds.NoteKind.{NoteKind}
-use Rattle.page_core_base.specs.declared.note_kinds.NoteKind.TheVariants as kinds
+use Rattle.page_core_base.specs.declared.note_kinds.NoteKind.TheVariants as note_kinds
 use Rattle.page_core_base.specs.declared.places.Place.{Place}
 use Rattle.page_sets_lines.specs.Blocks.{block_closer_name, closed_block}
 use Rattle.page_sets_names.specs.MacroNames.{link_closer_name}
 use Rattle.page_sets_lines.specs.declared.events.Event.{Event}
-use Rattle.page_sets_lines.specs.declared.events.Deed.{Deed}
-use Rattle.page_sets_lines.specs.declared.events.Deed.TheVariants as deeds
+use Rattle.page_sets_lines.specs.declared.events.EventKind.{EventKind}
+use Rattle.page_sets_lines.specs.declared.events.EventKind.TheVariants as kinds
 use Rattle.page_sets_lines.specs.declared.leaves.Leaf.{Leaf}
 use Rattle.page_sets_lines.specs.declared.leaves.Leaf.TheVariants as leaves
 use Rattle.page_sets_lines.specs.declared.openers.Opener.{Opener}
@@ -24,8 +24,8 @@ use Rattle.page_scopes_tree.specs.declared.acts.Act.TheVariants as acts
 use Rattle.page_scopes_labels.specs.declared.labels.Label.{Label}
 use Rattle.page_scopes_labels.specs.declared.labels.ScopeEnd.{ScopeEnd}
 use Rattle.page_scopes_labels.specs.declared.labels.ScopeEnd.TheVariants as ends
-use Rattle.page_scopes_tree.specs.declared.standings.Obstacle.{Obstacle}
-use Rattle.page_scopes_tree.specs.declared.standings.Obstacle.TheVariants.{OutsideList, Scopes, NotOpen, FewerMargins}
+use Rattle.page_scopes_tree.specs.declared.placements.Obstacle.{Obstacle}
+use Rattle.page_scopes_tree.specs.declared.placements.Obstacle.TheVariants.{OutsideList, Scopes, NotOpen, FewerMargins}
 use Rattle.page_core_limits.specs.Limits.{name_of}
 use Rattle.page_core_limits.specs.declared.Limit.TheVariants as limits
 
@@ -47,44 +47,44 @@ opener_closer_name _ = []
 -- ---- a scope that has a closer of this name ends by it, or breaks
 
 abbrev pub broken_unless : Bool → NoteKind → Option NoteKind
-broken_unless is_own kind = if is_own then None else Some kind
+broken_unless is_generated kind = if is_generated then None else Some kind
 
-abbrev pub explicit_broken : Deed (List ℕ) → List ℕ → Option NoteKind
-explicit_broken (deeds.Close closer) own = broken_unless (bytes_eq (closer_name closer) own) kinds.BadNest
-explicit_broken (deeds.Open opener) own = broken_unless (bytes_eq (opener_closer_name opener) own) kinds.MissingEnd
-explicit_broken _ own = Some kinds.MissingEnd
+abbrev pub explicit_broken : EventKind (List ℕ) → List ℕ → Option NoteKind
+explicit_broken (kinds.Close closer) own = broken_unless (bytes_eq (closer_name closer) own) note_kinds.BadNest
+explicit_broken (kinds.Open opener) own = broken_unless (bytes_eq (opener_closer_name opener) own) note_kinds.MissingEnd
+explicit_broken _ own = Some note_kinds.MissingEnd
 
 -- ---- a line scope
 
 -- macros that no line scope takes, blank lines and raw lines break line scopes
 abbrev pub leaf_breaks : Leaf (List ℕ) → Option NoteKind
-leaf_breaks leaves.BlankLine = Some kinds.LineScope
+leaf_breaks leaves.BlankLine = Some note_kinds.LineScope
 leaf_breaks _ = None
 
 abbrev pub closer_breaks : Closer (List ℕ) → Option NoteKind
-closer_breaks closers.Line = Some kinds.LineScope
+closer_breaks closers.Line = Some note_kinds.LineScope
 closer_breaks _ = None
 
-abbrev pub line_broken : Deed (List ℕ) → Option NoteKind
-line_broken (deeds.Close closer) = closer_breaks closer
-line_broken (deeds.Leaf leaf) = leaf_breaks leaf
-line_broken (deeds.Raw text) = Some kinds.LineScope
+abbrev pub line_broken : EventKind (List ℕ) → Option NoteKind
+line_broken (kinds.Close closer) = closer_breaks closer
+line_broken (kinds.Leaf leaf) = leaf_breaks leaf
+line_broken (kinds.Raw text) = Some note_kinds.LineScope
 line_broken _ = None
 
 -- ---- any scope, by its end
 
-abbrev pub end_broken : Deed (List ℕ) → ScopeEnd (List ℕ) → Option NoteKind
-end_broken deed ends.Implied = None
-end_broken deed ends.Line = line_broken deed
-end_broken deed (ends.Closer own) = explicit_broken deed own
+abbrev pub end_broken : EventKind (List ℕ) → ScopeEnd (List ℕ) → Option NoteKind
+end_broken kind ends.Implied = None
+end_broken kind ends.Line = line_broken kind
+end_broken kind (ends.Closer own) = explicit_broken kind own
 
 -- at the page's end line scopes end without a message
 abbrev pub page_end_broken : ScopeEnd (List ℕ) → Option NoteKind
-page_end_broken (ends.Closer own) = Some kinds.MissingEnd
+page_end_broken (ends.Closer own) = Some note_kinds.MissingEnd
 page_end_broken _ = None
 
 abbrev pub broken : Act (Event (List ℕ)) → Label → Option NoteKind
-broken (acts.Event event) label = end_broken event.deed (label_row label).end
+broken (acts.Event event) label = end_broken event.kind (label_row label).end
 broken (acts.PageEnd line) label = page_end_broken (label_row label).end
 
 abbrev pub says : NoteKind → Place → List ℕ → Item
@@ -100,16 +100,16 @@ broken_notes act label = note_if (broken act label) (act_place act) (label_name 
 
 -- ---- refused events
 
-abbrev pub deed_closer_name : Deed (List ℕ) → List ℕ
-deed_closer_name (deeds.Close closer) = closer_name closer
-deed_closer_name _ = []
+abbrev pub kind_closer_name : EventKind (List ℕ) → List ℕ
+kind_closer_name (kinds.Close closer) = closer_name closer
+kind_closer_name _ = []
 
 abbrev pub act_closer_name : Act (Event (List ℕ)) → List ℕ
-act_closer_name (acts.Event event) = deed_closer_name event.deed
+act_closer_name (acts.Event event) = kind_closer_name event.kind
 act_closer_name (acts.PageEnd line) = []
 
 abbrev pub obstacle_notes : Obstacle → Act (Event (List ℕ)) → List Item
-obstacle_notes OutsideList act = says kinds.ItemOutside (act_place act) [] ∷ []
-obstacle_notes Scopes act = says kinds.Limit (act_place act) (name_of limits.Scopes) ∷ []
-obstacle_notes NotOpen act = says kinds.NotOpen (act_place act) (act_closer_name act) ∷ []
-obstacle_notes FewerMargins act = says kinds.FewerRs (act_place act) [] ∷ []
+obstacle_notes OutsideList act = says note_kinds.ItemOutside (act_place act) [] ∷ []
+obstacle_notes Scopes act = says note_kinds.Limit (act_place act) (name_of limits.Scopes) ∷ []
+obstacle_notes NotOpen act = says note_kinds.NotOpen (act_place act) (act_closer_name act) ∷ []
+obstacle_notes FewerMargins act = says note_kinds.FewerRs (act_place act) [] ∷ []

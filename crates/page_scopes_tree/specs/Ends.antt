@@ -6,8 +6,8 @@ use Rattle.page_core_numbers.specs.Expressions.{expression_of}
 use Rattle.page_core_numbers.specs.declared.scales.Scale.TheVariants.{Basic}
 use Rattle.page_sets_lines.specs.Blocks.{closed_block}
 use Rattle.page_sets_lines.specs.declared.events.Event.{Event}
-use Rattle.page_sets_lines.specs.declared.events.Deed.{Deed}
-use Rattle.page_sets_lines.specs.declared.events.Deed.TheVariants as deeds
+use Rattle.page_sets_lines.specs.declared.events.EventKind.{EventKind}
+use Rattle.page_sets_lines.specs.declared.events.EventKind.TheVariants as kinds
 use Rattle.page_sets_lines.specs.declared.leaves.Leaf.{Leaf}
 use Rattle.page_sets_lines.specs.declared.leaves.Leaf.TheVariants as leaves
 use Rattle.page_sets_lines.specs.declared.openers.Opener.{Opener}
@@ -99,17 +99,17 @@ abbrev pub leaf_ends : Leaf (List ℕ) → List Label → ℕ
 leaf_ends leaves.BlankLine nodes = line_scopes nodes
 leaf_ends _ nodes = 0
 
-abbrev pub deed_ends : Deed (List ℕ) → List Label → ℕ
-deed_ends (deeds.Word word) nodes = 0
-deed_ends (deeds.Open opener) nodes = opener_ends opener nodes
-deed_ends (deeds.Close closer) nodes = closer_ends closer nodes
-deed_ends (deeds.LineScope opener) nodes = 0
-deed_ends (deeds.Leaf leaf) nodes = leaf_ends leaf nodes
-deed_ends (deeds.Raw text) nodes = line_scopes nodes
-deed_ends (deeds.End fills) nodes = if fills then line_scopes nodes else 0
-deed_ends (deeds.Note kind detail is_quoted begins_body) nodes = 0
+abbrev pub kind_ends : EventKind (List ℕ) → List Label → ℕ
+kind_ends (kinds.Word word) nodes = 0
+kind_ends (kinds.Open opener) nodes = opener_ends opener nodes
+kind_ends (kinds.Close closer) nodes = closer_ends closer nodes
+kind_ends (kinds.LineScope opener) nodes = 0
+kind_ends (kinds.Leaf leaf) nodes = leaf_ends leaf nodes
+kind_ends (kinds.Raw text) nodes = line_scopes nodes
+kind_ends (kinds.End fills) nodes = if fills then line_scopes nodes else 0
+kind_ends (kinds.Note kind detail is_quoted begins_body) nodes = 0
 
 -- the page's end ends all
 abbrev pub act_ends : Act (Event (List ℕ)) → List Label → ℕ
-act_ends (acts.Event event) nodes = deed_ends event.deed nodes
+act_ends (acts.Event event) nodes = kind_ends event.kind nodes
 act_ends (acts.PageEnd line) nodes = length nodes

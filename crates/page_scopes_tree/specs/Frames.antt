@@ -5,7 +5,7 @@ use Rattle.page_core_base.specs.Pieces.{Item}
 use Rattle.page_core_base.specs.declared.places.Place.{Place}
 use Rattle.page_scopes_laws.specs.Layouts.{Layout}
 use Rattle.page_sets_lines.specs.declared.events.Event.{Event}
-use Rattle.page_sets_lines.specs.declared.events.Deed.TheVariants.{End}
+use Rattle.page_sets_lines.specs.declared.events.EventKind.TheVariants.{End}
 use Rattle.page_scopes_tree.specs.Acts.{Step, comes, does, act_place}
 use Rattle.page_scopes_tree.specs.Broken.{broken_notes, obstacle_notes}
 use Rattle.page_scopes_tree.specs.Nests.{Fact, coming, standing, refused}
@@ -33,7 +33,7 @@ act_of (does act) = act
 -- the event of an act; the page's end opens nothing
 abbrev pub event_of : Act (Event (List ℕ)) → Event (List ℕ)
 event_of (acts.Event event) = event
-event_of (acts.PageEnd line) = record { place = record { line = line; column = 1 }; deed = End false }
+event_of (acts.PageEnd line) = record { place = record { line = line; column = 1 }; kind = End false }
 
 abbrev pub fact_items : {S B : Type 0} → Tables S B → Fact → S → List Item
 fact_items tables (coming event) s = tables.coming_items event s

@@ -1,6 +1,6 @@
 pub mod Acts
 pub mod Ends
-pub mod Standings
+pub mod Placements
 pub mod Broken
 pub mod Nests
 pub mod Frames

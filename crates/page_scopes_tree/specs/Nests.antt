@@ -3,13 +3,13 @@ use Rattle.std.specs.Prelude.{ℕ, Bool, List, if◌then◌else◌}
 use Rattle.page_scopes_laws.specs.Nestings.{Nesting, Standing, as_node, as_leaf, as_nothing}
 use Rattle.page_scopes_tree.specs.Acts.{Step, comes, does}
 use Rattle.page_scopes_tree.specs.Ends.{act_ends}
-use Rattle.page_scopes_tree.specs.Standings.{act_fate, act_skips, is_passed_over}
+use Rattle.page_scopes_tree.specs.Placements.{act_placement, act_skips, is_passed_over}
 use Rattle.page_sets_lines.specs.declared.events.Event.{Event}
 use Rattle.page_scopes_tree.specs.declared.acts.Act.{Act}
 use Rattle.page_scopes_labels.specs.declared.labels.Label.{Label}
-use Rattle.page_scopes_tree.specs.declared.standings.Fate.{Fate}
-use Rattle.page_scopes_tree.specs.declared.standings.Fate.TheVariants as fates
-use Rattle.page_scopes_tree.specs.declared.standings.Obstacle.{Obstacle}
+use Rattle.page_scopes_tree.specs.declared.placements.Placement.{Placement}
+use Rattle.page_scopes_tree.specs.declared.placements.Placement.TheVariants as placements
+use Rattle.page_scopes_tree.specs.declared.placements.Obstacle.{Obstacle}
 
 -- what a leaf is: an event that comes, an act that opens and closes nothing, or one that is refused
 pub data Fact : Type 0 where
@@ -17,11 +17,11 @@ pub data Fact : Type 0 where
   standing : Act (Event (List ℕ)) → Fact
   refused : Obstacle → Act (Event (List ℕ)) → Fact
 
-abbrev pub standing_by : Act (Event (List ℕ)) → Fate → Standing Label Fact
-standing_by act (fates.Node label) = as_node label
-standing_by act fates.Leaf = as_leaf (standing act)
-standing_by act (fates.Refused obstacle) = as_leaf (refused obstacle act)
-standing_by act fates.Nothing = as_nothing
+abbrev pub standing_by : Act (Event (List ℕ)) → Placement → Standing Label Fact
+standing_by act (placements.Node label) = as_node label
+standing_by act placements.Leaf = as_leaf (standing act)
+standing_by act (placements.Refused obstacle) = as_leaf (refused obstacle act)
+standing_by act placements.Nothing = as_nothing
 
 abbrev pub step_ends : Bool → Step → List Label → ℕ
 step_ends skips (comes event) nodes = 0
@@ -29,7 +29,7 @@ step_ends skips (does act) nodes = if is_passed_over skips act then 0 else act_e
 
 abbrev pub step_standing : Bool → Step → ℕ → List Label → Standing Label Fact
 step_standing skips (comes event) n remaining = if skips then as_nothing else as_leaf (coming event)
-step_standing skips (does act) n remaining = if is_passed_over skips act then as_nothing else standing_by act (act_fate act n remaining)
+step_standing skips (does act) n remaining = if is_passed_over skips act then as_nothing else standing_by act (act_placement act n remaining)
 
 abbrev pub step_skips : Bool → Step → ℕ → List Label → Bool
 step_skips skips (comes event) n remaining = skips

@@ -1,7 +1,7 @@
 //! What happens to the open scopes of a page: events, and its end (man(7)).
 
 ghost use Rattle.std.specs.Prelude.{◌≡◌};
-ghost use Rattle.page_scopes_tree.specs.Acts.{act_seen, act_place};
+ghost use Rattle.page_scopes_tree.specs.Acts.{act_view, act_place};
 
 use page_core_base::Place;
 use page_sets_lines::Event;
@@ -30,7 +30,7 @@ impl<E: Copy> Clone for Act<E> {
 impl Act<&Event<&[u8]>> {
     /// The place that its messages name.
     pub fn place(&self) -> Place
-        ensures { result ≡ act_place (act_seen self.now) }
+        ensures { result ≡ act_place (act_view self.now) }
     {
         match *self {
             Act::Event(event) => event.place,

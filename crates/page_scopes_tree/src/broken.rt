@@ -2,17 +2,17 @@
 
 ghost use Rattle.std.specs.Prelude.{◌≡◌, [], ◌∷◌};
 ghost use Rattle.page_core_base.specs.Latches.{Came};
-ghost use Rattle.page_scopes_tree.specs.Acts.{act_seen};
+ghost use Rattle.page_scopes_tree.specs.Acts.{act_view};
 ghost use Rattle.page_scopes_tree.specs.Broken as broken;
-ghost use Rattle.page_scopes_labels.specs.Labels.{end_seen};
-ghost use Rattle.page_sets_lines.specs.Events.{closer_seen, deed_seen, opener_seen};
+ghost use Rattle.page_scopes_labels.specs.Labels.{end_view};
+ghost use Rattle.page_sets_lines.specs.Events.{closer_view, kind_view, opener_view};
 
 use crate::Act;
-use crate::standings::Obstacle;
+use crate::placements::Obstacle;
 use page_core_base::{Note, NoteKind, PieceOut, Place};
 use page_core_limits::Limit;
 use page_scopes_labels::{Label, ScopeEnd};
-use page_sets_lines::{Closer, Deed, Event, Leaf, Opener};
+use page_sets_lines::{Closer, EventKind, Event, Leaf, Opener};
 
 // Gives a message about a place.
 fn report<O: PieceOut>(out: &mut O, kind: NoteKind, place: Place, detail: &[u8])
@@ -23,7 +23,7 @@ fn report<O: PieceOut>(out: &mut O, kind: NoteKind, place: Place, detail: &[u8])
 
 // The name of a closer.
 fn closer_name(closer: &Closer<&[u8]>) -> &'static str
-    ensures { result.now ≡ broken.closer_name (closer_seen closer.now) }
+    ensures { result.now ≡ broken.closer_name (closer_view closer.now) }
 {
     match *closer {
         Closer::Line | Closer::Enclosures => "",
@@ -36,7 +36,7 @@ fn closer_name(closer: &Closer<&[u8]>) -> &'static str
 
 // The name of the closer that an opener does the work of.
 fn opener_closer_name(opener: &Opener<&[u8]>) -> &'static str
-    ensures { result.now ≡ broken.opener_closer_name (opener_seen opener.now) }
+    ensures { result.now ≡ broken.opener_closer_name (opener_view opener.now) }
 {
     match *opener {
         Opener::Syntax(_) => "YS",
@@ -45,51 +45,51 @@ fn opener_closer_name(opener: &Opener<&[u8]>) -> &'static str
 }
 
 // The message of a scope, unless it ends by its own closer.
-fn broken_unless(is_own: bool, kind: NoteKind) -> Option<NoteKind>
-    ensures { result ≡ broken.broken_unless is_own kind }
+fn broken_unless(is_generated: bool, kind: NoteKind) -> Option<NoteKind>
+    ensures { result ≡ broken.broken_unless is_generated kind }
 {
-    if is_own { None } else { Some(kind) }
+    if is_generated { None } else { Some(kind) }
 }
 
-// The message of a scope with a closer of this name that a deed ends.
-fn explicit_broken(deed: &Deed<&[u8]>, own: &str) -> Option<NoteKind>
-    ensures { result ≡ broken.explicit_broken (deed_seen deed.now) own.now }
+// The message of a scope with a closer of this name that an event ends.
+fn explicit_broken(kind: &EventKind<&[u8]>, own: &str) -> Option<NoteKind>
+    ensures { result ≡ broken.explicit_broken (kind_view kind.now) own.now }
 {
-    match deed {
-        Deed::Close(closer) => broken_unless(closer_name(closer) == own, NoteKind::BadNest),
-        Deed::Open(opener) => {
+    match kind {
+        EventKind::Close(closer) => broken_unless(closer_name(closer) == own, NoteKind::BadNest),
+        EventKind::Open(opener) => {
             broken_unless(opener_closer_name(opener) == own, NoteKind::MissingEnd)
         }
         _ => Some(NoteKind::MissingEnd),
     }
 }
 
-// The message of a line scope that a deed ends.
-fn line_broken(deed: &Deed<&[u8]>) -> Option<NoteKind>
-    ensures { result ≡ broken.line_broken (deed_seen deed.now) }
+// The message of a line scope that an event ends.
+fn line_broken(kind: &EventKind<&[u8]>) -> Option<NoteKind>
+    ensures { result ≡ broken.line_broken (kind_view kind.now) }
 {
-    match deed {
-        Deed::Close(Closer::Line) | Deed::Leaf(Leaf::BlankLine) | Deed::Raw(_) => {
+    match kind {
+        EventKind::Close(Closer::Line) | EventKind::Leaf(Leaf::BlankLine) | EventKind::Raw(_) => {
             Some(NoteKind::LineScope)
         }
         _ => None,
     }
 }
 
-// The message of a scope that a deed ends, by how the scope ends.
-fn end_broken(deed: &Deed<&[u8]>, end: ScopeEnd<&'static str>) -> Option<NoteKind>
-    ensures { result ≡ broken.end_broken (deed_seen deed.now) (end_seen end.entry) }
+// The message of a scope that an event ends, by how the scope ends.
+fn end_broken(kind: &EventKind<&[u8]>, end: ScopeEnd<&'static str>) -> Option<NoteKind>
+    ensures { result ≡ broken.end_broken (kind_view kind.now) (end_view end.entry) }
 {
     match end {
         ScopeEnd::Implied => None,
-        ScopeEnd::Line => line_broken(deed),
-        ScopeEnd::Closer(own) => explicit_broken(deed, own),
+        ScopeEnd::Line => line_broken(kind),
+        ScopeEnd::Closer(own) => explicit_broken(kind, own),
     }
 }
 
 // The message of a scope that the page's end ends.
 fn page_end_broken(end: ScopeEnd<&'static str>) -> Option<NoteKind>
-    ensures { result ≡ broken.page_end_broken (end_seen end.entry) }
+    ensures { result ≡ broken.page_end_broken (end_view end.entry) }
 {
     match end {
         ScopeEnd::Closer(_) => Some(NoteKind::MissingEnd),
@@ -99,18 +99,18 @@ fn page_end_broken(end: ScopeEnd<&'static str>) -> Option<NoteKind>
 
 // The message of a scope that an act ends.
 fn broken(act: &Act<&Event<&[u8]>>, label: Label) -> Option<NoteKind>
-    ensures { result ≡ broken.broken (act_seen act.now) label }
+    ensures { result ≡ broken.broken (act_view act.now) label }
 {
     let end = label.row().end;
     match act {
-        Act::Event(event) => end_broken(&event.deed, end),
+        Act::Event(event) => end_broken(&event.kind, end),
         Act::PageEnd(_) => page_end_broken(end),
     }
 }
 
 /// Gives the message of a scope that an act ends, if there is one.
 pub(crate) fn report_broken<O: PieceOut>(out: &mut O, act: &Act<&Event<&[u8]>>, label: Label)
-    ensures { Came O.left out.old (broken.broken_notes (act_seen act.now) label) out.new }
+    ensures { Came O.left out.old (broken.broken_notes (act_view act.now) label) out.new }
 {
     if let Some(kind) = broken(act, label) {
         report(out, kind, act.place(), label.name().as_bytes());
@@ -119,11 +119,11 @@ pub(crate) fn report_broken<O: PieceOut>(out: &mut O, act: &Act<&Event<&[u8]>>, 
 
 // The name of the closer that an act is.
 fn act_closer_name(act: &Act<&Event<&[u8]>>) -> &'static str
-    ensures { result.now ≡ broken.act_closer_name (act_seen act.now) }
+    ensures { result.now ≡ broken.act_closer_name (act_view act.now) }
 {
     match act {
-        Act::Event(event) => match &event.deed {
-            Deed::Close(closer) => closer_name(closer),
+        Act::Event(event) => match &event.kind {
+            EventKind::Close(closer) => closer_name(closer),
             _ => "",
         },
         Act::PageEnd(_) => "",
@@ -137,7 +137,7 @@ pub(crate) fn report_obstacle<O: PieceOut>(
     obstacle: Obstacle,
     act: &Act<&Event<&[u8]>>,
 )
-    ensures { Came O.left out.old (broken.obstacle_notes obstacle (act_seen act.now)) out.new }
+    ensures { Came O.left out.old (broken.obstacle_notes obstacle (act_view act.now)) out.new }
 {
     let place = act.place();
     match obstacle {

@@ -4,9 +4,9 @@ ghost use Rattle.std.specs.Prelude.{◌≡◌, ◌≤◌, ◌<◌, length, rever
 ghost use Rattle.page_core_numbers.specs.Expressions.{expression_of};
 ghost use Rattle.page_core_numbers.specs.declared.scales.Scale.TheVariants.{Basic};
 ghost use Rattle.page_scopes_laws.specs.Layouts.{labels};
-ghost use Rattle.page_scopes_tree.specs.Acts.{act_seen};
+ghost use Rattle.page_scopes_tree.specs.Acts.{act_view};
 ghost use Rattle.page_scopes_tree.specs.Ends as ends;
-ghost use Rattle.page_sets_lines.specs.Events.{closer_seen, deed_seen, opener_seen, text_seen};
+ghost use Rattle.page_sets_lines.specs.Events.{closer_view, kind_view, opener_view, text_view};
 
 use crate::Act;
 use crate::numbers::basic_number;
@@ -14,7 +14,7 @@ use crate::runs::{Run, run_len};
 use page_core_limits::SCOPES;
 use page_scopes_labels::{Explicit, Label};
 use page_scopes_laws::Scope;
-use page_sets_lines::{Closer, Deed, Event, Leaf, Opener};
+use page_sets_lines::{Closer, EventKind, Event, Leaf, Opener};
 
 // All scopes up to one that was found and with it, and none where it does not come before an end.
 fn up_to(found: usize, end: usize) -> usize
@@ -89,7 +89,7 @@ fn up_to_margin<B>(number: i32, scopes: &[Scope<Label, B>]) -> usize
 // What `RE` ends.
 fn margin_ends<B>(number: Option<&[u8]>, scopes: &[Scope<Label, B>]) -> usize
     requires { length scopes.now ≤ SCOPES }
-    ensures { result ≡ ends.margin_ends (text_seen number.entry) (labels (reverse scopes.now)) }
+    ensures { result ≡ ends.margin_ends (text_view number.entry) (labels (reverse scopes.now)) }
 {
     match number {
         None => up_to_explicit(Explicit::RelativeMargin, scopes),
@@ -102,7 +102,7 @@ fn margin_ends<B>(number: Option<&[u8]>, scopes: &[Scope<Label, B>]) -> usize
 #[inline(never)]
 fn opener_ends<B>(opener: &Opener<&[u8]>, scopes: &[Scope<Label, B>]) -> usize
     requires { length scopes.now ≤ SCOPES }
-    ensures { result ≡ ends.opener_ends (opener_seen opener.now) (labels (reverse scopes.now)) }
+    ensures { result ≡ ends.opener_ends (opener_view opener.now) (labels (reverse scopes.now)) }
 {
     match opener {
         Opener::Item => up_to_item(scopes),
@@ -120,7 +120,7 @@ fn opener_ends<B>(opener: &Opener<&[u8]>, scopes: &[Scope<Label, B>]) -> usize
 #[inline(never)]
 fn closer_ends<B>(closer: &Closer<&[u8]>, scopes: &[Scope<Label, B>]) -> usize
     requires { length scopes.now ≤ SCOPES }
-    ensures { result ≡ ends.closer_ends (closer_seen closer.now) (labels (reverse scopes.now)) }
+    ensures { result ≡ ends.closer_ends (closer_view closer.now) (labels (reverse scopes.now)) }
 {
     match closer {
         Closer::Line => run_len(Run::Lines, scopes),
@@ -134,14 +134,14 @@ fn closer_ends<B>(closer: &Closer<&[u8]>, scopes: &[Scope<Label, B>]) -> usize
 
 // What an event ends.
 #[inline(always)]
-fn deed_ends<B>(deed: &Deed<&[u8]>, scopes: &[Scope<Label, B>]) -> usize
+fn kind_ends<B>(kind: &EventKind<&[u8]>, scopes: &[Scope<Label, B>]) -> usize
     requires { length scopes.now ≤ SCOPES }
-    ensures { result ≡ ends.deed_ends (deed_seen deed.now) (labels (reverse scopes.now)) }
+    ensures { result ≡ ends.kind_ends (kind_view kind.now) (labels (reverse scopes.now)) }
 {
-    match deed {
-        Deed::Open(opener) => opener_ends(opener, scopes),
-        Deed::Close(closer) => closer_ends(closer, scopes),
-        Deed::Leaf(Leaf::BlankLine) | Deed::Raw(_) | Deed::End { fills: true } => {
+    match kind {
+        EventKind::Open(opener) => opener_ends(opener, scopes),
+        EventKind::Close(closer) => closer_ends(closer, scopes),
+        EventKind::Leaf(Leaf::BlankLine) | EventKind::Raw(_) | EventKind::End { fills: true } => {
             run_len(Run::Lines, scopes)
         }
         _ => 0,
@@ -152,10 +152,10 @@ fn deed_ends<B>(deed: &Deed<&[u8]>, scopes: &[Scope<Label, B>]) -> usize
 #[inline(always)]
 pub(crate) fn count_ended<B>(act: &Act<&Event<&[u8]>>, scopes: &[Scope<Label, B>]) -> usize
     requires { length scopes.now ≤ SCOPES }
-    ensures { result ≡ ends.act_ends (act_seen act.now) (labels (reverse scopes.now)) }
+    ensures { result ≡ ends.act_ends (act_view act.now) (labels (reverse scopes.now)) }
 {
     match act {
-        Act::Event(event) => deed_ends(&event.deed, scopes),
+        Act::Event(event) => kind_ends(&event.kind, scopes),
         Act::PageEnd(_) => scopes.len(),
     }
 }

@@ -9,12 +9,12 @@ ghost use Rattle.page_scopes_tree.specs.Edges.{ScopesEdge, events_edge, events_i
 ghost use Rattle.page_scopes_tree.specs.Nests.{scopes_nesting};
 ghost use Rattle.page_scopes_labels.specs.declared.labels.Label.{Label};
 
-use crate::Laying;
+use crate::Renderer;
 use page_core_limits::SCOPES;
 
 /// Events cut anywhere between two of them give what those before the cut give, and then what those after it give from the edge at the cut, the page's
 /// end too; and they leave the same.
-pub fn events_law<Y: Laying>()
+pub fn events_law<Y: Renderer>()
     ensures given { (d : ScopesEdge Y Y.Kept) (events more : List (Event (List ℕ)))
         → events_items Y.tables d (events ++ more)
         ≡ events_items Y.tables d events ++ events_items Y.tables (events_edge Y.tables d events) more }

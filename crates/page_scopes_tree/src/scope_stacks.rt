@@ -3,10 +3,10 @@
 ghost use Rattle.std.specs.Prelude.{◌≡◌, ◌≤◌, [], ◌∷◌, length, false, IfOk, vec_capacity};
 ghost use Rattle.page_core_base.specs.Latches.{Came};
 ghost use Rattle.page_scopes_tree.specs.Edges.{events_edge, events_items, page_end_edge, page_end_items};
-ghost use Rattle.page_sets_lines.specs.Events.{event_seen};
+ghost use Rattle.page_sets_lines.specs.Events.{event_view};
 
 use crate::stacks::{take_act, take_coming};
-use crate::{Act, Laying};
+use crate::{Act, Renderer};
 use page_core_base::PieceOut;
 use page_core_limits::SCOPES;
 use page_scopes_labels::Label;
@@ -17,13 +17,13 @@ use std::marker::Model;
 
 /// The open scopes of a page, with the state of its layout. Its room is reserved when it is made.
 #[derive(Drop)]
-pub struct ScopeStack<Y: Laying> {
+pub struct ScopeStack<Y: Renderer> {
     scopes: Vec<Scope<Label, Y::Kept>>,
     skips: bool,
     state: Y,
 }
 
-impl<Y: Laying> Model for ScopeStack<Y> {
+impl<Y: Renderer> Model for ScopeStack<Y> {
     ghost use Rattle.std.specs.Prelude.{◌≤◌, vec_capacity, vec_len};
     ghost use Rattle.page_scopes_tree.specs.Edges.{ScopesEdge};
     ghost use Rattle.page_scopes_tree.specs.Stacks.{stack_edge};
@@ -37,7 +37,7 @@ impl<Y: Laying> Model for ScopeStack<Y> {
 }
 
 // The same scopes, the outermost first, with room for as many as may be open.
-fn copy_scopes<Y: Laying>(
+fn copy_scopes<Y: Renderer>(
     alloc: Global,
     scopes: &[Scope<Label, Y::Kept>],
 ) -> Result<Vec<Scope<Label, Y::Kept>>, AllocError>
@@ -55,7 +55,7 @@ fn copy_scopes<Y: Laying>(
     Ok(copy)
 }
 
-impl<Y: Laying> ScopeStack<Y> {
+impl<Y: Renderer> ScopeStack<Y> {
     /// The same open scopes, with this state of the layout.
     pub fn copy(&self, alloc: Global, state: Y) -> Result<ScopeStack<Y>, AllocError>
         ensures { IfOk result (λ stack. stack ≡ record { mode = self.now.mode; scopes = self.now.scopes; state = state }) }
@@ -113,10 +113,10 @@ impl<Y: Laying> ScopeStack<Y> {
     /// Takes an event, and gives what it settles.
     #[inline(always)]
     pub fn apply<O: PieceOut>(&mut self, event: &Event<&[u8]>, out: &mut O)
-        requires { Y.Takes (event_seen event.now) }
+        requires { Y.Takes (event_view event.now) }
         ensures came { Came O.left out.old
-            (events_items Y.tables self.old (event_seen event.now ∷ [])) out.new }
-        ensures edge { self.new ≡ events_edge Y.tables self.old (event_seen event.now ∷ []) }
+            (events_items Y.tables self.old (event_view event.now ∷ [])) out.new }
+        ensures edge { self.new ≡ events_edge Y.tables self.old (event_view event.now ∷ []) }
     {
         take_coming(
             self.scopes.as_slice(),

@@ -4,16 +4,16 @@ ghost use Rattle.std.specs.Prelude.{◌≡◌, ◌≤◌, ◌<◌, ◌+◌, Bool
 ghost use Rattle.page_core_base.specs.Latches.{Came};
 ghost use Rattle.page_scopes_laws.specs.Layouts.{Edge, labels};
 ghost use Rattle.page_scopes_laws.specs.Machines.{ended_items, ended_state, placed_items, placed_scopes, placed_state, step, step_items};
-ghost use Rattle.page_scopes_tree.specs.Acts.{TakesAct, act_seen, comes, does};
+ghost use Rattle.page_scopes_tree.specs.Acts.{TakesAct, act_view, comes, does};
 ghost use Rattle.page_scopes_tree.specs.Frames.{framed};
 ghost use Rattle.page_scopes_tree.specs.Nests.{scopes_nesting};
 ghost use Rattle.page_scopes_tree.specs.Stacks.{Keeps, TakesStep, is_idle, stack_edge, stack_standing, stands_alone};
-ghost use Rattle.page_sets_lines.specs.Events.{event_seen};
+ghost use Rattle.page_sets_lines.specs.Events.{event_view};
 
 use crate::broken::{report_broken, report_obstacle};
 use crate::ends::count_ended;
-use crate::standings::{Fate, fate_of, is_idle, is_passed_over, skips_after, stands_alone};
-use crate::{Act, Laying};
+use crate::placements::{Placement, placement_of, is_idle, is_passed_over, skips_after, stands_alone};
+use crate::{Act, Renderer};
 use page_core_base::PieceOut;
 use page_core_limits::SCOPES;
 use page_scopes_labels::Label;
@@ -22,16 +22,16 @@ use page_sets_lines::Event;
 
 // Gives the end of the innermost scope, which an act ends.
 #[inline(always)]
-fn give_innermost<Y: Laying, O: PieceOut>(
+fn give_innermost<Y: Renderer, O: PieceOut>(
     scopes: &[Scope<Label, Y::Kept>],
     state: &mut Y,
     act: &Act<&Event<&[u8]>>,
     out: &mut O,
 )
     ensures came { Came O.left out.old
-        (ended_items (framed Y.tables) 1 (does (act_seen act.now)) (reverse scopes.now) state.old) out.new }
+        (ended_items (framed Y.tables) 1 (does (act_view act.now)) (reverse scopes.now) state.old) out.new }
     ensures state { state.new
-        ≡ ended_state (framed Y.tables) 1 (does (act_seen act.now)) (reverse scopes.now) state.old }
+        ≡ ended_state (framed Y.tables) 1 (does (act_view act.now)) (reverse scopes.now) state.old }
 {
     if let Some(scope) = scopes.last() {
         report_broken(out, act, scope.label);
@@ -41,7 +41,7 @@ fn give_innermost<Y: Laying, O: PieceOut>(
 
 // An act ends the innermost scope.
 #[inline(never)]
-fn end_innermost<Y: Laying, O: PieceOut>(
+fn end_innermost<Y: Renderer, O: PieceOut>(
     scopes: &mut Vec<Scope<Label, Y::Kept>>,
     state: &mut Y,
     act: &Act<&Event<&[u8]>>,
@@ -49,10 +49,10 @@ fn end_innermost<Y: Laying, O: PieceOut>(
 )
     requires { 0 < vec_len scopes.old }
     ensures came { Came O.left out.old
-        (ended_items (framed Y.tables) 1 (does (act_seen act.now)) (reverse scopes.old.items) state.old)
+        (ended_items (framed Y.tables) 1 (does (act_view act.now)) (reverse scopes.old.items) state.old)
         out.new }
     ensures state { state.new
-        ≡ ended_state (framed Y.tables) 1 (does (act_seen act.now)) (reverse scopes.old.items) state.old }
+        ≡ ended_state (framed Y.tables) 1 (does (act_view act.now)) (reverse scopes.old.items) state.old }
     ensures scopes { Keeps scopes.old scopes.new (drop 1 (reverse scopes.old.items)) }
     ensures len { vec_len scopes.new + 1 ≡ vec_len scopes.old }
 {
@@ -62,7 +62,7 @@ fn end_innermost<Y: Laying, O: PieceOut>(
 
 // An act ends this many of the innermost scopes.
 #[inline(always)]
-fn end_scopes<Y: Laying, O: PieceOut>(
+fn end_scopes<Y: Renderer, O: PieceOut>(
     scopes: &mut Vec<Scope<Label, Y::Kept>>,
     state: &mut Y,
     count: usize,
@@ -71,10 +71,10 @@ fn end_scopes<Y: Laying, O: PieceOut>(
 )
     requires { count ≤ vec_len scopes.old }
     ensures came { Came O.left out.old
-        (ended_items (framed Y.tables) count (does (act_seen act.now)) (reverse scopes.old.items) state.old)
+        (ended_items (framed Y.tables) count (does (act_view act.now)) (reverse scopes.old.items) state.old)
         out.new }
     ensures state { state.new
-        ≡ ended_state (framed Y.tables) count (does (act_seen act.now)) (reverse scopes.old.items) state.old }
+        ≡ ended_state (framed Y.tables) count (does (act_view act.now)) (reverse scopes.old.items) state.old }
     ensures scopes { Keeps scopes.old scopes.new (drop count (reverse scopes.old.items)) }
 {
     for _i in 0..count {
@@ -84,7 +84,7 @@ fn end_scopes<Y: Laying, O: PieceOut>(
 
 // A scope opens.
 #[inline(never)]
-fn open_scope<Y: Laying, O: PieceOut>(
+fn open_scope<Y: Renderer, O: PieceOut>(
     scopes: &mut Vec<Scope<Label, Y::Kept>>,
     state: &mut Y,
     label: Label,
@@ -92,11 +92,11 @@ fn open_scope<Y: Laying, O: PieceOut>(
     out: &mut O,
 )
     requires room { vec_len scopes.old < vec_capacity scopes.old }
-    requires takes { Y.Takes (event_seen event.now) }
-    ensures came { Came O.left out.old (Y.tables.begin_items label (event_seen event.now) state.old) out.new }
-    ensures state { state.new ≡ Y.tables.begin_state label (event_seen event.now) state.old }
+    requires takes { Y.Takes (event_view event.now) }
+    ensures came { Came O.left out.old (Y.tables.begin_items label (event_view event.now) state.old) out.new }
+    ensures state { state.new ≡ Y.tables.begin_state label (event_view event.now) state.old }
     ensures scopes { Keeps scopes.old scopes.new
-        (record { label = label; before = Y.tables.keep label (event_seen event.now) state.old }
+        (record { label = label; before = Y.tables.keep label (event_view event.now) state.old }
         ∷ reverse scopes.old.items) }
 {
     state.keep(label, event, scopes);
@@ -105,7 +105,7 @@ fn open_scope<Y: Laying, O: PieceOut>(
 
 // An event itself, after it ended this many scopes.
 #[inline(always)]
-fn place_event<Y: Laying, O: PieceOut>(
+fn place_event<Y: Renderer, O: PieceOut>(
     scopes: &mut Vec<Scope<Label, Y::Kept>>,
     state: &mut Y,
     count: usize,
@@ -114,27 +114,27 @@ fn place_event<Y: Laying, O: PieceOut>(
 )
     requires depth { vec_len scopes.old ≤ SCOPES }
     requires reserved { SCOPES ≤ vec_capacity scopes.old }
-    requires takes { Y.Takes (event_seen event.now) }
-    ensures came { let seen = Act.Event (event_seen event.now) in let st = stack_standing seen count scopes.old
+    requires takes { Y.Takes (event_view event.now) }
+    ensures came { let seen = Act.Event (event_view event.now) in let st = stack_standing seen count scopes.old
         in Came O.left out.old (placed_items (framed Y.tables) st (does seen) state.old) out.new }
-    ensures state { let seen = Act.Event (event_seen event.now) in let st = stack_standing seen count scopes.old
+    ensures state { let seen = Act.Event (event_view event.now) in let st = stack_standing seen count scopes.old
         in state.new ≡ placed_state (framed Y.tables) st (does seen) state.old }
-    ensures scopes { let seen = Act.Event (event_seen event.now) in let st = stack_standing seen count scopes.old
+    ensures scopes { let seen = Act.Event (event_view event.now) in let st = stack_standing seen count scopes.old
         in Keeps scopes.old scopes.new
         (placed_scopes (framed Y.tables) st (does seen) (reverse scopes.old.items) state.old) }
 {
     let act = Act::Event(event);
-    match fate_of(&act, count, scopes.as_slice()) {
-        Fate::Node(label) => open_scope(scopes, state, label, event, out),
-        Fate::Leaf => state.leaf(&act, out),
-        Fate::Refused(obstacle) => report_obstacle(out, obstacle, &act),
-        Fate::Nothing => {}
+    match placement_of(&act, count, scopes.as_slice()) {
+        Placement::Node(label) => open_scope(scopes, state, label, event, out),
+        Placement::Leaf => state.leaf(&act, out),
+        Placement::Refused(obstacle) => report_obstacle(out, obstacle, &act),
+        Placement::Nothing => {}
     }
 }
 
 // The act itself, after it ended this many scopes.
 #[inline(always)]
-fn place_act<Y: Laying, O: PieceOut>(
+fn place_act<Y: Renderer, O: PieceOut>(
     scopes: &mut Vec<Scope<Label, Y::Kept>>,
     state: &mut Y,
     count: usize,
@@ -143,15 +143,15 @@ fn place_act<Y: Laying, O: PieceOut>(
 )
     requires depth { vec_len scopes.old ≤ SCOPES }
     requires reserved { SCOPES ≤ vec_capacity scopes.old }
-    requires takes { TakesAct Y.Takes (act_seen act.now) }
-    ensures came { let st = stack_standing (act_seen act.now) count scopes.old
-        in Came O.left out.old (placed_items (framed Y.tables) st (does (act_seen act.now)) state.old)
+    requires takes { TakesAct Y.Takes (act_view act.now) }
+    ensures came { let st = stack_standing (act_view act.now) count scopes.old
+        in Came O.left out.old (placed_items (framed Y.tables) st (does (act_view act.now)) state.old)
         out.new }
-    ensures state { let st = stack_standing (act_seen act.now) count scopes.old
-        in state.new ≡ placed_state (framed Y.tables) st (does (act_seen act.now)) state.old }
-    ensures scopes { let st = stack_standing (act_seen act.now) count scopes.old
+    ensures state { let st = stack_standing (act_view act.now) count scopes.old
+        in state.new ≡ placed_state (framed Y.tables) st (does (act_view act.now)) state.old }
+    ensures scopes { let st = stack_standing (act_view act.now) count scopes.old
         in Keeps scopes.old scopes.new
-        (placed_scopes (framed Y.tables) st (does (act_seen act.now)) (reverse scopes.old.items) state.old) }
+        (placed_scopes (framed Y.tables) st (does (act_view act.now)) (reverse scopes.old.items) state.old) }
 {
     match act {
         Act::Event(event) => place_event(scopes, state, count, event, out),
@@ -161,7 +161,7 @@ fn place_act<Y: Laying, O: PieceOut>(
 
 // An act ends what it ends, and then opens a scope or stands as a leaf.
 #[inline(never)]
-fn take_nesting<Y: Laying, O: PieceOut>(
+fn take_nesting<Y: Renderer, O: PieceOut>(
     scopes: &mut Vec<Scope<Label, Y::Kept>>,
     skips: &mut bool,
     state: &mut Y,
@@ -170,8 +170,8 @@ fn take_nesting<Y: Laying, O: PieceOut>(
 )
     requires depth { vec_len scopes.old ≤ SCOPES }
     requires reserved { SCOPES ≤ vec_capacity scopes.old }
-    requires takes { TakesAct Y.Takes (act_seen act.now) }
-    ensures stepped { TakesStep O.left Y.tables (does (act_seen act.now))
+    requires takes { TakesAct Y.Takes (act_view act.now) }
+    ensures stepped { TakesStep O.left Y.tables (does (act_view act.now))
         (stack_edge skips.old scopes.old state.old) out.old
         (stack_edge skips.new scopes.new state.new) out.new }
     ensures kept { vec_capacity scopes.new ≡ vec_capacity scopes.old }
@@ -187,7 +187,7 @@ fn take_nesting<Y: Laying, O: PieceOut>(
 
 // An act that stands alone, unless it is passed over.
 #[inline(always)]
-fn take_alone<Y: Laying, O: PieceOut>(
+fn take_alone<Y: Renderer, O: PieceOut>(
     scopes: &[Scope<Label, Y::Kept>],
     skips: &mut bool,
     state: &mut Y,
@@ -195,9 +195,9 @@ fn take_alone<Y: Laying, O: PieceOut>(
     out: &mut O,
 )
     requires depth { length scopes.now ≤ SCOPES }
-    requires takes { TakesAct Y.Takes (act_seen act.now) }
-    requires alone { stands_alone (act_seen act.now) (labels (reverse scopes.now)) ≡ true }
-    ensures { TakesStep O.left Y.tables (does (act_seen act.now))
+    requires takes { TakesAct Y.Takes (act_view act.now) }
+    requires alone { stands_alone (act_view act.now) (labels (reverse scopes.now)) ≡ true }
+    ensures { TakesStep O.left Y.tables (does (act_view act.now))
         (record { mode = skips.old; scopes = reverse scopes.now; state = state.old }) out.old
         (record { mode = skips.new; scopes = reverse scopes.now; state = state.new }) out.new }
 {
@@ -209,22 +209,22 @@ fn take_alone<Y: Laying, O: PieceOut>(
 
 // Nothing is done for an act that does nothing, and the edge stays.
 #[inline(always)]
-fn take_idle<Y: Laying, O: PieceOut>(
+fn take_idle<Y: Renderer, O: PieceOut>(
     scopes: &[Scope<Label, Y::Kept>],
     skips: bool,
     state: &Y,
     act: &Act<&Event<&[u8]>>,
     out: &O,
 )
-    requires { is_idle (act_seen act.now) (labels (reverse scopes.now)) ≡ true }
-    ensures { TakesStep O.left Y.tables (does (act_seen act.now))
+    requires { is_idle (act_view act.now) (labels (reverse scopes.now)) ≡ true }
+    ensures { TakesStep O.left Y.tables (does (act_view act.now))
         (record { mode = skips; scopes = reverse scopes.now; state = state.now }) out.now
         (record { mode = skips; scopes = reverse scopes.now; state = state.now }) out.now }
 {}
 
 /// An act ends what it ends, and then opens a scope or stands as a leaf.
 #[inline(always)]
-pub(crate) fn take_act<Y: Laying, O: PieceOut>(
+pub(crate) fn take_act<Y: Renderer, O: PieceOut>(
     scopes: &mut Vec<Scope<Label, Y::Kept>>,
     skips: &mut bool,
     state: &mut Y,
@@ -233,8 +233,8 @@ pub(crate) fn take_act<Y: Laying, O: PieceOut>(
 )
     requires depth { vec_len scopes.old ≤ SCOPES }
     requires reserved { SCOPES ≤ vec_capacity scopes.old }
-    requires takes { TakesAct Y.Takes (act_seen act.now) }
-    ensures stepped { TakesStep O.left Y.tables (does (act_seen act.now))
+    requires takes { TakesAct Y.Takes (act_view act.now) }
+    ensures stepped { TakesStep O.left Y.tables (does (act_view act.now))
         (stack_edge skips.old scopes.old state.old) out.old
         (stack_edge skips.new scopes.new state.new) out.new }
     ensures kept { vec_capacity scopes.new ≡ vec_capacity scopes.old }
@@ -250,7 +250,7 @@ pub(crate) fn take_act<Y: Laying, O: PieceOut>(
 
 /// An event comes.
 #[inline(always)]
-pub(crate) fn take_coming<Y: Laying, O: PieceOut>(
+pub(crate) fn take_coming<Y: Renderer, O: PieceOut>(
     scopes: &[Scope<Label, Y::Kept>],
     skips: bool,
     state: &mut Y,
@@ -259,11 +259,11 @@ pub(crate) fn take_coming<Y: Laying, O: PieceOut>(
 )
     ensures came { Came O.left out.old (step_items scopes_nesting (framed Y.tables)
         (record { mode = skips; scopes = reverse scopes.now; state = state.old })
-        (comes (event_seen event.now))) out.new }
+        (comes (event_view event.now))) out.new }
     ensures edge { record { mode = skips; scopes = reverse scopes.now; state = state.new }
         ≡ step scopes_nesting (framed Y.tables)
         (record { mode = skips; scopes = reverse scopes.now; state = state.old })
-        (comes (event_seen event.now)) }
+        (comes (event_view event.now)) }
 {
     if !skips {
         state.come(event, out);

@@ -5,8 +5,8 @@ use Rattle.page_core_base.specs.declared.cells.Font.TheVariants.{R}
 use Rattle.page_core_base.specs.declared.pieces.Piece.TheVariants.{Text, Break, Indent}
 use Rattle.page_core_base.specs.declared.places.Place.{Place}
 use Rattle.page_sets_lines.specs.declared.events.Event.{Event}
-use Rattle.page_sets_lines.specs.declared.events.Deed.{Deed}
-use Rattle.page_sets_lines.specs.declared.events.Deed.TheVariants as deeds
+use Rattle.page_sets_lines.specs.declared.events.EventKind.{EventKind}
+use Rattle.page_sets_lines.specs.declared.events.EventKind.TheVariants as kinds
 use Rattle.page_sets_lines.specs.declared.leaves.Leaf.{Leaf}
 use Rattle.page_sets_lines.specs.declared.leaves.Leaf.TheVariants as leaves
 use Rattle.page_scopes_labels.specs.Labels.{label_name}
@@ -23,13 +23,13 @@ abbrev pub leaf_shown : Leaf (List ℕ) → List Item
 leaf_shown (leaves.Request request) = shown Break ∷ []
 leaf_shown _ = []
 
-abbrev pub deed_shown : Deed (List ℕ) → Place → List Item
-deed_shown (deeds.Word word) place = shown (Text word.arg.text R place) ∷ []
-deed_shown (deeds.Leaf leaf) place = leaf_shown leaf
-deed_shown _ place = []
+abbrev pub kind_shown : EventKind (List ℕ) → Place → List Item
+kind_shown (kinds.Word word) place = shown (Text word.arg.text R place) ∷ []
+kind_shown (kinds.Leaf leaf) place = leaf_shown leaf
+kind_shown _ place = []
 
 abbrev pub act_shown : Act (Event (List ℕ)) → List Item
-act_shown (acts.Event event) = deed_shown event.deed event.place
+act_shown (acts.Event event) = kind_shown event.kind event.place
 act_shown (acts.PageEnd line) = []
 
 abbrev pub nested_tables : Tables Nested ℕ

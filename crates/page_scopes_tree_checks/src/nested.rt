@@ -3,8 +3,8 @@
 use page_core_base::{Font, Piece, PieceOut, Place};
 use page_scopes_labels::Label;
 use page_scopes_laws::Scope;
-use page_scopes_tree::{Act, Laying};
-use page_sets_lines::{Deed, Event, Leaf};
+use page_scopes_tree::{Act, Renderer};
+use page_sets_lines::{EventKind, Event, Leaf};
 
 /// The margin, in columns.
 #[derive(Drop)]
@@ -12,7 +12,7 @@ pub struct Nested {
     pub margin: u32,
 }
 
-impl Laying for Nested {
+impl Renderer for Nested {
     ghost use Rattle.page_scopes_tree_checks.specs.Nested.{nested_tables};
 
     type Kept = u32;
@@ -45,13 +45,13 @@ impl Laying for Nested {
 
     fn leaf<O: PieceOut>(&mut self, act: &Act<&Event<&[u8]>>, out: &mut O) {
         if let Act::Event(event) = act {
-            match event.deed {
-                Deed::Word(word) => out.give(Piece::Text {
+            match event.kind {
+                EventKind::Word(word) => out.give(Piece::Text {
                     text: word.arg.text,
                     font: Font::R,
                     place: event.place,
                 }),
-                Deed::Leaf(Leaf::Request(_)) => out.give(Piece::Break),
+                EventKind::Leaf(Leaf::Request(_)) => out.give(Piece::Break),
                 _ => {}
             }
         }

@@ -7,7 +7,7 @@ use page_roff_forms::{Argument, Quoting};
 use page_scopes_shown::{Brief, Notation, ShownBy};
 use page_scopes_tree::ScopeStack;
 use page_sets_lines::{
-    BlockCloser, BlockOpener, Closer, Deed, Event, FontMacro, HeadingName, Join, Leaf, LineOpener,
+    BlockCloser, BlockOpener, Closer, EventKind, Event, FontMacro, HeadingName, Join, Leaf, LineOpener,
     Link, Marks, OneLineName, Opener, ParagraphName, Quotation, Request, Role, TagName, Word,
 };
 use std::alloc::{AllocError, Global};
@@ -93,20 +93,20 @@ fn closer(letter: u8) -> Option<Closer<&'static [u8]>> {
 }
 
 // What else a letter does.
-fn other(letter: u8) -> Deed<&'static [u8]> {
+fn other(letter: u8) -> EventKind<&'static [u8]> {
     match letter {
-        b't' => Deed::LineScope(LineOpener::Tag(TagName::TP)),
-        b'b' => Deed::LineScope(LineOpener::FontWords(FontMacro::B)),
-        b'd' => Deed::LineScope(LineOpener::Heading(HeadingName::SH)),
-        b'q' => Deed::LineScope(LineOpener::Enclosure(Marks::Square)),
-        b'n' => Deed::LineScope(LineOpener::Description),
-        b'l' => Deed::LineScope(LineOpener::OneLine(OneLineName::Dl)),
-        b'B' => Deed::Leaf(Leaf::BlankLine),
-        b'.' => Deed::Leaf(Leaf::Request(Request::Break)),
-        b'X' => Deed::Raw(b"x"),
-        b'e' => Deed::End { fills: false },
-        b'E' => Deed::End { fills: true },
-        _ => Deed::Word(Word {
+        b't' => EventKind::LineScope(LineOpener::Tag(TagName::TP)),
+        b'b' => EventKind::LineScope(LineOpener::FontWords(FontMacro::B)),
+        b'd' => EventKind::LineScope(LineOpener::Heading(HeadingName::SH)),
+        b'q' => EventKind::LineScope(LineOpener::Enclosure(Marks::Square)),
+        b'n' => EventKind::LineScope(LineOpener::Description),
+        b'l' => EventKind::LineScope(LineOpener::OneLine(OneLineName::Dl)),
+        b'B' => EventKind::Leaf(Leaf::BlankLine),
+        b'.' => EventKind::Leaf(Leaf::Request(Request::Break)),
+        b'X' => EventKind::Raw(b"x"),
+        b'e' => EventKind::End { fills: false },
+        b'E' => EventKind::End { fills: true },
+        _ => EventKind::Word(Word {
             arg: TEXT,
             role: Role::Argument,
             font: None,
@@ -116,12 +116,12 @@ fn other(letter: u8) -> Deed<&'static [u8]> {
     }
 }
 
-fn deed(letter: u8) -> Deed<&'static [u8]> {
+fn kind(letter: u8) -> EventKind<&'static [u8]> {
     if let Some(opener) = opener(letter) {
-        return Deed::Open(opener);
+        return EventKind::Open(opener);
     }
     if let Some(closer) = closer(letter) {
-        return Deed::Close(closer);
+        return EventKind::Close(closer);
     }
     other(letter)
 }
@@ -129,7 +129,7 @@ fn deed(letter: u8) -> Deed<&'static [u8]> {
 fn apply_letter(scopes: &mut ScopeStack<Nested>, out: &mut Shown, letter: u8) {
     let event = Event {
         place: Place { line: 1, column: 2 },
-        deed: deed(letter),
+        kind: kind(letter),
     };
     scopes.apply(&event, out);
 }

@@ -1,7 +1,7 @@
 //! The columns of what a text prints (man(7), `SY`; mdoc(7), `Bl`; mandoc_char(7)).
 
 ghost use Rattle.std.specs.Prelude.{◌≡◌, ◌≤◌, ◌*◌, ◌<◌, length};
-ghost use Rattle.page_core_escapes.specs.Tokens.{token_bytes, token_seen};
+ghost use Rattle.page_core_escapes.specs.Tokens.{token_bytes, token_view};
 ghost use Rattle.page_scopes_widths.specs.Names as names;
 
 use page_core_base::Output;
@@ -23,10 +23,10 @@ fn plain_columns(output: Output, text: &[u8]) -> u32
 
 // The columns of what a token prints.
 fn token_columns(output: Output, token: &Token<'_>) -> u32
-    requires some { 0 < length (token_bytes (token_seen token.now)) }
-    requires short { length (token_bytes (token_seen token.now)) ≤ LINE }
-    ensures value { result ≡ names.token_columns output (token_seen token.now) }
-    ensures bound { result ≤ 1000 * length (token_bytes (token_seen token.now)) }
+    requires some { 0 < length (token_bytes (token_view token.now)) }
+    requires short { length (token_bytes (token_view token.now)) ≤ LINE }
+    ensures value { result ≡ names.token_columns output (token_view token.now) }
+    ensures bound { result ≤ 1000 * length (token_bytes (token_view token.now)) }
 {
     match *token {
         Token::White(white) => white.len() as u32,

@@ -2,7 +2,7 @@
 
 ghost use Rattle.std.specs.Prelude.{◌≡◌, ◌≤◌, length};
 ghost use Rattle.page_core_base.specs.Latches.{Came};
-ghost use Rattle.page_roff_forms.specs.Arguments.{argument_seen};
+ghost use Rattle.page_roff_forms.specs.Arguments.{argument_view};
 ghost use Rattle.page_scopes_widths.specs.Widths as widths;
 
 use crate::names::name_columns;
@@ -50,7 +50,7 @@ fn give_measured<O: PieceOut>(
     width: Argument<&[u8]>,
 ) -> i32
     requires { length width.text.now ≤ LINE }
-    ensures columns { result ≡ widths.measured (widths.is_expression width.entry.text.now) output (argument_seen width.entry) }
+    ensures columns { result ≡ widths.measured (widths.is_expression width.entry.text.now) output (argument_view width.entry) }
     ensures came { Came O.left out.old (widths.measured_notes (widths.is_expression width.entry.text.now) place width.entry.text.now) out.new }
 {
     if is_expression(width.text) {
@@ -68,8 +68,8 @@ pub fn give_width<O: PieceOut>(
     width: Argument<&[u8]>,
 ) -> i32
     requires { length width.text.now ≤ LINE }
-    ensures columns { result ≡ widths.width_columns output (argument_seen width.entry) }
-    ensures came { Came O.left out.old (widths.width_notes place (argument_seen width.entry)) out.new }
+    ensures columns { result ≡ widths.width_columns output (argument_view width.entry) }
+    ensures came { Came O.left out.old (widths.width_notes place (argument_view width.entry)) out.new }
 {
     match named_width(width.text) {
         Some(columns) => columns,

@@ -1,8 +1,8 @@
 //! The font in use and the former one (roff(7), `ft` and `\f`).
 
 ghost use Rattle.std.specs.Prelude.{◌≡◌};
-ghost use Rattle.page_core_escapes.specs.Escapes.{face_seen, meaning_seen};
-ghost use Rattle.page_core_escapes.specs.Tokens.{token_seen};
+ghost use Rattle.page_core_escapes.specs.Escapes.{face_view, meaning_view};
+ghost use Rattle.page_core_escapes.specs.Tokens.{token_view};
 ghost use Rattle.page_scopes_words.specs.Fonts.{roman_fonts, with_font, face_fonts, meaning_fonts, token_fonts};
 
 use page_core_base::Font;
@@ -35,7 +35,7 @@ impl Fonts {
     /// The fonts after a font is asked for by its name.
     #[inline(always)]
     pub fn named(self, name: FontName<'_>) -> Fonts
-        ensures { result ≡ face_fonts (face_seen name.entry) self }
+        ensures { result ≡ face_fonts (face_view name.entry) self }
     {
         match name {
             FontName::R => self.with(Font::R),
@@ -50,7 +50,7 @@ impl Fonts {
     // The fonts after an escape.
     #[inline(always)]
     fn escaped(self, meaning: Escape<'_>) -> Fonts
-        ensures { result ≡ meaning_fonts (meaning_seen meaning.entry) self }
+        ensures { result ≡ meaning_fonts (meaning_view meaning.entry) self }
     {
         match meaning {
             Escape::Font(name) => self.named(name),
@@ -61,7 +61,7 @@ impl Fonts {
     /// The fonts after a token.
     #[inline(always)]
     pub fn after(self, token: &Token<'_>) -> Fonts
-        ensures { result ≡ token_fonts (token_seen token.now) self }
+        ensures { result ≡ token_fonts (token_view token.now) self }
     {
         match *token {
             Token::Escaped { meaning, .. } => self.escaped(meaning),

@@ -3,8 +3,8 @@
 ghost use Rattle.std.specs.Prelude.{◌≡◌, ◌∷◌, [], ◌≤◌, length, take, option_map};
 ghost use Rattle.page_core_base.specs.Latches.{Came};
 ghost use Rattle.page_core_base.specs.Pieces.{piece_of, shown};
-ghost use Rattle.page_core_escapes.specs.Escapes.{face_seen, meaning_seen};
-ghost use Rattle.page_core_escapes.specs.Tokens.{token_seen, unpaired};
+ghost use Rattle.page_core_escapes.specs.Escapes.{face_view, meaning_view};
+ghost use Rattle.page_core_escapes.specs.Tokens.{token_view, unpaired};
 ghost use Rattle.page_scopes_words.specs.Words as words;
 ghost use Rattle.page_scopes_words.specs.Words.{says};
 
@@ -67,7 +67,7 @@ pub fn report_part<O: PieceOut>(
 /// Reports a name that no font has; `quoted` says whether it stands in a quoted argument.
 #[inline(always)]
 pub fn report_font<O: PieceOut>(out: &mut O, quoted: bool, place: Place, name: FontName<'_>)
-    ensures { Came O.left out.old (words.face_notes quoted place (face_seen name.entry)) out.new }
+    ensures { Came O.left out.old (words.face_notes quoted place (face_view name.entry)) out.new }
 {
     match name {
         FontName::R | FontName::I | FontName::B | FontName::BI | FontName::Former => {}
@@ -86,7 +86,7 @@ pub fn report_escape<O: PieceOut>(
     meaning: Escape<'_>,
 )
     ensures { Came O.left out.old
-        (words.meaning_notes quoted place bytes.now (meaning_seen meaning.entry)) out.new }
+        (words.meaning_notes quoted place bytes.now (meaning_view meaning.entry)) out.new }
 {
     match meaning {
         Escape::Undefined(_) => report_part(out, quoted, NoteKind::UndefEscape, place, bytes),
@@ -127,7 +127,7 @@ pub fn give_glyph<O: PieceOut>(out: &mut O, quoted: bool, font: Font, place: Pla
 
 // What an escape prints, but for a glyph and the blanks of `\h`.
 fn escape_piece(font: Font, place: Place, meaning: Escape<'_>) -> Option<Piece<&[u8]>>
-    ensures { option_map piece_of result ≡ words.meaning_piece font place (meaning_seen meaning.entry) }
+    ensures { option_map piece_of result ≡ words.meaning_piece font place (meaning_view meaning.entry) }
 {
     match meaning {
         Escape::Char(c) => Some(Piece::Char { c, font, place }),
@@ -155,7 +155,7 @@ fn undefined_piece<'a>(font: Font, place: Place, c: char) -> Piece<&'a [u8]>
 /// What a token of a word prints, if it does, but for a glyph and the blanks of `\h`.
 #[inline(always)]
 pub fn token_piece<'a>(font: Font, place: Place, token: &Token<'a>) -> Option<Piece<&'a [u8]>>
-    ensures { option_map piece_of result ≡ words.token_piece font place (token_seen token.now) }
+    ensures { option_map piece_of result ≡ words.token_piece font place (token_view token.now) }
 {
     match *token {
         Token::White(_) => None,

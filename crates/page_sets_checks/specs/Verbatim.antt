@@ -1,7 +1,7 @@
 -- A set without macros: each line is shown as it is.
 use Rattle.std.specs.Prelude.{ℕ, ◌+◌, ◌*◌, ◌≤◌, false, List, [], ◌∷◌, length}
 use Rattle.std.proofs.Common.{arith}
-use Rattle.page_sets_lines.specs.declared.events.Deed.TheVariants.{Raw}
+use Rattle.page_sets_lines.specs.declared.events.EventKind.TheVariants.{Raw}
 use Rattle.page_sets_lines.specs.declared.events.Event.{Event}
 use Rattle.page_core_base.specs.LinesTaken.{Line}
 use Rattle.page_sets_lines.specs.Laws.{AreSlices, AreInOrder}

@@ -1,8 +1,8 @@
 //! The events of a line as a list.
 
 ghost use Rattle.std.specs.Prelude.{◌≡◌, ◌≤◌, length, map, IfOk};
-ghost use Rattle.page_core_base.specs.LinesTaken.{line_seen};
-ghost use Rattle.page_sets_lines.specs.Events.{event_seen};
+ghost use Rattle.page_core_base.specs.LinesTaken.{line_view};
+ghost use Rattle.page_sets_lines.specs.Events.{event_view};
 
 use page_core_base::Taken;
 use page_core_limits::LINE;
@@ -18,7 +18,7 @@ pub fn events_of<'a, S: MacroSet>(
 where
     S::Place: Drop,
     requires { length line.text.now ≤ LINE }
-    ensures { IfOk result (λ events. map event_seen events.items ≡ S.table set.now (line_seen line.entry)) }
+    ensures { IfOk result (λ events. map event_view events.items ≡ S.table set.now (line_view line.entry)) }
 {
     let mut place = set.start(line);
     let mut events = Vec::new(alloc);

@@ -8,7 +8,7 @@ use page_core_base::{Font, NoteKind, Taken};
 use page_core_limits::LINE;
 use page_roff_forms::{Argument, Quoting};
 use page_sets::{
-    BlockCloser, BlockOpener, Closer, Deed, Event, Join, Leaf, LineStep, MacroSet, Opener, OwnWord,
+    BlockCloser, BlockOpener, Closer, EventKind, Event, Join, Leaf, LineStep, MacroSet, Opener, GeneratedWord,
     Request, Role, SynopsisStep, Word,
 };
 
@@ -89,9 +89,9 @@ fn show_word<'a>(word: Word<&'a [u8]>) -> Shown<'a> {
     )
 }
 
-fn show_own<'a>(word: OwnWord) -> Shown<'a> {
+fn show_generated<'a>(word: GeneratedWord) -> Shown<'a> {
     let kinds = ["mark", "mark+", "+mark", "+mark+"];
-    let after = if word.own.joins_next() {
+    let after = if word.text.joins_next() {
         Join::Glued
     } else {
         word.after
@@ -99,7 +99,7 @@ fn show_own<'a>(word: OwnWord) -> Shown<'a> {
     with(
         joined(word.before, after, kinds),
         font_name(word.font),
-        Some(bare(word.own.text().as_bytes())),
+        Some(bare(word.text.as_str().as_bytes())),
     )
 }
 
@@ -225,7 +225,7 @@ fn show_leaf<'a>(leaf: Leaf<&'a [u8]>) -> Shown<'a> {
         Leaf::Wordless(text) => with("wordless", "", Some(bare(text))),
         Leaf::Request(request) => show_request(request),
         Leaf::Prologue(name, rest) => with("title", name.name(), Some(bare(rest))),
-        Leaf::Own(word) => show_own(word),
+        Leaf::Generated(word) => show_generated(word),
         Leaf::Example(begins) => alone("example", if begins { "EX" } else { "EE" }),
         Leaf::Distance(rows) => with("distance", "PD", given(rows)),
         Leaf::Fonts(font) => alone("fonts", font_name(font)),
@@ -252,16 +252,16 @@ fn show_note<'a>(kind: NoteKind, detail: &'a [u8], begins_body: bool) -> Shown<'
     with(if begins_body { "note!" } else { "note" }, name, detail)
 }
 
-fn show<'a>(deed: Deed<&'a [u8]>) -> Shown<'a> {
-    match deed {
-        Deed::Word(word) => show_word(word),
-        Deed::Open(opener) => show_opener(opener),
-        Deed::Close(closer) => show_closer(closer),
-        Deed::LineScope(opener) => alone("scope", opener.name()),
-        Deed::Leaf(leaf) => show_leaf(leaf),
-        Deed::Raw(text) => with("raw", "", Some(bare(text))),
-        Deed::End { fills } => alone(if fills { "filled" } else { "end" }, ""),
-        Deed::Note {
+fn show<'a>(kind: EventKind<&'a [u8]>) -> Shown<'a> {
+    match kind {
+        EventKind::Word(word) => show_word(word),
+        EventKind::Open(opener) => show_opener(opener),
+        EventKind::Close(closer) => show_closer(closer),
+        EventKind::LineScope(opener) => alone("scope", opener.name()),
+        EventKind::Leaf(leaf) => show_leaf(leaf),
+        EventKind::Raw(text) => with("raw", "", Some(bare(text))),
+        EventKind::End { fills } => alone(if fills { "filled" } else { "end" }, ""),
+        EventKind::Note {
             kind,
             detail,
             begins_body,
@@ -306,7 +306,7 @@ fn put_event(out: &mut Spelling, event: Event<&[u8]>) {
     if !out.is_empty() {
         put(out, b"; ");
     }
-    let shown = show(event.deed);
+    let shown = show(event.kind);
     put_column(out, event.place.column);
     put_name(out, shown.kind);
     put_name(out, shown.name);

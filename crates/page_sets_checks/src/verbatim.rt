@@ -1,7 +1,7 @@
 //! A second set, which keeps the laws of macro sets and is not that of man(7).
 
 use page_core_base::{Place, Taken};
-use page_sets::{Deed, Event, MacroSet};
+use page_sets::{EventKind, Event, MacroSet};
 
 /// The set without macros: each line is shown as it is.
 #[derive(Clone, Copy)]
@@ -45,14 +45,14 @@ impl MacroSet for Verbatim {
     }
 
     fn next<'a>(&self, line: Taken<'a>, place: &mut Stage) -> Option<Event<&'a [u8]>> {
-        let deed = match *place {
+        let kind = match *place {
             Stage::Start => {
                 *place = Stage::Shown;
-                Deed::Raw(line.text)
+                EventKind::Raw(line.text)
             }
             Stage::Shown => {
                 *place = Stage::Ended;
-                Deed::End { fills: false }
+                EventKind::End { fills: false }
             }
             Stage::Ended => return None,
         };
@@ -60,6 +60,6 @@ impl MacroSet for Verbatim {
             line: line.line,
             column: 1,
         };
-        Some(Event { place, deed })
+        Some(Event { place, kind })
     }
 }

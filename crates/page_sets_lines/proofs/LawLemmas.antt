@@ -6,8 +6,8 @@ use Rattle.std.proofs.lemmas.Bool.Decides.{nat_tests}
 use Rattle.page_core_base.specs.LinesTaken.{Line}
 use Rattle.page_roff_forms.specs.declared.quotes.Argument.{Argument}
 use Rattle.page_roff_forms.specs.LineForms.{is_white}
-use Rattle.page_sets_lines.specs.declared.events.Deed.{Deed}
-use Rattle.page_sets_lines.specs.declared.events.Deed.TheVariants as deeds
+use Rattle.page_sets_lines.specs.declared.events.EventKind.{EventKind}
+use Rattle.page_sets_lines.specs.declared.events.EventKind.TheVariants as kinds
 use Rattle.page_sets_lines.specs.declared.events.Event.{Event}
 use Rattle.page_sets_lines.specs.declared.plain_lines.PlainLine.{PlainLine}
 use Rattle.page_sets_lines.specs.declared.plain_lines.PlainLine.TheVariants as lines
@@ -15,7 +15,7 @@ use Rattle.page_roff_requests.specs.declared.requests.LayoutRequest.{LayoutReque
 use Rattle.page_roff_requests.specs.declared.requests.LayoutRequest.TheVariants as layout
 use Rattle.page_sets_lines.specs.Laws.{IsSlice, IsPart, IsArgument, IsPartIfGiven, IsArgumentIfGiven, RequestsSlices, HasSlices, AreSlices, past, BeginsFrom, AreInOrder}
 use Rattle.page_sets_lines.specs.ControlLines.{before_name, name_end, name_of, is_nameless, arguments_after, first_of, second_of, text_of}
-use Rattle.page_sets_lines.specs.PlainLines.{plain_deed, request}
+use Rattle.page_sets_lines.specs.PlainLines.{plain_kind, request}
 use Rattle.page_sets_lines.proofs.ArgumentLaws.{ArgumentsFrom, all_after, cut_at}
 
 -- ---- slices
@@ -79,7 +79,7 @@ request_slices line layout.Font given h = h
 request_slices line layout.Shift given h = text_part line given h
 request_slices line (layout.Literal on) given h = tt
 
-pub line_slices : (line : PlainLine) (text : List ℕ) → HasSlices text (plain_deed line text)
+pub line_slices : (line : PlainLine) (text : List ℕ) → HasSlices text (plain_kind line text)
 line_slices lines.Words text = record { column = omega arith; slice = whole_slice text }
 line_slices lines.Wordless text = whole_part text
 line_slices lines.Blank text = tt
@@ -91,48 +91,48 @@ AreSlices-append line (event ∷ front) rest h k = (h.0, AreSlices-append line f
 
 -- ---- order
 
-abbrev pub is_word : Deed (List ℕ) → Bool
-is_word (deeds.Word word) = true
-is_word (deeds.Open opener) = false
-is_word (deeds.Close closer) = false
-is_word (deeds.LineScope opener) = false
-is_word (deeds.Leaf leaf) = false
-is_word (deeds.Raw text) = false
-is_word (deeds.End fills) = false
-is_word (deeds.Note kind detail is_quoted begins_body) = false
+abbrev pub is_word : EventKind (List ℕ) → Bool
+is_word (kinds.Word word) = true
+is_word (kinds.Open opener) = false
+is_word (kinds.Close closer) = false
+is_word (kinds.LineScope opener) = false
+is_word (kinds.Leaf leaf) = false
+is_word (kinds.Raw text) = false
+is_word (kinds.End fills) = false
+is_word (kinds.Note kind detail is_quoted begins_body) = false
 
 -- none of the events is a word
 abbrev pub HasNoWord : List (Event (List ℕ)) → Type 0
 HasNoWord [] = Unit {0}
-HasNoWord (event ∷ events) = (is_word event.deed ≡ false) × HasNoWord events
+HasNoWord (event ∷ events) = (is_word event.kind ≡ false) × HasNoWord events
 
-no_word_passes : (from : ℕ) (deed : Deed (List ℕ)) → is_word deed ≡ false → BeginsFrom from deed × (past from deed ≡ from)
-no_word_passes from (deeds.Word word) h = cc
-no_word_passes from (deeds.Open opener) h = (tt, refl)
-no_word_passes from (deeds.Close closer) h = (tt, refl)
-no_word_passes from (deeds.LineScope opener) h = (tt, refl)
-no_word_passes from (deeds.Leaf leaf) h = (tt, refl)
-no_word_passes from (deeds.Raw text) h = (tt, refl)
-no_word_passes from (deeds.End fills) h = (tt, refl)
-no_word_passes from (deeds.Note kind detail is_quoted begins_body) h = (tt, refl)
+no_word_passes : (from : ℕ) (kind : EventKind (List ℕ)) → is_word kind ≡ false → BeginsFrom from kind × (past from kind ≡ from)
+no_word_passes from (kinds.Word word) h = cc
+no_word_passes from (kinds.Open opener) h = (tt, refl)
+no_word_passes from (kinds.Close closer) h = (tt, refl)
+no_word_passes from (kinds.LineScope opener) h = (tt, refl)
+no_word_passes from (kinds.Leaf leaf) h = (tt, refl)
+no_word_passes from (kinds.Raw text) h = (tt, refl)
+no_word_passes from (kinds.End fills) h = (tt, refl)
+no_word_passes from (kinds.Note kind detail is_quoted begins_body) h = (tt, refl)
 
 pub order_after : (from : ℕ) (front rest : List (Event (List ℕ))) → HasNoWord front → AreInOrder from rest → AreInOrder from (front ++ rest)
 order_after from [] rest h k = k
 order_after from (event ∷ front) rest h k =
-    let p = no_word_passes from event.deed h.0 in
+    let p = no_word_passes from event.kind h.0 in
     (p.0, rw p.1 (order_after from front rest h.1 k))
 
 order_of_none : (from : ℕ) (events : List (Event (List ℕ))) → HasNoWord events → AreInOrder from events
 order_of_none from [] h = tt
 order_of_none from (event ∷ events) h =
-    let p = no_word_passes from event.deed h.0 in
-    (p.0, order_of_none (past from event.deed) events h.1)
+    let p = no_word_passes from event.kind h.0 in
+    (p.0, order_of_none (past from event.kind) events h.1)
 
 pub order_before : (from : ℕ) (words rest : List (Event (List ℕ))) → AreInOrder from words → HasNoWord rest → AreInOrder from (words ++ rest)
 order_before from [] rest h k = order_of_none from rest k
-order_before from (event ∷ words) rest h k = (h.0, order_before (past from event.deed) words rest h.1 k)
+order_before from (event ∷ words) rest h k = (h.0, order_before (past from event.kind) words rest h.1 k)
 
-pub line_order : (line : PlainLine) (text : List ℕ) → BeginsFrom 0 (plain_deed line text)
+pub line_order : (line : PlainLine) (text : List ℕ) → BeginsFrom 0 (plain_kind line text)
 line_order lines.Words text = omega arith
 line_order lines.Wordless text = tt
 line_order lines.Blank text = tt

@@ -2,7 +2,7 @@
 use Rattle.std.proofs.Common.{◌≡◌, ℕ, zero, suc, ◌+◌, ◌<◌, List, [], ◌∷◌, length, drop, Option, None, Some, arith, refl, sym, ◌∙◌, ap, ◌++◌, append-nil, add-one}
 use Rattle.std.specs.Borrow.{Bor}
 use Rattle.page_sets_lines.specs.declared.events.Event.{Event}
-use Rattle.page_sets_lines.specs.EventOuts.{nth, found, kept_seen}
+use Rattle.page_sets_lines.specs.EventOuts.{nth, found, kept_view}
 use Rattle.page_sets_lines.specs.Laws.{AreSlices}
 
 pub nth_within : (n : ℕ) (events : List (Event (List ℕ))) (event : Event (List ℕ)) → nth n events ≡ Some event → n < length events
@@ -31,13 +31,13 @@ slices_after line (suc n) (e ∷ es) h = slices_after line n es h.1
 
 -- ---- what keeps one event
 
-found_none : (n : ℕ) (kept : Option (Event (Bor (List ℕ)))) → found n kept [] ≡ kept_seen kept
+found_none : (n : ℕ) (kept : Option (Event (Bor (List ℕ)))) → found n kept [] ≡ kept_view kept
 found_none n None = refl
 found_none n (Some event) = refl
 
 -- all events came, and the one that is kept is the one after this many
 pub nth_kept : (n : ℕ) (events : List (Event (List ℕ))) (skipped : ℕ) (kept result : Option (Event (Bor (List ℕ))))
-    → found skipped kept [] ≡ nth n events → kept_seen result ≡ kept_seen kept → nth n events ≡ kept_seen result
+    → found skipped kept [] ≡ nth n events → kept_view result ≡ kept_view kept → nth n events ≡ kept_view result
 nth_kept n events skipped kept result is same = sym is ∙ (found_none skipped kept ∙ sym same)
 
 pub nth_start : (n : ℕ) (events : List (Event (List ℕ))) (skipped : ℕ) (kept : Option (Event (Bor (List ℕ))))

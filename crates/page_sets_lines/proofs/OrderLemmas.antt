@@ -1,8 +1,8 @@
 -- Words that are arguments in their order stand in order: helpers of proofs.
 use Rattle.std.proofs.Common.{◌≡◌, ℕ, zero, suc, ◌+◌, ◌≤◌, false, List, [], ◌∷◌, ◌++◌, length, take, drop, refl, sym, ap, ◌∙◌, arith}
 use Rattle.page_roff_forms.specs.declared.quotes.Argument.{Argument}
-use Rattle.page_sets_lines.specs.declared.events.Deed.{Deed}
-use Rattle.page_sets_lines.specs.declared.events.Deed.TheVariants as deeds
+use Rattle.page_sets_lines.specs.declared.events.EventKind.{EventKind}
+use Rattle.page_sets_lines.specs.declared.events.EventKind.TheVariants as kinds
 use Rattle.page_sets_lines.specs.declared.events.Event.{Event}
 use Rattle.page_sets_lines.specs.Laws.{IsArgument, past, BeginsFrom, AreInOrder}
 use Rattle.page_sets_lines.specs.ControlLines.{arguments_after}
@@ -15,21 +15,21 @@ pub record IsTaken (argument : Argument (List ℕ)) (arguments after : List (Arg
   pub split : arguments ≡ before ++ (argument ∷ after)
 
 -- a word takes one of the arguments, and those after it are left; all else takes none
-abbrev pub Takes : Deed (List ℕ) → List (Argument (List ℕ)) → List (Argument (List ℕ)) → Type 0
-Takes (deeds.Word word) arguments after = IsTaken word.arg arguments after
-Takes (deeds.Open opener) arguments after = after ≡ arguments
-Takes (deeds.Close closer) arguments after = after ≡ arguments
-Takes (deeds.LineScope opener) arguments after = after ≡ arguments
-Takes (deeds.Leaf leaf) arguments after = after ≡ arguments
-Takes (deeds.Raw text) arguments after = after ≡ arguments
-Takes (deeds.End fills) arguments after = after ≡ arguments
-Takes (deeds.Note kind detail is_quoted begins_body) arguments after = after ≡ arguments
+abbrev pub Takes : EventKind (List ℕ) → List (Argument (List ℕ)) → List (Argument (List ℕ)) → Type 0
+Takes (kinds.Word word) arguments after = IsTaken word.arg arguments after
+Takes (kinds.Open opener) arguments after = after ≡ arguments
+Takes (kinds.Close closer) arguments after = after ≡ arguments
+Takes (kinds.LineScope opener) arguments after = after ≡ arguments
+Takes (kinds.Leaf leaf) arguments after = after ≡ arguments
+Takes (kinds.Raw text) arguments after = after ≡ arguments
+Takes (kinds.End fills) arguments after = after ≡ arguments
+Takes (kinds.Note kind detail is_quoted begins_body) arguments after = after ≡ arguments
 
 -- the words of the events are some of the arguments, in their order
 abbrev pub TakesInOrder : List (Event (List ℕ)) → List (Argument (List ℕ)) → Type 0
 TakesInOrder [] arguments = Unit {0}
 TakesInOrder (event ∷ events) arguments =
-    (after : List (Argument (List ℕ))) × Takes event.deed arguments after × TakesInOrder events after
+    (after : List (Argument (List ℕ))) × Takes event.kind arguments after × TakesInOrder events after
 
 pub joined : (xs ys zs : List (Argument (List ℕ))) → (xs ++ ys) ++ zs ≡ xs ++ (ys ++ zs)
 joined [] ys zs = refl
@@ -37,60 +37,60 @@ joined (x ∷ xs) ys zs = ap (λ l. x ∷ l) (joined xs ys zs)
 
 -- ---- with more arguments in front
 
-later_one : (deed : Deed (List ℕ)) (events : List (Event (List ℕ))) (front arguments after : List (Argument (List ℕ)))
-    → Takes deed arguments after → TakesInOrder events after → TakesInOrder events (front ++ after)
-    → (left : List (Argument (List ℕ))) × Takes deed (front ++ arguments) left × TakesInOrder events left
-later_one (deeds.Word word) events front arguments after h k m =
+later_one : (kind : EventKind (List ℕ)) (events : List (Event (List ℕ))) (front arguments after : List (Argument (List ℕ)))
+    → Takes kind arguments after → TakesInOrder events after → TakesInOrder events (front ++ after)
+    → (left : List (Argument (List ℕ))) × Takes kind (front ++ arguments) left × TakesInOrder events left
+later_one (kinds.Word word) events front arguments after h k m =
     (after, record { before = front ++ h.before; split = ap (λ l. front ++ l) h.split ∙ sym (joined front h.before (word.arg ∷ after)) }, k)
-later_one (deeds.Open opener) events front arguments after h k m = (front ++ after, ap (λ l. front ++ l) h, m)
-later_one (deeds.Close closer) events front arguments after h k m = (front ++ after, ap (λ l. front ++ l) h, m)
-later_one (deeds.LineScope opener) events front arguments after h k m = (front ++ after, ap (λ l. front ++ l) h, m)
-later_one (deeds.Leaf leaf) events front arguments after h k m = (front ++ after, ap (λ l. front ++ l) h, m)
-later_one (deeds.Raw text) events front arguments after h k m = (front ++ after, ap (λ l. front ++ l) h, m)
-later_one (deeds.End fills) events front arguments after h k m = (front ++ after, ap (λ l. front ++ l) h, m)
-later_one (deeds.Note kind detail is_quoted begins_body) events front arguments after h k m = (front ++ after, ap (λ l. front ++ l) h, m)
+later_one (kinds.Open opener) events front arguments after h k m = (front ++ after, ap (λ l. front ++ l) h, m)
+later_one (kinds.Close closer) events front arguments after h k m = (front ++ after, ap (λ l. front ++ l) h, m)
+later_one (kinds.LineScope opener) events front arguments after h k m = (front ++ after, ap (λ l. front ++ l) h, m)
+later_one (kinds.Leaf leaf) events front arguments after h k m = (front ++ after, ap (λ l. front ++ l) h, m)
+later_one (kinds.Raw text) events front arguments after h k m = (front ++ after, ap (λ l. front ++ l) h, m)
+later_one (kinds.End fills) events front arguments after h k m = (front ++ after, ap (λ l. front ++ l) h, m)
+later_one (kinds.Note kind detail is_quoted begins_body) events front arguments after h k m = (front ++ after, ap (λ l. front ++ l) h, m)
 
 pub takes_later : (events : List (Event (List ℕ))) (front arguments : List (Argument (List ℕ)))
     → TakesInOrder events arguments → TakesInOrder events (front ++ arguments)
 takes_later [] front arguments h = tt
 takes_later (event ∷ events) front arguments h =
-    later_one event.deed events front arguments h.0 h.1 h.2 (takes_later events front h.0 h.2)
+    later_one event.kind events front arguments h.0 h.1 h.2 (takes_later events front h.0 h.2)
 
 -- ---- with more arguments behind
 
-more_behind : (deed : Deed (List ℕ)) (arguments after behind : List (Argument (List ℕ)))
-    → Takes deed arguments after → Takes deed (arguments ++ behind) (after ++ behind)
-more_behind (deeds.Word word) arguments after behind h =
+more_behind : (kind : EventKind (List ℕ)) (arguments after behind : List (Argument (List ℕ)))
+    → Takes kind arguments after → Takes kind (arguments ++ behind) (after ++ behind)
+more_behind (kinds.Word word) arguments after behind h =
     record { before = h.before; split = ap (λ l. l ++ behind) h.split ∙ joined h.before (word.arg ∷ after) behind }
-more_behind (deeds.Open opener) arguments after behind h = ap (λ l. l ++ behind) h
-more_behind (deeds.Close closer) arguments after behind h = ap (λ l. l ++ behind) h
-more_behind (deeds.LineScope opener) arguments after behind h = ap (λ l. l ++ behind) h
-more_behind (deeds.Leaf leaf) arguments after behind h = ap (λ l. l ++ behind) h
-more_behind (deeds.Raw text) arguments after behind h = ap (λ l. l ++ behind) h
-more_behind (deeds.End fills) arguments after behind h = ap (λ l. l ++ behind) h
-more_behind (deeds.Note kind detail is_quoted begins_body) arguments after behind h = ap (λ l. l ++ behind) h
+more_behind (kinds.Open opener) arguments after behind h = ap (λ l. l ++ behind) h
+more_behind (kinds.Close closer) arguments after behind h = ap (λ l. l ++ behind) h
+more_behind (kinds.LineScope opener) arguments after behind h = ap (λ l. l ++ behind) h
+more_behind (kinds.Leaf leaf) arguments after behind h = ap (λ l. l ++ behind) h
+more_behind (kinds.Raw text) arguments after behind h = ap (λ l. l ++ behind) h
+more_behind (kinds.End fills) arguments after behind h = ap (λ l. l ++ behind) h
+more_behind (kinds.Note kind detail is_quoted begins_body) arguments after behind h = ap (λ l. l ++ behind) h
 
 pub TakesInOrder-append : (events more : List (Event (List ℕ))) (arguments behind : List (Argument (List ℕ)))
     → TakesInOrder events arguments → TakesInOrder more behind → TakesInOrder (events ++ more) (arguments ++ behind)
 TakesInOrder-append [] more arguments behind h k = takes_later more arguments behind k
 TakesInOrder-append (event ∷ events) more arguments behind h k =
-    (h.0 ++ behind, more_behind event.deed arguments h.0 behind h.1, TakesInOrder-append events more h.0 behind h.2 k)
+    (h.0 ++ behind, more_behind event.kind arguments h.0 behind h.1, TakesInOrder-append events more h.0 behind h.2 k)
 
 -- ---- no words
 
-none_taken : (deed : Deed (List ℕ)) (arguments : List (Argument (List ℕ))) → is_word deed ≡ false → Takes deed arguments arguments
-none_taken (deeds.Word word) arguments h = let no : ⊥ = cc in absurd no
-none_taken (deeds.Open opener) arguments h = refl
-none_taken (deeds.Close closer) arguments h = refl
-none_taken (deeds.LineScope opener) arguments h = refl
-none_taken (deeds.Leaf leaf) arguments h = refl
-none_taken (deeds.Raw text) arguments h = refl
-none_taken (deeds.End fills) arguments h = refl
-none_taken (deeds.Note kind detail is_quoted begins_body) arguments h = refl
+none_taken : (kind : EventKind (List ℕ)) (arguments : List (Argument (List ℕ))) → is_word kind ≡ false → Takes kind arguments arguments
+none_taken (kinds.Word word) arguments h = let no : ⊥ = cc in absurd no
+none_taken (kinds.Open opener) arguments h = refl
+none_taken (kinds.Close closer) arguments h = refl
+none_taken (kinds.LineScope opener) arguments h = refl
+none_taken (kinds.Leaf leaf) arguments h = refl
+none_taken (kinds.Raw text) arguments h = refl
+none_taken (kinds.End fills) arguments h = refl
+none_taken (kinds.Note kind detail is_quoted begins_body) arguments h = refl
 
 pub takes_none : (events : List (Event (List ℕ))) (arguments : List (Argument (List ℕ))) → HasNoWord events → TakesInOrder events arguments
 takes_none [] arguments h = tt
-takes_none (event ∷ events) arguments h = (arguments, none_taken event.deed arguments h.0, takes_none events arguments h.1)
+takes_none (event ∷ events) arguments h = (arguments, none_taken event.kind arguments h.0, takes_none events arguments h.1)
 
 -- ---- order
 
@@ -102,23 +102,23 @@ taken_from line argument after (first ∷ before) from h =
     let k = taken_from line argument after before (first.column + length first.text) h.2 in
     (omega (arith, h.0, k.0), k.1)
 
-order_one : (line : List ℕ) (from : ℕ) (deed : Deed (List ℕ)) (arguments after : List (Argument (List ℕ)))
-    → ArgumentsFrom line from arguments → Takes deed arguments after → BeginsFrom from deed × ArgumentsFrom line (past from deed) after
-order_one line from (deeds.Word word) arguments after a h = taken_from line word.arg after h.before from (rw h.split at a)
-order_one line from (deeds.Open opener) arguments after a h = (tt, rw h a)
-order_one line from (deeds.Close closer) arguments after a h = (tt, rw h a)
-order_one line from (deeds.LineScope opener) arguments after a h = (tt, rw h a)
-order_one line from (deeds.Leaf leaf) arguments after a h = (tt, rw h a)
-order_one line from (deeds.Raw text) arguments after a h = (tt, rw h a)
-order_one line from (deeds.End fills) arguments after a h = (tt, rw h a)
-order_one line from (deeds.Note kind detail is_quoted begins_body) arguments after a h = (tt, rw h a)
+order_one : (line : List ℕ) (from : ℕ) (kind : EventKind (List ℕ)) (arguments after : List (Argument (List ℕ)))
+    → ArgumentsFrom line from arguments → Takes kind arguments after → BeginsFrom from kind × ArgumentsFrom line (past from kind) after
+order_one line from (kinds.Word word) arguments after a h = taken_from line word.arg after h.before from (rw h.split at a)
+order_one line from (kinds.Open opener) arguments after a h = (tt, rw h a)
+order_one line from (kinds.Close closer) arguments after a h = (tt, rw h a)
+order_one line from (kinds.LineScope opener) arguments after a h = (tt, rw h a)
+order_one line from (kinds.Leaf leaf) arguments after a h = (tt, rw h a)
+order_one line from (kinds.Raw text) arguments after a h = (tt, rw h a)
+order_one line from (kinds.End fills) arguments after a h = (tt, rw h a)
+order_one line from (kinds.Note kind detail is_quoted begins_body) arguments after a h = (tt, rw h a)
 
 pub in_order : (line : List ℕ) (from : ℕ) (events : List (Event (List ℕ))) (arguments : List (Argument (List ℕ)))
     → ArgumentsFrom line from arguments → TakesInOrder events arguments → AreInOrder from events
 in_order line from [] arguments a h = tt
 in_order line from (event ∷ events) arguments a h =
-    let k = order_one line from event.deed arguments h.0 a h.1 in
-    (k.0, in_order line (past from event.deed) events h.0 k.1 h.2)
+    let k = order_one line from event.kind arguments h.0 a h.1 in
+    (k.0, in_order line (past from event.kind) events h.0 k.1 h.2)
 
 pub in_order_after : (line : List ℕ) (start : ℕ) (events : List (Event (List ℕ)))
     → TakesInOrder events (arguments_after start line) → AreInOrder (start + 1) events

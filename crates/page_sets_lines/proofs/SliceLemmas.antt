@@ -2,14 +2,14 @@
 use Rattle.std.proofs.Common.{◌≡◌, ℕ, ◌≤◌, List, [], ◌∷◌, length, Option, None, Some, arith}
 use Rattle.page_core_limits.specs.declared.TheConstants.{LINE}
 use Rattle.page_roff_forms.specs.declared.quotes.Argument.{Argument}
-use Rattle.page_sets_lines.specs.Fits.{ArgumentFits, BlockCloserFits, BlockOpenerFits, CloserFits, DeedFits, GivenFits, LeafFits, IsShort, OpenerFits, RestIsShort, StepFits}
+use Rattle.page_sets_lines.specs.Fits.{ArgumentFits, BlockCloserFits, BlockOpenerFits, CloserFits, KindFits, GivenFits, LeafFits, IsShort, OpenerFits, RestIsShort, StepFits}
 use Rattle.page_sets_lines.specs.Laws.{AreSlices, BlockClosesSlices, BlockOpensSlices, ClosesSlices, HasSlices, IsArgument, IsArgumentIfGiven, IsPart, LeavesSlices, OpensSlices, StepsSlices}
 use Rattle.page_sets_lines.specs.declared.blocks.BlockCloser.{BlockCloser}
 use Rattle.page_sets_lines.specs.declared.blocks.BlockCloser.TheVariants as block_closers
 use Rattle.page_sets_lines.specs.declared.blocks.BlockOpener.{BlockOpener}
 use Rattle.page_sets_lines.specs.declared.blocks.BlockOpener.TheVariants as block_openers
-use Rattle.page_sets_lines.specs.declared.events.Deed.{Deed}
-use Rattle.page_sets_lines.specs.declared.events.Deed.TheVariants as deeds
+use Rattle.page_sets_lines.specs.declared.events.EventKind.{EventKind}
+use Rattle.page_sets_lines.specs.declared.events.EventKind.TheVariants as kinds
 use Rattle.page_sets_lines.specs.declared.events.Event.{Event}
 use Rattle.page_sets_lines.specs.declared.leaves.Leaf.{Leaf}
 use Rattle.page_sets_lines.specs.declared.leaves.Leaf.TheVariants as leaves
@@ -93,7 +93,7 @@ leaf_fits line leaves.BlankLine short slices = tt
 leaf_fits line (leaves.Wordless text) short slices = tt
 leaf_fits line (leaves.Request request) short slices = tt
 leaf_fits line (leaves.Prologue name rest) short slices = tt
-leaf_fits line (leaves.Own word) short slices = tt
+leaf_fits line (leaves.Generated word) short slices = tt
 leaf_fits line (leaves.Example begins) short slices = tt
 leaf_fits line (leaves.Distance rows) short slices = tt
 leaf_fits line (leaves.Fonts font) short slices = tt
@@ -101,37 +101,37 @@ leaf_fits line leaves.FurtherTag short slices = tt
 leaf_fits line (leaves.Step step) short slices = step_fits line step short slices
 
 -- the texts of an event of a line, which are slices of it, stand in a line
-pub deed_fits : (line : List ℕ) (deed : Deed (List ℕ)) → length line ≤ LINE → HasSlices line deed → DeedFits deed
-deed_fits line (deeds.Word word) short slices = argument_fits line word.arg short slices
-deed_fits line (deeds.Open opener) short slices = opener_fits line opener short slices
-deed_fits line (deeds.Close closer) short slices = closer_fits line closer short slices
-deed_fits line (deeds.LineScope opener) short slices = tt
-deed_fits line (deeds.Leaf leaf) short slices = leaf_fits line leaf short slices
-deed_fits line (deeds.Raw text) short slices = tt
-deed_fits line (deeds.End fills) short slices = tt
-deed_fits line (deeds.Note kind detail is_quoted begins_body) short slices = tt
+pub kind_fits : (line : List ℕ) (kind : EventKind (List ℕ)) → length line ≤ LINE → HasSlices line kind → KindFits kind
+kind_fits line (kinds.Word word) short slices = argument_fits line word.arg short slices
+kind_fits line (kinds.Open opener) short slices = opener_fits line opener short slices
+kind_fits line (kinds.Close closer) short slices = closer_fits line closer short slices
+kind_fits line (kinds.LineScope opener) short slices = tt
+kind_fits line (kinds.Leaf leaf) short slices = leaf_fits line leaf short slices
+kind_fits line (kinds.Raw text) short slices = tt
+kind_fits line (kinds.End fills) short slices = tt
+kind_fits line (kinds.Note kind detail is_quoted begins_body) short slices = tt
 
-leaf_short : (line : List ℕ) (leaf : Leaf (List ℕ)) → length line ≤ LINE → HasSlices line (deeds.Leaf leaf) → RestIsShort (deeds.Leaf leaf)
+leaf_short : (line : List ℕ) (leaf : Leaf (List ℕ)) → length line ≤ LINE → HasSlices line (kinds.Leaf leaf) → RestIsShort (kinds.Leaf leaf)
 leaf_short line leaves.BlankLine short slices = tt
 leaf_short line (leaves.Wordless text) short slices = tt
 leaf_short line (leaves.Request request) short slices = tt
 leaf_short line (leaves.Prologue name rest) short slices = part_fits line rest short slices
-leaf_short line (leaves.Own word) short slices = tt
+leaf_short line (leaves.Generated word) short slices = tt
 leaf_short line (leaves.Example begins) short slices = tt
 leaf_short line (leaves.Distance rows) short slices = tt
 leaf_short line (leaves.Fonts font) short slices = tt
 leaf_short line leaves.FurtherTag short slices = tt
 leaf_short line (leaves.Step step) short slices = tt
 
-rest_short : (line : List ℕ) (deed : Deed (List ℕ)) → length line ≤ LINE → HasSlices line deed → RestIsShort deed
-rest_short line (deeds.Word word) short slices = tt
-rest_short line (deeds.Open opener) short slices = tt
-rest_short line (deeds.Close closer) short slices = tt
-rest_short line (deeds.LineScope opener) short slices = tt
-rest_short line (deeds.Leaf leaf) short slices = leaf_short line leaf short slices
-rest_short line (deeds.Raw text) short slices = tt
-rest_short line (deeds.End fills) short slices = tt
-rest_short line (deeds.Note kind detail is_quoted begins_body) short slices = tt
+rest_short : (line : List ℕ) (kind : EventKind (List ℕ)) → length line ≤ LINE → HasSlices line kind → RestIsShort kind
+rest_short line (kinds.Word word) short slices = tt
+rest_short line (kinds.Open opener) short slices = tt
+rest_short line (kinds.Close closer) short slices = tt
+rest_short line (kinds.LineScope opener) short slices = tt
+rest_short line (kinds.Leaf leaf) short slices = leaf_short line leaf short slices
+rest_short line (kinds.Raw text) short slices = tt
+rest_short line (kinds.End fills) short slices = tt
+rest_short line (kinds.Note kind detail is_quoted begins_body) short slices = tt
 
 -- the first event of a line
 pub first_short : (line : List ℕ) (events : List (Event (List ℕ))) (event : Event (List ℕ)) (others : List (Event (List ℕ)))
@@ -139,9 +139,9 @@ pub first_short : (line : List ℕ) (events : List (Event (List ℕ))) (event : 
 first_short line [] event others short slices is = let no : ⊥ = cc in absurd no
 first_short line (e ∷ es) event others short slices is =
     let same : e ≡ event = cc in
-    let fits : IsShort e = (deed_fits line e.deed short slices.0, rest_short line e.deed short slices.0) in
+    let fits : IsShort e = (kind_fits line e.kind short slices.0, rest_short line e.kind short slices.0) in
     rw same at fits
 
 pub first_fits : (line : List ℕ) (events : List (Event (List ℕ))) (event : Event (List ℕ)) (others : List (Event (List ℕ)))
-    → length line ≤ LINE → AreSlices line events → events ≡ event ∷ others → DeedFits event.deed
+    → length line ≤ LINE → AreSlices line events → events ≡ event ∷ others → KindFits event.kind
 first_fits line events event others short slices is = (first_short line events event others short slices is).0

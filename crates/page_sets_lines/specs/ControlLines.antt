@@ -6,7 +6,7 @@ use Rattle.page_roff_forms.specs.declared.quotes.Quoting.{Quoting}
 use Rattle.page_roff_forms.specs.declared.quotes.Quoting.TheVariants.{Bare, Closed, Unclosed}
 use Rattle.page_core_base.specs.LinesTaken.{Line}
 use Rattle.page_roff_forms.specs.LineForms.{is_white}
-use Rattle.page_roff_forms.specs.Arguments.{arguments, argument_seen}
+use Rattle.page_roff_forms.specs.Arguments.{arguments, argument_view}
 use Rattle.std.specs.Borrow.{Bor}
 
 -- the bytes before the name: the control character and the white space after it
@@ -65,4 +65,4 @@ open_quote (suc printed) (argument ∷ arguments) = open_quote printed arguments
 abbrev pub ReadsAfter : ℕ → List ℕ → Option (Argument (Bor (List ℕ)) × ℕ) → Type 0
 ReadsAfter start text result =
     MatchOption result (arguments_after start text ≡ [])
-    (λ read. (read.1 ≤ length text) × (arguments_after start text ≡ argument_seen read.0 ∷ arguments_after read.1 text))
+    (λ read. (read.1 ≤ length text) × (arguments_after start text ≡ argument_view read.0 ∷ arguments_after read.1 text))

@@ -1,7 +1,7 @@
 -- What takes events, where it is lent, and where one event of all is kept.
 use Rattle.std.specs.Prelude.{◌≡◌, ℕ, zero, suc, List, [], ◌∷◌, Option, None, Some}
 use Rattle.std.specs.Borrow.{Bor, GName}
-use Rattle.page_sets_lines.specs.Events.{event_seen}
+use Rattle.page_sets_lines.specs.Events.{event_view}
 use Rattle.page_sets_lines.specs.declared.events.Event.{Event}
 
 -- ---- what is lent
@@ -23,11 +23,11 @@ nth n [] = None
 nth zero (event ∷ events) = Some event
 nth (suc n) (event ∷ events) = nth n events
 
-abbrev pub kept_seen : Option (Event (Bor (List ℕ))) → Option (Event (List ℕ))
-kept_seen None = None
-kept_seen (Some event) = Some (event_seen event)
+abbrev pub kept_view : Option (Event (Bor (List ℕ))) → Option (Event (List ℕ))
+kept_view None = None
+kept_view (Some event) = Some (event_view event)
 
 -- the event that is kept, or else the one after this many of those to come
 abbrev pub found : ℕ → Option (Event (Bor (List ℕ))) → List (Event (List ℕ)) → Option (Event (List ℕ))
 found n None events = nth n events
-found n (Some event) events = Some (event_seen event)
+found n (Some event) events = Some (event_view event)

@@ -2,7 +2,7 @@
 use Rattle.std.specs.Prelude.{◌≡◌, ℕ, List, [], ◌∷◌, Option, None, Some, MatchOption}
 use Rattle.std.specs.Borrow.{Bor}
 use Rattle.page_roff_forms.specs.declared.quotes.Argument.{Argument}
-use Rattle.page_roff_forms.specs.Arguments.{argument_seen}
+use Rattle.page_roff_forms.specs.Arguments.{argument_view}
 use Rattle.page_sets_lines.specs.declared.blocks.BlockOpener.{BlockOpener}
 use Rattle.page_sets_lines.specs.declared.blocks.BlockOpener.TheVariants as block_openers
 use Rattle.page_sets_lines.specs.declared.blocks.BlockCloser.{BlockCloser}
@@ -18,117 +18,117 @@ use Rattle.page_sets_lines.specs.declared.leaves.Request.TheVariants as requests
 use Rattle.page_sets_lines.specs.declared.leaves.Leaf.{Leaf}
 use Rattle.page_sets_lines.specs.declared.leaves.Leaf.TheVariants as leaves
 use Rattle.page_sets_lines.specs.declared.events.Word.{Word}
-use Rattle.page_sets_lines.specs.declared.events.Deed.{Deed}
-use Rattle.page_sets_lines.specs.declared.events.Deed.TheVariants as deeds
+use Rattle.page_sets_lines.specs.declared.events.EventKind.{EventKind}
+use Rattle.page_sets_lines.specs.declared.events.EventKind.TheVariants as kinds
 use Rattle.page_sets_lines.specs.declared.events.Event.{Event}
 
 -- a text that may be there
-abbrev pub text_seen : Option (Bor (List ℕ)) → Option (List ℕ)
-text_seen None = None
-text_seen (Some text) = Some text.now
+abbrev pub text_view : Option (Bor (List ℕ)) → Option (List ℕ)
+text_view None = None
+text_view (Some text) = Some text.now
 
 -- an argument that may be there
-abbrev pub given_seen : Option (Argument (Bor (List ℕ))) → Option (Argument (List ℕ))
-given_seen None = None
-given_seen (Some argument) = Some (argument_seen argument)
+abbrev pub given_view : Option (Argument (Bor (List ℕ))) → Option (Argument (List ℕ))
+given_view None = None
+given_view (Some argument) = Some (argument_view argument)
 
-abbrev pub block_opener_seen : BlockOpener (Bor (List ℕ)) → BlockOpener (List ℕ)
-block_opener_seen (block_openers.List kind is_compact options) = block_openers.List kind is_compact options.now
-block_opener_seen (block_openers.Quotation quotation) = block_openers.Quotation quotation
-block_opener_seen (block_openers.Custom mark) = block_openers.Custom (given_seen mark)
-block_opener_seen block_openers.Extension = block_openers.Extension
-block_opener_seen (block_openers.Display is_literal is_compact offset) = block_openers.Display is_literal is_compact (given_seen offset)
-block_opener_seen (block_openers.Fonts font) = block_openers.Fonts font
-block_opener_seen block_openers.Keep = block_openers.Keep
-block_opener_seen block_openers.Reference = block_openers.Reference
-block_opener_seen (block_openers.Function name) = block_openers.Function (argument_seen name)
+abbrev pub block_opener_view : BlockOpener (Bor (List ℕ)) → BlockOpener (List ℕ)
+block_opener_view (block_openers.List kind is_compact options) = block_openers.List kind is_compact options.now
+block_opener_view (block_openers.Quotation quotation) = block_openers.Quotation quotation
+block_opener_view (block_openers.Custom mark) = block_openers.Custom (given_view mark)
+block_opener_view block_openers.Extension = block_openers.Extension
+block_opener_view (block_openers.Display is_literal is_compact offset) = block_openers.Display is_literal is_compact (given_view offset)
+block_opener_view (block_openers.Fonts font) = block_openers.Fonts font
+block_opener_view block_openers.Keep = block_openers.Keep
+block_opener_view block_openers.Reference = block_openers.Reference
+block_opener_view (block_openers.Function name) = block_openers.Function (argument_view name)
 
-abbrev pub block_closer_seen : BlockCloser (Bor (List ℕ)) → BlockCloser (List ℕ)
-block_closer_seen block_closers.List = block_closers.List
-block_closer_seen (block_closers.Quotation quotation) = block_closers.Quotation quotation
-block_closer_seen (block_closers.Custom mark) = block_closers.Custom (given_seen mark)
-block_closer_seen block_closers.Extension = block_closers.Extension
-block_closer_seen block_closers.Display = block_closers.Display
-block_closer_seen block_closers.Fonts = block_closers.Fonts
-block_closer_seen block_closers.Keep = block_closers.Keep
-block_closer_seen block_closers.Reference = block_closers.Reference
-block_closer_seen block_closers.Function = block_closers.Function
+abbrev pub block_closer_view : BlockCloser (Bor (List ℕ)) → BlockCloser (List ℕ)
+block_closer_view block_closers.List = block_closers.List
+block_closer_view (block_closers.Quotation quotation) = block_closers.Quotation quotation
+block_closer_view (block_closers.Custom mark) = block_closers.Custom (given_view mark)
+block_closer_view block_closers.Extension = block_closers.Extension
+block_closer_view block_closers.Display = block_closers.Display
+block_closer_view block_closers.Fonts = block_closers.Fonts
+block_closer_view block_closers.Keep = block_closers.Keep
+block_closer_view block_closers.Reference = block_closers.Reference
+block_closer_view block_closers.Function = block_closers.Function
 
-abbrev pub opener_seen : Opener (Bor (List ℕ)) → Opener (List ℕ)
-opener_seen openers.Item = openers.Item
-opener_seen openers.Section = openers.Section
-opener_seen openers.Subsection = openers.Subsection
-opener_seen (openers.Paragraph name) = openers.Paragraph name
-opener_seen (openers.Tagged hang) = openers.Tagged (text_seen hang)
-opener_seen (openers.Indented tag hang) = openers.Indented (given_seen tag) (text_seen hang)
-opener_seen (openers.Hanging hang) = openers.Hanging (text_seen hang)
-opener_seen (openers.RelativeMargin columns) = openers.RelativeMargin (text_seen columns)
-opener_seen (openers.Target link target) = openers.Target link (argument_seen target)
-opener_seen (openers.Syntax name) = openers.Syntax (argument_seen name)
-opener_seen (openers.Block opener) = openers.Block (block_opener_seen opener)
+abbrev pub opener_view : Opener (Bor (List ℕ)) → Opener (List ℕ)
+opener_view openers.Item = openers.Item
+opener_view openers.Section = openers.Section
+opener_view openers.Subsection = openers.Subsection
+opener_view (openers.Paragraph name) = openers.Paragraph name
+opener_view (openers.Tagged hang) = openers.Tagged (text_view hang)
+opener_view (openers.Indented tag hang) = openers.Indented (given_view tag) (text_view hang)
+opener_view (openers.Hanging hang) = openers.Hanging (text_view hang)
+opener_view (openers.RelativeMargin columns) = openers.RelativeMargin (text_view columns)
+opener_view (openers.Target link target) = openers.Target link (argument_view target)
+opener_view (openers.Syntax name) = openers.Syntax (argument_view name)
+opener_view (openers.Block opener) = openers.Block (block_opener_view opener)
 
-abbrev pub closer_seen : Closer (Bor (List ℕ)) → Closer (List ℕ)
-closer_seen closers.Line = closers.Line
-closer_seen (closers.RelativeMargin number) = closers.RelativeMargin (text_seen number)
-closer_seen (closers.Target link suffix) = closers.Target link (given_seen suffix)
-closer_seen closers.Syntax = closers.Syntax
-closer_seen closers.Enclosures = closers.Enclosures
-closer_seen (closers.Block closer) = closers.Block (block_closer_seen closer)
+abbrev pub closer_view : Closer (Bor (List ℕ)) → Closer (List ℕ)
+closer_view closers.Line = closers.Line
+closer_view (closers.RelativeMargin number) = closers.RelativeMargin (text_view number)
+closer_view (closers.Target link suffix) = closers.Target link (given_view suffix)
+closer_view closers.Syntax = closers.Syntax
+closer_view closers.Enclosures = closers.Enclosures
+closer_view (closers.Block closer) = closers.Block (block_closer_view closer)
 
-abbrev pub request_seen : Request (Bor (List ℕ)) → Request (List ℕ)
-request_seen requests.Break = requests.Break
-request_seen (requests.Space rows) = requests.Space (text_seen rows)
-request_seen (requests.Font name) = requests.Font (given_seen name)
-request_seen (requests.Shift columns) = requests.Shift (text_seen columns)
-request_seen (requests.Literal on) = requests.Literal on
+abbrev pub request_view : Request (Bor (List ℕ)) → Request (List ℕ)
+request_view requests.Break = requests.Break
+request_view (requests.Space rows) = requests.Space (text_view rows)
+request_view (requests.Font name) = requests.Font (given_view name)
+request_view (requests.Shift columns) = requests.Shift (text_view columns)
+request_view (requests.Literal on) = requests.Literal on
 
-abbrev pub step_seen : LineStep (Bor (List ℕ)) → LineStep (List ℕ)
-step_seen steps.NextColumn = steps.NextColumn
-step_seen steps.Glue = steps.Glue
-step_seen (steps.BodyParagraph name) = steps.BodyParagraph name
-step_seen (steps.Uri uri) = steps.Uri (argument_seen uri)
-step_seen steps.ManualName = steps.ManualName
-step_seen steps.NextField = steps.NextField
-step_seen steps.NextArgument = steps.NextArgument
-step_seen steps.FunctionEnd = steps.FunctionEnd
-step_seen (steps.Spacing on) = steps.Spacing on
-step_seen (steps.Synopsis step) = steps.Synopsis step
+abbrev pub step_view : LineStep (Bor (List ℕ)) → LineStep (List ℕ)
+step_view steps.NextColumn = steps.NextColumn
+step_view steps.Glue = steps.Glue
+step_view (steps.BodyParagraph name) = steps.BodyParagraph name
+step_view (steps.Uri uri) = steps.Uri (argument_view uri)
+step_view steps.ManualName = steps.ManualName
+step_view steps.NextField = steps.NextField
+step_view steps.NextArgument = steps.NextArgument
+step_view steps.FunctionEnd = steps.FunctionEnd
+step_view (steps.Spacing on) = steps.Spacing on
+step_view (steps.Synopsis step) = steps.Synopsis step
 
-abbrev pub leaf_seen : Leaf (Bor (List ℕ)) → Leaf (List ℕ)
-leaf_seen leaves.BlankLine = leaves.BlankLine
-leaf_seen (leaves.Wordless text) = leaves.Wordless text.now
-leaf_seen (leaves.Request request) = leaves.Request (request_seen request)
-leaf_seen (leaves.Prologue name rest) = leaves.Prologue name rest.now
-leaf_seen (leaves.Own word) = leaves.Own word
-leaf_seen (leaves.Example begins) = leaves.Example begins
-leaf_seen (leaves.Distance rows) = leaves.Distance (text_seen rows)
-leaf_seen (leaves.Fonts font) = leaves.Fonts font
-leaf_seen leaves.FurtherTag = leaves.FurtherTag
-leaf_seen (leaves.Step step) = leaves.Step (step_seen step)
+abbrev pub leaf_view : Leaf (Bor (List ℕ)) → Leaf (List ℕ)
+leaf_view leaves.BlankLine = leaves.BlankLine
+leaf_view (leaves.Wordless text) = leaves.Wordless text.now
+leaf_view (leaves.Request request) = leaves.Request (request_view request)
+leaf_view (leaves.Prologue name rest) = leaves.Prologue name rest.now
+leaf_view (leaves.Generated word) = leaves.Generated word
+leaf_view (leaves.Example begins) = leaves.Example begins
+leaf_view (leaves.Distance rows) = leaves.Distance (text_view rows)
+leaf_view (leaves.Fonts font) = leaves.Fonts font
+leaf_view leaves.FurtherTag = leaves.FurtherTag
+leaf_view (leaves.Step step) = leaves.Step (step_view step)
 
-abbrev pub word_seen : Word (Bor (List ℕ)) → Word (List ℕ)
-word_seen word = record {
-  arg = argument_seen word.arg;
+abbrev pub word_view : Word (Bor (List ℕ)) → Word (List ℕ)
+word_view word = record {
+  arg = argument_view word.arg;
   role = word.role;
   font = word.font;
   before = word.before;
   after = word.after;
 }
 
-abbrev pub deed_seen : Deed (Bor (List ℕ)) → Deed (List ℕ)
-deed_seen (deeds.Word word) = deeds.Word (word_seen word)
-deed_seen (deeds.Open opener) = deeds.Open (opener_seen opener)
-deed_seen (deeds.Close closer) = deeds.Close (closer_seen closer)
-deed_seen (deeds.LineScope opener) = deeds.LineScope opener
-deed_seen (deeds.Leaf leaf) = deeds.Leaf (leaf_seen leaf)
-deed_seen (deeds.Raw text) = deeds.Raw text.now
-deed_seen (deeds.End fills) = deeds.End fills
-deed_seen (deeds.Note kind detail is_quoted begins_body) = deeds.Note kind detail.now is_quoted begins_body
+abbrev pub kind_view : EventKind (Bor (List ℕ)) → EventKind (List ℕ)
+kind_view (kinds.Word word) = kinds.Word (word_view word)
+kind_view (kinds.Open opener) = kinds.Open (opener_view opener)
+kind_view (kinds.Close closer) = kinds.Close (closer_view closer)
+kind_view (kinds.LineScope opener) = kinds.LineScope opener
+kind_view (kinds.Leaf leaf) = kinds.Leaf (leaf_view leaf)
+kind_view (kinds.Raw text) = kinds.Raw text.now
+kind_view (kinds.End fills) = kinds.End fills
+kind_view (kinds.Note kind detail is_quoted begins_body) = kinds.Note kind detail.now is_quoted begins_body
 
 -- an event of the program, with what its texts hold
-abbrev pub event_seen : Event (Bor (List ℕ)) → Event (List ℕ)
-event_seen event = record { place = event.place; deed = deed_seen event.deed }
+abbrev pub event_view : Event (Bor (List ℕ)) → Event (List ℕ)
+event_view event = record { place = event.place; kind = kind_view event.kind }
 
 -- the first of the events that are still to come is given, if there is one, and the others are still to come
 abbrev pub TakesNext : List (Event (List ℕ)) → Option (Event (Bor (List ℕ))) → List (Event (List ℕ)) → Type 0
-TakesNext old result new = MatchOption result ((old ≡ []) × (new ≡ [])) (λ event. old ≡ event_seen event ∷ new)
+TakesNext old result new = MatchOption result ((old ≡ []) × (new ≡ [])) (λ event. old ≡ event_view event ∷ new)

@@ -6,8 +6,8 @@ use Rattle.page_sets_lines.specs.declared.blocks.BlockCloser.{BlockCloser}
 use Rattle.page_sets_lines.specs.declared.blocks.BlockCloser.TheVariants as block_closers
 use Rattle.page_sets_lines.specs.declared.blocks.BlockOpener.{BlockOpener}
 use Rattle.page_sets_lines.specs.declared.blocks.BlockOpener.TheVariants as block_openers
-use Rattle.page_sets_lines.specs.declared.events.Deed.{Deed}
-use Rattle.page_sets_lines.specs.declared.events.Deed.TheVariants as deeds
+use Rattle.page_sets_lines.specs.declared.events.EventKind.{EventKind}
+use Rattle.page_sets_lines.specs.declared.events.EventKind.TheVariants as kinds
 use Rattle.page_sets_lines.specs.declared.events.Event.{Event}
 use Rattle.page_sets_lines.specs.declared.leaves.Leaf.{Leaf}
 use Rattle.page_sets_lines.specs.declared.leaves.Leaf.TheVariants as leaves
@@ -61,22 +61,22 @@ abbrev pub LeafFits : Leaf (List ℕ) → Type 0
 LeafFits (leaves.Step step) = StepFits step
 LeafFits _ = Unit {0}
 
--- the texts that a deed prints stand in a line
-abbrev pub DeedFits : Deed (List ℕ) → Type 0
-DeedFits (deeds.Word word) = ArgumentFits word.arg
-DeedFits (deeds.Open opener) = OpenerFits opener
-DeedFits (deeds.Close closer) = CloserFits closer
-DeedFits (deeds.Leaf leaf) = LeafFits leaf
-DeedFits _ = Unit {0}
+-- the texts that an event prints stand in a line
+abbrev pub KindFits : EventKind (List ℕ) → Type 0
+KindFits (kinds.Word word) = ArgumentFits word.arg
+KindFits (kinds.Open opener) = OpenerFits opener
+KindFits (kinds.Close closer) = CloserFits closer
+KindFits (kinds.Leaf leaf) = LeafFits leaf
+KindFits _ = Unit {0}
 
 -- what follows a macro of the prologue is no longer than a line
-abbrev pub RestIsShort : Deed (List ℕ) → Type 0
-RestIsShort (deeds.Leaf (leaves.Prologue name rest)) = length rest ≤ LINE
+abbrev pub RestIsShort : EventKind (List ℕ) → Type 0
+RestIsShort (kinds.Leaf (leaves.Prologue name rest)) = length rest ≤ LINE
 RestIsShort _ = Unit {0}
 
--- the texts of a deed, or of an event, stand in a line
-abbrev pub IsShortDeed : Deed (List ℕ) → Type 0
-IsShortDeed deed = DeedFits deed × RestIsShort deed
+-- the texts of a kind of event, or of an event, stand in a line
+abbrev pub IsShortKind : EventKind (List ℕ) → Type 0
+IsShortKind kind = KindFits kind × RestIsShort kind
 
 abbrev pub IsShort : Event (List ℕ) → Type 0
-IsShort event = IsShortDeed event.deed
+IsShort event = IsShortKind event.kind

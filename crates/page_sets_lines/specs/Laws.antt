@@ -15,8 +15,8 @@ use Rattle.page_sets_lines.specs.declared.leaves.Request.{Request}
 use Rattle.page_sets_lines.specs.declared.leaves.Request.TheVariants as requests
 use Rattle.page_sets_lines.specs.declared.leaves.Leaf.{Leaf}
 use Rattle.page_sets_lines.specs.declared.leaves.Leaf.TheVariants as leaves
-use Rattle.page_sets_lines.specs.declared.events.Deed.{Deed}
-use Rattle.page_sets_lines.specs.declared.events.Deed.TheVariants as deeds
+use Rattle.page_sets_lines.specs.declared.events.EventKind.{EventKind}
+use Rattle.page_sets_lines.specs.declared.events.EventKind.TheVariants as kinds
 use Rattle.page_sets_lines.specs.declared.events.Event.{Event}
 
 -- a text is the slice of the line that begins after this many bytes
@@ -110,49 +110,49 @@ LeavesSlices line leaves.BlankLine = Unit {0}
 LeavesSlices line (leaves.Wordless text) = IsPart line text
 LeavesSlices line (leaves.Request request) = RequestsSlices line request
 LeavesSlices line (leaves.Prologue name rest) = IsPart line rest
-LeavesSlices line (leaves.Own word) = Unit {0}
+LeavesSlices line (leaves.Generated word) = Unit {0}
 LeavesSlices line (leaves.Example begins) = Unit {0}
 LeavesSlices line (leaves.Distance rows) = IsPartIfGiven line rows
 LeavesSlices line (leaves.Fonts font) = Unit {0}
 LeavesSlices line leaves.FurtherTag = Unit {0}
 LeavesSlices line (leaves.Step step) = StepsSlices line step
 
-abbrev pub HasSlices : List ℕ → Deed (List ℕ) → Type 0
-HasSlices line (deeds.Word word) = IsArgument line word.arg
-HasSlices line (deeds.Open opener) = OpensSlices line opener
-HasSlices line (deeds.Close closer) = ClosesSlices line closer
-HasSlices line (deeds.LineScope opener) = Unit {0}
-HasSlices line (deeds.Leaf leaf) = LeavesSlices line leaf
-HasSlices line (deeds.Raw text) = IsPart line text
-HasSlices line (deeds.End fills) = Unit {0}
-HasSlices line (deeds.Note kind detail is_quoted begins_body) = IsPart line detail
+abbrev pub HasSlices : List ℕ → EventKind (List ℕ) → Type 0
+HasSlices line (kinds.Word word) = IsArgument line word.arg
+HasSlices line (kinds.Open opener) = OpensSlices line opener
+HasSlices line (kinds.Close closer) = ClosesSlices line closer
+HasSlices line (kinds.LineScope opener) = Unit {0}
+HasSlices line (kinds.Leaf leaf) = LeavesSlices line leaf
+HasSlices line (kinds.Raw text) = IsPart line text
+HasSlices line (kinds.End fills) = Unit {0}
+HasSlices line (kinds.Note kind detail is_quoted begins_body) = IsPart line detail
 
 abbrev pub AreSlices : List ℕ → List (Event (List ℕ)) → Type 0
 AreSlices line [] = Unit {0}
-AreSlices line (event ∷ events) = HasSlices line event.deed × AreSlices line events
+AreSlices line (event ∷ events) = HasSlices line event.kind × AreSlices line events
 
 -- the column from which the next word may begin, after this event
-abbrev pub past : ℕ → Deed (List ℕ) → ℕ
-past from (deeds.Word word) = word.arg.column + length word.arg.text
-past from (deeds.Open opener) = from
-past from (deeds.Close closer) = from
-past from (deeds.LineScope opener) = from
-past from (deeds.Leaf leaf) = from
-past from (deeds.Raw text) = from
-past from (deeds.End fills) = from
-past from (deeds.Note kind detail is_quoted begins_body) = from
+abbrev pub past : ℕ → EventKind (List ℕ) → ℕ
+past from (kinds.Word word) = word.arg.column + length word.arg.text
+past from (kinds.Open opener) = from
+past from (kinds.Close closer) = from
+past from (kinds.LineScope opener) = from
+past from (kinds.Leaf leaf) = from
+past from (kinds.Raw text) = from
+past from (kinds.End fills) = from
+past from (kinds.Note kind detail is_quoted begins_body) = from
 
-abbrev pub BeginsFrom : ℕ → Deed (List ℕ) → Type 0
-BeginsFrom from (deeds.Word word) = from ≤ word.arg.column
-BeginsFrom from (deeds.Open opener) = Unit {0}
-BeginsFrom from (deeds.Close closer) = Unit {0}
-BeginsFrom from (deeds.LineScope opener) = Unit {0}
-BeginsFrom from (deeds.Leaf leaf) = Unit {0}
-BeginsFrom from (deeds.Raw text) = Unit {0}
-BeginsFrom from (deeds.End fills) = Unit {0}
-BeginsFrom from (deeds.Note kind detail is_quoted begins_body) = Unit {0}
+abbrev pub BeginsFrom : ℕ → EventKind (List ℕ) → Type 0
+BeginsFrom from (kinds.Word word) = from ≤ word.arg.column
+BeginsFrom from (kinds.Open opener) = Unit {0}
+BeginsFrom from (kinds.Close closer) = Unit {0}
+BeginsFrom from (kinds.LineScope opener) = Unit {0}
+BeginsFrom from (kinds.Leaf leaf) = Unit {0}
+BeginsFrom from (kinds.Raw text) = Unit {0}
+BeginsFrom from (kinds.End fills) = Unit {0}
+BeginsFrom from (kinds.Note kind detail is_quoted begins_body) = Unit {0}
 
 -- the words stand in order: none begins before the one in front of it has ended
 abbrev pub AreInOrder : ℕ → List (Event (List ℕ)) → Type 0
 AreInOrder from [] = Unit {0}
-AreInOrder from (event ∷ events) = BeginsFrom from event.deed × AreInOrder (past from event.deed) events
+AreInOrder from (event ∷ events) = BeginsFrom from event.kind × AreInOrder (past from event.kind) events

@@ -3,7 +3,7 @@ use Rattle.std.specs.Prelude.{ℕ, Bool, true, false, not, is_some, List, [], �
 use Rattle.std.specs.Borrow.{Bor}
 use Rattle.std.specs.Str.{bytes_eq}
 use Rattle.page_roff_forms.specs.declared.quotes.Argument.{Argument}
-use Rattle.page_sets_lines.specs.Events.{given_seen}
+use Rattle.page_sets_lines.specs.Events.{given_view}
 use Rattle.page_sets_lines.specs.declared.lists.ListKind.{ListKind}
 use Rattle.page_sets_lines.specs.declared.lists.ListKind.TheVariants as kinds
 use Rattle.page_sets_lines.specs.declared.lists.ListWord.{ListWord}
@@ -114,11 +114,11 @@ columns_after so_far (word ∷ words) =
 
 -- ---- options of the program, with what their texts hold
 
-abbrev pub options_seen : ListOptions (Bor (List ℕ)) → ListOptions (List ℕ)
-options_seen options = record {
+abbrev pub options_view : ListOptions (Bor (List ℕ)) → ListOptions (List ℕ)
+options_view options = record {
   kind = options.kind;
   is_compact = options.is_compact;
-  width = given_seen options.width;
-  offset = given_seen options.offset;
+  width = given_view options.width;
+  offset = given_view options.offset;
   awaited = options.awaited;
 }

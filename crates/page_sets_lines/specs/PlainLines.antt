@@ -17,15 +17,15 @@ use Rattle.page_sets_lines.specs.declared.leaves.Leaf.TheVariants.{BlankLine, Wo
 use Rattle.page_sets_lines.specs.declared.events.Word.{Word}
 use Rattle.page_sets_lines.specs.declared.events.Role.TheVariants as roles
 use Rattle.page_sets_lines.specs.declared.events.Join.TheVariants.{Apart}
-use Rattle.page_sets_lines.specs.declared.events.Deed.{Deed}
-use Rattle.page_sets_lines.specs.declared.events.Deed.TheVariants as deeds
+use Rattle.page_sets_lines.specs.declared.events.EventKind.{EventKind}
+use Rattle.page_sets_lines.specs.declared.events.EventKind.TheVariants as kinds
 use Rattle.page_sets_lines.specs.declared.events.Event.{Event}
 use Rattle.page_sets_lines.specs.declared.plain_lines.PlainLine.{PlainLine}
 use Rattle.page_sets_lines.specs.declared.plain_lines.PlainLine.TheVariants as lines
 
 -- an event in a column of a line
-abbrev pub event_at : ℕ → ℕ → Deed (List ℕ) → Event (List ℕ)
-event_at number column deed = record { place = record { line = number; column = column }; deed = deed }
+abbrev pub event_at : ℕ → ℕ → EventKind (List ℕ) → Event (List ℕ)
+event_at number column kind = record { place = record { line = number; column = column }; kind = kind }
 
 -- a whole line is one word
 abbrev pub line_word : List ℕ → Word (List ℕ)
@@ -45,11 +45,11 @@ plain_line forms.Raw text = Some lines.Raw
 plain_line forms.Control text = None
 
 -- what it does
-abbrev pub plain_deed : PlainLine → List ℕ → Deed (List ℕ)
-plain_deed lines.Words text = deeds.Word (line_word text)
-plain_deed lines.Wordless text = deeds.Leaf (Wordless text)
-plain_deed lines.Blank text = deeds.Leaf BlankLine
-plain_deed lines.Raw text = deeds.Raw text
+abbrev pub plain_kind : PlainLine → List ℕ → EventKind (List ℕ)
+plain_kind lines.Words text = kinds.Word (line_word text)
+plain_kind lines.Wordless text = kinds.Leaf (Wordless text)
+plain_kind lines.Blank text = kinds.Leaf BlankLine
+plain_kind lines.Raw text = kinds.Raw text
 
 -- text with a word fills line scopes
 abbrev pub fills : PlainLine → Bool
@@ -59,11 +59,11 @@ fills lines.Blank = false
 fills lines.Raw = false
 
 abbrev pub line_end : ℕ → Bool → Event (List ℕ)
-line_end number filled = event_at number 1 (deeds.End filled)
+line_end number filled = event_at number 1 (kinds.End filled)
 
 -- the events of a line that is no control line
 abbrev pub plain_events : ℕ → List ℕ → PlainLine → List (Event (List ℕ))
-plain_events number text line = event_at number 1 (plain_deed line text) ∷ line_end number (fills line) ∷ []
+plain_events number text line = event_at number 1 (plain_kind line text) ∷ line_end number (fills line) ∷ []
 
 -- the requests that change rows
 abbrev pub layout_in : Option roff.Request → Option LayoutRequest

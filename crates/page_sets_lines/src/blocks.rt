@@ -2,7 +2,7 @@
 
 ghost use Rattle.std.specs.Prelude.{◌≡◌};
 ghost use Rattle.page_sets_lines.specs.Blocks.{block_name, block_closer_name, opened_block, closed_block};
-ghost use Rattle.page_sets_lines.specs.Events.{block_opener_seen, block_closer_seen};
+ghost use Rattle.page_sets_lines.specs.Events.{block_opener_view, block_closer_view};
 
 use crate::lists::ListKind;
 use page_core_base::Font;
@@ -18,7 +18,7 @@ pub enum Block {
     /// `Ao` and `Ac`, `Bo` and `Bc`, `Bro` and `Brc`, `Do` and `Dc`, `Oo` and `Oc`, `Po` and `Pc`, `Qo` and `Qc`,
     /// `So` and `Sc`.
     Quotation(Quotation),
-    /// `Eo` and `Ec`: the marks are their own.
+    /// `Eo` and `Ec`: the marks are their text.
     Custom,
     /// `Xo` and `Xc`: no marks.
     Extension,
@@ -125,7 +125,7 @@ impl Block {
 impl BlockOpener<&[u8]> {
     /// The block that it opens.
     pub fn block(&self) -> Block
-        ensures { result ≡ opened_block (block_opener_seen self.now) }
+        ensures { result ≡ opened_block (block_opener_view self.now) }
     {
         match *self {
             BlockOpener::List { kind, .. } => Block::List(kind),
@@ -144,7 +144,7 @@ impl BlockOpener<&[u8]> {
 impl BlockCloser<&[u8]> {
     /// The block that it closes; lists of all types have one closer, and the plainest stands for them.
     pub fn block(&self) -> Block
-        ensures { result ≡ closed_block (block_closer_seen self.now) }
+        ensures { result ≡ closed_block (block_closer_view self.now) }
     {
         match *self {
             BlockCloser::List => Block::List(ListKind::Item),

@@ -2,9 +2,9 @@
 
 ghost use Rattle.std.specs.Prelude.{◌≡◌, ◌≤◌, ◌==◌, length, IfSome};
 ghost use Rattle.std.specs.List.{list_any};
-ghost use Rattle.page_core_base.specs.LinesTaken.{line_seen};
-ghost use Rattle.page_roff_forms.specs.Arguments.{argument_seen};
-ghost use Rattle.page_sets_lines.specs.Events.{given_seen};
+ghost use Rattle.page_core_base.specs.LinesTaken.{line_view};
+ghost use Rattle.page_roff_forms.specs.Arguments.{argument_view};
+ghost use Rattle.page_sets_lines.specs.Events.{given_view};
 ghost use Rattle.page_sets_lines.specs.Fits.{ArgumentFits, GivenFits};
 ghost use Rattle.page_sets_lines.specs.ControlLines.{before_name, name_end, arguments_after, first_of, is_quote, open_quote, ReadsAfter};
 
@@ -42,7 +42,7 @@ fn before_name(text: &[u8]) -> usize
 /// Finds the name of a control line.
 pub fn find_name(line: Taken<'_>) -> NameSpan
     ensures start { result.start ≡ before_name line.entry.text.now }
-    ensures end { result.end ≡ name_end (line_seen line.entry) }
+    ensures end { result.end ≡ name_end (line_view line.entry) }
     ensures within { (result.start ≤ result.end) × (result.end ≤ length line.entry.text.now) }
 {
     let start = before_name(line.text);
@@ -110,7 +110,7 @@ pub fn read_after(text: &[u8], start: usize) -> Option<(Argument<&[u8]>, usize)>
     requires short { length text.now ≤ LINE }
     requires within { start ≤ length text.now }
     ensures reads { ReadsAfter start text.now result }
-    ensures fits { IfSome result (λ read. ArgumentFits (argument_seen read.0)) }
+    ensures fits { IfSome result (λ read. ArgumentFits (argument_view read.0)) }
 {
     let (argument, len) = read_argument(&text[start..], start as u32 + 1)?;
     Some((argument, start + len))
@@ -121,8 +121,8 @@ pub fn read_after(text: &[u8], start: usize) -> Option<(Argument<&[u8]>, usize)>
 pub fn first_of(text: &[u8], start: usize) -> Option<Argument<&[u8]>>
     requires short { length text.now ≤ LINE }
     requires within { start ≤ length text.now }
-    ensures first { given_seen result ≡ first_of (arguments_after start text.now) }
-    ensures fits { GivenFits (given_seen result) }
+    ensures first { given_view result ≡ first_of (arguments_after start text.now) }
+    ensures fits { GivenFits (given_view result) }
 {
     arguments_after(text, start).next_argument()
 }

@@ -1,9 +1,9 @@
 //! What takes the events of a line, one after another.
 
 ghost use Rattle.std.specs.Prelude.{◌≡◌, List, [], ◌∷◌, ℕ, Option};
-ghost use Rattle.page_sets_lines.specs.Events.{event_seen};
+ghost use Rattle.page_sets_lines.specs.Events.{event_view};
 ghost use Rattle.page_core_base.specs.Latches.{Came};
-ghost use Rattle.page_sets_lines.specs.EventOuts.{found, nth, kept_seen};
+ghost use Rattle.page_sets_lines.specs.EventOuts.{found, nth, kept_view};
 ghost use Rattle.page_sets_lines.specs.Fits.{IsShort};
 
 use crate::events::Event;
@@ -19,8 +19,8 @@ pub trait EventOut {
 
     /// Takes an event.
     fn give(&mut self, event: Event<&[u8]>)
-        requires { IsShort (event_seen event) }
-        ensures { Came left self.old (event_seen event.entry ∷ []) self.new };
+        requires { IsShort (event_view event) }
+        ensures { Came left self.old (event_view event.entry ∷ []) self.new };
 }
 
 /// Takes events whose texts live as long as `'a`, so that it may keep them.
@@ -34,8 +34,8 @@ pub trait EventTaker<'a> {
 
     /// Takes an event.
     fn give(&mut self, event: Event<&'a [u8]>)
-        requires { IsShort (event_seen event) }
-        ensures { Came left self.old (event_seen event.entry ∷ []) self.new };
+        requires { IsShort (event_view event) }
+        ensures { Came left self.old (event_view event.entry ∷ []) self.new };
 }
 
 /// Hands events on to what takes them for the call.
@@ -77,7 +77,7 @@ impl<'a> Nth<'a> {
 
     /// The event, if it came.
     pub fn event(self) -> Option<Event<&'a [u8]>>
-        ensures { kept_seen result ≡ kept_seen self.entry.kept }
+        ensures { kept_view result ≡ kept_view self.entry.kept }
     {
         self.kept
     }

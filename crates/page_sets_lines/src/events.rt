@@ -26,11 +26,11 @@ pub enum Role {
     Argument,
     /// A delimiter of mdoc(7).
     Delimiter,
-    /// The first name that `Nm` has, with the column of the macro's own name.
+    /// The first name that `Nm` has, with the column of the macro's text name.
     Name { column: u32 },
 }
 
-/// A word, in a font of its own if it has one; `W` is a text.
+/// A word, in a font of its text if it has one; `W` is a text.
 pub struct Word<W> {
     /// Its text and column.
     pub arg: Argument<W>,
@@ -43,7 +43,7 @@ pub struct Word<W> {
 }
 
 /// What an event does; `W` is a text.
-pub enum Deed<W> {
+pub enum EventKind<W> {
     Word(Word<W>),
     Open(Opener<W>),
     Close(Closer<W>),
@@ -68,7 +68,7 @@ pub enum Deed<W> {
 /// An event of a line, with the place that its messages name.
 pub struct Event<W> {
     pub place: Place,
-    pub deed: Deed<W>,
+    pub kind: EventKind<W>,
 }
 
 impl<W: Copy> Copy for Word<W> {}
@@ -83,14 +83,14 @@ impl<W: Copy> Clone for Word<W> {
     }
 }
 
-impl<W: Copy> Copy for Deed<W> {}
+impl<W: Copy> Copy for EventKind<W> {}
 
-impl<W: Copy> Clone for Deed<W> {
+impl<W: Copy> Clone for EventKind<W> {
     ghost is_clone = { λ x y. y ≡ x };
 
     ghost is_infallible = { λ _. Unit {0} };
 
-    fn clone(&self) -> Result<Deed<W>, AllocError> {
+    fn clone(&self) -> Result<EventKind<W>, AllocError> {
         Ok(*self)
     }
 }

@@ -7,7 +7,7 @@ use crate::events::Join;
 use crate::line_steps::LineStep;
 use page_core_base::Font;
 use page_roff_forms::Argument;
-use page_sets_names::{Own, Prologue};
+use page_sets_names::{GeneratedText, Prologue};
 use std::alloc::AllocError;
 
 /// A request that changes rows; `W` is a text, a number in it still an expression.
@@ -24,10 +24,10 @@ pub enum Request<W> {
     Literal(bool),
 }
 
-/// A word that a macro prints itself, in a font of its own if it has one.
+/// A word that a macro prints itself, in a font of its text if it has one.
 #[derive(Clone, Copy)]
-pub struct OwnWord {
-    pub own: Own,
+pub struct GeneratedWord {
+    pub text: GeneratedText,
     pub font: Option<Font>,
     pub before: Join,
     pub after: Join,
@@ -42,8 +42,8 @@ pub enum Leaf<W> {
     Request(Request<W>),
     /// A macro of the prologue, with the rest of its line.
     Prologue(Prologue, W),
-    /// A word of the macro's own.
-    Own(OwnWord),
+    /// A word of the macro's text.
+    Generated(GeneratedWord),
     /// `EX` (true) and `EE` (false).
     Example(bool),
     /// `PD`, with the distance of paragraphs.

@@ -4,7 +4,7 @@
 //! A finished line of roff comes in, its events go out to the scopes. Read `src/events.rt` first (what an event is), then
 //! `src/macro_sets.rt` (what a set must keep to).
 //!
-//! Proved: `MacroSet`: the events of a line are those of the set's own table; each text is a slice of its line, words stand in order, and a line
+//! Proved: `MacroSet`: the events of a line are those of the set's text table; each text is a slice of its line, words stand in order, and a line
 //! gives at most two events a byte and two (`specs/Laws.antt`). `MacroSet::give` gives them in this order to an `EventOut`; its default body pulls
 //! them by `start` and `next`.
 #![tactic(auto)]
@@ -24,14 +24,14 @@ mod requests;
 pub use blocks::{Block, BlockCloser, BlockOpener};
 pub use control_lines::{NameSpan, find_name, first_of, open_quote, read_after};
 pub use event_outs::{EventOut, EventTaker, Handed, Nth};
-pub use events::{Deed, Event, Join, Role, Word};
-pub use leaves::{Leaf, OwnWord, Request};
+pub use events::{EventKind, Event, Join, Role, Word};
+pub use leaves::{Leaf, GeneratedWord, Request};
 pub use line_steps::{LineStep, SynopsisStep};
 pub use lists::{Awaited, ListKind, ListOptions, ListWord, read_list_options};
 pub use macro_sets::MacroSet;
 pub use openers::{Closer, LineOpener, Opener};
 pub use page_sets_names::{
-    BodyParagraphName, FontMacro, HeadingName, Link, Marks, OneLineName, Own, ParagraphName,
+    BodyParagraphName, FontMacro, HeadingName, Link, Marks, OneLineName, GeneratedText, ParagraphName,
     Prologue, Quotation, TagName,
 };
 pub use plain_lines::PlainLine;

@@ -1,10 +1,10 @@
 //! The types of lists, and what the arguments of `Bl` say (mdoc(7), `Bl`).
 
 ghost use Rattle.std.specs.Prelude.{◌≡◌, ◌≤◌, length, true, not, is_some};
-ghost use Rattle.page_roff_forms.specs.Arguments.{argument_seen};
+ghost use Rattle.page_roff_forms.specs.Arguments.{argument_view};
 ghost use Rattle.page_sets_lines.specs.ControlLines.{arguments_after};
 ghost use Rattle.page_sets_lines.specs.Lists as lists;
-ghost use Rattle.page_sets_lines.specs.Lists.{options_seen};
+ghost use Rattle.page_sets_lines.specs.Lists.{options_view};
 
 use page_core_limits::LINE;
 use page_roff_forms::{Argument, Arguments};
@@ -154,7 +154,7 @@ fn list_word(word: &[u8]) -> Option<ListWord>
 impl<'a> ListOptions<&'a [u8]> {
     /// What no argument says.
     pub fn new() -> ListOptions<&'a [u8]>
-        ensures { options_seen result ≡ lists.no_options }
+        ensures { options_view result ≡ lists.no_options }
     {
         ListOptions {
             kind: None,
@@ -167,7 +167,7 @@ impl<'a> ListOptions<&'a [u8]> {
 
     // Reads a type or an option.
     fn read_word(&mut self, word: Option<ListWord>)
-        ensures { options_seen self.new ≡ lists.with_word word (options_seen self.old) }
+        ensures { options_view self.new ≡ lists.with_word word (options_view self.old) }
     {
         match word {
             Some(ListWord::Kind(kind)) => {
@@ -184,7 +184,7 @@ impl<'a> ListOptions<&'a [u8]> {
 
     /// Reads one more argument.
     pub fn read(&mut self, word: Argument<&'a [u8]>)
-        ensures { options_seen self.new ≡ lists.option_read (options_seen self.old) (argument_seen word.entry) }
+        ensures { options_view self.new ≡ lists.option_read (options_view self.old) (argument_view word.entry) }
     {
         match self.awaited {
             None => self.read_word(list_word(word.text)),
@@ -201,7 +201,7 @@ impl<'a> ListOptions<&'a [u8]> {
 
     /// Whether the next argument is no type, no option and no option's value: in a list of columns it is a width.
     pub fn is_column(&self, word: Argument<&'a [u8]>) -> bool
-        ensures { result ≡ lists.is_column (options_seen self.now) (argument_seen word.entry) }
+        ensures { result ≡ lists.is_column (options_view self.now) (argument_view word.entry) }
     {
         self.awaited.is_none() && list_word(word.text).is_none()
     }
@@ -211,7 +211,7 @@ impl<'a> ListOptions<&'a [u8]> {
 pub fn read_list_options<'a>(text: &'a [u8], start: usize) -> ListOptions<&'a [u8]>
     requires short { length text.now ≤ LINE }
     requires within { start ≤ length text.now }
-    ensures { options_seen result ≡ lists.options_after lists.no_options (arguments_after start text.now) }
+    ensures { options_view result ≡ lists.options_after lists.no_options (arguments_after start text.now) }
 {
     let mut arguments = Arguments::new(&text[start..], start as u32 + 1);
     let mut options = ListOptions::new();

@@ -2,7 +2,7 @@
 
 ghost use Rattle.std.specs.Prelude.{◌≡◌, ◌≤◌, ◌+◌, ◌*◌, List, ℕ, length};
 ghost use Rattle.page_sets_lines.specs.declared.events.Event.{Event};
-ghost use Rattle.page_core_base.specs.LinesTaken.{Line, line_seen};
+ghost use Rattle.page_core_base.specs.LinesTaken.{Line, line_view};
 ghost use Rattle.page_sets_lines.specs.Events.{TakesNext};
 ghost use Rattle.page_core_base.specs.Latches.{Came};
 ghost use Rattle.page_sets_lines.specs.Laws.{AreSlices, AreInOrder};
@@ -37,22 +37,22 @@ pub trait MacroSet {
     /// The place before the line's events.
     fn start(&self, line: Taken<'_>) -> Self::Place
         requires { length line.text.now ≤ LINE }
-        ensures place { IsPlaceOf self.now (line_seen line.entry) result }
-        ensures events { events_from self.now (line_seen line.entry) result
-            ≡ table self.now (line_seen line.entry) };
+        ensures place { IsPlaceOf self.now (line_view line.entry) result }
+        ensures events { events_from self.now (line_view line.entry) result
+            ≡ table self.now (line_view line.entry) };
 
     /// The next event of the line, if there is one more. Once there is none, there is none from then on.
     fn next<'a>(&self, line: Taken<'a>, place: &mut Self::Place) -> Option<Event<&'a [u8]>>
         requires short { length line.text.now ≤ LINE }
-        requires place { IsPlaceOf self.now (line_seen line) place.old }
-        ensures place { IsPlaceOf self.now (line_seen line.entry) place.new }
-        ensures events { TakesNext (events_from self.now (line_seen line.entry) place.old) result
-            (events_from self.now (line_seen line.entry) place.new) };
+        requires place { IsPlaceOf self.now (line_view line) place.old }
+        ensures place { IsPlaceOf self.now (line_view line.entry) place.new }
+        ensures events { TakesNext (events_from self.now (line_view line.entry) place.old) result
+            (events_from self.now (line_view line.entry) place.new) };
 
     /// Gives the events of the line, one after another.
     fn give<O: EventOut>(&self, line: Taken<'_>, out: &mut O)
         requires { length line.text.now ≤ LINE }
-        ensures { Came O.left out.old (table self.now (line_seen line.entry)) out.new }
+        ensures { Came O.left out.old (table self.now (line_view line.entry)) out.new }
     {
         let mut place = self.start(line);
         while let Some(event) = self.next(line, &mut place) {

@@ -2,11 +2,11 @@
 //! them.
 
 ghost use Rattle.std.specs.Prelude.{◌≡◌, ◌≤◌, length};
-ghost use Rattle.page_sets_lines.specs.Events.{deed_seen, word_seen};
-ghost use Rattle.page_sets_lines.specs.Fits.{DeedFits};
-ghost use Rattle.page_sets_lines.specs.PlainLines.{line_word, plain_line, plain_deed, fills};
+ghost use Rattle.page_sets_lines.specs.Events.{kind_view, word_view};
+ghost use Rattle.page_sets_lines.specs.Fits.{KindFits};
+ghost use Rattle.page_sets_lines.specs.PlainLines.{line_word, plain_line, plain_kind, fills};
 
-use crate::events::{Deed, Join, Role, Word};
+use crate::events::{EventKind, Join, Role, Word};
 use crate::leaves::Leaf;
 use page_core_base::{Form, Taken};
 use page_core_limits::LINE;
@@ -27,7 +27,7 @@ pub enum PlainLine {
 
 // A whole line as one word.
 fn line_word(text: &[u8]) -> Word<&[u8]>
-    ensures { word_seen result ≡ line_word text.now }
+    ensures { word_view result ≡ line_word text.now }
 {
     Word {
         arg: Argument {
@@ -57,16 +57,16 @@ impl PlainLine {
     }
 
     /// What it does, with its text.
-    pub fn deed(self, text: &[u8]) -> Deed<&[u8]>
+    pub fn kind(self, text: &[u8]) -> EventKind<&[u8]>
         requires { length text.now ≤ LINE }
-        ensures deed { deed_seen result ≡ plain_deed self text.now }
-        ensures fits { DeedFits (deed_seen result) }
+        ensures kind { kind_view result ≡ plain_kind self text.now }
+        ensures fits { KindFits (kind_view result) }
     {
         match self {
-            PlainLine::Words => Deed::Word(line_word(text)),
-            PlainLine::Wordless => Deed::Leaf(Leaf::Wordless(text)),
-            PlainLine::Blank => Deed::Leaf(Leaf::BlankLine),
-            PlainLine::Raw => Deed::Raw(text),
+            PlainLine::Words => EventKind::Word(line_word(text)),
+            PlainLine::Wordless => EventKind::Leaf(Leaf::Wordless(text)),
+            PlainLine::Blank => EventKind::Leaf(Leaf::BlankLine),
+            PlainLine::Raw => EventKind::Raw(text),
         }
     }
 

@@ -2,7 +2,7 @@
 
 ghost use Rattle.std.specs.Prelude.{◌≡◌};
 ghost use Rattle.page_sets_lines.specs.ControlLines.{text_of};
-ghost use Rattle.page_sets_lines.specs.Events.{given_seen, request_seen, text_seen};
+ghost use Rattle.page_sets_lines.specs.Events.{given_view, request_view, text_view};
 ghost use Rattle.page_sets_lines.specs.PlainLines.{layout_request};
 ghost use Rattle.page_sets_lines.specs.PlainLines as plain;
 
@@ -23,7 +23,7 @@ pub fn layout_request(name: &[u8]) -> Option<LayoutRequest>
 
 // The text of an argument, where there is one.
 fn text_of<'a>(given: Option<Argument<&'a [u8]>>) -> Option<&'a [u8]>
-    ensures { text_seen result ≡ text_of (given_seen given.entry) }
+    ensures { text_view result ≡ text_of (given_view given.entry) }
 {
     match given {
         Some(argument) => Some(argument.text),
@@ -36,7 +36,7 @@ pub fn with_argument<'a>(
     request: LayoutRequest,
     given: Option<Argument<&'a [u8]>>,
 ) -> Request<&'a [u8]>
-    ensures { request_seen result ≡ plain.request request (given_seen given.entry) }
+    ensures { request_view result ≡ plain.request request (given_view given.entry) }
 {
     match request {
         LayoutRequest::Break => Request::Break,

@@ -15,16 +15,16 @@ use Rattle.page_sets_lines.specs.declared.openers.Closer.{Closer}
 use Rattle.page_sets_lines.specs.declared.openers.Closer.TheVariants as closers
 use Rattle.page_sets_lines.specs.declared.openers.LineOpener.{LineOpener}
 use Rattle.page_sets_lines.specs.declared.openers.LineOpener.TheVariants.{Heading, Tag}
-use Rattle.page_sets_names.specs.declared.own_texts.Own.{Own}
-use Rattle.page_sets_names.specs.declared.own_texts.Own.TheVariants.{OpenParenthesis, CloseParenthesis}
+use Rattle.page_sets_names.specs.declared.generated_texts.GeneratedText.{GeneratedText}
+use Rattle.page_sets_names.specs.declared.generated_texts.GeneratedText.TheVariants.{OpenParenthesis, CloseParenthesis}
 use Rattle.page_sets_lines.specs.declared.leaves.Leaf.{Leaf}
 use Rattle.page_sets_lines.specs.declared.leaves.Leaf.TheVariants as leaves
 use Rattle.page_sets_lines.specs.declared.plain_lines.PlainLine.{PlainLine}
 use Rattle.page_sets_lines.specs.declared.events.Join.{Join}
 use Rattle.page_sets_lines.specs.declared.events.Join.TheVariants.{Apart, Glued}
 use Rattle.page_sets_lines.specs.declared.events.Role.TheVariants as roles
-use Rattle.page_sets_lines.specs.declared.events.Deed.{Deed}
-use Rattle.page_sets_lines.specs.declared.events.Deed.TheVariants as deeds
+use Rattle.page_sets_lines.specs.declared.events.EventKind.{EventKind}
+use Rattle.page_sets_lines.specs.declared.events.EventKind.TheVariants as kinds
 use Rattle.page_sets_lines.specs.declared.events.Event.{Event}
 use Rattle.page_core_base.specs.LinesTaken.{Line}
 use Rattle.page_sets_lines.specs.ControlLines.{before_name, name_end, name_of, is_nameless, rest_of, arguments_after, first_of, second_of, text_of, open_quote}
@@ -77,13 +77,13 @@ leaf (sets.Example begins) rest arguments = leaves.Example begins
 leaf sets.Distance rest arguments = leaves.Distance (text_of (first_of arguments))
 leaf sets.FurtherTag rest arguments = leaves.FurtherTag
 leaf (sets.FontBegins font) rest arguments = leaves.Fonts (Some font)
-leaf (sets.Mark own) rest arguments = leaves.Own (record { own = own; font = None; before = Apart; after = Glued })
+leaf (sets.Mark text) rest arguments = leaves.Generated (record { text = text; font = None; before = Apart; after = Glued })
 
-abbrev pub effect_deed : Effect → List ℕ → List (Argument (List ℕ)) → Option (Deed (List ℕ))
-effect_deed effects.Nothing rest arguments = None
-effect_deed (effects.Opens scope) rest arguments = option_map deeds.Open (opener scope arguments)
-effect_deed (effects.Closes scope) rest arguments = Some (deeds.Close (closer scope arguments))
-effect_deed (effects.Sets change) rest arguments = Some (deeds.Leaf (leaf change rest arguments))
+abbrev pub effect_kind : Effect → List ℕ → List (Argument (List ℕ)) → Option (EventKind (List ℕ))
+effect_kind effects.Nothing rest arguments = None
+effect_kind (effects.Opens scope) rest arguments = option_map kinds.Open (opener scope arguments)
+effect_kind (effects.Closes scope) rest arguments = Some (kinds.Close (closer scope arguments))
+effect_kind (effects.Sets change) rest arguments = Some (kinds.Leaf (leaf change rest arguments))
 
 -- the line scope that it opens
 abbrev pub opens_line_scope : Opens → Option LineOpener
@@ -104,7 +104,7 @@ sets_line_scope (sets.Example begins) = None
 sets_line_scope sets.Distance = None
 sets_line_scope sets.FurtherTag = Some (Tag TQ)
 sets_line_scope (sets.FontBegins font) = None
-sets_line_scope (sets.Mark own) = None
+sets_line_scope (sets.Mark text) = None
 
 abbrev pub line_scope : Effect → Option LineOpener
 line_scope effects.Nothing = None
@@ -118,12 +118,12 @@ line_scope (effects.Sets change) = sets_line_scope change
 abbrev pub argument_word : ℕ → Option Font → Join → Argument (List ℕ) → Event (List ℕ)
 argument_word number font before argument =
     event_at number argument.column
-    (deeds.Word (record { arg = argument; role = roles.Argument; font = font; before = before; after = Apart }))
+    (kinds.Word (record { arg = argument; role = roles.Argument; font = font; before = before; after = Apart }))
 
--- a mark of the macro's own
-abbrev pub mark : ℕ → ℕ → Own → Join → Join → Event (List ℕ)
-mark number column own before after =
-    event_at number column (deeds.Leaf (leaves.Own (record { own = own; font = None; before = before; after = after })))
+-- a mark of the macro's text
+abbrev pub mark : ℕ → ℕ → GeneratedText → Join → Join → Event (List ℕ)
+mark number column text before after =
+    event_at number column (kinds.Leaf (leaves.Generated (record { text = text; font = None; before = before; after = after })))
 
 -- all arguments, in the font around them
 abbrev pub plain_words : ℕ → List (Argument (List ℕ)) → List (Event (List ℕ))
@@ -175,7 +175,7 @@ has_words words.Reference = true
 -- ---- the events of a line
 
 abbrev pub break_events : ℕ → ℕ → Bool → List (Event (List ℕ))
-break_events number column true = event_at number column (deeds.Close closers.Line) ∷ []
+break_events number column true = event_at number column (kinds.Close closers.Line) ∷ []
 break_events number column false = []
 
 -- the quote of an argument without its closing one, which is reported before the macro has its effect
@@ -188,25 +188,25 @@ missing_quote Printed arguments = None
 missing_quote (After printed) arguments = quote_at false (open_quote printed arguments)
 missing_quote (BodyAfter printed) arguments = quote_at true (open_quote printed arguments)
 
-abbrev pub quote_deed : Quote → Deed (List ℕ)
-quote_deed quote = deeds.Note Unterminated [] false quote.begins_body
+abbrev pub quote_kind : Quote → EventKind (List ℕ)
+quote_kind quote = kinds.Note Unterminated [] false quote.begins_body
 
 abbrev pub quote_events : ℕ → Option Quote → List (Event (List ℕ))
 quote_events number None = []
-quote_events number (Some quote) = event_at number quote.column (quote_deed quote) ∷ []
+quote_events number (Some quote) = event_at number quote.column (quote_kind quote) ∷ []
 
-abbrev pub deed_events : ℕ → ℕ → Option (Deed (List ℕ)) → List (Event (List ℕ))
-deed_events number column None = []
-deed_events number column (Some deed) = event_at number column deed ∷ []
+abbrev pub kind_events : ℕ → ℕ → Option (EventKind (List ℕ)) → List (Event (List ℕ))
+kind_events number column None = []
+kind_events number column (Some kind) = event_at number column kind ∷ []
 
 abbrev pub scope_events : ℕ → ℕ → Option LineOpener → List (Event (List ℕ))
 scope_events number column None = []
-scope_events number column (Some opener) = event_at number column (deeds.LineScope opener) ∷ []
+scope_events number column (Some opener) = event_at number column (kinds.LineScope opener) ∷ []
 
 abbrev pub last_events : ℕ → ℕ → Last → List (Event (List ℕ))
 last_events number column lasts.Nothing = []
-last_events number column lasts.FontEnds = event_at number column (deeds.Leaf (leaves.Fonts None)) ∷ []
-last_events number column (lasts.Mark own) = mark number column own Glued Apart ∷ []
+last_events number column lasts.FontEnds = event_at number column (kinds.Leaf (leaves.Fonts None)) ∷ []
+last_events number column (lasts.Mark text) = mark number column text Glued Apart ∷ []
 
 -- a macro with its arguments: it breaks line scopes, a missing quote is reported, it has its effect, opens a line scope, and gives its words;
 -- where it has words, the line fills line scopes
@@ -214,21 +214,21 @@ abbrev pub macro_events : ℕ → ℕ → Row → List ℕ → List (Argument (L
 macro_events number column row rest arguments =
     break_events number column row.breaks
     ++ (quote_events number (missing_quote row.quotes arguments)
-    ++ (deed_events number column (effect_deed row.effect rest arguments)
+    ++ (kind_events number column (effect_kind row.effect rest arguments)
     ++ (scope_events number column (line_scope row.effect)
     ++ (words_events number column row.words arguments
     ++ (last_events number column row.last ++ line_end number (has_words row.words && has_arguments rest) ∷ [])))))
 
 -- a message about a macro's name
 abbrev pub refused_events : NoteKind → ℕ → ℕ → List ℕ → List (Event (List ℕ))
-refused_events kind number column name = event_at number column (deeds.Note kind name false false) ∷ line_end number false ∷ []
+refused_events kind number column name = event_at number column (kinds.Note kind name false false) ∷ line_end number false ∷ []
 
 -- a macro without arguments
 abbrev pub lone_events : Alone → ℕ → ℕ → List ℕ → List (Event (List ℕ)) → List (Event (List ℕ))
 lone_events Same number column name events = events
 lone_events Empty number column name events = refused_events EmptyMacro number column name
 lone_events (Scope opener) number column name events =
-    event_at number column (deeds.LineScope opener) ∷ line_end number false ∷ []
+    event_at number column (kinds.LineScope opener) ∷ line_end number false ∷ []
 
 abbrev pub row_events : ℕ → ℕ → List ℕ → List ℕ → List (Argument (List ℕ)) → Row → List (Event (List ℕ))
 row_events number column name rest arguments row =

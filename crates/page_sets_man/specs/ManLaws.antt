@@ -13,8 +13,8 @@ use Rattle.page_sets_lines.specs.declared.openers.Opener.{Opener}
 use Rattle.page_sets_lines.specs.declared.openers.LineOpener.{LineOpener}
 use Rattle.page_sets_lines.specs.declared.events.Join.{Join}
 use Rattle.page_sets_lines.specs.declared.events.Join.TheVariants.{Apart, Glued}
-use Rattle.page_sets_lines.specs.declared.events.Deed.{Deed}
-use Rattle.page_sets_lines.specs.declared.events.Deed.TheVariants as deeds
+use Rattle.page_sets_lines.specs.declared.events.EventKind.{EventKind}
+use Rattle.page_sets_lines.specs.declared.events.EventKind.TheVariants as kinds
 use Rattle.page_sets_lines.specs.declared.events.Event.{Event}
 use Rattle.page_sets_lines.specs.declared.plain_lines.PlainLine.{PlainLine}
 use Rattle.page_roff_requests.specs.declared.requests.LayoutRequest.{LayoutRequest}
@@ -44,7 +44,7 @@ use Rattle.page_sets_man.specs.declared.rows.Row.{Row}
 use Rattle.page_sets_man.specs.declared.gives.Quote.{Quote}
 use Rattle.page_core_names.specs.Rows.{row_in, row_among}
 use Rattle.page_sets_man.specs.Rows.{quiet, table, macro_row, request_row, row_of}
-use Rattle.page_sets_man.specs.Man.{opener, closer, leaf, effect_deed, line_scope, one_word, plain_words, alternating_words, option_words, section_words, reference_words, words_events, has_words, break_events, quote_at, missing_quote, quote_events, deed_events, scope_events, last_events, macro_events, lone_events, row_events, named_events, control_events, line_events, man_events}
+use Rattle.page_sets_man.specs.Man.{opener, closer, leaf, effect_kind, line_scope, one_word, plain_words, alternating_words, option_words, section_words, reference_words, words_events, has_words, break_events, quote_at, missing_quote, quote_events, kind_events, scope_events, last_events, macro_events, lone_events, row_events, named_events, control_events, line_events, man_events}
 
 -- ---- slices
 
@@ -63,26 +63,26 @@ scope_slices line number column (Some opener) = (tt, tt)
 last_slices : (line : List ℕ) (number column : ℕ) (last : Last) → AreSlices line (last_events number column last)
 last_slices line number column lasts.Nothing = tt
 last_slices line number column lasts.FontEnds = (tt, tt)
-last_slices line number column (lasts.Mark own) = (tt, tt)
+last_slices line number column (lasts.Mark text) = (tt, tt)
 
 -- what may be there, and then has slices
-HasSlicesIfGiven : List ℕ → Option (Deed (List ℕ)) → Type 0
+HasSlicesIfGiven : List ℕ → Option (EventKind (List ℕ)) → Type 0
 HasSlicesIfGiven line None = Unit {0}
-HasSlicesIfGiven line (Some deed) = HasSlices line deed
+HasSlicesIfGiven line (Some kind) = HasSlices line kind
 
-deed_slices : (line : List ℕ) (number column : ℕ) (deed : Option (Deed (List ℕ))) → HasSlicesIfGiven line deed → AreSlices line (deed_events number column deed)
+kind_slices : (line : List ℕ) (number column : ℕ) (kind : Option (EventKind (List ℕ))) → HasSlicesIfGiven line kind → AreSlices line (kind_events number column kind)
 unfolding HasSlicesIfGiven
-deed_slices line number column None h = tt
-deed_slices line number column (Some deed) h = (h, tt)
+kind_slices line number column None h = tt
+kind_slices line number column (Some kind) h = (h, tt)
 
 target_slices : (line : List ℕ) (make : Argument (List ℕ) → Opener (List ℕ)) (given : Option (Argument (List ℕ)))
     → ((argument : Argument (List ℕ)) → IsArgument line argument → OpensSlices line (make argument)) → IsArgumentIfGiven line given
-    → HasSlicesIfGiven line (option_map deeds.Open (option_map make given))
+    → HasSlicesIfGiven line (option_map kinds.Open (option_map make given))
 unfolding HasSlicesIfGiven
 target_slices line make None keeps h = tt
 target_slices line make (Some argument) keeps h = keeps argument h
 
-opens_slices : (line : List ℕ) (scope : Opens) (start : ℕ) → HasSlicesIfGiven line (option_map deeds.Open (opener scope (arguments_after start line)))
+opens_slices : (line : List ℕ) (scope : Opens) (start : ℕ) → HasSlicesIfGiven line (option_map kinds.Open (opener scope (arguments_after start line)))
 unfolding HasSlicesIfGiven
 opens_slices line opens.Section start = tt
 opens_slices line opens.Subsection start = tt
@@ -107,10 +107,10 @@ sets_slices line (sets.Example begins) start h = tt
 sets_slices line sets.Distance start h = first_text_after line start
 sets_slices line sets.FurtherTag start h = tt
 sets_slices line (sets.FontBegins font) start h = tt
-sets_slices line (sets.Mark own) start h = tt
+sets_slices line (sets.Mark text) start h = tt
 
 effect_slices : (line : List ℕ) (effect : Effect) (start : ℕ) → start ≤ length line
-    → HasSlicesIfGiven line (effect_deed effect (drop start line) (arguments_after start line))
+    → HasSlicesIfGiven line (effect_kind effect (drop start line) (arguments_after start line))
 unfolding HasSlicesIfGiven
 effect_slices line effects.Nothing start h = tt
 effect_slices line (effects.Opens scope) start h = opens_slices line scope start
@@ -160,7 +160,7 @@ macro_slices line number column start row within =
     let arguments = arguments_after start line in
     AreSlices-append line _ _ (break_slices line number column row.breaks)
     (AreSlices-append line _ _ (quote_slices line number (missing_quote row.quotes arguments))
-    (AreSlices-append line _ _ (deed_slices line number column _ (effect_slices line row.effect start within))
+    (AreSlices-append line _ _ (kind_slices line number column _ (effect_slices line row.effect start within))
     (AreSlices-append line _ _ (scope_slices line number column (line_scope row.effect))
     (AreSlices-append line _ _ (words_slices line number column row.words (start + 1) arguments (all_after line start))
     (AreSlices-append line _ _ (last_slices line number column row.last) (tt, tt))))))
@@ -214,12 +214,12 @@ scope_no_word : (number column : ℕ) (scope : Option LineOpener) → HasNoWord 
 scope_no_word number column None = tt
 scope_no_word number column (Some opener) = (refl, tt)
 
-open_no_word : (number column : ℕ) (given : Option (Opener (List ℕ))) → HasNoWord (deed_events number column (option_map deeds.Open given))
+open_no_word : (number column : ℕ) (given : Option (Opener (List ℕ))) → HasNoWord (kind_events number column (option_map kinds.Open given))
 open_no_word number column None = tt
 open_no_word number column (Some opener) = (refl, tt)
 
 effect_no_word : (number column : ℕ) (effect : Effect) (rest : List ℕ) (arguments : List (Argument (List ℕ)))
-    → HasNoWord (deed_events number column (effect_deed effect rest arguments))
+    → HasNoWord (kind_events number column (effect_kind effect rest arguments))
 effect_no_word number column effects.Nothing rest arguments = tt
 effect_no_word number column (effects.Opens scope) rest arguments = open_no_word number column (opener scope arguments)
 effect_no_word number column (effects.Closes scope) rest arguments = (refl, tt)
@@ -228,7 +228,7 @@ effect_no_word number column (effects.Sets change) rest arguments = (refl, tt)
 last_no_word : (number column : ℕ) (last : Last) (filled : Bool) → HasNoWord (last_events number column last ++ line_end number filled ∷ [])
 last_no_word number column lasts.Nothing filled = (refl, tt)
 last_no_word number column lasts.FontEnds filled = (refl, (refl, tt))
-last_no_word number column (lasts.Mark own) filled = (refl, (refl, tt))
+last_no_word number column (lasts.Mark text) filled = (refl, (refl, tt))
 
 one_order : (line : List ℕ) (number : ℕ) (font : Option Font) (before : Join) (from : ℕ) (arguments : List (Argument (List ℕ)))
     → ArgumentsFrom line from arguments → AreInOrder from (one_word number font before arguments)
@@ -342,7 +342,7 @@ marks_weight words.Reference = 2
 last_weight : Last → ℕ
 last_weight lasts.Nothing = 0
 last_weight lasts.FontEnds = 1
-last_weight (lasts.Mark own) = 1
+last_weight (lasts.Mark text) = 1
 
 weight : Row → ℕ
 weight row =
@@ -364,15 +364,15 @@ few_quote number Printed arguments = omega arith
 few_quote number (After printed) arguments = few_quote_at number false _
 few_quote number (BodyAfter printed) arguments = few_quote_at number true _
 
-few_deed : (number column : ℕ) (deed : Option (Deed (List ℕ))) → length (deed_events number column deed) ≤ 1
-few_deed number column None = omega arith
-few_deed number column (Some deed) = omega arith
+few_kind : (number column : ℕ) (kind : Option (EventKind (List ℕ))) → length (kind_events number column kind) ≤ 1
+few_kind number column None = omega arith
+few_kind number column (Some kind) = omega arith
 
 few_effect : (number column : ℕ) (effect : Effect) (rest : List ℕ) (arguments : List (Argument (List ℕ)))
-    → length (deed_events number column (effect_deed effect rest arguments)) ≤ effect_weight effect
+    → length (kind_events number column (effect_kind effect rest arguments)) ≤ effect_weight effect
 unfolding effect_weight
 few_effect number column effects.Nothing rest arguments = omega arith
-few_effect number column (effects.Opens scope) rest arguments = few_deed number column _
+few_effect number column (effects.Opens scope) rest arguments = few_kind number column _
 few_effect number column (effects.Closes scope) rest arguments = omega arith
 few_effect number column (effects.Sets change) rest arguments = omega arith
 
@@ -385,7 +385,7 @@ few_last : (number column : ℕ) (last : Last) → length (last_events number co
 unfolding last_weight
 few_last number column lasts.Nothing = omega arith
 few_last number column lasts.FontEnds = omega arith
-few_last number column (lasts.Mark own) = omega arith
+few_last number column (lasts.Mark text) = omega arith
 
 few_one : (number : ℕ) (font : Option Font) (before : Join) (arguments : List (Argument (List ℕ))) → length (one_word number font before arguments) ≤ length arguments
 few_one number font before [] = omega arith

@@ -1,9 +1,9 @@
 //! What a macro does, beside its words (man(7), "MACRO REFERENCE").
 
 ghost use Rattle.std.specs.Prelude.{◌≡◌, ◌≤◌, length, drop, option_map, IfSome};
-ghost use Rattle.page_sets_lines.specs.Events.{deed_seen, opener_seen, closer_seen, leaf_seen, text_seen};
-ghost use Rattle.page_sets_lines.specs.Fits.{CloserFits, IsShortDeed, OpenerFits};
-ghost use Rattle.page_sets_lines.specs.declared.events.Deed.TheVariants as deeds;
+ghost use Rattle.page_sets_lines.specs.Events.{kind_view, opener_view, closer_view, leaf_view, text_view};
+ghost use Rattle.page_sets_lines.specs.Fits.{CloserFits, IsShortKind, OpenerFits};
+ghost use Rattle.page_sets_lines.specs.declared.events.EventKind.TheVariants as kinds;
 ghost use Rattle.page_sets_lines.specs.ControlLines.{arguments_after, first_of, second_of, text_of};
 ghost use Rattle.page_sets_lines.specs.declared.openers.Opener.TheVariants as openers;
 ghost use Rattle.page_sets_man.specs.Man as man;
@@ -11,7 +11,7 @@ ghost use Rattle.page_sets_man.specs.Man as man;
 use crate::rows::{Closes, Effect, Opens, Sets};
 use page_core_limits::LINE;
 use page_sets_lines::{
-    Closer, Deed, HeadingName, Join, Leaf, LineOpener, Opener, OwnWord, Prologue, TagName,
+    Closer, EventKind, HeadingName, Join, Leaf, LineOpener, Opener, GeneratedWord, Prologue, TagName,
     first_of, read_after, with_argument,
 };
 
@@ -19,7 +19,7 @@ use page_sets_lines::{
 fn first_text(text: &[u8], start: usize) -> Option<&[u8]>
     requires short { length text.now ≤ LINE }
     requires within { start ≤ length text.now }
-    ensures { text_seen result ≡ text_of (first_of (arguments_after start text.now)) }
+    ensures { text_view result ≡ text_of (first_of (arguments_after start text.now)) }
 {
     match first_of(text, start) {
         Some(argument) => Some(argument.text),
@@ -31,9 +31,9 @@ fn first_text(text: &[u8], start: usize) -> Option<&[u8]>
 fn indented(text: &[u8], start: usize) -> Opener<&[u8]>
     requires short { length text.now ≤ LINE }
     requires within { start ≤ length text.now }
-    ensures fits { OpenerFits (opener_seen result) }
+    ensures fits { OpenerFits (opener_view result) }
     ensures opener { let arguments = arguments_after start text.now
-        in opener_seen result ≡ openers.Indented (first_of arguments) (text_of (second_of arguments)) }
+        in opener_view result ≡ openers.Indented (first_of arguments) (text_of (second_of arguments)) }
 {
     match read_after(text, start) {
         Some((tag, end)) => Opener::Indented {
@@ -51,8 +51,8 @@ fn indented(text: &[u8], start: usize) -> Opener<&[u8]>
 fn opener(opens: Opens, text: &[u8], start: usize) -> Option<Opener<&[u8]>>
     requires short { length text.now ≤ LINE }
     requires within { start ≤ length text.now }
-    ensures fits { IfSome result (λ o. OpenerFits (opener_seen o)) }
-    ensures opener { option_map opener_seen result ≡ man.opener opens (arguments_after start text.now) }
+    ensures fits { IfSome result (λ o. OpenerFits (opener_view o)) }
+    ensures opener { option_map opener_view result ≡ man.opener opens (arguments_after start text.now) }
 {
     match opens {
         Opens::Section => Some(Opener::Section),
@@ -71,8 +71,8 @@ fn opener(opens: Opens, text: &[u8], start: usize) -> Option<Opener<&[u8]>>
 fn closer(closes: Closes, text: &[u8], start: usize) -> Closer<&[u8]>
     requires short { length text.now ≤ LINE }
     requires within { start ≤ length text.now }
-    ensures fits { CloserFits (closer_seen result) }
-    ensures closer { closer_seen result ≡ man.closer closes (arguments_after start text.now) }
+    ensures fits { CloserFits (closer_view result) }
+    ensures closer { closer_view result ≡ man.closer closes (arguments_after start text.now) }
 {
     match closes {
         Closes::RelativeMargin => Closer::RelativeMargin(first_text(text, start)),
@@ -85,8 +85,8 @@ fn closer(closes: Closes, text: &[u8], start: usize) -> Closer<&[u8]>
 fn leaf(sets: Sets, text: &[u8], start: usize) -> Leaf<&[u8]>
     requires short { length text.now ≤ LINE }
     requires within { start ≤ length text.now }
-    ensures fits { IsShortDeed (deeds.Leaf (leaf_seen result)) }
-    ensures leaf { leaf_seen result ≡ man.leaf sets (drop start text.now) (arguments_after start text.now) }
+    ensures fits { IsShortKind (kinds.Leaf (leaf_view result)) }
+    ensures leaf { leaf_view result ≡ man.leaf sets (drop start text.now) (arguments_after start text.now) }
 {
     match sets {
         Sets::Request(request) => Leaf::Request(with_argument(request, first_of(text, start))),
@@ -95,8 +95,8 @@ fn leaf(sets: Sets, text: &[u8], start: usize) -> Leaf<&[u8]>
         Sets::Distance => Leaf::Distance(first_text(text, start)),
         Sets::FurtherTag => Leaf::FurtherTag,
         Sets::FontBegins(font) => Leaf::Fonts(Some(font)),
-        Sets::Mark(own) => Leaf::Own(OwnWord {
-            own,
+        Sets::Mark(text) => Leaf::Generated(GeneratedWord {
+            text,
             font: None,
             before: Join::Apart,
             after: Join::Glued,
@@ -105,18 +105,18 @@ fn leaf(sets: Sets, text: &[u8], start: usize) -> Leaf<&[u8]>
 }
 
 /// What a macro does, with arguments that begin after this many bytes.
-pub(crate) fn effect_deed(effect: Effect, text: &[u8], start: usize) -> Option<Deed<&[u8]>>
+pub(crate) fn effect_kind(effect: Effect, text: &[u8], start: usize) -> Option<EventKind<&[u8]>>
     requires short { length text.now ≤ LINE }
     requires within { start ≤ length text.now }
-    ensures fits { IfSome result (λ deed. IsShortDeed (deed_seen deed)) }
-    ensures deed { option_map deed_seen result
-        ≡ man.effect_deed effect (drop start text.now) (arguments_after start text.now) }
+    ensures fits { IfSome result (λ kind. IsShortKind (kind_view kind)) }
+    ensures kind { option_map kind_view result
+        ≡ man.effect_kind effect (drop start text.now) (arguments_after start text.now) }
 {
     match effect {
         Effect::Nothing => None,
-        Effect::Opens(opens) => Some(Deed::Open(opener(opens, text, start)?)),
-        Effect::Closes(closes) => Some(Deed::Close(closer(closes, text, start))),
-        Effect::Sets(sets) => Some(Deed::Leaf(leaf(sets, text, start))),
+        Effect::Opens(opens) => Some(EventKind::Open(opener(opens, text, start)?)),
+        Effect::Closes(closes) => Some(EventKind::Close(closer(closes, text, start))),
+        Effect::Sets(sets) => Some(EventKind::Leaf(leaf(sets, text, start))),
     }
 }
 

@@ -1,23 +1,23 @@
 //! The events of a line, given one after another (man(7), "MACRO REFERENCE").
 
 ghost use Rattle.std.specs.Prelude.{◌≡◌, ◌≤◌, [], ◌∷◌, length, drop, option_map, IfSome};
-ghost use Rattle.page_core_base.specs.LinesTaken.{line_seen};
-ghost use Rattle.page_sets_lines.specs.Events.{deed_seen, event_seen};
+ghost use Rattle.page_core_base.specs.LinesTaken.{line_view};
+ghost use Rattle.page_sets_lines.specs.Events.{kind_view, event_view};
 ghost use Rattle.page_core_base.specs.Latches.{Came};
-ghost use Rattle.page_sets_lines.specs.Fits.{IsShortDeed};
+ghost use Rattle.page_sets_lines.specs.Fits.{IsShortKind};
 ghost use Rattle.page_sets_lines.specs.ControlLines.{arguments_after};
 ghost use Rattle.page_sets_lines.specs.PlainLines.{event_at, line_end};
-ghost use Rattle.page_roff_forms.specs.Arguments.{argument_seen};
+ghost use Rattle.page_roff_forms.specs.Arguments.{argument_view};
 ghost use Rattle.page_sets_lines.specs.declared.events.Join.TheVariants.{Apart};
 ghost use Rattle.page_sets_man.specs.Man as man;
 
-use crate::effects::{effect_deed, line_scope};
+use crate::effects::{effect_kind, line_scope};
 use crate::rows::{Alone, Last, Quotes, Row, Words, row_of};
 use page_core_base::{Font, NoteKind, Place, Taken};
 use page_core_limits::LINE;
 use page_roff_forms::{Argument, has_arguments};
 use page_sets_lines::{
-    Closer, Deed, Event, EventTaker, Join, Leaf, LineOpener, Own, OwnWord, PlainLine, Role, Word,
+    Closer, EventKind, Event, EventTaker, Join, Leaf, LineOpener, GeneratedText, GeneratedWord, PlainLine, Role, Word,
     find_name, open_quote, read_after,
 };
 
@@ -30,24 +30,24 @@ pub(crate) struct Quote {
 }
 
 // An event in a column of a line.
-fn event_at<'a>(number: u32, column: u32, deed: Deed<&'a [u8]>) -> Event<&'a [u8]>
-    ensures { event_seen result ≡ event_at number column (deed_seen deed.entry) }
+fn event_at<'a>(number: u32, column: u32, kind: EventKind<&'a [u8]>) -> Event<&'a [u8]>
+    ensures { event_view result ≡ event_at number column (kind_view kind.entry) }
 {
     Event {
         place: Place {
             line: number,
             column,
         },
-        deed,
+        kind,
     }
 }
 
 // The message about a missing closing quote.
-fn quote_deed<'a>(quote: Quote) -> Deed<&'a [u8]>
-    ensures { deed_seen result ≡ man.quote_deed quote }
+fn quote_kind<'a>(quote: Quote) -> EventKind<&'a [u8]>
+    ensures { kind_view result ≡ man.quote_kind quote }
 {
     let detail: &[u8] = &[];
-    Deed::Note {
+    EventKind::Note {
         kind: NoteKind::Unterminated,
         detail,
         is_quoted: false,
@@ -95,14 +95,14 @@ fn argument_word(
     before: Join,
     argument: Argument<&[u8]>,
 ) -> Event<&[u8]>
-    ensures { event_seen result ≡ man.argument_word number font before (argument_seen argument.entry) }
+    ensures { event_view result ≡ man.argument_word number font before (argument_view argument.entry) }
 {
     Event {
         place: Place {
             line: number,
             column: argument.column,
         },
-        deed: Deed::Word(Word {
+        kind: EventKind::Word(Word {
             arg: argument,
             role: Role::Argument,
             font,
@@ -112,17 +112,17 @@ fn argument_word(
     }
 }
 
-// A mark of a macro's own.
-fn mark<'a>(number: u32, column: u32, own: Own, before: Join, after: Join) -> Event<&'a [u8]>
-    ensures { event_seen result ≡ man.mark number column own before after }
+// A mark of a macro's text.
+fn mark<'a>(number: u32, column: u32, text: GeneratedText, before: Join, after: Join) -> Event<&'a [u8]>
+    ensures { event_view result ≡ man.mark number column text before after }
 {
     Event {
         place: Place {
             line: number,
             column,
         },
-        deed: Deed::Leaf(Leaf::Own(OwnWord {
-            own,
+        kind: EventKind::Leaf(Leaf::Generated(GeneratedWord {
+            text,
             font: None,
             before,
             after,
@@ -216,7 +216,7 @@ fn give_section<'a, O: EventTaker<'a>>(
         out.give(mark(
             number,
             column,
-            Own::OpenParenthesis,
+            GeneratedText::OpenParenthesis,
             Join::Glued,
             Join::Glued,
         ));
@@ -224,7 +224,7 @@ fn give_section<'a, O: EventTaker<'a>>(
         out.give(mark(
             number,
             column,
-            Own::CloseParenthesis,
+            GeneratedText::CloseParenthesis,
             Join::Glued,
             Join::Apart,
         ));
@@ -282,8 +282,8 @@ fn give_last<'a, O: EventTaker<'a>>(out: &mut O, number: u32, column: u32, last:
 {
     match last {
         Last::Nothing => {}
-        Last::FontEnds => out.give(event_at(number, column, Deed::Leaf(Leaf::Fonts(None)))),
-        Last::Mark(own) => out.give(mark(number, column, own, Join::Glued, Join::Apart)),
+        Last::FontEnds => out.give(event_at(number, column, EventKind::Leaf(Leaf::Fonts(None)))),
+        Last::Mark(text) => out.give(mark(number, column, text, Join::Glued, Join::Apart)),
     }
 }
 
@@ -292,23 +292,23 @@ fn give_quote<'a, O: EventTaker<'a>>(out: &mut O, number: u32, quote: Option<Quo
     ensures { Came O.left out.old (man.quote_events number quote) out.new }
 {
     if let Some(quote) = quote {
-        out.give(event_at(number, quote.column, quote_deed(quote)));
+        out.give(event_at(number, quote.column, quote_kind(quote)));
     }
 }
 
 // What a macro does, if it does something.
-fn give_deed<'a, O: EventTaker<'a>>(
+fn give_kind<'a, O: EventTaker<'a>>(
     out: &mut O,
     number: u32,
     column: u32,
-    deed: Option<Deed<&'a [u8]>>,
+    kind: Option<EventKind<&'a [u8]>>,
 )
-    requires { IfSome deed (λ d. IsShortDeed (deed_seen d)) }
+    requires { IfSome kind (λ d. IsShortKind (kind_view d)) }
     ensures { Came O.left out.old
-        (man.deed_events number column (option_map deed_seen deed.entry)) out.new }
+        (man.kind_events number column (option_map kind_view kind.entry)) out.new }
 {
-    if let Some(deed) = deed {
-        out.give(event_at(number, column, deed));
+    if let Some(kind) = kind {
+        out.give(event_at(number, column, kind));
     }
 }
 
@@ -322,7 +322,7 @@ fn give_scope<'a, O: EventTaker<'a>>(
     ensures { Came O.left out.old (man.scope_events number column scope) out.new }
 {
     if let Some(opener) = scope {
-        out.give(event_at(number, column, Deed::LineScope(opener)));
+        out.give(event_at(number, column, EventKind::LineScope(opener)));
     }
 }
 
@@ -331,7 +331,7 @@ fn give_break<'a, O: EventTaker<'a>>(out: &mut O, number: u32, column: u32, brea
     ensures { Came O.left out.old (man.break_events number column breaks) out.new }
 {
     if breaks {
-        out.give(event_at(number, column, Deed::Close(Closer::Line)));
+        out.give(event_at(number, column, EventKind::Close(Closer::Line)));
     }
 }
 
@@ -339,7 +339,7 @@ fn give_break<'a, O: EventTaker<'a>>(out: &mut O, number: u32, column: u32, brea
 fn give_end<'a, O: EventTaker<'a>>(out: &mut O, number: u32, fills: bool)
     ensures { Came O.left out.old (line_end number fills ∷ []) out.new }
 {
-    out.give(event_at(number, 1, Deed::End { fills }));
+    out.give(event_at(number, 1, EventKind::End { fills }));
 }
 
 // A macro by its row, with arguments that begin after this many bytes.
@@ -358,7 +358,7 @@ fn give_macro<'a, O: EventTaker<'a>>(
 {
     give_break(out, number, column, row.breaks);
     give_quote(out, number, missing_quote(row.quotes, text, start));
-    give_deed(out, number, column, effect_deed(row.effect, text, start));
+    give_kind(out, number, column, effect_kind(row.effect, text, start));
     give_scope(out, number, column, line_scope(row.effect));
     give_words(out, number, column, row.words, text, start);
     give_last(out, number, column, row.last);
@@ -382,7 +382,7 @@ fn give_refused<'a, O: EventTaker<'a>>(
     out.give(event_at(
         number,
         column,
-        Deed::Note {
+        EventKind::Note {
             kind,
             detail: name,
             is_quoted: false,
@@ -411,7 +411,7 @@ fn give_lone<'a, O: EventTaker<'a>>(
         Alone::Same => give_macro(out, line.line, column, row, line.text, start),
         Alone::Empty => give_refused(out, NoteKind::EmptyMacro, line.line, column, name),
         Alone::Scope(opener) => {
-            out.give(event_at(line.line, column, Deed::LineScope(opener)));
+            out.give(event_at(line.line, column, EventKind::LineScope(opener)));
             give_end(out, line.line, false);
         }
     }
@@ -421,7 +421,7 @@ fn give_lone<'a, O: EventTaker<'a>>(
 #[inline(never)]
 fn give_control<'a, O: EventTaker<'a>>(out: &mut O, line: Taken<'a>)
     requires { length line.text.now ≤ LINE }
-    ensures { Came O.left out.old (man.control_events (line_seen line.entry)) out.new }
+    ensures { Came O.left out.old (man.control_events (line_view line.entry)) out.new }
 {
     let span = find_name(line);
     let column = span.start as u32 + 1;
@@ -443,11 +443,11 @@ fn give_control<'a, O: EventTaker<'a>>(out: &mut O, line: Taken<'a>)
 #[tactic(auto, unfolding(crate::specs::Man::man_events))]
 pub(crate) fn give_events<'a, O: EventTaker<'a>>(out: &mut O, line: Taken<'a>)
     requires { length line.text.now ≤ LINE }
-    ensures { Came O.left out.old (man.man_events (line_seen line.entry)) out.new }
+    ensures { Came O.left out.old (man.man_events (line_view line.entry)) out.new }
 {
     match PlainLine::of(line) {
         Some(plain) => {
-            out.give(event_at(line.line, 1, plain.deed(line.text)));
+            out.give(event_at(line.line, 1, plain.kind(line.text)));
             give_end(out, line.line, plain.fills());
         }
         None => give_control(out, line),

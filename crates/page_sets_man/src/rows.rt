@@ -6,7 +6,7 @@ ghost use Rattle.page_sets_man.specs.Rows as rows;
 use page_core_base::Font;
 use page_core_names::{list_for, row_named};
 use page_roff_requests::LayoutRequest;
-use page_sets_lines::{FontMacro, LineOpener, Link, Own, ParagraphName, layout_request};
+use page_sets_lines::{FontMacro, LineOpener, Link, GeneratedText, ParagraphName, layout_request};
 
 /// A scope that a macro opens.
 #[derive(Clone, Copy)]
@@ -39,7 +39,7 @@ pub(crate) enum Sets {
     Distance,
     FurtherTag,
     FontBegins(Font),
-    Mark(Own),
+    Mark(GeneratedText),
 }
 
 /// What a macro does, beside its words.
@@ -93,7 +93,7 @@ pub(crate) enum Words {
 pub(crate) enum Last {
     Nothing,
     FontEnds,
-    Mark(Own),
+    Mark(GeneratedText),
 }
 
 /// A row of the table.
@@ -204,7 +204,7 @@ macro_rules! font_words {
     };
 }
 
-// A macro that needs words, which stand in no font of its own, or in several.
+// A macro that needs words, which stand in no font of its text, or in several.
 macro_rules! needs_words {
     ($quotes:expr, $effect:expr, $words:expr, $last:expr) => {
         Row {
@@ -303,9 +303,9 @@ static MACROS: [&[(&[u8], Row)]; 26] = [
         b"OP",
         needs_words!(
             Quotes::BodyAfter(2),
-            Effect::Sets(Sets::Mark(Own::OpenBracket)),
+            Effect::Sets(Sets::Mark(GeneratedText::OpenBracket)),
             Words::Option,
-            Last::Mark(Own::CloseBracket)
+            Last::Mark(GeneratedText::CloseBracket)
         ),
     )],
     &[

@@ -8,7 +8,7 @@ use Rattle.page_core_base.specs.declared.cells.Font.TheVariants.{I}
 use Rattle.page_roff_forms.specs.declared.quotes.Argument.{Argument}
 use Rattle.page_roff_forms.specs.Arguments.{has_arguments}
 use Rattle.page_roff_requests.specs.declared.requests.LayoutRequest.{LayoutRequest}
-use Rattle.page_sets_lines.specs.declared.events.Deed.TheVariants as deeds
+use Rattle.page_sets_lines.specs.declared.events.EventKind.TheVariants as kinds
 use Rattle.page_sets_lines.specs.declared.events.Event.{Event}
 use Rattle.page_sets_lines.specs.declared.line_steps.SynopsisStep.TheVariants.{Break}
 use Rattle.page_sets_lines.specs.declared.openers.Closer.TheVariants as closers
@@ -39,7 +39,7 @@ calls_events number (call ∷ calls) = call_events number call (has_calls calls)
 -- the closing delimiters at the line's end stand outside its enclosures
 abbrev pub tail_events : ℕ → List (Argument (List ℕ)) → List (Event (List ℕ))
 tail_events number [] = []
-tail_events number (first ∷ more) = event_at number first.column (deeds.Close closers.Enclosures) ∷ printed number None (first ∷ more)
+tail_events number (first ∷ more) = event_at number first.column (kinds.Close closers.Enclosures) ∷ printed number None (first ∷ more)
 
 -- what comes after the words of the macro that begins the line
 abbrev pub rest_events : ℕ → LineParts → List (Event (List ℕ))

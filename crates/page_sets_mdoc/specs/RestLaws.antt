@@ -68,9 +68,9 @@ head_prints line inline arguments h =
     (λ own. begun_prints line.text line.number (name_column line) (name_of line) inline p.taken p.words (has_calls p.calls) (name_part line) own))
 
 -- words as they are
-phrase_own : (line : Line) (p : LineParts) → p.taken ≡ None → AreArguments line.text (own_arguments p.taken p.words)
+phrase_generated : (line : Line) (p : LineParts) → p.taken ≡ None → AreArguments line.text (own_arguments p.taken p.words)
     → Prints line.text 0 (own_arguments p.taken p.words) (printed line.number None p.words)
-phrase_own line p none h = rw none (printed_prints line.text line.number None p.words (rw none at h))
+phrase_generated line p none h = rw none (printed_prints line.text line.number None p.words (rw none at h))
 
 pub phrase_prints : (line : Line) (parsed : Bool) (arguments : List (Argument (List ℕ))) → AreArguments line.text arguments
     → Prints line.text 3 arguments (phrase_events line.number (parts None parsed arguments))
@@ -79,4 +79,4 @@ phrase_prints line parsed arguments h =
     let all = whole None parsed arguments in
     more_events line.text 1 3 arguments _ (omega arith)
     (subst (λ l. Prints line.text 1 l (phrase_events line.number p)) all
-    (parts_print line 0 p _ (subst (λ l. AreArguments line.text l) (sym all) h) (λ own. phrase_own line p (none_taken parsed arguments) own)))
+    (parts_print line 0 p _ (subst (λ l. AreArguments line.text l) (sym all) h) (λ own. phrase_generated line p (none_taken parsed arguments) own)))

@@ -1,16 +1,16 @@
 //! The words of a line, macro after macro (mdoc(7), "MACRO SYNTAX").
 
 ghost use Rattle.std.specs.Prelude.{◌≡◌, ◌≤◌, [], ◌∷◌, None, Some, true, length};
-ghost use Rattle.page_core_base.specs.LinesTaken.{line_seen};
+ghost use Rattle.page_core_base.specs.LinesTaken.{line_view};
 ghost use Rattle.page_core_base.specs.Latches.{Came};
-ghost use Rattle.page_roff_forms.specs.Arguments.{argument_seen};
+ghost use Rattle.page_roff_forms.specs.Arguments.{argument_view};
 ghost use Rattle.std.specs.List.{list_all};
 ghost use Rattle.page_sets_lines.specs.ControlLines.{name_of};
 ghost use Rattle.page_sets_mdoc_rows.specs.Rows as rows;
 ghost use Rattle.page_sets_mdoc_lines.specs.LineWords.{arguments_after, is_closing};
 ghost use Rattle.page_sets_mdoc_lines.specs.Parts.{parts};
 ghost use Rattle.page_sets_mdoc_lines.specs.Cursors.{IsCursorOf};
-ghost use Rattle.page_sets_mdoc_lines.specs.Words.{words_seen};
+ghost use Rattle.page_sets_mdoc_lines.specs.Words.{words_view};
 ghost use Rattle.page_sets_mdoc_words.specs.Printed.{printed};
 ghost use Rattle.page_sets_mdoc_words.specs.Sentences.{sentence_events};
 ghost use Rattle.page_sets_mdoc_blocks.specs.Fronts.{name_column, has_real_word, given_names, line_arguments};
@@ -20,7 +20,7 @@ ghost use Rattle.page_sets_mdoc.specs.Mdoc as mdoc;
 use page_core_base::{Font, Taken};
 use page_core_limits::LINE;
 use page_roff_forms::Argument;
-use page_sets_lines::{Closer, Deed, EventTaker, LineStep, SynopsisStep, find_name};
+use page_sets_lines::{Closer, EventKind, EventTaker, LineStep, SynopsisStep, find_name};
 use page_sets_mdoc_blocks::{has_real_word, is_standard};
 use page_sets_mdoc_lines::{Cursor, Words, find_words, is_closing, word_call};
 use page_sets_mdoc_rows::{Inline, LineMacro, Sentence, is_parsed};
@@ -40,7 +40,7 @@ pub(crate) struct Call<'a> {
 // Whether words of a line call macros.
 fn line_is_parsed(line: Taken<'_>) -> bool
     requires { length line.text.now ≤ LINE }
-    ensures { result ≡ rows.is_parsed (name_of (line_seen line.entry)) }
+    ensures { result ≡ rows.is_parsed (name_of (line_view line.entry)) }
 {
     let name = find_name(line);
     is_parsed(&line.text[name.start..name.end])
@@ -50,7 +50,7 @@ fn line_is_parsed(line: Taken<'_>) -> bool
 fn is_last(text: &[u8], word: Argument<&[u8]>, ahead: Cursor) -> bool
     requires short { length text.now ≤ LINE }
     requires within { IsCursorOf text.now ahead }
-    ensures { result ≡ list_all is_closing (argument_seen word.entry ∷ arguments_after ahead.rest text.now) }
+    ensures { result ≡ list_all is_closing (argument_view word.entry ∷ arguments_after ahead.rest text.now) }
 {
     is_closing(word) && ahead.is_in_tail(text)
 }
@@ -86,7 +86,7 @@ fn give_tail<'a, O: EventTaker<'a>>(out: &mut O, number: u32, text: &'a [u8], cu
 {
     let mut ahead = cursor;
     if let Some(first) = ahead.read(text) {
-        let end = Deed::Close(Closer::Enclosures);
+        let end = EventKind::Close(Closer::Enclosures);
         out.give(event_at(number, first.column, end));
         give_printed(out, number, None, text, Words::from(text, cursor));
     }
@@ -118,7 +118,7 @@ fn give_rest<'a, O: EventTaker<'a>>(out: &mut O, number: u32, text: &'a [u8], cu
 fn give_head<'a, O: EventTaker<'a>>(out: &mut O, inline: Inline, line: Taken<'a>)
     requires { length line.text.now ≤ LINE }
     ensures { Came O.left out.old
-        (mdoc.head_events (line_seen line.entry) inline (mdoc.line_parts (Some inline) (line_seen line.entry))) out.new }
+        (mdoc.head_events (line_view line.entry) inline (mdoc.line_parts (Some inline) (line_view line.entry))) out.new }
 {
     let span = find_name(line);
     let name = MacroName {
@@ -136,7 +136,7 @@ fn give_head<'a, O: EventTaker<'a>>(out: &mut O, inline: Inline, line: Taken<'a>
 fn give_phrase<'a, O: EventTaker<'a>>(out: &mut O, line: Taken<'a>)
     requires { length line.text.now ≤ LINE }
     ensures { Came O.left out.old
-        (mdoc.phrase_events line.entry.line (mdoc.line_parts None (line_seen line.entry))) out.new }
+        (mdoc.phrase_events line.entry.line (mdoc.line_parts None (line_view line.entry))) out.new }
 {
     let cursor = Cursor::new(line.text, find_name(line).end);
     let words = find_words(line.text, None, cursor, line_is_parsed(line));
@@ -148,7 +148,7 @@ fn give_phrase<'a, O: EventTaker<'a>>(out: &mut O, line: Taken<'a>)
 fn line_words(line: Taken<'_>) -> Words
     requires { length line.text.now ≤ LINE }
     ensures stands { IsCursorOf line.entry.text.now result.cursor }
-    ensures words { words_seen line.entry.text.now result ≡ line_arguments (line_seen line.entry) }
+    ensures words { words_view line.entry.text.now result ≡ line_arguments (line_view line.entry) }
 {
     Words::from(line.text, Cursor::new(line.text, find_name(line).end))
 }
@@ -167,7 +167,7 @@ fn field_font(has_real_word: bool, font: Font) -> Option<Font>
 fn sentence_names(line: Taken<'_>) -> Words
     requires { length line.text.now ≤ LINE }
     ensures stands { IsCursorOf line.entry.text.now result.cursor }
-    ensures names { words_seen line.entry.text.now result ≡ given_names (line_arguments (line_seen line.entry)) }
+    ensures names { words_view line.entry.text.now result ≡ given_names (line_arguments (line_view line.entry)) }
 {
     let cursor = Cursor::new(line.text, find_name(line).end);
     let mut ahead = cursor;
@@ -181,7 +181,7 @@ fn sentence_names(line: Taken<'_>) -> Words
 fn give_file<'a, O: EventTaker<'a>>(out: &mut O, line: Taken<'a>)
     requires { length line.text.now ≤ LINE }
     ensures { Came O.left out.old
-        (mdoc.include_words (has_real_word (line_seen line.entry)) (line_seen line.entry)) out.new }
+        (mdoc.include_words (has_real_word (line_view line.entry)) (line_view line.entry)) out.new }
 {
     let words = line_words(line);
     if !has_real_word(line) {
@@ -198,8 +198,8 @@ fn give_file<'a, O: EventTaker<'a>>(out: &mut O, line: Taken<'a>)
 // A sentence with its names.
 fn give_line_sentence<'a, O: EventTaker<'a>>(out: &mut O, sentence: Sentence, line: Taken<'a>)
     requires { length line.text.now ≤ LINE }
-    ensures { Came O.left out.old (sentence_events line.entry.line (name_column (line_seen line.entry)) sentence
-        (given_names (line_arguments (line_seen line.entry)))) out.new }
+    ensures { Came O.left out.old (sentence_events line.entry.line (name_column (line_view line.entry)) sentence
+        (given_names (line_arguments (line_view line.entry)))) out.new }
 {
     let column = find_name(line).start as u32 + 1;
     let names = sentence_names(line);
@@ -209,7 +209,7 @@ fn give_line_sentence<'a, O: EventTaker<'a>>(out: &mut O, sentence: Sentence, li
 /// Gives the words of the macro that begins a line, and those of the macros that they call.
 pub(crate) fn give_words<'a, O: EventTaker<'a>>(out: &mut O, begins: LineMacro, line: Taken<'a>)
     requires { length line.text.now ≤ LINE }
-    ensures { Came O.left out.old (mdoc.words_events begins (line_seen line.entry)) out.new }
+    ensures { Came O.left out.old (mdoc.words_events begins (line_view line.entry)) out.new }
 {
     match begins {
         LineMacro::Inline(inline) => give_head(out, inline, line),

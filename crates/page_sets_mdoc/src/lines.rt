@@ -1,7 +1,7 @@
 //! The events of a line, given one after another (mdoc(7), "MACRO SYNTAX").
 
 ghost use Rattle.std.specs.Prelude.{◌≡◌, ◌≤◌, ◌∷◌, [], length};
-ghost use Rattle.page_core_base.specs.LinesTaken.{line_seen};
+ghost use Rattle.page_core_base.specs.LinesTaken.{line_view};
 ghost use Rattle.page_core_base.specs.Latches.{Came};
 ghost use Rattle.page_sets_lines.specs.PlainLines.{layout_request, line_end};
 ghost use Rattle.page_sets_mdoc.specs.Mdoc as mdoc;
@@ -11,7 +11,7 @@ use page_core_base::{NoteKind, Taken};
 use page_core_limits::LINE;
 use page_roff_forms::has_arguments;
 use page_roff_requests::LayoutRequest;
-use page_sets_lines::{Deed, EventTaker, PlainLine, find_name, layout_request};
+use page_sets_lines::{EventKind, EventTaker, PlainLine, find_name, layout_request};
 use page_sets_mdoc_blocks::{give_front, give_refusal, give_request, has_phrase};
 use page_sets_mdoc_rows::{LineMacro, line_macro};
 use page_sets_mdoc_words::event_at;
@@ -20,13 +20,13 @@ use page_sets_mdoc_words::event_at;
 fn give_end<'a, O: EventTaker<'a>>(out: &mut O, number: u32, fills: bool)
     ensures { Came O.left out.old (line_end number fills ∷ []) out.new }
 {
-    out.give(event_at(number, 1, Deed::End { fills }));
+    out.give(event_at(number, 1, EventKind::End { fills }));
 }
 
 // A message that names the macro, which does nothing else.
 fn give_refused<'a, O: EventTaker<'a>>(out: &mut O, kind: NoteKind, line: Taken<'a>)
     requires { length line.text.now ≤ LINE }
-    ensures { Came O.left out.old (mdoc.refused_events kind (line_seen line.entry)) out.new }
+    ensures { Came O.left out.old (mdoc.refused_events kind (line_view line.entry)) out.new }
 {
     give_refusal(out, kind, line);
     give_end(out, line.line, true);
@@ -35,7 +35,7 @@ fn give_refused<'a, O: EventTaker<'a>>(out: &mut O, kind: NoteKind, line: Taken<
 // Whether a macro needs words, and has none.
 fn lacks_words(begins: LineMacro, line: Taken<'_>) -> bool
     requires { length line.text.now ≤ LINE }
-    ensures { result ≡ mdoc.lacks_words begins (line_seen line.entry) }
+    ensures { result ≡ mdoc.lacks_words begins (line_view line.entry) }
 {
     has_phrase(begins) && !has_arguments(&line.text[find_name(line).end..])
 }
@@ -43,7 +43,7 @@ fn lacks_words(begins: LineMacro, line: Taken<'_>) -> bool
 // A macro that begins a line.
 fn give_line_macro<'a, O: EventTaker<'a>>(out: &mut O, begins: LineMacro, line: Taken<'a>)
     requires { length line.text.now ≤ LINE }
-    ensures { Came O.left out.old (mdoc.macro_events begins (line_seen line.entry)) out.new }
+    ensures { Came O.left out.old (mdoc.macro_events begins (line_view line.entry)) out.new }
 {
     if lacks_words(begins, line) {
         give_refused(out, NoteKind::EmptyMacro, line);
@@ -61,7 +61,7 @@ fn give_line_request<'a, O: EventTaker<'a>>(
     line: Taken<'a>,
 )
     requires { length line.text.now ≤ LINE }
-    ensures { Came O.left out.old (mdoc.request_events request (line_seen line.entry)) out.new }
+    ensures { Came O.left out.old (mdoc.request_events request (line_view line.entry)) out.new }
 {
     match request {
         Some(request) => {
@@ -76,7 +76,7 @@ fn give_line_request<'a, O: EventTaker<'a>>(
 #[inline(never)]
 fn give_control<'a, O: EventTaker<'a>>(out: &mut O, line: Taken<'a>)
     requires { length line.text.now ≤ LINE }
-    ensures { Came O.left out.old (mdoc.control_events (line_seen line.entry)) out.new }
+    ensures { Came O.left out.old (mdoc.control_events (line_view line.entry)) out.new }
 {
     let span = find_name(line);
     if span.is_empty() {
@@ -94,11 +94,11 @@ fn give_control<'a, O: EventTaker<'a>>(out: &mut O, line: Taken<'a>)
 #[tactic(auto, unfolding(crate::specs::Mdoc::mdoc_events))]
 pub(crate) fn give_events<'a, O: EventTaker<'a>>(out: &mut O, line: Taken<'a>)
     requires { length line.text.now ≤ LINE }
-    ensures { Came O.left out.old (mdoc.mdoc_events (line_seen line.entry)) out.new }
+    ensures { Came O.left out.old (mdoc.mdoc_events (line_view line.entry)) out.new }
 {
     match PlainLine::of(line) {
         Some(plain) => {
-            out.give(event_at(line.line, 1, plain.deed(line.text)));
+            out.give(event_at(line.line, 1, plain.kind(line.text)));
             give_end(out, line.line, plain.fills());
         }
         None => give_control(out, line),

@@ -4,20 +4,20 @@ use Rattle.std.specs.Str.{bytes_eq}
 use Rattle.page_core_base.specs.LinesTaken.{Line}
 use Rattle.page_core_limits.specs.declared.TheConstants.{LINE}
 use Rattle.page_core_base.specs.declared.note_kinds.NoteKind.{NoteKind}
-use Rattle.page_core_base.specs.declared.note_kinds.NoteKind.TheVariants as kinds
+use Rattle.page_core_base.specs.declared.note_kinds.NoteKind.TheVariants as note_kinds
 use Rattle.page_roff_requests.specs.declared.requests.LayoutRequest.{LayoutRequest}
-use Rattle.page_sets_lines.specs.declared.events.Deed.{Deed}
+use Rattle.page_sets_lines.specs.declared.events.EventKind.{EventKind}
 use Rattle.page_sets_lines.specs.declared.events.Event.{Event}
 use Rattle.page_sets_names.specs.declared.macro_names.HeadingName.{HeadingName}
 use Rattle.page_sets_names.specs.declared.macro_names.HeadingName.TheVariants as headings
 use Rattle.page_sets_lines.specs.declared.openers.Opener.TheVariants as openers
 use Rattle.page_sets_lines.specs.Fits.{BlockOpenerFits}
 use Rattle.page_sets_lines.specs.Laws.{IsPart, IsPartIfGiven, IsArgument, IsArgumentIfGiven, HasSlices, AreSlices, OpensSlices, BlockOpensSlices, BlockClosesSlices}
-use Rattle.page_sets_lines.specs.declared.events.Deed.TheVariants as deeds
+use Rattle.page_sets_lines.specs.declared.events.EventKind.TheVariants as kinds
 use Rattle.page_sets_lines.specs.declared.leaves.Leaf.TheVariants as leaves
 use Rattle.page_sets_lines.specs.declared.line_steps.LineStep.TheVariants as steps
 use Rattle.page_sets_lines.specs.ControlLines.{name_end, rest_of, open_quote}
-use Rattle.page_sets_lines.proofs.SliceLemmas.{deed_fits}
+use Rattle.page_sets_lines.proofs.SliceLemmas.{kind_fits}
 use Rattle.page_sets_lines.proofs.OrderLemmas.{AreArguments, all_arguments}
 use Rattle.page_sets_lines.proofs.LawLemmas.{nothing_part, rest_part, end_within, name_part, first_slice_after, first_text_after, request_slices, AreSlices-append, HasNoWord}
 use Rattle.page_roff_forms.specs.declared.quotes.Argument.{Argument}
@@ -25,7 +25,7 @@ use Rattle.page_sets_mdoc_rows.specs.declared.blocks.Block.{Block}
 use Rattle.page_sets_mdoc_rows.specs.declared.blocks.Block.TheVariants as blocks
 use Rattle.page_sets_mdoc_rows.specs.declared.blocks.LineMacro.{LineMacro}
 use Rattle.page_sets_mdoc_rows.specs.declared.blocks.LineMacro.TheVariants as lines
-use Rattle.page_sets_mdoc_blocks.specs.Fronts.{at_name, line_arguments, quote_events, missing_quote, request_front, heading_opener, first_text, opener_of, closer_of, deed_at_name, note_detail, note_events, block_note, begin_front, end_front, has_real_word, field_front, option_quote, include_front, spacing_of, spacing_deed, spacing_front, block_front}
+use Rattle.page_sets_mdoc_blocks.specs.Fronts.{at_name, line_arguments, quote_events, missing_quote, request_front, heading_opener, first_text, opener_of, closer_of, kind_at_name, note_detail, note_events, block_note, begin_front, end_front, has_real_word, field_front, option_quote, include_front, spacing_of, spacing_kind, spacing_front, block_front}
 use Rattle.page_sets_mdoc_blocks.specs.declared.displays.DisplayOptions.{DisplayOptions}
 use Rattle.page_sets_mdoc_blocks.specs.Displays.{display_type, first_type, no_options, option_read, options_after}
 
@@ -53,7 +53,7 @@ given_part line None h = nothing_part line
 given_part line (Some text) h = h
 
 detail_part : (kind : NoteKind) (line : Line) → IsPart line.text (note_detail kind line)
-detail_part kinds.UnknownFont line = given_part line.text (first_text line) (first_text_after line.text (name_end line))
+detail_part note_kinds.UnknownFont line = given_part line.text (first_text line) (first_text_after line.text (name_end line))
 detail_part _ line = nothing_part line.text
 
 note_slices : (line : Line) (kind : Option NoteKind) → AreSlices line.text (note_events line kind)
@@ -103,15 +103,15 @@ include_slices true line = tt
 include_slices false line = (name_part line, tt)
 
 -- of what may be there
-abbrev HasSlicesIfGiven : List ℕ → Option (Deed (List ℕ)) → Type 0
+abbrev HasSlicesIfGiven : List ℕ → Option (EventKind (List ℕ)) → Type 0
 HasSlicesIfGiven line None = Unit {0}
-HasSlicesIfGiven line (Some deed) = HasSlices line deed
+HasSlicesIfGiven line (Some kind) = HasSlices line kind
 
-at_name_slices : (line : Line) (deed : Option (Deed (List ℕ))) → HasSlicesIfGiven line.text deed → AreSlices line.text (deed_at_name line deed)
+at_name_slices : (line : Line) (kind : Option (EventKind (List ℕ))) → HasSlicesIfGiven line.text kind → AreSlices line.text (kind_at_name line kind)
 at_name_slices line None h = tt
-at_name_slices line (Some deed) h = (h, tt)
+at_name_slices line (Some kind) h = (h, tt)
 
-spacing_slices : (line : Line) (on : Option (Option Bool)) → HasSlicesIfGiven line.text (spacing_deed on)
+spacing_slices : (line : Line) (on : Option (Option Bool)) → HasSlicesIfGiven line.text (spacing_kind on)
 spacing_slices line None = tt
 spacing_slices line (Some on) = tt
 
@@ -140,7 +140,7 @@ block_slices lines.Target line = missing_slices false line
 
 -- what a block of lines opens with stands in the line
 pub opens_fit : (block : Block) (line : Line) → length line.text ≤ LINE → BlockOpenerFits (opener_of block line)
-opens_fit block line short = deed_fits line.text (deeds.Open (openers.Block (opener_of block line))) short (opens_slices block line)
+opens_fit block line short = kind_fits line.text (kinds.Open (openers.Block (opener_of block line))) short (opens_slices block line)
 
 -- ---- no words
 
@@ -163,7 +163,7 @@ include_no_word : (real : Bool) (line : Line) → HasNoWord (include_front real 
 include_no_word true line = tt
 include_no_word false line = (refl, tt)
 
-spacing_no_word : (line : Line) (on : Option (Option Bool)) → HasNoWord (deed_at_name line (spacing_deed on))
+spacing_no_word : (line : Line) (on : Option (Option Bool)) → HasNoWord (kind_at_name line (spacing_kind on))
 spacing_no_word line None = tt
 spacing_no_word line (Some on) = (refl, tt)
 
@@ -222,14 +222,14 @@ include_few : (real : Bool) (line : Line) → length (include_front real line) �
 include_few true line = omega arith
 include_few false line = omega arith
 
-at_name_few : (line : Line) (deed : Option (Deed (List ℕ))) → length (deed_at_name line deed) ≤ 1
+at_name_few : (line : Line) (kind : Option (EventKind (List ℕ))) → length (kind_at_name line kind) ≤ 1
 at_name_few line None = omega arith
-at_name_few line (Some deed) = omega arith
+at_name_few line (Some kind) = omega arith
 
 spacing_few : (line : Line) → length (spacing_front line) ≤ 2
 spacing_few line =
     let f = missing_few false line in
-    let d = at_name_few line (spacing_deed (spacing_of (first_text line))) in
+    let d = at_name_few line (spacing_kind (spacing_of (first_text line))) in
     simp length-append (omega (arith, f, d))
 
 field_few : (real : Bool) (line : Line) → length (field_front real line) ≤ 2
@@ -250,9 +250,9 @@ words_more _ = 3
 
 pub block_few : (begins : LineMacro) (line : Line) → length (block_front begins line) + words_more begins ≤ 5
 block_few (lines.Inline inline) line = omega arith
-block_few (lines.Prologue name) line = let f = quoted_few line (at_name line (deeds.Leaf (leaves.Prologue name (rest_of line)))) in omega (arith, f)
+block_few (lines.Prologue name) line = let f = quoted_few line (at_name line (kinds.Leaf (leaves.Prologue name (rest_of line)))) in omega (arith, f)
 block_few (lines.Heading name) line = omega arith
-block_few (lines.Paragraph name) line = let f = quoted_few line (at_name line (deeds.Leaf (leaves.Step (steps.BodyParagraph name)))) in omega (arith, f)
+block_few (lines.Paragraph name) line = let f = quoted_few line (at_name line (kinds.Leaf (leaves.Step (steps.BodyParagraph name)))) in omega (arith, f)
 block_few lines.Description line = omega arith
 block_few (lines.OneLine name) line = omega arith
 block_few (lines.Begins block) line = let f = begins_few block line in omega (arith, f)

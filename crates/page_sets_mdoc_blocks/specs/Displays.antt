@@ -7,7 +7,7 @@ use Rattle.page_core_base.specs.declared.cells.Font.TheVariants.{R, B, I}
 use Rattle.page_roff_forms.specs.declared.quotes.Argument.{Argument}
 use Rattle.page_sets_lines.specs.declared.blocks.BlockOpener.{BlockOpener}
 use Rattle.page_sets_lines.specs.declared.blocks.BlockOpener.TheVariants as openers
-use Rattle.page_sets_lines.specs.Events.{given_seen}
+use Rattle.page_sets_lines.specs.Events.{given_view}
 use Rattle.page_sets_mdoc_rows.specs.Names.{said}
 use Rattle.page_sets_mdoc_blocks.specs.declared.displays.DisplayOptions.{DisplayOptions}
 
@@ -59,11 +59,11 @@ display_opener options = openers.Display (is_kept options.is_literal) options.is
 abbrev pub display : List (Argument (List ℕ)) → BlockOpener (List ℕ)
 display words = display_opener (options_after no_options words)
 
-abbrev pub options_seen : DisplayOptions (Bor (List ℕ)) → DisplayOptions (List ℕ)
-options_seen options = record {
+abbrev pub options_view : DisplayOptions (Bor (List ℕ)) → DisplayOptions (List ℕ)
+options_view options = record {
   is_literal = options.is_literal;
   is_compact = options.is_compact;
-  offset = given_seen options.offset;
+  offset = given_view options.offset;
   takes_offset = options.takes_offset;
 }
 

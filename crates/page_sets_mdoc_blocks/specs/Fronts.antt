@@ -9,8 +9,8 @@ use Rattle.page_core_base.specs.declared.note_kinds.NoteKind.TheVariants.{Unterm
 use Rattle.page_roff_forms.specs.Arguments.{is_quoted}
 use Rattle.page_roff_forms.specs.declared.quotes.Argument.{Argument}
 use Rattle.page_roff_requests.specs.declared.requests.LayoutRequest.{LayoutRequest}
-use Rattle.page_sets_lines.specs.declared.events.Deed.{Deed}
-use Rattle.page_sets_lines.specs.declared.events.Deed.TheVariants as deeds
+use Rattle.page_sets_lines.specs.declared.events.EventKind.{EventKind}
+use Rattle.page_sets_lines.specs.declared.events.EventKind.TheVariants as kinds
 use Rattle.page_sets_lines.specs.declared.events.Event.{Event}
 use Rattle.page_sets_lines.specs.declared.leaves.Leaf.TheVariants as leaves
 use Rattle.page_sets_lines.specs.declared.line_steps.LineStep.TheVariants as steps
@@ -40,19 +40,19 @@ use Rattle.page_sets_mdoc_blocks.specs.Lists.{list_note, list_opener}
 abbrev pub name_column : Line → ℕ
 name_column line = before_name line.text + 1
 
-abbrev pub at_name : Line → Deed (List ℕ) → Event (List ℕ)
-at_name line deed = event_at line.number (name_column line) deed
+abbrev pub at_name : Line → EventKind (List ℕ) → Event (List ℕ)
+at_name line kind = event_at line.number (name_column line) kind
 
 abbrev pub line_arguments : Line → List (Argument (List ℕ))
 line_arguments line = arguments_after (name_end line) line.text
 
 -- a message that names the macro
 abbrev pub refusal : NoteKind → Line → Event (List ℕ)
-refusal kind line = at_name line (deeds.Note kind (name_of line) false false)
+refusal kind line = at_name line (kinds.Note kind (name_of line) false false)
 
 -- the quote of an argument that lacks its last one; its message may begin the body of the page
 abbrev pub quote_event : ℕ → Bool → ℕ → Event (List ℕ)
-quote_event number begins_body column = event_at number column (deeds.Note Unterminated [] false begins_body)
+quote_event number begins_body column = event_at number column (kinds.Note Unterminated [] false begins_body)
 
 abbrev pub quote_events : ℕ → Bool → Option ℕ → List (Event (List ℕ))
 quote_events number begins_body None = []
@@ -65,7 +65,7 @@ missing_quote begins_body line = quote_events line.number begins_body (open_quot
 -- `br sp ft in nf fi`
 abbrev pub request_front : LayoutRequest → Line → List (Event (List ℕ))
 request_front name line =
-    missing_quote false line ++ (at_name line (deeds.Leaf (leaves.Request (request name (first_of (line_arguments line))))) ∷ [])
+    missing_quote false line ++ (at_name line (kinds.Leaf (leaves.Request (request name (first_of (line_arguments line))))) ∷ [])
 
 -- the scope that a heading begins
 abbrev pub heading_opener : HeadingName → Opener (List ℕ)
@@ -95,9 +95,9 @@ closer_of blocks.Fonts = block_closers.Fonts
 closer_of blocks.Keep = block_closers.Keep
 closer_of blocks.Reference = block_closers.Reference
 
-abbrev pub deed_at_name : Line → Option (Deed (List ℕ)) → List (Event (List ℕ))
-deed_at_name line None = []
-deed_at_name line (Some deed) = at_name line deed ∷ []
+abbrev pub kind_at_name : Line → Option (EventKind (List ℕ)) → List (Event (List ℕ))
+kind_at_name line None = []
+kind_at_name line (Some kind) = at_name line kind ∷ []
 
 -- a message about the arguments; one about a font names it
 abbrev pub note_detail : NoteKind → Line → List ℕ
@@ -115,7 +115,7 @@ note_is_quoted _ line = false
 
 abbrev pub note_events : Line → Option NoteKind → List (Event (List ℕ))
 note_events line None = []
-note_events line (Some kind) = at_name line (deeds.Note kind (note_detail kind line) (note_is_quoted kind line) true) ∷ []
+note_events line (Some kind) = at_name line (kinds.Note kind (note_detail kind line) (note_is_quoted kind line) true) ∷ []
 
 -- a font that is not known is told of
 abbrev pub note_unless_known : Option Font → Option NoteKind
@@ -129,10 +129,10 @@ block_note _ line = None
 
 abbrev pub begin_front : Block → Line → List (Event (List ℕ))
 begin_front block line =
-    missing_quote true line ++ (note_events line (block_note block line) ++ (at_name line (deeds.Open (openers.Block (opener_of block line))) ∷ []))
+    missing_quote true line ++ (note_events line (block_note block line) ++ (at_name line (kinds.Open (openers.Block (opener_of block line))) ∷ []))
 
 abbrev pub end_front : Block → Line → List (Event (List ℕ))
-end_front block line = missing_quote false line ++ (at_name line (deeds.Close (closers.Block (closer_of block))) ∷ [])
+end_front block line = missing_quote false line ++ (at_name line (kinds.Close (closers.Block (closer_of block))) ∷ [])
 
 -- ---- fields of a reference (`%A` and so on)
 
@@ -141,7 +141,7 @@ abbrev pub has_real_word : Line → Bool
 has_real_word line = list_any is_real (line_arguments line)
 
 abbrev pub field_front : Bool → Line → List (Event (List ℕ))
-field_front true line = at_name line (deeds.Leaf (leaves.Step steps.NextField)) ∷ []
+field_front true line = at_name line (kinds.Leaf (leaves.Step steps.NextField)) ∷ []
 field_front false line = refusal EmptyMacro line ∷ []
 
 -- ---- sentences (`Ex`, `Rv`)
@@ -177,27 +177,27 @@ spacing_of (Some text) =
     else if bytes_eq text (codes "off") then Some (Some false)
     else None
 
-abbrev pub spacing_deed : Option (Option Bool) → Option (Deed (List ℕ))
-spacing_deed None = None
-spacing_deed (Some on) = Some (deeds.Leaf (leaves.Step (steps.Spacing on)))
+abbrev pub spacing_kind : Option (Option Bool) → Option (EventKind (List ℕ))
+spacing_kind None = None
+spacing_kind (Some on) = Some (kinds.Leaf (leaves.Step (steps.Spacing on)))
 
 abbrev pub spacing_front : Line → List (Event (List ℕ))
-spacing_front line = missing_quote false line ++ deed_at_name line (spacing_deed (spacing_of (first_text line)))
+spacing_front line = missing_quote false line ++ kind_at_name line (spacing_kind (spacing_of (first_text line)))
 
 -- ---- all of them
 
 -- what a macro does before its words; macros that can stand among words have no front of their own
 abbrev pub block_front : LineMacro → Line → List (Event (List ℕ))
 block_front (lines.Inline inline) line = []
-block_front (lines.Prologue name) line = missing_quote false line ++ (at_name line (deeds.Leaf (leaves.Prologue name (rest_of line))) ∷ [])
+block_front (lines.Prologue name) line = missing_quote false line ++ (at_name line (kinds.Leaf (leaves.Prologue name (rest_of line))) ∷ [])
 block_front (lines.Heading name) line =
-    at_name line (deeds.Open (heading_opener name)) ∷ at_name line (deeds.LineScope (scopes.Heading name)) ∷ []
-block_front (lines.Paragraph name) line = missing_quote false line ++ (at_name line (deeds.Leaf (leaves.Step (steps.BodyParagraph name))) ∷ [])
-block_front lines.Description line = at_name line (deeds.LineScope scopes.Description) ∷ []
-block_front (lines.OneLine name) line = at_name line (deeds.LineScope (scopes.OneLine name)) ∷ []
+    at_name line (kinds.Open (heading_opener name)) ∷ at_name line (kinds.LineScope (scopes.Heading name)) ∷ []
+block_front (lines.Paragraph name) line = missing_quote false line ++ (at_name line (kinds.Leaf (leaves.Step (steps.BodyParagraph name))) ∷ [])
+block_front lines.Description line = at_name line (kinds.LineScope scopes.Description) ∷ []
+block_front (lines.OneLine name) line = at_name line (kinds.LineScope (scopes.OneLine name)) ∷ []
 block_front (lines.Begins block) line = begin_front block line
 block_front (lines.Ends block) line = end_front block line
-block_front lines.Item line = at_name line (deeds.Open openers.Item) ∷ at_name line (deeds.LineScope scopes.Head) ∷ []
+block_front lines.Item line = at_name line (kinds.Open openers.Item) ∷ at_name line (kinds.LineScope scopes.Head) ∷ []
 block_front (lines.Field font) line = field_front (has_real_word line) line
 block_front (lines.Sentence sentence) line = quote_events line.number true (option_quote (line_arguments line))
 block_front lines.Include line = include_front (has_real_word line) line

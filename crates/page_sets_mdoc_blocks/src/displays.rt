@@ -2,11 +2,11 @@
 
 ghost use Rattle.std.specs.Prelude.{◌≡◌, ◌≤◌, ◌||◌, length};
 ghost use Rattle.std.specs.Str.{bytes_eq};
-ghost use Rattle.page_core_base.specs.LinesTaken.{line_seen};
-ghost use Rattle.page_roff_forms.specs.Arguments.{argument_seen};
-ghost use Rattle.page_sets_lines.specs.Events.{block_opener_seen};
+ghost use Rattle.page_core_base.specs.LinesTaken.{line_view};
+ghost use Rattle.page_roff_forms.specs.Arguments.{argument_view};
+ghost use Rattle.page_sets_lines.specs.Events.{block_opener_view};
 ghost use Rattle.page_sets_mdoc_blocks.specs.Displays as displays;
-ghost use Rattle.page_sets_mdoc_blocks.specs.Displays.{options_seen};
+ghost use Rattle.page_sets_mdoc_blocks.specs.Displays.{options_view};
 ghost use Rattle.page_sets_mdoc_blocks.specs.Fronts.{line_arguments, first_text};
 
 use crate::line_arguments::{arguments_of, first_text};
@@ -51,7 +51,7 @@ fn display_type(word: &[u8]) -> Option<bool>
 
 // Reads one more argument.
 fn read_option<'a>(options: &mut DisplayOptions<&'a [u8]>, word: Argument<&'a [u8]>)
-    ensures { options_seen options.new ≡ displays.option_read (options_seen options.old) (argument_seen word.entry) }
+    ensures { options_view options.new ≡ displays.option_read (options_view options.old) (argument_view word.entry) }
 {
     if options.takes_offset {
         options.offset = Some(word);
@@ -68,7 +68,7 @@ fn read_option<'a>(options: &mut DisplayOptions<&'a [u8]>, word: Argument<&'a [u
 // What all arguments of a line say.
 fn read_options<'a>(line: Taken<'a>) -> DisplayOptions<&'a [u8]>
     requires { length line.text.now ≤ LINE }
-    ensures { options_seen result ≡ displays.options_after displays.no_options (line_arguments (line_seen line.entry)) }
+    ensures { options_view result ≡ displays.options_after displays.no_options (line_arguments (line_view line.entry)) }
 {
     let mut arguments = arguments_of(line);
     let mut options = DisplayOptions {
@@ -86,7 +86,7 @@ fn read_options<'a>(line: Taken<'a>) -> DisplayOptions<&'a [u8]>
 /// The display that `Bd` opens in a line.
 pub(crate) fn display_of<'a>(line: Taken<'a>) -> BlockOpener<&'a [u8]>
     requires { length line.text.now ≤ LINE }
-    ensures { block_opener_seen result ≡ displays.display (line_arguments (line_seen line.entry)) }
+    ensures { block_opener_view result ≡ displays.display (line_arguments (line_view line.entry)) }
 {
     let options = read_options(line);
     BlockOpener::Display {
@@ -115,7 +115,7 @@ fn font_named(word: &[u8]) -> Option<Font>
 /// The font of `Bf` in a line, where its first argument names one.
 pub(crate) fn first_font(line: Taken<'_>) -> Option<Font>
     requires { length line.text.now ≤ LINE }
-    ensures { result ≡ displays.given_font (first_text (line_seen line.entry)) }
+    ensures { result ≡ displays.given_font (first_text (line_view line.entry)) }
 {
     font_named(first_text(line)?)
 }

@@ -1,10 +1,10 @@
 //! What a macro that begins a line does before its words, given event after event (mdoc(7), "MACRO REFERENCE").
 
 ghost use Rattle.std.specs.Prelude.{◌≡◌, ◌≤◌, [], ◌∷◌, ◌++◌, false, length, unwrap_or};
-ghost use Rattle.page_core_base.specs.LinesTaken.{line_seen};
+ghost use Rattle.page_core_base.specs.LinesTaken.{line_view};
 ghost use Rattle.page_core_base.specs.Latches.{Came};
-ghost use Rattle.page_sets_lines.specs.Events.{event_seen, deed_seen, opener_seen, block_opener_seen, block_closer_seen};
-ghost use Rattle.page_sets_lines.specs.Fits.{BlockCloserFits, BlockOpenerFits, IsShortDeed, OpenerFits};
+ghost use Rattle.page_sets_lines.specs.Events.{event_view, kind_view, opener_view, block_opener_view, block_closer_view};
+ghost use Rattle.page_sets_lines.specs.Fits.{BlockCloserFits, BlockOpenerFits, IsShortKind, OpenerFits};
 ghost use Rattle.page_sets_mdoc_blocks.specs.Fronts as fronts;
 
 use crate::displays::{display_of, first_font};
@@ -15,28 +15,28 @@ use page_core_base::{NoteKind, Place, Taken};
 use page_core_limits::LINE;
 use page_roff_requests::LayoutRequest;
 use page_sets_lines::{
-    BlockCloser, BlockOpener, Closer, Deed, Event, EventTaker, HeadingName, Leaf, LineOpener,
+    BlockCloser, BlockOpener, Closer, EventKind, Event, EventTaker, HeadingName, Leaf, LineOpener,
     LineStep, Opener, find_name, first_of, with_argument,
 };
 use page_sets_mdoc_rows::{Block, LineMacro};
 
 // An event at the name of the macro that begins a line.
-fn at_name<'a>(line: Taken<'_>, deed: Deed<&'a [u8]>) -> Event<&'a [u8]>
+fn at_name<'a>(line: Taken<'_>, kind: EventKind<&'a [u8]>) -> Event<&'a [u8]>
     requires { length line.text.now ≤ LINE }
-    ensures { event_seen result ≡ fronts.at_name (line_seen line.entry) (deed_seen deed.entry) }
+    ensures { event_view result ≡ fronts.at_name (line_view line.entry) (kind_view kind.entry) }
 {
     Event {
         place: Place {
             line: line.line,
             column: find_name(line).start as u32 + 1,
         },
-        deed,
+        kind,
     }
 }
 
 // The message about a quote.
 fn quote_event<'a>(number: u32, begins_body: bool, column: u32) -> Event<&'a [u8]>
-    ensures { event_seen result ≡ fronts.quote_event number begins_body column }
+    ensures { event_view result ≡ fronts.quote_event number begins_body column }
 {
     let detail: &[u8] = &[];
     Event {
@@ -44,7 +44,7 @@ fn quote_event<'a>(number: u32, begins_body: bool, column: u32) -> Event<&'a [u8
             line: number,
             column,
         },
-        deed: Deed::Note {
+        kind: EventKind::Note {
             kind: NoteKind::Unterminated,
             detail,
             is_quoted: false,
@@ -70,7 +70,7 @@ fn give_quote<'a, O: EventTaker<'a>>(
 // The detail of a message about the arguments of a line.
 fn note_detail<'a>(kind: NoteKind, line: Taken<'a>) -> &'a [u8]
     requires { length line.text.now ≤ LINE }
-    ensures { result.now ≡ fronts.note_detail kind (line_seen line.entry) }
+    ensures { result.now ≡ fronts.note_detail kind (line_view line.entry) }
 {
     match kind {
         NoteKind::UnknownFont => first_text(line).unwrap_or(&[]),
@@ -81,7 +81,7 @@ fn note_detail<'a>(kind: NoteKind, line: Taken<'a>) -> &'a [u8]
 // Whether the detail of a message about the arguments of a line is that of a quoted one.
 fn note_is_quoted(kind: NoteKind, line: Taken<'_>) -> bool
     requires { length line.text.now ≤ LINE }
-    ensures { result ≡ fronts.note_is_quoted kind (line_seen line.entry) }
+    ensures { result ≡ fronts.note_is_quoted kind (line_view line.entry) }
 {
     match kind {
         NoteKind::UnknownFont => is_first_quoted(line),
@@ -92,16 +92,16 @@ fn note_is_quoted(kind: NoteKind, line: Taken<'_>) -> bool
 // A message about the arguments of a line, if there is one; it may begin the body of the page.
 fn give_note<'a, O: EventTaker<'a>>(out: &mut O, line: Taken<'a>, kind: Option<NoteKind>)
     requires { length line.text.now ≤ LINE }
-    ensures { Came O.left out.old (fronts.note_events (line_seen line.entry) kind) out.new }
+    ensures { Came O.left out.old (fronts.note_events (line_view line.entry) kind) out.new }
 {
     if let Some(kind) = kind {
-        let deed = Deed::Note {
+        let kind = EventKind::Note {
             kind,
             detail: note_detail(kind, line),
             is_quoted: note_is_quoted(kind, line),
             begins_body: true,
         };
-        out.give(at_name(line, deed));
+        out.give(at_name(line, kind));
     }
 }
 
@@ -109,8 +109,8 @@ fn give_note<'a, O: EventTaker<'a>>(out: &mut O, line: Taken<'a>, kind: Option<N
 #[tactic(auto, using(crate::proofs::FrontLemmas::opens_fit))]
 fn opener_of<'a>(block: Block, line: Taken<'a>) -> BlockOpener<&'a [u8]>
     requires { length line.text.now ≤ LINE }
-    ensures opener { block_opener_seen result ≡ fronts.opener_of block (line_seen line.entry) }
-    ensures fits { BlockOpenerFits (block_opener_seen result) }
+    ensures opener { block_opener_view result ≡ fronts.opener_of block (line_view line.entry) }
+    ensures fits { BlockOpenerFits (block_opener_view result) }
 {
     match block {
         Block::List => list_of(line),
@@ -123,8 +123,8 @@ fn opener_of<'a>(block: Block, line: Taken<'a>) -> BlockOpener<&'a [u8]>
 
 // What a block of lines closes with.
 fn closer_of<'a>(block: Block) -> BlockCloser<&'a [u8]>
-    ensures closer { block_closer_seen result ≡ fronts.closer_of block }
-    ensures fits { BlockCloserFits (block_closer_seen result) }
+    ensures closer { block_closer_view result ≡ fronts.closer_of block }
+    ensures fits { BlockCloserFits (block_closer_view result) }
 {
     match block {
         Block::List => BlockCloser::List,
@@ -138,7 +138,7 @@ fn closer_of<'a>(block: Block) -> BlockCloser<&'a [u8]>
 // The message about the arguments of a block.
 fn block_note(block: Block, line: Taken<'_>) -> Option<NoteKind>
     requires { length line.text.now ≤ LINE }
-    ensures { result ≡ fronts.block_note block (line_seen line.entry) }
+    ensures { result ≡ fronts.block_note block (line_view line.entry) }
 {
     match block {
         Block::List => list_note(line),
@@ -148,31 +148,31 @@ fn block_note(block: Block, line: Taken<'_>) -> Option<NoteKind>
 }
 
 // A macro that prints none of its arguments: the message about a quote, and then what it does.
-fn give_quoted<'a, O: EventTaker<'a>>(out: &mut O, line: Taken<'a>, deed: Deed<&'a [u8]>)
+fn give_quoted<'a, O: EventTaker<'a>>(out: &mut O, line: Taken<'a>, kind: EventKind<&'a [u8]>)
     requires short { length line.text.now ≤ LINE }
-    requires fits { IsShortDeed (deed_seen deed) }
-    ensures { Came O.left out.old (fronts.missing_quote false (line_seen line.entry)
-        ++ (fronts.at_name (line_seen line.entry) (deed_seen deed.entry) ∷ [])) out.new }
+    requires fits { IsShortKind (kind_view kind) }
+    ensures { Came O.left out.old (fronts.missing_quote false (line_view line.entry)
+        ++ (fronts.at_name (line_view line.entry) (kind_view kind.entry) ∷ [])) out.new }
 {
     give_quote(out, line.line, false, missing_quote(line));
-    out.give(at_name(line, deed));
+    out.give(at_name(line, kind));
 }
 
 // A block of lines begins.
 fn give_begin<'a, O: EventTaker<'a>>(out: &mut O, block: Block, line: Taken<'a>)
     requires { length line.text.now ≤ LINE }
-    ensures { Came O.left out.old (fronts.begin_front block (line_seen line.entry)) out.new }
+    ensures { Came O.left out.old (fronts.begin_front block (line_view line.entry)) out.new }
 {
     give_quote(out, line.line, true, missing_quote(line));
     give_note(out, line, block_note(block, line));
-    let deed = Deed::Open(Opener::Block(opener_of(block, line)));
-    out.give(at_name(line, deed));
+    let kind = EventKind::Open(Opener::Block(opener_of(block, line)));
+    out.give(at_name(line, kind));
 }
 
 // The scope of a heading.
 fn heading_opener<'a>(name: HeadingName) -> Opener<&'a [u8]>
-    ensures opener { opener_seen result ≡ fronts.heading_opener name }
-    ensures fits { OpenerFits (opener_seen result) }
+    ensures opener { opener_view result ≡ fronts.heading_opener name }
+    ensures fits { OpenerFits (opener_view result) }
 {
     match name {
         HeadingName::SH | HeadingName::Sh => Opener::Section,
@@ -184,10 +184,10 @@ fn heading_opener<'a>(name: HeadingName) -> Opener<&'a [u8]>
 fn give_field<'a, O: EventTaker<'a>>(out: &mut O, line: Taken<'a>)
     requires { length line.text.now ≤ LINE }
     ensures { Came O.left out.old
-        (fronts.field_front (fronts.has_real_word (line_seen line.entry)) (line_seen line.entry)) out.new }
+        (fronts.field_front (fronts.has_real_word (line_view line.entry)) (line_view line.entry)) out.new }
 {
     if has_real_word(line) {
-        out.give(at_name(line, Deed::Leaf(Leaf::Step(LineStep::NextField))));
+        out.give(at_name(line, EventKind::Leaf(Leaf::Step(LineStep::NextField))));
     } else {
         give_refusal(out, NoteKind::EmptyMacro, line);
     }
@@ -197,7 +197,7 @@ fn give_field<'a, O: EventTaker<'a>>(out: &mut O, line: Taken<'a>)
 fn give_include<'a, O: EventTaker<'a>>(out: &mut O, line: Taken<'a>)
     requires { length line.text.now ≤ LINE }
     ensures { Came O.left out.old
-        (fronts.include_front (fronts.has_real_word (line_seen line.entry)) (line_seen line.entry)) out.new }
+        (fronts.include_front (fronts.has_real_word (line_view line.entry)) (line_view line.entry)) out.new }
 {
     if !has_real_word(line) {
         give_refusal(out, NoteKind::EmptyMacro, line);
@@ -207,77 +207,77 @@ fn give_include<'a, O: EventTaker<'a>>(out: &mut O, line: Taken<'a>)
 // What the first argument of `Sm` says.
 fn give_spacing<'a, O: EventTaker<'a>>(out: &mut O, line: Taken<'a>)
     requires { length line.text.now ≤ LINE }
-    ensures { Came O.left out.old (fronts.spacing_front (line_seen line.entry)) out.new }
+    ensures { Came O.left out.old (fronts.spacing_front (line_view line.entry)) out.new }
 {
     give_quote(out, line.line, false, missing_quote(line));
     if let Some(on) = spacing_of(first_text(line)) {
-        out.give(at_name(line, Deed::Leaf(Leaf::Step(LineStep::Spacing(on)))));
+        out.give(at_name(line, EventKind::Leaf(Leaf::Step(LineStep::Spacing(on)))));
     }
 }
 
 /// Gives a message that names the macro of a line.
 pub fn give_refusal<'a, O: EventTaker<'a>>(out: &mut O, kind: NoteKind, line: Taken<'a>)
     requires { length line.text.now ≤ LINE }
-    ensures { Came O.left out.old (fronts.refusal kind (line_seen line.entry) ∷ []) out.new }
+    ensures { Came O.left out.old (fronts.refusal kind (line_view line.entry) ∷ []) out.new }
 {
     let name = find_name(line);
-    let deed = Deed::Note {
+    let kind = EventKind::Note {
         kind,
         detail: &line.text[name.start..name.end],
         is_quoted: false,
         begins_body: false,
     };
-    out.give(at_name(line, deed));
+    out.give(at_name(line, kind));
 }
 
 /// Gives what a request that changes rows does in a line.
 pub fn give_request<'a, O: EventTaker<'a>>(out: &mut O, request: LayoutRequest, line: Taken<'a>)
     requires { length line.text.now ≤ LINE }
-    ensures { Came O.left out.old (fronts.request_front request (line_seen line.entry)) out.new }
+    ensures { Came O.left out.old (fronts.request_front request (line_view line.entry)) out.new }
 {
     let given = first_of(line.text, find_name(line).end);
     give_quoted(
         out,
         line,
-        Deed::Leaf(Leaf::Request(with_argument(request, given))),
+        EventKind::Leaf(Leaf::Request(with_argument(request, given))),
     );
 }
 
 /// Gives what a macro does in a line that it begins, before its words.
 pub fn give_front<'a, O: EventTaker<'a>>(out: &mut O, begins: LineMacro, line: Taken<'a>)
     requires { length line.text.now ≤ LINE }
-    ensures { Came O.left out.old (fronts.block_front begins (line_seen line.entry)) out.new }
+    ensures { Came O.left out.old (fronts.block_front begins (line_view line.entry)) out.new }
 {
     match begins {
         LineMacro::Inline(_) => {}
         LineMacro::Prologue(name) => {
             let rest = &line.text[find_name(line).end..];
-            give_quoted(out, line, Deed::Leaf(Leaf::Prologue(name, rest)));
+            give_quoted(out, line, EventKind::Leaf(Leaf::Prologue(name, rest)));
         }
         LineMacro::Heading(name) => {
-            out.give(at_name(line, Deed::Open(heading_opener(name))));
-            out.give(at_name(line, Deed::LineScope(LineOpener::Heading(name))));
+            out.give(at_name(line, EventKind::Open(heading_opener(name))));
+            out.give(at_name(line, EventKind::LineScope(LineOpener::Heading(name))));
         }
         LineMacro::Paragraph(name) => {
             give_quoted(
                 out,
                 line,
-                Deed::Leaf(Leaf::Step(LineStep::BodyParagraph(name))),
+                EventKind::Leaf(Leaf::Step(LineStep::BodyParagraph(name))),
             );
         }
         LineMacro::Description => {
-            out.give(at_name(line, Deed::LineScope(LineOpener::Description)));
+            out.give(at_name(line, EventKind::LineScope(LineOpener::Description)));
         }
         LineMacro::OneLine(name) => {
-            out.give(at_name(line, Deed::LineScope(LineOpener::OneLine(name))));
+            out.give(at_name(line, EventKind::LineScope(LineOpener::OneLine(name))));
         }
         LineMacro::Begins(block) => give_begin(out, block, line),
         LineMacro::Ends(block) => {
-            give_quoted(out, line, Deed::Close(Closer::Block(closer_of(block))));
+            give_quoted(out, line, EventKind::Close(Closer::Block(closer_of(block))));
         }
         LineMacro::Item => {
-            out.give(at_name(line, Deed::Open(Opener::Item)));
-            out.give(at_name(line, Deed::LineScope(LineOpener::Head)));
+            out.give(at_name(line, EventKind::Open(Opener::Item)));
+            out.give(at_name(line, EventKind::LineScope(LineOpener::Head)));
         }
         LineMacro::Field(_) => give_field(out, line),
         LineMacro::Sentence(_) => give_quote(out, line.line, true, option_quote(line)),

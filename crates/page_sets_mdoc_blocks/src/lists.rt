@@ -1,10 +1,10 @@
 //! The list that `Bl` opens, and what its arguments lack (mdoc(7), `Bl`).
 
 ghost use Rattle.std.specs.Prelude.{◌≡◌, ◌≤◌, length};
-ghost use Rattle.page_core_base.specs.LinesTaken.{line_seen};
+ghost use Rattle.page_core_base.specs.LinesTaken.{line_view};
 ghost use Rattle.page_sets_lines.specs.ControlLines.{rest_of};
-ghost use Rattle.page_sets_lines.specs.Events.{block_opener_seen};
-ghost use Rattle.page_sets_lines.specs.Lists.{list_options, options_seen};
+ghost use Rattle.page_sets_lines.specs.Events.{block_opener_view};
+ghost use Rattle.page_sets_lines.specs.Lists.{list_options, options_view};
 ghost use Rattle.page_sets_mdoc_blocks.specs.Fronts.{line_arguments};
 ghost use Rattle.page_sets_mdoc_blocks.specs.Lists as lists;
 
@@ -15,7 +15,7 @@ use page_sets_lines::{BlockOpener, ListKind, ListOptions, find_name, read_list_o
 // What the arguments of a line say of a list.
 fn options_of<'a>(line: Taken<'a>) -> ListOptions<&'a [u8]>
     requires { length line.text.now ≤ LINE }
-    ensures { options_seen result ≡ list_options (line_arguments (line_seen line.entry)) }
+    ensures { options_view result ≡ list_options (line_arguments (line_view line.entry)) }
 {
     read_list_options(line.text, find_name(line).end)
 }
@@ -23,7 +23,7 @@ fn options_of<'a>(line: Taken<'a>) -> ListOptions<&'a [u8]>
 /// The list that `Bl` opens in a line.
 pub(crate) fn list_of<'a>(line: Taken<'a>) -> BlockOpener<&'a [u8]>
     requires { length line.text.now ≤ LINE }
-    ensures { block_opener_seen result ≡ lists.list_opener (list_options (line_arguments (line_seen line.entry))) (rest_of (line_seen line.entry)) }
+    ensures { block_opener_view result ≡ lists.list_opener (list_options (line_arguments (line_view line.entry))) (rest_of (line_view line.entry)) }
 {
     let options = options_of(line);
     BlockOpener::List {
@@ -36,7 +36,7 @@ pub(crate) fn list_of<'a>(line: Taken<'a>) -> BlockOpener<&'a [u8]>
 /// The message about what a list lacks: a type, or the width of its tags.
 pub(crate) fn list_note(line: Taken<'_>) -> Option<NoteKind>
     requires { length line.text.now ≤ LINE }
-    ensures { result ≡ lists.list_note (list_options (line_arguments (line_seen line.entry))) }
+    ensures { result ≡ lists.list_note (list_options (line_arguments (line_view line.entry))) }
 {
     let options = options_of(line);
     match options.kind {

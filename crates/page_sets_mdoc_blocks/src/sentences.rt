@@ -1,10 +1,10 @@
 //! The option of sentences, and what `Sm` says (mdoc(7), "Ex", "Rv" and "Sm").
 
 ghost use Rattle.std.specs.Prelude.{◌≡◌, ◌≤◌, length};
-ghost use Rattle.page_core_base.specs.LinesTaken.{line_seen};
-ghost use Rattle.page_roff_forms.specs.Arguments.{argument_seen};
+ghost use Rattle.page_core_base.specs.LinesTaken.{line_view};
+ghost use Rattle.page_roff_forms.specs.Arguments.{argument_view};
 ghost use Rattle.page_sets_lines.specs.ControlLines.{is_unclosed};
-ghost use Rattle.page_sets_lines.specs.Events.{text_seen};
+ghost use Rattle.page_sets_lines.specs.Events.{text_view};
 ghost use Rattle.page_sets_mdoc_blocks.specs.Fronts as fronts;
 
 use page_core_base::Taken;
@@ -14,14 +14,14 @@ use page_sets_lines::{find_name, first_of};
 
 /// Whether a word is the option of a sentence, `-std`.
 pub fn is_standard(word: Argument<&[u8]>) -> bool
-    ensures { result ≡ fronts.is_standard (argument_seen word.entry) }
+    ensures { result ≡ fronts.is_standard (argument_view word.entry) }
 {
     word.text == b"-std".as_slice()
 }
 
 // Whether an argument lacks its last quote.
 fn is_unclosed(word: Argument<&[u8]>) -> bool
-    ensures { result ≡ is_unclosed (argument_seen word.entry).quoting }
+    ensures { result ≡ is_unclosed (argument_view word.entry).quoting }
 {
     matches!(word.quoting, Quoting::Unclosed)
 }
@@ -29,7 +29,7 @@ fn is_unclosed(word: Argument<&[u8]>) -> bool
 /// The column of the quote of that option, where it is the first argument of a line and lacks its last one.
 pub(crate) fn option_quote(line: Taken<'_>) -> Option<u32>
     requires { length line.text.now ≤ LINE }
-    ensures { result ≡ fronts.option_quote (fronts.line_arguments (line_seen line.entry)) }
+    ensures { result ≡ fronts.option_quote (fronts.line_arguments (line_view line.entry)) }
 {
     let word = first_of(line.text, find_name(line).end)?;
     if is_standard(word) && is_unclosed(word) {
@@ -41,7 +41,7 @@ pub(crate) fn option_quote(line: Taken<'_>) -> Option<u32>
 
 /// What an argument of `Sm` says of the blanks between words; they change where there is none.
 pub(crate) fn spacing_of(text: Option<&[u8]>) -> Option<Option<bool>>
-    ensures { result ≡ fronts.spacing_of (text_seen text.entry) }
+    ensures { result ≡ fronts.spacing_of (text_view text.entry) }
 {
     let Some(text) = text else {
         return Some(None);

@@ -8,8 +8,8 @@ use page_core_base::{Font, NoteKind, Taken};
 use page_core_limits::LINE;
 use page_roff_forms::Argument;
 use page_sets_lines::{
-    Block, BlockCloser, BlockOpener, Closer, Deed, Event, EventTaker, Join, Leaf, LineStep, Opener,
-    OwnWord, Role, SynopsisStep, Word, find_name,
+    Block, BlockCloser, BlockOpener, Closer, EventKind, Event, EventTaker, Join, Leaf, LineStep, Opener,
+    GeneratedWord, Role, SynopsisStep, Word, find_name,
 };
 use page_sets_mdoc_lines::{Cursor, find_words};
 use page_sets_mdoc_rows::{LineMacro, is_parsed, line_macro};
@@ -59,15 +59,15 @@ fn put_word(out: &mut Shown, word: Word<&[u8]>) {
     put_part(out, word.arg.text);
 }
 
-fn put_own(out: &mut Shown, word: OwnWord) {
-    let after = if word.own.joins_next() {
+fn put_generated(out: &mut Shown, word: GeneratedWord) {
+    let after = if word.text.joins_next() {
         Join::Glued
     } else {
         word.after
     };
     put_kind(out, word.before, "own", after);
     put_font(out, word.font);
-    put_part(out, word.own.text().as_bytes());
+    put_part(out, word.text.as_str().as_bytes());
 }
 
 // What a macro does in the SYNOPSIS.
@@ -136,15 +136,15 @@ fn put_note(out: &mut Shown, kind: NoteKind, detail: &[u8]) {
     }
 }
 
-fn put_deed(out: &mut Shown, deed: Deed<&[u8]>) {
-    match deed {
-        Deed::Word(word) => put_word(out, word),
-        Deed::Leaf(Leaf::Own(word)) => put_own(out, word),
-        Deed::Leaf(Leaf::Step(step)) => put_step(out, step),
-        Deed::Open(Opener::Block(opener)) => put_opener(out, opener),
-        Deed::Close(Closer::Block(closer)) => put_closer(out, closer),
-        Deed::LineScope(opener) => put_scope(out, "scope", opener.name(), None),
-        Deed::Note { kind, detail, .. } => put_note(out, kind, detail),
+fn put_event_kind(out: &mut Shown, kind: EventKind<&[u8]>) {
+    match kind {
+        EventKind::Word(word) => put_word(out, word),
+        EventKind::Leaf(Leaf::Generated(word)) => put_generated(out, word),
+        EventKind::Leaf(Leaf::Step(step)) => put_step(out, step),
+        EventKind::Open(Opener::Block(opener)) => put_opener(out, opener),
+        EventKind::Close(Closer::Block(closer)) => put_closer(out, closer),
+        EventKind::LineScope(opener) => put_scope(out, "scope", opener.name(), None),
+        EventKind::Note { kind, detail, .. } => put_note(out, kind, detail),
         _ => put(out, b" other"),
     }
 }
@@ -162,7 +162,7 @@ fn put_event(out: &mut Shown, event: Event<&[u8]>) {
         put(out, b"; ");
     }
     put_column(out, event.place.column);
-    put_deed(out, event.deed);
+    put_event_kind(out, event.kind);
 }
 
 // The events of a macro, shown as they come.

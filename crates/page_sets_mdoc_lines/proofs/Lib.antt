@@ -1,5 +1,5 @@
 pub mod CursorLemmas
-pub mod ExtentLemmas
+pub mod WordSpanLemmas
 pub mod FewLemmas
 pub mod PartLemmas
 pub mod WordLemmas

@@ -4,9 +4,9 @@ use Rattle.std.specs.List.{list_any}
 use Rattle.std.proofs.lemmas.List.{drop-take, take-take, take_all}
 use Rattle.page_roff_forms.specs.declared.quotes.Argument.{Argument}
 use Rattle.page_sets_mdoc_rows.specs.declared.macros.Inline.{Inline}
-use Rattle.page_sets_mdoc_lines.specs.declared.extents.Extent.{Extent}
+use Rattle.page_sets_mdoc_lines.specs.declared.word_spans.WordSpan.{WordSpan}
 use Rattle.page_sets_mdoc_lines.specs.LineWords.{arguments_after, is_closing, is_real, takes_next}
-use Rattle.page_sets_mdoc_lines.specs.Parts.{extent_of, front_len, parts, rest_parts}
+use Rattle.page_sets_mdoc_lines.specs.Parts.{span_of, front_len, parts, rest_parts}
 use Rattle.page_sets_mdoc_lines.specs.Words.{TakesWord, inside, outside, taken_onto}
 use Rattle.page_sets_mdoc_lines.proofs.CursorLemmas.{few_left}
 use Rattle.page_sets_mdoc_lines.proofs.PartLemmas.{none_taken, rest_goes_on, words_taken}
@@ -83,12 +83,12 @@ outside_known : (n : ℕ) (words others : List (Argument (List ℕ))) → n ≤ 
     → take (length words - n) (drop n others) ≡ drop n words
 outside_known n words others h w = rw w at (outside_are n (length words) others h)
 
-pub are_known : (parsed : Bool) (others after : List (Argument (List ℕ))) (extent : Extent) → extent ≡ extent_of (parts None parsed others)
-    → after ≡ drop extent.inside others
-    → (take extent.inside others ≡ inside (take extent.words others))
-    × (take (extent.words - extent.inside) after ≡ outside (take extent.words others))
-    × (extent.has_real ≡ list_any is_real (take extent.words others))
-are_known parsed others after extent e a =
+pub are_known : (parsed : Bool) (others after : List (Argument (List ℕ))) (span : WordSpan) → span ≡ span_of (parts None parsed others)
+    → after ≡ drop span.inside others
+    → (take span.inside others ≡ inside (take span.words others))
+    × (take (span.words - span.inside) after ≡ outside (take span.words others))
+    × (span.has_real ≡ list_any is_real (take span.words others))
+are_known parsed others after span e a =
     let p = parts None parsed others in
     let w = words_taken parsed others in
     let h = front_within is_closing p.words in
@@ -100,13 +100,13 @@ pub onto_taken : (parsed : Bool) (others : List (Argument (List ℕ))) (taken : 
 onto_taken parsed others None = none_taken parsed others
 onto_taken parsed others (Some word) = refl
 
-pub onto_words : (parsed : Bool) (others : List (Argument (List ℕ))) (taken : Option (Argument (List ℕ))) (extent : Extent) → extent ≡ extent_of (parts None parsed others)
-    → take extent.words others ≡ (taken_onto taken (parts None parsed others)).words
-onto_words parsed others None extent e = rw e (words_taken parsed others)
-onto_words parsed others (Some word) extent e = rw e (words_taken parsed others)
+pub onto_words : (parsed : Bool) (others : List (Argument (List ℕ))) (taken : Option (Argument (List ℕ))) (span : WordSpan) → span ≡ span_of (parts None parsed others)
+    → take span.words others ≡ (taken_onto taken (parts None parsed others)).words
+onto_words parsed others None span e = rw e (words_taken parsed others)
+onto_words parsed others (Some word) span e = rw e (words_taken parsed others)
 
-pub onto_rest : (parsed : Bool) (others after : List (Argument (List ℕ))) (taken : Option (Argument (List ℕ))) (extent : Extent)
-    → extent ≡ extent_of (parts None parsed others) → after ≡ drop extent.words others
+pub onto_rest : (parsed : Bool) (others after : List (Argument (List ℕ))) (taken : Option (Argument (List ℕ))) (span : WordSpan)
+    → span ≡ span_of (parts None parsed others) → after ≡ drop span.words others
     → parts None true after ≡ rest_parts (taken_onto taken (parts None parsed others))
-onto_rest parsed others after None extent e a = rw (a, e) (rest_goes_on parsed others)
-onto_rest parsed others after (Some word) extent e a = rw (a, e) (rest_goes_on parsed others)
+onto_rest parsed others after None span e a = rw (a, e) (rest_goes_on parsed others)
+onto_rest parsed others after (Some word) span e a = rw (a, e) (rest_goes_on parsed others)

@@ -4,7 +4,7 @@ use Rattle.std.specs.Prelude.{ℕ, ◌+◌, ◌==◌, Bool, true, false, ◌&&�
 use Rattle.std.specs.List.{list_all, list_any}
 use Rattle.page_roff_forms.specs.declared.quotes.Argument.{Argument}
 use Rattle.page_sets_mdoc_rows.specs.declared.macros.Inline.{Inline}
-use Rattle.page_sets_mdoc_lines.specs.declared.extents.Extent.{Extent}
+use Rattle.page_sets_mdoc_lines.specs.declared.word_spans.WordSpan.{WordSpan}
 use Rattle.page_sets_mdoc_lines.specs.LineWords.{word_call, is_closing, is_real, takes_next}
 
 -- a macro that a word of the line calls: that word, the word that the macro takes as it stands, and its other words
@@ -95,8 +95,8 @@ has_calls [] = false
 has_calls (call ∷ calls) = true
 
 -- what is known of a macro's words before they are read
-abbrev pub extent_of : LineParts → Extent
-extent_of parts = record {
+abbrev pub span_of : LineParts → WordSpan
+span_of parts = record {
   words = length parts.words;
   inside = front_len is_closing parts.words;
   has_real = list_any is_real parts.words;

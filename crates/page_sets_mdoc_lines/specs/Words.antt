@@ -9,8 +9,8 @@ use Rattle.page_sets_mdoc_lines.specs.Cursors.{IsCursorOf}
 use Rattle.page_sets_mdoc_lines.specs.LineWords.{arguments_after, is_closing, is_real}
 use Rattle.page_sets_mdoc_lines.specs.Parts.{LineParts, front_len, parts, taken_first}
 
-abbrev pub words_seen : List ℕ → Words → List (Argument (List ℕ))
-words_seen text words = take words.count (arguments_after words.cursor.rest text)
+abbrev pub words_view : List ℕ → Words → List (Argument (List ℕ))
+words_view text words = take words.count (arguments_after words.cursor.rest text)
 
 -- the words without the closing delimiters at their end, and only those
 abbrev pub inside : List (Argument (List ℕ)) → List (Argument (List ℕ))
@@ -27,9 +27,9 @@ AreIn text words =
 -- what is known of them is so
 abbrev pub AreKnown : List ℕ → MacroWords → Type 0
 AreKnown text words =
-    (words_seen text words.inside ≡ inside (words_seen text words.all))
-    × (words_seen text words.outside ≡ outside (words_seen text words.all))
-    × (words.has_real ≡ list_any is_real (words_seen text words.all))
+    (words_view text words.inside ≡ inside (words_view text words.all))
+    × (words_view text words.outside ≡ outside (words_view text words.all))
+    × (words.has_real ≡ list_any is_real (words_view text words.all))
 
 -- the parts of a line whose first macro takes this word
 abbrev pub taken_onto : Option (Argument (List ℕ)) → LineParts → LineParts

@@ -2,7 +2,7 @@
 
 ghost use Rattle.std.specs.Prelude.{◌≡◌, ◌≤◌, [], length, MatchBool, IfSome};
 ghost use Rattle.std.specs.List.{list_all};
-ghost use Rattle.page_roff_forms.specs.Arguments.{ReadsNext, argument_seen};
+ghost use Rattle.page_roff_forms.specs.Arguments.{ReadsNext, argument_view};
 ghost use Rattle.page_sets_lines.specs.Fits.{ArgumentFits};
 ghost use Rattle.page_sets_mdoc_lines.specs.LineWords.{arguments_after, is_closing};
 ghost use Rattle.page_sets_mdoc_lines.specs.Cursors.{IsCursorOf};
@@ -58,7 +58,7 @@ impl Cursor {
         requires short { length text.now ≤ LINE }
         requires within { IsCursorOf text.now self.old }
         ensures stands { IsCursorOf text.now self.new }
-        ensures fits { IfSome result (λ argument. ArgumentFits (argument_seen argument)) }
+        ensures fits { IfSome result (λ argument. ArgumentFits (argument_view argument)) }
         ensures next { ReadsNext (arguments_after self.old.rest text.now) result (arguments_after self.new.rest text.now) }
     {
         let (argument, rest) = read_after(text, self.rest)?;

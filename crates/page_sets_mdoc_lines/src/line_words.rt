@@ -3,7 +3,7 @@
 
 ghost use Rattle.std.specs.Prelude.{◌≡◌, ℕ, List, false, MatchBool};
 ghost use Rattle.page_roff_forms.specs.declared.quotes.Argument.{Argument};
-ghost use Rattle.page_roff_forms.specs.Arguments.{argument_seen};
+ghost use Rattle.page_roff_forms.specs.Arguments.{argument_view};
 ghost use Rattle.page_sets_mdoc_lines.specs.LineWords as words;
 
 use page_roff_forms::Argument;
@@ -13,7 +13,7 @@ use page_sets_mdoc_rows::{Delimiter, Inline, Pair, called, delimiter_of};
 #[inline(always)]
 #[tactic(auto, unfolding(crate::specs::LineWords::word_delimiter))]
 pub fn word_delimiter(word: Argument<&[u8]>) -> Option<Delimiter>
-    ensures { result ≡ words.word_delimiter (argument_seen word.entry) }
+    ensures { result ≡ words.word_delimiter (argument_view word.entry) }
 {
     if word.is_quoted() {
         return None;
@@ -24,7 +24,7 @@ pub fn word_delimiter(word: Argument<&[u8]>) -> Option<Delimiter>
 /// What a word calls in a line whose words can; a word with quotes calls nothing.
 #[tactic(auto, unfolding(crate::specs::LineWords::word_call))]
 pub fn word_call(name: Argument<&[u8]>) -> Option<Inline>
-    ensures { result ≡ words.word_call (argument_seen name.entry) }
+    ensures { result ≡ words.word_call (argument_view name.entry) }
 {
     if name.is_quoted() {
         return None;
@@ -36,7 +36,7 @@ pub fn word_call(name: Argument<&[u8]>) -> Option<Inline>
 #[inline(always)]
 #[tactic(auto, unfolding(crate::specs::LineWords::is_closing))]
 pub fn is_closing(word: Argument<&[u8]>) -> bool
-    ensures { result ≡ words.is_closing (argument_seen word.entry) }
+    ensures { result ≡ words.is_closing (argument_view word.entry) }
 {
     matches!(word_delimiter(word), Some(Delimiter::Closing))
 }
@@ -45,14 +45,14 @@ pub fn is_closing(word: Argument<&[u8]>) -> bool
 #[inline(always)]
 #[tactic(auto, unfolding(crate::specs::LineWords::is_real))]
 pub fn is_real(word: Argument<&[u8]>) -> bool
-    ensures { result ≡ words.is_real (argument_seen word.entry) }
+    ensures { result ≡ words.is_real (argument_view word.entry) }
 {
     word_delimiter(word).is_none()
 }
 
 // Whether `Eo` or `Ec` takes a word as its mark.
 fn takes_mark(pair: Pair, word: Argument<&[u8]>) -> bool
-    ensures { result ≡ words.takes_mark pair (argument_seen word.entry) }
+    ensures { result ≡ words.takes_mark pair (argument_view word.entry) }
 {
     match pair {
         Pair::Custom => word_call(word).is_none(),
@@ -75,7 +75,7 @@ pub fn may_take(inline: Inline) -> bool
 /// how authors are parted.
 #[tactic(auto, unfolding(crate::specs::LineWords::takes_next))]
 pub fn takes_next(inline: Inline, word: Argument<&[u8]>) -> bool
-    ensures { result ≡ words.takes_next inline (argument_seen word.entry) }
+    ensures { result ≡ words.takes_next inline (argument_view word.entry) }
 {
     match inline {
         Inline::Prefix => true,

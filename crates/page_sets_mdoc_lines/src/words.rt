@@ -1,16 +1,16 @@
 //! The words of a macro in its line (mdoc(7), "MACRO SYNTAX").
 
 ghost use Rattle.std.specs.Prelude.{◌≡◌, ◌≤◌, length, true, IfSome};
-ghost use Rattle.page_roff_forms.specs.Arguments.{ReadsNext, argument_seen};
-ghost use Rattle.page_sets_lines.specs.Events.{given_seen};
+ghost use Rattle.page_roff_forms.specs.Arguments.{ReadsNext, argument_view};
+ghost use Rattle.page_sets_lines.specs.Events.{given_view};
 ghost use Rattle.page_sets_lines.specs.Fits.{ArgumentFits, GivenFits};
 ghost use Rattle.page_sets_mdoc_lines.specs.LineWords.{arguments_after};
 ghost use Rattle.page_sets_mdoc_lines.specs.Parts.{parts, has_calls, rest_parts};
 ghost use Rattle.page_sets_mdoc_lines.specs.Cursors.{IsCursorOf};
-ghost use Rattle.page_sets_mdoc_lines.specs.Words.{words_seen, AreKnown, AreIn, TakesWord};
+ghost use Rattle.page_sets_mdoc_lines.specs.Words.{words_view, AreKnown, AreIn, TakesWord};
 
 use crate::cursors::Cursor;
-use crate::extents::find_extent;
+use crate::word_spans::find_span;
 use crate::line_words::{may_take, takes_next};
 use page_core_limits::LINE;
 use page_roff_forms::Argument;
@@ -48,7 +48,7 @@ impl Words {
     pub fn from(text: &[u8], cursor: Cursor) -> Words
         requires short { length text.now ≤ LINE }
         ensures cursor { result.cursor ≡ cursor }
-        ensures words { words_seen text.now result ≡ arguments_after cursor.rest text.now }
+        ensures words { words_view text.now result ≡ arguments_after cursor.rest text.now }
     {
         Words {
             count: LINE,
@@ -61,9 +61,9 @@ impl Words {
     pub fn read<'a>(&mut self, text: &'a [u8]) -> Option<Argument<&'a [u8]>>
         requires short { length text.now ≤ LINE }
         requires within { IsCursorOf text.now self.old.cursor }
-        ensures fits { IfSome result (λ word. ArgumentFits (argument_seen word)) }
+        ensures fits { IfSome result (λ word. ArgumentFits (argument_view word)) }
         ensures within { IsCursorOf text.now self.new.cursor }
-        ensures next { ReadsNext (words_seen text.now self.old) result (words_seen text.now self.new) }
+        ensures next { ReadsNext (words_view text.now self.old) result (words_view text.now self.new) }
     {
         if self.count == 0 {
             return None;
@@ -84,8 +84,8 @@ fn take_word(
     requires short { length text.now ≤ LINE }
     requires within { IsCursorOf text.now cursor }
     ensures stands { IsCursorOf text.now result.1 }
-    ensures fits { GivenFits (given_seen result.0) }
-    ensures takes { TakesWord begun (arguments_after cursor.rest text.now) (given_seen result.0)
+    ensures fits { GivenFits (given_view result.0) }
+    ensures takes { TakesWord begun (arguments_after cursor.rest text.now) (given_view result.0)
         (arguments_after result.1.rest text.now) }
 {
     let Some(inline) = begun else {
@@ -111,19 +111,19 @@ pub fn find_words(
 ) -> MacroWords<'_>
     requires short { length text.now ≤ LINE }
     requires within { IsCursorOf text.now cursor }
-    ensures fits { GivenFits (given_seen result.taken) }
+    ensures fits { GivenFits (given_view result.taken) }
     ensures stand { AreIn text.now result }
     ensures known { AreKnown text.now result }
-    ensures taken { given_seen result.taken ≡ (parts begun parsed (arguments_after cursor.rest text.now)).taken }
-    ensures words { words_seen text.now result.all ≡ (parts begun parsed (arguments_after cursor.rest text.now)).words }
+    ensures taken { given_view result.taken ≡ (parts begun parsed (arguments_after cursor.rest text.now)).taken }
+    ensures words { words_view text.now result.all ≡ (parts begun parsed (arguments_after cursor.rest text.now)).words }
     ensures follows { result.follows ≡ has_calls (parts begun parsed (arguments_after cursor.rest text.now)).calls }
     ensures rest { parts None true (arguments_after result.rest.rest text.now)
         ≡ rest_parts (parts begun parsed (arguments_after cursor.rest text.now)) }
 {
     let (taken, ahead) = take_word(text, begun, cursor);
-    let found = find_extent(text, ahead, parsed);
-    let count = found.extent.words as usize;
-    let inside = found.extent.inside as usize;
+    let found = find_span(text, ahead, parsed);
+    let count = found.span.words as usize;
+    let inside = found.span.inside as usize;
     MacroWords {
         taken,
         all: Words {
@@ -138,8 +138,8 @@ pub fn find_words(
             count: count.saturating_sub(inside),
             cursor: found.outside,
         },
-        has_real: found.extent.has_real,
-        follows: found.extent.follows,
+        has_real: found.span.has_real,
+        follows: found.span.follows,
         rest: found.rest,
     }
 }

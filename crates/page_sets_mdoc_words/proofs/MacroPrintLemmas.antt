@@ -22,7 +22,7 @@ use Rattle.page_sets_mdoc_words.proofs.PrintLemmas.{Prints, both, bsd_prints, fi
 -- ---- a macro with all its words
 
 -- one event, and then the words
-first_prints : (line : List ℕ) (number : ℕ) (event : Event (List ℕ)) (words : List (Argument (List ℕ))) → is_word event.deed ≡ false → HasSlices line event.deed
+first_prints : (line : List ℕ) (number : ℕ) (event : Event (List ℕ)) (words : List (Argument (List ℕ))) → is_word event.kind ≡ false → HasSlices line event.kind
     → AreArguments line words → Prints line 2 words (event ∷ printed number None words)
 first_prints line number event words w s h = own_first line 0 2 words event (printed number None words) w s (omega arith) (printed_prints line number None words h)
 
@@ -41,7 +41,7 @@ with_words_print line more number column name words events m n h p =
     either_prints line 2 (list_any is_real words) words events _ (more_events line more 2 words events m p) (refused_prints line number column name words n h)
 
 or_lone_prints : (line : List ℕ) (number : ℕ) (event : Bool → Event (List ℕ)) (words : List (Argument (List ℕ))) (events : List (Event (List ℕ)))
-    → ((is_last : Bool) → is_word (event is_last).deed ≡ false) → ((is_last : Bool) → HasSlices line (event is_last).deed)
+    → ((is_last : Bool) → is_word (event is_last).kind ≡ false) → ((is_last : Bool) → HasSlices line (event is_last).kind)
     → AreArguments line words → Prints line 0 words events
     → Prints line 2 words (if list_any is_real words then events else lone number event words)
 or_lone_prints line number event words events w s h p =
@@ -65,7 +65,7 @@ link_prints line number column words h =
 abbrev pub own_arguments : Option (Argument (List ℕ)) → List (Argument (List ℕ)) → List (Argument (List ℕ))
 own_arguments taken words = as_list taken ++ words
 
--- a word that is taken and gives nothing of its own
+-- a word that is taken and gives nothing of its text
 skipped : (line : List ℕ) (more : ℕ) (taken : Option (Argument (List ℕ))) (words : List (Argument (List ℕ))) (events : List (Event (List ℕ)))
     → Prints line more words events → Prints line more (own_arguments taken words) events
 skipped line more None words events p = p

@@ -5,8 +5,8 @@ use Rattle.std.proofs.lemmas.List.{take-append-drop}
 use Rattle.page_core_base.specs.declared.cells.Font.{Font}
 use Rattle.page_core_base.specs.declared.cells.Font.TheVariants.{B, I}
 use Rattle.page_roff_forms.specs.declared.quotes.Argument.{Argument}
-use Rattle.page_sets_lines.specs.declared.events.Deed.{Deed}
-use Rattle.page_sets_lines.specs.declared.events.Deed.TheVariants as deeds
+use Rattle.page_sets_lines.specs.declared.events.EventKind.{EventKind}
+use Rattle.page_sets_lines.specs.declared.events.EventKind.TheVariants as kinds
 use Rattle.page_sets_lines.specs.declared.events.Event.{Event}
 use Rattle.page_sets_lines.specs.ControlLines.{is_unclosed}
 use Rattle.page_sets_lines.specs.Laws.{IsArgument, HasSlices, AreSlices}
@@ -18,7 +18,7 @@ use Rattle.page_sets_mdoc_lines.specs.LineWords.{word_delimiter, is_real}
 use Rattle.page_sets_mdoc_words.specs.Printed.{word_or_delimiter, real_word, printed_word, printed, is_opening}
 use Rattle.page_sets_mdoc_words.specs.Inlines.{lone, named, flags, section, reference, more_arguments, arguments, function_words, function_end, next_arguments, function_opened, bsd, address, link_words, missing_quote}
 use Rattle.page_sets_lines.specs.declared.line_steps.SynopsisStep.{SynopsisStep}
-use Rattle.page_sets_names.specs.declared.own_texts.Own.{Own}
+use Rattle.page_sets_names.specs.declared.generated_texts.GeneratedText.{GeneratedText}
 use Rattle.page_sets_mdoc_rows.specs.declared.blocks.Sentence.{Sentence}
 use Rattle.page_sets_mdoc_words.specs.declared.sentences.NameCount.{NameCount}
 use Rattle.page_sets_mdoc_words.specs.declared.sentences.NameCount.TheVariants as counts
@@ -32,15 +32,15 @@ pub record Prints (line : List ℕ) (more : ℕ) (words : List (Argument (List �
   pub few : length events ≤ 2 * length words + more
 
 -- what is no word takes no argument
-nothing_taken : (deed : Deed (List ℕ)) (arguments : List (Argument (List ℕ))) → is_word deed ≡ false → Takes deed arguments arguments
-nothing_taken (deeds.Word word) arguments h = let no : ⊥ = cc in absurd no
-nothing_taken (deeds.Open opener) arguments h = refl
-nothing_taken (deeds.Close closer) arguments h = refl
-nothing_taken (deeds.LineScope opener) arguments h = refl
-nothing_taken (deeds.Leaf leaf) arguments h = refl
-nothing_taken (deeds.Raw text) arguments h = refl
-nothing_taken (deeds.End fills) arguments h = refl
-nothing_taken (deeds.Note kind detail is_quoted begins_body) arguments h = refl
+nothing_taken : (kind : EventKind (List ℕ)) (arguments : List (Argument (List ℕ))) → is_word kind ≡ false → Takes kind arguments arguments
+nothing_taken (kinds.Word word) arguments h = let no : ⊥ = cc in absurd no
+nothing_taken (kinds.Open opener) arguments h = refl
+nothing_taken (kinds.Close closer) arguments h = refl
+nothing_taken (kinds.LineScope opener) arguments h = refl
+nothing_taken (kinds.Leaf leaf) arguments h = refl
+nothing_taken (kinds.Raw text) arguments h = refl
+nothing_taken (kinds.End fills) arguments h = refl
+nothing_taken (kinds.Note kind detail is_quoted begins_body) arguments h = refl
 
 -- ---- one event
 
@@ -51,25 +51,25 @@ pub more_events : (line : List ℕ) (more most : ℕ) (words : List (Argument (L
     → more ≤ most → Prints line more words events → Prints line most words events
 more_events line more most words events h p = record { slices = p.slices; order = p.order; few = let few = p.few in omega (arith, few, h) }
 
--- a text of the macro's own, or a change
+-- a text of the macro's text, or a change
 pub own_first : (line : List ℕ) (more most : ℕ) (words : List (Argument (List ℕ))) (event : Event (List ℕ)) (events : List (Event (List ℕ)))
-    → is_word event.deed ≡ false → HasSlices line event.deed → 1 + more ≤ most → Prints line more words events → Prints line most words (event ∷ events)
+    → is_word event.kind ≡ false → HasSlices line event.kind → 1 + more ≤ most → Prints line more words events → Prints line most words (event ∷ events)
 own_first line more most words event events w h m p = record {
   slices = (h, p.slices);
-  order = (words, nothing_taken event.deed words w, p.order);
+  order = (words, nothing_taken event.kind words w, p.order);
   few = let few = p.few in omega (arith, few, m);
 }
 
 -- an event with the first word
 pub word_first : (line : List ℕ) (more : ℕ) (word : Argument (List ℕ)) (words : List (Argument (List ℕ))) (event : Event (List ℕ)) (events : List (Event (List ℕ)))
-    → HasSlices line event.deed → Takes event.deed (word ∷ words) words → Prints line more words events → Prints line more (word ∷ words) (event ∷ events)
+    → HasSlices line event.kind → Takes event.kind (word ∷ words) words → Prints line more words events → Prints line more (word ∷ words) (event ∷ events)
 word_first line more word words event events h t p = record {
   slices = (h, p.slices);
   order = (words, t, p.order);
   few = let few = p.few in omega (arith, few);
 }
 
--- a word that gives no event of its own
+-- a word that gives no event of its text
 pub word_passed : (line : List ℕ) (more : ℕ) (word : Argument (List ℕ)) (words : List (Argument (List ℕ))) (events : List (Event (List ℕ)))
     → Prints line (more + 2) words events → Prints line more (word ∷ words) events
 word_passed line more word words events p = record {
@@ -99,7 +99,7 @@ first_taken word words = record { before = []; split = refl }
 
 printed_by : (line : List ℕ) (number : ℕ) (font : Option Font) (delimiter : Option Delimiter) (word : Argument (List ℕ)) (words : List (Argument (List ℕ)))
     → IsArgument line word
-    → HasSlices line (word_or_delimiter number font delimiter word).deed × Takes (word_or_delimiter number font delimiter word).deed (word ∷ words) words
+    → HasSlices line (word_or_delimiter number font delimiter word).kind × Takes (word_or_delimiter number font delimiter word).kind (word ∷ words) words
 printed_by line number font None word words h = (h, first_taken word words)
 printed_by line number font (Some Opening) word words h = (h, first_taken word words)
 printed_by line number font (Some Middle) word words h = (h, first_taken word words)
@@ -113,25 +113,25 @@ printed_first line more number font word words events h p =
 
 -- a mark and then a word
 pub marked_first : (line : List ℕ) (more number : ℕ) (font : Option Font) (event : Event (List ℕ)) (word : Argument (List ℕ)) (words : List (Argument (List ℕ))) (events : List (Event (List ℕ)))
-    → is_word event.deed ≡ false → HasSlices line event.deed → IsArgument line word → Prints line more words events
+    → is_word event.kind ≡ false → HasSlices line event.kind → IsArgument line word → Prints line more words events
     → Prints line more (word ∷ words) (event ∷ printed_word number font word ∷ events)
 marked_first line more number font event word words events w s h p =
     let k = printed_by line number font (word_delimiter word) word words h in
     record {
       slices = (s, (k.0, p.slices));
-      order = (word ∷ words, nothing_taken event.deed (word ∷ words) w, (words, k.1, p.order));
+      order = (word ∷ words, nothing_taken event.kind (word ∷ words) w, (words, k.1, p.order));
       few = let few = p.few in omega (arith, few);
     }
 
 -- a word and then a mark
 pub word_marked : (line : List ℕ) (more number : ℕ) (font : Option Font) (event : Event (List ℕ)) (word : Argument (List ℕ)) (words : List (Argument (List ℕ))) (events : List (Event (List ℕ)))
-    → is_word event.deed ≡ false → HasSlices line event.deed → IsArgument line word → Prints line more words events
+    → is_word event.kind ≡ false → HasSlices line event.kind → IsArgument line word → Prints line more words events
     → Prints line more (word ∷ words) (printed_word number font word ∷ event ∷ events)
 word_marked line more number font event word words events w s h p =
     let k = printed_by line number font (word_delimiter word) word words h in
     record {
       slices = (k.0, (s, p.slices));
-      order = (words, k.1, (words, nothing_taken event.deed words w, p.order));
+      order = (words, k.1, (words, nothing_taken event.kind words w, p.order));
       few = let few = p.few in omega (arith, few);
     }
 
@@ -144,7 +144,7 @@ printed_prints line number font (word ∷ words) h =
 -- ---- macros by their rows
 
 pub lone_prints : (line : List ℕ) (number : ℕ) (event : Bool → Event (List ℕ)) (words : List (Argument (List ℕ)))
-    → ((is_last : Bool) → is_word (event is_last).deed ≡ false) → ((is_last : Bool) → HasSlices line (event is_last).deed)
+    → ((is_last : Bool) → is_word (event is_last).kind ≡ false) → ((is_last : Bool) → HasSlices line (event is_last).kind)
     → AreArguments line words → Prints line 1 words (lone number event words)
 lone_prints line number event [] w s h = own_first line 0 1 [] (event true) [] (w true) (s true) (omega arith) (no_event line 0 [])
 lone_prints line number event (word ∷ words) w s h =
@@ -316,11 +316,11 @@ include_prints line number column (word ∷ words) h =
 -- ---- `Ex`, `Rv`
 
 -- what is glued to a name takes the room of an argument's second event
-name_first : (line : List ℕ) (more number column : ℕ) (mark : Option Own) (name : Argument (List ℕ)) (names : List (Argument (List ℕ))) (events : List (Event (List ℕ)))
+name_first : (line : List ℕ) (more number column : ℕ) (mark : Option GeneratedText) (name : Argument (List ℕ)) (names : List (Argument (List ℕ))) (events : List (Event (List ℕ)))
     → IsArgument line name → Prints line more names events
     → Prints line more (name ∷ names) (real_word number (Some B) name ∷ marked number column mark events)
 name_first line more number column None name names events h p = word_first line more name names _ events h (first_taken name names) p
-name_first line more number column (Some own) name names events h p = record {
+name_first line more number column (Some text) name names events h p = record {
   slices = (h, (tt, p.slices));
   order = (names, first_taken name names, (names, refl, p.order));
   few = let few = p.few in omega (arith, few);
@@ -348,10 +348,10 @@ names_print line number column sentence all (name ∷ second ∷ third ∷ fourt
     name_first line 2 number column (name_mark sentence (has_comma all counts.More)) name (second ∷ third ∷ fourth ∷ names) _ h.0
     (names_print line number column sentence all (second ∷ third ∷ fourth ∷ names) h.1)
 
-marked_prints : (line : List ℕ) (more number column : ℕ) (mark : Option Own) (words : List (Argument (List ℕ))) (events : List (Event (List ℕ)))
+marked_prints : (line : List ℕ) (more number column : ℕ) (mark : Option GeneratedText) (words : List (Argument (List ℕ))) (events : List (Event (List ℕ)))
     → Prints line more words events → Prints line (more + 1) words (marked number column mark events)
 marked_prints line more number column None words events p = more_events line more (more + 1) words events (omega arith) p
-marked_prints line more number column (Some own) words events p = own_first line more (more + 1) words _ events refl tt (omega arith) p
+marked_prints line more number column (Some text) words events p = own_first line more (more + 1) words _ events refl tt (omega arith) p
 
 given_names_print : (line : List ℕ) (number column : ℕ) (sentence : Sentence) (names : List (Argument (List ℕ))) → AreArguments line names
     → Prints line 3 names (given_names number column sentence names)

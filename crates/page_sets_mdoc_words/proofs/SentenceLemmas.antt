@@ -1,7 +1,7 @@
 -- What is glued to a name, and the word before the last: helpers of proofs.
 use Rattle.std.proofs.Common.{◌≡◌, ℕ, List, [], ◌∷◌, ◌++◌, Option, None, Some, false, refl, if◌then◌else◌}
 use Rattle.page_sets_lines.specs.declared.events.Event.{Event}
-use Rattle.page_sets_names.specs.declared.own_texts.Own.{Own}
+use Rattle.page_sets_names.specs.declared.generated_texts.GeneratedText.{GeneratedText}
 use Rattle.page_sets_mdoc_words.specs.declared.sentences.NameCount.{NameCount}
 use Rattle.page_sets_mdoc_words.specs.declared.sentences.NameCount.TheVariants as counts
 use Rattle.page_roff_forms.specs.declared.quotes.Argument.{Argument}
@@ -16,14 +16,14 @@ and_goes_on number column counts.One events = refl
 and_goes_on number column counts.Two events = refl
 and_goes_on number column counts.More events = refl
 
-pub name_goes_on : (number column : ℕ) (mark : Option Own) (left : NameCount) (events : List (Event (List ℕ)))
+pub name_goes_on : (number column : ℕ) (mark : Option GeneratedText) (left : NameCount) (events : List (Event (List ℕ)))
     → marked number column mark (joined number column left events) ≡ marked number column mark [] ++ (joined number column left [] ++ events)
 name_goes_on number column None left events = and_goes_on number column left events
-name_goes_on number column (Some own) left events = rw (and_goes_on number column left events) refl
+name_goes_on number column (Some text) left events = rw (and_goes_on number column left events) refl
 
-marked_goes_on : (number column : ℕ) (mark : Option Own) (events : List (Event (List ℕ))) → marked number column mark events ≡ marked number column mark [] ++ events
+marked_goes_on : (number column : ℕ) (mark : Option GeneratedText) (events : List (Event (List ℕ))) → marked number column mark events ≡ marked number column mark [] ++ events
 marked_goes_on number column None events = refl
-marked_goes_on number column (Some own) events = refl
+marked_goes_on number column (Some text) events = refl
 
 pub given_by : (number column : ℕ) (sentence : Sentence) (names : List (Argument (List ℕ)))
     → given_names number column sentence names

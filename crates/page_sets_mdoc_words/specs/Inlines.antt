@@ -8,10 +8,10 @@ use Rattle.page_sets_lines.specs.declared.blocks.BlockOpener.TheVariants as open
 use Rattle.page_sets_lines.specs.declared.blocks.BlockCloser.TheVariants as closers
 use Rattle.page_sets_lines.specs.declared.events.Join.TheVariants.{Apart, Glued}
 use Rattle.page_sets_lines.specs.declared.events.Role.TheVariants as roles
-use Rattle.page_sets_lines.specs.declared.events.Deed.TheVariants as deeds
+use Rattle.page_sets_lines.specs.declared.events.EventKind.TheVariants as kinds
 use Rattle.page_sets_lines.specs.declared.events.Event.{Event}
-use Rattle.page_sets_names.specs.declared.own_texts.Own.{Own}
-use Rattle.page_sets_names.specs.declared.own_texts.Own.TheVariants as owns
+use Rattle.page_sets_names.specs.declared.generated_texts.GeneratedText.{GeneratedText}
+use Rattle.page_sets_names.specs.declared.generated_texts.GeneratedText.TheVariants as owns
 use Rattle.page_sets_lines.specs.declared.line_steps.LineStep.TheVariants as steps
 use Rattle.page_sets_lines.specs.declared.openers.LineOpener.TheVariants as lines
 use Rattle.page_sets_lines.specs.declared.openers.Opener.TheVariants as begins
@@ -28,13 +28,13 @@ use Rattle.page_sets_mdoc_rows.specs.declared.macros.Inline.{Inline}
 use Rattle.page_sets_mdoc_rows.specs.declared.macros.Inline.TheVariants as inlines
 use Rattle.page_sets_mdoc_lines.specs.LineWords.{is_real}
 use Rattle.page_sets_mdoc_lines.specs.Words.{inside, outside}
-use Rattle.page_sets_mdoc_words.specs.Printed.{word_event, printed_word, printed, own_word, step_event, is_opening}
+use Rattle.page_sets_mdoc_words.specs.Printed.{word_event, printed_word, printed, generated_word, step_event, is_opening}
 
 -- ---- macros without words
 
 -- a message that names the macro
 abbrev pub empty_macro : ℕ → ℕ → List ℕ → Event (List ℕ)
-empty_macro number column name = event_at number column (deeds.Note EmptyMacro name false false)
+empty_macro number column name = event_at number column (kinds.Note EmptyMacro name false false)
 
 abbrev pub refused : ℕ → ℕ → List ℕ → List (Argument (List ℕ)) → List (Event (List ℕ))
 refused number column name words = empty_macro number column name ∷ printed number None words
@@ -63,24 +63,24 @@ named number column (word ∷ words) =
 abbrev pub manual_name : ℕ → ℕ → Bool → Event (List ℕ)
 manual_name number column is_last = step_event number column steps.ManualName
 
-abbrev pub default_own : Defaulted → Own
-default_own defaults.Files = owns.Files
-default_own defaults.Home = owns.Home
+abbrev pub default_text : Defaulted → GeneratedText
+default_text defaults.Files = owns.Files
+default_text defaults.Home = owns.Home
 
 abbrev pub default_word : ℕ → ℕ → Defaulted → Bool → Event (List ℕ)
-default_word number column default is_last = own_word number column (default_own default) (Some I) Apart Apart
+default_word number column default is_last = generated_word number column (default_text default) (Some I) Apart Apart
 
 -- each flag has a dash before it
 abbrev pub flags : ℕ → List (Argument (List ℕ)) → List (Event (List ℕ))
 flags number [] = []
 flags number (word ∷ words) =
-    if is_real word then own_word number word.column owns.Dash (Some B) Apart Glued ∷ printed_word number (Some B) word ∷ flags number words
+    if is_real word then generated_word number word.column owns.Dash (Some B) Apart Glued ∷ printed_word number (Some B) word ∷ flags number words
     else printed_word number None word ∷ flags number words
 
 -- a dash alone is glued to what a call right after it prints
 abbrev pub lone_dash : ℕ → ℕ → Bool → Bool → Event (List ℕ)
 lone_dash number column follows is_last =
-    own_word number column (if is_last && follows then owns.JoinedFlag else owns.Flag) (Some B) Apart Apart
+    generated_word number column (if is_last && follows then owns.JoinedFlag else owns.Flag) (Some B) Apart Apart
 
 -- ---- `Xr`
 
@@ -89,9 +89,9 @@ abbrev pub section : ℕ → List (Argument (List ℕ)) → List (Event (List �
 section number [] = []
 section number (word ∷ words) =
     if is_real word then
-    own_word number word.column owns.OpenParenthesis None Glued Glued
+    generated_word number word.column owns.OpenParenthesis None Glued Glued
     ∷ printed_word number None word
-    ∷ own_word number word.column owns.CloseParenthesis None Glued Apart
+    ∷ generated_word number word.column owns.CloseParenthesis None Glued Apart
     ∷ printed number None words
     else printed_word number None word ∷ section number words
 
@@ -106,7 +106,7 @@ reference number (word ∷ words) =
 abbrev pub more_arguments : ℕ → ℕ → List (Argument (List ℕ)) → List (Event (List ℕ))
 more_arguments number column [] = []
 more_arguments number column (word ∷ words) =
-    if is_real word then own_word number column owns.Comma None Glued Apart ∷ printed_word number (Some I) word ∷ more_arguments number column words
+    if is_real word then generated_word number column owns.Comma None Glued Apart ∷ printed_word number (Some I) word ∷ more_arguments number column words
     else printed_word number (Some I) word ∷ more_arguments number column words
 
 abbrev pub arguments : ℕ → ℕ → List (Argument (List ℕ)) → List (Event (List ℕ))
@@ -115,7 +115,7 @@ arguments number column (word ∷ words) =
     printed_word number (Some I) word ∷ (if is_real word then more_arguments number column words else arguments number column words)
 
 abbrev pub arguments_begin : ℕ → ℕ → Event (List ℕ)
-arguments_begin number column = own_word number column owns.OpenParenthesis None Glued Glued
+arguments_begin number column = generated_word number column owns.OpenParenthesis None Glued Glued
 
 -- the name of the function, and then its arguments
 abbrev pub function_words : ℕ → ℕ → List (Argument (List ℕ)) → List (Event (List ℕ))
@@ -141,7 +141,7 @@ next_arguments number column (word ∷ words) =
     else printed_word number None word ∷ next_arguments number column words
 
 abbrev pub opens_function : ℕ → ℕ → Argument (List ℕ) → Event (List ℕ)
-opens_function number column name = event_at number column (deeds.Open (begins.Block (openers.Function name)))
+opens_function number column name = event_at number column (kinds.Open (begins.Block (openers.Function name)))
 
 -- the first word that is no delimiter is the name of a function that goes on over lines
 abbrev pub function_opened : ℕ → ℕ → List (Argument (List ℕ)) → List (Event (List ℕ))
@@ -152,29 +152,29 @@ function_opened number column (word ∷ words) =
 
 -- ---- `Bsx Dx Fx Nx Ox Ux Bx`
 
-abbrev pub system_own : System → Own
-system_own systems.BsdOs = owns.BsdOs
-system_own systems.DragonFly = owns.DragonFly
-system_own systems.FreeBsd = owns.FreeBsd
-system_own systems.NetBsd = owns.NetBsd
-system_own systems.OpenBsd = owns.OpenBsd
-system_own systems.Unix = owns.Unix
+abbrev pub system_text : System → GeneratedText
+system_text systems.BsdOs = owns.BsdOs
+system_text systems.DragonFly = owns.DragonFly
+system_text systems.FreeBsd = owns.FreeBsd
+system_text systems.NetBsd = owns.NetBsd
+system_text systems.OpenBsd = owns.OpenBsd
+system_text systems.Unix = owns.Unix
 
 abbrev pub system_word : ℕ → ℕ → System → Event (List ℕ)
-system_word number column system = own_word number column (system_own system) None Apart Apart
+system_word number column system = generated_word number column (system_text system) None Apart Apart
 
 -- a version stands before its name
 abbrev pub bsd : ℕ → ℕ → List (Argument (List ℕ)) → List (Event (List ℕ))
-bsd number column [] = own_word number column owns.Bsd None Apart Apart ∷ []
+bsd number column [] = generated_word number column owns.Bsd None Apart Apart ∷ []
 bsd number column (word ∷ words) =
-    if is_real word then printed_word number None word ∷ own_word number column owns.Bsd None Glued Apart ∷ printed number None words
+    if is_real word then printed_word number None word ∷ generated_word number column owns.Bsd None Glued Apart ∷ printed number None words
     else if is_opening word then printed_word number None word ∷ bsd number column words
-    else own_word number column owns.Bsd None Apart Apart ∷ printed number None (word ∷ words)
+    else generated_word number column owns.Bsd None Apart Apart ∷ printed number None (word ∷ words)
 
 -- ---- `Lk`
 
 abbrev pub colon : ℕ → ℕ → Event (List ℕ)
-colon number column = own_word number column owns.Colon None Glued Apart
+colon number column = generated_word number column owns.Colon None Glued Apart
 
 abbrev pub uri_event : ℕ → ℕ → Argument (List ℕ) → Event (List ℕ)
 uri_event number column uri = step_event number column (steps.Uri uri)
@@ -199,7 +199,7 @@ link number column words = link_words number column (inside words) ++ printed nu
 -- an option that prints nothing may lack its last quote
 abbrev pub missing_quote : ℕ → Argument (List ℕ) → List (Event (List ℕ))
 missing_quote number option =
-    if is_unclosed option.quoting then event_at number (option.column - 1) (deeds.Note Unterminated [] false false) ∷ [] else []
+    if is_unclosed option.quoting then event_at number (option.column - 1) (kinds.Note Unterminated [] false false) ∷ [] else []
 
 -- the option counts as a word
 abbrev pub author : ℕ → ℕ → List ℕ → Option (Argument (List ℕ)) → List (Argument (List ℕ)) → List (Event (List ℕ))
@@ -216,27 +216,27 @@ prefix number column name (Some word) words = prefix_word number word ∷ printe
 -- ---- enclosures
 
 abbrev pub opens_custom : ℕ → ℕ → Option (Argument (List ℕ)) → Event (List ℕ)
-opens_custom number column mark = event_at number column (deeds.Open (begins.Block (openers.Custom mark)))
+opens_custom number column mark = event_at number column (kinds.Open (begins.Block (openers.Custom mark)))
 
 abbrev pub closes_custom : ℕ → ℕ → Option (Argument (List ℕ)) → Event (List ℕ)
-closes_custom number column mark = event_at number column (deeds.Close (ends.Block (closers.Custom mark)))
+closes_custom number column mark = event_at number column (kinds.Close (ends.Block (closers.Custom mark)))
 
 abbrev pub opened : ℕ → ℕ → List ℕ → Pair → Option (Argument (List ℕ)) → List (Argument (List ℕ)) → List (Event (List ℕ))
 opened number column name (pairs.Quotation quotation) taken words =
-    event_at number column (deeds.Open (begins.Block (openers.Quotation quotation))) ∷ printed number None words
+    event_at number column (kinds.Open (begins.Block (openers.Quotation quotation))) ∷ printed number None words
 opened number column name pairs.Custom taken words = opens_custom number column taken ∷ printed number None words
 opened number column name pairs.Extension taken words =
-    event_at number column (deeds.Open (begins.Block openers.Extension)) ∷ printed number None words
+    event_at number column (kinds.Open (begins.Block openers.Extension)) ∷ printed number None words
 opened number column name pairs.Function taken words = with_words number column name words (function_opened number column words)
 
 abbrev pub closed : ℕ → ℕ → Pair → Option (Argument (List ℕ)) → List (Argument (List ℕ)) → List (Event (List ℕ))
 closed number column (pairs.Quotation quotation) taken words =
-    event_at number column (deeds.Close (ends.Block (closers.Quotation quotation))) ∷ printed number None words
+    event_at number column (kinds.Close (ends.Block (closers.Quotation quotation))) ∷ printed number None words
 closed number column pairs.Custom taken words = closes_custom number column taken ∷ printed number None words
 closed number column pairs.Extension taken words =
-    event_at number column (deeds.Close (ends.Block closers.Extension)) ∷ printed number None words
+    event_at number column (kinds.Close (ends.Block closers.Extension)) ∷ printed number None words
 closed number column pairs.Function taken words =
-    event_at number column (deeds.Close (ends.Block closers.Function)) ∷ printed number None words
+    event_at number column (kinds.Close (ends.Block closers.Function)) ∷ printed number None words
 
 -- ---- all of them
 
@@ -260,10 +260,10 @@ inline_events number column name inlines.Bsd taken words follows = bsd number co
 inline_events number column name inlines.Link taken words follows = with_words number column name words (link number column words)
 inline_events number column name inlines.NoSpace taken words follows = step_event number column steps.Glue ∷ printed number None words
 inline_events number column name inlines.Apostrophe taken words follows =
-    own_word number column owns.Apostrophe None Glued Glued ∷ printed number None words
+    generated_word number column owns.Apostrophe None Glued Glued ∷ printed number None words
 inline_events number column name inlines.NextColumn taken words follows = step_event number column steps.NextColumn ∷ printed number None words
 inline_events number column name inlines.Prefix taken words follows = prefix number column name taken words
 inline_events number column name (inlines.Enclosure marks) taken words follows =
-    event_at number column (deeds.LineScope (lines.Enclosure marks)) ∷ printed number None words
+    event_at number column (kinds.LineScope (lines.Enclosure marks)) ∷ printed number None words
 inline_events number column name (inlines.Opens pair) taken words follows = opened number column name pair taken words
 inline_events number column name (inlines.Closes pair) taken words follows = closed number column pair taken words

@@ -7,9 +7,9 @@ use Rattle.page_sets_lines.specs.declared.events.Join.{Join}
 use Rattle.page_sets_lines.specs.declared.events.Join.TheVariants.{Apart, Glued}
 use Rattle.page_sets_lines.specs.declared.events.Role.{Role}
 use Rattle.page_sets_lines.specs.declared.events.Role.TheVariants as roles
-use Rattle.page_sets_lines.specs.declared.events.Deed.TheVariants as deeds
+use Rattle.page_sets_lines.specs.declared.events.EventKind.TheVariants as kinds
 use Rattle.page_sets_lines.specs.declared.events.Event.{Event}
-use Rattle.page_sets_names.specs.declared.own_texts.Own.{Own}
+use Rattle.page_sets_names.specs.declared.generated_texts.GeneratedText.{GeneratedText}
 use Rattle.page_sets_lines.specs.declared.leaves.Leaf.TheVariants as leaves
 use Rattle.page_sets_lines.specs.declared.line_steps.LineStep.{LineStep}
 use Rattle.page_sets_lines.specs.PlainLines.{event_at}
@@ -17,11 +17,11 @@ use Rattle.page_sets_mdoc_rows.specs.declared.delimiters.Delimiter.{Delimiter}
 use Rattle.page_sets_mdoc_rows.specs.declared.delimiters.Delimiter.TheVariants.{Opening, Middle, Closing}
 use Rattle.page_sets_mdoc_lines.specs.LineWords.{word_delimiter}
 
--- an argument as a word, in its own column
+-- an argument as a word, in its text column
 abbrev pub word_event : ℕ → Role → Option Font → Join → Join → Argument (List ℕ) → Event (List ℕ)
 word_event number role font before after word =
     event_at number word.column
-    (deeds.Word (record { arg = word; role = role; font = font; before = before; after = after }))
+    (kinds.Word (record { arg = word; role = role; font = font; before = before; after = after }))
 
 -- a word that is no delimiter, between blanks
 abbrev pub real_word : ℕ → Option Font → Argument (List ℕ) → Event (List ℕ)
@@ -46,13 +46,13 @@ abbrev pub printed : ℕ → Option Font → List (Argument (List ℕ)) → List
 printed number font [] = []
 printed number font (word ∷ words) = printed_word number font word ∷ printed number font words
 
--- a text of the macro's own
-abbrev pub own_word : ℕ → ℕ → Own → Option Font → Join → Join → Event (List ℕ)
-own_word number column own font before after =
-    event_at number column (deeds.Leaf (leaves.Own (record { own = own; font = font; before = before; after = after })))
+-- a text of the macro's text
+abbrev pub generated_word : ℕ → ℕ → GeneratedText → Option Font → Join → Join → Event (List ℕ)
+generated_word number column text font before after =
+    event_at number column (kinds.Leaf (leaves.Generated (record { text = text; font = font; before = before; after = after })))
 
 abbrev pub step_event : ℕ → ℕ → LineStep (List ℕ) → Event (List ℕ)
-step_event number column step = event_at number column (deeds.Leaf (leaves.Step step))
+step_event number column step = event_at number column (kinds.Leaf (leaves.Step step))
 
 abbrev pub opens : Option Delimiter → Bool
 opens (Some Opening) = true

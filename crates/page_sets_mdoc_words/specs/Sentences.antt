@@ -4,8 +4,8 @@ use Rattle.page_core_base.specs.declared.cells.Font.TheVariants.{B}
 use Rattle.page_roff_forms.specs.declared.quotes.Argument.{Argument}
 use Rattle.page_sets_lines.specs.declared.events.Event.{Event}
 use Rattle.page_sets_lines.specs.declared.events.Join.TheVariants.{Apart, Glued}
-use Rattle.page_sets_names.specs.declared.own_texts.Own.{Own}
-use Rattle.page_sets_names.specs.declared.own_texts.Own.TheVariants as owns
+use Rattle.page_sets_names.specs.declared.generated_texts.GeneratedText.{GeneratedText}
+use Rattle.page_sets_names.specs.declared.generated_texts.GeneratedText.TheVariants as owns
 use Rattle.page_sets_lines.specs.declared.line_steps.LineStep.TheVariants as steps
 use Rattle.page_sets_lines.specs.declared.line_steps.SynopsisStep.TheVariants.{Include}
 use Rattle.page_sets_mdoc_rows.specs.declared.blocks.Sentence.{Sentence}
@@ -13,7 +13,7 @@ use Rattle.page_sets_mdoc_rows.specs.declared.blocks.Sentence.TheVariants.{Exit,
 use Rattle.page_sets_mdoc_lines.specs.LineWords.{is_real}
 use Rattle.page_sets_mdoc_words.specs.declared.sentences.NameCount.{NameCount}
 use Rattle.page_sets_mdoc_words.specs.declared.sentences.NameCount.TheVariants as counts
-use Rattle.page_sets_mdoc_words.specs.Printed.{real_word, printed_word, printed, own_word, step_event}
+use Rattle.page_sets_mdoc_words.specs.Printed.{real_word, printed_word, printed, generated_word, step_event}
 use Rattle.page_sets_mdoc_words.specs.Synopses.{synopsis_event}
 
 -- ---- `Ex`, `Rv`
@@ -42,28 +42,28 @@ abbrev pub has_comma : (all left : NameCount) → Bool
 has_comma all left = is_more all && not (is_zero left)
 
 -- what is glued to a name: the parentheses of a function, and the comma
-abbrev pub name_mark : Sentence → Bool → Option Own
+abbrev pub name_mark : Sentence → Bool → Option GeneratedText
 name_mark Exit true = Some owns.Comma
 name_mark Exit false = None
 name_mark Return true = Some owns.CallComma
 name_mark Return false = Some owns.Call
 
 -- the rest of the sentence, of one name or of several
-abbrev pub sentence_end : Sentence → Bool → Own
+abbrev pub sentence_end : Sentence → Bool → GeneratedText
 sentence_end Exit true = owns.UtilitiesExit
 sentence_end Exit false = owns.UtilityExits
 sentence_end Return true = owns.FunctionsReturn
 sentence_end Return false = owns.FunctionReturns
 
-abbrev pub sentence_word : ℕ → ℕ → Own → Event (List ℕ)
-sentence_word number column own = own_word number column own None Apart Apart
+abbrev pub sentence_word : ℕ → ℕ → GeneratedText → Event (List ℕ)
+sentence_word number column text = generated_word number column text None Apart Apart
 
-abbrev pub mark_word : ℕ → ℕ → Own → Event (List ℕ)
-mark_word number column own = own_word number column own None Glued Apart
+abbrev pub mark_word : ℕ → ℕ → GeneratedText → Event (List ℕ)
+mark_word number column text = generated_word number column text None Glued Apart
 
-abbrev pub marked : ℕ → ℕ → Option Own → List (Event (List ℕ)) → List (Event (List ℕ))
+abbrev pub marked : ℕ → ℕ → Option GeneratedText → List (Event (List ℕ)) → List (Event (List ℕ))
 marked number column None events = events
-marked number column (Some own) events = mark_word number column own ∷ events
+marked number column (Some text) events = mark_word number column text ∷ events
 
 -- before the last of several names
 abbrev pub joined : ℕ → ℕ → NameCount → List (Event (List ℕ)) → List (Event (List ℕ))
@@ -95,13 +95,13 @@ sentence_events number column sentence names = sentence_word number column owns.
 abbrev pub file_events : ℕ → ℕ → List (Argument (List ℕ)) → List (Event (List ℕ))
 file_events number column [] = []
 file_events number column (file ∷ words) =
-    printed_word number None file ∷ own_word number column owns.CloseAngle None Glued Apart ∷ printed number None words
+    printed_word number None file ∷ generated_word number column owns.CloseAngle None Glued Apart ∷ printed number None words
 
 abbrev pub include_events : ℕ → ℕ → List (Argument (List ℕ)) → List (Event (List ℕ))
 include_events number column [] = []
 include_events number column (word ∷ words) =
     if is_real word then
     synopsis_event number column Include
-    ∷ own_word number column owns.OpenAngle None Apart Glued
+    ∷ generated_word number column owns.OpenAngle None Apart Glued
     ∷ file_events number column (word ∷ words)
     else printed_word number None word ∷ include_events number column words

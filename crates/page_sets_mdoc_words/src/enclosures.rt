@@ -3,14 +3,14 @@
 
 ghost use Rattle.std.specs.Prelude.{◌≤◌, ◌∷◌, None, length};
 ghost use Rattle.page_core_base.specs.Latches.{Came};
-ghost use Rattle.page_sets_lines.specs.Events.{block_closer_seen, block_opener_seen, given_seen};
+ghost use Rattle.page_sets_lines.specs.Events.{block_closer_view, block_opener_view, given_view};
 ghost use Rattle.page_sets_lines.specs.Fits.{BlockCloserFits, BlockOpenerFits, GivenFits};
 ghost use Rattle.page_sets_lines.specs.PlainLines.{event_at};
-ghost use Rattle.page_sets_lines.specs.declared.events.Deed.TheVariants as deeds;
+ghost use Rattle.page_sets_lines.specs.declared.events.EventKind.TheVariants as kinds;
 ghost use Rattle.page_sets_lines.specs.declared.openers.Opener.TheVariants as begins;
 ghost use Rattle.page_sets_lines.specs.declared.openers.Closer.TheVariants as ends;
 ghost use Rattle.page_sets_mdoc_lines.specs.Cursors.{IsCursorOf};
-ghost use Rattle.page_sets_mdoc_lines.specs.Words.{AreIn, AreKnown, words_seen};
+ghost use Rattle.page_sets_mdoc_lines.specs.Words.{AreIn, AreKnown, words_view};
 ghost use Rattle.page_sets_mdoc_words.specs.Inlines as inlines;
 ghost use Rattle.page_sets_mdoc_words.specs.Printed.{printed};
 
@@ -19,7 +19,7 @@ use crate::plain::{MacroName, give_printed, give_refused};
 use crate::printed::event_at;
 use page_core_limits::LINE;
 use page_roff_forms::Argument;
-use page_sets_lines::{BlockCloser, BlockOpener, Closer, Deed, EventTaker, Opener};
+use page_sets_lines::{BlockCloser, BlockOpener, Closer, EventKind, EventTaker, Opener};
 use page_sets_mdoc_lines::{MacroWords, Words};
 use page_sets_mdoc_rows::Pair;
 
@@ -33,13 +33,13 @@ fn give_opener<'a, O: EventTaker<'a>>(
 )
     requires short { length text.now ≤ LINE }
     requires within { IsCursorOf text.now words.cursor }
-    requires fits { BlockOpenerFits (block_opener_seen opener) }
+    requires fits { BlockOpenerFits (block_opener_view opener) }
     ensures { Came O.left out.old
-        (event_at name.entry.line name.entry.column (deeds.Open (begins.Block (block_opener_seen opener.entry)))
-        ∷ printed name.entry.line None (words_seen text.now words)) out.new }
+        (event_at name.entry.line name.entry.column (kinds.Open (begins.Block (block_opener_view opener.entry)))
+        ∷ printed name.entry.line None (words_view text.now words)) out.new }
 {
-    let deed = Deed::Open(Opener::Block(opener));
-    out.give(event_at(name.line, name.column, deed));
+    let kind = EventKind::Open(Opener::Block(opener));
+    out.give(event_at(name.line, name.column, kind));
     give_printed(out, name.line, None, text, words);
 }
 
@@ -53,13 +53,13 @@ fn give_closer<'a, O: EventTaker<'a>>(
 )
     requires short { length text.now ≤ LINE }
     requires within { IsCursorOf text.now words.cursor }
-    requires fits { BlockCloserFits (block_closer_seen closer) }
+    requires fits { BlockCloserFits (block_closer_view closer) }
     ensures { Came O.left out.old
-        (event_at name.entry.line name.entry.column (deeds.Close (ends.Block (block_closer_seen closer.entry)))
-        ∷ printed name.entry.line None (words_seen text.now words)) out.new }
+        (event_at name.entry.line name.entry.column (kinds.Close (ends.Block (block_closer_view closer.entry)))
+        ∷ printed name.entry.line None (words_view text.now words)) out.new }
 {
-    let deed = Deed::Close(Closer::Block(closer));
-    out.give(event_at(name.line, name.column, deed));
+    let kind = EventKind::Close(Closer::Block(closer));
+    out.give(event_at(name.line, name.column, kind));
     give_printed(out, name.line, None, text, words);
 }
 
@@ -74,9 +74,9 @@ pub(crate) fn give_opened<'a, O: EventTaker<'a>>(
     requires short { length text.now ≤ LINE }
     requires stand { AreIn text.now words }
     requires known { AreKnown text.now words }
-    requires fits { GivenFits (given_seen words.taken) }
+    requires fits { GivenFits (given_view words.taken) }
     ensures { Came O.left out.old (inlines.opened name.entry.line name.entry.column name.entry.text.now pair
-        (given_seen words.entry.taken) (words_seen text.now words.entry.all)) out.new }
+        (given_view words.entry.taken) (words_view text.now words.entry.all)) out.new }
 {
     match pair {
         Pair::Quotation(quotation) => {
@@ -105,9 +105,9 @@ pub(crate) fn give_closed<'a, O: EventTaker<'a>>(
 )
     requires short { length text.now ≤ LINE }
     requires within { IsCursorOf text.now words.cursor }
-    requires fits { GivenFits (given_seen mark) }
+    requires fits { GivenFits (given_view mark) }
     ensures { Came O.left out.old (inlines.closed name.entry.line name.entry.column pair
-        (given_seen mark.entry) (words_seen text.now words)) out.new }
+        (given_view mark.entry) (words_view text.now words)) out.new }
 {
     match pair {
         Pair::Quotation(quotation) => {

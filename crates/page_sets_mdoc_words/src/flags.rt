@@ -3,13 +3,13 @@
 ghost use Rattle.std.specs.Prelude.{◌≤◌, length};
 ghost use Rattle.page_core_base.specs.Latches.{Came};
 ghost use Rattle.page_sets_mdoc_lines.specs.Cursors.{IsCursorOf};
-ghost use Rattle.page_sets_mdoc_lines.specs.Words.{words_seen};
+ghost use Rattle.page_sets_mdoc_lines.specs.Words.{words_view};
 ghost use Rattle.page_sets_mdoc_words.specs.Inlines as inlines;
 
-use crate::printed::{own_word, printed_word};
+use crate::printed::{generated_word, printed_word};
 use page_core_base::Font;
 use page_core_limits::LINE;
-use page_sets_lines::{EventTaker, Join, Own};
+use page_sets_lines::{EventTaker, Join, GeneratedText};
 use page_sets_mdoc_lines::{Words, is_real};
 
 /// A dash before each word that is no delimiter.
@@ -21,15 +21,15 @@ pub(crate) fn give_flags<'a, O: EventTaker<'a>>(
 )
     requires short { length text.now ≤ LINE }
     requires within { IsCursorOf text.now words.cursor }
-    ensures { Came O.left out.old (inlines.flags number (words_seen text.now words)) out.new }
+    ensures { Came O.left out.old (inlines.flags number (words_view text.now words)) out.new }
 {
     let mut left = words;
     while let Some(word) = left.read(text) {
         if is_real(word) {
-            out.give(own_word(
+            out.give(generated_word(
                 number,
                 word.column,
-                Own::Dash,
+                GeneratedText::Dash,
                 Some(Font::B),
                 Join::Apart,
                 Join::Glued,

@@ -3,14 +3,14 @@
 ghost use Rattle.std.specs.Prelude.{◌≤◌, ◌++◌, length};
 ghost use Rattle.page_core_base.specs.Latches.{Came};
 ghost use Rattle.page_sets_mdoc_lines.specs.Cursors.{IsCursorOf};
-ghost use Rattle.page_sets_mdoc_lines.specs.Words.{AreIn, words_seen};
+ghost use Rattle.page_sets_mdoc_lines.specs.Words.{AreIn, words_view};
 ghost use Rattle.page_sets_mdoc_words.specs.Inlines as inlines;
 
 use crate::plain::give_printed;
-use crate::printed::{event_at, own_word, printed_word, step_event};
+use crate::printed::{event_at, generated_word, printed_word, step_event};
 use page_core_base::Font;
 use page_core_limits::LINE;
-use page_sets_lines::{BlockOpener, Deed, EventTaker, Join, LineStep, Opener, Own};
+use page_sets_lines::{BlockOpener, EventKind, EventTaker, Join, LineStep, Opener, GeneratedText};
 use page_sets_mdoc_lines::{MacroWords, Words, is_real};
 
 // The arguments of `Fn`: a comma before each but the first.
@@ -23,14 +23,14 @@ fn give_arguments<'a, O: EventTaker<'a>>(
 )
     requires short { length text.now ≤ LINE }
     requires within { IsCursorOf text.now words.cursor }
-    ensures { Came O.left out.old (inlines.arguments number column (words_seen text.now words)) out.new }
+    ensures { Came O.left out.old (inlines.arguments number column (words_view text.now words)) out.new }
 {
     let mut left = words;
     let mut is_first = true;
     while let Some(word) = left.read(text) {
         if is_real(word) {
             if !is_first {
-                out.give(own_word(number, column, Own::Comma, None, Join::Glued, Join::Apart));
+                out.give(generated_word(number, column, GeneratedText::Comma, None, Join::Glued, Join::Apart));
             }
             is_first = false;
         }
@@ -48,14 +48,14 @@ fn give_function_words<'a, O: EventTaker<'a>>(
 )
     requires short { length text.now ≤ LINE }
     requires within { IsCursorOf text.now words.cursor }
-    ensures { Came O.left out.old (inlines.function_words number column (words_seen text.now words)) out.new }
+    ensures { Came O.left out.old (inlines.function_words number column (words_view text.now words)) out.new }
 {
     let mut left = words;
     while let Some(word) = left.read(text) {
         out.give(printed_word(number, Some(Font::B), word));
         if is_real(word) {
-            let opening = Own::OpenParenthesis;
-            out.give(own_word(number, column, opening, None, Join::Glued, Join::Glued));
+            let opening = GeneratedText::OpenParenthesis;
+            out.give(generated_word(number, column, opening, None, Join::Glued, Join::Glued));
             give_arguments(out, number, column, text, left);
             return;
         }
@@ -72,8 +72,8 @@ pub(crate) fn give_function<'a, O: EventTaker<'a>>(
 )
     requires short { length text.now ≤ LINE }
     requires stand { AreIn text.now words }
-    ensures { Came O.left out.old (inlines.function_words number column (words_seen text.now words.entry.inside)
-        ++ inlines.function_end number column (words_seen text.now words.entry.outside)) out.new }
+    ensures { Came O.left out.old (inlines.function_words number column (words_view text.now words.entry.inside)
+        ++ inlines.function_end number column (words_view text.now words.entry.outside)) out.new }
 {
     give_function_words(out, number, column, text, words.inside);
     out.give(step_event(number, column, LineStep::FunctionEnd));
@@ -90,7 +90,7 @@ pub(crate) fn give_next_arguments<'a, O: EventTaker<'a>>(
 )
     requires short { length text.now ≤ LINE }
     requires within { IsCursorOf text.now words.cursor }
-    ensures { Came O.left out.old (inlines.next_arguments number column (words_seen text.now words)) out.new }
+    ensures { Came O.left out.old (inlines.next_arguments number column (words_view text.now words)) out.new }
 {
     let mut left = words;
     while let Some(word) = left.read(text) {
@@ -113,13 +113,13 @@ pub(crate) fn give_function_opened<'a, O: EventTaker<'a>>(
 )
     requires short { length text.now ≤ LINE }
     requires within { IsCursorOf text.now words.cursor }
-    ensures { Came O.left out.old (inlines.function_opened number column (words_seen text.now words)) out.new }
+    ensures { Came O.left out.old (inlines.function_opened number column (words_view text.now words)) out.new }
 {
     let mut left = words;
     while let Some(word) = left.read(text) {
         if is_real(word) {
             let opener = BlockOpener::Function(word);
-            out.give(event_at(number, column, Deed::Open(Opener::Block(opener))));
+            out.give(event_at(number, column, EventKind::Open(Opener::Block(opener))));
             give_printed(out, number, None, text, left);
             return;
         }

@@ -3,13 +3,13 @@
 ghost use Rattle.std.specs.Prelude.{◌≤◌, length};
 ghost use Rattle.page_core_base.specs.Latches.{Came};
 ghost use Rattle.page_sets_mdoc_lines.specs.Cursors.{IsCursorOf};
-ghost use Rattle.page_sets_mdoc_lines.specs.Words.{words_seen};
+ghost use Rattle.page_sets_mdoc_lines.specs.Words.{words_view};
 ghost use Rattle.page_sets_mdoc_words.specs.Sentences.{include_events};
 
 use crate::plain::give_printed;
-use crate::printed::{own_word, printed_word, step_event};
+use crate::printed::{generated_word, printed_word, step_event};
 use page_core_limits::LINE;
-use page_sets_lines::{EventTaker, Join, LineStep, Own, SynopsisStep};
+use page_sets_lines::{EventTaker, Join, LineStep, GeneratedText, SynopsisStep};
 use page_sets_mdoc_lines::{Words, is_real};
 
 /// Gives the words of `In`: the first that is no delimiter is a file, which stands in angles.
@@ -22,17 +22,17 @@ pub fn give_include<'a, O: EventTaker<'a>>(
 )
     requires short { length text.now ≤ LINE }
     requires within { IsCursorOf text.now words.cursor }
-    ensures { Came O.left out.old (include_events number column (words_seen text.now words)) out.new }
+    ensures { Came O.left out.old (include_events number column (words_view text.now words)) out.new }
 {
     let mut left = words;
     while let Some(word) = left.read(text) {
         if is_real(word) {
             let include = LineStep::Synopsis(SynopsisStep::Include);
-            let (opening, closing) = (Own::OpenAngle, Own::CloseAngle);
+            let (opening, closing) = (GeneratedText::OpenAngle, GeneratedText::CloseAngle);
             out.give(step_event(number, column, include));
-            out.give(own_word(number, column, opening, None, Join::Apart, Join::Glued));
+            out.give(generated_word(number, column, opening, None, Join::Apart, Join::Glued));
             out.give(printed_word(number, None, word));
-            out.give(own_word(number, column, closing, None, Join::Glued, Join::Apart));
+            out.give(generated_word(number, column, closing, None, Join::Glued, Join::Apart));
             give_printed(out, number, None, text, left);
             return;
         }

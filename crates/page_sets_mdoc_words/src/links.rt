@@ -2,19 +2,19 @@
 
 ghost use Rattle.std.specs.Prelude.{◌≤◌, ◌++◌, None, length};
 ghost use Rattle.page_core_base.specs.Latches.{Came};
-ghost use Rattle.page_roff_forms.specs.Arguments.{argument_seen};
+ghost use Rattle.page_roff_forms.specs.Arguments.{argument_view};
 ghost use Rattle.page_sets_lines.specs.Fits.{ArgumentFits};
 ghost use Rattle.page_sets_mdoc_lines.specs.Cursors.{IsCursorOf};
-ghost use Rattle.page_sets_mdoc_lines.specs.Words.{AreIn, words_seen};
+ghost use Rattle.page_sets_mdoc_lines.specs.Words.{AreIn, words_view};
 ghost use Rattle.page_sets_mdoc_words.specs.Inlines as inlines;
 ghost use Rattle.page_sets_mdoc_words.specs.Printed.{printed};
 
 use crate::plain::give_printed;
-use crate::printed::{own_word, printed_word, step_event};
+use crate::printed::{generated_word, printed_word, step_event};
 use page_core_base::Font;
 use page_core_limits::LINE;
 use page_roff_forms::Argument;
-use page_sets_lines::{EventTaker, Join, LineStep, Own};
+use page_sets_lines::{EventTaker, Join, LineStep, GeneratedText};
 use page_sets_mdoc_lines::{MacroWords, Words, is_real};
 
 // An address, after its texts.
@@ -28,9 +28,9 @@ fn give_address<'a, O: EventTaker<'a>>(
 )
     requires short { length text.now ≤ LINE }
     requires within { IsCursorOf text.now texts.cursor }
-    requires fits { ArgumentFits (argument_seen uri) }
+    requires fits { ArgumentFits (argument_view uri) }
     ensures { Came O.left out.old
-        (inlines.address number column (argument_seen uri.entry) (words_seen text.now texts)) out.new }
+        (inlines.address number column (argument_view uri.entry) (words_view text.now texts)) out.new }
 {
     let mut left = texts;
     let Some(first) = left.read(text) else {
@@ -39,7 +39,7 @@ fn give_address<'a, O: EventTaker<'a>>(
     };
     out.give(printed_word(number, Some(Font::I), first));
     give_printed(out, number, Some(Font::I), text, left);
-    out.give(own_word(number, column, Own::Colon, None, Join::Glued, Join::Apart));
+    out.give(generated_word(number, column, GeneratedText::Colon, None, Join::Glued, Join::Apart));
     out.give(step_event(number, column, LineStep::Uri(uri)));
 }
 
@@ -53,7 +53,7 @@ fn give_link_words<'a, O: EventTaker<'a>>(
 )
     requires short { length text.now ≤ LINE }
     requires within { IsCursorOf text.now words.cursor }
-    ensures { Came O.left out.old (inlines.link_words number column (words_seen text.now words)) out.new }
+    ensures { Came O.left out.old (inlines.link_words number column (words_view text.now words)) out.new }
 {
     let mut left = words;
     while let Some(word) = left.read(text) {
@@ -75,8 +75,8 @@ pub(crate) fn give_link<'a, O: EventTaker<'a>>(
 )
     requires short { length text.now ≤ LINE }
     requires stand { AreIn text.now words }
-    ensures { Came O.left out.old (inlines.link_words number column (words_seen text.now words.entry.inside)
-        ++ printed number None (words_seen text.now words.entry.outside)) out.new }
+    ensures { Came O.left out.old (inlines.link_words number column (words_view text.now words.entry.inside)
+        ++ printed number None (words_view text.now words.entry.outside)) out.new }
 {
     give_link_words(out, number, column, text, words.inside);
     give_printed(out, number, None, text, words.outside);

@@ -2,17 +2,17 @@
 
 ghost use Rattle.std.specs.Prelude.{◌≡◌, ◌≤◌, [], ◌∷◌, None, Some, length};
 ghost use Rattle.page_core_base.specs.Latches.{Came};
-ghost use Rattle.page_sets_lines.specs.Events.{event_seen, given_seen, step_seen};
+ghost use Rattle.page_sets_lines.specs.Events.{event_view, given_view, step_view};
 ghost use Rattle.page_sets_lines.specs.Fits.{GivenFits, IsShort};
 ghost use Rattle.page_sets_lines.specs.PlainLines.{event_at};
-ghost use Rattle.page_sets_lines.specs.declared.events.Deed.TheVariants as deeds;
+ghost use Rattle.page_sets_lines.specs.declared.events.EventKind.TheVariants as kinds;
 ghost use Rattle.page_sets_lines.specs.declared.openers.LineOpener.TheVariants as lines;
-ghost use Rattle.page_sets_names.specs.declared.own_texts.Own.TheVariants.{Apostrophe};
+ghost use Rattle.page_sets_names.specs.declared.generated_texts.GeneratedText.TheVariants.{Apostrophe};
 ghost use Rattle.page_sets_lines.specs.declared.events.Join.TheVariants.{Glued};
 ghost use Rattle.page_sets_mdoc_lines.specs.Cursors.{IsCursorOf};
-ghost use Rattle.page_sets_mdoc_lines.specs.Words.{AreIn, AreKnown, words_seen};
+ghost use Rattle.page_sets_mdoc_lines.specs.Words.{AreIn, AreKnown, words_view};
 ghost use Rattle.page_sets_mdoc_words.specs.Inlines as inlines;
-ghost use Rattle.page_sets_mdoc_words.specs.Printed.{own_word, printed, step_event};
+ghost use Rattle.page_sets_mdoc_words.specs.Printed.{generated_word, printed, step_event};
 ghost use Rattle.page_sets_mdoc_words.specs.Synopses as synopses;
 
 use crate::enclosures::{give_closed, give_opened};
@@ -21,7 +21,7 @@ use crate::functions::{give_function, give_next_arguments};
 use crate::links::give_link;
 use crate::names::{Lone, give_lone, give_named};
 use crate::plain::{MacroName, give_printed, give_refused};
-use crate::printed::{event_at, own_word, step_event};
+use crate::printed::{event_at, generated_word, step_event};
 use crate::references::give_reference;
 use crate::synopses::{after_words, before_words};
 use crate::systems::{give_bsd, system_word};
@@ -29,7 +29,7 @@ use crate::taken_words::{give_author, give_prefix};
 use page_core_base::Font;
 use page_core_limits::LINE;
 use page_sets_lines::{
-    Deed, Event, EventTaker, Join, LineOpener, LineStep, Marks, Own, SynopsisStep,
+    EventKind, Event, EventTaker, Join, LineOpener, LineStep, Marks, GeneratedText, SynopsisStep,
 };
 use page_sets_mdoc_lines::{MacroWords, Words};
 use page_sets_mdoc_rows::Inline;
@@ -44,8 +44,8 @@ fn give_before<'a, O: EventTaker<'a>>(
 )
     requires short { length text.now ≤ LINE }
     requires within { IsCursorOf text.now words.cursor }
-    requires fits { IsShort (event_seen event) }
-    ensures { Came O.left out.old (event_seen event.entry ∷ printed number None (words_seen text.now words)) out.new }
+    requires fits { IsShort (event_view event) }
+    ensures { Came O.left out.old (event_view event.entry ∷ printed number None (words_view text.now words)) out.new }
 {
     out.give(event);
     give_printed(out, number, None, text, words);
@@ -62,8 +62,8 @@ fn give_step<'a, O: EventTaker<'a>>(
 )
     requires short { length text.now ≤ LINE }
     requires within { IsCursorOf text.now words.cursor }
-    requires fits { IsShort (step_event number column (step_seen step)) }
-    ensures { Came O.left out.old (step_event number column (step_seen step.entry) ∷ printed number None (words_seen text.now words)) out.new }
+    requires fits { IsShort (step_event number column (step_view step)) }
+    ensures { Came O.left out.old (step_event number column (step_view step.entry) ∷ printed number None (words_view text.now words)) out.new }
 {
     give_before(out, step_event(number, column, step), number, text, words);
 }
@@ -79,11 +79,11 @@ fn give_enclosed<'a, O: EventTaker<'a>>(
 )
     requires short { length text.now ≤ LINE }
     requires within { IsCursorOf text.now words.cursor }
-    ensures { Came O.left out.old (event_at number column (deeds.LineScope (lines.Enclosure marks))
-        ∷ printed number None (words_seen text.now words)) out.new }
+    ensures { Came O.left out.old (event_at number column (kinds.LineScope (lines.Enclosure marks))
+        ∷ printed number None (words_view text.now words)) out.new }
 {
-    let deed = Deed::LineScope(LineOpener::Enclosure(marks));
-    give_before(out, event_at(number, column, deed), number, text, words);
+    let kind = EventKind::LineScope(LineOpener::Enclosure(marks));
+    give_before(out, event_at(number, column, kind), number, text, words);
 }
 
 // Words in a font, of a macro that needs one.
@@ -98,8 +98,8 @@ fn give_font_words<'a, O: EventTaker<'a>>(
     requires stand { AreIn text.now words }
     requires known { AreKnown text.now words }
     ensures { Came O.left out.old (inlines.with_words name.entry.line name.entry.column name.entry.text.now
-        (words_seen text.now words.entry.all)
-        (printed name.entry.line (Some font) (words_seen text.now words.entry.all))) out.new }
+        (words_view text.now words.entry.all)
+        (printed name.entry.line (Some font) (words_view text.now words.entry.all))) out.new }
 {
     if words.has_real {
         give_printed(out, name.line, Some(font), text, words.all);
@@ -110,10 +110,10 @@ fn give_font_words<'a, O: EventTaker<'a>>(
 
 // The text of `Ap`.
 fn apostrophe<'a>(number: u32, column: u32) -> Event<&'a [u8]>
-    ensures { event_seen result ≡ own_word number column Apostrophe None Glued Glued }
+    ensures { event_view result ≡ generated_word number column Apostrophe None Glued Glued }
 {
-    let own = Own::Apostrophe;
-    own_word(number, column, own, None, Join::Glued, Join::Glued)
+    let text = GeneratedText::Apostrophe;
+    generated_word(number, column, text, None, Join::Glued, Join::Glued)
 }
 
 // A macro with its words.
@@ -127,9 +127,9 @@ fn give_inline<'a, O: EventTaker<'a>>(
     requires short { length text.now ≤ LINE }
     requires stand { AreIn text.now words }
     requires known { AreKnown text.now words }
-    requires fits { GivenFits (given_seen words.taken) }
+    requires fits { GivenFits (given_view words.taken) }
     ensures { Came O.left out.old (inlines.inline_events name.entry.line name.entry.column name.entry.text.now inline
-        (given_seen words.entry.taken) (words_seen text.now words.entry.all) words.entry.follows) out.new }
+        (given_view words.entry.taken) (words_view text.now words.entry.all) words.entry.follows) out.new }
 {
     let MacroName { line, column, .. } = name;
     let MacroWords { all, has_real, .. } = words;
@@ -197,9 +197,9 @@ pub fn give_macro<'a, O: EventTaker<'a>>(
     requires short { length text.now ≤ LINE }
     requires stand { AreIn text.now words }
     requires known { AreKnown text.now words }
-    requires fits { GivenFits (given_seen words.taken) }
+    requires fits { GivenFits (given_view words.taken) }
     ensures { Came O.left out.old (synopses.placed_events first name.entry.line name.entry.column name.entry.text.now inline
-        (given_seen words.entry.taken) (words_seen text.now words.entry.all) words.entry.follows) out.new }
+        (given_view words.entry.taken) (words_view text.now words.entry.all) words.entry.follows) out.new }
 {
     let before = before_words(first, inline, words.has_real);
     let after = after_words(first, inline, words.has_real);

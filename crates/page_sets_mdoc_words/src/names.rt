@@ -1,19 +1,19 @@
 //! `Nm`, and what `Nm Ar Pa Fl` print without words (mdoc(7), "Nm", "Ar", "Pa" and "Fl").
 
 ghost use Rattle.std.specs.Prelude.{◌≡◌, ◌≤◌, ◌&&◌, length, if◌then◌else◌};
-ghost use Rattle.page_sets_names.specs.declared.own_texts.Own.TheVariants.{Flag, JoinedFlag};
+ghost use Rattle.page_sets_names.specs.declared.generated_texts.GeneratedText.TheVariants.{Flag, JoinedFlag};
 ghost use Rattle.page_core_base.specs.Latches.{Came};
-ghost use Rattle.page_sets_lines.specs.Events.{event_seen};
+ghost use Rattle.page_sets_lines.specs.Events.{event_view};
 ghost use Rattle.page_sets_mdoc_lines.specs.Cursors.{IsCursorOf};
-ghost use Rattle.page_sets_mdoc_lines.specs.Words.{words_seen};
+ghost use Rattle.page_sets_mdoc_lines.specs.Words.{words_view};
 ghost use Rattle.page_sets_mdoc_words.specs.Inlines as inlines;
 ghost use Rattle.page_sets_mdoc_words.specs.Lone.{lone_event};
 
 use crate::plain::give_printed;
-use crate::printed::{is_opening, own_word, printed_word, step_event, word_event};
+use crate::printed::{is_opening, generated_word, printed_word, step_event, word_event};
 use page_core_base::Font;
 use page_core_limits::LINE;
-use page_sets_lines::{Event, EventTaker, Join, LineStep, Own, Role};
+use page_sets_lines::{Event, EventTaker, Join, LineStep, GeneratedText, Role};
 use page_sets_mdoc_lines::{Words, is_real};
 use page_sets_mdoc_rows::Defaulted;
 
@@ -29,39 +29,39 @@ pub(crate) enum Lone {
 }
 
 // The text of `Ar` or `Pa`.
-fn default_own(default: Defaulted) -> Own
-    ensures { result ≡ inlines.default_own default }
+fn default_text(default: Defaulted) -> GeneratedText
+    ensures { result ≡ inlines.default_text default }
 {
     match default {
-        Defaulted::Files => Own::Files,
-        Defaulted::Home => Own::Home,
+        Defaulted::Files => GeneratedText::Files,
+        Defaulted::Home => GeneratedText::Home,
     }
 }
 
 // The dash of `Fl`, knowing whether no word comes after it.
-fn dash(follows: bool, is_last: bool) -> Own
+fn dash(follows: bool, is_last: bool) -> GeneratedText
     ensures { result ≡ (if is_last && follows then JoinedFlag else Flag) }
 {
     if is_last && follows {
-        Own::JoinedFlag
+        GeneratedText::JoinedFlag
     } else {
-        Own::Flag
+        GeneratedText::Flag
     }
 }
 
 // What is printed, knowing whether no word comes after it.
 fn lone_event<'a>(number: u32, column: u32, lone: Lone, is_last: bool) -> Event<&'a [u8]>
-    ensures { event_seen result ≡ lone_event number column lone is_last }
+    ensures { event_view result ≡ lone_event number column lone is_last }
 {
     match lone {
         Lone::ManualName => step_event(number, column, LineStep::ManualName),
         Lone::Default(default) => {
-            let own = default_own(default);
-            own_word(number, column, own, Some(Font::I), Join::Apart, Join::Apart)
+            let text = default_text(default);
+            generated_word(number, column, text, Some(Font::I), Join::Apart, Join::Apart)
         }
         Lone::Dash { follows } => {
-            let own = dash(follows, is_last);
-            own_word(number, column, own, Some(Font::B), Join::Apart, Join::Apart)
+            let text = dash(follows, is_last);
+            generated_word(number, column, text, Some(Font::B), Join::Apart, Join::Apart)
         }
     }
 }
@@ -78,7 +78,7 @@ pub(crate) fn give_lone<'a, O: EventTaker<'a>>(
     requires short { length text.now ≤ LINE }
     requires within { IsCursorOf text.now words.cursor }
     ensures { Came O.left out.old
-        (inlines.lone number (lone_event number column lone) (words_seen text.now words)) out.new }
+        (inlines.lone number (lone_event number column lone) (words_view text.now words)) out.new }
 {
     let mut left = words;
     while let Some(word) = left.read(text) {
@@ -103,7 +103,7 @@ pub(crate) fn give_named<'a, O: EventTaker<'a>>(
 )
     requires short { length text.now ≤ LINE }
     requires within { IsCursorOf text.now words.cursor }
-    ensures { Came O.left out.old (inlines.named number column (words_seen text.now words)) out.new }
+    ensures { Came O.left out.old (inlines.named number column (words_view text.now words)) out.new }
 {
     let mut left = words;
     while let Some(word) = left.read(text) {

@@ -3,14 +3,14 @@
 ghost use Rattle.std.specs.Prelude.{◌≤◌, length};
 ghost use Rattle.page_core_base.specs.Latches.{Came};
 ghost use Rattle.page_sets_mdoc_lines.specs.Cursors.{IsCursorOf};
-ghost use Rattle.page_sets_mdoc_lines.specs.Words.{words_seen};
+ghost use Rattle.page_sets_mdoc_lines.specs.Words.{words_view};
 ghost use Rattle.page_sets_mdoc_words.specs.Inlines.{refused};
 ghost use Rattle.page_sets_mdoc_words.specs.Printed as printed;
 
 use crate::printed::{event_at, printed_word};
 use page_core_base::{Font, NoteKind};
 use page_core_limits::LINE;
-use page_sets_lines::{Deed, EventTaker};
+use page_sets_lines::{EventKind, EventTaker};
 use page_sets_mdoc_lines::Words;
 
 /// The name of a macro in its line.
@@ -33,7 +33,7 @@ pub fn give_printed<'a, O: EventTaker<'a>>(
 )
     requires short { length text.now ≤ LINE }
     requires within { IsCursorOf text.now words.cursor }
-    ensures { Came O.left out.old (printed.printed number font (words_seen text.now words)) out.new }
+    ensures { Came O.left out.old (printed.printed number font (words_view text.now words)) out.new }
 {
     let mut left = words;
     while let Some(word) = left.read(text) {
@@ -51,12 +51,12 @@ pub(crate) fn give_refused<'a, O: EventTaker<'a>>(
     requires short { length text.now ≤ LINE }
     requires within { IsCursorOf text.now words.cursor }
     ensures { Came O.left out.old
-        (refused name.entry.line name.entry.column name.entry.text.now (words_seen text.now words)) out.new }
+        (refused name.entry.line name.entry.column name.entry.text.now (words_view text.now words)) out.new }
 {
     out.give(event_at(
         name.line,
         name.column,
-        Deed::Note {
+        EventKind::Note {
             kind: NoteKind::EmptyMacro,
             detail: name.text,
             is_quoted: false,

@@ -1,32 +1,32 @@
 //! Words and delimiters as they are printed (mdoc(7), "MACRO SYNTAX" and "Delimiters").
 
 ghost use Rattle.std.specs.Prelude.{◌≡◌};
-ghost use Rattle.page_roff_forms.specs.Arguments.{argument_seen};
-ghost use Rattle.page_sets_lines.specs.Events.{event_seen, deed_seen, step_seen};
+ghost use Rattle.page_roff_forms.specs.Arguments.{argument_view};
+ghost use Rattle.page_sets_lines.specs.Events.{event_view, kind_view, step_view};
 ghost use Rattle.page_sets_lines.specs.Fits.{ArgumentFits, IsShort};
 ghost use Rattle.page_sets_lines.specs.PlainLines.{event_at};
 ghost use Rattle.page_sets_mdoc_words.specs.Printed as printed;
 
 use page_core_base::{Font, Place};
 use page_roff_forms::Argument;
-use page_sets_lines::{Deed, Event, Join, Leaf, LineStep, Own, OwnWord, Role, Word};
+use page_sets_lines::{EventKind, Event, Join, Leaf, LineStep, GeneratedText, GeneratedWord, Role, Word};
 use page_sets_mdoc_lines::word_delimiter;
 use page_sets_mdoc_rows::Delimiter;
 
 /// An event in a column of a line.
-pub fn event_at<'a>(number: u32, column: u32, deed: Deed<&'a [u8]>) -> Event<&'a [u8]>
-    ensures { event_seen result ≡ event_at number column (deed_seen deed.entry) }
+pub fn event_at<'a>(number: u32, column: u32, kind: EventKind<&'a [u8]>) -> Event<&'a [u8]>
+    ensures { event_view result ≡ event_at number column (kind_view kind.entry) }
 {
     Event {
         place: Place {
             line: number,
             column,
         },
-        deed,
+        kind,
     }
 }
 
-/// An argument as a word, in its own column.
+/// An argument as a word, in its text column.
 pub fn word_event(
     number: u32,
     role: Role,
@@ -35,12 +35,12 @@ pub fn word_event(
     after: Join,
     word: Argument<&[u8]>,
 ) -> Event<&[u8]>
-    ensures { event_seen result ≡ printed.word_event number role font before after (argument_seen word.entry) }
+    ensures { event_view result ≡ printed.word_event number role font before after (argument_view word.entry) }
 {
     event_at(
         number,
         word.column,
-        Deed::Word(Word {
+        EventKind::Word(Word {
             arg: word,
             role,
             font,
@@ -52,14 +52,14 @@ pub fn word_event(
 
 /// A word that is no delimiter, or stands for none, between blanks.
 pub fn real_word(number: u32, font: Option<Font>, word: Argument<&[u8]>) -> Event<&[u8]>
-    ensures { event_seen result ≡ printed.real_word number font (argument_seen word.entry) }
+    ensures { event_view result ≡ printed.real_word number font (argument_view word.entry) }
 {
     word_event(number, Role::Argument, font, Join::Apart, Join::Apart, word)
 }
 
 // A delimiter in its place.
 fn delimiter_word(number: u32, delimiter: Delimiter, word: Argument<&[u8]>) -> Event<&[u8]>
-    ensures { event_seen result ≡ printed.delimiter_word number delimiter (argument_seen word.entry) }
+    ensures { event_view result ≡ printed.delimiter_word number delimiter (argument_view word.entry) }
 {
     let (before, after) = match delimiter {
         Delimiter::Opening => (Join::Apart, Join::Glued),
@@ -71,8 +71,8 @@ fn delimiter_word(number: u32, delimiter: Delimiter, word: Argument<&[u8]>) -> E
 
 /// A word in a font, or a delimiter in its place.
 pub fn printed_word(number: u32, font: Option<Font>, word: Argument<&[u8]>) -> Event<&[u8]>
-    ensures event { event_seen result ≡ printed.printed_word number font (argument_seen word.entry) }
-    ensures short { ArgumentFits (argument_seen word.entry) → IsShort (event_seen result) }
+    ensures event { event_view result ≡ printed.printed_word number font (argument_view word.entry) }
+    ensures short { ArgumentFits (argument_view word.entry) → IsShort (event_view result) }
 {
     match word_delimiter(word) {
         Some(delimiter) => delimiter_word(number, delimiter, word),
@@ -80,22 +80,22 @@ pub fn printed_word(number: u32, font: Option<Font>, word: Argument<&[u8]>) -> E
     }
 }
 
-/// A text of the macro's own.
-pub fn own_word<'a>(
+/// A text of the macro's text.
+pub fn generated_word<'a>(
     number: u32,
     column: u32,
-    own: Own,
+    text: GeneratedText,
     font: Option<Font>,
     before: Join,
     after: Join,
 ) -> Event<&'a [u8]>
-    ensures { event_seen result ≡ printed.own_word number column own font before after }
+    ensures { event_view result ≡ printed.generated_word number column text font before after }
 {
     event_at(
         number,
         column,
-        Deed::Leaf(Leaf::Own(OwnWord {
-            own,
+        EventKind::Leaf(Leaf::Generated(GeneratedWord {
+            text,
             font,
             before,
             after,
@@ -105,15 +105,15 @@ pub fn own_word<'a>(
 
 /// What a macro changes in its line.
 pub fn step_event<'a>(number: u32, column: u32, step: LineStep<&'a [u8]>) -> Event<&'a [u8]>
-    ensures { event_seen result ≡ printed.step_event number column (step_seen step.entry) }
+    ensures { event_view result ≡ printed.step_event number column (step_view step.entry) }
 {
-    event_at(number, column, Deed::Leaf(Leaf::Step(step)))
+    event_at(number, column, EventKind::Leaf(Leaf::Step(step)))
 }
 
 /// Whether a word is an opening delimiter.
 #[tactic(auto, unfolding(crate::specs::Printed::is_opening))]
 pub fn is_opening(word: Argument<&[u8]>) -> bool
-    ensures { result ≡ printed.is_opening (argument_seen word.entry) }
+    ensures { result ≡ printed.is_opening (argument_view word.entry) }
 {
     matches!(word_delimiter(word), Some(Delimiter::Opening))
 }

@@ -3,29 +3,29 @@
 ghost use Rattle.std.specs.Prelude.{◌≤◌, length};
 ghost use Rattle.page_core_base.specs.Latches.{Came};
 ghost use Rattle.page_sets_mdoc_lines.specs.Cursors.{IsCursorOf};
-ghost use Rattle.page_sets_mdoc_lines.specs.Words.{words_seen};
+ghost use Rattle.page_sets_mdoc_lines.specs.Words.{words_view};
 ghost use Rattle.page_sets_mdoc_words.specs.Inlines as inlines;
 
 use crate::plain::give_printed;
-use crate::printed::{own_word, printed_word};
+use crate::printed::{generated_word, printed_word};
 use page_core_limits::LINE;
-use page_sets_lines::{EventTaker, Join, Own};
+use page_sets_lines::{EventTaker, Join, GeneratedText};
 use page_sets_mdoc_lines::{Words, is_real};
 
 // The section, in parentheses.
 fn give_section<'a, O: EventTaker<'a>>(out: &mut O, number: u32, text: &'a [u8], words: Words)
     requires short { length text.now ≤ LINE }
     requires within { IsCursorOf text.now words.cursor }
-    ensures { Came O.left out.old (inlines.section number (words_seen text.now words)) out.new }
+    ensures { Came O.left out.old (inlines.section number (words_view text.now words)) out.new }
 {
     let mut left = words;
     while let Some(word) = left.read(text) {
         if is_real(word) {
             let column = word.column;
-            let (opening, closing) = (Own::OpenParenthesis, Own::CloseParenthesis);
-            out.give(own_word(number, column, opening, None, Join::Glued, Join::Glued));
+            let (opening, closing) = (GeneratedText::OpenParenthesis, GeneratedText::CloseParenthesis);
+            out.give(generated_word(number, column, opening, None, Join::Glued, Join::Glued));
             out.give(printed_word(number, None, word));
-            out.give(own_word(number, column, closing, None, Join::Glued, Join::Apart));
+            out.give(generated_word(number, column, closing, None, Join::Glued, Join::Apart));
             give_printed(out, number, None, text, left);
             return;
         }
@@ -42,7 +42,7 @@ pub(crate) fn give_reference<'a, O: EventTaker<'a>>(
 )
     requires short { length text.now ≤ LINE }
     requires within { IsCursorOf text.now words.cursor }
-    ensures { Came O.left out.old (inlines.reference number (words_seen text.now words)) out.new }
+    ensures { Came O.left out.old (inlines.reference number (words_view text.now words)) out.new }
 {
     let mut left = words;
     while let Some(word) = left.read(text) {

@@ -3,16 +3,16 @@
 ghost use Rattle.std.specs.Prelude.{◌≡◌, ◌≤◌, [], ◌∷◌, false, length, if◌then◌else◌};
 ghost use Rattle.page_sets_lines.specs.declared.line_steps.LineStep.TheVariants.{ManualName};
 ghost use Rattle.page_core_base.specs.Latches.{Came};
-ghost use Rattle.page_sets_lines.specs.Events.{event_seen};
+ghost use Rattle.page_sets_lines.specs.Events.{event_view};
 ghost use Rattle.page_sets_mdoc_lines.specs.Cursors.{IsCursorOf};
-ghost use Rattle.page_sets_mdoc_lines.specs.Words.{words_seen};
+ghost use Rattle.page_sets_mdoc_lines.specs.Words.{words_view};
 ghost use Rattle.page_sets_mdoc_words.specs.Printed.{step_event};
 ghost use Rattle.page_sets_mdoc_words.specs.Sentences as sentences;
 
-use crate::printed::{own_word, real_word, step_event};
+use crate::printed::{generated_word, real_word, step_event};
 use page_core_base::Font;
 use page_core_limits::LINE;
-use page_sets_lines::{Event, EventTaker, Join, LineStep, Own};
+use page_sets_lines::{Event, EventTaker, Join, LineStep, GeneratedText};
 use page_sets_mdoc_lines::Words;
 use page_sets_mdoc_rows::Sentence;
 
@@ -30,7 +30,7 @@ pub(crate) enum NameCount {
 fn name_count(text: &[u8], names: Words) -> NameCount
     requires short { length text.now ≤ LINE }
     requires within { IsCursorOf text.now names.cursor }
-    ensures { result ≡ sentences.name_count (words_seen text.now names) }
+    ensures { result ≡ sentences.name_count (words_view text.now names) }
 {
     let mut ahead = names;
     if ahead.read(text).is_none() {
@@ -60,42 +60,42 @@ fn has_comma(all: NameCount, left: NameCount) -> bool
 }
 
 // What is glued to a name.
-fn name_mark(sentence: Sentence, has_comma: bool) -> Option<Own>
+fn name_mark(sentence: Sentence, has_comma: bool) -> Option<GeneratedText>
     ensures { result ≡ sentences.name_mark sentence has_comma }
 {
     match sentence {
-        Sentence::Exit if has_comma => Some(Own::Comma),
+        Sentence::Exit if has_comma => Some(GeneratedText::Comma),
         Sentence::Exit => None,
-        Sentence::Return if has_comma => Some(Own::CallComma),
-        Sentence::Return => Some(Own::Call),
+        Sentence::Return if has_comma => Some(GeneratedText::CallComma),
+        Sentence::Return => Some(GeneratedText::Call),
     }
 }
 
 // The rest of the sentence.
-fn sentence_end(sentence: Sentence, is_plural: bool) -> Own
+fn sentence_end(sentence: Sentence, is_plural: bool) -> GeneratedText
     ensures { result ≡ sentences.sentence_end sentence is_plural }
 {
     match sentence {
-        Sentence::Exit if is_plural => Own::UtilitiesExit,
-        Sentence::Exit => Own::UtilityExits,
-        Sentence::Return if is_plural => Own::FunctionsReturn,
-        Sentence::Return => Own::FunctionReturns,
+        Sentence::Exit if is_plural => GeneratedText::UtilitiesExit,
+        Sentence::Exit => GeneratedText::UtilityExits,
+        Sentence::Return if is_plural => GeneratedText::FunctionsReturn,
+        Sentence::Return => GeneratedText::FunctionReturns,
     }
 }
 
 // A word of the sentence.
-fn sentence_word<'a>(number: u32, column: u32, own: Own) -> Event<&'a [u8]>
-    ensures { event_seen result ≡ sentences.sentence_word number column own }
+fn sentence_word<'a>(number: u32, column: u32, text: GeneratedText) -> Event<&'a [u8]>
+    ensures { event_view result ≡ sentences.sentence_word number column text }
 {
-    own_word(number, column, own, None, Join::Apart, Join::Apart)
+    generated_word(number, column, text, None, Join::Apart, Join::Apart)
 }
 
 // What is glued to a name.
-fn give_mark<'a, O: EventTaker<'a>>(out: &mut O, number: u32, column: u32, mark: Option<Own>)
+fn give_mark<'a, O: EventTaker<'a>>(out: &mut O, number: u32, column: u32, mark: Option<GeneratedText>)
     ensures { Came O.left out.old (sentences.marked number column mark []) out.new }
 {
-    if let Some(own) = mark {
-        out.give(own_word(number, column, own, None, Join::Glued, Join::Apart));
+    if let Some(text) = mark {
+        out.give(generated_word(number, column, text, None, Join::Glued, Join::Apart));
     }
 }
 
@@ -104,7 +104,7 @@ fn give_and<'a, O: EventTaker<'a>>(out: &mut O, number: u32, column: u32, left: 
     ensures { Came O.left out.old (sentences.joined number column left []) out.new }
 {
     if let NameCount::One = left {
-        out.give(sentence_word(number, column, Own::And));
+        out.give(sentence_word(number, column, GeneratedText::And));
     }
 }
 
@@ -122,7 +122,7 @@ fn give_names<'a, O: EventTaker<'a>>(
     requires short { length text.now ≤ LINE }
     requires within { IsCursorOf text.now names.cursor }
     ensures { Came O.left out.old
-        (sentences.names_events number column sentence all (words_seen text.now names)) out.new }
+        (sentences.names_events number column sentence all (words_view text.now names)) out.new }
 {
     let mut left = names;
     while let Some(name) = left.read(text) {
@@ -171,10 +171,10 @@ pub fn give_sentence<'a, O: EventTaker<'a>>(
     requires short { length text.now ≤ LINE }
     requires within { IsCursorOf text.now names.cursor }
     ensures { Came O.left out.old
-        (sentences.sentence_events number column sentence (words_seen text.now names)) out.new }
+        (sentences.sentence_events number column sentence (words_view text.now names)) out.new }
 {
     let all = name_count(text, names);
-    out.give(sentence_word(number, column, Own::The));
+    out.give(sentence_word(number, column, GeneratedText::The));
     give_manual_name(out, number, column, sentence, all);
     give_names(out, number, column, sentence, all, text, names);
 }

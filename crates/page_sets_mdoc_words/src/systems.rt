@@ -2,40 +2,40 @@
 
 ghost use Rattle.std.specs.Prelude.{◌≡◌, ◌≤◌, None, length};
 ghost use Rattle.page_core_base.specs.Latches.{Came};
-ghost use Rattle.page_sets_lines.specs.Events.{event_seen};
+ghost use Rattle.page_sets_lines.specs.Events.{event_view};
 ghost use Rattle.page_sets_mdoc_lines.specs.Cursors.{IsCursorOf};
-ghost use Rattle.page_sets_mdoc_lines.specs.Words.{words_seen};
+ghost use Rattle.page_sets_mdoc_lines.specs.Words.{words_view};
 ghost use Rattle.page_sets_mdoc_words.specs.Inlines as inlines;
 
 use crate::plain::give_printed;
-use crate::printed::{is_opening, own_word, printed_word};
+use crate::printed::{is_opening, generated_word, printed_word};
 use page_core_limits::LINE;
-use page_sets_lines::{Event, EventTaker, Join, Own};
+use page_sets_lines::{Event, EventTaker, Join, GeneratedText};
 use page_sets_mdoc_lines::{Words, is_real};
 use page_sets_mdoc_rows::System;
 
 // The text of a system.
-fn system_own(system: System) -> Own
-    ensures { result ≡ inlines.system_own system }
+fn system_text(system: System) -> GeneratedText
+    ensures { result ≡ inlines.system_text system }
 {
     match system {
-        System::BsdOs => Own::BsdOs,
-        System::DragonFly => Own::DragonFly,
-        System::FreeBsd => Own::FreeBsd,
-        System::NetBsd => Own::NetBsd,
-        System::OpenBsd => Own::OpenBsd,
-        System::Unix => Own::Unix,
+        System::BsdOs => GeneratedText::BsdOs,
+        System::DragonFly => GeneratedText::DragonFly,
+        System::FreeBsd => GeneratedText::FreeBsd,
+        System::NetBsd => GeneratedText::NetBsd,
+        System::OpenBsd => GeneratedText::OpenBsd,
+        System::Unix => GeneratedText::Unix,
     }
 }
 
 /// The name of a system.
 pub(crate) fn system_word<'a>(number: u32, column: u32, system: System) -> Event<&'a [u8]>
-    ensures { event_seen result ≡ inlines.system_word number column system }
+    ensures { event_view result ≡ inlines.system_word number column system }
 {
-    own_word(
+    generated_word(
         number,
         column,
-        system_own(system),
+        system_text(system),
         None,
         Join::Apart,
         Join::Apart,
@@ -52,23 +52,23 @@ pub(crate) fn give_bsd<'a, O: EventTaker<'a>>(
 )
     requires short { length text.now ≤ LINE }
     requires within { IsCursorOf text.now words.cursor }
-    ensures { Came O.left out.old (inlines.bsd number column (words_seen text.now words)) out.new }
+    ensures { Came O.left out.old (inlines.bsd number column (words_view text.now words)) out.new }
 {
     let mut left = words;
     while let Some(word) = left.read(text) {
         if is_real(word) {
             out.give(printed_word(number, None, word));
-            out.give(own_word(number, column, Own::Bsd, None, Join::Glued, Join::Apart));
+            out.give(generated_word(number, column, GeneratedText::Bsd, None, Join::Glued, Join::Apart));
             give_printed(out, number, None, text, left);
             return;
         }
         if !is_opening(word) {
-            out.give(own_word(number, column, Own::Bsd, None, Join::Apart, Join::Apart));
+            out.give(generated_word(number, column, GeneratedText::Bsd, None, Join::Apart, Join::Apart));
             out.give(printed_word(number, None, word));
             give_printed(out, number, None, text, left);
             return;
         }
         out.give(printed_word(number, None, word));
     }
-    out.give(own_word(number, column, Own::Bsd, None, Join::Apart, Join::Apart));
+    out.give(generated_word(number, column, GeneratedText::Bsd, None, Join::Apart, Join::Apart));
 }

@@ -3,12 +3,12 @@
 ghost use Rattle.std.specs.Prelude.{◌≡◌, ◌≤◌, length, true, false};
 ghost use Rattle.std.specs.List.{list_any};
 ghost use Rattle.page_core_base.specs.Latches.{Came};
-ghost use Rattle.page_roff_forms.specs.Arguments.{argument_seen};
-ghost use Rattle.page_sets_lines.specs.Events.{given_seen};
+ghost use Rattle.page_roff_forms.specs.Arguments.{argument_view};
+ghost use Rattle.page_sets_lines.specs.Events.{given_view};
 ghost use Rattle.page_sets_lines.specs.Fits.{GivenFits};
 ghost use Rattle.page_sets_mdoc_lines.specs.Cursors.{IsCursorOf};
 ghost use Rattle.page_sets_mdoc_lines.specs.LineWords.{is_real};
-ghost use Rattle.page_sets_mdoc_lines.specs.Words.{words_seen};
+ghost use Rattle.page_sets_mdoc_lines.specs.Words.{words_view};
 ghost use Rattle.page_sets_mdoc_words.specs.Inlines as inlines;
 
 use crate::plain::{MacroName, give_printed, give_refused};
@@ -16,19 +16,19 @@ use crate::printed::{event_at, word_event};
 use page_core_base::{Font, NoteKind};
 use page_core_limits::LINE;
 use page_roff_forms::{Argument, Quoting};
-use page_sets_lines::{Deed, EventTaker, Join, Role};
+use page_sets_lines::{EventKind, EventTaker, Join, Role};
 use page_sets_mdoc_lines::Words;
 
 // The message about an option that lacks its last quote.
 fn give_missing_quote<'a, O: EventTaker<'a>>(out: &mut O, number: u32, option: Argument<&'a [u8]>)
-    ensures { Came O.left out.old (inlines.missing_quote number (argument_seen option.entry)) out.new }
+    ensures { Came O.left out.old (inlines.missing_quote number (argument_view option.entry)) out.new }
 {
     if let Quoting::Unclosed = option.quoting {
         let detail: &[u8] = &[];
         out.give(event_at(
             number,
             option.column.saturating_sub(1),
-            Deed::Note {
+            EventKind::Note {
                 kind: NoteKind::Unterminated,
                 detail,
                 is_quoted: false,
@@ -49,9 +49,9 @@ pub(crate) fn give_author<'a, O: EventTaker<'a>>(
 )
     requires short { length text.now ≤ LINE }
     requires within { IsCursorOf text.now words.cursor }
-    requires real { has_real ≡ list_any is_real (words_seen text.now words) }
+    requires real { has_real ≡ list_any is_real (words_view text.now words) }
     ensures { Came O.left out.old (inlines.author name.entry.line name.entry.column name.entry.text.now
-        (given_seen option.entry) (words_seen text.now words)) out.new }
+        (given_view option.entry) (words_view text.now words)) out.new }
 {
     match option {
         Some(option) => {
@@ -73,9 +73,9 @@ pub(crate) fn give_prefix<'a, O: EventTaker<'a>>(
 )
     requires short { length text.now ≤ LINE }
     requires within { IsCursorOf text.now words.cursor }
-    requires fits { GivenFits (given_seen prefix) }
+    requires fits { GivenFits (given_view prefix) }
     ensures { Came O.left out.old (inlines.prefix name.entry.line name.entry.column name.entry.text.now
-        (given_seen prefix.entry) (words_seen text.now words)) out.new }
+        (given_view prefix.entry) (words_view text.now words)) out.new }
 {
     match prefix {
         Some(prefix) => {

@@ -1,3 +1,3 @@
-pub mod OwnTexts
+pub mod GeneratedTexts
 pub mod Marks
 pub mod MacroNames

@@ -4,19 +4,19 @@ use Rattle.std.specs.Option.{option_map_or}
 use denote.Enum.Bare.{sameb}
 use Rattle.page_sets_names.specs.contracts.marks.Marks as marks
 use Rattle.page_sets_names.specs.contracts.marks.Quotation as quotations
-use Rattle.page_sets_names.specs.declared.own_texts.Own.{Own}
-use Rattle.page_sets_names.specs.declared.own_texts.Own.TheVariants as owns
+use Rattle.page_sets_names.specs.declared.generated_texts.GeneratedText.{GeneratedText}
+use Rattle.page_sets_names.specs.declared.generated_texts.GeneratedText.TheVariants as owns
 use Rattle.page_sets_names.specs.declared.marks.Marks.{Marks}
 use Rattle.page_sets_names.specs.declared.marks.Marks.TheVariants.{Straight}
 use Rattle.page_sets_names.specs.declared.marks.Quotation.{Quotation}
 use Rattle.page_sets_names.specs.declared.marks.TheConstants.{MARKS, QUOTATIONS}
 
 -- the mark before the words
-abbrev pub opening : Marks → Own
+abbrev pub opening : Marks → GeneratedText
 opening these = option_map_or (λ row. row.1) (find (λ row. sameb marks.the_type row.0 these) MARKS) owns.Straight
 
 -- the mark after them
-abbrev pub closing : Marks → Own
+abbrev pub closing : Marks → GeneratedText
 closing these = option_map_or (λ row. row.2) (find (λ row. sameb marks.the_type row.0 these) MARKS) owns.Straight
 
 -- the first macro that encloses the rest of its line in them

@@ -3,7 +3,7 @@
 ghost use Rattle.std.specs.Prelude.{◌≡◌};
 ghost use Rattle.page_sets_names.specs.Marks as marks;
 
-use crate::own_texts::Own;
+use crate::generated_texts::GeneratedText;
 
 /// The marks around the words of an enclosure.
 #[derive(Clone, Copy, PartialEq, Eq)]
@@ -47,14 +47,14 @@ pub enum Quotation {
 
 impl Marks {
     /// The mark before the words.
-    pub fn opening(self) -> Own
+    pub fn opening(self) -> GeneratedText
         ensures { result ≡ marks.opening self }
     {
         MARKS[self as usize].1
     }
 
     /// The mark after the words.
-    pub fn closing(self) -> Own
+    pub fn closing(self) -> GeneratedText
         ensures { result ≡ marks.closing self }
     {
         MARKS[self as usize].2
@@ -92,19 +92,19 @@ impl Quotation {
 }
 
 // The marks, in the order of `Marks`: the one before the words, the one after them, and the first macro that has them.
-static MARKS: [(Marks, Own, Own, &str); 7] = [
-    (Marks::Angle, Own::OpenAngle, Own::CloseAngle, "Aq"),
-    (Marks::Square, Own::OpenBracket, Own::CloseBracket, "Bq"),
-    (Marks::Curly, Own::OpenBrace, Own::CloseBrace, "Brq"),
+static MARKS: [(Marks, GeneratedText, GeneratedText, &str); 7] = [
+    (Marks::Angle, GeneratedText::OpenAngle, GeneratedText::CloseAngle, "Aq"),
+    (Marks::Square, GeneratedText::OpenBracket, GeneratedText::CloseBracket, "Bq"),
+    (Marks::Curly, GeneratedText::OpenBrace, GeneratedText::CloseBrace, "Brq"),
     (
         Marks::Round,
-        Own::OpenParenthesis,
-        Own::CloseParenthesis,
+        GeneratedText::OpenParenthesis,
+        GeneratedText::CloseParenthesis,
         "Pq",
     ),
-    (Marks::Double, Own::OpenDouble, Own::CloseDouble, "Dq"),
-    (Marks::Single, Own::OpenSingle, Own::CloseSingle, "Sq"),
-    (Marks::Straight, Own::Straight, Own::Straight, "Qq"),
+    (Marks::Double, GeneratedText::OpenDouble, GeneratedText::CloseDouble, "Dq"),
+    (Marks::Single, GeneratedText::OpenSingle, GeneratedText::CloseSingle, "Sq"),
+    (Marks::Straight, GeneratedText::Straight, GeneratedText::Straight, "Qq"),
 ];
 
 // The enclosures, in the order of `Quotation`: their marks, the macro that opens each, and the one that closes it.

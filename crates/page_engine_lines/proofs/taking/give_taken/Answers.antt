@@ -1,18 +1,18 @@
 use Rattle.page_roff_source.specs.Taking.{given_of}
-use Rattle.page_core_base.specs.LinesTaken.{line_seen}
+use Rattle.page_core_base.specs.LinesTaken.{line_view}
 use Rattle.page_engine_lines.specs.Given.{given_items, body_after}
 use Rattle.page_engine_lines.proofs.Parts.{taken_shorter, same_but_taken, body_taken, body_done, items_taken, items_done}
 use Rattle.page_engine_lines.proofs.taking.give_taken.Goals as goal
 
 pub loop-taken-smaller : goal.loop-taken-smaller
 loop-taken-smaller g c =
-    taken_shorter c.loop-taken.roff.edge c.take_into.follows.lender-at-none.edge (line_seen c.in-Some.taken) c.take_into.follows.holds-at-none c.in-Some.ensures.line
+    taken_shorter c.loop-taken.roff.edge c.take_into.follows.lender-at-none.edge (line_view c.in-Some.taken) c.take_into.follows.holds-at-none c.in-Some.ensures.line
 
 pub loop-taken-preserved : goal.loop-taken-preserved
 loop-taken-preserved g c =
     let e = c.loop-taken.roff.edge in
     let f = c.take_into.follows.lender-at-none.edge in
-    let line = line_seen c.in-Some.taken in
+    let line = line_view c.in-Some.taken in
     let p = c.loop-taken.body in
     let i = c.loop-taken.invariant in
     let s = c.in-Some.ensures in (

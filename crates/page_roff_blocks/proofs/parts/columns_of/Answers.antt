@@ -1,6 +1,6 @@
 use Rattle.std.proofs.Common.{arith}
 use Rattle.std.proofs.lemmas.List.{take_rest}
-use Rattle.page_roff_blocks.proofs.AtomLemmas.{columns_named, columns_within, named_within}
+use Rattle.page_roff_blocks.proofs.LinePartLemmas.{columns_named, columns_within, named_within}
 use Rattle.page_roff_blocks.proofs.parts.columns_of.Goals as goal
 
 pub overflow_cast-result : goal.overflow_cast-result

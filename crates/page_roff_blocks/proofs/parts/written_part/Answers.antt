@@ -1,19 +1,19 @@
 use Rattle.std.proofs.Common.{◌∙◌, ap, sym}
-use Rattle.page_roff_forms.specs.LineForms.{form_of, name_seen}
+use Rattle.page_roff_forms.specs.LineForms.{form_of, name_view}
 use Rattle.page_roff_blocks.specs.Parts.{named_part}
-use Rattle.page_roff_blocks.proofs.AtomLemmas.{part_named, plain_nameless}
+use Rattle.page_roff_blocks.proofs.LinePartLemmas.{part_named, plain_nameless}
 use Rattle.page_roff_blocks.proofs.parts.written_part.Goals as goal
 
 pub columns_of-requires-clause-named : goal.columns_of-requires-clause-named
-columns_of-requires-clause-named c = sym c.control_name.ensures ∙ ap name_seen c.in-Some.is
+columns_of-requires-clause-named c = sym c.control_name.ensures ∙ ap name_view c.in-Some.is
 
 pub returns-in-Some-clause-value : goal.returns-in-Some-clause-value
 returns-in-Some-clause-value c =
     let line = c.args.line.now in
     c.keyword_part.ensures.value
     ∙ ap (λ word. named_part word line (form_of line)) c.keyword_of.ensures
-    ∙ sym (part_named line c.in-Some.name.now (sym c.control_name.ensures ∙ ap name_seen c.in-Some.is))
+    ∙ sym (part_named line c.in-Some.name.now (sym c.control_name.ensures ∙ ap name_view c.in-Some.is))
 
 pub returns-in-None-clause-value : goal.returns-in-None-clause-value
 returns-in-None-clause-value c =
-    c.plain_part.ensures.value ∙ sym (plain_nameless c.args.line.now (sym c.control_name.ensures ∙ ap name_seen c.in-None.is))
+    c.plain_part.ensures.value ∙ sym (plain_nameless c.args.line.now (sym c.control_name.ensures ∙ ap name_view c.in-None.is))

@@ -1,5 +1,5 @@
 use Rattle.std.proofs.Common.{◌≡◌, List, ℕ, [], ◌∷◌, ◌++◌, true, false, refl, ap, sym, ◌∙◌, append_assoc}
-use Rattle.page_roff_forms.specs.Arguments.{argument_seen, argument_value, is_quoted}
+use Rattle.page_roff_forms.specs.Arguments.{argument_view, argument_value, is_quoted}
 use Rattle.page_roff_buffers.proofs.PackLemmas.{plain_value}
 use Rattle.page_roff_buffers.proofs.calls.append_argument.Goals as goal
 use Rattle.page_roff_buffers.proofs.calls.append_argument.Goals.{then-is_quoted+then-is_some, else-is_quoted, else-is_quoted-via-then-is_quoted+else-is_some, else-is_quoted-via-else-is_quoted}
@@ -7,7 +7,7 @@ use Rattle.page_roff_buffers.proofs.calls.append_argument.Goals.{then-is_quoted+
 pub returns-clause-items : goal.returns-clause-items
 returns-clause-items c =
     let old = c.args.text.now.items in
-    let a = argument_seen c.args.argument in
+    let a = argument_view c.args.argument in
     let value : c.if-is_quoted.text.items ≡ old ++ argument_value a =
     elim c.if-is_quoted.branch [
       | then-is_quoted+then-is_some w ↦

@@ -1,7 +1,7 @@
 use Rattle.std.proofs.Common.{◌≡◌, ◌+◌, ◌-◌, ◌<◌, ◌≤◌, length, drop, if◌then◌else◌, sym, ap, ◌∙◌, arith, length-drop}
 use Rattle.std.proofs.lemmas.Bool.Decides.{nat_tests}
 use Rattle.std.proofs.lemmas.List.{take_rest}
-use Rattle.page_core_escapes.specs.Tokens.{is_space, token_at, token_bytes, token_seen, tokens_of}
+use Rattle.page_core_escapes.specs.Tokens.{is_space, token_at, token_bytes, token_view, tokens_of}
 use Rattle.page_scopes_phrases.specs.Cells.{before_blanks, tab_in}
 use Rattle.page_scopes_phrases.proofs.CellLemmas.{blanks_found, blanks_none, end_by, end_more, end_within, span_is, tab_found, tab_more, tab_none}
 use Rattle.page_scopes_phrases.proofs.cells.find_cell.Goals as goal
@@ -14,7 +14,7 @@ returns-in-Some-clause-value c =
     let rest = l.rest.now in
     let some : 0 < length rest = grind (arith, nat_tests) in
     let v = c.read_token-token.ensures in
-    let n = length (token_bytes (token_seen c.read_token-token.result)) in
+    let n = length (token_bytes (token_view c.read_token-token.result)) in
     let less : 0 < n = v.some some in
     let is = ap (λ u. length (token_bytes u)) v.value in
     let tab = ap tab_in (sym v.value) ∙ sym c.tab_in.ensures.value ∙ c.in-Some.is in

@@ -1,16 +1,16 @@
 use Rattle.std.proofs.Common.{◌≡◌, ◌≤◌, length}
 use Rattle.page_scopes_phrases.specs.Cells.{cells, span}
 use Rattle.page_sets_lines.specs.Fits.{FitsAt}
-use Rattle.page_scopes_phrases.specs.Phrases.{phrase_seen}
+use Rattle.page_scopes_phrases.specs.Phrases.{phrase_view}
 use Rattle.page_scopes_phrases.proofs.CellLemmas.{CellsLeft}
 use Rattle.page_scopes_phrases.proofs.cells.give_cells.Given as goal
 
 abbrev pub invariant-loop-span : goal.invariant-loop-span
 invariant-loop-span g l =
-    (l.span ≡ span (phrase_seen l.left))
-    × (l.span.end ≤ length (phrase_seen l.left).text)
-    × FitsAt (phrase_seen l.left).column (phrase_seen l.left).text
-    × CellsLeft g.O.PieceOut.left l.fn.out (cells l.line (phrase_seen l.phrase) l.fn.context l.fn.running) l.line (phrase_seen l.left) l.context l.running l.out
+    (l.span ≡ span (phrase_view l.left))
+    × (l.span.end ≤ length (phrase_view l.left).text)
+    × FitsAt (phrase_view l.left).column (phrase_view l.left).text
+    × CellsLeft g.O.PieceOut.left l.fn.out (cells l.line (phrase_view l.phrase) l.fn.context l.fn.running) l.line (phrase_view l.left) l.context l.running l.out
 
 abbrev pub decreases-loop-span : goal.decreases-loop-span
-decreases-loop-span g l = length (phrase_seen l.left).text
+decreases-loop-span g l = length (phrase_view l.left).text

@@ -1,7 +1,7 @@
 use Rattle.std.proofs.Common.{◌≡◌, ◌<◌, ◌≤◌, true, false, length, refl, sym, ap, ◌∙◌, arith, length-drop}
 use Rattle.std.proofs.lemmas.Bool.Decides.{nat_tests}
 use Rattle.std.proofs.lemmas.List.{take_rest}
-use Rattle.page_core_escapes.specs.Tokens.{token_at, token_bytes, token_seen}
+use Rattle.page_core_escapes.specs.Tokens.{token_at, token_bytes, token_view}
 use Rattle.page_scopes_phrases.specs.KeptTexts.{part_prints}
 use Rattle.page_scopes_phrases.proofs.KeptLemmas.{prints_more, prints_none}
 use Rattle.page_scopes_phrases.proofs.kept_words.prints_cell.Goals as goal
@@ -11,7 +11,7 @@ returns-then-part_prints c =
     let l = c.loop-rest in
     let some : 0 < length l.rest.now = grind (arith, nat_tests) in
     let v = c.read_token-token.ensures in
-    let n = length (token_bytes (token_seen c.read_token-token.result)) in
+    let n = length (token_bytes (token_view c.read_token-token.result)) in
     let more = prints_more c.args.is_literal c.args.quoted l.rest.now n (v.some some) (ap (λ u. length (token_bytes u)) v.value) in
     let yes : part_prints c.args.is_literal (token_at c.args.quoted l.rest.now) ≡ true =
     ap (part_prints c.args.is_literal) (sym v.value) ∙ sym c.part_prints.ensures ∙ c.if-part_prints.true in

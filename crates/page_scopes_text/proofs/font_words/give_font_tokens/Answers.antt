@@ -1,5 +1,5 @@
 use Rattle.std.proofs.Common.{sym, ◌∙◌, ◌∷◌, append_assoc}
-use Rattle.page_core_escapes.specs.Tokens.{token_seen}
+use Rattle.page_core_escapes.specs.Tokens.{token_view}
 use Rattle.page_scopes_text.proofs.FontWordLemmas.{font_items, part_pen}
 use Rattle.page_scopes_text.specs.FontWords.{part_tokens}
 use Rattle.page_scopes_text.specs.Words.{pen_after}
@@ -15,4 +15,4 @@ pub returns-clause-pen : goal.returns-clause-pen
 returns-clause-pen g c =
     let word = c.args.word.now in
     (rw (c.pass-2.ensures, c.give_part.ensures.pen, c.pass.ensures) at c.give_part-2.ensures.pen)
-    ∙ sym (part_pen (pen_after c.args.pen.now (token_seen word.before)) word.text.now (token_seen word.after ∷ part_tokens word.tail.now))
+    ∙ sym (part_pen (pen_after c.args.pen.now (token_view word.before)) word.text.now (token_view word.after ∷ part_tokens word.tail.now))

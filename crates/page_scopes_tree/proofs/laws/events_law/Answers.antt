@@ -3,8 +3,8 @@ use Rattle.page_scopes_tree.proofs.laws.events_law.Goals as goal
 
 pub returns : goal.returns
 returns g c = record {
-  given = λ d events more. events_items-append g.Y.Laying.tables d events more;
-  edge = λ d events more. events_edge-append g.Y.Laying.tables d events more;
-  page = λ d events line. page_items-append g.Y.Laying.tables d events line;
-  depth = λ d events h. events_edge-fits g.Y.Laying.tables d events h;
+  given = λ d events more. events_items-append g.Y.Renderer.tables d events more;
+  edge = λ d events more. events_edge-append g.Y.Renderer.tables d events more;
+  page = λ d events line. page_items-append g.Y.Renderer.tables d events line;
+  depth = λ d events h. events_edge-fits g.Y.Renderer.tables d events h;
 }

@@ -1,5 +1,5 @@
 use Rattle.std.proofs.Common.{◌≡◌, ◌-◌, arith, ◌∙◌, sym, reverse, refl, append_assoc}
-use Rattle.page_scopes_tree.specs.Acts.{act_seen, does}
+use Rattle.page_scopes_tree.specs.Acts.{act_view, does}
 use Rattle.page_scopes_tree.specs.Frames.{framed}
 use Rattle.page_scopes_tree.proofs.StackLemmas.{items_more, state_more, drop_more}
 use Rattle.page_scopes_tree.proofs.stacks.end_scopes.Goals as goal
@@ -14,10 +14,10 @@ loop-i-preserved g c =
     let l = c.loop-i in
     let i = l.invariant in
     let h = c.end_innermost.ensures in
-    let act = does (act_seen c.args.act.now) in
+    let act = does (act_view c.args.act.now) in
     let less = c.loop-i-test.true in
-    let items = items_more (framed g.Y.Laying.tables) c.args.count l._i less act (reverse l.scopes.items) l.state in
-    let states = state_more (framed g.Y.Laying.tables) c.args.count l._i less act (reverse l.scopes.items) l.state in
+    let items = items_more (framed g.Y.Renderer.tables) c.args.count l._i less act (reverse l.scopes.items) l.state in
+    let states = state_more (framed g.Y.Renderer.tables) c.args.count l._i less act (reverse l.scopes.items) l.state in
     let dropped = drop_more c.args.count l._i less (reverse l.scopes.items) in
     rw (h.state, h.scopes.0) (record {
       came = λ plan rest k. h.came plan _ (rw (items, append_assoc) at (i.came plan rest k));

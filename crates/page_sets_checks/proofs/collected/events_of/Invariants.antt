@@ -1,14 +1,14 @@
 use Rattle.std.proofs.Common.{◌≡◌, ◌++◌, length, map}
-use Rattle.page_core_base.specs.LinesTaken.{line_seen}
-use Rattle.page_sets_lines.specs.Events.{event_seen}
+use Rattle.page_core_base.specs.LinesTaken.{line_view}
+use Rattle.page_sets_lines.specs.Events.{event_view}
 use Rattle.page_sets_checks.proofs.collected.events_of.Given as goal
 
 abbrev pub invariant-loop-event : goal.invariant-loop-event
 invariant-loop-event g l = record {
-  place : g.S.MacroSet.IsPlaceOf l.set (line_seen l.line) l.place;
-  given : map event_seen l.events.items ++ g.S.MacroSet.events_from l.set (line_seen l.line) l.place
-      ≡ g.S.MacroSet.table l.set (line_seen l.line);
+  place : g.S.MacroSet.IsPlaceOf l.set (line_view l.line) l.place;
+  given : map event_view l.events.items ++ g.S.MacroSet.events_from l.set (line_view l.line) l.place
+      ≡ g.S.MacroSet.table l.set (line_view l.line);
 }
 
 abbrev pub decreases-loop-event : goal.decreases-loop-event
-decreases-loop-event g l = length (g.S.MacroSet.events_from l.set (line_seen l.line) l.place)
+decreases-loop-event g l = length (g.S.MacroSet.events_from l.set (line_view l.line) l.place)

@@ -1,10 +1,10 @@
 use Rattle.std.proofs.Common.{◌≡◌, length}
 use Rattle.page_sets_lines.specs.ControlLines.{arguments_after}
-use Rattle.page_sets_lines.specs.Lists.{no_options, options_after, options_seen}
+use Rattle.page_sets_lines.specs.Lists.{no_options, options_after, options_view}
 use Rattle.page_sets_lines.proofs.lists.read_list_options.Given as goal
 
 abbrev pub invariant-loop-word : goal.invariant-loop-word
-invariant-loop-word l = options_after (options_seen l.options) l.arguments ≡ options_after no_options (arguments_after l.start l.text)
+invariant-loop-word l = options_after (options_view l.options) l.arguments ≡ options_after no_options (arguments_after l.start l.text)
 
 abbrev pub decreases-loop-word : goal.decreases-loop-word
 decreases-loop-word l = length l.arguments

@@ -1,4 +1,4 @@
-use Rattle.page_sets_mdoc_lines.proofs.ExtentLemmas.{all_closing, one_less}
+use Rattle.page_sets_mdoc_lines.proofs.WordSpanLemmas.{all_closing, one_less}
 use Rattle.page_sets_mdoc_lines.proofs.laws.front_law.Goals as goal
 
 pub returns : goal.returns

@@ -1,5 +1,5 @@
 use Rattle.std.proofs.Common.{sym, ap, ◌∙◌}
-use Rattle.page_sets_lines.specs.Events.{given_seen}
+use Rattle.page_sets_lines.specs.Events.{given_view}
 use Rattle.page_sets_mdoc_lines.specs.LineWords.{arguments_after}
 use Rattle.page_sets_mdoc_lines.specs.Parts.{LineParts, rest_parts}
 use Rattle.page_sets_mdoc_lines.proofs.WordLemmas.{are_known, onto_rest, onto_taken, onto_words}
@@ -7,23 +7,23 @@ use Rattle.page_sets_mdoc_lines.proofs.words.find_words.Goals as goal
 
 pub returns-clause-known : goal.returns-clause-known
 returns-clause-known c =
-    let found = c.find_extent-found in
-    rw c.saturating_sub.ensures (are_known c.args.parsed (arguments_after c.take_word.result.1.rest c.args.text.now) _ found.result.extent found.ensures.extent found.ensures.outside)
+    let found = c.find_span-found in
+    rw c.saturating_sub.ensures (are_known c.args.parsed (arguments_after c.take_word.result.1.rest c.args.text.now) _ found.result.span found.ensures.span found.ensures.outside)
 
 pub returns-clause-taken : goal.returns-clause-taken
 returns-clause-taken c =
     let others = arguments_after c.take_word.result.1.rest c.args.text.now in
-    sym (onto_taken c.args.parsed others (given_seen c.take_word.result.0))
+    sym (onto_taken c.args.parsed others (given_view c.take_word.result.0))
     ∙ ap (λ (p : LineParts). p.taken) (sym (c.take_word.ensures.takes c.args.parsed))
 
 pub returns-clause-words : goal.returns-clause-words
 returns-clause-words c =
     let others = arguments_after c.take_word.result.1.rest c.args.text.now in
-    onto_words c.args.parsed others (given_seen c.take_word.result.0) _ c.find_extent-found.ensures.extent
+    onto_words c.args.parsed others (given_view c.take_word.result.0) _ c.find_span-found.ensures.span
     ∙ ap (λ (p : LineParts). p.words) (sym (c.take_word.ensures.takes c.args.parsed))
 
 pub returns-clause-rest : goal.returns-clause-rest
 returns-clause-rest c =
     let others = arguments_after c.take_word.result.1.rest c.args.text.now in
-    onto_rest c.args.parsed others _ (given_seen c.take_word.result.0) _ c.find_extent-found.ensures.extent c.find_extent-found.ensures.rest
+    onto_rest c.args.parsed others _ (given_view c.take_word.result.0) _ c.find_span-found.ensures.span c.find_span-found.ensures.rest
     ∙ ap (λ (p : LineParts). rest_parts p) (sym (c.take_word.ensures.takes c.args.parsed))

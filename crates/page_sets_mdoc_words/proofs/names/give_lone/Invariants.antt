@@ -1,7 +1,7 @@
 use Rattle.std.proofs.Common.{length}
 use Rattle.page_core_base.specs.Latches.{CameUpTo}
 use Rattle.page_sets_mdoc_lines.specs.Cursors.{IsCursorOf}
-use Rattle.page_sets_mdoc_lines.specs.Words.{words_seen}
+use Rattle.page_sets_mdoc_lines.specs.Words.{words_view}
 use Rattle.page_sets_mdoc_words.specs.Inlines.{lone}
 use Rattle.page_sets_mdoc_words.specs.Lone.{lone_event}
 use Rattle.page_sets_mdoc_words.proofs.names.give_lone.Given as goal
@@ -9,9 +9,9 @@ use Rattle.page_sets_mdoc_words.proofs.names.give_lone.Given as goal
 abbrev pub invariant-loop-word : goal.invariant-loop-word
 invariant-loop-word g l = record {
   within : IsCursorOf l.text l.left.cursor;
-  came : CameUpTo g.O.EventTaker.left l.fn.out (lone l.number (lone_event l.number l.column l.lone) (words_seen l.text l.fn.words))
-      (lone l.number (lone_event l.number l.column l.lone) (words_seen l.text l.left)) l.out;
+  came : CameUpTo g.O.EventTaker.left l.fn.out (lone l.number (lone_event l.number l.column l.lone) (words_view l.text l.fn.words))
+      (lone l.number (lone_event l.number l.column l.lone) (words_view l.text l.left)) l.out;
 }
 
 abbrev pub decreases-loop-word : goal.decreases-loop-word
-decreases-loop-word g l = length (words_seen l.text l.left)
+decreases-loop-word g l = length (words_view l.text l.left)

@@ -1,16 +1,16 @@
 use Rattle.std.proofs.Common.{length}
 use Rattle.page_core_base.specs.Latches.{CameUpTo}
 use Rattle.page_sets_mdoc_lines.specs.Cursors.{IsCursorOf}
-use Rattle.page_sets_mdoc_lines.specs.Words.{words_seen}
+use Rattle.page_sets_mdoc_lines.specs.Words.{words_view}
 use Rattle.page_sets_mdoc_words.specs.Printed.{printed}
 use Rattle.page_sets_mdoc_words.proofs.plain.give_printed.Given as goal
 
 abbrev pub invariant-loop-word : goal.invariant-loop-word
 invariant-loop-word g l = record {
   within : IsCursorOf l.text l.left.cursor;
-  came : CameUpTo g.O.EventTaker.left l.fn.out (printed l.number l.font (words_seen l.text l.fn.words))
-      (printed l.number l.font (words_seen l.text l.left)) l.out;
+  came : CameUpTo g.O.EventTaker.left l.fn.out (printed l.number l.font (words_view l.text l.fn.words))
+      (printed l.number l.font (words_view l.text l.left)) l.out;
 }
 
 abbrev pub decreases-loop-word : goal.decreases-loop-word
-decreases-loop-word g l = length (words_seen l.text l.left)
+decreases-loop-word g l = length (words_view l.text l.left)

@@ -1,16 +1,16 @@
 use Rattle.std.proofs.Common.{length}
 use Rattle.page_core_base.specs.Latches.{CameUpTo}
 use Rattle.page_sets_mdoc_lines.specs.Cursors.{IsCursorOf}
-use Rattle.page_sets_mdoc_lines.specs.Words.{words_seen}
+use Rattle.page_sets_mdoc_lines.specs.Words.{words_view}
 use Rattle.page_sets_mdoc_words.specs.Sentences.{names_events}
 use Rattle.page_sets_mdoc_words.proofs.sentences.give_names.Given as goal
 
 abbrev pub invariant-loop-name : goal.invariant-loop-name
 invariant-loop-name g l = record {
   within : IsCursorOf l.text l.left.cursor;
-  came : CameUpTo g.O.EventTaker.left l.fn.out (names_events l.number l.column l.sentence l.all (words_seen l.text l.fn.names))
-      (names_events l.number l.column l.sentence l.all (words_seen l.text l.left)) l.out;
+  came : CameUpTo g.O.EventTaker.left l.fn.out (names_events l.number l.column l.sentence l.all (words_view l.text l.fn.names))
+      (names_events l.number l.column l.sentence l.all (words_view l.text l.left)) l.out;
 }
 
 abbrev pub decreases-loop-name : goal.decreases-loop-name
-decreases-loop-name g l = length (words_seen l.text l.left)
+decreases-loop-name g l = length (words_view l.text l.left)

@@ -10,10 +10,10 @@ returns g c =
     let b = c.args.self.now in
     let own = plain_event line.line line.text.now c.args.plain in
     let end = line_end line.line (fills c.args.plain) in
-    let last = rw (c.fills.ensures, c.give_own.ensures.after) at c.give_line_end.ensures.after in
+    let last = rw (c.fills.ensures, c.give_generated.ensures.after) at c.give_line_end.ensures.after in
     record {
       came = λ plan rest h.
-          let came = rw (c.fills.ensures, c.give_own.ensures.after) at (c.give_line_end.ensures.came plan rest) in
-          came (c.give_own.ensures.came plan _ (rw (two_items b own end, append_assoc) at h));
+          let came = rw (c.fills.ensures, c.give_generated.ensures.after) at (c.give_line_end.ensures.came plan rest) in
+          came (c.give_generated.ensures.came plan _ (rw (two_items b own end, append_assoc) at h));
       after = last ∙ sym (two_after b own end);
     }

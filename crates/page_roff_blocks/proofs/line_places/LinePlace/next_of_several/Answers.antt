@@ -17,7 +17,7 @@ returns-in-Some-clause-next c =
     let part = c.part_of-part.ensures.value in
     rw (c.requires.several, c.if-self.false, c.in-Some.is, c.place_after-self.ensures) (
     slice_parts start line within
-    ∙ ap (λ part. part.atom ∷ parts_at line (record { is_whole = false; is_end = part.is_end; rest = place_after line part.rest })) (sym part)
+    ∙ ap (λ part. part.line_part ∷ parts_at line (record { is_whole = false; is_end = part.is_end; rest = place_after line part.rest })) (sym part)
     )
 
 pub returns-in-Some-clause-within : goal.returns-in-Some-clause-within

@@ -8,4 +8,4 @@ returns-in-Some c =
     let line = c.args.line.now in
     let start = c.in-Some.start in
     let within : start ≤ length line = rw c.in-Some.is at c.requires.within in
-    rw (c.if-self.false, c.if-self-2.false, c.in-Some.is) (c.is_block.ensures ∙ ap (λ part. is_block part.atom) c.written_part.ensures.value ∙ sym (slice_opens start line within))
+    rw (c.if-self.false, c.if-self-2.false, c.in-Some.is) (c.is_block.ensures ∙ ap (λ part. is_block part.line_part) c.written_part.ensures.value ∙ sym (slice_opens start line within))

@@ -1,7 +1,7 @@
 use Rattle.std.proofs.Common.{ap, ◌∙◌}
 use Rattle.page_roff_blocks.specs.Levels.{Levels}
 use Rattle.page_roff_machine.proofs.ActLemmas.{room, region_line_there, region_passed, decides_region_line, decides_region_end, decides_source_end, decides_turn, decides_last_turn}
-use Rattle.page_roff_regions.specs.OpenRegions.{opened_seen}
+use Rattle.page_roff_regions.specs.OpenRegions.{opened_view}
 use Rattle.page_roff_machine.proofs.runners.Runner.act_between_lines.Goals as goal
 
 pub end_region-requires : goal.end_region-requires
@@ -38,19 +38,19 @@ pub returns-then-turn : goal.returns-then-turn
 returns-then-turn g c =
     let in_loop = c.in_loop-in_loop.ensures ∙ ap (λ (l : Levels). l.in_loop) c.levels.ensures.value in
     let w = c.in-Turn in
-    decides_turn g.O.NoteOut.left c.args.self.now c.finish.new.self c.turn.new.self c.args.out.now c.finish.new.out c.turn.new.out (opened_seen w.region) w.has_begun c.in_loop-in_loop.result w.condition.now
+    decides_turn g.O.NoteOut.left c.args.self.now c.finish.new.self c.turn.new.self c.args.out.now c.finish.new.out c.turn.new.out (opened_view w.region) w.has_begun c.in_loop-in_loop.result w.condition.now
     w.ensures.value in_loop c.requires.sound c.finish.ensures (rw c.if-turn.true at c.turn.ensures)
 
 pub returns-else-turn : goal.returns-else-turn
 returns-else-turn g c =
     let in_loop = c.in_loop-in_loop.ensures ∙ ap (λ (l : Levels). l.in_loop) c.levels.ensures.value in
     let w = c.in-Turn in
-    decides_last_turn g.O.NoteOut.left c.args.self.now c.finish.new.self c.turn.new.self c.args.out.now c.finish.new.out c.turn.new.out (opened_seen w.region) w.has_begun c.in_loop-in_loop.result w.condition.now
+    decides_last_turn g.O.NoteOut.left c.args.self.now c.finish.new.self c.turn.new.self c.args.out.now c.finish.new.out c.turn.new.out (opened_view w.region) w.has_begun c.in_loop-in_loop.result w.condition.now
     w.ensures.value in_loop c.requires.sound c.finish.ensures (rw c.if-turn.false at c.turn.ensures)
 
 pub returns-in-SourceEnd : goal.returns-in-SourceEnd
 returns-in-SourceEnd g c =
     let in_loop = c.in_loop-in_loop.ensures ∙ ap (λ (l : Levels). l.in_loop) c.levels.ensures.value in
     let w = c.in-SourceEnd in
-    decides_source_end g.O.NoteOut.left c.args.self.now c.finish-in-SourceEnd.new.self c.args.out.now c.finish-in-SourceEnd.new.out (opened_seen w.region) w.has_begun c.in_loop-in_loop.result
+    decides_source_end g.O.NoteOut.left c.args.self.now c.finish-in-SourceEnd.new.self c.args.out.now c.finish-in-SourceEnd.new.out (opened_view w.region) w.has_begun c.in_loop-in_loop.result
     w.ensures.value in_loop c.requires.sound.setting c.finish-in-SourceEnd.ensures

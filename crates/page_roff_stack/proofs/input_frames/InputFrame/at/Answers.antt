@@ -1,5 +1,5 @@
 use Rattle.std.proofs.Common.{◌<◌, ◌^◌, None, refl, ap, ◌∙◌, arith}
-use Rattle.page_roff_blocks.specs.Levels.{Spot, at_line}
+use Rattle.page_roff_blocks.specs.Levels.{BlockCursor, at_line}
 use Rattle.page_roff_language.specs.Languages.{page}
 use Rattle.page_roff_stack.specs.declared.input_frames.InputFrame.{InputFrame}
 use Rattle.page_roff_stack.specs.declared.source_kinds.SourceKind.TheVariants as sources
@@ -16,11 +16,11 @@ returns c =
       ahead = None;
       lines = span 0 0;
       region = c.region.result;
-      spot = c.at.result;
+      cursor = c.at.result;
       turning = None;
     } in
-    let spot = c.at.ensures ∙ ap at_line c.levels.ensures in
-    let same = ap (λ (s : Spot). s.levels.skipped) spot in
-    let skips : a.spot.levels.skipped < 2 ^ 62 = omega (arith, same, c.requires) in
+    let cursor = c.at.ensures ∙ ap at_line c.levels.ensures in
+    let same = ap (λ (s : BlockCursor). s.levels.skipped) cursor in
+    let skips : a.cursor.levels.skipped < 2 ^ 62 = omega (arith, same, c.requires) in
     let set = place_set a refl refl c.end.ensures refl refl refl skips in
-    record { held = set.0; frame = set.1 ∙ rw (c.region.ensures, spot) refl }
+    record { held = set.0; frame = set.1 ∙ rw (c.region.ensures, cursor) refl }

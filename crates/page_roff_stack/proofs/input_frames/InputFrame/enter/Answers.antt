@@ -19,7 +19,7 @@ returns c =
       ahead = None;
       lines = span c.len-start.result c.len-end.result;
       region = None;
-      spot = c.new.result;
+      cursor = c.new.result;
       turning = None;
     } in
     let e : all ≡ (before ++ text) ++ args = c.append-2.ensures.items ∙ ap (λ bytes. bytes ++ args) c.append.ensures.items in

@@ -13,7 +13,7 @@ returns c =
       ahead = None;
       lines = span 0 0;
       region = None;
-      spot = c.new.result;
+      cursor = c.new.result;
       turning = None;
     } in
     let set = empty_set a refl refl c.end.ensures refl refl refl c.new.ensures refl in

@@ -12,4 +12,4 @@ returns-clause-held c =
 pub returns-clause-frame : goal.returns-clause-frame
 returns-clause-frame c =
     past_view c.args.self.now c.args.text.now c.of.result.now c.place_past-self.result c.pass.new.self c.of.ensures c.place_past-self.ensures
-    ∙ ap (λ spot. past spot (frame_of c.args.self.now c.args.text.now)) c.pass.ensures
+    ∙ ap (λ cursor. past cursor (frame_of c.args.self.now c.args.text.now)) c.pass.ensures

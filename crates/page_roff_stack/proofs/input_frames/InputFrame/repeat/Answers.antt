@@ -1,6 +1,6 @@
 use Rattle.std.proofs.Common.{◌≡◌, ◌++◌, drop, [], length, false, Some, None, refl, ap, ◌∙◌, append_assoc, arith}
 use Rattle.page_roff_language.specs.Languages.{body, TURNS}
-use Rattle.page_roff_regions.specs.Regions.{text_seen}
+use Rattle.page_roff_regions.specs.Regions.{text_view}
 use Rattle.page_roff_values.specs.Arguments.{lines_in}
 use Rattle.page_roff_stack.specs.declared.input_frames.InputFrame.{InputFrame}
 use Rattle.page_roff_stack.specs.declared.source_kinds.SourceKind.TheVariants as sources
@@ -15,7 +15,7 @@ pub returns : goal.returns
 returns c =
     let before = c.args.text.now.items in
     let more = c.args.more.now in
-    let packed = text_seen c.args.arguments in
+    let packed = text_view c.args.arguments in
     let all = c.append_arguments-arguments.new.text.items in
     let lines = span c.len-start.result c.len.result in
     let first = c.pass_line-condition.result in
@@ -27,7 +27,7 @@ returns c =
       ahead = None;
       lines = span 0 0;
       region = None;
-      spot = c.new.result;
+      cursor = c.new.result;
       turning = Some (record { condition = first; lines = others; left = TURNS; begun = false });
     } in
     let e : all ≡ (before ++ more) ++ packed_text packed =

@@ -18,7 +18,7 @@ returns c =
       ahead = None;
       lines = span 0 c.len.result;
       region = old.region;
-      spot = c.begin_line.new.self;
+      cursor = c.begin_line.new.self;
       turning = None;
     } in
     let e : all ≡ line ++ (10 ∷ []) =
@@ -27,12 +27,12 @@ returns c =
     let lines : a.lines ≡ span 0 (length (line ++ (10 ∷ []))) = ap (λ end. span 0 end) (c.len.ensures ∙ c.append-2.new.text.ok.0 ∙ ap length e) in
     let new : IsNew a all [] (line ++ (10 ∷ [])) =
     new_of a all [] (line ++ (10 ∷ [])) [] (e ∙ sym (append-nil (line ++ (10 ∷ [])))) refl c.end-self.ensures refl lines (rw none tt) tt in
-    let same = ap (λ spot. spot.levels.skipped) c.begin_line.ensures in
-    let skips : a.spot.levels.skipped < 2 ^ 62 = omega (arith, same, c.requires.skips) in
+    let same = ap (λ cursor. cursor.levels.skipped) c.begin_line.ensures in
+    let skips : a.cursor.levels.skipped < 2 ^ 62 = omega (arith, same, c.requires.skips) in
     let set = page_set a all line c.requires.line new none refl skips in
     record {
       held = set.0;
-      frame = set.1 ∙ ap (λ spot. frame page old.region spot (line ∷ []) None) c.begin_line.ensures;
+      frame = set.1 ∙ ap (λ cursor. frame page old.region cursor (line ∷ []) None) c.begin_line.ensures;
       fits = omega (arith, ap length e, length-append line (10 ∷ []), c.requires.line.bounded);
       capacity = omega (arith, c.clear.ensures.capacity, c.append.ensures.capacity, c.append-2.ensures.capacity);
     }

@@ -1,5 +1,5 @@
 use Rattle.std.proofs.Common.{◌≡◌, List, ℕ, Option, Some, None, ap, sym, ◌∙◌, vec_len}
-use Rattle.page_roff_regions.specs.OpenRegions.{opened_seen}
+use Rattle.page_roff_regions.specs.OpenRegions.{opened_view}
 use Rattle.page_roff_stack.specs.InputStacks.{stack_of}
 use Rattle.page_roff_stack.specs.Stacks.{turn_in, turn_or_end, next_around}
 use Rattle.page_roff_stack.proofs.InputStackLemmas.{some_around}
@@ -10,7 +10,7 @@ pub returns-in-Some-clause-value : goal.returns-in-Some-clause-value
 returns-in-Some-clause-value c =
     let a = c.self.inside in
     let s = stack_of a in
-    let region = opened_seen c.args.region in
+    let region = opened_view c.args.region in
     let turn : Option (List ℕ) = Some c.in-Some.condition.now in
     let some = some_around a (vec_len a.callers) a.callers.ok.0 (sym c.is_empty.ensures ∙ c.if-is_empty.false) in
     let comes : turn ≡ turn_in s.top.turning = rw c.deref.ensures.value at c.in-Some.ensures.value in
@@ -21,7 +21,7 @@ pub returns-in-None-clause-value : goal.returns-in-None-clause-value
 returns-in-None-clause-value c =
     let a = c.self.inside in
     let s = stack_of a in
-    let region = opened_seen c.args.region in
+    let region = opened_view c.args.region in
     let turn : Option (List ℕ) = None in
     let some = some_around a (vec_len a.callers) a.callers.ok.0 (sym c.is_empty.ensures ∙ c.if-is_empty.false) in
     let comes : turn ≡ turn_in s.top.turning = rw c.deref.ensures.value at c.in-None.ensures.value in

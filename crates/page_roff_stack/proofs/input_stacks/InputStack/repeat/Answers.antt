@@ -1,5 +1,5 @@
 use Rattle.std.proofs.Common.{◌≡◌, ◌++◌, drop, ap, ◌∙◌, arith, length-append}
-use Rattle.page_roff_regions.specs.Regions.{text_seen}
+use Rattle.page_roff_regions.specs.Regions.{text_view}
 use Rattle.page_roff_language.specs.Languages.{body, is_some}
 use Rattle.page_roff_language.specs.Machine.{depth, looped}
 use Rattle.page_roff_values.specs.Arguments.{lines_in}
@@ -28,7 +28,7 @@ invariant_of-self c =
     let a = c.self.inside in
     let b : Inside = record { text = c.repeat-body.new.text; top = c.replace-source.new.dest; callers = c.push_reserved.new.self } in
     let caller : Caller = record { source = c.replace-source.result; end = c.len-end.result } in
-    let packed = text_seen c.args.arguments in
+    let packed = text_view c.args.arguments in
     let more = c.args.text.now ++ packed_text packed in
     let there = may_be_called a (ap (λ s. is_some (depth s.under)) c.self.view_is ∙ c.requires.room) in
     let called : IsCalled a b caller more = record {
@@ -48,7 +48,7 @@ returns c =
     let a = c.self.inside in
     let b : Inside = record { text = c.repeat-body.new.text; top = c.replace-source.new.dest; callers = c.push_reserved.new.self } in
     let caller : Caller = record { source = c.replace-source.result; end = c.len-end.result } in
-    let packed = text_seen c.args.arguments in
+    let packed = text_view c.args.arguments in
     let more = c.args.text.now ++ packed_text packed in
     let called : IsCalled a b caller more = record {
       source = c.replace-source.ensures.value;

@@ -8,12 +8,12 @@ use Rattle.std.proofs.lemmas.Bool.Decides.{nat_tests}
 use Rattle.page_roff_forms.specs.declared.quotes.Argument.{Argument}
 use Rattle.page_roff_forms.specs.Arguments.{is_quoted}
 use Rattle.page_sets_mdoc_rows.specs.declared.macros.Inline.{Inline}
-use Rattle.page_sets_mdoc_lines.specs.declared.extents.Extent.{Extent}
+use Rattle.page_sets_mdoc_lines.specs.declared.word_spans.WordSpan.{WordSpan}
 use Rattle.page_sets_mdoc_rows.specs.Rows.{row_of, called}
 use Rattle.page_sets_mdoc_rows.specs.Delimiters.{delimiters, delimiter_of}
 use Rattle.page_sets_mdoc_rows.specs.declared.delimiters.Delimiter.{Delimiter}
 use Rattle.page_sets_mdoc_lines.specs.LineWords.{word_call, word_delimiter, closes, is_nothing, is_closing, is_real}
-use Rattle.page_sets_mdoc_lines.specs.Parts.{LineParts, parts, part_first, if_parsed, is_call, is_something, front_len, has_calls, extent_of}
+use Rattle.page_sets_mdoc_lines.specs.Parts.{LineParts, parts, part_first, if_parsed, is_call, is_something, front_len, has_calls, span_of}
 
 closing_by : (closing others : Bool) (n : ℕ) → others ≡ (n == 0) → (closing && others) ≡ ((if (n == 0) && closing then 0 else 1 + n) == 0)
 closing_by true true n h = rw (← h) refl
@@ -39,12 +39,12 @@ one_less closing argument arguments = less_by (front_len closing arguments == 0)
 -- ---- one pass
 
 -- the words up to the next call, or to the closing delimiters at the line's end
-abbrev pub own_words : (Argument (List ℕ) → Bool) → (Argument (List ℕ) → Bool) → List (Argument (List ℕ)) → List (Argument (List ℕ))
-own_words closing call [] = []
-own_words closing call (argument ∷ arguments) =
+abbrev pub generated_words : (Argument (List ℕ) → Bool) → (Argument (List ℕ) → Bool) → List (Argument (List ℕ)) → List (Argument (List ℕ))
+generated_words closing call [] = []
+generated_words closing call (argument ∷ arguments) =
     if list_all closing (argument ∷ arguments) then []
     else if call argument then []
-    else argument ∷ own_words closing call arguments
+    else argument ∷ generated_words closing call arguments
 
 -- whether calls come after the words
 abbrev pub calls_follow : (Argument (List ℕ) → Bool) → (Argument (List ℕ) → Bool) → List (Argument (List ℕ)) → Bool
@@ -54,37 +54,37 @@ calls_follow closing call (argument ∷ arguments) =
     else if call argument then true
     else calls_follow closing call arguments
 
-abbrev pub no_words : Extent
+abbrev pub no_words : WordSpan
 no_words = record { words = 0; inside = 0; has_real = false; follows = false }
 
 -- with one word more, closing or not, real or not
-abbrev pub one_word : Extent → Bool → Bool → Extent
-one_word extent is_closing is_real = record {
-  words = extent.words + 1;
-  inside = if is_closing then extent.inside else extent.words + 1;
-  has_real = extent.has_real || is_real;
-  follows = extent.follows;
+abbrev pub one_word : WordSpan → Bool → Bool → WordSpan
+one_word span is_closing is_real = record {
+  words = span.words + 1;
+  inside = if is_closing then span.inside else span.words + 1;
+  has_real = span.has_real || is_real;
+  follows = span.follows;
 }
 
 -- with the words that a list begins with, one after the other
-abbrev pub extent_from : (Argument (List ℕ) → Bool) → (Argument (List ℕ) → Bool) → (Argument (List ℕ) → Bool) → Extent → List (Argument (List ℕ)) → Extent
-extent_from closing call real extent [] = extent
-extent_from closing call real extent (argument ∷ arguments) =
-    if list_all closing (argument ∷ arguments) then extent
-    else if call argument then record extent { follows = true }
-    else extent_from closing call real (one_word extent (closing argument) (real argument)) arguments
+abbrev pub span_from : (Argument (List ℕ) → Bool) → (Argument (List ℕ) → Bool) → (Argument (List ℕ) → Bool) → WordSpan → List (Argument (List ℕ)) → WordSpan
+span_from closing call real span [] = span
+span_from closing call real span (argument ∷ arguments) =
+    if list_all closing (argument ∷ arguments) then span
+    else if call argument then record span { follows = true }
+    else span_from closing call real (one_word span (closing argument) (real argument)) arguments
 
-words_from : (closing call real : Argument (List ℕ) → Bool) (arguments : List (Argument (List ℕ))) (extent : Extent)
-    → (extent_from closing call real extent arguments).words ≡ extent.words + length (own_words closing call arguments)
-words_from closing call real [] extent = omega arith
-words_from closing call real (argument ∷ arguments) extent =
+words_from : (closing call real : Argument (List ℕ) → Bool) (arguments : List (Argument (List ℕ))) (span : WordSpan)
+    → (span_from closing call real span arguments).words ≡ span.words + length (generated_words closing call arguments)
+words_from closing call real [] span = omega arith
+words_from closing call real (argument ∷ arguments) span =
     elim (cases_Bool (list_all closing (argument ∷ arguments))) [
       | inl t ↦ rw t (omega arith)
       | inr t ↦
           elim (cases_Bool (call argument)) [
             | inl s ↦ rw (t, s) (omega arith)
             | inr s ↦
-                let k = words_from closing call real arguments (one_word extent (closing argument) (real argument)) in
+                let k = words_from closing call real arguments (one_word span (closing argument) (real argument)) in
                 rw (t, s) (omega (arith, k))
           ]
     ]
@@ -97,22 +97,22 @@ inside_by true false n inside words e = let t : (1 + n == 0) ≡ false = grind (
 inside_by false true n inside words e = let t : (1 + n == 0) ≡ false = grind (arith, nat_tests) in rw t (omega arith)
 inside_by false false n inside words e = let t : (1 + n == 0) ≡ false = grind (arith, nat_tests) in rw t (omega arith)
 
-abbrev inside_after : (Argument (List ℕ) → Bool) → Extent → List (Argument (List ℕ)) → ℕ
-inside_after closing extent words = if front_len closing words == 0 then extent.inside else extent.words + front_len closing words
+abbrev inside_after : (Argument (List ℕ) → Bool) → WordSpan → List (Argument (List ℕ)) → ℕ
+inside_after closing span words = if front_len closing words == 0 then span.inside else span.words + front_len closing words
 
-inside_from : (closing call real : Argument (List ℕ) → Bool) (arguments : List (Argument (List ℕ))) (extent : Extent)
-    → (extent_from closing call real extent arguments).inside ≡ inside_after closing extent (own_words closing call arguments)
-inside_from closing call real [] extent = refl
-inside_from closing call real (argument ∷ arguments) extent =
+inside_from : (closing call real : Argument (List ℕ) → Bool) (arguments : List (Argument (List ℕ))) (span : WordSpan)
+    → (span_from closing call real span arguments).inside ≡ inside_after closing span (generated_words closing call arguments)
+inside_from closing call real [] span = refl
+inside_from closing call real (argument ∷ arguments) span =
     elim (cases_Bool (list_all closing (argument ∷ arguments))) [
       | inl t ↦ rw t refl
       | inr t ↦
           elim (cases_Bool (call argument)) [
             | inl s ↦ rw (t, s) refl
             | inr s ↦
-                let n = front_len closing (own_words closing call arguments) in
-                rw (t, s) (inside_from closing call real arguments (one_word extent (closing argument) (real argument))
-                ∙ inside_by (n == 0) (closing argument) n extent.inside extent.words refl)
+                let n = front_len closing (generated_words closing call arguments) in
+                rw (t, s) (inside_from closing call real arguments (one_word span (closing argument) (real argument))
+                ∙ inside_by (n == 0) (closing argument) n span.inside span.words refl)
           ]
     ]
 
@@ -128,36 +128,36 @@ or_more : (a b c : Bool) → ((a || b) || c) ≡ (a || (b || c))
 or_more true b c = refl
 or_more false b c = refl
 
-real_from : (closing call real : Argument (List ℕ) → Bool) (arguments : List (Argument (List ℕ))) (extent : Extent)
-    → (extent_from closing call real extent arguments).has_real ≡ (extent.has_real || list_any real (own_words closing call arguments))
-real_from closing call real [] extent = or_none extent.has_real
-real_from closing call real (argument ∷ arguments) extent =
+real_from : (closing call real : Argument (List ℕ) → Bool) (arguments : List (Argument (List ℕ))) (span : WordSpan)
+    → (span_from closing call real span arguments).has_real ≡ (span.has_real || list_any real (generated_words closing call arguments))
+real_from closing call real [] span = or_none span.has_real
+real_from closing call real (argument ∷ arguments) span =
     elim (cases_Bool (list_all closing (argument ∷ arguments))) [
-      | inl t ↦ rw t (or_none extent.has_real)
+      | inl t ↦ rw t (or_none span.has_real)
       | inr t ↦
           elim (cases_Bool (call argument)) [
-            | inl s ↦ rw (t, s) (or_none extent.has_real)
+            | inl s ↦ rw (t, s) (or_none span.has_real)
             | inr s ↦
-                rw (t, s) (real_from closing call real arguments (one_word extent (closing argument) (real argument))
-                ∙ or_more extent.has_real (real argument) (list_any real (own_words closing call arguments)))
+                rw (t, s) (real_from closing call real arguments (one_word span (closing argument) (real argument))
+                ∙ or_more span.has_real (real argument) (list_any real (generated_words closing call arguments)))
           ]
     ]
 
-follows_from : (closing call real : Argument (List ℕ) → Bool) (arguments : List (Argument (List ℕ))) (extent : Extent)
-    → extent.follows ≡ false → (extent_from closing call real extent arguments).follows ≡ calls_follow closing call arguments
-follows_from closing call real [] extent h = h
-follows_from closing call real (argument ∷ arguments) extent h =
+follows_from : (closing call real : Argument (List ℕ) → Bool) (arguments : List (Argument (List ℕ))) (span : WordSpan)
+    → span.follows ≡ false → (span_from closing call real span arguments).follows ≡ calls_follow closing call arguments
+follows_from closing call real [] span h = h
+follows_from closing call real (argument ∷ arguments) span h =
     elim (cases_Bool (list_all closing (argument ∷ arguments))) [
       | inl t ↦ rw t h
       | inr t ↦
           elim (cases_Bool (call argument)) [
             | inl s ↦ rw (t, s) refl
-            | inr s ↦ rw (t, s) (follows_from closing call real arguments (one_word extent (closing argument) (real argument)) h)
+            | inr s ↦ rw (t, s) (follows_from closing call real arguments (one_word span (closing argument) (real argument)) h)
           ]
     ]
 
 pub words_is : (closing call real : Argument (List ℕ) → Bool) (arguments : List (Argument (List ℕ)))
-    → (extent_from closing call real no_words arguments).words ≡ length (own_words closing call arguments)
+    → (span_from closing call real no_words arguments).words ≡ length (generated_words closing call arguments)
 words_is closing call real arguments = let k = words_from closing call real arguments no_words in omega (arith, k)
 
 pub none_inside : (n : ℕ) → (if n == 0 then 0 else 0 + n) ≡ n
@@ -167,90 +167,90 @@ none_inside n = elim (cases_Bool (n == 0)) [
 ]
 
 pub inside_is : (closing call real : Argument (List ℕ) → Bool) (arguments : List (Argument (List ℕ)))
-    → (extent_from closing call real no_words arguments).inside ≡ front_len closing (own_words closing call arguments)
+    → (span_from closing call real no_words arguments).inside ≡ front_len closing (generated_words closing call arguments)
 inside_is closing call real arguments =
-    inside_from closing call real arguments no_words ∙ none_inside (front_len closing (own_words closing call arguments))
+    inside_from closing call real arguments no_words ∙ none_inside (front_len closing (generated_words closing call arguments))
 
 pub real_is : (closing call real : Argument (List ℕ) → Bool) (arguments : List (Argument (List ℕ)))
-    → (extent_from closing call real no_words arguments).has_real ≡ list_any real (own_words closing call arguments)
+    → (span_from closing call real no_words arguments).has_real ≡ list_any real (generated_words closing call arguments)
 real_is closing call real arguments = real_from closing call real arguments no_words
 
 pub follows_is : (closing call real : Argument (List ℕ) → Bool) (arguments : List (Argument (List ℕ)))
-    → (extent_from closing call real no_words arguments).follows ≡ calls_follow closing call arguments
+    → (span_from closing call real no_words arguments).follows ≡ calls_follow closing call arguments
 follows_is closing call real arguments = follows_from closing call real arguments no_words refl
 
 -- ---- one pass, which sees only at its end that the delimiters read last are those at the line's end
 
 -- without the closing delimiters at the end of its words
-abbrev pub cut_words : Extent → Extent
-cut_words extent = record extent { words = extent.inside }
+abbrev pub cut_words : WordSpan → WordSpan
+cut_words span = record span { words = span.inside }
 
-abbrev pub passed : (Argument (List ℕ) → Bool) → (Argument (List ℕ) → Bool) → (Argument (List ℕ) → Bool) → Extent → List (Argument (List ℕ)) → Extent
-passed closing call real extent [] = cut_words extent
-passed closing call real extent (argument ∷ arguments) =
-    if call argument then record extent { follows = true }
-    else passed closing call real (one_word extent (closing argument) (real argument)) arguments
+abbrev pub passed : (Argument (List ℕ) → Bool) → (Argument (List ℕ) → Bool) → (Argument (List ℕ) → Bool) → WordSpan → List (Argument (List ℕ)) → WordSpan
+passed closing call real span [] = cut_words span
+passed closing call real span (argument ∷ arguments) =
+    if call argument then record span { follows = true }
+    else passed closing call real (one_word span (closing argument) (real argument)) arguments
 
 -- a closing delimiter calls nothing, and is no word of its own
 pub record AreApart (closing call real : Argument (List ℕ) → Bool) : Type 0 where
   pub no_call : (argument : Argument (List ℕ)) → closing argument ≡ true → call argument ≡ false
   pub no_real : (argument : Argument (List ℕ)) → closing argument ≡ true → real argument ≡ false
 
-stopped : (closing call real : Argument (List ℕ) → Bool) (arguments : List (Argument (List ℕ))) (extent : Extent)
-    → list_all closing arguments ≡ true → extent_from closing call real extent arguments ≡ extent
-stopped closing call real [] extent h = refl
-stopped closing call real (argument ∷ arguments) extent h = rw h refl
+stopped : (closing call real : Argument (List ℕ) → Bool) (arguments : List (Argument (List ℕ))) (span : WordSpan)
+    → list_all closing arguments ≡ true → span_from closing call real span arguments ≡ span
+stopped closing call real [] span h = refl
+stopped closing call real (argument ∷ arguments) span h = rw h refl
 
-cut_again : (extent : Extent) (real : Bool) → real ≡ false → cut_words (one_word extent true real) ≡ cut_words extent
-cut_again extent real r = rw (r, sym (or_none extent.has_real)) refl
+cut_again : (span : WordSpan) (real : Bool) → real ≡ false → cut_words (one_word span true real) ≡ cut_words span
+cut_again span real r = rw (r, sym (or_none span.has_real)) refl
 
 -- where all that is left closes
-passed_tail : (closing call real : Argument (List ℕ) → Bool) (arguments : List (Argument (List ℕ))) (extent : Extent) → AreApart closing call real
-    → list_all closing arguments ≡ true → passed closing call real extent arguments ≡ cut_words extent
-passed_tail closing call real [] extent apart h = refl
-passed_tail closing call real (argument ∷ arguments) extent apart h =
+passed_tail : (closing call real : Argument (List ℕ) → Bool) (arguments : List (Argument (List ℕ))) (span : WordSpan) → AreApart closing call real
+    → list_all closing arguments ≡ true → passed closing call real span arguments ≡ cut_words span
+passed_tail closing call real [] span apart h = refl
+passed_tail closing call real (argument ∷ arguments) span apart h =
     let parts = and_parts (closing argument) (list_all closing arguments) h in
     let s : call argument ≡ false = apart.no_call argument parts.0 in
     let r : real argument ≡ false = apart.no_real argument parts.0 in
-    let more = passed_tail closing call real arguments (one_word extent true (real argument)) apart parts.1 in
-    rw (s, parts.0) (more ∙ cut_again extent (real argument) r)
+    let more = passed_tail closing call real arguments (one_word span true (real argument)) apart parts.1 in
+    rw (s, parts.0) (more ∙ cut_again span (real argument) r)
 
 and_false : (a b : Bool) → (a && b) ≡ false → b ≡ true → a ≡ false
 and_false true true h e = h
 and_false true false h e = sym e
 and_false false b h e = refl
 
-passed_word : (closing call real : Argument (List ℕ) → Bool) (argument : Argument (List ℕ)) (arguments : List (Argument (List ℕ))) (extent : Extent)
+passed_word : (closing call real : Argument (List ℕ) → Bool) (argument : Argument (List ℕ)) (arguments : List (Argument (List ℕ))) (span : WordSpan)
     → AreApart closing call real → (closing argument && list_all closing arguments) ≡ false
     → (list_all closing arguments ≡ false
-    → passed closing call real (one_word extent (closing argument) (real argument)) arguments
-    ≡ extent_from closing call real (one_word extent (closing argument) (real argument)) arguments)
-    → passed closing call real (one_word extent (closing argument) (real argument)) arguments
-    ≡ extent_from closing call real (one_word extent (closing argument) (real argument)) arguments
-passed_word closing call real argument arguments extent apart h more =
+    → passed closing call real (one_word span (closing argument) (real argument)) arguments
+    ≡ span_from closing call real (one_word span (closing argument) (real argument)) arguments)
+    → passed closing call real (one_word span (closing argument) (real argument)) arguments
+    ≡ span_from closing call real (one_word span (closing argument) (real argument)) arguments
+passed_word closing call real argument arguments span apart h more =
     elim (cases_Bool (list_all closing arguments)) [
       | inl t ↦
           let c : closing argument ≡ false = and_false (closing argument) (list_all closing arguments) h t in
-          let last = one_word extent (closing argument) (real argument) in
+          let last = one_word span (closing argument) (real argument) in
           let cut : cut_words last ≡ last = rw c refl in
           passed_tail closing call real arguments last apart t ∙ cut ∙ sym (stopped closing call real arguments last t)
       | inr t ↦ more t
     ]
 
-passed_from : (closing call real : Argument (List ℕ) → Bool) (arguments : List (Argument (List ℕ))) (extent : Extent) → AreApart closing call real
-    → list_all closing arguments ≡ false → passed closing call real extent arguments ≡ extent_from closing call real extent arguments
-passed_from closing call real [] extent apart h = absurd (both_ways true h refl)
-passed_from closing call real (argument ∷ arguments) extent apart h =
+passed_from : (closing call real : Argument (List ℕ) → Bool) (arguments : List (Argument (List ℕ))) (span : WordSpan) → AreApart closing call real
+    → list_all closing arguments ≡ false → passed closing call real span arguments ≡ span_from closing call real span arguments
+passed_from closing call real [] span apart h = absurd (both_ways true h refl)
+passed_from closing call real (argument ∷ arguments) span apart h =
     elim (cases_Bool (call argument)) [
       | inl s ↦ rw (h, s) refl
       | inr s ↦
-          rw (h, s) (passed_word closing call real argument arguments extent apart h
+          rw (h, s) (passed_word closing call real argument arguments span apart h
           (λ (t : list_all closing arguments ≡ false).
-          passed_from closing call real arguments (one_word extent (closing argument) (real argument)) apart t))
+          passed_from closing call real arguments (one_word span (closing argument) (real argument)) apart t))
     ]
 
 pub passed_is : (closing call real : Argument (List ℕ) → Bool) (arguments : List (Argument (List ℕ))) → AreApart closing call real
-    → passed closing call real no_words arguments ≡ extent_from closing call real no_words arguments
+    → passed closing call real no_words arguments ≡ span_from closing call real no_words arguments
 passed_is closing call real arguments apart =
     elim (cases_Bool (list_all closing arguments)) [
       | inl t ↦ passed_tail closing call real arguments no_words apart t ∙ sym (stopped closing call real arguments no_words t)
@@ -259,29 +259,29 @@ passed_is closing call real arguments apart =
 
 -- ---- one step of the pass
 
-pub word_passed : (closing call real : Argument (List ℕ) → Bool) (argument : Argument (List ℕ)) (arguments : List (Argument (List ℕ))) (extent : Extent)
+pub word_passed : (closing call real : Argument (List ℕ) → Bool) (argument : Argument (List ℕ)) (arguments : List (Argument (List ℕ))) (span : WordSpan)
     → call argument ≡ false
-    → passed closing call real extent (argument ∷ arguments) ≡ passed closing call real (one_word extent (closing argument) (real argument)) arguments
-word_passed closing call real argument arguments extent s = rw s refl
+    → passed closing call real span (argument ∷ arguments) ≡ passed closing call real (one_word span (closing argument) (real argument)) arguments
+word_passed closing call real argument arguments span s = rw s refl
 
 -- what a turn makes of the numbers is one word more
-pub one_more : (closing real : Bool) (extent middle last : Extent)
-    → middle ≡ (if closing then extent else record extent { inside = extent.words + 1 })
-    → last ≡ (if real then record middle { has_real = true } else middle) → record last { words = last.words + 1 } ≡ one_word extent closing real
-one_more true true extent middle last e f = rw (f, e, or_some extent.has_real) refl
-one_more true false extent middle last e f = rw (f, e, sym (or_none extent.has_real)) refl
-one_more false true extent middle last e f = rw (f, e, or_some extent.has_real) refl
-one_more false false extent middle last e f = rw (f, e, sym (or_none extent.has_real)) refl
+pub one_more : (closing real : Bool) (span middle last : WordSpan)
+    → middle ≡ (if closing then span else record span { inside = span.words + 1 })
+    → last ≡ (if real then record middle { has_real = true } else middle) → record last { words = last.words + 1 } ≡ one_word span closing real
+one_more true true span middle last e f = rw (f, e, or_some span.has_real) refl
+one_more true false span middle last e f = rw (f, e, sym (or_none span.has_real)) refl
+one_more false true span middle last e f = rw (f, e, or_some span.has_real) refl
+one_more false false span middle last e f = rw (f, e, sym (or_none span.has_real)) refl
 
 -- ---- the words of the parts
 
 abbrev IsOwn : Bool → List (Argument (List ℕ)) → LineParts → Type 0
 IsOwn parsed arguments p =
-    (own_words is_closing (is_call parsed) arguments ≡ p.words) × (calls_follow is_closing (is_call parsed) arguments ≡ has_calls p.calls)
+    (generated_words is_closing (is_call parsed) arguments ≡ p.words) × (calls_follow is_closing (is_call parsed) arguments ≡ has_calls p.calls)
 
 own_by : (parsed : Bool) (argument : Argument (List ℕ)) (arguments : List (Argument (List ℕ))) (call : Option Inline)
     → if_parsed parsed (word_call argument) ≡ call → IsOwn parsed arguments (parts None parsed arguments)
-    → ((if is_call parsed argument then [] else argument ∷ own_words is_closing (is_call parsed) arguments)
+    → ((if is_call parsed argument then [] else argument ∷ generated_words is_closing (is_call parsed) arguments)
     ≡ (part_first call argument (parts None parsed arguments) (λ inline. parts (Some inline) true arguments)).words)
     × ((if is_call parsed argument then true else calls_follow is_closing (is_call parsed) arguments)
     ≡ has_calls (part_first call argument (parts None parsed arguments) (λ inline. parts (Some inline) true arguments)).calls)
@@ -300,19 +300,19 @@ own_are parsed (argument ∷ arguments) =
       | inr t ↦ rw t (own_by parsed argument arguments (if_parsed parsed (word_call argument)) refl (own_are parsed arguments))
     ]
 
-abbrev extent_with : ℕ → ℕ → Bool → Bool → Extent
-extent_with words inside has_real follows = record { words = words; inside = inside; has_real = has_real; follows = follows }
+abbrev span_with : ℕ → ℕ → Bool → Bool → WordSpan
+span_with words inside has_real follows = record { words = words; inside = inside; has_real = has_real; follows = follows }
 
-extent_by : (w i w' i' : ℕ) (r f r' f' : Bool) → w ≡ w' → i ≡ i' → r ≡ r' → f ≡ f' → extent_with w i r f ≡ extent_with w' i' r' f'
-extent_by w i w' i' r f r' f' a b c d = rw (a, b, c, d) refl
+span_by : (w i w' i' : ℕ) (r f r' f' : Bool) → w ≡ w' → i ≡ i' → r ≡ r' → f ≡ f' → span_with w i r f ≡ span_with w' i' r' f'
+span_by w i w' i' r f r' f' a b c d = rw (a, b, c, d) refl
 
-pub extent_is : (parsed : Bool) (arguments : List (Argument (List ℕ)))
-    → extent_from is_closing (is_call parsed) is_real no_words arguments ≡ extent_of (parts None parsed arguments)
-extent_is parsed arguments =
+pub span_is : (parsed : Bool) (arguments : List (Argument (List ℕ)))
+    → span_from is_closing (is_call parsed) is_real no_words arguments ≡ span_of (parts None parsed arguments)
+span_is parsed arguments =
     let own = own_are parsed arguments in
     let p = parts None parsed arguments in
-    let found = extent_from is_closing (is_call parsed) is_real no_words arguments in
-    extent_by found.words found.inside (length p.words) (front_len is_closing p.words) found.has_real found.follows (list_any is_real p.words) (has_calls p.calls)
+    let found = span_from is_closing (is_call parsed) is_real no_words arguments in
+    span_by found.words found.inside (length p.words) (front_len is_closing p.words) found.has_real found.follows (list_any is_real p.words) (has_calls p.calls)
     (words_is is_closing (is_call parsed) is_real arguments ∙ ap (λ words. length words) own.0)
     (inside_is is_closing (is_call parsed) is_real arguments ∙ ap (λ words. front_len is_closing words) own.0)
     (real_is is_closing (is_call parsed) is_real arguments ∙ ap (λ words. list_any is_real words) own.0)
@@ -365,7 +365,7 @@ unfolding is_closing is_real
 closing_real word h = real_by (word_delimiter word) h
 
 pub pass_is : (parsed : Bool) (arguments : List (Argument (List ℕ)))
-    → passed is_closing (is_call parsed) is_real no_words arguments ≡ extent_of (parts None parsed arguments)
+    → passed is_closing (is_call parsed) is_real no_words arguments ≡ span_of (parts None parsed arguments)
 pass_is parsed arguments =
     passed_is is_closing (is_call parsed) is_real arguments (record { no_call = closing_calls parsed; no_real = closing_real })
-    ∙ extent_is parsed arguments
+    ∙ span_is parsed arguments

@@ -2,7 +2,7 @@ use Rattle.std.proofs.Common.{◌<◌, ◌≤◌, length, sym, ap, ◌∙◌, ar
 use Rattle.page_engine_records.specs.NameTexts.{with_byte}
 use Rattle.page_engine_records.specs.declared.texts.TheConstants.{TEXT}
 use Rattle.page_engine_records.proofs.TextLemmas.{with_room, without_room}
-use Rattle.page_engine_records.proofs.texts.KeptText.add.Goals as goal
+use Rattle.page_engine_records.proofs.texts.SectionText.add.Goals as goal
 
 pub returns-then-len-lt-TEXT : goal.returns-then-len-lt-TEXT
 returns-then-len-lt-TEXT c =

@@ -1,49 +1,49 @@
 //! What events give that open and close nothing (man(7), mdoc(7)).
 
 ghost use Rattle.std.specs.Prelude.{◌≡◌};
-ghost use Rattle.page_scopes_leaves.specs.Deeds as deeds;
-ghost use Rattle.page_sets_lines.specs.Fits.{DeedFits};
+ghost use Rattle.page_scopes_leaves.specs.EventKinds as event_kinds;
+ghost use Rattle.page_sets_lines.specs.Fits.{KindFits};
 ghost use Rattle.page_scopes_phrases.specs.Outcomes.{GivesOutcome};
-ghost use Rattle.page_sets_lines.specs.Events.{deed_seen};
+ghost use Rattle.page_sets_lines.specs.Events.{kind_view};
 
 use crate::{end_line, give_leaf, give_raw_line};
 use page_core_base::{PieceOut, Place};
 use page_scopes_layout::Context;
 use page_scopes_phrases::{KeptText, Running, give_line_word, keep_name};
 use page_scopes_words::report_part;
-use page_sets_lines::Deed;
+use page_sets_lines::EventKind;
 
 /// Gives a word, a leaf, a line as it is, a line's end, or a message; nothing of what opens or closes. The name is that of the manual.
-#[tactic(auto, unfolding(crate::specs::Deeds::deed_outcome))]
+#[tactic(auto, unfolding(crate::specs::EventKinds::kind_outcome))]
 #[inline(always)]
-pub fn give_deed<O: PieceOut>(
+pub fn give_kind<O: PieceOut>(
     out: &mut O,
     place: Place,
-    deed: &Deed<&[u8]>,
+    kind: &EventKind<&[u8]>,
     name: &mut Option<KeptText>,
     context: &mut Context,
     running: &mut Running,
 )
-    requires { DeedFits (deed_seen deed.now) }
+    requires { KindFits (kind_view kind.now) }
     ensures gives { GivesOutcome O.left out.old
-        (deeds.deed_outcome place (deed_seen deed.now) name.old context.old running.old)
+        (event_kinds.kind_outcome place (kind_view kind.now) name.old context.old running.old)
         out.new context.new running.new }
-    ensures name { name.new ≡ deeds.name_after (deed_seen deed.now) name.old }
+    ensures name { name.new ≡ event_kinds.name_after (kind_view kind.now) name.old }
 {
-    match deed {
-        Deed::Word(word) => {
+    match kind {
+        EventKind::Word(word) => {
             keep_name(out, place.line, word.role, word.arg, name);
             give_line_word(out, place.line, word, context, running);
         }
-        Deed::Leaf(leaf) => give_leaf(out, place, leaf, name, context, running),
-        Deed::Raw(text) => give_raw_line(out, place, text, context, running),
-        Deed::End { .. } => end_line(out, context, running),
-        Deed::Note {
+        EventKind::Leaf(leaf) => give_leaf(out, place, leaf, name, context, running),
+        EventKind::Raw(text) => give_raw_line(out, place, text, context, running),
+        EventKind::End { .. } => end_line(out, context, running),
+        EventKind::Note {
             kind,
             detail,
             is_quoted,
             ..
         } => report_part(out, *is_quoted, *kind, place, detail),
-        Deed::Open(_) | Deed::Close(_) | Deed::LineScope(_) => {}
+        EventKind::Open(_) | EventKind::Close(_) | EventKind::LineScope(_) => {}
     }
 }

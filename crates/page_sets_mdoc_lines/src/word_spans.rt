@@ -1,9 +1,9 @@
-//! The extent of a macro's words (mdoc(7), "MACRO SYNTAX").
+//! The span of a macro's words (mdoc(7), "MACRO SYNTAX").
 
 ghost use Rattle.std.specs.Prelude.{◌≡◌, ◌≤◌, length, drop, None};
-ghost use Rattle.page_roff_forms.specs.Arguments.{argument_seen};
+ghost use Rattle.page_roff_forms.specs.Arguments.{argument_view};
 ghost use Rattle.page_sets_mdoc_lines.specs.LineWords.{arguments_after};
-ghost use Rattle.page_sets_mdoc_lines.specs.Parts.{parts, extent_of, is_call};
+ghost use Rattle.page_sets_mdoc_lines.specs.Parts.{parts, span_of, is_call};
 ghost use Rattle.page_sets_mdoc_lines.specs.Cursors.{IsCursorOf};
 
 use crate::cursors::Cursor;
@@ -13,7 +13,7 @@ use page_roff_forms::Argument;
 
 /// What is known of a macro's own words before they are read.
 #[derive(Clone, Copy)]
-pub struct Extent {
+pub struct WordSpan {
     /// How many there are, up to the next call or to the closing delimiters at the line's end.
     pub words: u32,
     /// How many there are without the closing delimiters at their end.
@@ -26,34 +26,34 @@ pub struct Extent {
 
 // Whether a word calls a macro, where words can.
 fn is_call(argument: Argument<&[u8]>, parsed: bool) -> bool
-    ensures { result ≡ is_call parsed (argument_seen argument.entry) }
+    ensures { result ≡ is_call parsed (argument_view argument.entry) }
 {
     parsed && word_call(argument).is_some()
 }
 
-// The extent of a macro's words, and where the line goes on after them.
+// The span of a macro's words, and where the line goes on after them.
 #[derive(Clone, Copy)]
 pub(crate) struct Found {
-    pub(crate) extent: Extent,
+    pub(crate) span: WordSpan,
     // After the last of them that is no closing delimiter.
     pub(crate) outside: Cursor,
     // After all of them.
     pub(crate) rest: Cursor,
 }
 
-/// Finds the extent of the words that a macro has from where a line has been read on, in one pass over them. In a line
+/// Finds the span of the words that a macro has from where a line has been read on, in one pass over them. In a line
 /// that is not parsed no word calls. Where none does, the closing delimiters at the end are the line's.
-pub(crate) fn find_extent(text: &[u8], cursor: Cursor, parsed: bool) -> Found
+pub(crate) fn find_span(text: &[u8], cursor: Cursor, parsed: bool) -> Found
     requires short { length text.now ≤ LINE }
     requires within { IsCursorOf text.now cursor }
-    ensures extent { result.extent ≡ extent_of (parts None parsed (arguments_after cursor.rest text.now)) }
+    ensures span { result.span ≡ span_of (parts None parsed (arguments_after cursor.rest text.now)) }
     ensures stand { IsCursorOf text.now result.outside × IsCursorOf text.now result.rest }
     ensures outside { arguments_after result.outside.rest text.now
-        ≡ drop result.extent.inside (arguments_after cursor.rest text.now) }
+        ≡ drop result.span.inside (arguments_after cursor.rest text.now) }
     ensures rest { arguments_after result.rest.rest text.now
-        ≡ drop result.extent.words (arguments_after cursor.rest text.now) }
+        ≡ drop result.span.words (arguments_after cursor.rest text.now) }
 {
-    let mut extent = Extent {
+    let mut span = WordSpan {
         words: 0,
         inside: 0,
         has_real: false,
@@ -64,26 +64,26 @@ pub(crate) fn find_extent(text: &[u8], cursor: Cursor, parsed: bool) -> Found
     let mut outside = cursor;
     while let Some(argument) = ahead.read(text) {
         if is_call(argument, parsed) {
-            extent.follows = true;
+            span.follows = true;
             return Found {
-                extent,
+                span,
                 outside,
                 rest,
             };
         }
         rest = ahead;
         if !is_closing(argument) {
-            extent.inside = extent.words + 1;
+            span.inside = span.words + 1;
             outside = ahead;
         }
         if is_real(argument) {
-            extent.has_real = true;
+            span.has_real = true;
         }
-        extent.words += 1;
+        span.words += 1;
     }
-    extent.words = extent.inside;
+    span.words = span.inside;
     Found {
-        extent,
+        span,
         outside,
         rest: outside,
     }

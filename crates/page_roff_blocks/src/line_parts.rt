@@ -33,7 +33,7 @@ pub enum Opening<W> {
 
 /// A part of a raw line; `W` is a text. What follows a part on its line is a remainder, a line of its own:
 /// columns are those of the remainder in which they stand.
-pub enum Atom<W> {
+pub enum LinePart<W> {
     /// A line that heads no conditional, no loop and no region, or what stands in such a line before the end of a
     /// block.
     Leaf(W),
@@ -85,14 +85,14 @@ impl<W: Copy> Clone for Opening<W> {
     }
 }
 
-impl<W: Copy> Copy for Atom<W> {}
+impl<W: Copy> Copy for LinePart<W> {}
 
-impl<W: Copy> Clone for Atom<W> {
+impl<W: Copy> Clone for LinePart<W> {
     ghost is_clone = { λ x y. y ≡ x };
 
     ghost is_infallible = { λ _. Unit {0} };
 
-    fn clone(&self) -> Result<Atom<W>, AllocError> {
+    fn clone(&self) -> Result<LinePart<W>, AllocError> {
         Ok(*self)
     }
 }

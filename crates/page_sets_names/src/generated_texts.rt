@@ -1,11 +1,11 @@
 //! Texts that macros print themselves (mdoc(7), "MACRO REFERENCE"; man(7)).
 
 ghost use Rattle.std.specs.Prelude.{◌≡◌};
-ghost use Rattle.page_sets_names.specs.OwnTexts as texts;
+ghost use Rattle.page_sets_names.specs.GeneratedTexts as texts;
 
 /// A text that a macro prints itself.
 #[derive(Clone, Copy, PartialEq, Eq)]
-pub enum Own {
+pub enum GeneratedText {
     /// `(`
     OpenParenthesis,
     /// `)`
@@ -99,101 +99,101 @@ pub(crate) enum Role {
     Sentence,
 }
 
-impl Own {
+impl GeneratedText {
     /// The text.
     pub fn text(self) -> &'static str
-        ensures { result.now ≡ texts.own_text self }
+        ensures { result.now ≡ texts.generated_text self }
     {
-        OWN[self as usize].1
+        GENERATED_TEXTS[self as usize].1
     }
 
     /// Whether it is a word, which a sentence can go on after; the others are marks.
     pub fn is_word(self) -> bool
-        ensures { result ≡ texts.own_is_word self }
+        ensures { result ≡ texts.generated_is_word self }
     {
-        !matches!(OWN[self as usize].2, Role::Mark)
+        !matches!(GENERATED_TEXTS[self as usize].2, Role::Mark)
     }
 
     /// Whether it is glued to what comes after it in its line.
     pub fn joins_next(self) -> bool
-        ensures { result ≡ texts.own_joins_next self }
+        ensures { result ≡ texts.generated_joins_next self }
     {
-        matches!(self, Own::JoinedFlag)
+        matches!(self, GeneratedText::JoinedFlag)
     }
 
     /// The text that stands in its place where blanks stand between words, or where none do.
-    pub fn spaced(self, has_spacing: bool) -> Own
-        ensures { result ≡ texts.own_spaced has_spacing self }
+    pub fn spaced(self, has_spacing: bool) -> GeneratedText
+        ensures { result ≡ texts.generated_spaced has_spacing self }
     {
         match self {
-            Own::Files if !has_spacing => Own::JoinedFiles,
+            GeneratedText::Files if !has_spacing => GeneratedText::JoinedFiles,
             _ => self,
         }
     }
 
     /// Whether it is a word that ends a sentence.
     pub fn ends_sentence(self) -> bool
-        ensures { result ≡ texts.own_ends_sentence self }
+        ensures { result ≡ texts.generated_ends_sentence self }
     {
-        matches!(OWN[self as usize].2, Role::Sentence)
+        matches!(GENERATED_TEXTS[self as usize].2, Role::Sentence)
     }
 }
 
-// The texts, in the order of `Own`.
-static OWN: [(Own, &str, Role); 40] = [
-    (Own::OpenParenthesis, "(", Role::Mark),
-    (Own::CloseParenthesis, ")", Role::Mark),
-    (Own::OpenBracket, "[", Role::Mark),
-    (Own::CloseBracket, "]", Role::Mark),
-    (Own::OpenAngle, "<", Role::Mark),
-    (Own::CloseAngle, ">", Role::Mark),
-    (Own::OpenBrace, "{", Role::Mark),
-    (Own::CloseBrace, "}", Role::Mark),
-    (Own::OpenDouble, "\\(lq", Role::Mark),
-    (Own::CloseDouble, "\\(rq", Role::Mark),
-    (Own::OpenSingle, "\\(oq", Role::Mark),
-    (Own::CloseSingle, "\\(cq", Role::Mark),
-    (Own::Straight, "\"", Role::Mark),
-    (Own::Comma, ",", Role::Mark),
-    (Own::FullStop, ".", Role::Mark),
-    (Own::Colon, ":", Role::Mark),
-    (Own::Apostrophe, "'", Role::Mark),
-    (Own::Dash, "-", Role::Mark),
-    (Own::Flag, "-", Role::Word),
-    (Own::JoinedFlag, "-", Role::Word),
-    (Own::Files, "file ...", Role::Word),
-    (Own::JoinedFiles, "file...", Role::Word),
-    (Own::Home, "~", Role::Word),
-    (Own::Bsd, "BSD", Role::Word),
-    (Own::BsdOs, "BSD/OS", Role::Word),
-    (Own::DragonFly, "DragonFly", Role::Word),
-    (Own::FreeBsd, "FreeBSD", Role::Word),
-    (Own::NetBsd, "NetBSD", Role::Word),
-    (Own::OpenBsd, "OpenBSD", Role::Word),
-    (Own::Unix, "UNIX", Role::Word),
-    (Own::Call, "()", Role::Mark),
-    (Own::CallComma, "(),", Role::Mark),
-    (Own::Semicolon, ";", Role::Mark),
-    (Own::Include, "#include", Role::Word),
-    (Own::The, "The", Role::Word),
-    (Own::And, "and", Role::Word),
+// The texts, in the order of `GeneratedText`.
+static GENERATED_TEXTS: [(GeneratedText, &str, Role); 40] = [
+    (GeneratedText::OpenParenthesis, "(", Role::Mark),
+    (GeneratedText::CloseParenthesis, ")", Role::Mark),
+    (GeneratedText::OpenBracket, "[", Role::Mark),
+    (GeneratedText::CloseBracket, "]", Role::Mark),
+    (GeneratedText::OpenAngle, "<", Role::Mark),
+    (GeneratedText::CloseAngle, ">", Role::Mark),
+    (GeneratedText::OpenBrace, "{", Role::Mark),
+    (GeneratedText::CloseBrace, "}", Role::Mark),
+    (GeneratedText::OpenDouble, "\\(lq", Role::Mark),
+    (GeneratedText::CloseDouble, "\\(rq", Role::Mark),
+    (GeneratedText::OpenSingle, "\\(oq", Role::Mark),
+    (GeneratedText::CloseSingle, "\\(cq", Role::Mark),
+    (GeneratedText::Straight, "\"", Role::Mark),
+    (GeneratedText::Comma, ",", Role::Mark),
+    (GeneratedText::FullStop, ".", Role::Mark),
+    (GeneratedText::Colon, ":", Role::Mark),
+    (GeneratedText::Apostrophe, "'", Role::Mark),
+    (GeneratedText::Dash, "-", Role::Mark),
+    (GeneratedText::Flag, "-", Role::Word),
+    (GeneratedText::JoinedFlag, "-", Role::Word),
+    (GeneratedText::Files, "file ...", Role::Word),
+    (GeneratedText::JoinedFiles, "file...", Role::Word),
+    (GeneratedText::Home, "~", Role::Word),
+    (GeneratedText::Bsd, "BSD", Role::Word),
+    (GeneratedText::BsdOs, "BSD/OS", Role::Word),
+    (GeneratedText::DragonFly, "DragonFly", Role::Word),
+    (GeneratedText::FreeBsd, "FreeBSD", Role::Word),
+    (GeneratedText::NetBsd, "NetBSD", Role::Word),
+    (GeneratedText::OpenBsd, "OpenBSD", Role::Word),
+    (GeneratedText::Unix, "UNIX", Role::Word),
+    (GeneratedText::Call, "()", Role::Mark),
+    (GeneratedText::CallComma, "(),", Role::Mark),
+    (GeneratedText::Semicolon, ";", Role::Mark),
+    (GeneratedText::Include, "#include", Role::Word),
+    (GeneratedText::The, "The", Role::Word),
+    (GeneratedText::And, "and", Role::Word),
     (
-        Own::UtilityExits,
+        GeneratedText::UtilityExits,
         "utility exits 0 on success, and >0 if an error occurs.",
         Role::Sentence,
     ),
     (
-        Own::UtilitiesExit,
+        GeneratedText::UtilitiesExit,
         "utilities exit 0 on success, and >0 if an error occurs.",
         Role::Sentence,
     ),
     (
-        Own::FunctionReturns,
+        GeneratedText::FunctionReturns,
         "function returns the value 0 if successful; otherwise the value -1 is returned and the global variable errno is set to indicate the error.",
         Role::Sentence,
     ),
     (
-        Own::FunctionsReturn,
+        GeneratedText::FunctionsReturn,
         "functions return the value 0 if successful; otherwise the value -1 is returned and the global variable errno is set to indicate the error.",
         Role::Sentence,
     ),

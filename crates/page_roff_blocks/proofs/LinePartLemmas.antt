@@ -15,11 +15,11 @@ use Rattle.page_roff_heads.specs.declared.heads.BlockEnd.{BlockEnd}
 use Rattle.page_roff_heads.specs.declared.texts.Placed.{Placed}
 use Rattle.page_roff_heads.proofs.Within.{conditional_within, guarded_within, end_shorter, rest_within}
 use Rattle.page_roff_heads.proofs.Within as remainders
-use Rattle.page_roff_blocks.specs.declared.atoms.Atom.TheVariants.{Leaf}
+use Rattle.page_roff_blocks.specs.declared.line_parts.LinePart.TheVariants.{Leaf}
 use Rattle.page_roff_blocks.specs.declared.parts.Columns.{Columns}
 use Rattle.page_roff_blocks.specs.declared.parts.Keyword.{Keyword}
 use Rattle.page_roff_blocks.specs.declared.parts.Keyword.TheVariants as keywords
-use Rattle.page_roff_blocks.specs.Atoms.{whole_part, part_of, with_part, parts, atoms, atoms_left, IsWithin}
+use Rattle.page_roff_blocks.specs.LineParts.{whole_part, part_of, with_part, parts, line_parts, line_parts_left, IsWithin}
 use Rattle.page_roff_blocks.specs.Parts.{rest_text, loop_part_if, end_part, cut_part, plain_part, raw_rest, keyword_of, keyword_part, form_part, written_part, columns_of, named_part}
 
 -- what is left of a line is shorter than the line
@@ -232,21 +232,21 @@ enough (suc n) (suc k) (Some line) p q =
     let h = room_left line (part_of line).rest (part_shorter line) in
     ap (with_part (part_of line)) (enough n k (part_of line).rest (omega (arith, h, p)) (omega (arith, h, q)))
 
-all_left : (n : ℕ) (rest : Option (List ℕ)) → room rest ≤ n → parts n rest ≡ atoms_left rest
-unfolding room atoms
+all_left : (n : ℕ) (rest : Option (List ℕ)) → room rest ≤ n → parts n rest ≡ line_parts_left rest
+unfolding room line_parts
 all_left zero None p = refl
 all_left (suc n) None p = refl
 all_left n (Some line) p = enough n (suc (length line)) (Some line) p (omega arith)
 
 -- the parts of a line are its first one, and those of what is left of the line
-pub atoms_cons : (line : List ℕ) → atoms line ≡ with_part (part_of line) (atoms_left (part_of line).rest)
-unfolding atoms
-atoms_cons line =
+pub line_parts_cons : (line : List ℕ) → line_parts line ≡ with_part (part_of line) (line_parts_left (part_of line).rest)
+unfolding line_parts
+line_parts_cons line =
     ap (with_part (part_of line)) (all_left (length line) (part_of line).rest (room_left line (part_of line).rest (part_shorter line)))
 
 -- ---- a line that heads nothing and ends no block is one part
 
-pub one_leaf : (line : List ℕ) → written_part line ≡ plain_part line → block_end_of line ≡ None → atoms line ≡ Leaf line ∷ []
+pub one_leaf : (line : List ℕ) → written_part line ≡ plain_part line → block_end_of line ≡ None → line_parts line ≡ Leaf line ∷ []
 unfolding part_of
 one_leaf line h e =
-    atoms_cons line ∙ ap (λ part. with_part (whole_part part) (atoms_left part.rest)) (h ∙ ap (cut_part line) e)
+    line_parts_cons line ∙ ap (λ part. with_part (whole_part part) (line_parts_left part.rest)) (h ∙ ap (cut_part line) e)

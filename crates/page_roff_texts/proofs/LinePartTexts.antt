@@ -11,15 +11,15 @@ use Rattle.page_roff_heads.specs.declared.loops.LoopRead.{LoopRead}
 use Rattle.page_roff_heads.specs.declared.texts.Placed.{Placed}
 use Rattle.page_roff_heads.specs.Heads.{guarded_of, conditional_of, block_end_of}
 use Rattle.page_roff_heads.specs.Loops.{loop_of}
-use Rattle.page_roff_blocks.specs.declared.atoms.Atom.{Atom}
-use Rattle.page_roff_blocks.specs.declared.atoms.Atom.TheVariants.{Leaf, Guard, Block, Loop, End, Region}
-use Rattle.page_roff_blocks.specs.declared.atoms.Head.{Head}
-use Rattle.page_roff_blocks.specs.declared.atoms.Opening.{Opening}
-use Rattle.page_roff_blocks.specs.declared.atoms.Opening.TheVariants as openings
-use Rattle.page_roff_blocks.specs.Atoms.{loop_body, whole_opening, whole_atom, part_of, ends_first, parts, atoms}
+use Rattle.page_roff_blocks.specs.declared.line_parts.LinePart.{LinePart}
+use Rattle.page_roff_blocks.specs.declared.line_parts.LinePart.TheVariants.{Leaf, Guard, Block, Loop, End, Region}
+use Rattle.page_roff_blocks.specs.declared.line_parts.Head.{Head}
+use Rattle.page_roff_blocks.specs.declared.line_parts.Opening.{Opening}
+use Rattle.page_roff_blocks.specs.declared.line_parts.Opening.TheVariants as openings
+use Rattle.page_roff_blocks.specs.LineParts.{loop_body, whole_opening, whole_line_part, part_of, ends_first, parts, line_parts}
 use Rattle.page_roff_blocks.specs.LinePlaces.{IsEndOf}
 use Rattle.page_roff_blocks.specs.Loops.{blocks_after, before_end, left_by, left_in, left_of, len_before, len_of, some_text, text_before, loop_text, unless_empty, first_text}
-use Rattle.page_roff_blocks.specs.Parts.{keyword_in, rest_text, head_atom, loop_part_if, end_part, cut_part, plain_part, raw_rest, keyword_part, form_part, written_part}
+use Rattle.page_roff_blocks.specs.Parts.{keyword_in, rest_text, head_line_part, loop_part_if, end_part, cut_part, plain_part, raw_rest, keyword_part, form_part, written_part}
 use Rattle.page_roff_blocks.proofs.EndLemmas.{written_ends, end_further}
 use Rattle.page_roff_requests.specs.Requests.{request_of}
 use Rattle.page_roff_requests.specs.declared.requests.Request.{Request}
@@ -33,7 +33,7 @@ use Rattle.page_roff_texts.proofs.LineCuts.{commented_cut, IsLineIfSome, guarded
 abbrev IsRest : Option (List ℕ) → Type 0
 IsRest rest = IsIfSome IsLine rest
 
-IsLeaf : Atom (List ℕ) → Type 0
+IsLeaf : LinePart (List ℕ) → Type 0
 IsLeaf (Leaf text) = IsLine text
 IsLeaf (Guard head) = IsTested IsTextCondition head.branch
 IsLeaf (Block opening) = IsOpening IsLine opening × IsTestedOpening IsTextCondition opening
@@ -42,9 +42,9 @@ IsLeaf End = Unit {0}
 IsLeaf (Region head) = Unit {0}
 
 -- a part of a line, what stands before the end of a block in it, and what is left after it
-record IsPart (text : List ℕ) (atom : Atom (List ℕ)) (rest : Option (List ℕ)) : Type 0 where
-  pub leaf : IsLeaf atom
-  pub before : CutsAt text (before_end atom)
+record IsPart (text : List ℕ) (line_part : LinePart (List ℕ)) (rest : Option (List ℕ)) : Type 0 where
+  pub leaf : IsLeaf line_part
+  pub before : CutsAt text (before_end line_part)
   pub line : IsRest rest
 
 rest_is : (o : Option (Placed (List ℕ))) → IsLineIfSome o → IsRest (rest_text o)
@@ -52,34 +52,34 @@ rest_is None h = tt
 rest_is (Some remainder) h = h
 
 head_part_is : (line : List ℕ) (head : Head (List ℕ)) (opens : Bool) (remainder : Option (Placed (List ℕ))) → IsLine line
-    → IsTested IsTextCondition head.branch → IsLineIfSome remainder → IsPart line (head_atom opens head) (rest_text remainder)
+    → IsTested IsTextCondition head.branch → IsLineIfSome remainder → IsPart line (head_line_part opens head) (rest_text remainder)
 unfolding IsLeaf
 head_part_is line head true remainder l t h = record { leaf = (tt, t); before = start_cut line l.utf8; line = rest_is remainder h }
 head_part_is line head false remainder l t h = record { leaf = t; before = start_cut line l.utf8; line = rest_is remainder h }
 
 loop_part_is : (line : List ℕ) (opens : Bool) (read : LoopRead (List ℕ)) → IsLine line → IsLoopRead read
-    → IsPart line (loop_part_if opens read).atom (loop_part_if opens read).rest
+    → IsPart line (loop_part_if opens read).line_part (loop_part_if opens read).rest
 unfolding IsLeaf
 loop_part_is line true read l h = record { leaf = ((h.condition, h.first), tt); before = start_cut line l.utf8; line = rest_is read.guarded.remainder h.remainder }
 loop_part_is line false read l h = record { leaf = (h.condition, rest_is read.guarded.remainder h.remainder); before = start_cut line l.utf8; line = tt }
 
 end_part_is : (line before : List ℕ) (rest : Option (List ℕ)) → IsLine line → IsLine before → CutsAt line (length before) → IsRest rest
-    → IsPart line (end_part before rest).atom (end_part before rest).rest
+    → IsPart line (end_part before rest).line_part (end_part before rest).rest
 unfolding IsLeaf
 end_part_is line [] rest l b c r = record { leaf = tt; before = c; line = r }
 end_part_is line (byte ∷ bytes) rest l b c r = record { leaf = b; before = c; line = r }
 
-cut_part_is : (line : List ℕ) (end : Option (BlockEnd (List ℕ))) → IsLine line → AreLinesIfSome line end → IsPart line (cut_part line end).atom (cut_part line end).rest
+cut_part_is : (line : List ℕ) (end : Option (BlockEnd (List ℕ))) → IsLine line → AreLinesIfSome line end → IsPart line (cut_part line end).line_part (cut_part line end).rest
 unfolding IsLeaf
 cut_part_is line None h e = record { leaf = h; before = end_cut line; line = tt }
 cut_part_is line (Some end) h e = end_part_is line end.before (rest_text end.remainder) h e.0 e.2 (rest_is end.remainder e.1)
 
-plain_part_is : (line : List ℕ) → IsLine line → IsPart line (plain_part line).atom (plain_part line).rest
+plain_part_is : (line : List ℕ) → IsLine line → IsPart line (plain_part line).line_part (plain_part line).rest
 plain_part_is line h = cut_part_is line (block_end_of line) h (block_end_lines line h)
 
 -- by the request of a control line
 keyword_part_is : (request : Option Request) (line : List ℕ) (column : ℕ) (rest : List ℕ) (rest_column : ℕ) → IsLine line → IsLine (raw_rest line rest_column)
-    → IsPart line (keyword_part (keyword_in request) line column rest rest_column).atom (keyword_part (keyword_in request) line column rest rest_column).rest
+    → IsPart line (keyword_part (keyword_in request) line column rest rest_column).line_part (keyword_part (keyword_in request) line column rest rest_column).rest
 unfolding IsLeaf
 keyword_part_is None line column rest rest_column h r = plain_part_is line h
 keyword_part_is (Some requests.If) line column rest rest_column h r =
@@ -102,7 +102,7 @@ keyword_part_is (Some (requests.Layout request)) line column rest rest_column h 
 keyword_part_is (Some requests.Ignored) line column rest rest_column h r = plain_part_is line h
 keyword_part_is (Some requests.Unsupported) line column rest rest_column h r = plain_part_is line h
 
-form_part_is : (form : LineForm (List ℕ)) (line : List ℕ) → form_of line ≡ form → IsLine line → IsPart line (form_part line form).atom (form_part line form).rest
+form_part_is : (form : LineForm (List ℕ)) (line : List ℕ) → form_of line ≡ form → IsLine line → IsPart line (form_part line form).line_part (form_part line form).rest
 form_part_is Comment line e h = plain_part_is line h
 form_part_is BlankLine line e h = plain_part_is line h
 form_part_is (Text text) line e h = plain_part_is line h
@@ -111,7 +111,7 @@ form_part_is (Control name column rest rest_column) line e h =
     let cut = commented_cut line (rest_column - 1) h.utf8 at.cut in
     keyword_part_is (request_of name) line column rest rest_column h (line_cut line (rest_column - 1) h cut).1
 
-written_is : (line : List ℕ) → IsLine line → IsPart line (written_part line).atom (written_part line).rest
+written_is : (line : List ℕ) → IsLine line → IsPart line (written_part line).line_part (written_part line).rest
 unfolding written_part
 written_is line h = form_part_is (form_of line) line refl h
 
@@ -146,10 +146,10 @@ left_is (suc n) blocks line None e h = record { end = tt; line = tt }
 left_is (suc n) blocks line (Some text) e h =
     let part = written_part text in
     let is = written_is text h in
-    let here : IsLeft text (Some (drop (before_end part.atom) text)) =
-    record { end = drop_ends (before_end part.atom) text is.before.within; line = (line_cut text (before_end part.atom) h is.before).1 } in
+    let here : IsLeft text (Some (drop (before_end part.line_part) text)) =
+    record { end = drop_ends (before_end part.line_part) text is.before.within; line = (line_cut text (before_end part.line_part) h is.before).1 } in
     left_further line text (left_in (suc n) blocks (Some text)) e
-    (left_by_is text (blocks_after part.atom part.is_end blocks) (λ blocks. left_in n blocks part.rest) (drop (before_end part.atom) text) here
+    (left_by_is text (blocks_after part.line_part part.is_end blocks) (λ blocks. left_in n blocks part.rest) (drop (before_end part.line_part) text) here
     (λ blocks. left_is n blocks text part.rest (written_ends text) is.line))
 
 some_is : (text : List ℕ) → IsLine text → IsRest (some_text text)
@@ -183,20 +183,20 @@ opening_is : (opening : Opening (List ℕ)) → IsOpening IsLine opening × IsTe
 opening_is (openings.Conditional head) h = h
 opening_is (openings.Loop head) h = ((h.0.0, body_is head.body h.0.1), tt)
 
-atom_is : (atom : Atom (List ℕ)) → IsLeaf atom → IsLeaf (whole_atom atom)
+line_part_is : (line_part : LinePart (List ℕ)) → IsLeaf line_part → IsLeaf (whole_line_part line_part)
 unfolding IsLeaf
-atom_is (Leaf text) h = h
-atom_is (Guard head) h = h
-atom_is (Block opening) h = opening_is opening h
-atom_is (Loop head) h = h
-atom_is End h = tt
-atom_is (Region head) h = tt
+line_part_is (Leaf text) h = h
+line_part_is (Guard head) h = h
+line_part_is (Block opening) h = opening_is opening h
+line_part_is (Loop head) h = h
+line_part_is End h = tt
+line_part_is (Region head) h = tt
 
-end_leaves : (is_end : Bool) (more : List (Atom (List ℕ))) → AreLeaves IsLine more → AreLeaves IsLine (ends_first is_end more)
+end_leaves : (is_end : Bool) (more : List (LinePart (List ℕ))) → AreLeaves IsLine more → AreLeaves IsLine (ends_first is_end more)
 end_leaves true more h = h
 end_leaves false more h = h
 
-part_leaves : (atom : Atom (List ℕ)) (more : List (Atom (List ℕ))) → IsLeaf atom → AreLeaves IsLine more → AreLeaves IsLine (atom ∷ more)
+part_leaves : (line_part : LinePart (List ℕ)) (more : List (LinePart (List ℕ))) → IsLeaf line_part → AreLeaves IsLine more → AreLeaves IsLine (line_part ∷ more)
 unfolding IsLeaf
 part_leaves (Leaf text) more a h = (a, h)
 part_leaves (Guard head) more a h = h
@@ -211,20 +211,20 @@ parts_leaves zero rest h = tt
 parts_leaves (suc n) None h = tt
 parts_leaves (suc n) (Some line) h =
     let is = written_is line h in
-    part_leaves (part_of line).atom _ (atom_is (written_part line).atom is.leaf)
+    part_leaves (part_of line).line_part _ (line_part_is (written_part line).line_part is.leaf)
     (end_leaves (part_of line).is_end (parts n (part_of line).rest) (parts_leaves n (part_of line).rest is.line))
 
 pub line_leaves : HasLeaves IsLine
-unfolding atoms
+unfolding line_parts
 line_leaves line h = parts_leaves (suc (length line)) (Some line) h
 
 -- ---- the conditions of a line
 
-end_tested : (is_end : Bool) (more : List (Atom (List ℕ))) → AreTested IsTextCondition more → AreTested IsTextCondition (ends_first is_end more)
+end_tested : (is_end : Bool) (more : List (LinePart (List ℕ))) → AreTested IsTextCondition more → AreTested IsTextCondition (ends_first is_end more)
 end_tested true more h = h
 end_tested false more h = h
 
-part_tested : (atom : Atom (List ℕ)) (more : List (Atom (List ℕ))) → IsLeaf atom → AreTested IsTextCondition more → AreTested IsTextCondition (atom ∷ more)
+part_tested : (line_part : LinePart (List ℕ)) (more : List (LinePart (List ℕ))) → IsLeaf line_part → AreTested IsTextCondition more → AreTested IsTextCondition (line_part ∷ more)
 unfolding IsLeaf
 part_tested (Leaf text) more a h = h
 part_tested (Guard head) more a h = (a, h)
@@ -239,9 +239,9 @@ parts_tested zero rest h = tt
 parts_tested (suc n) None h = tt
 parts_tested (suc n) (Some line) h =
     let is = written_is line h in
-    part_tested (part_of line).atom _ (atom_is (written_part line).atom is.leaf)
+    part_tested (part_of line).line_part _ (line_part_is (written_part line).line_part is.leaf)
     (end_tested (part_of line).is_end (parts n (part_of line).rest) (parts_tested n (part_of line).rest is.line))
 
 pub line_tests : HasTests IsLine IsTextCondition
-unfolding atoms
+unfolding line_parts
 line_tests line h = parts_tested (suc (length line)) (Some line) h

@@ -12,25 +12,25 @@ use Rattle.page_scopes_leaves.specs.RawLines.{raw_line}
 use Rattle.page_scopes_phrases.specs.declared.kept_texts.KeptText.{KeptText}
 use Rattle.page_scopes_phrases.specs.declared.runnings.Running.{Running}
 use Rattle.page_scopes_words.specs.Words.{says, shown_part}
-use Rattle.page_sets_lines.specs.declared.events.Deed.{Deed}
-use Rattle.page_sets_lines.specs.declared.events.Deed.TheVariants as deeds
+use Rattle.page_sets_lines.specs.declared.events.EventKind.{EventKind}
+use Rattle.page_sets_lines.specs.declared.events.EventKind.TheVariants as event_kinds
 
 abbrev pub message : Place → NoteKind → List ℕ → Context → Running → Outcome
 message place kind detail c r = record { items = says kind place detail ∷ []; context = c; running = r }
 
 -- a word, a leaf, a line as it is, a line's end, or a message; the name is that of the manual
-unfoldable pub deed_outcome : Place → Deed (List ℕ) → Option KeptText → Context → Running → Outcome
-deed_outcome place (deeds.Word word) name c r =
+unfoldable pub kind_outcome : Place → EventKind (List ℕ) → Option KeptText → Context → Running → Outcome
+kind_outcome place (event_kinds.Word word) name c r =
     after_notes (name_notes place.line word.role word.arg name) (line_word place.line word c r)
-deed_outcome place (deeds.Open opener) name c r = nothing c r
-deed_outcome place (deeds.Close closer) name c r = nothing c r
-deed_outcome place (deeds.LineScope opener) name c r = nothing c r
-deed_outcome place (deeds.Leaf leaf) name c r = leaf_outcome place leaf name c r
-deed_outcome place (deeds.Raw text) name c r = raw_line place text c r
-deed_outcome place (deeds.End fills) name c r = line_end c r
-deed_outcome place (deeds.Note kind detail is_quoted begins_body) name c r = message place kind (shown_part is_quoted detail) c r
+kind_outcome place (event_kinds.Open opener) name c r = nothing c r
+kind_outcome place (event_kinds.Close closer) name c r = nothing c r
+kind_outcome place (event_kinds.LineScope opener) name c r = nothing c r
+kind_outcome place (event_kinds.Leaf leaf) name c r = leaf_outcome place leaf name c r
+kind_outcome place (event_kinds.Raw text) name c r = raw_line place text c r
+kind_outcome place (event_kinds.End fills) name c r = line_end c r
+kind_outcome place (event_kinds.Note kind detail is_quoted begins_body) name c r = message place kind (shown_part is_quoted detail) c r
 
 -- the name of the manual after it
-abbrev pub name_after : Deed (List ℕ) → Option KeptText → Option KeptText
-name_after (deeds.Word word) name = named word.role word.arg name
+abbrev pub name_after : EventKind (List ℕ) → Option KeptText → Option KeptText
+name_after (event_kinds.Word word) name = named word.role word.arg name
 name_after _ name = name

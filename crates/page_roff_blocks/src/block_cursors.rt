@@ -36,27 +36,27 @@ pub enum Pass {
 /// Where a source stands in a line, outside of regions: the levels of its blocks, whether a part of the
 /// line was reached, and whether a head passes over the next one.
 #[derive(Drop)]
-pub struct Spot {
+pub struct BlockCursor {
     levels: Levels,
     begun: bool,
     passing: bool,
 }
 
-impl Model for Spot {
-    ghost use Rattle.page_roff_blocks.specs.Levels.{Spot};
+impl Model for BlockCursor {
+    ghost use Rattle.page_roff_blocks.specs.Levels.{BlockCursor};
 
-    ghost Value = { Spot };
+    ghost Value = { BlockCursor };
 
     ghost view = { λ s. record { levels = s.levels; begun = s.begun; passing = s.passing } };
 }
 
-impl Spot {
+impl BlockCursor {
     /// Before the first line of a source.
     #[tactic(auto, unfolding(crate::specs::Levels::at_line))]
-    pub fn new() -> Spot
+    pub fn new() -> BlockCursor
         ensures { result ≡ at_line outside }
     {
-        Spot {
+        BlockCursor {
             levels: Levels::new(),
             begun: false,
             passing: false,
@@ -65,10 +65,10 @@ impl Spot {
 
     /// Before a line, at these levels.
     #[tactic(auto, unfolding(crate::specs::Levels::at_line))]
-    pub fn at(levels: Levels) -> Spot
+    pub fn at(levels: Levels) -> BlockCursor
         ensures { result ≡ at_line levels }
     {
-        Spot {
+        BlockCursor {
             levels,
             begun: false,
             passing: false,

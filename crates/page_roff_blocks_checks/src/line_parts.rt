@@ -1,7 +1,7 @@
 //! The parts of lines.
 
 use arrayvec::ArrayVec;
-use page_roff_blocks::{Atom, Branch, Head, LinePlace, Opening, loop_text};
+use page_roff_blocks::{LinePart, Branch, Head, LinePlace, Opening, loop_text};
 use page_roff_heads::LoopHead;
 use page_roff_regions::RegionHead;
 use std::process::Abort;
@@ -56,26 +56,26 @@ fn show_region(shown: &mut Shown, head: RegionHead<&[u8]>) {
     show(shown, head.end_name().as_slice());
 }
 
-fn show_atom(shown: &mut Shown, atom: Atom<&[u8]>) {
-    match atom {
-        Atom::Leaf(text) => show(shown, text),
-        Atom::Guard(head) => show_head(shown, head),
-        Atom::Block(opening) => show_opening(shown, opening),
-        Atom::Loop(head) => show_loop(shown, head),
-        Atom::End => show(shown, b"}"),
-        Atom::Region(head) => show_region(shown, head),
+fn show_line_part(shown: &mut Shown, line_part: LinePart<&[u8]>) {
+    match line_part {
+        LinePart::Leaf(text) => show(shown, text),
+        LinePart::Guard(head) => show_head(shown, head),
+        LinePart::Block(opening) => show_opening(shown, opening),
+        LinePart::Loop(head) => show_loop(shown, head),
+        LinePart::End => show(shown, b"}"),
+        LinePart::Region(head) => show_region(shown, head),
     }
     show(shown, b"|");
 }
 
 // Checks the parts of a line, each with a bar after it.
-fn check_atoms(rt: &impl Abort, line: &[u8], want: &[u8]) {
+fn check_line_parts(rt: &impl Abort, line: &[u8], want: &[u8]) {
     assert!(rt; line.len() < 200);
     let mut shown = Shown::new();
     let mut place = LinePlace::start(line);
     for _ in 0..100 {
-        if let Some(atom) = place.next_atom(line) {
-            show_atom(&mut shown, atom);
+        if let Some(line_part) = place.next_line_part(line) {
+            show_line_part(&mut shown, line_part);
         }
     }
     assert_eq!(rt; shown.as_slice(), want);
@@ -108,7 +108,7 @@ fn leaves_and_ends_of_blocks(rt: HostRuntime) {
         ("..", "..|"),
         (".TE", ".TE|"),
     ] {
-        check_atoms(&rt, line.as_bytes(), want.as_bytes());
+        check_line_parts(&rt, line.as_bytes(), want.as_bytes());
     }
 }
 
@@ -131,7 +131,7 @@ fn heads_of_conditionals(rt: HostRuntime) {
         (".if n \\}", "if|}|"),
         (".ifn x", ".ifn x|"),
     ] {
-        check_atoms(&rt, line.as_bytes(), want.as_bytes());
+        check_line_parts(&rt, line.as_bytes(), want.as_bytes());
     }
 }
 
@@ -169,7 +169,7 @@ fn heads_of_loops(rt: HostRuntime) {
         ("a\\} .while n x", "a|}|while(n)x|"),
         (".whilen x", ".whilen x|"),
     ] {
-        check_atoms(&rt, line.as_bytes(), want.as_bytes());
+        check_line_parts(&rt, line.as_bytes(), want.as_bytes());
     }
 }
 
@@ -212,7 +212,7 @@ fn heads_of_regions(rt: HostRuntime) {
         ("a\\} .ig", "a|}|ig(none).|"),
         (".de m \\}", "de(m)\\}|"),
     ] {
-        check_atoms(&rt, line.as_bytes(), want.as_bytes());
+        check_line_parts(&rt, line.as_bytes(), want.as_bytes());
     }
 }
 
@@ -226,7 +226,7 @@ fn end_names_of_64_and_65_bytes(rt: HostRuntime) {
     show(&mut want, b"ig(none)");
     show(&mut want, name.as_bytes());
     show(&mut want, b"|");
-    check_atoms(&rt, longest.as_slice(), want.as_slice());
+    check_line_parts(&rt, longest.as_slice(), want.as_slice());
     show(&mut longest, b"5");
-    check_atoms(&rt, longest.as_slice(), b"ig(none)!.|");
+    check_line_parts(&rt, longest.as_slice(), b"ig(none)!.|");
 }

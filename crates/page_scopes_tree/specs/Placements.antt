@@ -2,8 +2,8 @@
 use Rattle.std.specs.Prelude.{ℕ, zero, suc, Bool, true, false, ◌||◌, ◌&&◌, not, nat_lt, nat_le, List, [], ◌∷◌, length, Option, None, Some, if◌then◌else◌}
 use Rattle.page_sets_lines.specs.Blocks.{opened_block}
 use Rattle.page_sets_lines.specs.declared.events.Event.{Event}
-use Rattle.page_sets_lines.specs.declared.events.Deed.{Deed}
-use Rattle.page_sets_lines.specs.declared.events.Deed.TheVariants as deeds
+use Rattle.page_sets_lines.specs.declared.events.EventKind.{EventKind}
+use Rattle.page_sets_lines.specs.declared.events.EventKind.TheVariants as kinds
 use Rattle.page_sets_lines.specs.declared.leaves.Leaf.{Leaf}
 use Rattle.page_sets_lines.specs.declared.leaves.Leaf.TheVariants as leaves
 use Rattle.page_sets_lines.specs.declared.leaves.Request.{Request}
@@ -23,10 +23,10 @@ use Rattle.page_scopes_tree.specs.declared.acts.Act.TheVariants as acts
 use Rattle.page_scopes_labels.specs.declared.labels.Explicit.TheVariants.{RelativeMargin, Target, Syntax, Block}
 use Rattle.page_scopes_labels.specs.declared.labels.Label.{Label}
 use Rattle.page_scopes_labels.specs.declared.labels.Label.TheVariants as labels
-use Rattle.page_scopes_tree.specs.declared.standings.Fate.{Fate}
-use Rattle.page_scopes_tree.specs.declared.standings.Fate.TheVariants as fates
-use Rattle.page_scopes_tree.specs.declared.standings.Obstacle.{Obstacle}
-use Rattle.page_scopes_tree.specs.declared.standings.Obstacle.TheVariants.{OutsideList, Scopes, NotOpen, FewerMargins}
+use Rattle.page_scopes_tree.specs.declared.placements.Placement.{Placement}
+use Rattle.page_scopes_tree.specs.declared.placements.Placement.TheVariants as placements
+use Rattle.page_scopes_tree.specs.declared.placements.Obstacle.{Obstacle}
+use Rattle.page_scopes_tree.specs.declared.placements.Obstacle.TheVariants.{OutsideList, Scopes, NotOpen, FewerMargins}
 
 -- the scope that an opener opens
 abbrev pub opener_label : Opener (List ℕ) → Label
@@ -46,8 +46,8 @@ abbrev pub has_room : List Label → Bool
 has_room remaining = nat_lt (length remaining) SCOPES
 
 -- a scope opens where fewer than `SCOPES` are remaining
-abbrev pub opened : List Label → Label → Fate
-opened remaining label = if has_room remaining then fates.Node label else fates.Refused Scopes
+abbrev pub opened : List Label → Label → Placement
+opened remaining label = if has_room remaining then placements.Node label else placements.Refused Scopes
 
 -- a list is open
 abbrev pub in_list : List Label → Bool
@@ -59,40 +59,40 @@ in_headed_list remaining =
     nat_lt (inside is_headed_list remaining) (length remaining) && nat_le (inside is_headed_list remaining) (inside is_list remaining)
 
 -- an item needs a list
-abbrev pub item_fate : Bool → List Label → Fate
-item_fate true remaining = opened remaining labels.Item
-item_fate false remaining = fates.Refused OutsideList
+abbrev pub item_placement : Bool → List Label → Placement
+item_placement true remaining = opened remaining labels.Item
+item_placement false remaining = placements.Refused OutsideList
 
-unfoldable pub opener_fate : Opener (List ℕ) → List Label → Fate
-opener_fate openers.Item remaining = item_fate (in_list remaining) remaining
-opener_fate opener remaining = opened remaining (opener_label opener)
+unfoldable pub opener_placement : Opener (List ℕ) → List Label → Placement
+opener_placement openers.Item remaining = item_placement (in_list remaining) remaining
+opener_placement opener remaining = opened remaining (opener_label opener)
 
 -- the words of `It` are a head where items have heads, and else those of the item's text
-abbrev pub head_fate : Bool → List Label → Fate
-head_fate true remaining = opened remaining (labels.Line Head)
-head_fate false remaining = fates.Nothing
+abbrev pub head_placement : Bool → List Label → Placement
+head_placement true remaining = opened remaining (labels.Line Head)
+head_placement false remaining = placements.Nothing
 
-unfoldable pub line_fate : LineOpener → List Label → Fate
-line_fate Head remaining = head_fate (in_headed_list remaining) remaining
-line_fate opener remaining = opened remaining (labels.Line opener)
+unfoldable pub line_placement : LineOpener → List Label → Placement
+line_placement Head remaining = head_placement (in_headed_list remaining) remaining
+line_placement opener remaining = opened remaining (labels.Line opener)
 
 -- a closer that ended a scope is a leaf, as its suffix is; one that ended none is refused
-abbrev pub closed : Obstacle → ℕ → Fate
-closed obstacle zero = fates.Refused obstacle
-closed obstacle (suc n) = fates.Leaf
+abbrev pub closed : Obstacle → ℕ → Placement
+closed obstacle zero = placements.Refused obstacle
+closed obstacle (suc n) = placements.Leaf
 
 -- with a number `RE` speaks of how many there are
 abbrev pub margin_obstacle : Option (List ℕ) → Obstacle
 margin_obstacle None = NotOpen
 margin_obstacle (Some number) = FewerMargins
 
-abbrev pub closer_fate : Closer (List ℕ) → ℕ → Fate
-closer_fate closers.Line n = fates.Nothing
-closer_fate (closers.RelativeMargin number) n = closed (margin_obstacle number) n
-closer_fate (closers.Target link suffix) n = closed NotOpen n
-closer_fate closers.Syntax n = closed NotOpen n
-closer_fate closers.Enclosures n = fates.Nothing
-closer_fate (closers.Block closer) n = closed NotOpen n
+abbrev pub closer_placement : Closer (List ℕ) → ℕ → Placement
+closer_placement closers.Line n = placements.Nothing
+closer_placement (closers.RelativeMargin number) n = closed (margin_obstacle number) n
+closer_placement (closers.Target link suffix) n = closed NotOpen n
+closer_placement closers.Syntax n = closed NotOpen n
+closer_placement closers.Enclosures n = placements.Nothing
+closer_placement (closers.Block closer) n = closed NotOpen n
 
 -- whether the innermost scope is a line scope
 abbrev pub in_line_scope : List Label → Bool
@@ -110,28 +110,28 @@ is_dropped requests.Break = true
 is_dropped (requests.Space rows) = true
 is_dropped _ = false
 
-abbrev pub request_fate : Bool → Request (List ℕ) → Fate
-request_fate false request = fates.Leaf
-request_fate true request = if is_dropped request then fates.Nothing else fates.Leaf
+abbrev pub request_placement : Bool → Request (List ℕ) → Placement
+request_placement false request = placements.Leaf
+request_placement true request = if is_dropped request then placements.Nothing else placements.Leaf
 
-abbrev pub leaf_fate : Leaf (List ℕ) → List Label → Fate
-leaf_fate (leaves.Request request) remaining = request_fate (in_line_scope remaining) request
-leaf_fate _ remaining = fates.Leaf
+abbrev pub leaf_placement : Leaf (List ℕ) → List Label → Placement
+leaf_placement (leaves.Request request) remaining = request_placement (in_line_scope remaining) request
+leaf_placement _ remaining = placements.Leaf
 
--- of a deed that ended this many scopes, where these are remaining
-abbrev pub deed_fate : Deed (List ℕ) → ℕ → List Label → Fate
-deed_fate (deeds.Word word) n remaining = fates.Leaf
-deed_fate (deeds.Open opener) n remaining = opener_fate opener remaining
-deed_fate (deeds.Close closer) n remaining = closer_fate closer n
-deed_fate (deeds.LineScope opener) n remaining = line_fate opener remaining
-deed_fate (deeds.Leaf leaf) n remaining = leaf_fate leaf remaining
-deed_fate (deeds.Raw text) n remaining = fates.Leaf
-deed_fate (deeds.End fills) n remaining = fates.Leaf
-deed_fate (deeds.Note kind detail is_quoted begins_body) n remaining = fates.Leaf
+-- of an event that ended this many scopes, where these are remaining
+abbrev pub kind_placement : EventKind (List ℕ) → ℕ → List Label → Placement
+kind_placement (kinds.Word word) n remaining = placements.Leaf
+kind_placement (kinds.Open opener) n remaining = opener_placement opener remaining
+kind_placement (kinds.Close closer) n remaining = closer_placement closer n
+kind_placement (kinds.LineScope opener) n remaining = line_placement opener remaining
+kind_placement (kinds.Leaf leaf) n remaining = leaf_placement leaf remaining
+kind_placement (kinds.Raw text) n remaining = placements.Leaf
+kind_placement (kinds.End fills) n remaining = placements.Leaf
+kind_placement (kinds.Note kind detail is_quoted begins_body) n remaining = placements.Leaf
 
-abbrev pub act_fate : Act (Event (List ℕ)) → ℕ → List Label → Fate
-act_fate (acts.Event event) n remaining = deed_fate event.deed n remaining
-act_fate (acts.PageEnd line) n remaining = fates.Leaf
+abbrev pub act_placement : Act (Event (List ℕ)) → ℕ → List Label → Placement
+act_placement (acts.Event event) n remaining = kind_placement event.kind n remaining
+act_placement (acts.PageEnd line) n remaining = placements.Leaf
 
 -- ---- what is passed over
 
@@ -162,22 +162,22 @@ opens_row Description = true
 opens_row (OneLine name) = true
 opens_row _ = false
 
--- whether the rest of the line is passed over after a deed
-abbrev pub deed_skips : Bool → Deed (List ℕ) → List Label → Bool
-deed_skips skips (deeds.End fills) remaining = false
-deed_skips skips (deeds.Open opener) remaining = skips || opener_skips opener remaining
-deed_skips skips (deeds.LineScope opener) remaining = skips || (opens_row opener && not (has_room remaining))
-deed_skips skips _ remaining = skips
+-- whether the rest of the line is passed over after an event
+abbrev pub kind_skips : Bool → EventKind (List ℕ) → List Label → Bool
+kind_skips skips (kinds.End fills) remaining = false
+kind_skips skips (kinds.Open opener) remaining = skips || opener_skips opener remaining
+kind_skips skips (kinds.LineScope opener) remaining = skips || (opens_row opener && not (has_room remaining))
+kind_skips skips _ remaining = skips
 
 abbrev pub act_skips : Bool → Act (Event (List ℕ)) → List Label → Bool
-act_skips skips (acts.Event event) remaining = deed_skips skips event.deed remaining
+act_skips skips (acts.Event event) remaining = kind_skips skips event.kind remaining
 act_skips skips (acts.PageEnd line) remaining = skips
 
 -- what ends a line is never passed over, nor is the page's end
-abbrev pub ends_line : Deed (List ℕ) → Bool
-ends_line (deeds.End fills) = true
+abbrev pub ends_line : EventKind (List ℕ) → Bool
+ends_line (kinds.End fills) = true
 ends_line _ = false
 
 abbrev pub is_passed_over : Bool → Act (Event (List ℕ)) → Bool
-is_passed_over skips (acts.Event event) = skips && not (ends_line event.deed)
+is_passed_over skips (acts.Event event) = skips && not (ends_line event.kind)
 is_passed_over skips (acts.PageEnd line) = false

@@ -2,10 +2,10 @@
 
 ghost use Rattle.std.specs.Prelude.{◌≡◌, ◌<◌, List, ◌∷◌, ℕ, reverse, vec_capacity, vec_len};
 ghost use Rattle.page_core_base.specs.Latches.{Came};
-ghost use Rattle.page_scopes_tree.specs.Acts.{TakesAct, act_seen};
+ghost use Rattle.page_scopes_tree.specs.Acts.{TakesAct, act_view};
 ghost use Rattle.page_scopes_tree.specs.Frames.{Tables};
 ghost use Rattle.page_scopes_tree.specs.Stacks.{Keeps};
-ghost use Rattle.page_sets_lines.specs.Events.{event_seen};
+ghost use Rattle.page_sets_lines.specs.Events.{event_view};
 ghost use Rattle.page_sets_lines.specs.declared.events.Event.{Event};
 
 use crate::Act;
@@ -15,7 +15,7 @@ use page_scopes_laws::Scope;
 use page_sets_lines::Event;
 
 /// The state of a layout, which says what scopes and leaves give.
-pub trait Laying: Drop {
+pub trait Renderer: Drop {
     /// What a scope keeps of the state before it.
     type Kept: Drop;
 
@@ -33,26 +33,26 @@ pub trait Laying: Drop {
     fn keep(&self, label: Label, event: &Event<&[u8]>, scopes: &mut Vec<Scope<Label, Self::Kept>>)
         requires { vec_len scopes.old < vec_capacity scopes.old }
         ensures { Keeps scopes.old scopes.new
-            (record { label = label; before = tables.keep label (event_seen event.now) self.now }
+            (record { label = label; before = tables.keep label (event_view event.now) self.now }
             ∷ reverse scopes.old.items) };
 
     /// A scope begins.
     fn begin<O: PieceOut>(&mut self, label: Label, event: &Event<&[u8]>, out: &mut O)
-        requires { Takes (event_seen event.now) }
+        requires { Takes (event_view event.now) }
         ensures came { Came O.left out.old
-            (tables.begin_items label (event_seen event.now) self.old) out.new }
-        ensures state { self.new ≡ tables.begin_state label (event_seen event.now) self.old };
+            (tables.begin_items label (event_view event.now) self.old) out.new }
+        ensures state { self.new ≡ tables.begin_state label (event_view event.now) self.old };
 
     /// An event comes, before it ends or opens anything.
     fn come<O: PieceOut>(&mut self, event: &Event<&[u8]>, out: &mut O)
-        ensures came { Came O.left out.old (tables.coming_items (event_seen event.now) self.old) out.new }
-        ensures state { self.new ≡ tables.coming_state (event_seen event.now) self.old };
+        ensures came { Came O.left out.old (tables.coming_items (event_view event.now) self.old) out.new }
+        ensures state { self.new ≡ tables.coming_state (event_view event.now) self.old };
 
     /// An act stands that opens and closes nothing itself.
     fn leaf<O: PieceOut>(&mut self, act: &Act<&Event<&[u8]>>, out: &mut O)
-        requires { TakesAct Takes (act_seen act.now) }
-        ensures came { Came O.left out.old (tables.leaf_items (act_seen act.now) self.old) out.new }
-        ensures state { self.new ≡ tables.leaf_state (act_seen act.now) self.old };
+        requires { TakesAct Takes (act_view act.now) }
+        ensures came { Came O.left out.old (tables.leaf_items (act_view act.now) self.old) out.new }
+        ensures state { self.new ≡ tables.leaf_state (act_view act.now) self.old };
 
     /// A scope ends, with what it kept, at a place.
     fn end<O: PieceOut>(&mut self, label: Label, before: &Self::Kept, place: Place, out: &mut O)

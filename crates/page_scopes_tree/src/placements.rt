@@ -2,17 +2,17 @@
 
 ghost use Rattle.std.specs.Prelude.{◌≡◌, ◌≤◌, length, reverse};
 ghost use Rattle.page_scopes_laws.specs.Layouts.{labels};
-ghost use Rattle.page_scopes_tree.specs.Acts.{act_seen};
+ghost use Rattle.page_scopes_tree.specs.Acts.{act_view};
 ghost use Rattle.page_scopes_tree.specs.Stacks as stacks;
-ghost use Rattle.page_scopes_tree.specs.Standings as standings;
-ghost use Rattle.page_sets_lines.specs.Events.{closer_seen, deed_seen, leaf_seen, opener_seen, request_seen, text_seen};
+ghost use Rattle.page_scopes_tree.specs.Placements as placements;
+ghost use Rattle.page_sets_lines.specs.Events.{closer_view, kind_view, leaf_view, opener_view, request_view, text_view};
 
 use crate::Act;
 use crate::runs::{Run, run_len};
 use page_core_limits::SCOPES;
 use page_scopes_labels::{Explicit, Label};
 use page_scopes_laws::Scope;
-use page_sets_lines::{BlockOpener, Closer, Deed, Event, Leaf, LineOpener, Opener, Request};
+use page_sets_lines::{BlockOpener, Closer, EventKind, Event, Leaf, LineOpener, Opener, Request};
 
 /// Why an event is refused.
 #[derive(Clone, Copy, PartialEq, Eq)]
@@ -29,7 +29,7 @@ pub(crate) enum Obstacle {
 
 /// What becomes of an event.
 #[derive(Clone, Copy, PartialEq, Eq)]
-pub(crate) enum Fate {
+pub(crate) enum Placement {
     /// A scope opens.
     Node(Label),
     /// It opens none.
@@ -42,7 +42,7 @@ pub(crate) enum Fate {
 
 // The scope that an opener opens.
 fn opener_label(opener: &Opener<&[u8]>) -> Label
-    ensures { result ≡ standings.opener_label (opener_seen opener.now) }
+    ensures { result ≡ placements.opener_label (opener_view opener.now) }
 {
     match *opener {
         Opener::Item => Label::Item,
@@ -61,28 +61,28 @@ fn opener_label(opener: &Opener<&[u8]>) -> Label
 // Whether a scope more may open.
 fn has_room<B>(remaining: &[Scope<Label, B>]) -> bool
     requires { length remaining.now ≤ SCOPES }
-    ensures { result ≡ standings.has_room (labels (reverse remaining.now)) }
+    ensures { result ≡ placements.has_room (labels (reverse remaining.now)) }
 {
     remaining.len() < SCOPES
 }
 
 // A scope opens where there is room.
 #[inline(never)]
-fn opened<B>(remaining: &[Scope<Label, B>], label: Label) -> Fate
+fn opened<B>(remaining: &[Scope<Label, B>], label: Label) -> Placement
     requires { length remaining.now ≤ SCOPES }
-    ensures { result ≡ standings.opened (labels (reverse remaining.now)) label }
+    ensures { result ≡ placements.opened (labels (reverse remaining.now)) label }
 {
     if has_room(remaining) {
-        Fate::Node(label)
+        Placement::Node(label)
     } else {
-        Fate::Refused(Obstacle::Scopes)
+        Placement::Refused(Obstacle::Scopes)
     }
 }
 
 // Whether a list is open.
 fn in_list<B>(remaining: &[Scope<Label, B>]) -> bool
     requires { length remaining.now ≤ SCOPES }
-    ensures { result ≡ standings.in_list (labels (reverse remaining.now)) }
+    ensures { result ≡ placements.in_list (labels (reverse remaining.now)) }
 {
     run_len(Run::InsideList, remaining) < remaining.len()
 }
@@ -90,52 +90,52 @@ fn in_list<B>(remaining: &[Scope<Label, B>]) -> bool
 // Whether a list is open, and the items of the innermost one have heads.
 fn in_headed_list<B>(remaining: &[Scope<Label, B>]) -> bool
     requires { length remaining.now ≤ SCOPES }
-    ensures { result ≡ standings.in_headed_list (labels (reverse remaining.now)) }
+    ensures { result ≡ placements.in_headed_list (labels (reverse remaining.now)) }
 {
     let inside = run_len(Run::InsideHeadedList, remaining);
     inside < remaining.len() && inside <= run_len(Run::InsideList, remaining)
 }
 
 // What becomes of an opener: an item needs a list.
-#[tactic(auto, unfolding(crate::specs::Standings::opener_fate))]
+#[tactic(auto, unfolding(crate::specs::Placements::opener_placement))]
 #[inline(always)]
-fn opener_fate<B>(opener: &Opener<&[u8]>, remaining: &[Scope<Label, B>]) -> Fate
+fn opener_placement<B>(opener: &Opener<&[u8]>, remaining: &[Scope<Label, B>]) -> Placement
     requires { length remaining.now ≤ SCOPES }
-    ensures { result ≡ standings.opener_fate (opener_seen opener.now) (labels (reverse remaining.now)) }
+    ensures { result ≡ placements.opener_placement (opener_view opener.now) (labels (reverse remaining.now)) }
 {
     match opener {
-        Opener::Item if !in_list(remaining) => Fate::Refused(Obstacle::OutsideList),
+        Opener::Item if !in_list(remaining) => Placement::Refused(Obstacle::OutsideList),
         _ => opened(remaining, opener_label(opener)),
     }
 }
 
 // What becomes of what opens a line scope: a head (`It`) is one where the items of the list have heads.
-#[tactic(auto, unfolding(crate::specs::Standings::line_fate))]
+#[tactic(auto, unfolding(crate::specs::Placements::line_placement))]
 #[inline(always)]
-fn line_fate<B>(opener: LineOpener, remaining: &[Scope<Label, B>]) -> Fate
+fn line_placement<B>(opener: LineOpener, remaining: &[Scope<Label, B>]) -> Placement
     requires { length remaining.now ≤ SCOPES }
-    ensures { result ≡ standings.line_fate opener (labels (reverse remaining.now)) }
+    ensures { result ≡ placements.line_placement opener (labels (reverse remaining.now)) }
 {
     match opener {
-        LineOpener::Head if !in_headed_list(remaining) => Fate::Nothing,
+        LineOpener::Head if !in_headed_list(remaining) => Placement::Nothing,
         _ => opened(remaining, Label::Line(opener)),
     }
 }
 
 // A closer that ended no scope is refused.
-fn closed(obstacle: Obstacle, count: usize) -> Fate
-    ensures { result ≡ standings.closed obstacle count }
+fn closed(obstacle: Obstacle, count: usize) -> Placement
+    ensures { result ≡ placements.closed obstacle count }
 {
     if count == 0 {
-        Fate::Refused(obstacle)
+        Placement::Refused(obstacle)
     } else {
-        Fate::Leaf
+        Placement::Leaf
     }
 }
 
 // Why `RE` is refused.
 fn margin_obstacle(number: Option<&[u8]>) -> Obstacle
-    ensures { result ≡ standings.margin_obstacle (text_seen number.entry) }
+    ensures { result ≡ placements.margin_obstacle (text_view number.entry) }
 {
     match number {
         None => Obstacle::NotOpen,
@@ -145,11 +145,11 @@ fn margin_obstacle(number: Option<&[u8]>) -> Obstacle
 
 // What becomes of a closer.
 #[inline(never)]
-fn closer_fate(closer: &Closer<&[u8]>, count: usize) -> Fate
-    ensures { result ≡ standings.closer_fate (closer_seen closer.now) count }
+fn closer_placement(closer: &Closer<&[u8]>, count: usize) -> Placement
+    ensures { result ≡ placements.closer_placement (closer_view closer.now) count }
 {
     match *closer {
-        Closer::Line | Closer::Enclosures => Fate::Nothing,
+        Closer::Line | Closer::Enclosures => Placement::Nothing,
         Closer::RelativeMargin(number) => closed(margin_obstacle(number), count),
         Closer::Target(_, _) | Closer::Syntax | Closer::Block(_) => {
             closed(Obstacle::NotOpen, count)
@@ -160,7 +160,7 @@ fn closer_fate(closer: &Closer<&[u8]>, count: usize) -> Fate
 // Whether the innermost scope is a line scope.
 fn in_line_scope<B>(remaining: &[Scope<Label, B>]) -> bool
     requires { length remaining.now ≤ SCOPES }
-    ensures { result ≡ standings.in_line_scope (labels (reverse remaining.now)) }
+    ensures { result ≡ placements.in_line_scope (labels (reverse remaining.now)) }
 {
     match remaining.last() {
         Some(scope) => scope.label.is_line(),
@@ -171,7 +171,7 @@ fn in_line_scope<B>(remaining: &[Scope<Label, B>]) -> bool
 // Whether the innermost scope is an enclosure that ends with a line.
 fn in_enclosure<B>(remaining: &[Scope<Label, B>]) -> bool
     requires { length remaining.now ≤ SCOPES }
-    ensures { result ≡ standings.in_enclosure (labels (reverse remaining.now)) }
+    ensures { result ≡ placements.in_enclosure (labels (reverse remaining.now)) }
 {
     match remaining.last() {
         Some(scope) => scope.label.is_enclosure(),
@@ -181,70 +181,70 @@ fn in_enclosure<B>(remaining: &[Scope<Label, B>]) -> bool
 
 // Whether a line scope drops a request.
 fn is_dropped(request: &Request<&[u8]>) -> bool
-    ensures { result ≡ standings.is_dropped (request_seen request.now) }
+    ensures { result ≡ placements.is_dropped (request_view request.now) }
 {
     matches!(request, Request::Break | Request::Space(_))
 }
 
 // What becomes of a leaf.
 #[inline(always)]
-fn leaf_fate<B>(leaf: &Leaf<&[u8]>, remaining: &[Scope<Label, B>]) -> Fate
+fn leaf_placement<B>(leaf: &Leaf<&[u8]>, remaining: &[Scope<Label, B>]) -> Placement
     requires { length remaining.now ≤ SCOPES }
-    ensures { result ≡ standings.leaf_fate (leaf_seen leaf.now) (labels (reverse remaining.now)) }
+    ensures { result ≡ placements.leaf_placement (leaf_view leaf.now) (labels (reverse remaining.now)) }
 {
     match leaf {
         Leaf::Request(request) => {
             if in_line_scope(remaining) && is_dropped(request) {
-                Fate::Nothing
+                Placement::Nothing
             } else {
-                Fate::Leaf
+                Placement::Leaf
             }
         }
-        _ => Fate::Leaf,
+        _ => Placement::Leaf,
     }
 }
 
-// What becomes of a deed that ended this many scopes and leaves these.
+// What becomes of an event that ended this many scopes and leaves these.
 #[inline(always)]
-fn deed_fate<B>(deed: &Deed<&[u8]>, count: usize, remaining: &[Scope<Label, B>]) -> Fate
+fn kind_placement<B>(kind: &EventKind<&[u8]>, count: usize, remaining: &[Scope<Label, B>]) -> Placement
     requires { length remaining.now ≤ SCOPES }
-    ensures { result ≡ standings.deed_fate (deed_seen deed.now) count (labels (reverse remaining.now)) }
+    ensures { result ≡ placements.kind_placement (kind_view kind.now) count (labels (reverse remaining.now)) }
 {
-    match deed {
-        Deed::Open(opener) => opener_fate(opener, remaining),
-        Deed::Close(closer) => closer_fate(closer, count),
-        Deed::LineScope(opener) => line_fate(*opener, remaining),
-        Deed::Leaf(leaf) => leaf_fate(leaf, remaining),
-        _ => Fate::Leaf,
+    match kind {
+        EventKind::Open(opener) => opener_placement(opener, remaining),
+        EventKind::Close(closer) => closer_placement(closer, count),
+        EventKind::LineScope(opener) => line_placement(*opener, remaining),
+        EventKind::Leaf(leaf) => leaf_placement(leaf, remaining),
+        _ => Placement::Leaf,
     }
 }
 
 /// What becomes of an act that ended this many scopes and leaves these.
 #[inline(always)]
-pub(crate) fn fate_of<B>(
+pub(crate) fn placement_of<B>(
     act: &Act<&Event<&[u8]>>,
     count: usize,
     remaining: &[Scope<Label, B>],
-) -> Fate
+) -> Placement
     requires { length remaining.now ≤ SCOPES }
-    ensures { result ≡ standings.act_fate (act_seen act.now) count (labels (reverse remaining.now)) }
+    ensures { result ≡ placements.act_placement (act_view act.now) count (labels (reverse remaining.now)) }
 {
     match act {
-        Act::Event(event) => deed_fate(&event.deed, count, remaining),
-        Act::PageEnd(_) => Fate::Leaf,
+        Act::Event(event) => kind_placement(&event.kind, count, remaining),
+        Act::PageEnd(_) => Placement::Leaf,
     }
 }
 
-// Whether a deed ends no scope and opens none, and stands as a leaf: a word, and the end of a line where the innermost
+// Whether an event ends no scope and opens none, and stands as a leaf: a word, and the end of a line where the innermost
 // scope is no line scope.
 #[inline(always)]
-fn deed_stands_alone<B>(deed: &Deed<&[u8]>, scopes: &[Scope<Label, B>]) -> bool
+fn kind_stands_alone<B>(kind: &EventKind<&[u8]>, scopes: &[Scope<Label, B>]) -> bool
     requires { length scopes.now ≤ SCOPES }
-    ensures { result ≡ stacks.deed_stands_alone (deed_seen deed.now) (labels (reverse scopes.now)) }
+    ensures { result ≡ stacks.kind_stands_alone (kind_view kind.now) (labels (reverse scopes.now)) }
 {
-    match deed {
-        Deed::Word(_) => true,
-        Deed::End { .. } => !in_line_scope(scopes),
+    match kind {
+        EventKind::Word(_) => true,
+        EventKind::End { .. } => !in_line_scope(scopes),
         _ => false,
     }
 }
@@ -253,23 +253,23 @@ fn deed_stands_alone<B>(deed: &Deed<&[u8]>, scopes: &[Scope<Label, B>]) -> bool
 #[inline(always)]
 pub(crate) fn stands_alone<B>(act: &Act<&Event<&[u8]>>, scopes: &[Scope<Label, B>]) -> bool
     requires { length scopes.now ≤ SCOPES }
-    ensures { result ≡ stacks.stands_alone (act_seen act.now) (labels (reverse scopes.now)) }
+    ensures { result ≡ stacks.stands_alone (act_view act.now) (labels (reverse scopes.now)) }
 {
     match act {
-        Act::Event(event) => deed_stands_alone(&event.deed, scopes),
+        Act::Event(event) => kind_stands_alone(&event.kind, scopes),
         Act::PageEnd(_) => false,
     }
 }
 
-// Whether a deed does nothing: a break of line scopes where the innermost scope is none, and an end of enclosures alike.
+// Whether an event does nothing: a break of line scopes where the innermost scope is none, and an end of enclosures alike.
 #[inline(always)]
-fn deed_is_idle<B>(deed: &Deed<&[u8]>, scopes: &[Scope<Label, B>]) -> bool
+fn kind_is_idle<B>(kind: &EventKind<&[u8]>, scopes: &[Scope<Label, B>]) -> bool
     requires { length scopes.now ≤ SCOPES }
-    ensures { result ≡ stacks.deed_is_idle (deed_seen deed.now) (labels (reverse scopes.now)) }
+    ensures { result ≡ stacks.kind_is_idle (kind_view kind.now) (labels (reverse scopes.now)) }
 {
-    match deed {
-        Deed::Close(Closer::Line) => !in_line_scope(scopes),
-        Deed::Close(Closer::Enclosures) => !in_enclosure(scopes),
+    match kind {
+        EventKind::Close(Closer::Line) => !in_line_scope(scopes),
+        EventKind::Close(Closer::Enclosures) => !in_enclosure(scopes),
         _ => false,
     }
 }
@@ -278,17 +278,17 @@ fn deed_is_idle<B>(deed: &Deed<&[u8]>, scopes: &[Scope<Label, B>]) -> bool
 #[inline(always)]
 pub(crate) fn is_idle<B>(act: &Act<&Event<&[u8]>>, scopes: &[Scope<Label, B>]) -> bool
     requires { length scopes.now ≤ SCOPES }
-    ensures { result ≡ stacks.is_idle (act_seen act.now) (labels (reverse scopes.now)) }
+    ensures { result ≡ stacks.is_idle (act_view act.now) (labels (reverse scopes.now)) }
 {
     match act {
-        Act::Event(event) => deed_is_idle(&event.deed, scopes),
+        Act::Event(event) => kind_is_idle(&event.kind, scopes),
         Act::PageEnd(_) => false,
     }
 }
 
 // Whether an opener is of a paragraph, a list or an item.
 fn opens_paragraph(opener: &Opener<&[u8]>) -> bool
-    ensures { result ≡ standings.opens_paragraph (opener_seen opener.now) }
+    ensures { result ≡ placements.opens_paragraph (opener_view opener.now) }
 {
     matches!(
         opener,
@@ -302,10 +302,10 @@ fn opens_paragraph(opener: &Opener<&[u8]>) -> bool
 }
 
 // Whether the rest of an opener's line is passed over.
-#[tactic(auto, unfolding(crate::specs::Standings::opener_skips))]
+#[tactic(auto, unfolding(crate::specs::Placements::opener_skips))]
 fn opener_skips<B>(opener: &Opener<&[u8]>, remaining: &[Scope<Label, B>]) -> bool
     requires { length remaining.now ≤ SCOPES }
-    ensures { result ≡ standings.opener_skips (opener_seen opener.now) (labels (reverse remaining.now)) }
+    ensures { result ≡ placements.opener_skips (opener_view opener.now) (labels (reverse remaining.now)) }
 {
     match opener {
         Opener::Item if !in_list(remaining) => true,
@@ -315,21 +315,21 @@ fn opener_skips<B>(opener: &Opener<&[u8]>, remaining: &[Scope<Label, B>]) -> boo
 
 // Whether an opener is of a description or of a row that stands alone.
 fn opens_row(opener: LineOpener) -> bool
-    ensures { result ≡ standings.opens_row opener }
+    ensures { result ≡ placements.opens_row opener }
 {
     matches!(opener, LineOpener::Description | LineOpener::OneLine(_))
 }
 
-// Whether the rest of the line is passed over after a deed.
+// Whether the rest of the line is passed over after an event.
 #[inline(always)]
-fn deed_skips<B>(skips: bool, deed: &Deed<&[u8]>, remaining: &[Scope<Label, B>]) -> bool
+fn kind_skips<B>(skips: bool, kind: &EventKind<&[u8]>, remaining: &[Scope<Label, B>]) -> bool
     requires { length remaining.now ≤ SCOPES }
-    ensures { result ≡ standings.deed_skips skips (deed_seen deed.now) (labels (reverse remaining.now)) }
+    ensures { result ≡ placements.kind_skips skips (kind_view kind.now) (labels (reverse remaining.now)) }
 {
-    match deed {
-        Deed::End { .. } => false,
-        Deed::Open(opener) => skips || opener_skips(opener, remaining),
-        Deed::LineScope(opener) => skips || (opens_row(*opener) && !has_room(remaining)),
+    match kind {
+        EventKind::End { .. } => false,
+        EventKind::Open(opener) => skips || opener_skips(opener, remaining),
+        EventKind::LineScope(opener) => skips || (opens_row(*opener) && !has_room(remaining)),
         _ => skips,
     }
 }
@@ -342,10 +342,10 @@ pub(crate) fn skips_after<B>(
     remaining: &[Scope<Label, B>],
 ) -> bool
     requires { length remaining.now ≤ SCOPES }
-    ensures { result ≡ standings.act_skips skips (act_seen act.now) (labels (reverse remaining.now)) }
+    ensures { result ≡ placements.act_skips skips (act_view act.now) (labels (reverse remaining.now)) }
 {
     match act {
-        Act::Event(event) => deed_skips(skips, &event.deed, remaining),
+        Act::Event(event) => kind_skips(skips, &event.kind, remaining),
         Act::PageEnd(_) => skips,
     }
 }
@@ -353,10 +353,10 @@ pub(crate) fn skips_after<B>(
 /// Whether an act is passed over.
 #[inline(always)]
 pub(crate) fn is_passed_over(skips: bool, act: &Act<&Event<&[u8]>>) -> bool
-    ensures { result ≡ standings.is_passed_over skips (act_seen act.now) }
+    ensures { result ≡ placements.is_passed_over skips (act_view act.now) }
 {
     match act {
-        Act::Event(event) => skips && !matches!(event.deed, Deed::End { .. }),
+        Act::Event(event) => skips && !matches!(event.kind, EventKind::End { .. }),
         Act::PageEnd(_) => false,
     }
 }
