@@ -4,7 +4,7 @@ use Rattle.std.specs.Result.{result_err}
 use Rattle.std.specs.Borrow.{GName}
 use Rattle.page_core_base.specs.Fails.{FailsAs, Rose}
 use Rattle.page_core_base.specs.Messages.{Message}
-use Rattle.page_core_base.specs.Plans.{Planned, Left, TookNotes, BrokeNotes}
+use Rattle.page_core_base.specs.machine.Plans.{Planned, Left, TookNotes, BrokeNotes}
 use Rattle.page_core_base.specs.Sinks.{Gives, IsSink}
 use Rattle.page_core_base.specs.declared.faults.Fault.{Fault}
 use Rattle.page_core_base.specs.declared.faults.Fault.TheVariants.{Failed, WriteNotes}

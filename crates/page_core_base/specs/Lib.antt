@@ -8,6 +8,5 @@ pub mod Fails
 pub mod Laid
 pub mod Pieces
 pub mod Latches
-pub mod Plans
-pub mod RowPlans
 pub mod LinesTaken
+pub mod machine

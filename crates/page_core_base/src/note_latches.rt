@@ -3,7 +3,7 @@
 ghost use Rattle.std.specs.Prelude.{◌≡◌, List, [], ◌∷◌, None, Some, MatchResult};
 ghost use Rattle.page_core_base.specs.Messages.{Message, message_of};
 ghost use Rattle.page_core_base.specs.Latches.{Came};
-ghost use Rattle.page_core_base.specs.Plans.{Planned, Left, TookNotes, BrokeNotes};
+ghost use Rattle.page_core_base.specs.machine.Plans.{Planned, Left, TookNotes, BrokeNotes};
 
 use crate::{Fault, Note, NoteSink};
 

@@ -3,7 +3,7 @@
 ghost use Rattle.std.specs.Prelude.{◌≡◌, ◌≤◌, List, [], ◌∷◌, length, None, Some, MatchResult};
 ghost use Rattle.page_core_base.specs.Latches.{Came};
 ghost use Rattle.page_core_base.specs.Messages.{message_of};
-ghost use Rattle.page_core_base.specs.Plans.{Planned, Left};
+ghost use Rattle.page_core_base.specs.machine.Plans.{Planned, Left};
 ghost use Rattle.page_core_base.specs.Pieces.{Item, shown, noted, piece_of};
 ghost use Rattle.page_core_base.specs.Words.{TakesWords};
 

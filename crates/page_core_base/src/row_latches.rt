@@ -3,7 +3,7 @@
 ghost use Rattle.std.specs.Prelude.{◌≡◌, List, [], ◌∷◌, IsTrue, None, Some, MatchResult};
 ghost use Rattle.page_core_base.specs.Latches.{CameRows};
 ghost use Rattle.page_core_base.specs.Messages.{Message, message_of};
-ghost use Rattle.page_core_base.specs.RowPlans.{Planned, Left, seen};
+ghost use Rattle.page_core_base.specs.machine.RowPlans.{Planned, Left, seen};
 ghost use Rattle.page_core_base.specs.Rows.{LaidRow, row_of};
 
 use crate::{Cell, Fault, Note, NoteSink, RowSink};

@@ -9,8 +9,8 @@ use Rattle.page_core_escapes.specs.Extents.{character_len, written_len, name_len
 use Rattle.page_core_escapes.specs.Lengths.{extent_len, escape_len_by, escape_len}
 use Rattle.page_core_escapes.specs.Letters.{letter_of}
 use Rattle.page_core_escapes.specs.Meanings.{Face, Meaning, character, nothing, face, face_of, is_one_of, meaning_of, roman, italic, bold, bold_italic, former, unknown}
-use Rattle.page_core_escapes.specs.ShortEscapes.{ShortEscape, ShortFont}
-use Rattle.page_core_escapes.specs.Steps.{FontLetter}
+use Rattle.page_core_escapes.specs.machine.ShortEscapes.{ShortEscape, ShortFont}
+use Rattle.page_core_escapes.specs.machine.Steps.{FontLetter}
 
 -- a character of one byte
 alone_len : (letter : ℕ) (rest : List ℕ) → continuation_len letter ≡ 0 → character_len (letter ∷ rest) ≡ Some 1

@@ -2,8 +2,7 @@ pub mod Bytes
 pub mod Letters
 pub mod Extents
 pub mod Lengths
-pub mod Steps
 pub mod Meanings
 pub mod Escapes
-pub mod ShortEscapes
 pub mod Tokens
+pub mod machine

@@ -2,7 +2,7 @@
 ghost use Rattle.std.specs.Prelude.{◌≡◌, ◌+◌, ◌<◌, ◌≤◌, length, IfSome};
 ghost use Rattle.page_core_escapes.specs.Extents.{written_len};
 ghost use Rattle.page_core_escapes.specs.Lengths.{quoted_len, content_len};
-ghost use Rattle.page_core_escapes.specs.Steps.{first_character, opening_of, step_of, StepFits};
+ghost use Rattle.page_core_escapes.specs.machine.Steps.{first_character, opening_of, step_of, StepFits};
 
 use crate::extents::{Extent, read_extent, written_len};
 use arrayvec::ArrayVec;

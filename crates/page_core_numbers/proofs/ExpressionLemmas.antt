@@ -6,7 +6,7 @@ use Rattle.page_core_numbers.specs.declared.operators.Operator.{Operator}
 use Rattle.page_core_numbers.specs.declared.troubles.Trouble.TheVariants.{Parentheses}
 use Rattle.page_core_numbers.specs.Numbers.{number_at}
 use Rattle.page_core_numbers.specs.Expressions.{Read, no_operand, number, operand_inside, in_parentheses, operand_by, first, after_operation, next_operator, operations_at, expression_by, expression_within}
-use Rattle.page_core_numbers.specs.Signs.{inside_of, after_open}
+use Rattle.page_core_numbers.specs.machine.Signs.{inside_of, after_open}
 
 pub number_at-nil : (scale : Scale) → number_at scale [] ≡ None
 unfolding number_at

@@ -9,7 +9,7 @@ use Rattle.page_core_base.specs.declared.page_settings.Output.{Output}
 use Rattle.page_core_tables.specs.Printed.{char_printed, char_columns}
 use Rattle.page_core_tables.proofs.PrintedLemmas.{char_columns-printable}
 use Rattle.page_core_numbers.specs.Columns.{characters_columns, printed_front, front_len}
-use Rattle.page_core_numbers.specs.Plain.{is_plain, are_plain}
+use Rattle.page_core_numbers.specs.machine.Plain.{is_plain, are_plain}
 use Rattle.page_core_numbers.proofs.ColumnLemmas.{Left, left-next, front-character}
 
 -- ---- runs of them

@@ -6,7 +6,7 @@ ghost use Rattle.std.specs.Str.{IsUtf8, IsCharBoundary};
 ghost use Rattle.page_core_escapes.specs.Escapes.{meaning_view};
 ghost use Rattle.page_core_tables.specs.Printed.{printed_view};
 ghost use Rattle.page_core_numbers.specs.Columns.{BeginsWith, characters_columns, printed_escape, printed_front, front_len, blanks_in, columns_of};
-ghost use Rattle.page_core_numbers.specs.Plain.{is_plain, are_plain};
+ghost use Rattle.page_core_numbers.specs.machine.Plain.{is_plain, are_plain};
 
 use crate::expressions::read_expression;
 use crate::scales::Scale;

@@ -7,7 +7,7 @@ use Rattle.std.specs.Ordering.{nat_cmp, ordering_index}
 use Rattle.std.proofs.lemmas.Cmp.{ranked}
 use Rattle.std.specs.Borrow.{Bor}
 use Rattle.page_core_tables.specs.Glyphs.{Symbol, Entry, entry, entries, symbol_at}
-use Rattle.page_core_tables.specs.Rows.{keys_rise}
+use Rattle.page_core_tables.specs.machine.Rows.{keys_rise}
 
 -- the first key is no smaller than the bound, and the rest rise from above it
 keys_rise-parts : (least : ℕ) (e : Entry) (es : List Entry) → keys_rise least (e ∷ es) ≡ true → (least ≤ e.key) × (keys_rise (e.key + 1) es ≡ true)

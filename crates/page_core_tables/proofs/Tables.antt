@@ -7,7 +7,7 @@ use Rattle.std.proofs.lemmas.Slice.Eq.{bytes_eq-Decides}
 use Rattle.std.specs.List.{list_all}
 use Rattle.page_core_tables.specs.declared.rows.Glyph.{Glyph}
 use Rattle.page_core_tables.specs.Glyphs.{Symbol, Entry, symbol_of, table, symbol_at, name_key, glyph_of, first_spelling, spelling_of}
-use Rattle.page_core_tables.specs.Rows.{has_key, rows_are_spelled, is_spelled, spellings_have_rows, are_characters_from}
+use Rattle.page_core_tables.specs.machine.Rows.{has_key, rows_are_spelled, is_spelled, spellings_have_rows, are_characters_from}
 
 -- what stands at a key passes what each entry passes
 pub symbol_at-passes : (p : ℕ → Symbol → Bool) (rows : List Entry) (key : ℕ) (s : Symbol) → list_all (λ e. p e.key e.symbol) rows ≡ true → symbol_at rows key ≡ Some s

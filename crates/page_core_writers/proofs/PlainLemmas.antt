@@ -5,7 +5,7 @@ use Rattle.std.proofs.lemmas.List.Folds.{list_all_more}
 use Rattle.std.proofs.lemmas.Bool.Decides.{nat_tests}
 use Rattle.std.proofs.lemmas.Nat.{or_lt}
 use Rattle.page_core_base.specs.declared.cells.Cell.{Cell}
-use Rattle.page_core_writers.specs.PlainCells.{is_plain, is_roman}
+use Rattle.page_core_writers.specs.machine.PlainCells.{is_plain, is_roman}
 
 pub plain_cell : (cell : Cell) → cell.c < 128 → is_roman cell.font ≡ true → is_plain cell ≡ true
 plain_cell cell h r = rw r (grind (arith, nat_tests))

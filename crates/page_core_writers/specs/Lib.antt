@@ -1,4 +1,4 @@
 pub mod Grows
 pub mod MessageBytes
-pub mod PlainCells
 pub mod RowBytes
+pub mod machine

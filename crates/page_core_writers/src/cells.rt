@@ -3,7 +3,7 @@
 ghost use Rattle.std.specs.Prelude.{◌≡◌, ℕ, ◌+◌, ◌*◌, ◌<◌, ◌≤◌, [], ◌∷◌, ◌++◌, length, take, true, encode_utf8};
 ghost use Rattle.std.specs.List.{flat_map, list_all};
 ghost use Rattle.page_core_base.specs.Rows.{is_blank, trimmed};
-ghost use Rattle.page_core_writers.specs.PlainCells.{is_plain, is_roman};
+ghost use Rattle.page_core_writers.specs.machine.PlainCells.{is_plain, is_roman};
 ghost use Rattle.page_core_writers.specs.RowBytes.{cell_bytes_of};
 
 use arrayvec::ArrayVec;

@@ -5,7 +5,7 @@ ghost use Rattle.std.specs.Borrow.{GName};
 ghost use Rattle.std.specs.List.{flat_map, list_all};
 ghost use Rattle.page_core_writers.specs.Grows.{GrowsInto, GrowsUpTo, Writes};
 ghost use Rattle.page_core_writers.specs.Grows.{Adds, AddsInto, adds-sink, adds-whole};
-ghost use Rattle.page_core_writers.specs.PlainCells.{is_plain};
+ghost use Rattle.page_core_writers.specs.machine.PlainCells.{is_plain};
 ghost use Rattle.page_core_writers.specs.RowBytes.{row_bytes, printed, cell_bytes_of};
 
 use crate::cells::{without_blanks_at_end, write_group, write_mixed};

@@ -9,9 +9,9 @@ use Rattle.page_core_base.specs.Laid.{Laid, Gave, Gets, join}
 use Rattle.page_core_base.specs.Fails.{FailsBySink}
 use Rattle.page_engine.specs.declared.layers.Layers.{Layers}
 use Rattle.page_engine.specs.Levels.{reported, worst_of}
-use Rattle.page_engine.specs.Layers.{IsAt}
+use Rattle.page_engine.specs.machine.Layers.{IsAt}
 use Rattle.page_engine.specs.Page.{Edge}
-use Rattle.page_engine.specs.ByLine.{laid_notes}
+use Rattle.page_engine.specs.machine.ByLine.{laid_notes}
 use Rattle.page_engine.specs.Shown.{shown_rows-nil}
 
 -- the messages of a cutting change the worst level alone

@@ -11,8 +11,8 @@ use Rattle.page_fill_steps.specs.declared.edges.Edge.{Edge as FillEdge}
 use Rattle.page_engine_lines.specs.Edges.{LinesEdge}
 use Rattle.page_engine.specs.Levels.{FilterGave, FilterWithin}
 use Rattle.page_engine.specs.Shown.{is_silent, ShownGave, ShownWithin}
-use Rattle.page_engine.specs.PageSinks.{Passed, Broken, Ends, Quiet}
-use Rattle.page_engine.specs.Layers.{IsAt}
+use Rattle.page_engine.specs.machine.PageSinks.{Passed, Broken, Ends, Quiet}
+use Rattle.page_engine.specs.machine.Layers.{IsAt}
 use Rattle.page_engine.specs.Page.{Edge, lines_at, of_page}
 
 -- what a call did that passes items on

@@ -10,9 +10,9 @@ use Rattle.page_core_base.specs.Laid.{Laid, Gave, Gets, join}
 use Rattle.page_core_base.specs.Fails.{FailsAs, FailsBySink, IsPieceFault, IsSinkFault}
 use Rattle.page_fill_steps.specs.declared.edges.Edge.{Edge as FillEdge}
 use Rattle.page_core_base.specs.Pieces.{Item, shown, noted}
-use Rattle.page_fill.specs.ByPiece.{laid_item, laid_items}
+use Rattle.page_fill.specs.machine.ByPiece.{laid_item, laid_items}
 use Rattle.page_fill.specs.Filling.{filled}
-use Rattle.page_engine.specs.PageSinks.{Passed, Broken, Ends, Quiet, cause_later}
+use Rattle.page_engine.specs.machine.PageSinks.{Passed, Broken, Ends, Quiet, cause_later}
 
 pub laid_items_one : (row : FillEdge) (x : Item) → laid_items row (x ∷ []) ≡ laid_item row x
 unfolding laid_items

@@ -3,7 +3,7 @@ use Rattle.std.proofs.Common.{◌≡◌, ℕ, Some, List, [], ◌∷◌, Option,
 use Rattle.std.specs.Prelude.{unwrap_or}
 use Rattle.page_core_base.specs.declared.note_kinds.Level.{Level}
 use Rattle.page_core_base.specs.declared.page_settings.Output.{Output}
-use Rattle.page_fill.specs.ByPiece.{laid_items}
+use Rattle.page_fill.specs.machine.ByPiece.{laid_items}
 use Rattle.page_fill.specs.Filling.{filled}
 use Rattle.page_fill_steps.specs.declared.edges.Edge.{Edge as FillEdge}
 use Rattle.page_roff_lines.specs.Decoding.{Line}
@@ -12,7 +12,7 @@ use Rattle.page_roff_source.specs.Given.{done}
 use Rattle.page_engine_body.specs.Bodies.{BodyEdge}
 use Rattle.page_engine_lines.specs.Acts.{lines_items, lines_after}
 use Rattle.page_engine_lines.specs.Edges.{LinesEdge}
-use Rattle.page_engine_lines.specs.Lines.{source_items, source_after}
+use Rattle.page_engine_lines.specs.machine.Lines.{source_items, source_after}
 use Rattle.page_engine_lines.proofs.NumberLemmas.{last_of, done_number_is}
 use Rattle.page_engine_body.proofs.SharedLemmas.{Shared}
 use Rattle.page_engine_lines.proofs.SharedLemmas.{lines_shared}
@@ -20,7 +20,7 @@ use Rattle.page_engine_lines.proofs.TreeLemmas.{one_after}
 use Rattle.page_engine.specs.Edges.{Edge, lines_at, moved, roff_at}
 use Rattle.page_engine.specs.Levels.{reported, worst_of}
 use Rattle.page_engine.specs.Page.{after, edge, last_number, raw_lines, settled, text_line}
-use Rattle.page_engine.specs.ByLine as by_line
+use Rattle.page_engine.specs.machine.ByLine as by_line
 use Rattle.page_engine.proofs.Fixed.{fixed, filled_fixed, items_fixed}
 
 -- ---- lines

@@ -12,7 +12,7 @@ use Rattle.page_engine_lines.specs.Edges.{LinesEdge}
 use Rattle.page_roff_source.specs.Edges.{counts_of}
 use Rattle.page_roff_source.specs.declared.counts.Counts.{Counts}
 use Rattle.page_engine.specs.Edges.{Edge}
-use Rattle.page_engine.specs.Layers.{IsAt, edge_of, IsKept}
+use Rattle.page_engine.specs.machine.Layers.{IsAt, edge_of, IsKept}
 use Rattle.page_engine.specs.Within.{IsWithin}
 
 -- ---- the edge that the layers are at

@@ -8,12 +8,12 @@ use Rattle.page_core_base.proofs.SinkLemmas.{within-join}
 use Rattle.page_roff_lines.specs.Cutting.{Point, point_after, lines_within, last_line}
 use Rattle.page_roff_lines.proofs.PointLemmas.{point_after-append}
 use Rattle.page_engine.specs.declared.runs.Run.{Run}
-use Rattle.page_engine.specs.PageSinks.{cause_later}
+use Rattle.page_engine.specs.machine.PageSinks.{cause_later}
 use Rattle.page_engine.specs.States.{PageState, IsOpenAt}
 use Rattle.page_engine.specs.Page.{Edge, IsReached, page}
 use Rattle.page_engine.specs.Streams.{Streams, Sinks, AllCame, FrontCame, Front}
 use Rattle.page_engine.specs.Runs.{page_from, settled_from, Broken, BrokeIn}
-use Rattle.page_engine.specs.Steps.{CanTake, IsFresh, Moved, Settled, Through, ChunkBroke}
+use Rattle.page_engine.specs.machine.Steps.{CanTake, IsFresh, Moved, Settled, Through, ChunkBroke}
 use Rattle.page_engine.proofs.WholeLines.{settled_none}
 use Rattle.page_engine.proofs.LineCounts.{lines_most}
 use Rattle.page_engine.proofs.Cutting.{consumed_more}

@@ -1,14 +1,10 @@
 pub mod Levels
 pub mod Edges
 pub mod Page
-pub mod ByLine
-pub mod PageSinks
-pub mod Layers
 pub mod Streams
 pub mod States
 pub mod Within
 pub mod Shown
 pub mod Runs
-pub mod Steps
 pub mod Written
-pub mod Held
+pub mod machine

@@ -20,7 +20,7 @@ pub struct Edge {
 
 impl Model for Edge {
     ghost use Rattle.page_engine.specs.Edges as edges;
-    ghost use Rattle.page_engine.specs.Held.{edge_of, IsHeldAt};
+    ghost use Rattle.page_engine.specs.machine.Held.{edge_of, IsHeldAt};
 
     ghost Value = { edges.Edge };
 

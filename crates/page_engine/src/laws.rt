@@ -8,7 +8,7 @@ ghost use Rattle.page_roff_source.specs.Each.{EachIsWithin};
 ghost use Rattle.page_core_limits.specs.declared.TheConstants.{EXPAND, REREAD};
 ghost use Rattle.page_engine_lines.specs.Acts.{lines_after};
 ghost use Rattle.page_engine_lines.specs.Edges.{start_of};
-ghost use Rattle.page_engine.specs.ByLine as by_line;
+ghost use Rattle.page_engine.specs.machine.ByLine as by_line;
 ghost use Rattle.page_engine.specs.Edges.{lines_at, roff_at};
 ghost use Rattle.page_engine.specs.Page.{Edge, IsReached, settled, edge, page, counts_at, start, raw_lines};
 ghost use Rattle.page_engine.specs.Within.{IsWithin, text_bytes};

@@ -7,11 +7,11 @@ ghost use Rattle.page_core_base.specs.Texts.{IsLine};
 ghost use Rattle.page_roff_lines.specs.Cutting.{line_of};
 ghost use Rattle.page_roff_source.specs.Edges.{counts_of};
 ghost use Rattle.page_fill_steps.specs.declared.edges.Edge.{Edge as FillEdge};
-ghost use Rattle.page_engine.specs.Layers.{IsAt};
+ghost use Rattle.page_engine.specs.machine.Layers.{IsAt};
 ghost use Rattle.page_engine.specs.Within.{IsWithin};
-ghost use Rattle.page_engine.specs.ByLine.{settled_text, settled_line, ended, end_laid};
+ghost use Rattle.page_engine.specs.machine.ByLine.{settled_text, settled_line, ended, end_laid};
 ghost use Rattle.page_engine.specs.Edges.{Edge, IsReached, last_line, lines_at, start};
-ghost use Rattle.page_engine.specs.PageSinks.{Ends};
+ghost use Rattle.page_engine.specs.machine.PageSinks.{Ends};
 
 use crate::edges::Edge as PageEdge;
 use crate::level_filters::LevelFilter;

@@ -3,8 +3,8 @@
 ghost use Rattle.std.specs.Borrow.{GName};
 ghost use Rattle.page_engine.specs.Levels.{filter-sink, filter-whole};
 ghost use Rattle.page_engine.specs.Shown.{shown-sink, shown-whole};
-ghost use Rattle.page_engine.specs.PageSinks.{PageSinkGave, PageSinkWithin, message-sink, message-whole, message-fault};
-ghost use Rattle.page_engine.specs.PageSinks.{PageSinkTook, PageSinkBroke, page-sink};
+ghost use Rattle.page_engine.specs.machine.PageSinks.{PageSinkGave, PageSinkWithin, message-sink, message-whole, message-fault};
+ghost use Rattle.page_engine.specs.machine.PageSinks.{PageSinkTook, PageSinkBroke, page-sink};
 
 use crate::level_filters::LevelFilter;
 use crate::shown::Shown;
@@ -53,7 +53,7 @@ impl<R: RowSink, N: NoteSink> NoteSink for PageSink<'_, '_, '_, R, N> {
         (filter-whole N.gave N.within N.whole (λ s. s.notes.now) (λ s. s.least) (λ s. s.worst))
         (λ s. s.filler.now) (λ s. s.rows) (λ s. s.notes) };
 
-    #[tactic(auto, unfolding(page_fill::specs::ByPiece::laid_items))]
+    #[tactic(auto, unfolding(page_fill::specs::machine::ByPiece::laid_items))]
     fn note(&mut self, note: &Note) -> Result<(), Fault> {
         self.notes.note(note)
     }
@@ -93,7 +93,7 @@ impl<R: RowSink, N: NoteSink> PieceSink for PageSink<'_, '_, '_, R, N> {
 
     // The filler's own `piece` is put in its place, so that a piece of a known kind costs no copy and no match.
     #[inline(always)]
-    #[tactic(auto, unfolding(page_fill::specs::ByPiece::laid_items))]
+    #[tactic(auto, unfolding(page_fill::specs::machine::ByPiece::laid_items))]
     fn piece(&mut self, piece: Piece<&[u8]>) -> Result<(), Fault> {
         self.filler.piece(piece, &mut self.rows, &mut self.notes)
     }

@@ -75,7 +75,7 @@ pub struct Page {
 }
 
 impl Model for Page {
-    ghost use Rattle.page_engine.specs.Layers.{edge_of, IsKept};
+    ghost use Rattle.page_engine.specs.machine.Layers.{edge_of, IsKept};
     ghost use Rattle.page_engine.specs.States.{PageState};
 
     ghost Value = { PageState };

@@ -8,7 +8,7 @@ ghost use Rattle.page_engine.specs.States.{IsOpenAt, CannotStart};
 ghost use Rattle.page_engine.specs.Streams.{streams, sinks};
 ghost use Rattle.page_engine.specs.Written.{WritesRows, WritesRowsInto, WritesNotes, WritesNotesInto};
 ghost use Rattle.page_engine.specs.Runs.{Runs, RunsOver, RunsIn};
-ghost use Rattle.page_engine.specs.Steps.{CanTake, TakesPart, TakesChunk, TakesLast, Finishes, StartsAt, IsFresh, ReadsAll};
+ghost use Rattle.page_engine.specs.machine.Steps.{CanTake, TakesPart, TakesChunk, TakesLast, Finishes, StartsAt, IsFresh, ReadsAll};
 
 use crate::pages::Page;
 use page_core_base::{Fault, Level, NoteSink, RowSink, Settings};

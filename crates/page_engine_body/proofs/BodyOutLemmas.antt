@@ -4,7 +4,7 @@ use Rattle.std.specs.Borrow.{GName}
 use Rattle.page_core_base.specs.Latches.{Came}
 use Rattle.page_core_base.specs.Pieces.{Item}
 use Rattle.page_engine_body.specs.Bodies.{BodyEdge, GivesEvent, GivesEvents, event_after, event_items, events_after, events_items}
-use Rattle.page_engine_body.specs.BodyOuts.{LeftEvents, PlannedEvents}
+use Rattle.page_engine_body.specs.machine.BodyOuts.{LeftEvents, PlannedEvents}
 use Rattle.page_engine_body.proofs.EventLemmas.{after_more, after_none, items_more, items_none}
 use Rattle.page_sets_lines.specs.declared.events.Event.{Event}
 

@@ -11,7 +11,7 @@ use Rattle.page_scopes.specs.declared.layouts.Kept.{Kept}
 use Rattle.page_scopes.specs.declared.layouts.LayoutState.{LayoutState}
 use Rattle.page_scopes_laws.specs.Asides.{With, act, aside, Beside, beside, before_leaf}
 use Rattle.page_scopes_laws.specs.Layouts.{Edge, edge, labels}
-use Rattle.page_scopes_laws.specs.Machines.{run, run_items, step, step_items, placed_items, ended_items, count_ended, state_left}
+use Rattle.page_scopes_laws.specs.machine.Machines.{run, run_items, step, step_items, placed_items, ended_items, count_ended, state_left}
 use Rattle.page_scopes_laws.specs.Nestings.{Standing, IsSound, standing_of}
 use Rattle.page_scopes_laws.proofs.AsideLemmas.{sound_with, act_items, act_step}
 use Rattle.page_scopes_laws.proofs.CutLemmas.{settled-append, edge-append}

@@ -3,4 +3,4 @@ pub mod Bodies
 pub mod Caps
 pub mod Titles
 pub mod Trees
-pub mod BodyOuts
+pub mod machine

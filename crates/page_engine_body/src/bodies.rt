@@ -72,7 +72,7 @@ struct BodyOut<'b, 'o, O> {
 }
 
 impl<O: PieceOut> EventOut for BodyOut<'_, '_, O> {
-    ghost use Rattle.page_engine_body.specs.BodyOuts.{PlannedEvents, LeftEvents};
+    ghost use Rattle.page_engine_body.specs.machine.BodyOuts.{PlannedEvents, LeftEvents};
 
     ghost Plan = { PlannedEvents O.Plan };
 

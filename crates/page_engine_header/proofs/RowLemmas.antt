@@ -5,7 +5,7 @@ use Rattle.page_core_limits.specs.declared.TheConstants.{CELLS}
 use Rattle.page_core_base.specs.Pieces.{Item, shown}
 use Rattle.page_core_base.specs.declared.pieces.Piece.TheVariants.{Break}
 use Rattle.page_engine_header.specs.Header.{in_rows}
-use Rattle.page_engine_header.specs.RowPlans.{RowPlanned, RowLeft}
+use Rattle.page_engine_header.specs.machine.RowPlans.{RowPlanned, RowLeft}
 
 none_in_rows : (room : ℕ) → in_rows room [] ≡ []
 unfolding in_rows

@@ -1,4 +1,4 @@
 pub mod Fields
 pub mod Printing
-pub mod RowPlans
 pub mod Header
+pub mod machine

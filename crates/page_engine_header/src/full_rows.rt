@@ -3,7 +3,7 @@
 ghost use Rattle.std.specs.Prelude.{◌≡◌, List};
 ghost use Rattle.page_core_base.specs.Pieces.{Item};
 ghost use Rattle.page_core_limits.specs.declared.TheConstants.{CELLS};
-ghost use Rattle.page_engine_header.specs.RowPlans.{RowPlanned, RowLeft};
+ghost use Rattle.page_engine_header.specs.machine.RowPlans.{RowPlanned, RowLeft};
 
 use page_core_base::{Font, Note, Piece, PieceOut, Place};
 use page_core_limits::CELLS;

@@ -12,7 +12,7 @@ use Rattle.page_engine_index.specs.Entries.{is_tab, Entry, Index, entry_of, entr
 use Rattle.page_engine_index.specs.declared.entries.Version.{Version}
 use Rattle.page_engine_index.specs.declared.entries.Version.TheVariants.{One, Two}
 use Rattle.page_engine_index.specs.declared.entries.Place.{Place}
-use Rattle.page_engine_index.specs.Steps.{IsParted, AreLast, entry_of_last, index_at}
+use Rattle.page_engine_index.specs.machine.Steps.{IsParted, AreLast, entry_of_last, index_at}
 
 fails : (b : Bool) → ¬ (b ≡ true) → b ≡ false
 fails true h = absurd (h refl)

@@ -6,7 +6,7 @@ use Rattle.std.proofs.lemmas.Bool.{cases_Bool, false≢true}
 use Rattle.std.proofs.lemmas.List.Folds.{list_any-append}
 use Rattle.std.proofs.lemmas.List.Elements.{All-head, All-tail}
 use Rattle.page_engine_index.specs.Entries.{Line, is_line_feed, with_byte, lines, whole_lines}
-use Rattle.page_engine_index.specs.Steps.{after_lines, open_line}
+use Rattle.page_engine_index.specs.machine.Steps.{after_lines, open_line}
 
 -- ---- a byte more
 

@@ -5,7 +5,7 @@ use Rattle.std.proofs.lemmas.Bool.{cases_Bool, cases_eq, false≢true, eqb-true}
 use Rattle.std.proofs.lemmas.List.{take_all, take_rest, drop-drop}
 use Rattle.std.specs.List.{onto_first, list_any}
 use Rattle.page_engine_index.specs.Matches.{names_of, without_blank, begins_blank, ends_name, has_match, is_match, matches_in, matches_here, is_word_byte}
-use Rattle.page_engine_index.specs.Steps.{name_len}
+use Rattle.page_engine_index.specs.machine.Steps.{name_len}
 
 len_at : (byte : ℕ) (bytes : List ℕ) (b : Bool) → (ends_name byte bytes) ≡ b → name_len (byte ∷ bytes) ≡ (if b then 0 else 1 + name_len bytes)
 unfolding name_len

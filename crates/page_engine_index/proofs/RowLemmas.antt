@@ -7,7 +7,7 @@ use Rattle.page_core_base.specs.Sinks.{IsSink}
 use Rattle.page_core_base.specs.declared.faults.Fault.{Fault}
 use Rattle.page_engine_index.specs.Entries.{Entry}
 use Rattle.page_engine_index.specs.Searches.{RowsTo}
-use Rattle.page_engine_index.specs.Steps.{GivesRow}
+use Rattle.page_engine_index.specs.machine.Steps.{GivesRow}
 use Rattle.page_engine_index.specs.declared.queries.Show.{Show}
 use Rattle.page_engine_index.specs.Matches.{has_match}
 use Rattle.page_engine_index.specs.Whatis.{Asked, is_shown, row_of, rows, entry_row}

@@ -20,7 +20,7 @@ use Rattle.page_core_limits.specs.declared.TheConstants.{LINE}
 use Rattle.page_engine_index.specs.Entries.{Line, Entry, Index, all_read, with_entries, bad_at, lines, whole_lines, index_from, index, whole_index, entry_of, version_of}
 use Rattle.page_engine_index.specs.Whatis.{Asked, rows, row_of}
 use Rattle.page_engine_index.specs.Searches.{RowsTo, ReadWhole, Searches, Stopped, FoundBad, Quiet, HasCause}
-use Rattle.page_engine_index.specs.Steps.{Here, TookLine, TookPart, TakesPart, TakesOpen, BreaksIn, LineBroke, LineStops, IsNext, IsBad, index_at, StoppedIn, BrokeWriting, CameToBad, GivesRows, EndedWell, EndStops, Finishes, IsFresh, open_line}
+use Rattle.page_engine_index.specs.machine.Steps.{Here, TookLine, TookPart, TakesPart, TakesOpen, BreaksIn, LineBroke, LineStops, IsNext, IsBad, index_at, StoppedIn, BrokeWriting, CameToBad, GivesRows, EndedWell, EndStops, Finishes, IsFresh, open_line}
 use Rattle.page_engine_index.specs.declared.entries.Place.{Place}
 use Rattle.page_engine_index.specs.declared.entries.Version.{Version}
 use Rattle.page_engine_index.specs.declared.searches.Search.{Search}

@@ -3,6 +3,6 @@ pub mod Fields
 pub mod Matches
 pub mod Records
 pub mod Searches
-pub mod Steps
 pub mod Whatis
 pub mod Written
+pub mod machine

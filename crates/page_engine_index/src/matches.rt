@@ -2,7 +2,7 @@
 
 ghost use Rattle.std.specs.Prelude.{◌≡◌, ◌+◌, ◌<◌, ◌≤◌, length};
 ghost use Rattle.page_engine_index.specs.Matches.{begins_blank, begins_word, ends_name, has_match, is_match, is_word_byte, matches_here};
-ghost use Rattle.page_engine_index.specs.Steps.{name_len};
+ghost use Rattle.page_engine_index.specs.machine.Steps.{name_len};
 
 /// Whether a word matches one of the names, which are parted by `, ` (whatis(1)).
 pub(crate) fn has_match(word: &[u8], names: &[u8]) -> bool

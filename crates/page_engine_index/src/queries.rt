@@ -3,7 +3,7 @@
 ghost use Rattle.std.specs.Prelude.{◌≡◌, [], ◌∷◌};
 ghost use Rattle.std.specs.List.{flat_map, list_any};
 ghost use Rattle.page_engine_index.specs.Matches.{has_match};
-ghost use Rattle.page_engine_index.specs.Steps.{GivesRow, entries_by, entry_by};
+ghost use Rattle.page_engine_index.specs.machine.Steps.{GivesRow, entries_by, entry_by};
 ghost use Rattle.page_engine_index.specs.Searches.{rows_to};
 ghost use Rattle.page_engine_index.specs.Whatis.{asked_of, described, file_row, is_in, is_shown, row_of, rows};
 

@@ -3,7 +3,7 @@
 ghost use Rattle.std.specs.Prelude.{◌≡◌, ◌+◌, ◌<◌, ◌≤◌, ◌^◌, ℕ, List, [], length, IfOk, IfErr};
 ghost use Rattle.std.specs.Io.KnownBytes.{Consumes};
 ghost use Rattle.page_engine_index.specs.Searches.{Searches, SearchesOver, rows_to};
-ghost use Rattle.page_engine_index.specs.Steps.{IsFresh, TakesLine, TakesOpen, TakesPart, TakesChunk, Finishes};
+ghost use Rattle.page_engine_index.specs.machine.Steps.{IsFresh, TakesLine, TakesOpen, TakesPart, TakesChunk, Finishes};
 ghost use Rattle.page_engine_index.specs.Whatis.{asked, asked_of};
 ghost use Rattle.page_engine_index.specs.Written.{written};
 

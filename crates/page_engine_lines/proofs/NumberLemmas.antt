@@ -26,9 +26,9 @@ use Rattle.page_roff_effects.specs.RegionLines.{head_outcome, longer, longer_if,
 use Rattle.page_roff_effects.specs.LoopLines.{longer_if_some, loop_outcome, collect_outcome, repeats_text, close_outcome, body_in}
 use Rattle.page_roff_effects.specs.Effects.{effects, setting_of, tested_after, done_by, done_after, budget_outcome, block_outcome, end_of_block_outcome}
 use Rattle.page_roff_source.specs.Edges.{Edge, SourceLine}
-use Rattle.page_roff_source.specs.Taking.{before_line, run_line, line_done}
+use Rattle.page_roff_source.specs.machine.Taking.{before_line, run_line, line_done}
 use Rattle.page_roff_source.specs.Given.{done}
-use Rattle.page_roff_source.specs.LineByLine.{lines_done}
+use Rattle.page_roff_source.specs.machine.LineByLine.{lines_done}
 use Rattle.page_roff_source.proofs.LineLemmas.{done-by_line}
 
 either_number : (b : Bool) (o p : Outcome) (n : ℕ) → o.memory.number ≡ n → p.memory.number ≡ n → (if b then o else p).memory.number ≡ n

@@ -10,9 +10,9 @@ use Rattle.page_roff_effects.specs.States.{Given, says, takes}
 use Rattle.page_roff_forms.specs.Ends.{kept_len}
 use Rattle.page_roff_forms.specs.LineForms.{is_white}
 use Rattle.page_roff_source.specs.Edges.{Edge, SourceLine, end_notes}
-use Rattle.page_roff_source.specs.Taking.{before_line, run_line, line_given, line_done}
+use Rattle.page_roff_source.specs.machine.Taking.{before_line, run_line, line_given, line_done}
 use Rattle.page_roff_source.specs.Given.{given, done}
-use Rattle.page_roff_source.specs.LineByLine.{lines_given, lines_done}
+use Rattle.page_roff_source.specs.machine.LineByLine.{lines_given, lines_done}
 use Rattle.page_roff_source.proofs.CutLemmas.{given-append, done-append}
 use Rattle.page_roff_source.proofs.LineLemmas.{given-by_line, done-by_line}
 use Rattle.page_engine_body.specs.Bodies.{BodyEdge, chosen, chosen_if, decided, events_after, events_items, has_begun, has_title, end_items as body_end_items}
@@ -27,9 +27,9 @@ use Rattle.page_sets.specs.Either.{either_events}
 use Rattle.page_sets.specs.declared.either.Either.{Either}
 use Rattle.page_sets_lines.specs.declared.events.Event.{Event}
 use Rattle.page_engine_lines.specs.Acts.{given_steps, before_language, from_language, first_language, reader, rest_steps, given_then, trailing_messages, raw_line, lines_items, lines_after, end_steps, ending_items, page_items}
-use Rattle.page_engine_lines.specs.Given.{set_events, line_items, line_after, given_items, body_after}
+use Rattle.page_engine_lines.specs.machine.Given.{set_events, line_items, line_after, given_items, body_after}
 use Rattle.page_engine_lines.specs.Edges.{LinesEdge}
-use Rattle.page_engine_lines.specs.Lines.{source_line, trailing_notes, source_items, source_after, end_items}
+use Rattle.page_engine_lines.specs.machine.Lines.{source_line, trailing_notes, source_items, source_after, end_items}
 
 language_cases : (o : Option Either) → (o ≡ None) ⊎ ((set : Either) × (o ≡ Some set))
 language_cases None = inl refl

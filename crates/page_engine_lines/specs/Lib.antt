@@ -1,4 +1,3 @@
 pub mod Acts
 pub mod Edges
-pub mod Given
-pub mod Lines
+pub mod machine

@@ -8,9 +8,9 @@ ghost use Rattle.page_roff_source.specs.Edges.{SourceLine};
 ghost use Rattle.page_engine_body.specs.Bodies.{BodyEdge};
 ghost use Rattle.page_engine_body.specs.Trees.{tree_after};
 ghost use Rattle.page_engine_lines.specs.Acts.{ending_items, given_then, lines_after, lines_items, page_items, raw_line, reader, rest_steps};
-ghost use Rattle.page_engine_lines.specs.Given.{body_after, given_items};
+ghost use Rattle.page_engine_lines.specs.machine.Given.{body_after, given_items};
 ghost use Rattle.page_engine_lines.specs.Edges.{LinesEdge};
-ghost use Rattle.page_engine_lines.specs.Lines.{end_items, source_after, source_items};
+ghost use Rattle.page_engine_lines.specs.machine.Lines.{end_items, source_after, source_items};
 
 /// The block trees of all that roff gives, messages and lines, up to the line that decides the page's language and from it on, are what these give one
 /// after another, and leave the same; one line gives the messages in front of it and what `source_items` says; and the page's end, alone or after all

@@ -8,7 +8,7 @@ ghost use Rattle.page_roff_source.specs.Edges.{counts_of};
 ghost use Rattle.page_engine_body.specs.Bodies.{has_title};
 ghost use Rattle.page_engine_body.specs.Caps.{BodyFits};
 ghost use Rattle.page_engine_lines.specs.Edges as edges;
-ghost use Rattle.page_engine_lines.specs.Lines as lines;
+ghost use Rattle.page_engine_lines.specs.machine.Lines as lines;
 
 use crate::item_outs::ItemOut;
 use crate::taking::{give_taken, report_trailing};
@@ -94,7 +94,7 @@ impl PageLines {
     }
 
     // Gives a source line, and keeps what it leaves.
-    #[tactic(auto, unfolding(crate::specs::Lines::source_items))]
+    #[tactic(auto, unfolding(crate::specs::machine::Lines::source_items))]
     fn give_line<L: PieceOut>(&mut self, out: &mut ItemOut<L>, number: u32, text: &[u8])
         requires line { IsLine text.now }
         requires count { self.old.roff.source < 2 ^ 31 }
@@ -107,7 +107,7 @@ impl PageLines {
     }
 
     // Gives what roff left open, and the end of the body.
-    #[tactic(auto, unfolding(crate::specs::Lines::end_items))]
+    #[tactic(auto, unfolding(crate::specs::machine::Lines::end_items))]
     fn give_end<L: PieceOut>(&mut self, out: &mut ItemOut<L>, number: u32)
         ensures came { Came L.left out.old.latch (lines.end_items self.old number) out.new.latch }
         ensures header { self.new.body.header ≡ self.old.body.header }

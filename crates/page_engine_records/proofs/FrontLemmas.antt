@@ -4,14 +4,14 @@ use Rattle.std.specs.Prelude.{if◌then◌else◌}
 use Rattle.page_core_base.specs.Pieces.{Item, noted}
 use Rattle.page_engine_lines.specs.Acts.{lines_items}
 use Rattle.page_engine_lines.specs.Edges.{LinesEdge}
-use Rattle.page_engine_lines.specs.Lines.{source_after, source_items}
+use Rattle.page_engine_lines.specs.machine.Lines.{source_after, source_items}
 use Rattle.page_engine_lines.proofs.TreeLemmas.{one_items, one_after, ending_is}
 use Rattle.page_roff_lines.specs.Decoding.{Line}
-use Rattle.page_engine_records.specs.Fronts.{Front, after_line, after_lines, ended, is_settled}
+use Rattle.page_engine_records.specs.machine.Fronts.{Front, after_line, after_lines, ended, is_settled}
 use Rattle.page_engine_records.specs.PageRecords.{raw}
 use Rattle.page_engine_records.specs.NameTexts.{read}
-use Rattle.page_engine_records.specs.ReaderSinks.{read-append, read_notes}
-use Rattle.page_engine_records.specs.Steps.{end_read}
+use Rattle.page_engine_records.specs.machine.ReaderSinks.{read-append, read_notes}
+use Rattle.page_engine_records.specs.machine.Steps.{end_read}
 use Rattle.page_engine_records.specs.declared.name_readers.NameReader.{NameReader}
 
 -- a line's pieces, as the code takes them

@@ -5,7 +5,7 @@ use Rattle.page_core_base.specs.Latches.{Emits}
 use Rattle.page_core_base.specs.Pieces.{Item}
 use Rattle.page_core_base.specs.declared.faults.Fault.{Fault}
 use Rattle.page_engine_records.specs.NameTexts.{read, spaced, with_byte, with_character, with_characters}
-use Rattle.page_engine_records.specs.ReaderSinks.{Never, Took}
+use Rattle.page_engine_records.specs.machine.ReaderSinks.{Never, Took}
 use Rattle.page_engine_records.specs.declared.name_readers.NameReader.{NameReader}
 
 -- ---- a blank that waits

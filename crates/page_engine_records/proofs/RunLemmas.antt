@@ -16,11 +16,11 @@ use Rattle.page_roff_lines.specs.Cutting.{Point, first_point, last_line, lines_f
 use Rattle.page_roff_lines.specs.Decoding.{Line, lines}
 use Rattle.page_roff_lines.proofs.LineAgreement.{lines-one_by_one}
 use Rattle.page_roff_lines.proofs.PointLemmas.{lines_within-append, point_after-append}
-use Rattle.page_engine_records.specs.Fronts.{Front, after_lines, ended, front_record, is_settled, start}
+use Rattle.page_engine_records.specs.machine.Fronts.{Front, after_lines, ended, front_record, is_settled, start}
 use Rattle.page_engine_records.specs.PageRecords.{page_record, record_of_lines}
 use Rattle.page_engine_records.specs.Records.{record_by}
 use Rattle.page_engine_records.specs.Runs.{HasCause, ReadsRecordOver, Stopped}
-use Rattle.page_engine_records.specs.Steps.{EndedWell, Finished, HasRoom, IsAt, IsFresh, ReadsAll, StartsAt, StoppedBy, Through, front_of}
+use Rattle.page_engine_records.specs.machine.Steps.{EndedWell, Finished, HasRoom, IsAt, IsFresh, ReadsAll, StartsAt, StoppedBy, Through, front_of}
 use Rattle.page_engine_records.specs.declared.runs.RecordRun.{RecordRun}
 use Rattle.page_engine_records.proofs.FrontLemmas.{after_lines-append, ended_stays}
 use Rattle.page_engine_records.proofs.WholeLemmas.{whole_record}

@@ -15,10 +15,10 @@ use Rattle.page_roff_lines.specs.Decoding.{Line}
 use Rattle.page_roff_source.specs.Edges.{Edge, SourceLine}
 use Rattle.page_roff_source.specs.Given.{done}
 use Rattle.page_roff_source.proofs.LineLemmas.{done-idle}
-use Rattle.page_engine_records.specs.Fronts.{Front, after_line, after_lines, ended, front_record, is_settled, start}
+use Rattle.page_engine_records.specs.machine.Fronts.{Front, after_line, after_lines, ended, front_record, is_settled, start}
 use Rattle.page_engine_records.specs.NameTexts.{has_ended, read, read_piece}
 use Rattle.page_engine_records.specs.PageRecords.{name_in, raw, record_of_lines, section_in}
-use Rattle.page_engine_records.specs.ReaderSinks.{read-append}
+use Rattle.page_engine_records.specs.machine.ReaderSinks.{read-append}
 use Rattle.page_engine_records.specs.Records.{record_by}
 use Rattle.page_engine_records.specs.declared.name_readers.NameReader.{NameReader}
 use Rattle.page_engine_records.proofs.FrontLemmas.{ended_stays}

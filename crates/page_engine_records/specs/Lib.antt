@@ -1,7 +1,5 @@
 pub mod NameTexts
-pub mod ReaderSinks
 pub mod Records
-pub mod Fronts
 pub mod PageRecords
 pub mod Runs
-pub mod Steps
+pub mod machine

@@ -3,10 +3,10 @@
 ghost use Rattle.std.specs.Prelude.{◌≡◌, ◌<◌, ◌+◌, ◌^◌, None, false, true, IfOk, IfErr};
 ghost use Rattle.page_core_base.specs.Texts.{IsLine};
 ghost use Rattle.page_roff_lines.specs.Cutting.{line_of};
-ghost use Rattle.page_engine_lines.specs.Lines.{source_after, source_items};
-ghost use Rattle.page_engine_records.specs.Fronts as fronts;
+ghost use Rattle.page_engine_lines.specs.machine.Lines.{source_after, source_items};
+ghost use Rattle.page_engine_records.specs.machine.Fronts as fronts;
 ghost use Rattle.page_engine_records.specs.NameTexts.{read};
-ghost use Rattle.page_engine_records.specs.Steps.{end_read, front_of};
+ghost use Rattle.page_engine_records.specs.machine.Steps.{end_read, front_of};
 
 use crate::name_readers::{NameReader, Side};
 use page_core_base::{Fault, Settings};

@@ -5,7 +5,7 @@ ghost use Rattle.page_core_base.specs.Pieces.{piece_of};
 ghost use Rattle.page_core_tables.specs.Printed.{printed_view};
 ghost use Rattle.page_engine_header.specs.Printing.{characters_of, plain_printed};
 ghost use Rattle.page_engine_records.specs.NameTexts.{has_ended, heading, paragraph, read, reader_at, taken, top_heading, with_character, with_characters};
-ghost use Rattle.page_engine_records.specs.ReaderSinks.{reader-items, reader-messages, reader-notes, reader-well};
+ghost use Rattle.page_engine_records.specs.machine.ReaderSinks.{reader-items, reader-messages, reader-notes, reader-well};
 
 use crate::texts::SectionText;
 use page_core_base::{Fault, Note, NoteKind, NoteSink, Output, Piece, PieceSink};

@@ -18,10 +18,10 @@ use Rattle.page_core_limits.specs.declared.TheConstants.{CELLS}
 use Rattle.page_core_tables.specs.Printed.{Printing, char_printed, glyph_printed}
 use Rattle.page_fill_steps.specs.declared.edges.OpenWord.{OpenWord}
 use Rattle.page_fill_steps.specs.declared.edges.Edge.{Edge}
-use Rattle.page_fill_rows.specs.Sheets.{Sheet, over, blank, passes, letter, space, more_blank_rows}
+use Rattle.page_fill_rows.specs.machine.Sheets.{Sheet, over, blank, passes, letter, space, more_blank_rows}
 use Rattle.page_fill_rows.specs.Characters.{cell_of, cells_of, characters_of, unknown_notes, with_notes}
-use Rattle.page_fill_steps.specs.Fill.{laid_piece, tab_notes}
-use Rattle.page_fill_steps.specs.Items.{laid_items}
+use Rattle.page_fill_steps.specs.machine.Fill.{laid_piece, tab_notes}
+use Rattle.page_fill_steps.specs.machine.Items.{laid_items}
 use Rattle.page_fill.proofs.Marks.{Mark, told, opened, spaced, lettered, letters_of, printed_marks, character_marks, text_marks, tab_marks, blank_marks, opening_marks, is_of_words, piece_marks}
 use Rattle.page_fill.specs.Filled.{CellOrNote, shown, noted, Row, filling}
 use Rattle.page_fill_steps.specs.Caps.{IsHeld, is_sound}

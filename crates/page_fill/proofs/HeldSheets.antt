@@ -16,9 +16,9 @@ use Rattle.page_core_limits.specs.declared.TheConstants.{CELLS}
 use Rattle.page_core_tables.specs.Printed.{char_printed, glyph_printed}
 use Rattle.page_fill_steps.specs.declared.edges.OpenTag.{OpenTag}
 use Rattle.page_fill_steps.specs.declared.edges.Edge.{Edge}
-use Rattle.page_fill_rows.specs.Sheets.{Sheet, blank, passes, letter, letters, space, spaces, new_word, opens, broken, empty_rows, fresh}
+use Rattle.page_fill_rows.specs.machine.Sheets.{Sheet, blank, passes, letter, letters, space, spaces, new_word, opens, broken, empty_rows, fresh}
 use Rattle.page_fill_rows.specs.Characters.{cells_of, cell_of, characters_of, character, characters, glyph}
-use Rattle.page_fill_steps.specs.Fill.{laid_piece, text, one_character, one_glyph, tab, opening, ended, paragraph, spaced, row_ended, heading, tag_ended, after_tag, fits_hang, without_tag, stands, to_stop, missing_rows}
+use Rattle.page_fill_steps.specs.machine.Fill.{laid_piece, text, one_character, one_glyph, tab, opening, ended, paragraph, spaced, row_ended, heading, tag_ended, after_tag, fits_hang, without_tag, stands, to_stop, missing_rows}
 use Rattle.page_fill_steps.specs.Edges.{is_set_in, no_word}
 use Rattle.page_fill_steps.specs.Caps.{IsHeld}
 

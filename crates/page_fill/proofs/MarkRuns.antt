@@ -1,7 +1,7 @@
 -- What marks do to the open row, one by one.
 use Rattle.std.proofs.Common.{◌≡◌, List, [], ◌∷◌, ◌++◌, refl, sym, ap, ◌∙◌}
 use Rattle.page_core_base.specs.Laid.{Laid, nothing, join, seq, join_assoc}
-use Rattle.page_fill_rows.specs.Sheets.{Sheet, letter, space, opens}
+use Rattle.page_fill_rows.specs.machine.Sheets.{Sheet, letter, space, opens}
 use Rattle.page_fill_rows.specs.Characters.{with_notes}
 use Rattle.page_fill.proofs.Marks.{Mark, told, opened, spaced, lettered}
 

@@ -18,12 +18,12 @@ use Rattle.page_fill_steps.specs.declared.edges.OpenWord.{OpenWord}
 use Rattle.page_fill_steps.specs.Edges.{begun_word}
 use Rattle.page_fill_rows.specs.OpenRows.{Sheet, columns, blank}
 use Rattle.page_fill_rows.specs.Characters.{cell_of, cells_of, characters_of}
-use Rattle.page_fill_rows.specs.Plain.{is_printable, is_printable_ascii}
+use Rattle.page_fill_rows.specs.machine.Plain.{is_printable, is_printable_ascii}
 use Rattle.page_fill_rows.proofs.PlainLemmas.{characters_of-plain, columns-plain, first-plain, rest-plain}
 use Rattle.page_fill.specs.Filled.{Word, Frame, Row, first_word, outcome, one_word, rest_of_word, filling}
 use Rattle.page_fill.specs.PieceWords.{cell_content, text_content, Words, words_of, word_after_items, frame_of, open_row_of, next_edge, going_on}
 use Rattle.page_fill.specs.Filling.{groups, filled}
-use Rattle.page_fill.specs.Words.{with_word, word_wrapped}
+use Rattle.page_fill.specs.machine.Words.{with_word, word_wrapped}
 use Rattle.page_fill.proofs.GlueLaw.{seq-nothing, one-group, laid-by}
 use Rattle.page_fill.proofs.WordLaw.{apart, word-fits, passes-law, columns-append, columns-blanks}
 

@@ -14,7 +14,7 @@ use Rattle.page_fill_rows.specs.declared.TheConstants.{TAG_COLUMNS}
 use Rattle.page_fill_rows.specs.OpenRows.{columns, cell_columns, blank}
 use Rattle.page_fill.specs.Filled.{CellOrNote, shown, Word, Frame, Row, opens, after_blanks, before_word, with_cell, first_word, Outcome, fits, too_wide, is_wide, outcome, by_word, by_blanks, one_word}
 use Rattle.page_fill.specs.PieceWords.{cell_content}
-use Rattle.page_fill.specs.Words.{tally, has_cell, tallied, fitting, with_word, word_wrapped, word_first}
+use Rattle.page_fill.specs.machine.Words.{tally, has_cell, tallied, fitting, with_word, word_wrapped, word_first}
 
 columns-cons : (c : Cell) (cs : List Cell) → columns (c ∷ cs) ≡ cell_columns c + columns cs
 columns-cons c cs = sum_by-cons cell_columns c cs

@@ -2,5 +2,4 @@ pub mod Filled
 pub mod PieceWords
 pub mod Filling
 pub mod TakenWords
-pub mod ByPiece
-pub mod Words
+pub mod machine

@@ -13,12 +13,12 @@ ghost use Rattle.page_fill_steps.specs.Edges as edges;
 ghost use Rattle.page_fill_steps.specs.declared.edges.Edge.{Edge};
 ghost use Rattle.page_fill_rows.specs.Characters.{cells_of};
 ghost use Rattle.page_fill_rows.specs.OpenRows as open_rows;
-ghost use Rattle.page_fill_rows.specs.Plain.{is_printable_ascii};
-ghost use Rattle.page_fill.specs.ByPiece.{laid_items};
+ghost use Rattle.page_fill_rows.specs.machine.Plain.{is_printable_ascii};
+ghost use Rattle.page_fill.specs.machine.ByPiece.{laid_items};
 ghost use Rattle.page_fill.specs.Filled.{Frame, Row, one_word};
 ghost use Rattle.page_fill.specs.Filling as filling;
 ghost use Rattle.page_fill.specs.PieceWords as pieces;
-ghost use Rattle.page_fill.specs.Words as row;
+ghost use Rattle.page_fill.specs.machine.Words as row;
 
 /// What a filler lays piece by piece is what the definition says of the whole list: pieces and the messages among them are groups of
 /// words, which fill rows, and what stands between such groups; and a list may be cut anywhere. So it is at each edge that a page comes

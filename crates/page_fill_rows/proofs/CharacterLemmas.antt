@@ -10,7 +10,7 @@ use Rattle.page_core_base.specs.declared.cells.Font.{Font}
 use Rattle.page_core_base.specs.declared.places.Place.{Place}
 use Rattle.page_core_base.specs.declared.page_settings.Output.{Output}
 use Rattle.page_core_base.specs.Laid.{join, join_assoc, nothing}
-use Rattle.page_fill_rows.specs.Sheets.{Sheet, letter, letters}
+use Rattle.page_fill_rows.specs.machine.Sheets.{Sheet, letter, letters}
 use Rattle.page_fill_rows.specs.Characters.{cell_of, cells_of, character, characters, characters_of}
 
 pub chars_of_empty : (bytes : List ℕ) → length bytes ≡ 0 → chars bytes ≡ []

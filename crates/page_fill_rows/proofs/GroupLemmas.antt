@@ -8,7 +8,7 @@ use Rattle.std.proofs.lemmas.Nat.{leading_le}
 use Rattle.std.proofs.Math.Seq.{take-add}
 use lib.Count.{count_leading_zeros}
 use lib.Lanes.{chunk, mask_l}
-use Rattle.page_fill_rows.specs.Plain.{is_printable, is_printable_ascii, word_start}
+use Rattle.page_fill_rows.specs.machine.Plain.{is_printable, is_printable_ascii, word_start}
 use Rattle.page_fill_rows.proofs.WordStartLemmas.{start-append, start-none}
 
 -- ---- printable bytes

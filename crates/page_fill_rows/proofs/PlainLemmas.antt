@@ -10,17 +10,17 @@ use Rattle.page_core_base.specs.declared.cells.Font.{Font}
 use Rattle.page_core_base.specs.declared.places.Place.{Place}
 use Rattle.page_core_base.specs.Laid.{nothing}
 use Rattle.page_core_tables.specs.Printed.{char_printed, known}
-use Rattle.page_fill_rows.specs.Sheets.{Sheet, cell_columns, columns, counted, passes, blank, letter, letters, space, spaces}
+use Rattle.page_fill_rows.specs.machine.Sheets.{Sheet, cell_columns, columns, counted, passes, blank, letter, letters, space, spaces}
 use Rattle.page_core_limits.specs.declared.TheConstants.{CELLS}
 use Rattle.page_fill_rows.specs.declared.TheConstants.{TAG_COLUMNS}
 use Rattle.page_fill_rows.specs.Characters.{cell_of, cells_of, character, characters, characters_of}
-use Rattle.page_fill_rows.specs.Room.{IsSound}
+use Rattle.page_fill_rows.specs.machine.Room.{IsSound}
 use Rattle.page_fill_rows.proofs.CharacterLemmas.{characters_of-text}
 use Rattle.page_core_base.specs.declared.page_settings.Output.{Output}
 use Rattle.std.proofs.lemmas.Str.{chars-IsAscii, IsUtf8-from_ascii}
 use Rattle.std.proofs.lemmas.Str.Ascii.{IsAscii-nil, IsAscii-cons}
 use Rattle.std.specs.Str.{IsAscii}
-use Rattle.page_fill_rows.specs.Plain.{is_printable, is_printable_ascii, has_room, taken, has_word_room, spaced_by}
+use Rattle.page_fill_rows.specs.machine.Plain.{is_printable, is_printable_ascii, has_room, taken, has_word_room, spaced_by}
 
 -- a plain byte has a column
 pub plain-columns : (font : Font) (b : ℕ) → is_printable b ≡ true → cell_columns (cell_of font b) ≡ 1

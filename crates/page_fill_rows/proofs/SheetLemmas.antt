@@ -3,7 +3,7 @@ use Rattle.std.proofs.Common.{◌≡◌, ℕ, suc, ◌+◌, ◌-◌, ◌<◌, �
 use Rattle.page_core_base.specs.declared.cells.Cell.{Cell}
 use Rattle.page_core_base.specs.declared.places.Place.{Place}
 use Rattle.page_core_base.specs.Laid.{join, nothing}
-use Rattle.page_fill_rows.specs.Sheets.{Sheet, space, spaces, letter, letters, fixed_blanks, blank}
+use Rattle.page_fill_rows.specs.machine.Sheets.{Sheet, space, spaces, letter, letters, fixed_blanks, blank}
 
 pub spaces-more : (s : Sheet) (n i : ℕ) (place : Place) → i < n
     → spaces s (n - i) place ≡ join (space s place) (spaces (space s place).edge (n - (i + 1)) place)

@@ -9,8 +9,8 @@ use Rattle.page_core_base.specs.declared.cells.Font.TheVariants.{R}
 use Rattle.page_core_limits.specs.declared.TheConstants.{CELLS}
 use Rattle.page_fill_rows.specs.declared.TheConstants.{TAG_COLUMNS}
 use Rattle.page_fill_rows.specs.Characters.{cell_of, cells_of}
-use Rattle.page_fill_rows.specs.Room.{IsSound}
-use Rattle.page_fill_rows.specs.Plain.{is_printable, is_printable_ascii, word_start}
+use Rattle.page_fill_rows.specs.machine.Room.{IsSound}
+use Rattle.page_fill_rows.specs.machine.Plain.{is_printable, is_printable_ascii, word_start}
 use Rattle.page_fill_rows.proofs.PlainLemmas.{first-plain, rest-plain, sound-more}
 
 pub start-append : (front back : List ℕ) → (word_start back == 0) ≡ false → word_start (front ++ back) ≡ length front + word_start back

@@ -11,9 +11,9 @@ use Rattle.page_core_base.specs.Laid.{Laid, nothing, join}
 use Rattle.page_core_base.specs.Rows.{row_of}
 use Rattle.page_core_limits.specs.declared.TheConstants.{CELLS}
 use Rattle.page_fill_rows.specs.declared.TheConstants.{TAG_COLUMNS}
-use Rattle.page_fill_rows.specs.Sheets.{Sheet, blank, cell_columns, columns, counted, emptied, given, gives, letter, letters, opens, over, passes, space, wraps}
+use Rattle.page_fill_rows.specs.machine.Sheets.{Sheet, blank, cell_columns, columns, counted, emptied, given, gives, letter, letters, opens, over, passes, space, wraps}
 use Rattle.page_fill_rows.specs.Characters.{cell_of, cells_of}
-use Rattle.page_fill_rows.specs.Plain.{ends_before, has_room, is_printable_ascii, spaced, wraps_plain}
+use Rattle.page_fill_rows.specs.machine.Plain.{ends_before, has_room, is_printable_ascii, spaced, wraps_plain}
 use Rattle.page_fill_rows.proofs.PlainLemmas.{blank-one, counts-more, first-plain, has-more, letters-fit, plain-columns, rest-plain}
 use Rattle.page_fill_rows.proofs.SheetLemmas.{letters-one}
 

@@ -9,7 +9,7 @@ use Rattle.page_core_base.specs.declared.places.Place.{Place}
 use Rattle.page_core_base.specs.Messages.{Message, message_about}
 use Rattle.page_core_base.specs.Laid.{Laid, nothing, seq}
 use Rattle.page_core_tables.specs.Printed.{Printing, char_printed, glyph_printed}
-use Rattle.page_fill_rows.specs.Sheets.{Sheet, letters}
+use Rattle.page_fill_rows.specs.machine.Sheets.{Sheet, letters}
 
 -- messages come before what is laid
 abbrev pub with_notes : {E : Type 0} → List Message → Laid E → Laid E

@@ -1,5 +1,3 @@
 pub mod OpenRows
-pub mod Sheets
-pub mod Room
 pub mod Characters
-pub mod Plain
+pub mod machine

@@ -1,7 +1,7 @@
 //! The columns of cells.
 
 ghost use Rattle.std.specs.Prelude.{◌≡◌, ◌*◌, ◌≤◌, length};
-ghost use Rattle.page_fill_rows.specs.Sheets as sheet;
+ghost use Rattle.page_fill_rows.specs.machine.Sheets as sheet;
 ghost use Rattle.page_core_base.specs.Rows.{is_blank_row, row_of};
 
 use page_core_base::{Cell, Font};

@@ -4,9 +4,9 @@ ghost use Rattle.std.specs.Prelude.{◌≡◌, [], ◌∷◌, true};
 ghost use Rattle.std.specs.Str.{chars};
 ghost use Rattle.page_core_base.specs.Latches.{LaysOut};
 ghost use Rattle.page_core_tables.specs.Printed.{printed_view, unknown_text};
-ghost use Rattle.page_fill_rows.specs.Sheets as sheet;
+ghost use Rattle.page_fill_rows.specs.machine.Sheets as sheet;
 ghost use Rattle.page_fill_rows.specs.Characters as shown;
-ghost use Rattle.page_fill_rows.specs.Plain as plain;
+ghost use Rattle.page_fill_rows.specs.machine.Plain as plain;
 
 use crate::open_rows::OpenRow;
 use crate::plain_texts::all_printable;

@@ -5,9 +5,9 @@ ghost use Rattle.page_core_base.specs.Laid.{nothing, seq};
 ghost use Rattle.page_core_base.specs.declared.cells.Font.{Font};
 ghost use Rattle.page_core_base.specs.declared.places.Place.{Place};
 ghost use Rattle.page_fill_rows.specs.Characters as shown;
-ghost use Rattle.page_fill_rows.specs.Plain as plain;
-ghost use Rattle.page_fill_rows.specs.Sheets as sheet;
-ghost use Rattle.page_fill_rows.specs.Sheets.{Sheet};
+ghost use Rattle.page_fill_rows.specs.machine.Plain as plain;
+ghost use Rattle.page_fill_rows.specs.machine.Sheets as sheet;
+ghost use Rattle.page_fill_rows.specs.machine.Sheets.{Sheet};
 
 /// The fast ways for plain texts settle what their cells settle one by one: in a row that has room for them, of a new word that goes into the
 /// row after its blanks, and of one before which the row ends.

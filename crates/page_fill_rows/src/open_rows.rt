@@ -6,8 +6,8 @@ ghost use Rattle.page_core_base.specs.Messages.{message_of};
 ghost use Rattle.page_core_base.specs.Rows.{row_of};
 ghost use Rattle.page_fill_rows.specs.Characters as shown;
 ghost use Rattle.page_fill_rows.specs.OpenRows.{IsHeld};
-ghost use Rattle.page_fill_rows.specs.Plain as plain;
-ghost use Rattle.page_fill_rows.specs.Sheets as sheet;
+ghost use Rattle.page_fill_rows.specs.machine.Plain as plain;
+ghost use Rattle.page_fill_rows.specs.machine.Sheets as sheet;
 
 use crate::cell_widths::{BLANK, cell_columns, columns, is_blank};
 use crate::row_cells::RowCells;
@@ -43,8 +43,8 @@ pub struct OpenRow {
 }
 
 impl Model for OpenRow {
-    ghost use Rattle.page_fill_rows.specs.Room.{IsSound};
-    ghost use Rattle.page_fill_rows.specs.Sheets.{Sheet};
+    ghost use Rattle.page_fill_rows.specs.machine.Room.{IsSound};
+    ghost use Rattle.page_fill_rows.specs.machine.Sheets.{Sheet};
 
     ghost Value = { Sheet };
 
@@ -540,7 +540,7 @@ impl OpenRow {
     }
 
     /// Puts a cell of the row's last word.
-    #[tactic(auto, unfolding(crate::specs::Sheets::letter))]
+    #[tactic(auto, unfolding(crate::specs::machine::Sheets::letter))]
     pub fn put_letter<O: RowOut>(&mut self, cell: Cell, place: Place, out: &mut O)
         ensures { LaysOut O.left out.old (sheet.letter self.old cell place) out.new self.new }
     {
@@ -557,7 +557,7 @@ impl OpenRow {
     }
 
     // Puts a blank before the row's next word.
-    #[tactic(auto, unfolding(crate::specs::Sheets::space))]
+    #[tactic(auto, unfolding(crate::specs::machine::Sheets::space))]
     fn put_space<O: RowOut>(&mut self, place: Place, out: &mut O)
         ensures { LaysOut O.left out.old (sheet.space self.old place) out.new self.new }
     {
@@ -575,7 +575,7 @@ impl OpenRow {
     }
 
     /// The open row ends, if there is one.
-    #[tactic(auto, unfolding(crate::specs::Sheets::broken))]
+    #[tactic(auto, unfolding(crate::specs::machine::Sheets::broken))]
     pub fn end_row<O: RowOut>(&mut self, out: &mut O)
         ensures { LaysOut O.left out.old (sheet.broken self.old) out.new self.new }
     {
@@ -626,7 +626,7 @@ impl OpenRow {
     }
 
     /// Gives rows without cells.
-    #[tactic(auto, unfolding(crate::specs::Sheets::empty_rows))]
+    #[tactic(auto, unfolding(crate::specs::machine::Sheets::empty_rows))]
     pub fn give_empty_rows<O: RowOut>(&mut self, count: u32, out: &mut O)
         ensures { LaysOut O.left out.old (sheet.empty_rows self.old count) out.new self.new }
     {

@@ -2,7 +2,7 @@
 
 ghost use Rattle.std.specs.Prelude.{◌≡◌, ◌≤◌, ◌<◌, length};
 ghost use Rattle.std.specs.List.{prefix_len};
-ghost use Rattle.page_fill_rows.specs.Plain as plain;
+ghost use Rattle.page_fill_rows.specs.machine.Plain as plain;
 
 use std::simd::prelude::*;
 

@@ -3,8 +3,8 @@
 ghost use Rattle.std.specs.Prelude.{◌≡◌, ℕ, ◌+◌, ◌-◌, ◌<◌, ◌≤◌, [], ◌∷◌, ◌++◌, ◌==◌, length, take, drop, replicate, IfOk, true, if◌then◌else◌};
 ghost use Rattle.page_core_base.specs.declared.cells.Font.TheVariants.{R};
 ghost use Rattle.page_fill_rows.specs.Characters as shown;
-ghost use Rattle.page_fill_rows.specs.Plain as plain;
-ghost use Rattle.page_fill_rows.specs.Sheets as sheet;
+ghost use Rattle.page_fill_rows.specs.machine.Plain as plain;
+ghost use Rattle.page_fill_rows.specs.machine.Sheets as sheet;
 
 use crate::cell_widths::BLANK;
 use crate::plain_texts::all_printable;

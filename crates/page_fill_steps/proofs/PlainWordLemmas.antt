@@ -5,13 +5,13 @@ use Rattle.page_core_base.specs.declared.cells.Font.{Font}
 use Rattle.page_core_base.specs.declared.places.Place.{Place}
 use Rattle.page_core_base.specs.Laid.{nothing, join}
 use Rattle.page_core_limits.specs.declared.TheConstants.{CELLS}
-use Rattle.page_fill_rows.specs.Sheets.{columns, letters, opens, over, space, spaces}
+use Rattle.page_fill_rows.specs.machine.Sheets.{columns, letters, opens, over, space, spaces}
 use Rattle.page_fill_rows.specs.Characters.{cells_of, character, characters}
-use Rattle.page_fill_rows.specs.Plain.{ends_before, has_part_room, has_room, has_word_room, is_printable_ascii, spaced_by, taken, wraps_plain}
+use Rattle.page_fill_rows.specs.machine.Plain.{ends_before, has_part_room, has_room, has_word_room, is_printable_ascii, spaced_by, taken, wraps_plain}
 use Rattle.page_fill_rows.proofs.PlainLemmas.{characters-plain, letters-fits, spaced-room, spaces-fit}
 use Rattle.page_fill_rows.proofs.WrapLemmas.{both-plain}
-use Rattle.page_fill_steps.specs.Fill.{Edge, text, one_character, opening, on_sheet, begun_word, stands}
-use Rattle.page_fill_steps.specs.PlainWords.{takes_word, wraps_word}
+use Rattle.page_fill_steps.specs.machine.Fill.{Edge, text, one_character, opening, on_sheet, begun_word, stands}
+use Rattle.page_fill_steps.specs.machine.PlainWords.{takes_word, wraps_word}
 
 pub text-plain : (e : Edge) (bytes : List ℕ) (font : Font) (place : Place) → is_printable_ascii bytes ≡ true → (length bytes == 0) ≡ false
     → text e bytes font place

@@ -18,14 +18,14 @@ use Rattle.page_core_base.specs.declared.cells.Cell.{Cell}
 use Rattle.page_core_base.proofs.WordPartLemmas.{joined, joined-parts, parts-full}
 use Rattle.page_core_limits.specs.declared.TheConstants.{CELLS}
 use Rattle.page_fill_rows.specs.declared.TheConstants.{TAG_COLUMNS}
-use Rattle.page_fill_rows.specs.Sheets.{Sheet, blank, cell_columns, columns, opens}
+use Rattle.page_fill_rows.specs.machine.Sheets.{Sheet, blank, cell_columns, columns, opens}
 use Rattle.page_fill_rows.specs.Characters.{cell_of, cells_of}
-use Rattle.page_fill_rows.specs.Plain.{free_cells, has_part_room, has_word_room, is_printable, is_printable_ascii, parted_at, spaced_by, taken, word_start, words_parted, words_taken}
+use Rattle.page_fill_rows.specs.machine.Plain.{free_cells, has_part_room, has_word_room, is_printable, is_printable_ascii, parted_at, spaced_by, taken, word_start, words_parted, words_taken}
 use Rattle.page_fill_rows.proofs.PlainLemmas.{blank-one, characters_of-plain, columns-plain, taken-word}
 use Rattle.page_fill_rows.proofs.WordStartLemmas.{printable-fronts, start-append, start-within}
-use Rattle.page_fill_steps.specs.Fill.{Edge, begun_word, laid, laid_piece, on_sheet}
-use Rattle.page_fill_steps.specs.PlainWords.{whole_words}
-use Rattle.page_fill_steps.specs.TakenWords.{TakesFirstWords}
+use Rattle.page_fill_steps.specs.machine.Fill.{Edge, begun_word, laid, laid_piece, on_sheet}
+use Rattle.page_fill_steps.specs.machine.PlainWords.{whole_words}
+use Rattle.page_fill_steps.specs.machine.TakenWords.{TakesFirstWords}
 use Rattle.page_fill_steps.proofs.PlainWordLemmas.{text-part, text-word}
 use Rattle.page_fill_steps.proofs.WordRunLemmas.{front-words, is_letters, start-some, start-word, whole-words, word-letters, word-some, words-first, words-front, words-rest}
 

@@ -1,6 +1,3 @@
 pub mod Edges
-pub mod Fill
-pub mod PlainWords
-pub mod TakenWords
 pub mod Caps
-pub mod Items
+pub mod machine

@@ -7,11 +7,11 @@ ghost use Rattle.page_core_base.specs.Latches.{CameRows, LaysOut};
 ghost use Rattle.page_core_base.specs.declared.cells.Font.TheVariants.{R};
 ghost use Rattle.page_core_base.specs.declared.places.Place.{Place};
 ghost use Rattle.page_fill_rows.specs.Characters.{characters_of};
-ghost use Rattle.page_fill_rows.specs.Plain as plain;
+ghost use Rattle.page_fill_rows.specs.machine.Plain as plain;
 ghost use Rattle.page_fill_steps.specs.Caps.{is_sound};
-ghost use Rattle.page_fill_steps.specs.Fill as fill;
-ghost use Rattle.page_fill_steps.specs.PlainWords as plain_words;
-ghost use Rattle.page_fill_steps.specs.TakenWords.{TakesFirstWords};
+ghost use Rattle.page_fill_steps.specs.machine.Fill as fill;
+ghost use Rattle.page_fill_steps.specs.machine.PlainWords as plain_words;
+ghost use Rattle.page_fill_steps.specs.machine.TakenWords.{TakesFirstWords};
 
 use crate::taken_words::whole_words;
 use crate::{HANG_MAX, TAB_STOP};
@@ -160,7 +160,7 @@ impl Edge {
     }
 
     // Before a cell: a word begins where none is open with a cell.
-    #[tactic(auto, unfolding(crate::specs::Fill::opening))]
+    #[tactic(auto, unfolding(crate::specs::machine::Fill::opening))]
     fn open_word<O: RowOut>(&mut self, place: Place, out: &mut O)
         ensures { LaysOut O.left out.old (fill.opening self.old place) out.new self.new }
     {
@@ -173,7 +173,7 @@ impl Edge {
     }
 
     /// Takes a text.
-    #[tactic(auto, unfolding(crate::specs::Fill::text))]
+    #[tactic(auto, unfolding(crate::specs::machine::Fill::text))]
     pub(crate) fn text<O: RowOut>(&mut self, text: &str, font: Font, place: Place, out: &mut O)
         ensures { LaysOut O.left out.old (fill.text self.old (chars text.now) font place) out.new self.new }
     {
@@ -297,7 +297,7 @@ impl Edge {
     }
 
     // Takes a plain text.
-    #[tactic(auto, unfolding(crate::specs::Fill::text))]
+    #[tactic(auto, unfolding(crate::specs::machine::Fill::text))]
     fn plain<O: RowOut>(&mut self, bytes: &[u8], font: Font, place: Place, out: &mut O)
         requires { plain.is_printable_ascii bytes.now ≡ true }
         ensures { LaysOut O.left out.old (fill.text self.old bytes.now font place) out.new self.new }
@@ -330,7 +330,7 @@ impl Edge {
     }
 
     /// Takes a character.
-    #[tactic(auto, unfolding(crate::specs::Fill::one_character))]
+    #[tactic(auto, unfolding(crate::specs::machine::Fill::one_character))]
     pub(crate) fn character<O: RowOut>(&mut self, c: char, font: Font, place: Place, out: &mut O)
         ensures { LaysOut O.left out.old (fill.one_character self.old c font place) out.new self.new }
     {
@@ -339,7 +339,7 @@ impl Edge {
     }
 
     /// Takes the glyph of a name.
-    #[tactic(auto, unfolding(crate::specs::Fill::one_glyph))]
+    #[tactic(auto, unfolding(crate::specs::machine::Fill::one_glyph))]
     pub(crate) fn glyph<O: RowOut>(&mut self, name: &[u8], font: Font, place: Place, out: &mut O)
         ensures { LaysOut O.left out.old (fill.one_glyph self.old name.now font place) out.new self.new }
     {
@@ -365,7 +365,7 @@ impl Edge {
     }
 
     /// Takes a tab.
-    #[tactic(auto, unfolding(crate::specs::Fill::tab))]
+    #[tactic(auto, unfolding(crate::specs::machine::Fill::tab))]
     pub(crate) fn tab<O: RowOut>(&mut self, font: Font, place: Place, out: &mut O)
         ensures { LaysOut O.left out.old (fill.tab self.old font place) out.new self.new }
     {
@@ -378,7 +378,7 @@ impl Edge {
     }
 
     /// The open row ends, and nothing waits.
-    #[tactic(auto, unfolding(crate::specs::Fill::ended))]
+    #[tactic(auto, unfolding(crate::specs::machine::Fill::ended))]
     pub(crate) fn end_row<O: RowOut>(&mut self, out: &mut O)
         ensures { LaysOut O.left out.old (fill.ended self.old) out.new self.new }
     {
@@ -387,7 +387,7 @@ impl Edge {
     }
 
     /// Ends the row, and gives blank rows until a count of them stands there; none after a heading's row.
-    #[tactic(auto, unfolding(crate::specs::Fill::paragraph))]
+    #[tactic(auto, unfolding(crate::specs::machine::Fill::paragraph))]
     pub(crate) fn paragraph<O: RowOut>(&mut self, count: u32, out: &mut O)
         ensures { LaysOut O.left out.old (fill.paragraph self.old count) out.new self.new }
     {
@@ -397,7 +397,7 @@ impl Edge {
     }
 
     /// Ends the row, and gives a count of blank rows.
-    #[tactic(auto, unfolding(crate::specs::Fill::spaced))]
+    #[tactic(auto, unfolding(crate::specs::machine::Fill::spaced))]
     pub(crate) fn space<O: RowOut>(&mut self, count: u32, out: &mut O)
         ensures { LaysOut O.left out.old (fill.spaced self.old count) out.new self.new }
     {
@@ -406,7 +406,7 @@ impl Edge {
     }
 
     /// Ends the row of a line that is kept as it is, and gives a blank row where it has no cell.
-    #[tactic(auto, unfolding(crate::specs::Fill::row_ended))]
+    #[tactic(auto, unfolding(crate::specs::machine::Fill::row_ended))]
     pub(crate) fn end_line<O: RowOut>(&mut self, out: &mut O)
         ensures { LaysOut O.left out.old (fill.row_ended self.old) out.new self.new }
     {
@@ -418,7 +418,7 @@ impl Edge {
     }
 
     /// The row ends as a heading's row, if it has a cell.
-    #[tactic(auto, unfolding(crate::specs::Fill::heading))]
+    #[tactic(auto, unfolding(crate::specs::machine::Fill::heading))]
     pub(crate) fn heading<O: RowOut>(&mut self, out: &mut O)
         ensures { LaysOut O.left out.old (fill.heading self.old) out.new self.new }
     {

@@ -1,11 +1,11 @@
 //! The machine of filling: one piece after another goes into the open row, and rows go out as they are settled.
 //!
 //! In the pipeline (bytes, lines, roff, macro set, scopes, filling, rows) it is the inner piece of filling, between `page_fill_rows` and
-//! the door `page_fill`. Its contracts cite the steps that it takes (`specs/Fill.antt`), of which trust needs no reading: those of
+//! the door `page_fill`. Its contracts cite the steps that it takes (`specs/machine/Fill.antt`), of which trust needs no reading: those of
 //! `page_fill` say the same in words. Read [`Edge`] first, which is all that is held between two pieces.
 //!
 //! Proved: `Edge` (`new`, `copy`, `piece`, `take_words`, `end`, `caps_law`): the same as the filler's, in the steps of the machine
-//! (`specs/Fill.antt`), which no contract above cites.
+//! (`specs/machine/Fill.antt`), which no contract above cites.
 #![tactic(auto)]
 
 mod edges;

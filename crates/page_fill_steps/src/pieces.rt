@@ -8,7 +8,7 @@ ghost use Rattle.page_core_base.specs.Pieces.{piece_of};
 ghost use Rattle.page_core_limits.specs.declared.TheConstants.{CELLS};
 ghost use Rattle.page_fill_steps.specs.Caps.{FillFits, IsHeld};
 ghost use Rattle.page_fill_steps.specs.Edges.{under};
-ghost use Rattle.page_fill_steps.specs.Fill as fill;
+ghost use Rattle.page_fill_steps.specs.machine.Fill as fill;
 
 use crate::edges::{Edge, NO_WORD};
 use page_core_base::{Cell, Fault, NoteSink, Output, Piece, RowLatch, RowOut, RowSink, Settings};
@@ -17,7 +17,7 @@ use std::alloc::{AllocError, Global};
 
 // Takes a piece, and gives the rows and messages that it settles.
 #[inline(always)]
-#[tactic(auto, unfolding(crate::specs::Fill::laid_piece))]
+#[tactic(auto, unfolding(crate::specs::machine::Fill::laid_piece))]
 fn take_piece<O: RowOut>(edge: &mut Edge, piece: Piece<&[u8]>, out: &mut O)
     ensures { LaysOut O.left out.old (fill.laid_piece edge.old (piece_of piece.entry)) out.new edge.new }
 {
@@ -45,7 +45,7 @@ fn take_piece<O: RowOut>(edge: &mut Edge, piece: Piece<&[u8]>, out: &mut O)
 // Takes a blank, or a plain text that the open row has room for, and says whether it was one of these, which settle nothing. Most of a page
 // is made of them.
 #[inline(always)]
-#[tactic(auto, unfolding(crate::specs::Fill::laid_piece))]
+#[tactic(auto, unfolding(crate::specs::machine::Fill::laid_piece))]
 fn takes_at_once(edge: &mut Edge, piece: Piece<&[u8]>) -> bool
     ensures taken { result ≡ true → fill.laid_piece edge.old (piece_of piece.entry) ≡ nothing edge.new }
     ensures same { result ≡ false → edge.new ≡ edge.old }

@@ -1,7 +1,7 @@
 //! The first words of a text, which the open row takes at once.
 
 ghost use Rattle.std.specs.Prelude.{◌≡◌, ◌≤◌, length};
-ghost use Rattle.page_fill_steps.specs.PlainWords as plain_words;
+ghost use Rattle.page_fill_steps.specs.machine.PlainWords as plain_words;
 
 use page_fill_rows::word_start;
 

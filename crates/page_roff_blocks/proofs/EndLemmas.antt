@@ -18,7 +18,7 @@ use Rattle.page_roff_blocks.specs.declared.line_parts.LinePart.{LinePart}
 use Rattle.page_roff_blocks.specs.declared.line_parts.LinePart.TheVariants.{Leaf, Guard, Block, Loop, End, Region}
 use Rattle.page_roff_blocks.specs.LineParts.{part_of, with_part, line_parts, line_parts_left, whole_line_part}
 use Rattle.page_roff_blocks.specs.Parts.{rest_text, loop_part_if, plain_part, raw_rest, keyword_of, keyword_part, form_part, written_part}
-use Rattle.page_roff_blocks.specs.LinePlaces.{IsEndOf, IsRestIn, rest_at, parts_at, place_after, is_block, opens_block}
+use Rattle.page_roff_blocks.specs.machine.LinePlaces.{IsEndOf, IsRestIn, rest_at, parts_at, place_after, is_block, opens_block}
 use Rattle.page_roff_blocks.proofs.LinePartLemmas.{end_rest, line_parts_cons}
 
 -- a text is what a line ends with

@@ -16,7 +16,7 @@ use Rattle.page_roff_blocks.specs.declared.parts.Keyword.{Keyword}
 use Rattle.page_roff_blocks.specs.declared.parts.Keyword.TheVariants as keywords
 use Rattle.page_roff_blocks.specs.declared.parts.Part.{Part}
 use Rattle.page_roff_blocks.specs.Loops.{blocks_left, blocks_after, before_end, left_by, left_in, left_of, len_before, len_of}
-use Rattle.page_roff_blocks.specs.LinePlaces.{IsEndOf, place_after}
+use Rattle.page_roff_blocks.specs.machine.LinePlaces.{IsEndOf, place_after}
 use Rattle.page_roff_blocks.specs.Parts.{head_line_part, loop_part_if, end_part, plain_part, raw_rest, keyword_of, keyword_part, form_part, written_part}
 use Rattle.page_roff_blocks.proofs.LinePartLemmas.{IsShorter, room, room_left, written_shorter}
 use Rattle.page_roff_blocks.proofs.EndLemmas.{to_end, written_ends, end_further}

@@ -4,6 +4,5 @@ pub mod Parts
 pub mod Loops
 pub mod Forest
 pub mod Levels
-pub mod LinePlaces
 pub mod Run
-pub mod Steps
+pub mod machine

@@ -5,7 +5,7 @@ ghost use Rattle.page_roff_blocks.specs.LineParts.{with_part, part_of, line_part
 ghost use Rattle.page_roff_blocks.specs.Levels.{BlockCursor};
 ghost use Rattle.page_roff_blocks.specs.declared.line_parts.LinePart.{LinePart};
 ghost use Rattle.page_roff_blocks.specs.Run.{Meaning, run_lines, At, headed, each_line};
-ghost use Rattle.page_roff_blocks.specs.Steps.{step_parts, step_lines};
+ghost use Rattle.page_roff_blocks.specs.machine.Steps.{step_parts, step_lines};
 
 /// The parts of a line are its first one, and those of what is left of the line.
 pub fn line_parts_law()

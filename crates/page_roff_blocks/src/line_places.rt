@@ -4,7 +4,7 @@ ghost use Rattle.std.specs.Prelude.{◌≡◌, ◌≤◌, ◌∷◌, false, leng
 ghost use Rattle.page_core_limits.specs.declared.TheConstants.{LINE};
 ghost use Rattle.page_roff_blocks.specs.LineParts.{line_part_view, line_parts, FitsLinePart, ReadsNext};
 ghost use Rattle.page_roff_blocks.specs.declared.line_parts.LinePart.TheVariants.{Leaf};
-ghost use Rattle.page_roff_blocks.specs.LinePlaces.{parts_at, line_end, is_at_end, is_block, opens_block, place_after, IsPlaceIn, IsEndOf};
+ghost use Rattle.page_roff_blocks.specs.machine.LinePlaces.{parts_at, line_end, is_at_end, is_block, opens_block, place_after, IsPlaceIn, IsEndOf};
 ghost use Rattle.page_roff_regions.specs.Regions.{text_view};
 
 use crate::line_parts::LinePart;

@@ -4,7 +4,7 @@ ghost use Rattle.std.specs.Prelude.{◌≡◌, ◌≤◌, ◌+◌, [], ◌∷◌
 ghost use Rattle.std.specs.Vec.{vec_len, vec_capacity};
 ghost use Rattle.page_core_base.specs.LinesTaken.{line_view};
 ghost use Rattle.page_core_limits.specs.declared.TheConstants.{BODY, LINE};
-ghost use Rattle.page_roff_buffers.specs.Buffers.{no_line, AddsLine};
+ghost use Rattle.page_roff_buffers.specs.machine.Buffers.{no_line, AddsLine};
 ghost use Rattle.page_roff_requests.specs.Regions.{text_view};
 
 use page_core_base::{Form, Taken};

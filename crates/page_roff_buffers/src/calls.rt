@@ -5,7 +5,7 @@ ghost use Rattle.std.specs.Vec.{vec_len, vec_capacity};
 ghost use Rattle.page_core_limits.specs.declared.TheConstants.{BODY, LINE};
 ghost use Rattle.page_roff_forms.specs.Arguments.{argument_view, argument_value, arguments, unpaired};
 ghost use Rattle.page_roff_definitions.specs.Arguments.{closing_notes, closings_notes};
-ghost use Rattle.page_roff_buffers.specs.Buffers.{no_call, Packs};
+ghost use Rattle.page_roff_buffers.specs.machine.Buffers.{no_call, Packs};
 ghost use Rattle.page_roff_buffers.specs.Calls.{packed};
 
 use crate::buffers::{append, replace};

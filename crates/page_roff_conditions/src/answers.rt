@@ -6,7 +6,7 @@ ghost use Rattle.page_roff_conditions.specs.Answers as asked;
 ghost use Rattle.page_roff_conditions.specs.Answers.{Gives};
 ghost use Rattle.page_roff_heads.specs.Conditions.{condition_view, test_view, FitsTest};
 ghost use Rattle.page_roff_heads.specs.Texts.{placed_view, FitsPlaced};
-ghost use Rattle.page_roff_values.specs.Views.{surroundings_of};
+ghost use Rattle.page_roff_values.specs.machine.Views.{surroundings_of};
 ghost use Rattle.page_roff_values.specs.Latches.{Goes};
 ghost use Rattle.page_roff_values.specs.Values.{nothing};
 

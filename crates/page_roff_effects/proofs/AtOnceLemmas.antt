@@ -4,9 +4,9 @@ use Rattle.std.specs.List.{prefix_len}
 use Rattle.page_core_limits.specs.declared.TheConstants.{LINE}
 use Rattle.page_core_base.specs.declared.lines_taken.Form.TheVariants as forms
 use Rattle.page_roff_forms.specs.LineForms.{is_plain, begins_control}
-use Rattle.page_roff_values.specs.Verbatim.{GivesItself}
+use Rattle.page_roff_values.specs.machine.Verbatim.{GivesItself}
 use Rattle.page_roff_effects.specs.declared.commands.Command.TheVariants.{Pass}
-use Rattle.page_roff_effects.specs.Acting.{plain_form}
+use Rattle.page_roff_effects.specs.machine.Acting.{plain_form}
 use Rattle.page_roff_effects.specs.Commands.{command_of}
 use Rattle.page_roff_effects.specs.Leaves.{ControlLine, control_outcome, command_outcome, leaf_outcome, text_outcome}
 use Rattle.page_roff_effects.specs.States.{Memory, Setting, gives_line, surroundings}

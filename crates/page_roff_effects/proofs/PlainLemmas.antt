@@ -11,7 +11,7 @@ use Rattle.page_roff_forms.specs.declared.line_forms.LineForm.TheVariants.{Text}
 use Rattle.page_roff_forms.proofs.FormLemmas.{read_first, read_all, front_of}
 use Rattle.page_roff_values.proofs.LineLemmas.{plain_expanded}
 use Rattle.page_roff_values.specs.Values.{nothing, adds, start}
-use Rattle.page_roff_effects.specs.Acting.{Acting, measured, plain_form, line_laid}
+use Rattle.page_roff_effects.specs.machine.Acting.{Acting, measured, plain_form, line_laid}
 use Rattle.page_roff_effects.specs.Leaves.{leaf_outcome}
 use Rattle.page_roff_effects.specs.States.{Memory, Setting, counted, gives_line, surroundings}
 

@@ -1,4 +1,3 @@
-pub mod Acting
 pub mod Caps
 pub mod Commands
 pub mod Effects
@@ -6,3 +5,4 @@ pub mod Leaves
 pub mod LoopLines
 pub mod RegionLines
 pub mod States
+pub mod machine

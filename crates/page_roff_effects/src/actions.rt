@@ -5,11 +5,11 @@ ghost use Rattle.page_core_base.specs.LinesTaken.{line_view};
 ghost use Rattle.page_core_limits.specs.declared.TheConstants.{ARGS, LINE};
 ghost use Rattle.page_roff_heads.specs.Conditions.{condition_view, test_view, FitsTest};
 ghost use Rattle.page_roff_values.specs.Arguments.{arguments_in};
-ghost use Rattle.page_roff_values.specs.Views.{surroundings_of};
+ghost use Rattle.page_roff_values.specs.machine.Views.{surroundings_of};
 ghost use Rattle.page_roff_values.specs.Values as laying;
-ghost use Rattle.page_roff_effects.specs.Acting as acting;
+ghost use Rattle.page_roff_effects.specs.machine.Acting as acting;
 ghost use Rattle.page_roff_effects.specs.Caps.{MemoryFits};
-ghost use Rattle.page_roff_effects.specs.Acting.{measured, Does, Tests, Expands, ExpandsOrKeeps};
+ghost use Rattle.page_roff_effects.specs.machine.Acting.{measured, Does, Tests, Expands, ExpandsOrKeeps};
 ghost use Rattle.page_roff_effects.specs.Effects.{answer_of, turn_answer, budget_outcome, block_outcome, end_of_block_outcome};
 ghost use Rattle.page_core_base.specs.Messages.{message_about};
 ghost use Rattle.page_core_base.specs.Latches.{Came};
@@ -42,7 +42,7 @@ pub struct Actions {
 }
 
 impl Model for Actions {
-    ghost use Rattle.page_roff_effects.specs.Acting.{Acting};
+    ghost use Rattle.page_roff_effects.specs.machine.Acting.{Acting};
 
     ghost Value = { Acting };
 

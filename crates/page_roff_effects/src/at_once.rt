@@ -6,7 +6,7 @@ ghost use Rattle.page_roff_blocks.specs.declared.line_parts.LinePart.TheVariants
 ghost use Rattle.page_roff_blocks.specs.LineParts.{line_parts};
 ghost use Rattle.page_roff_forms.specs.LineForms.{form_of, name_of};
 ghost use Rattle.page_roff_effects.specs.declared.commands.Command.TheVariants as commands;
-ghost use Rattle.page_roff_effects.specs.Acting.{control_view, measured, IsPassed, TakesIf};
+ghost use Rattle.page_roff_effects.specs.machine.Acting.{control_view, measured, IsPassed, TakesIf};
 ghost use Rattle.page_roff_effects.specs.Commands.{command_of};
 ghost use Rattle.page_roff_effects.specs.Leaves.{control_outcome, leaf_outcome, text_outcome};
 

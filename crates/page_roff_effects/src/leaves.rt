@@ -5,7 +5,7 @@ ghost use Rattle.page_core_limits.specs.declared.TheConstants.{LINE};
 ghost use Rattle.page_roff_forms.specs.LineForms.{form_of};
 ghost use Rattle.page_roff_forms.specs.declared.line_forms.LineForm.TheVariants.{Control};
 ghost use Rattle.page_core_base.specs.Latches.{Came};
-ghost use Rattle.page_roff_effects.specs.Acting.{control_view, measured, plain_form, text_given, Does, Gives, Takes, IfCalled, IsCallable};
+ghost use Rattle.page_roff_effects.specs.machine.Acting.{control_view, measured, plain_form, text_given, Does, Gives, Takes, IfCalled, IsCallable};
 ghost use Rattle.page_core_base.specs.declared.lines_taken.Form.TheVariants as forms;
 ghost use Rattle.page_roff_effects.specs.Leaves as leaves;
 ghost use Rattle.page_roff_effects.specs.Leaves.{leaf_outcome};

@@ -2,7 +2,7 @@
 
 ghost use Rattle.std.specs.Prelude.{◌≡◌, length, Some};
 ghost use Rattle.page_roff_blocks.specs.LineParts.{loop_head_view};
-ghost use Rattle.page_roff_effects.specs.Acting.{Does, Gives, IfRepeated, IsRepeatable};
+ghost use Rattle.page_roff_effects.specs.machine.Acting.{Does, Gives, IfRepeated, IsRepeatable};
 ghost use Rattle.page_roff_effects.specs.LoopLines as loops;
 ghost use Rattle.page_roff_effects.specs.RegionLines as regions;
 ghost use Rattle.page_roff_effects.specs.States.{with_body};

@@ -10,7 +10,7 @@ ghost use Rattle.page_roff_regions.specs.OpenRegions.{within_limit, opened_view}
 ghost use Rattle.page_roff_regions.specs.Regions.{macro_name, region_view, text_view};
 ghost use Rattle.page_roff_definitions.specs.Definitions as defining;
 ghost use Rattle.page_core_base.specs.Latches.{Came};
-ghost use Rattle.page_roff_effects.specs.Acting.{measured, Does, Gives};
+ghost use Rattle.page_roff_effects.specs.machine.Acting.{measured, Does, Gives};
 ghost use Rattle.page_roff_effects.specs.RegionLines as regions;
 ghost use Rattle.page_roff_effects.specs.States.{Memory, reports, with_body};
 

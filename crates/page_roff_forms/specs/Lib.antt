@@ -1,4 +1,4 @@
 pub mod Ends
 pub mod LineForms
-pub mod Pairs
 pub mod Arguments
+pub mod machine

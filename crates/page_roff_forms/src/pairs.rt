@@ -1,7 +1,7 @@
 //! Whether pairs of a backslash and another byte stand in a text.
 
 ghost use Rattle.std.specs.Prelude.{◌≡◌, ◌↔◌, ◌<◌, ◌+◌, false, length, IsTrue};
-ghost use Rattle.page_roff_forms.specs.Pairs.{is_pair, LacksPair, LacksPairFrom};
+ghost use Rattle.page_roff_forms.specs.machine.Pairs.{is_pair, LacksPair, LacksPairFrom};
 
 use std::simd::prelude::*;
 

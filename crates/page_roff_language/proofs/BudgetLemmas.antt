@@ -6,8 +6,8 @@ use Rattle.page_roff_blocks.specs.Levels.{Levels, at_line}
 use Rattle.page_roff_regions.specs.OpenRegions.{Opened}
 use Rattle.page_roff_blocks.specs.Loops.{loop_text}
 use Rattle.page_roff_blocks.specs.Run.{At, keep_if}
-use Rattle.page_roff_blocks.specs.Steps.{step_inside, collect_if, step_from, step, step_lines}
-use Rattle.page_roff_blocks.specs.Steps as steps
+use Rattle.page_roff_blocks.specs.machine.Steps.{step_inside, collect_if, step_from, step, step_lines}
+use Rattle.page_roff_blocks.specs.machine.Steps as steps
 use Rattle.page_roff_blocks.proofs.FoldLemmas.{run_is_steps}
 use Rattle.page_core_limits.specs.declared.TheConstants.{CALLS, REREAD}
 use Rattle.page_roff_language.specs.Languages.{page, meaning_by, meaning_at, run_page}

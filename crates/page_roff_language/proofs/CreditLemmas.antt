@@ -14,12 +14,12 @@ use Rattle.page_roff_blocks.specs.Levels.{Levels, way_of, BlockCursor, after_par
 use Rattle.page_roff_regions.specs.OpenRegions.{Opened}
 use Rattle.page_roff_blocks.specs.Loops.{loop_text}
 use Rattle.page_roff_blocks.specs.Run.{Meaning, At, meet_as, value, keep_if, refuse_if}
-use Rattle.page_roff_blocks.specs.Steps.{met, guard_with, guard_met, block_with, opening_met, block_met, collect_if}
-use Rattle.page_roff_blocks.specs.Steps as steps
+use Rattle.page_roff_blocks.specs.machine.Steps.{met, guard_with, guard_met, block_with, opening_met, block_met, collect_if}
+use Rattle.page_roff_blocks.specs.machine.Steps as steps
 use Rattle.page_roff_language.specs.Languages.{Kind, page, body, finish_at, meaning_by, meaning_at}
-use Rattle.page_roff_language.specs.Machine.{finish_if}
+use Rattle.page_roff_language.specs.machine.Machine.{finish_if}
 use Rattle.page_roff_language.specs.Budgets.{Budgeted, Effects, with_rest, charge_by, charge, begin_line, whether_run, meet, test, unopened_by, read_line, end_line, collect_some, meaning, turn_by, turn, language}
-use Rattle.page_roff_language.specs.Measures.{fresh_if, fresh_at, credit_if, credit}
+use Rattle.page_roff_language.specs.machine.Measures.{fresh_if, fresh_at, credit_if, credit}
 
 credit_more : (gave_up : Bool) (left f g : ℕ) → f ≤ g → credit_if gave_up left f ≤ credit_if gave_up left g
 unfolding credit_if

@@ -1,8 +1,4 @@
 pub mod Budgets
-pub mod Counting
-pub mod Fronts
 pub mod Languages
-pub mod Machine
-pub mod Measures
-pub mod Spending
 pub mod Spent
+pub mod machine

@@ -4,12 +4,12 @@ ghost use Rattle.std.specs.Prelude.{◌≡◌, ◌≤◌, ℕ, suc, ◌+◌, ◌
 ghost use Rattle.page_roff_blocks.specs.Run.{At};
 ghost use Rattle.page_core_limits.specs.declared.TheConstants.{CALLS, REREAD};
 ghost use Rattle.page_roff_language.specs.Budgets.{Budgeted, Effects, language};
-ghost use Rattle.page_roff_language.specs.Fronts.{over, over_running, IsFront};
+ghost use Rattle.page_roff_language.specs.machine.Fronts.{over, over_running, IsFront};
 ghost use Rattle.page_roff_language.specs.Languages.{body, TURNS, Language, run_body, turns, meaning_at, run_page, run_page_lines};
-ghost use Rattle.page_roff_language.specs.Measures.{measure, HasMeasure, HasBodyWithin, IsFirst};
-ghost use Rattle.page_roff_language.specs.Spending.{unspent, AreMet, Leads};
+ghost use Rattle.page_roff_language.specs.machine.Measures.{measure, HasMeasure, HasBodyWithin, IsFirst};
+ghost use Rattle.page_roff_language.specs.machine.Spending.{unspent, AreMet, Leads};
 ghost use Rattle.page_roff_language.specs.Spent.{Spends};
-ghost use Rattle.page_roff_language.specs.Machine.{Running, at_page, rest_of, next, stands_at};
+ghost use Rattle.page_roff_language.specs.machine.Machine.{Running, at_page, rest_of, next, stands_at};
 
 /// What is still to come of running sources is what comes of them after one step more, from a line of the page down to its end.
 pub fn machine_law<S>()

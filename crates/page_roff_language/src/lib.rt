@@ -7,7 +7,7 @@
 //! Proved: `machine_law`, `page_cut_law`, `budget_law`, `spending_law`, `each_line_law`, `calls_law`, `measure_law`, `turns_law`, `front_law`: the
 //! definition of how lines run, with calls of macros and with loops (`specs/Languages.antt`, `Budgets.antt`), over any meaning of their parts: a
 //! stack of sources gives the same, it ends, a page may be cut between any two lines, and the lines taken and the macros and loops that run stay
-//! within their budgets. `Budget`: the re-read lines of a source line are counted by `specs/Counting.antt`.
+//! within their budgets. `Budget`: the re-read lines of a source line are counted by `specs/machine/Counting.antt`.
 #![tactic(auto)]
 
 mod budgets;

@@ -15,7 +15,7 @@ use Rattle.page_roff_lines.specs.Held.{Held, hold, nothing_held}
 use Rattle.page_roff_lines.specs.Physical.{read}
 use Rattle.page_roff_lines.specs.Logical.{Logical, Kept, join_texts, logical_lines, keep}
 use Rattle.page_roff_lines.specs.Open.{Open, restart, next_open, put_byte, put_newline, newline_in, without_return, close, put_in, put_plain, put, count_byte, ends_mark, mark_after, end_open, open_after, whole_lines, kept_of, if_whole, last_line, lines_from}
-use Rattle.page_roff_lines.specs.Run.{is_settled}
+use Rattle.page_roff_lines.specs.machine.Run.{is_settled}
 use Rattle.page_roff_lines.proofs.OpenLaws.{open_after-append, whole_lines-append}
 use Rattle.page_roff_lines.proofs.RunLemmas.{st, any, open_after-restart, whole_lines-restart}
 use Rattle.page_roff_lines.proofs.Spots.{plain, at}

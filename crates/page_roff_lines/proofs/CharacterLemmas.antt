@@ -7,7 +7,7 @@ use Rattle.page_core_base.specs.declared.page_settings.Encoding.{Encoding}
 use Rattle.page_roff_lines.specs.declared.characters.Front.{Front}
 use Rattle.page_roff_lines.specs.Characters.{Character, character, later_length, characters_after, characters, bytes_of, all_bytes}
 use Rattle.page_roff_lines.specs.Limit.{line_limit}
-use Rattle.page_roff_lines.specs.Fronts.{as_character, width_of, later_of}
+use Rattle.page_roff_lines.specs.machine.Fronts.{as_character, width_of, later_of}
 use Rattle.page_roff_lines.specs.Decoding.{characters_within}
 
 -- the bytes of a character before are passed over

@@ -13,7 +13,7 @@ use Rattle.page_roff_lines.specs.declared.Mark.TheVariants.{Unread, First, Secon
 use Rattle.page_roff_lines.specs.Bytes.{newline, hash}
 use Rattle.page_roff_lines.specs.Logical.{Kept, kept_lines, has_mark}
 use Rattle.page_roff_lines.specs.Open.{Open, first_open, restart, close, count_byte, put, put_plain, put_pair, put_in, put_byte, ends_mark, mark_after, is_marked, next_open, end_open, end_in, kept_of, if_whole, whole_lines, open_after, lines_from as raw_lines_from}
-use Rattle.page_roff_lines.specs.Run.{is_settled}
+use Rattle.page_roff_lines.specs.machine.Run.{is_settled}
 use Rattle.page_roff_lines.specs.Characters.{good, bad, is_printable, sequence_length, character, later_length, characters_after, characters}
 use Rattle.page_roff_lines.specs.Decoding.{Line, decode_line, choice_of, or_else, choice_of_lines, page_encoding, lines}
 use Rattle.page_roff_lines.specs.Cutting.{Point, first_point, encoding_after, point_at, next_point, end_point, line_at, lines_within, point_after, lines_from, IsAfter, IsFed}

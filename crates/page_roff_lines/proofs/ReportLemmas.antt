@@ -17,7 +17,7 @@ use Rattle.page_roff_lines.specs.declared.characters.Front.{Front}
 use Rattle.page_roff_lines.specs.declared.characters.Front.TheVariants.{Same, Latin1, Bad}
 use Rattle.page_roff_lines.specs.Limit.{line_limit}
 use Rattle.page_roff_lines.specs.Characters.{Character, good, bad, is_printable, character, later_length, characters_after, characters, bytes_of}
-use Rattle.page_roff_lines.specs.Fronts.{as_character, width_of, later_of, size_of}
+use Rattle.page_roff_lines.specs.machine.Fronts.{as_character, width_of, later_of, size_of}
 use Rattle.page_roff_lines.specs.Decoding.{characters_within, bad_character, notes_of, bad_notes}
 use Rattle.page_roff_lines.proofs.CharacterLemmas.{characters-at}
 use Rattle.page_roff_lines.proofs.FineLemmas.{singles_fine}

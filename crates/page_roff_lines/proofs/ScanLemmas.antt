@@ -12,8 +12,8 @@ use lib.Count.{count_trailing_zeros}
 use Rattle.page_roff_lines.specs.Characters.{is_printable}
 use Rattle.std.proofs.lemmas.Bool.Decides.{nat_tests}
 use Rattle.page_roff_lines.specs.declared.Mode.TheVariants.{Plain}
-use Rattle.page_roff_lines.specs.Run.{ends_run}
-use Rattle.page_roff_lines.specs.Scan.{is_text}
+use Rattle.page_roff_lines.specs.machine.Run.{ends_run}
+use Rattle.page_roff_lines.specs.machine.Scan.{is_text}
 
 pub and_true : (a b : Bool) → (a && b) ≡ true → (a ≡ true) × (b ≡ true)
 and_true true b h = (refl, h)

@@ -11,7 +11,7 @@ use Rattle.page_roff_lines.specs.Bytes.{newline, carriage_return, backslash, quo
 use Rattle.page_roff_lines.specs.Limit.{line_limit}
 use Rattle.page_roff_lines.specs.Held.{Held, hold, extend, shorten}
 use Rattle.page_roff_lines.specs.Open.{Open, restart, next_open, put_byte, put_in, put_plain, put_pair, pair_mode, put, count_byte, ends_mark, mark_after}
-use Rattle.page_roff_lines.specs.Run.{is_settled}
+use Rattle.page_roff_lines.specs.machine.Run.{is_settled}
 use Rattle.page_roff_lines.proofs.RunLemmas.{st, take-take-append}
 
 pub data Spot : Type 0 where

@@ -2,11 +2,9 @@ pub mod Bytes
 pub mod Characters
 pub mod Cutting
 pub mod Decoding
-pub mod Fronts
 pub mod Held
 pub mod Limit
 pub mod Logical
 pub mod Open
 pub mod Physical
-pub mod Run
-pub mod Scan
+pub mod machine

@@ -1,7 +1,7 @@
 //! The characters of a line's bytes (mandoc(1), -K).
 ghost use Rattle.std.specs.Prelude.{◌≡◌, ◌+◌, ◌<◌, ◌≤◌, length, slice_index, IsTrue};
 ghost use Rattle.page_roff_lines.specs.Characters.{sequence_length, is_second, is_later, is_printable, character, later_length};
-ghost use Rattle.page_roff_lines.specs.Fronts.{as_character, later_of, width_of, size_of};
+ghost use Rattle.page_roff_lines.specs.machine.Fronts.{as_character, later_of, width_of, size_of};
 
 use page_core_base::Encoding;
 

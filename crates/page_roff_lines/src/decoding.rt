@@ -4,7 +4,7 @@ ghost use Rattle.std.specs.List.{list_all};
 ghost use Rattle.page_core_base.specs.Texts.{IsLine};
 ghost use Rattle.page_roff_lines.specs.Limit.{line_limit};
 ghost use Rattle.page_roff_lines.specs.Characters.{characters, bytes_of, all_bytes, is_printable};
-ghost use Rattle.page_roff_lines.specs.Fronts.{as_character, width_of};
+ghost use Rattle.page_roff_lines.specs.machine.Fronts.{as_character, width_of};
 ghost use Rattle.page_roff_lines.specs.Decoding.{line_characters};
 
 use crate::characters::Front;

@@ -62,7 +62,7 @@ impl Model for OpenLine {
 
 impl Mark {
     ghost use Rattle.page_roff_lines.specs.Open.{mark_after, ends_mark};
-    ghost use Rattle.page_roff_lines.specs.Run.{is_settled};
+    ghost use Rattle.page_roff_lines.specs.machine.Run.{is_settled};
 
     // How much of the mark came with this byte.
     #[tactic(auto, unfolding(crate::specs::Open::mark_after))]
@@ -112,7 +112,7 @@ fn pair_mode(byte: u8) -> Mode
 impl OpenLine {
     ghost use Rattle.page_roff_lines.specs.Open.{first_open, restart, put, put_plain, put_pair, put_in, without_return, newline_in, put_newline, put_byte, next_open, end_open, count_byte, close, ends_mark, open_after, whole_lines, kept_of, is_marked};
     ghost use Rattle.page_roff_lines.specs.Bytes.{newline};
-    ghost use Rattle.page_roff_lines.specs.Run.{InText, IsRead, with_run};
+    ghost use Rattle.page_roff_lines.specs.machine.Run.{InText, IsRead, with_run};
 
     /// Before the first byte of a page, with the memory that it will ever hold.
     pub fn new(alloc: Global) -> Result<OpenLine, AllocError>
@@ -337,7 +337,7 @@ impl OpenLine {
     }
 
     // Appends bytes that are read at once, which may be known to be printable.
-    #[tactic(auto, unfolding(crate::specs::Run::run_in, crate::specs::Held::extend))]
+    #[tactic(auto, unfolding(crate::specs::machine::Run::run_in, crate::specs::Held::extend))]
     fn put_run(&mut self, run: &[u8], printable: bool)
         requires consumed { self.old.consumed + length run.now < 2 ^ 31 }
         requires some { 0 < length run.now }

@@ -4,7 +4,7 @@ ghost use Rattle.std.specs.Char.{digit_char};
 ghost use Rattle.page_core_base.specs.Sinks.{Gives};
 ghost use Rattle.page_core_base.specs.Fails.{FailsAs};
 ghost use Rattle.page_core_base.specs.Messages.{message_of};
-ghost use Rattle.page_roff_lines.specs.Fronts.{as_character};
+ghost use Rattle.page_roff_lines.specs.machine.Fronts.{as_character};
 ghost use Rattle.page_roff_lines.specs.Decoding.{bad_character as spec_bad_character, limit_note as spec_limit_note, notes_of, bad_notes, limit_notes, line_characters};
 
 use crate::characters::Front;

@@ -22,33 +22,33 @@ use Rattle.page_roff_blocks.specs.LineParts.{line_parts}
 use Rattle.page_roff_blocks.specs.Levels.{Levels, BlockCursor, answered, after_part, guarded_by, way_of, passed, reached, reached_in, skip, what_ends, at_line, leave}
 use Rattle.page_roff_regions.specs.OpenRegions.{Opened, opened}
 use Rattle.page_roff_blocks.specs.Run.{Meaning, meet_as, value, refuse_if, keep_if}
-use Rattle.page_roff_blocks.specs.Steps as steps
-use Rattle.page_roff_blocks.specs.Steps.{met, guard_with, guard_met, step_guard, block_with, opening_met, block_met, step_block, step_region, collect_if}
+use Rattle.page_roff_blocks.specs.machine.Steps as steps
+use Rattle.page_roff_blocks.specs.machine.Steps.{met, guard_with, guard_met, step_guard, block_with, opening_met, block_met, step_block, step_region, collect_if}
 use Rattle.page_roff_language.specs.Languages.{Kind, page, body, Language, is_some, meaning_by, meaning_at, finish_at}
-use Rattle.page_roff_language.specs.Machine as machine
-use Rattle.page_roff_language.specs.Machine.{Frame, Running, Turning, depth, at_part, between, leaf_next, loop_next, end_next, finish_if, part_next, line_next, region_next, next}
-use Rattle.page_roff_language.specs.Counting.{Budget}
-use Rattle.page_roff_language.specs.Measures.{HasMeasure, IsOnLine}
+use Rattle.page_roff_language.specs.machine.Machine as machine
+use Rattle.page_roff_language.specs.machine.Machine.{Frame, Running, Turning, depth, at_part, between, leaf_next, loop_next, end_next, finish_if, part_next, line_next, region_next, next}
+use Rattle.page_roff_language.specs.machine.Counting.{Budget}
+use Rattle.page_roff_language.specs.machine.Measures.{HasMeasure, IsOnLine}
 use Rattle.page_roff_language.specs.Budgets.{Budgeted, meaning, language, end_line}
 use Rattle.page_roff_effects.specs.declared.commands.ProductKind.{ProductKind}
 use Rattle.page_roff_effects.specs.declared.commands.ProductKind.TheVariants as kinds
-use Rattle.page_roff_effects.specs.Acting.{IfCalled, IsCallable, IfRepeated, IsRepeatable, acting_effects, measured}
+use Rattle.page_roff_effects.specs.machine.Acting.{IfCalled, IsCallable, IfRepeated, IsRepeatable, acting_effects, measured}
 use Rattle.page_roff_effects.specs.Effects.{effects}
 use Rattle.page_roff_effects.specs.States.{State, says}
 use Rattle.page_roff_stack.specs.declared.next.Next.{Next}
 use Rattle.page_roff_stack.specs.declared.next.Next.TheVariants.{Part, Line, RegionLine, Turn, SourceEnd, Nothing}
-use Rattle.page_roff_stack.specs.Changes.{is_page, next_line, first_line_parts, first_region, region_of, past}
+use Rattle.page_roff_stack.specs.machine.Changes.{is_page, next_line, first_line_parts, first_region, region_of, past}
 use Rattle.page_roff_stack.specs.declared.movements.Movement.TheVariants as moves
-use Rattle.page_roff_stack.specs.Stacks as stacks
-use Rattle.page_roff_stack.specs.Stacks.{Stack, running, with_top, has_begun, turn_in, turn_or_end, next_around, next_in, next_of, part_in, is_part, is_line, is_turn, may_end, is_nothing, end_of, turn_if, step_in, step_of}
+use Rattle.page_roff_stack.specs.machine.Stacks as stacks
+use Rattle.page_roff_stack.specs.machine.Stacks.{Stack, running, with_top, has_begun, turn_in, turn_or_end, next_around, next_in, next_of, part_in, is_part, is_line, is_turn, may_end, is_nothing, end_of, turn_if, step_in, step_of}
 use Rattle.page_roff_stack.proofs.StackLemmas.{next_steps}
 use Rattle.page_roff_machine.specs.declared.budgeted_actions.BudgetedActions.{BudgetedActions}
 use Rattle.page_roff_machine.specs.declared.acts.Act.TheVariants as acts
 use Rattle.page_roff_machine.specs.declared.acts.Progress.TheVariants.{More}
 use Rattle.page_roff_machine.specs.declared.runners.Runner.{Runner}
-use Rattle.page_roff_machine.specs.Doing.{HasRoom, output_of, state_in, state_after, answer_with, line_after, IsIn, IsAt, Makes, Does, Answers, parts_of, begun_in, answer_if, answer_after, answer_in, region_after, region_in, opens_if, opens_after, opened_in, collected_in, closes_after, passed_in, turned_in, leaf_if, leaf_after, leaf_in, line_of, done_as, read_kept_in, ended_kept_in, finished_in}
-use Rattle.page_roff_machine.specs.Moving.{refused, moved, reached_with, CanBegin, passes_block, line_in, Collects, Decides}
-use Rattle.page_roff_machine.specs.Stepping.{IsSound, Steps}
+use Rattle.page_roff_machine.specs.machine.Doing.{HasRoom, output_of, state_in, state_after, answer_with, line_after, IsIn, IsAt, Makes, Does, Answers, parts_of, begun_in, answer_if, answer_after, answer_in, region_after, region_in, opens_if, opens_after, opened_in, collected_in, closes_after, passed_in, turned_in, leaf_if, leaf_after, leaf_in, line_of, done_as, read_kept_in, ended_kept_in, finished_in}
+use Rattle.page_roff_machine.specs.machine.Moving.{refused, moved, reached_with, CanBegin, passes_block, line_in, Collects, Decides}
+use Rattle.page_roff_machine.specs.machine.Stepping.{IsSound, Steps}
 use Rattle.page_roff_machine.proofs.DoingLemmas.{came_none, stays, both, kind_after}
 use Rattle.page_roff_machine.proofs.FrameLemmas.{same_source}
 

@@ -9,26 +9,26 @@ use Rattle.page_roff_blocks.specs.LineParts.{line_parts}
 use Rattle.page_roff_blocks.specs.Levels.{Levels, BlockCursor, at_line, after_part, reached, reached_in, reached_from, reached_if}
 use Rattle.page_roff_regions.specs.OpenRegions.{Opened}
 use Rattle.page_roff_blocks.specs.Run.{At, meet_as}
-use Rattle.page_roff_blocks.specs.Steps.{met, begin_line, collect_if}
+use Rattle.page_roff_blocks.specs.machine.Steps.{met, begin_line, collect_if}
 use Rattle.page_roff_language.specs.Languages.{Kind, page, body, Language, Done, gives, is_some, meaning_at, meaning_by, run_page}
-use Rattle.page_roff_language.specs.Machine.{Frame, Running, Turning, at_page, at_part, depth, next, next_in, line_next, part_next, leaf_if, leaf_next, source_next, stands_at}
+use Rattle.page_roff_language.specs.machine.Machine.{Frame, Running, Turning, at_page, at_part, depth, next, next_in, line_next, part_next, leaf_if, leaf_next, source_next, stands_at}
 use Rattle.page_roff_language.proofs.MachineLemmas.{next_law, end_law, page_law}
 use Rattle.page_roff_language.specs.Budgets.{Budgeted, language, meaning, meet, whether_run, done_with, with_rest}
 use Rattle.page_roff_language.specs.Budgets as budgets
-use Rattle.page_roff_language.specs.Counting.{Budget, budgeted, begun, renewed}
-use Rattle.page_roff_language.specs.Measures.{HasMeasure, IsFirst}
-use Rattle.page_roff_effects.specs.Acting.{with_number, with_arguments, acting_effects, acting_setting, measured, ActingSetting}
+use Rattle.page_roff_language.specs.machine.Counting.{Budget, budgeted, begun, renewed}
+use Rattle.page_roff_language.specs.machine.Measures.{HasMeasure, IsFirst}
+use Rattle.page_roff_effects.specs.machine.Acting.{with_number, with_arguments, acting_effects, acting_setting, measured, ActingSetting}
 use Rattle.page_roff_effects.specs.Effects.{effects, done_after, done_by}
 use Rattle.page_roff_effects.specs.Leaves.{leaf_outcome}
 use Rattle.page_roff_effects.specs.States.{Memory, State, Given, takes, line_product, numbered}
-use Rattle.page_roff_stack.specs.Changes.{is_page, page_line}
-use Rattle.page_roff_stack.specs.Stacks.{Stack, is_nothing, next_of}
-use Rattle.page_roff_stack.specs.Stacks as stacks
+use Rattle.page_roff_stack.specs.machine.Changes.{is_page, page_line}
+use Rattle.page_roff_stack.specs.machine.Stacks.{Stack, is_nothing, next_of}
+use Rattle.page_roff_stack.specs.machine.Stacks as stacks
 use Rattle.page_roff_machine.specs.declared.runners.Runner.{Runner}
-use Rattle.page_roff_machine.specs.AtOnce.{TakesAtOnce, Keeps}
-use Rattle.page_roff_machine.specs.Machines.{Takes, Begins, is_idle, begun_at, stands_after}
-use Rattle.page_roff_machine.specs.Stepping.{machine_of, IsSound}
-use Rattle.page_roff_machine.specs.Moving.{AreKept, frames_of}
+use Rattle.page_roff_machine.specs.machine.AtOnce.{TakesAtOnce, Keeps}
+use Rattle.page_roff_machine.specs.machine.Machines.{Takes, Begins, is_idle, begun_at, stands_after}
+use Rattle.page_roff_machine.specs.machine.Stepping.{machine_of, IsSound}
+use Rattle.page_roff_machine.specs.machine.Moving.{AreKept, frames_of}
 use Rattle.page_roff_machine.proofs.MachineLemmas.{begins, begun_sound}
 
 -- ---- the run of a line that is one part, outside of regions, loops and skipped blocks

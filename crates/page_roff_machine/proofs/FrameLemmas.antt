@@ -10,13 +10,13 @@ use Rattle.page_roff_blocks.specs.declared.levels.Way.TheVariants.{Runs, Skips, 
 use Rattle.page_roff_blocks.specs.Levels.{Levels, BlockCursor, at_line, after_part, way_of, enter, skip, leave_level, leave_loop, leave_from, leave, passed}
 use Rattle.page_roff_regions.specs.OpenRegions.{Opened, opened}
 use Rattle.page_roff_values.specs.Arguments.{begin_first, arguments_in, lines_in}
-use Rattle.page_roff_language.specs.Machine.{Frame, Turning, turned, at_part}
-use Rattle.page_roff_language.specs.Measures.{weight, turns_of}
+use Rattle.page_roff_language.specs.machine.Machine.{Frame, Turning, turned, at_part}
+use Rattle.page_roff_language.specs.machine.Measures.{weight, turns_of}
 use Rattle.page_roff_stack.specs.declared.movements.Movement.{Movement}
 use Rattle.page_roff_stack.specs.declared.movements.Movement.TheVariants as moves
-use Rattle.page_roff_stack.specs.Changes.{past, in_turn_of, region_of, first_region, went, IfEnters}
-use Rattle.page_roff_stack.specs.Stacks.{Stack, with_top, has_begun, turn_in, turn_or_end, next_around, next_in, next_of, is_part, Suits}
-use Rattle.page_roff_machine.specs.Moving.{HUGE, IsTurningWithin, IsPassed, IsKept, AreKept, frames_of, IsBodyWithin, Keeps}
+use Rattle.page_roff_stack.specs.machine.Changes.{past, in_turn_of, region_of, first_region, went, IfEnters}
+use Rattle.page_roff_stack.specs.machine.Stacks.{Stack, with_top, has_begun, turn_in, turn_or_end, next_around, next_in, next_of, is_part, Suits}
+use Rattle.page_roff_machine.specs.machine.Moving.{HUGE, IsTurningWithin, IsPassed, IsKept, AreKept, frames_of, IsBodyWithin, Keeps}
 
 -- ---- bodies
 

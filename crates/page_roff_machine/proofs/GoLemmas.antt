@@ -14,19 +14,19 @@ use Rattle.page_roff_blocks.specs.Levels.{after_part, leave, what_ends}
 use Rattle.page_roff_blocks.specs.Run.{refuse_if}
 use Rattle.page_roff_values.specs.Arguments.{arguments_in, lines_in}
 use Rattle.page_roff_language.specs.Languages.{arguments_of, Kind, page, body, gives, calls, Language, is_some}
-use Rattle.page_roff_language.specs.Machine.{Frame, entered, at_part, depth, leaf_next, end_next}
+use Rattle.page_roff_language.specs.machine.Machine.{Frame, entered, at_part, depth, leaf_next, end_next}
 use Rattle.page_roff_language.specs.Budgets.{Budgeted, meaning, language, with_rest}
 use Rattle.page_roff_effects.specs.declared.commands.ProductKind.{ProductKind}
 use Rattle.page_roff_effects.specs.declared.commands.ProductKind.TheVariants as kinds
-use Rattle.page_roff_effects.specs.Acting as acting
-use Rattle.page_roff_effects.specs.Acting.{Acting, IsCallable, acting_effects, acting_setting}
+use Rattle.page_roff_effects.specs.machine.Acting as acting
+use Rattle.page_roff_effects.specs.machine.Acting.{Acting, IsCallable, acting_effects, acting_setting}
 use Rattle.page_roff_effects.specs.Effects.{effects, block_outcome}
 use Rattle.page_roff_effects.specs.States.{State, Given, says, takes}
-use Rattle.page_roff_stack.specs.Changes.{past, next_line, is_page, went}
+use Rattle.page_roff_stack.specs.machine.Changes.{past, next_line, is_page, went}
 use Rattle.page_roff_stack.specs.declared.movements.Movement.{Movement}
 use Rattle.page_roff_stack.specs.declared.movements.Movement.TheVariants as moves
-use Rattle.page_roff_stack.specs.Stacks as stacks
-use Rattle.page_roff_stack.specs.Stacks.{Stack, running, with_top, call_of, next_of, is_part}
+use Rattle.page_roff_stack.specs.machine.Stacks as stacks
+use Rattle.page_roff_stack.specs.machine.Stacks.{Stack, running, with_top, call_of, next_of, is_part}
 use Rattle.page_roff_stack.proofs.InputStackLemmas.{went_kind}
 use Rattle.page_roff_machine.specs.declared.budgeted_actions.BudgetedActions.{BudgetedActions}
 use Rattle.page_roff_machine.specs.declared.acts.Act.{Act}
@@ -34,8 +34,8 @@ use Rattle.page_roff_machine.specs.declared.acts.Act.TheVariants as acts
 use Rattle.page_roff_machine.specs.declared.acts.Progress.{Progress}
 use Rattle.page_roff_machine.specs.declared.acts.Progress.TheVariants.{More, Line}
 use Rattle.page_roff_machine.specs.declared.runners.Runner.{Runner}
-use Rattle.page_roff_machine.specs.Doing.{output_of, state_in, state_after, IsIn, IsAt, Makes, unopened_in}
-use Rattle.page_roff_machine.specs.Moving.{moved, reached_with, progress_as, way_after, with_arguments_of, called, Keeps, IsKept, AreKept, IfDone, Shifts, Moves, Closes}
+use Rattle.page_roff_machine.specs.machine.Doing.{output_of, state_in, state_after, IsIn, IsAt, Makes, unopened_in}
+use Rattle.page_roff_machine.specs.machine.Moving.{moved, reached_with, progress_as, way_after, with_arguments_of, called, Keeps, IsKept, AreKept, IfDone, Shifts, Moves, Closes}
 use Rattle.page_roff_machine.proofs.DoingLemmas.{came_none, acted}
 use Rattle.page_roff_machine.proofs.FrameLemmas.{within_huge, same_source, same_frames, same_kept, leave_in, moved_kept, moved_source}
 

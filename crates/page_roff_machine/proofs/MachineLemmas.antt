@@ -8,29 +8,29 @@ use Rattle.page_roff_blocks.specs.Levels.{Place, at_line}
 use Rattle.page_roff_regions.specs.OpenRegions.{Opened}
 use Rattle.page_roff_blocks.specs.Run.{Meaning, At}
 use Rattle.page_roff_language.specs.Languages.{Language, meaning_at, run_page}
-use Rattle.page_roff_language.specs.Machine.{Frame, depth, at_page, rest_of, next, stands_at}
+use Rattle.page_roff_language.specs.machine.Machine.{Frame, depth, at_page, rest_of, next, stands_at}
 use Rattle.page_roff_language.specs.Budgets.{Budgeted, language}
-use Rattle.page_roff_language.specs.Fronts.{over}
+use Rattle.page_roff_language.specs.machine.Fronts.{over}
 use Rattle.page_roff_language.proofs.FrontLemmas.{rest_front}
 use Rattle.page_roff_language.proofs.MachineLemmas.{next_law, end_law, page_law}
-use Rattle.page_roff_language.specs.Counting.{renewed}
-use Rattle.page_roff_language.specs.Measures.{HasMeasure, AreOnLine, IsOnLine, IsFirst}
-use Rattle.page_roff_effects.specs.Acting as acting
-use Rattle.page_roff_effects.specs.Acting.{Acting, with_number, with_arguments, acting_effects, measured}
+use Rattle.page_roff_language.specs.machine.Counting.{renewed}
+use Rattle.page_roff_language.specs.machine.Measures.{HasMeasure, AreOnLine, IsOnLine, IsFirst}
+use Rattle.page_roff_effects.specs.machine.Acting as acting
+use Rattle.page_roff_effects.specs.machine.Acting.{Acting, with_number, with_arguments, acting_effects, measured}
 use Rattle.page_roff_effects.specs.Effects.{in_front}
-use Rattle.page_roff_stack.specs.Changes.{page_line}
+use Rattle.page_roff_stack.specs.machine.Changes.{page_line}
 use Rattle.page_roff_effects.specs.States.{Memory, State, Given, says}
-use Rattle.page_roff_values.specs.Views.{units_of_bytes}
+use Rattle.page_roff_values.specs.machine.Views.{units_of_bytes}
 use Rattle.page_roff_effects.proofs.GivenLemmas.{is_front}
 use Rattle.page_roff_stack.specs.declared.next.Next.{Next}
 use Rattle.page_roff_stack.specs.declared.next.Next.TheVariants as things
-use Rattle.page_roff_stack.specs.Stacks.{Stack, first_stack, next_in, next_of, is_nothing, step_in, step_of}
+use Rattle.page_roff_stack.specs.machine.Stacks.{Stack, first_stack, next_in, next_of, is_nothing, step_in, step_of}
 use Rattle.page_roff_stack.proofs.StackLemmas.{next_steps}
 use Rattle.page_roff_machine.specs.Giving.{notes_before, next_line, after_line}
 use Rattle.page_roff_machine.specs.declared.runners.Runner.{Runner}
-use Rattle.page_roff_machine.specs.Machines.{Machine, output_of, language_of, running_of, outcome_of, is_idle, stands, begun_at, Begins, IsNew, Resumes}
-use Rattle.page_roff_machine.specs.Moving.{IsPassed}
-use Rattle.page_roff_machine.specs.Stepping.{machine_of, IsSound}
+use Rattle.page_roff_machine.specs.machine.Machines.{Machine, output_of, language_of, running_of, outcome_of, is_idle, stands, begun_at, Begins, IsNew, Resumes}
+use Rattle.page_roff_machine.specs.machine.Moving.{IsPassed}
+use Rattle.page_roff_machine.specs.machine.Stepping.{machine_of, IsSound}
 
 -- ---- after some messages
 

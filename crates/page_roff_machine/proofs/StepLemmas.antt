@@ -9,32 +9,32 @@ use Rattle.page_core_base.specs.Latches.{Came}
 use Rattle.page_roff_blocks.specs.Levels.{outside, at_line, after_part}
 use Rattle.page_roff_values.specs.Arguments.{arguments_in}
 use Rattle.page_roff_language.specs.Languages.{body, finish_at}
-use Rattle.page_roff_language.specs.Machine.{next, next_in, source_next, body_next, entered, at_part}
-use Rattle.page_roff_effects.specs.Acting.{acting_effects, measured}
+use Rattle.page_roff_language.specs.machine.Machine.{next, next_in, source_next, body_next, entered, at_part}
+use Rattle.page_roff_effects.specs.machine.Acting.{acting_effects, measured}
 use Rattle.page_roff_effects.specs.declared.commands.ProductKind.TheVariants as kinds
 use Rattle.page_roff_effects.specs.RegionLines.{finish_outcome}
-use Rattle.page_roff_stack.specs.Changes.{past}
+use Rattle.page_roff_stack.specs.machine.Changes.{past}
 use Rattle.page_roff_machine.specs.declared.budgeted_actions.BudgetedActions.{BudgetedActions}
 use Rattle.page_roff_machine.specs.declared.acts.Act.TheVariants as acts
 use Rattle.page_roff_machine.proofs.GoLemmas.{quiet_product, shifts_call}
-use Rattle.page_roff_language.specs.Measures.{measure, HasMeasure, HasBodyWithin, IsFirst, credit}
+use Rattle.page_roff_language.specs.machine.Measures.{measure, HasMeasure, HasBodyWithin, IsFirst, credit}
 use Rattle.page_roff_language.specs.Budgets.{Budgeted, language, with_rest}
-use Rattle.page_roff_language.specs.Fronts.{over}
+use Rattle.page_roff_language.specs.machine.Fronts.{over}
 use Rattle.page_roff_language.proofs.MeasureLemmas.{next_falls}
 use Rattle.page_roff_language.proofs.OnLineLemmas.{first_falls}
 use Rattle.page_roff_effects.specs.Effects.{effects, in_front}
 use Rattle.page_roff_effects.specs.States.{State, Given, says, takes}
 use Rattle.page_roff_stack.specs.declared.next.Next.TheVariants.{Nothing}
-use Rattle.page_roff_stack.specs.Stacks.{Stack, running, with_top, call_of, next_of, is_nothing, step_in}
+use Rattle.page_roff_stack.specs.machine.Stacks.{Stack, running, with_top, call_of, next_of, is_nothing, step_in}
 use Rattle.page_roff_machine.specs.declared.acts.Act.{Act}
 use Rattle.page_roff_machine.specs.declared.acts.Progress.{Progress}
 use Rattle.page_roff_machine.specs.declared.acts.Progress.TheVariants.{More, Line, Done}
 use Rattle.page_roff_machine.specs.declared.runners.Runner.{Runner}
-use Rattle.page_roff_machine.specs.Doing.{IsIn, output_of, state_in}
+use Rattle.page_roff_machine.specs.machine.Doing.{IsIn, output_of, state_in}
 use Rattle.page_roff_machine.specs.Giving.{notes_before, next_line, after_line}
-use Rattle.page_roff_machine.specs.Machines.{Machine, outcome_of, to_come, end_of, hushed, Advances}
-use Rattle.page_roff_machine.specs.Moving.{moved, reached_with, called, with_arguments_of, CanBegin, AreKept, frames_of, IsBodyWithin, IfDone, Suits, HUGE, Decides, Moves}
-use Rattle.page_roff_machine.specs.Stepping.{machine_of, IsMeasured, IsSound, Steps, StepsTwice, StepsOn, Leads}
+use Rattle.page_roff_machine.specs.machine.Machines.{Machine, outcome_of, to_come, end_of, hushed, Advances}
+use Rattle.page_roff_machine.specs.machine.Moving.{moved, reached_with, called, with_arguments_of, CanBegin, AreKept, frames_of, IsBodyWithin, IfDone, Suits, HUGE, Decides, Moves}
+use Rattle.page_roff_machine.specs.machine.Stepping.{machine_of, IsMeasured, IsSound, Steps, StepsTwice, StepsOn, Leads}
 use Rattle.page_roff_machine.proofs.ActLemmas.{step_next, is_nothing_next}
 use Rattle.page_roff_machine.proofs.DoingLemmas.{came_none, came_both, said}
 use Rattle.page_roff_machine.proofs.FrameLemmas.{same_source}

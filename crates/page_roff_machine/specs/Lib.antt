@@ -1,6 +1,2 @@
-pub mod AtOnce
-pub mod Doing
 pub mod Giving
-pub mod Machines
-pub mod Moving
-pub mod Stepping
+pub mod machine

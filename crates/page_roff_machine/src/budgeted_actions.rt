@@ -5,11 +5,11 @@ ghost use Rattle.page_core_limits.specs.declared.TheConstants.{LINE};
 ghost use Rattle.page_roff_blocks.specs.LineParts.{branch_view, loop_head_view, FitsBranch};
 ghost use Rattle.page_roff_regions.specs.Regions.{region_view};
 ghost use Rattle.page_roff_regions.specs.OpenRegions.{opened_view};
-ghost use Rattle.page_roff_machine.specs.Doing.{Does, Answers, Makes, IsAt, IsIn, HasRoom, state_after, line_after, done_as};
-ghost use Rattle.page_roff_machine.specs.Doing.{charged_in, begun_in, met_in, value_in, answer_in, region_in, leaf_in};
-ghost use Rattle.page_roff_machine.specs.Doing.{opened_in, closed_in, passed_in, kept_in, collected_in, turned_in};
-ghost use Rattle.page_roff_machine.specs.Doing.{read_in, read_kept_in, ended_in, ended_kept_in, unopened_in, finished_in};
-ghost use Rattle.page_roff_effects.specs.Acting.{IfCalled, IsCallable, IfRepeated, IsRepeatable};
+ghost use Rattle.page_roff_machine.specs.machine.Doing.{Does, Answers, Makes, IsAt, IsIn, HasRoom, state_after, line_after, done_as};
+ghost use Rattle.page_roff_machine.specs.machine.Doing.{charged_in, begun_in, met_in, value_in, answer_in, region_in, leaf_in};
+ghost use Rattle.page_roff_machine.specs.machine.Doing.{opened_in, closed_in, passed_in, kept_in, collected_in, turned_in};
+ghost use Rattle.page_roff_machine.specs.machine.Doing.{read_in, read_kept_in, ended_in, ended_kept_in, unopened_in, finished_in};
+ghost use Rattle.page_roff_effects.specs.machine.Acting.{IfCalled, IsCallable, IfRepeated, IsRepeatable};
 ghost use Rattle.page_roff_effects.specs.declared.commands.ProductKind.TheVariants as kinds;
 
 use page_core_base::NoteOut;

@@ -7,8 +7,8 @@ ghost use Rattle.page_core_limits.specs.declared.TheConstants.{ARGS, BODY, CALLS
 ghost use Rattle.page_roff_blocks.specs.Caps.{PlaceFits};
 ghost use Rattle.page_core_base.specs.Latches.{Came};
 ghost use Rattle.page_roff_effects.specs.Caps.{MemoryFits};
-ghost use Rattle.page_roff_machine.specs.Machines.{Advances, BeginsOrTakes, IsNew, Resumes, is_idle, end_memory, end_notes, place_of};
-ghost use Rattle.page_roff_machine.specs.Moving.{IsPassed};
+ghost use Rattle.page_roff_machine.specs.machine.Machines.{Advances, BeginsOrTakes, IsNew, Resumes, is_idle, end_memory, end_notes, place_of};
+ghost use Rattle.page_roff_machine.specs.machine.Moving.{IsPassed};
 
 use crate::budgeted_actions::BudgetedActions;
 use crate::runners::Runner;
@@ -29,11 +29,11 @@ pub struct Machine {
 }
 
 impl Model for Machine {
-    ghost use Rattle.page_roff_machine.specs.Machines.{Machine};
+    ghost use Rattle.page_roff_machine.specs.machine.Machines.{Machine};
 
     ghost Value = { Machine };
 
-    ghost use Rattle.page_roff_machine.specs.Stepping.{machine_of, IsSound};
+    ghost use Rattle.page_roff_machine.specs.machine.Stepping.{machine_of, IsSound};
 
     ghost view = { λ m. machine_of m.runner };
 

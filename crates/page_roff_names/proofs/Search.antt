@@ -10,7 +10,7 @@ use Rattle.std.specs.List.{insert, remove}
 use Rattle.std.proofs.lemmas.Cmp.{nat_list_cmp_total}
 use Rattle.page_roff_names.specs.Entries.{Entries, Definition, name_at, definition_at}
 use Rattle.page_roff_names.specs.Names.{by_bytes, look, put, without}
-use Rattle.page_roff_names.specs.Changes.{IsBelow, IsAbove}
+use Rattle.page_roff_names.specs.machine.Changes.{IsBelow, IsAbove}
 
 and_left : (a b : Bool) → T (a && b) → T a
 and_left true b p = tt

@@ -9,8 +9,8 @@ ghost use Rattle.page_roff_names.specs.Entries.{Definition, definition, size, na
 ghost use Rattle.page_roff_names.specs.Predefined.{predefined};
 ghost use Rattle.page_roff_names.specs.Names.{by_bytes, look, put, without, string_or, body_or_none};
 ghost use Rattle.page_roff_names.specs.Names.{first_passed, Lends};
-ghost use Rattle.page_roff_names.specs.Changes.{refusal_beside, Settles, RenamesBeside, IsKept};
-ghost use Rattle.page_roff_names.specs.Changes.{FoundAt, MissingAt, StandsAt};
+ghost use Rattle.page_roff_names.specs.machine.Changes.{refusal_beside, Settles, RenamesBeside, IsKept};
+ghost use Rattle.page_roff_names.specs.machine.Changes.{FoundAt, MissingAt, StandsAt};
 
 use crate::predefined::predefined;
 use crate::rows::{Meaning, Row, append};

@@ -30,7 +30,7 @@ impl Model for Names {
     ghost use Rattle.std.specs.Vec.{vec_capacity};
     ghost use Rattle.page_core_limits.specs.declared.TheConstants.{BODY};
     ghost use Rattle.page_roff_names.specs.Names.{Definitions, definitions};
-    ghost use Rattle.page_roff_names.specs.Changes.{IsStore};
+    ghost use Rattle.page_roff_names.specs.machine.Changes.{IsStore};
 
     ghost Value = { Definitions };
 

@@ -4,7 +4,7 @@ ghost use Rattle.std.specs.Prelude.{List, [], ◌∷◌, ◌++◌, length, take,
 ghost use Rattle.std.specs.List.{insert, remove};
 ghost use Rattle.std.specs.Vec.{vec_len, vec_capacity};
 ghost use Rattle.page_roff_names.specs.Entries.{Entries, size, name_at, definition_at, definition, with_meaning};
-ghost use Rattle.page_roff_names.specs.Layout.{extent, layout, relaid, marked};
+ghost use Rattle.page_roff_names.specs.machine.Layout.{extent, layout, relaid, marked};
 
 use page_core_limits::{DEFS, NAMES};
 use std::alloc::{AllocError, Global};
@@ -37,7 +37,7 @@ pub struct Row {
 impl Model for Row {
     ghost use Rattle.std.specs.Vec.{vec_capacity};
     ghost use Rattle.page_roff_names.specs.Entries.{Entries};
-    ghost use Rattle.page_roff_names.specs.Layout.{cut, IsLaid};
+    ghost use Rattle.page_roff_names.specs.machine.Layout.{cut, IsLaid};
 
     ghost Value = { Entries };
 

@@ -17,9 +17,9 @@ use Rattle.page_roff_effects.specs.States.{Given, says, takes, State, Memory, Ou
 use Rattle.page_roff_effects.proofs.CountLemmas.{spends}
 use Rattle.page_roff_machine.proofs.DoingLemmas.{head_plain, end_plain, finish_plain, loop_plain, collect_plain}
 use Rattle.page_roff_source.specs.Edges.{Edge, SourceLine, line_count}
-use Rattle.page_roff_source.specs.Taking.{before_line, run_line, line_given, line_done}
+use Rattle.page_roff_source.specs.machine.Taking.{before_line, run_line, line_given, line_done}
 use Rattle.page_roff_source.specs.Given.{done}
-use Rattle.page_roff_source.specs.LineByLine.{lines_done}
+use Rattle.page_roff_source.specs.machine.LineByLine.{lines_done}
 use Rattle.page_roff_source.specs.Each.{EachIsWithin}
 use Rattle.page_roff_source.proofs.LineLemmas.{done-idle}
 

@@ -2,9 +2,9 @@
 use Rattle.std.proofs.Common.{◌≡◌, List, [], ◌∷◌, ◌++◌, map, refl, ap, sym, ◌∙◌, append_assoc}
 use Rattle.page_roff_effects.specs.States.{Given, says}
 use Rattle.page_roff_source.specs.Edges.{Edge, SourceLine}
-use Rattle.page_roff_source.specs.Taking.{line_given, line_done}
+use Rattle.page_roff_source.specs.machine.Taking.{line_given, line_done}
 use Rattle.page_roff_source.specs.Given.{run_all, given, done}
-use Rattle.page_roff_source.specs.LineByLine.{lines_given, lines_done}
+use Rattle.page_roff_source.specs.machine.LineByLine.{lines_given, lines_done}
 use Rattle.page_roff_source.proofs.LineLemmas.{given-by_line, done-idle, idle}
 
 lines_done-append : (e : Edge) (above below : List SourceLine) → lines_done e (above ++ below) ≡ lines_done (lines_done e above) below

@@ -4,25 +4,25 @@ use Rattle.page_roff_regions.specs.Regions.{is_ending}
 use Rattle.page_roff_blocks.specs.Levels.{Levels, Place}
 use Rattle.page_roff_regions.specs.OpenRegions.{Opened}
 use Rattle.page_roff_blocks.specs.Run.{Meaning, At, after_head, each_line}
-use Rattle.page_roff_blocks.specs.Steps as steps
-use Rattle.page_roff_blocks.specs.Steps.{step_inside, step_from, step, step_lines}
+use Rattle.page_roff_blocks.specs.machine.Steps as steps
+use Rattle.page_roff_blocks.specs.machine.Steps.{step_inside, step_from, step, step_lines}
 use Rattle.page_roff_blocks.proofs.FoldLemmas.{run_is_steps}
 use Rattle.page_roff_blocks.proofs.HeadLemmas.{forest_is_each}
 use Rattle.page_core_limits.specs.declared.TheConstants.{CALLS, REREAD}
 use Rattle.page_roff_values.specs.Values.{units_of}
 use Rattle.page_roff_language.specs.Budgets.{Budgeted, Effects, language, meaning, begin_line, read_line, end_line}
 use Rattle.page_roff_language.specs.Languages.{page, meaning_by, meaning_at, run_page, run_page_lines}
-use Rattle.page_roff_language.specs.Machine.{at_page}
-use Rattle.page_roff_language.specs.Fronts.{over}
+use Rattle.page_roff_language.specs.machine.Machine.{at_page}
+use Rattle.page_roff_language.specs.machine.Fronts.{over}
 use Rattle.page_roff_language.proofs.FrontLemmas.{rest_front}
 use Rattle.page_roff_language.proofs.MachineLemmas.{page_law}
 use Rattle.page_roff_effects.specs.Effects.{effects, in_front}
 use Rattle.page_roff_effects.specs.States.{State, Given, says, Memory, numbered}
 use Rattle.page_roff_effects.proofs.GivenLemmas.{is_front}
 use Rattle.page_roff_source.specs.Edges.{Edge, SourceLine}
-use Rattle.page_roff_source.specs.Taking.{before_line, run_line, line_given, line_done}
+use Rattle.page_roff_source.specs.machine.Taking.{before_line, run_line, line_given, line_done}
 use Rattle.page_roff_source.specs.Given.{head_of, before_lines, run_all, given, done}
-use Rattle.page_roff_source.specs.LineByLine.{lines_given, lines_done, StandsAt}
+use Rattle.page_roff_source.specs.machine.LineByLine.{lines_given, lines_done, StandsAt}
 
 -- what is left of the budget of the line before, and whether that was given up, is forgotten
 module _ {R : Type 0} (e : Effects R) where

@@ -2,7 +2,7 @@
 use Rattle.std.proofs.Common.{◌≡◌, ℕ, List, ◌++◌, Option, None, Some, Result, Ok, Err, MatchResult}
 use Rattle.std.specs.Borrow.{GName}
 use Rattle.page_core_base.specs.Messages.{Message}
-use Rattle.page_core_base.specs.Plans.{Planned, Left, TookNotes, BrokeNotes}
+use Rattle.page_core_base.specs.machine.Plans.{Planned, Left, TookNotes, BrokeNotes}
 use Rattle.page_core_base.specs.Sinks.{IsSink}
 use Rattle.page_core_base.specs.declared.faults.Fault.{Fault}
 use Rattle.page_core_base.proofs.LatchLemmas as latches

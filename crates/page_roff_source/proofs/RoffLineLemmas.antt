@@ -9,30 +9,30 @@ use Rattle.page_roff_blocks.specs.Caps.{PlaceFits}
 use Rattle.page_roff_blocks.specs.Levels.{Place, at_line, outside, first_place}
 use Rattle.page_roff_blocks.specs.Run.{At}
 use Rattle.page_roff_language.specs.Languages.{run_page}
-use Rattle.page_roff_language.specs.Counting.{Budget}
-use Rattle.page_roff_language.specs.Machine.{next}
+use Rattle.page_roff_language.specs.machine.Counting.{Budget}
+use Rattle.page_roff_language.specs.machine.Machine.{next}
 use Rattle.page_roff_language.specs.Budgets.{Budgeted}
-use Rattle.page_roff_stack.specs.Stacks.{is_nothing}
-use Rattle.page_roff_stack.specs.Stacks as stack
+use Rattle.page_roff_stack.specs.machine.Stacks.{is_nothing}
+use Rattle.page_roff_stack.specs.machine.Stacks as stack
 use Rattle.page_roff_effects.specs.Caps.{MemoryFits}
 use Rattle.page_roff_effects.specs.RegionLines.{finish_outcome}
-use Rattle.page_roff_effects.specs.Acting.{ActingSetting}
+use Rattle.page_roff_effects.specs.machine.Acting.{ActingSetting}
 use Rattle.page_roff_effects.specs.States.{Given, State, Memory, takes, first_memory, numbered}
 use Rattle.page_roff_machine.specs.Giving.{next_line, after_line}
-use Rattle.page_roff_machine.specs.Machines.{Machine, output_of, language_of, outcome_of, to_come, end_of, place_of, stands, stands_after, begun_at, Begins, Takes, BeginsOrTakes, Advances, taken_if, IsIdleUnless, IsNew, Resumes}
-use Rattle.page_roff_machine.specs.Moving.{IsPassed}
-use Rattle.page_roff_machine.specs.Machines as machine
+use Rattle.page_roff_machine.specs.machine.Machines.{Machine, output_of, language_of, outcome_of, to_come, end_of, place_of, stands, stands_after, begun_at, Begins, Takes, BeginsOrTakes, Advances, taken_if, IsIdleUnless, IsNew, Resumes}
+use Rattle.page_roff_machine.specs.machine.Moving.{IsPassed}
+use Rattle.page_roff_machine.specs.machine.Machines as machine
 use Rattle.page_roff_machine.proofs.MachineLemmas.{idle_stands, new_idle, resumed_idle}
-use Rattle.page_roff_texts.specs.Texts.{HoldsTexts, AreGiven}
+use Rattle.page_roff_texts.specs.machine.Texts.{HoldsTexts, AreGiven}
 use Rattle.page_roff_texts.proofs.EffectTexts.{first_holds, finish_holds}
 use Rattle.page_roff_source.specs.declared.counts.Counts.{Counts}
 use Rattle.page_roff_source.specs.Caps.{RoffFits}
 use Rattle.page_roff_source.specs.Edges.{Edge, SourceLine, first_edge, counts_of, end_notes}
 use Rattle.page_roff_source.specs.Parts.{Part, IsPart, edge_at, part_of}
-use Rattle.page_roff_source.specs.Taking.{LinesState, before_line, run_line, line_begun, given_of, line_taken, left_if}
+use Rattle.page_roff_source.specs.machine.Taking.{LinesState, before_line, run_line, line_begun, given_of, line_taken, left_if}
 use Rattle.page_roff_source.specs.declared.roff_lines.Remaining.{Remaining}
 use Rattle.page_roff_source.specs.declared.roff_lines.Remaining.TheVariants as remaining
-use Rattle.page_roff_source.specs.RoffLines.{edge_of, state_of, given_by, begun_as, run_if, IsIdleAs, IsCounted, IsAtEdge, RunsOn}
+use Rattle.page_roff_source.specs.machine.RoffLines.{edge_of, state_of, given_by, begun_as, run_if, IsIdleAs, IsCounted, IsAtEdge, RunsOn}
 use Rattle.page_roff_source.proofs.CountLemmas.{taken_bound}
 use Rattle.page_roff_source.proofs.RoomLemmas.{done_room}
 use Rattle.page_roff_source.proofs.TextLemmas.{line_texts, runs_as, taken_is, taken_line}

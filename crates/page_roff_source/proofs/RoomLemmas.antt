@@ -5,7 +5,7 @@ use Rattle.page_roff_regions.specs.Regions.{is_ending}
 use Rattle.page_roff_blocks.specs.Levels.{Levels, at_line}
 use Rattle.page_roff_regions.specs.OpenRegions.{Opened}
 use Rattle.page_roff_blocks.specs.Run.{Meaning, At, run_lines}
-use Rattle.page_roff_blocks.specs.Steps.{begin_line, step_inside, step_from, step, step_lines}
+use Rattle.page_roff_blocks.specs.machine.Steps.{begin_line, step_inside, step_from, step, step_lines}
 use Rattle.page_roff_blocks.proofs.FoldLemmas.{run_is_steps}
 use Rattle.page_roff_blocks.proofs.RoomLemmas.{line_parts_room, step_room}
 use Rattle.page_roff_values.specs.Values.{units_of}
@@ -14,7 +14,7 @@ use Rattle.page_core_limits.specs.declared.TheConstants.{CALLS}
 use Rattle.page_roff_language.specs.Budgets.{language}
 use Rattle.page_roff_effects.specs.Effects.{effects}
 use Rattle.page_roff_source.specs.Edges.{Edge, SourceLine}
-use Rattle.page_roff_source.specs.Taking.{before_line, run_line, line_done}
+use Rattle.page_roff_source.specs.machine.Taking.{before_line, run_line, line_done}
 
 IsRoomy : {S : Type 0} → Levels → List ℕ → At S → Type 0
 IsRoomy l line a = a.place.levels.skipped ≤ l.skipped + (2 * length line + 2)

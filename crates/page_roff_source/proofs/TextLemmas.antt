@@ -4,20 +4,20 @@ use Rattle.page_core_base.specs.LinesTaken.{Line}
 use Rattle.std.proofs.lemmas.Str.{is_utf8-from_IsUtf8}
 use Rattle.page_core_base.specs.Texts.{IsLine}
 use Rattle.page_core_base.specs.declared.page_settings.Output.{Output}
-use Rattle.page_roff_values.specs.Texts.{MeasureAlike}
+use Rattle.page_roff_values.specs.machine.Texts.{MeasureAlike}
 use Rattle.page_roff_values.specs.Values.{units_of}
-use Rattle.page_roff_values.specs.Views.{units_of_bytes}
+use Rattle.page_roff_values.specs.machine.Views.{units_of_bytes}
 use Rattle.page_roff_language.specs.Budgets.{language}
 use Rattle.page_roff_language.specs.Languages.{run_page}
-use Rattle.page_roff_effects.specs.Acting.{acting_effects}
+use Rattle.page_roff_effects.specs.machine.Acting.{acting_effects}
 use Rattle.page_roff_effects.specs.States.{Given, says, takes}
 use Rattle.page_roff_machine.specs.Giving.{next_line, after_line}
-use Rattle.page_roff_machine.specs.Machines.{taken_if}
-use Rattle.page_roff_texts.specs.Texts.{HoldsTexts, AreGiven}
+use Rattle.page_roff_machine.specs.machine.Machines.{taken_if}
+use Rattle.page_roff_texts.specs.machine.Texts.{HoldsTexts, AreGiven}
 use Rattle.page_roff_texts.proofs.AlikeTexts.{page_alike}
 use Rattle.page_roff_texts.proofs.EffectTexts.{HoldsState, page_texts}
 use Rattle.page_roff_source.specs.Edges.{Edge, SourceLine}
-use Rattle.page_roff_source.specs.Taking.{before_line, run_line, given_of, line_taken, left_if}
+use Rattle.page_roff_source.specs.machine.Taking.{before_line, run_line, given_of, line_taken, left_if}
 
 -- of a line it gives lines, and what is remembered stays text
 pub line_texts : (e : Edge) (line : SourceLine) → HoldsTexts e.memory → IsLine line.text → HoldsState (run_line e line).state.rest

@@ -2,8 +2,6 @@ pub mod Caps
 pub mod Edges
 pub mod Fuses
 pub mod Given
-pub mod LineByLine
 pub mod Each
-pub mod RoffLines
-pub mod Taking
 pub mod Parts
+pub mod machine

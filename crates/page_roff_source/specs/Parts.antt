@@ -4,8 +4,8 @@ use Rattle.page_core_base.specs.declared.page_settings.Output.{Output}
 use Rattle.page_core_limits.specs.declared.TheConstants.{LINE, REREAD}
 use Rattle.page_roff_blocks.specs.Levels.{Place}
 use Rattle.page_roff_effects.specs.States.{Memory}
-use Rattle.page_roff_machine.specs.Moving.{IsPassed}
-use Rattle.page_roff_texts.specs.Texts.{HoldsTexts}
+use Rattle.page_roff_machine.specs.machine.Moving.{IsPassed}
+use Rattle.page_roff_texts.specs.machine.Texts.{HoldsTexts}
 use Rattle.page_roff_source.specs.Edges.{Edge}
 
 -- where the page stands, in a region and in blocks; what is remembered; how many source lines came, and how many lines were taken of them

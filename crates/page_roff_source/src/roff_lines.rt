@@ -10,9 +10,9 @@ ghost use Rattle.page_core_base.specs.Latches.{Came};
 ghost use Rattle.page_roff_machine.specs.Giving.{notes_before, next_line};
 ghost use Rattle.page_roff_source.specs.Caps.{RoffFits, RunsWithin};
 ghost use Rattle.page_roff_source.specs.Edges.{first_edge, end_notes, counts_of};
-ghost use Rattle.page_roff_source.specs.Taking.{line_begun, given_of, line_taken, is_idle};
+ghost use Rattle.page_roff_source.specs.machine.Taking.{line_begun, given_of, line_taken, is_idle};
 ghost use Rattle.page_roff_source.specs.Parts.{edge_at, part_of};
-ghost use Rattle.page_roff_source.specs.RoffLines.{RunsOn, begun_as, run_if};
+ghost use Rattle.page_roff_source.specs.machine.RoffLines.{RunsOn, begun_as, run_if};
 
 use crate::counts::Counts;
 use crate::parts::RoffPart;
@@ -68,11 +68,11 @@ pub struct RoffLines {
 }
 
 impl Model for RoffLines {
-    ghost use Rattle.page_roff_source.specs.Taking.{LinesState};
+    ghost use Rattle.page_roff_source.specs.machine.Taking.{LinesState};
 
     ghost Value = { LinesState };
 
-    ghost use Rattle.page_roff_source.specs.RoffLines.{state_of, IsAtEdge};
+    ghost use Rattle.page_roff_source.specs.machine.RoffLines.{state_of, IsAtEdge};
 
     ghost view = { λ l. state_of l.machine l.source l.remaining };
 

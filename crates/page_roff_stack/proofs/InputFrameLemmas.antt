@@ -10,21 +10,21 @@ use Rattle.page_roff_blocks.specs.declared.block_cursors.Pass.{Pass}
 use Rattle.page_roff_blocks.specs.declared.block_cursors.Pass.TheVariants as passes
 use Rattle.page_roff_blocks.specs.Levels.{BlockCursor, at_line, after_part, way_of, open_loop, skip, passed}
 use Rattle.page_roff_regions.specs.OpenRegions.{Opened}
-use Rattle.page_roff_blocks.specs.LinePlaces.{parts_at, line_end, is_at_end, IsPlaceIn}
+use Rattle.page_roff_blocks.specs.machine.LinePlaces.{parts_at, line_end, is_at_end, IsPlaceIn}
 use Rattle.page_roff_blocks.proofs.LinePartLemmas.{line_parts_cons}
 use Rattle.page_roff_blocks.proofs.RoomLemmas.{line_parts_room, enter_room, leave_room}
-use Rattle.page_roff_language.specs.Machine.{Frame, at_part}
-use Rattle.page_roff_language.specs.Measures.{weight, work_in}
+use Rattle.page_roff_language.specs.machine.Machine.{Frame, at_part}
+use Rattle.page_roff_language.specs.machine.Measures.{weight, work_in}
 use Rattle.page_roff_stack.specs.declared.input_frames.InputFrame.{InputFrame}
 use Rattle.page_roff_stack.specs.declared.source_kinds.SourceKind.{SourceKind}
 use Rattle.page_roff_stack.specs.declared.source_kinds.SourceKind.TheVariants as sources
 use Rattle.page_roff_stack.specs.declared.spans.Span.{Span}
 use Rattle.page_roff_values.specs.Arguments.{lines_in}
-use Rattle.page_roff_stack.specs.Ahead.{IsAfter}
-use Rattle.page_roff_stack.specs.Changes.{past, in_region, next_line, first_line_parts, begins_next, begins_line, ends_with, is_over, HasPart, IfEnters, AreShort, IsBounded}
-use Rattle.page_roff_stack.specs.Held.{span_text, only_line, AreLinesOf, IsSpanIn, IsFirstLine}
-use Rattle.page_roff_stack.specs.InputFrames.{frame_of, IsHeld}
-use Rattle.page_roff_stack.specs.Views.{parts_view, IsNextLine}
+use Rattle.page_roff_stack.specs.machine.Ahead.{IsAfter}
+use Rattle.page_roff_stack.specs.machine.Changes.{past, in_region, next_line, first_line_parts, begins_next, begins_line, ends_with, is_over, HasPart, IfEnters, AreShort, IsBounded}
+use Rattle.page_roff_stack.specs.machine.Held.{span_text, only_line, AreLinesOf, IsSpanIn, IsFirstLine}
+use Rattle.page_roff_stack.specs.machine.InputFrames.{frame_of, IsHeld}
+use Rattle.page_roff_stack.specs.machine.Views.{parts_view, IsNextLine}
 use Rattle.page_roff_stack.proofs.LineLemmas.{span_len, some_line, no_lines}
 
 -- ---- a part is read

@@ -10,18 +10,18 @@ use Rattle.std.proofs.lemmas.List.Elements.{All-nil, All-cons}
 use Rattle.std.proofs.lemmas.List.Sums.{sum_by-le}
 use Rattle.page_core_limits.specs.declared.TheConstants.{ARGS, BODY, CALLS, LINE}
 use Rattle.page_roff_language.specs.Languages.{body, is_some}
-use Rattle.page_roff_language.specs.Machine.{Frame, Turning, at_part, depth, entered, looped, turned}
+use Rattle.page_roff_language.specs.machine.Machine.{Frame, Turning, at_part, depth, entered, looped, turned}
 use Rattle.page_roff_values.specs.Arguments.{arguments_in, lines_in}
 use Rattle.page_roff_stack.specs.declared.input_stacks.Caller.{Caller}
 use Rattle.page_roff_stack.specs.declared.input_stacks.InputStack.TheInside.{Inside}
 use Rattle.page_roff_stack.specs.declared.input_frames.InputFrame.{InputFrame}
 use Rattle.page_roff_stack.specs.declared.movements.Movement.{Movement}
 use Rattle.page_roff_stack.specs.declared.movements.Movement.TheVariants as moves
-use Rattle.page_roff_stack.specs.Changes.{page_line, in_turn_of, is_page, went}
-use Rattle.page_roff_stack.specs.InputStacks.{frames_in, stack_of, room_for, texts_in, AreHeld, IsStack}
-use Rattle.page_roff_stack.specs.InputFrames.{frame_of, IsHeld}
-use Rattle.page_roff_stack.specs.Stacks.{Stack, first_text, call_of, loop_of}
-use Rattle.page_roff_stack.specs.Views.{packed_text, unpacked}
+use Rattle.page_roff_stack.specs.machine.Changes.{page_line, in_turn_of, is_page, went}
+use Rattle.page_roff_stack.specs.machine.InputStacks.{frames_in, stack_of, room_for, texts_in, AreHeld, IsStack}
+use Rattle.page_roff_stack.specs.machine.InputFrames.{frame_of, IsHeld}
+use Rattle.page_roff_stack.specs.machine.Stacks.{Stack, first_text, call_of, loop_of}
+use Rattle.page_roff_stack.specs.machine.Views.{packed_text, unpacked}
 
 turn_kind_of : (turning : Option Turning) (f : Frame) → (in_turn_of turning f).kind ≡ f.kind
 unfolding turned

@@ -7,10 +7,10 @@ use Rattle.page_core_base.specs.Texts.{has_no_control, is_no_control}
 use Rattle.page_core_limits.specs.declared.TheConstants.{LINE}
 use Rattle.page_roff_values.specs.Arguments.{begin_first, arguments_in, lines_in}
 use Rattle.page_roff_values.proofs.ArgumentLemmas.{last_of}
-use Rattle.page_roff_language.specs.Measures.{weight}
+use Rattle.page_roff_language.specs.machine.Measures.{weight}
 use Rattle.page_roff_stack.specs.declared.spans.Span.{Span}
-use Rattle.page_roff_stack.specs.Changes.{AreShort}
-use Rattle.page_roff_stack.specs.Held.{span_text, only_line, IsSpanIn, IsFirstLine}
+use Rattle.page_roff_stack.specs.machine.Changes.{AreShort}
+use Rattle.page_roff_stack.specs.machine.Held.{span_text, only_line, IsSpanIn, IsFirstLine}
 
 -- ---- a text without a line feed is one line, unless it is empty
 

@@ -5,18 +5,18 @@ use Rattle.page_core_base.specs.Texts.{IsLine}
 use Rattle.page_core_limits.specs.declared.TheConstants.{BODY, LINE}
 use Rattle.page_roff_blocks.specs.Levels.{BlockCursor, at_line, outside}
 use Rattle.page_roff_regions.specs.OpenRegions.{Opened}
-use Rattle.page_roff_blocks.specs.LinePlaces.{line_end}
+use Rattle.page_roff_blocks.specs.machine.LinePlaces.{line_end}
 use Rattle.page_roff_language.specs.Languages.{Kind, page, body, inner, TURNS}
-use Rattle.page_roff_language.specs.Machine.{Frame, Turning, entered, looped}
-use Rattle.page_roff_language.specs.Measures.{weight, work_in}
+use Rattle.page_roff_language.specs.machine.Machine.{Frame, Turning, entered, looped}
+use Rattle.page_roff_language.specs.machine.Measures.{weight, work_in}
 use Rattle.page_roff_values.specs.Arguments.{arguments_in, lines_in}
 use Rattle.page_roff_stack.specs.declared.input_frames.InputFrame.{InputFrame}
 use Rattle.page_roff_stack.specs.declared.source_kinds.SourceKind.{SourceKind}
 use Rattle.page_roff_stack.specs.declared.source_kinds.SourceKind.TheVariants as sources
 use Rattle.page_roff_stack.specs.declared.spans.Span.{Span}
-use Rattle.page_roff_stack.specs.Changes.{IsBounded}
-use Rattle.page_roff_stack.specs.Held.{kind_in, only_line, turning_in, AreArgumentsIn, AreLinesOf, AreTurnsIn}
-use Rattle.page_roff_stack.specs.InputFrames.{frame_of, IsHeld}
+use Rattle.page_roff_stack.specs.machine.Changes.{IsBounded}
+use Rattle.page_roff_stack.specs.machine.Held.{kind_in, only_line, turning_in, AreArgumentsIn, AreLinesOf, AreTurnsIn}
+use Rattle.page_roff_stack.specs.machine.InputFrames.{frame_of, IsHeld}
 use Rattle.page_roff_stack.proofs.LineLemmas.{lines_short, lines_weight, no_text, page_line_in}
 
 abbrev pub span : ℕ → ℕ → Span

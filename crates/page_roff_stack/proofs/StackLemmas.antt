@@ -4,14 +4,14 @@ use Rattle.page_roff_blocks.specs.declared.line_parts.LinePart.{LinePart}
 use Rattle.page_roff_regions.specs.OpenRegions.{Opened}
 use Rattle.page_roff_blocks.specs.Run.{Meaning}
 use Rattle.page_roff_language.specs.Languages.{arguments_of, Kind, page, body, inner, Language, meaning_at}
-use Rattle.page_roff_language.specs.Machine as machine
-use Rattle.page_roff_language.specs.Machine.{Frame, Turning, depth, looped}
+use Rattle.page_roff_language.specs.machine.Machine as machine
+use Rattle.page_roff_language.specs.machine.Machine.{Frame, Turning, depth, looped}
 use Rattle.page_roff_blocks.specs.declared.block_cursors.Pass.TheVariants as passes
 use Rattle.page_roff_stack.specs.declared.movements.Movement.{Movement}
 use Rattle.page_roff_stack.specs.declared.movements.Movement.TheVariants as moves
-use Rattle.page_roff_stack.specs.Changes.{is_page, begins_next, ends_with, MayGo}
-use Rattle.page_roff_stack.specs.Stacks.{Stack, running, has_begun, turn_left, turn_in, turn_or_end, next_around, next_in, next_of, is_part, is_line, may_end, is_nothing, AreStacked, Suits, end_of, turn_if, step_in, step_of}
-use Rattle.page_roff_stack.specs.Views.{unpacked}
+use Rattle.page_roff_stack.specs.machine.Changes.{is_page, begins_next, ends_with, MayGo}
+use Rattle.page_roff_stack.specs.machine.Stacks.{Stack, running, has_begun, turn_left, turn_in, turn_or_end, next_around, next_in, next_of, is_part, is_line, may_end, is_nothing, AreStacked, Suits, end_of, turn_if, step_in, step_of}
+use Rattle.page_roff_stack.specs.machine.Views.{unpacked}
 
 turn_step : {S : Type 0} (l : Language S) (t : Turning) (n : ℕ) (b : Bool) (f g : Frame) (gs : List Frame) (s : S) → f.turning ≡ Some t → t.left ≡ suc n
     → Some (machine.turn_if l b f.kind t n g gs s) ≡ turn_if b f (g ∷ gs) s

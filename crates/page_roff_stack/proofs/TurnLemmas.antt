@@ -6,19 +6,19 @@ use Rattle.std.proofs.lemmas.Bool.Decides.{nat_tests}
 use Rattle.page_core_limits.specs.declared.TheConstants.{BODY}
 use Rattle.page_roff_blocks.specs.declared.line_places.LinePlace.{LinePlace}
 use Rattle.page_roff_blocks.specs.Levels.{BlockCursor, at_line, outside}
-use Rattle.page_roff_blocks.specs.LinePlaces.{line_end}
-use Rattle.page_roff_language.specs.Machine.{Frame, turned}
-use Rattle.page_roff_language.specs.Measures.{work_in}
+use Rattle.page_roff_blocks.specs.machine.LinePlaces.{line_end}
+use Rattle.page_roff_language.specs.machine.Machine.{Frame, turned}
+use Rattle.page_roff_language.specs.machine.Measures.{work_in}
 use Rattle.page_roff_values.specs.Arguments.{lines_in}
 use Rattle.page_roff_stack.specs.declared.input_frames.InputFrame.{InputFrame}
 use Rattle.page_roff_stack.specs.declared.source_kinds.SourceKind.{SourceKind}
 use Rattle.page_roff_stack.specs.declared.source_kinds.SourceKind.TheVariants as sources
 use Rattle.page_roff_stack.specs.declared.spans.Span.{Span}
 use Rattle.page_roff_stack.specs.declared.turns.Turns.{Turns}
-use Rattle.page_roff_stack.specs.Changes.{in_turn, IsBounded}
-use Rattle.page_roff_stack.specs.Held.{span_text, IsFirstLine, IsSpanIn, IsCut, AreTurns, AreTurnsIn}
-use Rattle.page_roff_stack.specs.InputFrames.{frame_of, IsHeld}
-use Rattle.page_roff_stack.specs.Stacks.{first_text}
+use Rattle.page_roff_stack.specs.machine.Changes.{in_turn, IsBounded}
+use Rattle.page_roff_stack.specs.machine.Held.{span_text, IsFirstLine, IsSpanIn, IsCut, AreTurns, AreTurnsIn}
+use Rattle.page_roff_stack.specs.machine.InputFrames.{frame_of, IsHeld}
+use Rattle.page_roff_stack.specs.machine.Stacks.{first_text}
 use Rattle.page_roff_stack.proofs.LineLemmas.{lines_short, lines_weight, some_line, span_len}
 
 abbrev pub after_begin : Turns → Turns

@@ -1,7 +1,1 @@
-pub mod Ahead
-pub mod Changes
-pub mod Held
-pub mod InputStacks
-pub mod InputFrames
-pub mod Stacks
-pub mod Views
+pub mod machine

@@ -3,9 +3,9 @@
 ghost use Rattle.std.specs.Prelude.{◌≡◌, ◌≤◌, length, take, IfSome};
 ghost use Rattle.page_core_limits.specs.declared.TheConstants.{LINE};
 ghost use Rattle.page_roff_blocks.specs.LineParts.{line_part_view, FitsLinePart};
-ghost use Rattle.page_roff_blocks.specs.LinePlaces.{parts_at, IsPlaceIn};
-ghost use Rattle.page_roff_stack.specs.Ahead.{IsAfter, IsAfterIn};
-ghost use Rattle.page_roff_stack.specs.Views.{parts_view};
+ghost use Rattle.page_roff_blocks.specs.machine.LinePlaces.{parts_at, IsPlaceIn};
+ghost use Rattle.page_roff_stack.specs.machine.Ahead.{IsAfter, IsAfterIn};
+ghost use Rattle.page_roff_stack.specs.machine.Views.{parts_view};
 
 use page_roff_blocks::{LinePart, LinePlace};
 

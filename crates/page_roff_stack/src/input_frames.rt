@@ -7,18 +7,18 @@ ghost use Rattle.page_core_limits.specs.declared.TheConstants.{ARGS, BODY, LINE}
 ghost use Rattle.page_roff_blocks.specs.declared.line_parts.LinePart.TheVariants.{Leaf};
 ghost use Rattle.page_roff_blocks.specs.LineParts.{line_part_view, FitsLinePart};
 ghost use Rattle.page_roff_blocks.specs.Caps.{PlaceFits};
-ghost use Rattle.page_roff_blocks.specs.LinePlaces.{opens_block};
+ghost use Rattle.page_roff_blocks.specs.machine.LinePlaces.{opens_block};
 ghost use Rattle.page_roff_blocks.specs.Levels.{passed};
 ghost use Rattle.page_roff_regions.specs.OpenRegions.{opened_view};
 ghost use Rattle.page_roff_regions.specs.Regions.{text_view};
 ghost use Rattle.page_roff_language.specs.Languages.{arguments_of, page, body};
-ghost use Rattle.page_roff_language.specs.Machine.{entered, looped};
+ghost use Rattle.page_roff_language.specs.machine.Machine.{entered, looped};
 ghost use Rattle.page_roff_values.specs.Arguments.{arguments_in, lines_in};
-ghost use Rattle.page_roff_stack.specs.Changes.{first_frame, page_at, page_line, past, first_region, in_region, next_line, in_turn, first_line_parts, is_page, begins_line, is_over, went, HasPart, IfEnters, MayGo};
-ghost use Rattle.page_roff_stack.specs.Held.{span_text, kind_in, arguments_at, turning_in, AreArgumentsAt, AreLinesOf, IsSpanIn, IsFirstLine, IsCut};
-ghost use Rattle.page_roff_stack.specs.InputFrames.{frame_of, IsHeld};
-ghost use Rattle.page_roff_stack.specs.Stacks.{first_text, turn_in, has_begun};
-ghost use Rattle.page_roff_stack.specs.Views.{parts_view, packed_text, unpacked, IsNextLine};
+ghost use Rattle.page_roff_stack.specs.machine.Changes.{first_frame, page_at, page_line, past, first_region, in_region, next_line, in_turn, first_line_parts, is_page, begins_line, is_over, went, HasPart, IfEnters, MayGo};
+ghost use Rattle.page_roff_stack.specs.machine.Held.{span_text, kind_in, arguments_at, turning_in, AreArgumentsAt, AreLinesOf, IsSpanIn, IsFirstLine, IsCut};
+ghost use Rattle.page_roff_stack.specs.machine.InputFrames.{frame_of, IsHeld};
+ghost use Rattle.page_roff_stack.specs.machine.Stacks.{first_text, turn_in, has_begun};
+ghost use Rattle.page_roff_stack.specs.machine.Views.{parts_view, packed_text, unpacked, IsNextLine};
 
 use crate::ahead::{place_past, read_ahead};
 use crate::movements::Movement;

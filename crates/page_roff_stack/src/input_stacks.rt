@@ -12,10 +12,10 @@ ghost use Rattle.page_roff_blocks.specs.Levels.{reached};
 ghost use Rattle.page_roff_regions.specs.OpenRegions.{opened_view};
 ghost use Rattle.page_roff_regions.specs.Regions.{text_view};
 ghost use Rattle.page_roff_language.specs.Languages.{arguments_of, is_some};
-ghost use Rattle.page_roff_language.specs.Machine.{depth};
-ghost use Rattle.page_roff_stack.specs.Changes.{page_line, is_page, went};
-ghost use Rattle.page_roff_stack.specs.Stacks.{first_stack, stack_at, standing_of, with_top, call_of, loop_of, next_around, next_of, part_in, opens_block, is_line, may_end, is_nothing, Suits};
-ghost use Rattle.page_roff_stack.specs.Views.{packed_text, unpacked, next_view, FitsNext};
+ghost use Rattle.page_roff_language.specs.machine.Machine.{depth};
+ghost use Rattle.page_roff_stack.specs.machine.Changes.{page_line, is_page, went};
+ghost use Rattle.page_roff_stack.specs.machine.Stacks.{first_stack, stack_at, standing_of, with_top, call_of, loop_of, next_around, next_of, part_in, opens_block, is_line, may_end, is_nothing, Suits};
+ghost use Rattle.page_roff_stack.specs.machine.Views.{packed_text, unpacked, next_view, FitsNext};
 
 use crate::input_frames::InputFrame;
 use crate::movements::Movement;
@@ -50,11 +50,11 @@ pub struct InputStack {
 const TEXT: usize = LINE + 1 + (BODY + ARGS) * CALLS;
 
 impl Model for InputStack {
-    ghost use Rattle.page_roff_stack.specs.Stacks.{Stack};
+    ghost use Rattle.page_roff_stack.specs.machine.Stacks.{Stack};
 
     ghost Value = { Stack };
 
-    ghost use Rattle.page_roff_stack.specs.InputStacks.{stack_of, IsStack};
+    ghost use Rattle.page_roff_stack.specs.machine.InputStacks.{stack_of, IsStack};
 
     ghost view = { stack_of };
 

@@ -2,8 +2,8 @@
 
 ghost use Rattle.std.specs.Prelude.{◌≡◌};
 ghost use Rattle.page_roff_language.specs.Languages.{Language};
-ghost use Rattle.page_roff_language.specs.Machine.{next};
-ghost use Rattle.page_roff_stack.specs.Stacks.{Stack, running, next_of, step_of};
+ghost use Rattle.page_roff_language.specs.machine.Machine.{next};
+ghost use Rattle.page_roff_stack.specs.machine.Stacks.{Stack, running, next_of, step_of};
 
 /// What comes next says which step of the machine is made.
 pub fn stack_law<S>()

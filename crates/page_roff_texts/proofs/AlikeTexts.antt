@@ -12,7 +12,7 @@ use Rattle.page_roff_heads.specs.Conditions.{condition_of}
 use Rattle.page_roff_heads.specs.declared.conditions.Condition.{Condition}
 use Rattle.page_roff_requests.specs.declared.regions.RegionKind.{RegionKind}
 use Rattle.page_roff_requests.specs.declared.regions.RegionKind.TheVariants.{Define, Append, Ignore, Table, Equation, Picture}
-use Rattle.page_roff_values.specs.Texts.{MeasureAlike}
+use Rattle.page_roff_values.specs.machine.Texts.{MeasureAlike}
 use Rattle.page_roff_values.specs.Values.{Laid, expanded, start, NEST}
 use Rattle.page_roff_values.proofs.AlikeLemmas.{value_alike}
 use Rattle.page_roff_language.specs.Budgets.{Budgeted, language}
@@ -23,7 +23,7 @@ use Rattle.page_roff_effects.specs.Effects.{effects, setting_of, answer_of, test
 use Rattle.page_roff_effects.specs.Leaves.{ControlLine, after_expansion, does, command_outcome, control_line, control_outcome, form_outcome, leaf_outcome}
 use Rattle.page_roff_effects.specs.RegionLines.{longer, body_outcome, kind_outcome, line_outcome}
 use Rattle.page_roff_effects.specs.States.{Memory, State, surroundings, gives_line, nothing, after}
-use Rattle.page_roff_texts.specs.Texts.{AreLines, HoldsTexts}
+use Rattle.page_roff_texts.specs.machine.Texts.{AreLines, HoldsTexts}
 use Rattle.page_roff_texts.proofs.LinePartTexts.{line_leaves, loop_texts, line_tests}
 use Rattle.page_roff_texts.proofs.BodyTexts.{such}
 use Rattle.page_roff_texts.proofs.ConditionTexts.{IsTextCondition, condition_texts}

@@ -9,7 +9,7 @@ use Rattle.std.proofs.lemmas.List.{length-take-le}
 use Rattle.page_roff_forms.specs.Arguments.{is_blank, bare_len, quoted_len, quoting_of, is_quoted, quoted_argument, bare_argument, argument_len as first_len, first_arguments, arguments, unpaired, argument_value}
 use Rattle.page_roff_forms.specs.declared.quotes.Argument.{Argument}
 use Rattle.page_roff_forms.specs.declared.quotes.Quoting.TheVariants.{Closed, Unclosed}
-use Rattle.page_roff_values.specs.Texts.{IsText}
+use Rattle.page_roff_values.specs.machine.Texts.{IsText}
 use Rattle.page_roff_values.proofs.PlainTexts.{text_append, text_cut, text_after}
 use Rattle.page_roff_definitions.specs.Arguments.{closing_len, end_of, after_blanks, without_quote, value_after}
 use Rattle.page_roff_texts.proofs.Cuts.{CutsAt, end_cut, past_ascii, IsStop, stop_cut, stop_later, stop_start, after_ascii, prefix_cut, byte_low, blank_low}

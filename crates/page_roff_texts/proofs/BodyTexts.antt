@@ -5,11 +5,11 @@ use Rattle.page_core_base.specs.Texts.{IsLine, is_no_control, has_no_control}
 use Rattle.page_roff_forms.specs.declared.quotes.Argument.{Argument}
 use Rattle.page_roff_language.proofs.KeepLemmas.{AreSuch}
 use Rattle.page_roff_values.specs.Arguments.{arguments_in, lines_in}
-use Rattle.page_roff_values.specs.Texts.{AreTexts}
+use Rattle.page_roff_values.specs.machine.Texts.{AreTexts}
 use Rattle.page_roff_buffers.specs.Calls.{with_line, packed}
 use Rattle.page_roff_forms.specs.Arguments.{argument_value}
 use Rattle.page_roff_effects.specs.LoopLines.{first_line, condition_in, body_in}
-use Rattle.page_roff_texts.specs.Texts.{ended, AreLines, IsBody, IsPacked}
+use Rattle.page_roff_texts.specs.machine.Texts.{ended, AreLines, IsBody, IsPacked}
 use Rattle.page_roff_texts.proofs.ArgumentTexts.{AreArguments, argument_text}
 use Rattle.page_roff_texts.proofs.Cuts.{nil_line}
 

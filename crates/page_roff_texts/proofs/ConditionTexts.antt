@@ -10,7 +10,7 @@ use Rattle.page_roff_heads.specs.Conditions.{is_among, is_letter, begins_express
 use Rattle.page_roff_heads.specs.Delimiters.{delimiter_len, delimiter_of, place_of, expression_len}
 use Rattle.page_roff_heads.specs.Heads.{conditional_of}
 use Rattle.page_roff_heads.specs.Texts.{blank_len, after_blanks}
-use Rattle.page_roff_values.specs.Texts.{IsText}
+use Rattle.page_roff_values.specs.machine.Texts.{IsText}
 use Rattle.page_roff_values.proofs.PartTexts.{taken}
 use Rattle.page_roff_values.proofs.PlainTexts.{text_cut}
 use Rattle.page_roff_texts.proofs.Cuts.{stop_cut, prefix_cut, byte_low, text_of}

@@ -11,7 +11,7 @@ use Rattle.page_core_base.specs.Texts.{IsLine}
 pub use Rattle.page_core_escapes.proofs.Characters.{CutsAt, CutsAt-boundary, CutsAt-add, CutsAt-ascii}
 use Rattle.page_roff_forms.specs.Arguments.{is_blank}
 use Rattle.page_roff_forms.specs.LineForms.{is_white, is_name}
-use Rattle.page_roff_values.specs.Texts.{IsText}
+use Rattle.page_roff_values.specs.machine.Texts.{IsText}
 use Rattle.page_roff_values.proofs.PlainTexts.{nil_text, text_cut}
 
 pub start_cut : (t : List ℕ) → IsUtf8 t → CutsAt t 0

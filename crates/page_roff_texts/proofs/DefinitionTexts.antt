@@ -19,12 +19,12 @@ use Rattle.page_roff_names.specs.Names.{Definitions, by_bytes, look, put, withou
 use Rattle.page_roff_names.specs.Predefined.{predefined_strings, predefined}
 use Rattle.page_roff_requests.specs.declared.requests.DefinitionRequest.{DefinitionRequest}
 use Rattle.page_roff_requests.specs.declared.requests.DefinitionRequest.TheVariants.{DefineString, AppendString, SetRegister, Remove, Rename, RemoveRegisters}
-use Rattle.page_roff_values.specs.Texts.{IsText}
+use Rattle.page_roff_values.specs.machine.Texts.{IsText}
 use Rattle.page_roff_values.proofs.PlainTexts.{nil_text, ascii_text, text_append}
 use Rattle.page_roff_definitions.specs.Arguments.{first_text, value_after}
 use Rattle.page_roff_definitions.specs.Definitions.{Outcome, outcome, settled, settles, renames_found, removes, removes_registers, is_read_only, next_number, sets_register, if_named, nr, rn, ds, as_request, does, outcome_of}
 use Rattle.page_roff_effects.specs.Commands.{within_limit, called_body}
-use Rattle.page_roff_texts.specs.Texts.{IsBody, IsValue, AreEntries, IsBodyIfSome}
+use Rattle.page_roff_texts.specs.machine.Texts.{IsBody, IsValue, AreEntries, IsBodyIfSome}
 use Rattle.page_roff_texts.proofs.ArgumentTexts.{HasFirst, arguments_first, value_after_text}
 use Rattle.page_roff_texts.proofs.BodyTexts.{no_body}
 

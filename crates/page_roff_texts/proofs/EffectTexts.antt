@@ -22,8 +22,8 @@ use Rattle.page_roff_requests.specs.Requests.{request_of}
 use Rattle.page_roff_requests.specs.declared.requests.Request.{Request}
 use Rattle.page_roff_requests.specs.declared.requests.Request.TheVariants as requests
 use Rattle.page_roff_values.specs.Environments.{Surroundings}
-use Rattle.page_roff_values.specs.Texts.{IsText, AreArgumentTexts}
-use Rattle.page_roff_values.specs.Texts as environments
+use Rattle.page_roff_values.specs.machine.Texts.{IsText, AreArgumentTexts}
+use Rattle.page_roff_values.specs.machine.Texts as environments
 use Rattle.page_roff_values.specs.Values.{expanded, start, NEST}
 use Rattle.page_roff_values.proofs.GrowLemmas.{finished_front}
 use Rattle.page_roff_values.proofs.LineLemmas.{value_within}
@@ -40,7 +40,7 @@ use Rattle.page_roff_effects.specs.Leaves.{call_if, ControlLine, rest_of, rest_c
 use Rattle.page_roff_effects.specs.RegionLines.{first_body, body_begun, head_outcome, longer_if, longer, body_outcome, kind_outcome, line_outcome, macro_definition, body_freed, end_outcome, finish_region, finish_outcome}
 use Rattle.page_roff_effects.specs.LoopLines.{longer_if_some, loop_outcome, collect_outcome, repeats_text, close_outcome}
 use Rattle.page_roff_effects.specs.States.{Memory, first_memory, Setting, surroundings, counted, Product, no_product, line_product, call_product, loop_product, lines_of, Given, says, takes, State, Outcome, nothing, after}
-use Rattle.page_roff_texts.specs.Texts.{AreLines, IsBody, IsPacked, AreEntries, IsBodyIfSome, HoldsTexts, AreGiven}
+use Rattle.page_roff_texts.specs.machine.Texts.{AreLines, IsBody, IsPacked, AreEntries, IsBodyIfSome, HoldsTexts, AreGiven}
 use Rattle.page_roff_texts.proofs.ArgumentTexts.{arguments_texts}
 use Rattle.page_roff_texts.proofs.LinePartTexts.{line_leaves, loop_texts}
 use Rattle.page_roff_texts.proofs.BodyTexts.{such, body_lines, loop_condition, loop_lines, packed_texts, no_body, body_more, packed_is}

@@ -6,8 +6,8 @@ ghost use Rattle.page_roff_effects.specs.Effects.{effects};
 ghost use Rattle.page_roff_effects.specs.States.{State};
 ghost use Rattle.page_roff_language.specs.Budgets.{Budgeted, language};
 ghost use Rattle.page_roff_language.specs.Languages.{run_page};
-ghost use Rattle.page_roff_values.specs.Texts.{MeasureAlike};
-ghost use Rattle.page_roff_texts.specs.Texts.{AreLines, HoldsTexts, AreGiven};
+ghost use Rattle.page_roff_values.specs.machine.Texts.{MeasureAlike};
+ghost use Rattle.page_roff_texts.specs.machine.Texts.{AreLines, HoldsTexts, AreGiven};
 
 /// Where each line of a page is UTF-8 of at most `LINE` bytes without a control character but the tab, so is each line that the page gives,
 /// and what is remembered after it, the strings, the bodies of macros and that of an open region, is text again.

@@ -12,7 +12,7 @@ use Rattle.page_roff_values.specs.declared.parts.Part.TheVariants.{Copied, Calle
 use Rattle.page_roff_values.specs.Arguments.{argument_of}
 use Rattle.page_roff_values.specs.Environments.{Surroundings}
 use Rattle.page_roff_values.specs.Parts.{parts, without_lone}
-use Rattle.page_roff_values.specs.Texts.{IsText, AreLines, MeasureAlike}
+use Rattle.page_roff_values.specs.machine.Texts.{IsText, AreLines, MeasureAlike}
 use Rattle.page_roff_values.specs.Values.{Spot, Laid, unless, seq, ends, counts, put, lay, charge, value_or, inside, leaves, width, interpolated, call_at, value}
 use Rattle.page_roff_values.proofs.PartTexts.{CallText, ArePartTexts, parts_texts, lone_text}
 use Rattle.page_roff_values.proofs.PlainTexts.{nil_text}

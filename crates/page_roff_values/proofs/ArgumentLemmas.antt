@@ -3,7 +3,7 @@ use Rattle.std.proofs.Common.{◌≡◌, ℕ, zero, suc, ◌+◌, ◌<◌, ◌�
 use Rattle.std.proofs.lemmas.Bool.{eqb-true}
 use Rattle.page_core_limits.specs.declared.TheConstants.{ARGS}
 use Rattle.page_roff_values.specs.Arguments.{begin_first, arguments_in, argument_at, spaced, spaced_quoted}
-use Rattle.page_roff_values.specs.Held.{AreHeld}
+use Rattle.page_roff_values.specs.machine.Held.{AreHeld}
 
 pub not_true : (b : Bool) → ¬ (b ≡ true) → b ≡ false
 not_true true h = absurd (h refl)

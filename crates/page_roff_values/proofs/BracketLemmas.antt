@@ -5,7 +5,7 @@ use Rattle.std.proofs.lemmas.List.Sums.{position_or_len_is}
 use Rattle.memchr.specs.Find.{IsFirstByte, is_byte}
 use Rattle.page_roff_values.specs.declared.parts.Call.{Call}
 use Rattle.page_roff_values.specs.declared.parts.Call.TheVariants.{String, Register, Width}
-use Rattle.page_roff_values.specs.Brackets.{has_bracket, IsKnown}
+use Rattle.page_roff_values.specs.machine.Brackets.{has_bracket, IsKnown}
 use Rattle.page_roff_values.specs.Parts.{CutText, SeenText, copies, calls, cut, character_len, two_characters, bracketed, name_cut, content_len, delimited, width_cut, plain, after_plain, argument_call, call_cut, pair, is_doubled, escape, begins_escape, seen}
 
 abbrev Lacks : List ℕ → Type 0

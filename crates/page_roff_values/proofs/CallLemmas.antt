@@ -12,7 +12,7 @@ use Rattle.page_roff_values.specs.Arguments.{argument_of}
 use Rattle.page_roff_values.specs.Environments.{Surroundings, register_of}
 use Rattle.page_roff_values.specs.Parts.{without_lone}
 use Rattle.page_roff_values.specs.Values.{Spot, Laid, nothing, join, seq, says, ends, counts, put, charge, width, interpolated, call_at, value}
-use Rattle.page_roff_values.specs.Rest.{HUGE, rest, room_in, size, steps}
+use Rattle.page_roff_values.specs.machine.Rest.{HUGE, rest, room_in, size, steps}
 use Rattle.page_roff_values.proofs.LayLemmas.{seq_more, seq_nothing}
 
 ended_at : (env : Surroundings) (d : ℕ) (call : Call (List ℕ)) (s : Spot) → nat_lt s.count EXPAND ≡ false

@@ -6,11 +6,11 @@ use Rattle.std.proofs.lemmas.List.{drop-drop}
 use Rattle.memchr.specs.Find.{IsFirstByte, is_byte}
 use Rattle.page_core_limits.specs.declared.TheConstants.{LINE}
 use Rattle.page_roff_values.specs.Environments.{Surroundings}
-use Rattle.page_roff_values.specs.Fronts.{IsFront}
+use Rattle.page_roff_values.specs.machine.Fronts.{IsFront}
 use Rattle.page_roff_values.specs.Parts.{begins_escape, call_cut, character_len, copies, is_doubled, parts, seen}
-use Rattle.page_roff_values.specs.Rest.{rest}
+use Rattle.page_roff_values.specs.machine.Rest.{rest}
 use Rattle.page_roff_values.specs.Values.{Spot, adds, call_at, lay, put, seq, value, finished_len}
-use Rattle.page_roff_values.specs.Verbatim.{may_call}
+use Rattle.page_roff_values.specs.machine.Verbatim.{may_call}
 use Rattle.page_roff_values.proofs.LayLemmas.{seq_nothing}
 use Rattle.page_roff_values.proofs.LineLemmas.{put_all}
 use Rattle.page_roff_values.proofs.ReadLemmas.{escape_pair, parts_more, plain_part}

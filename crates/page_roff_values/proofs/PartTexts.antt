@@ -16,7 +16,7 @@ use Rattle.page_roff_values.specs.declared.parts.Call.TheVariants.{String, Regis
 use Rattle.page_roff_values.specs.declared.parts.Part.{Part}
 use Rattle.page_roff_values.specs.declared.parts.Part.TheVariants.{Copied, Called}
 use Rattle.page_roff_values.specs.Parts.{CutText, SeenText, copies, calls, cut, character_len, two_characters, bracketed, name_cut, further, paired_len, content_len, delimited, width_cut, plain, after_plain, argument_call, call_cut, pair, is_doubled, escape, begins_escape, seen, parts_up_to, parts, without_lone}
-use Rattle.page_roff_values.specs.Texts.{IsText}
+use Rattle.page_roff_values.specs.machine.Texts.{IsText}
 use Rattle.page_roff_values.proofs.PlainTexts.{nil_text, ascii_text, text_append, text_cut, text_at, text_after, text_seam}
 
 -- ---- characters

@@ -7,7 +7,7 @@ use Rattle.std.proofs.lemmas.Bool.Decides.{nat_tests}
 use Rattle.memchr.specs.Find.{OccursAt, FindsNeedle}
 use Rattle.memchr.proofs.lemmas.MatchLemmas.{OccursAt-part}
 use Rattle.page_roff_values.specs.Parts.{paired_len, content_len, further}
-use Rattle.page_roff_values.specs.Searches.{EndsUnits, IsAbsent, IsPassed}
+use Rattle.page_roff_values.specs.machine.Searches.{EndsUnits, IsAbsent, IsPassed}
 use Rattle.page_roff_values.proofs.ReadLemmas.{not_true, further_further, further_none, here_occurs}
 
 -- a place beyond which no pair goes is reached

@@ -8,7 +8,7 @@ use Rattle.page_roff_values.specs.declared.parts.Part.TheVariants.{Copied, Calle
 use Rattle.page_roff_values.specs.Environments.{Surroundings}
 use Rattle.page_roff_values.specs.Parts.{SeenText, seen, parts, parts_up_to}
 use Rattle.page_roff_values.specs.Values.{Spot, nothing, seq, lay, call_at, value}
-use Rattle.page_roff_values.specs.Rest.{rest, room_in, one, size}
+use Rattle.page_roff_values.specs.machine.Rest.{rest, room_in, one, size}
 use Rattle.page_roff_values.proofs.LayLemmas.{seq_nothing, seq_assoc}
 use Rattle.page_roff_values.proofs.ReadLemmas.{parts_more, seen_shorter}
 

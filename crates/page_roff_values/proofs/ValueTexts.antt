@@ -17,7 +17,7 @@ use Rattle.page_roff_values.specs.declared.parts.Part.TheVariants.{Copied, Calle
 use Rattle.page_roff_values.specs.Arguments.{spaced, spaced_quoted, joined, quoted, argument_at, argument_named, argument_of}
 use Rattle.page_roff_values.specs.Environments.{Surroundings, register_of}
 use Rattle.page_roff_values.specs.Parts.{parts, without_lone}
-use Rattle.page_roff_values.specs.Texts.{IsText, AreTexts, AreArgumentTexts, AreLines}
+use Rattle.page_roff_values.specs.machine.Texts.{IsText, AreTexts, AreArgumentTexts, AreLines}
 use Rattle.page_roff_values.specs.Values.{Spot, Laid, nothing, unless, seq, says, ends, adds, counts, kept, character_end, put, lay, charge, value_or, inside, leaves, width, interpolated, call_at, value, finished_len}
 use Rattle.page_roff_values.proofs.PlainTexts.{nil_text, ascii_text, text_append, text_at}
 use Rattle.page_roff_values.proofs.PartTexts.{CallText, ArePartTexts, parts_texts, lone_text}

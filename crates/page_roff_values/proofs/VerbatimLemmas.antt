@@ -15,7 +15,7 @@ use Rattle.page_roff_values.specs.declared.parts.Part.TheVariants.{Copied, Calle
 use Rattle.page_roff_values.specs.Environments.{Surroundings}
 use Rattle.page_roff_values.specs.Parts.{after_plain, call_cut, character_len, copies, parts, parts_up_to, plain, seen}
 use Rattle.page_roff_values.specs.Values.{NEST, Laid, Spot, adds, call_at, expanded, finished_len, lay, nothing, start, value}
-use Rattle.page_roff_values.specs.Verbatim.{GivesItself, IsFree, IsFreeFrom, IsVerbatim, copied_bytes, is_backslash, may_call}
+use Rattle.page_roff_values.specs.machine.Verbatim.{GivesItself, IsFree, IsFreeFrom, IsVerbatim, copied_bytes, is_backslash, may_call}
 use Rattle.page_roff_values.proofs.LayLemmas.{seq_nothing}
 use Rattle.page_roff_values.proofs.LineLemmas.{put_all}
 use Rattle.page_roff_values.proofs.ReadLemmas.{escape_alone, escape_pair, parts_more, plain_part}

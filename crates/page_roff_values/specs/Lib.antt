@@ -1,16 +1,7 @@
 pub mod Arguments
-pub mod Brackets
 pub mod Environments
-pub mod Expansions
-pub mod Fronts
-pub mod Held
 pub mod Latches
 pub mod Numbers
 pub mod Parts
-pub mod Rest
-pub mod Searches
-pub mod Steps
-pub mod Texts
 pub mod Values
-pub mod Verbatim
-pub mod Views
+pub mod machine

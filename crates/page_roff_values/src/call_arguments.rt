@@ -27,7 +27,7 @@ impl Model for CallArguments {
     ghost use Rattle.std.specs.Prelude.{ℕ, List, Option, Some, None, ◌≡◌, if◌then◌else◌};
     ghost use Rattle.std.specs.Vec.{vec_capacity};
     ghost use Rattle.page_roff_values.specs.Arguments.{arguments_in};
-    ghost use Rattle.page_roff_values.specs.Held.{AreHeld};
+    ghost use Rattle.page_roff_values.specs.machine.Held.{AreHeld};
 
     ghost Value = { Option (List (List ℕ)) };
 

@@ -4,11 +4,11 @@ ghost use Rattle.std.specs.Prelude.{◌≡◌, ◌+◌, ◌-◌, ◌*◌, ◌^�
 ghost use Rattle.std.specs.Fmt.{decimal, signed_decimal};
 ghost use Rattle.page_core_limits.specs.declared.TheConstants.{LINE};
 ghost use Rattle.page_roff_values.specs.Latches.{Goes};
-ghost use Rattle.page_roff_values.specs.Rest.{calling, going_on, steps, texts_of};
+ghost use Rattle.page_roff_values.specs.machine.Rest.{calling, going_on, steps, texts_of};
 ghost use Rattle.page_roff_values.specs.Values as laying;
-ghost use Rattle.page_roff_values.specs.Expansions.{outermost, over};
-ghost use Rattle.page_roff_values.specs.Steps.{going_inside, going_outside};
-ghost use Rattle.page_roff_values.specs.Views.{call_of, surroundings_of, units_of_bytes};
+ghost use Rattle.page_roff_values.specs.machine.Expansions.{outermost, over};
+ghost use Rattle.page_roff_values.specs.machine.Steps.{going_inside, going_outside};
+ghost use Rattle.page_roff_values.specs.machine.Views.{call_of, surroundings_of, units_of_bytes};
 
 use crate::endings::{kept, without_lone};
 use crate::environments::Environment;
@@ -58,7 +58,7 @@ struct Nested {
 }
 
 impl Model for Nested {
-    ghost use Rattle.page_roff_values.specs.Expansions.{IsHeld, NestedSpot, nested_of};
+    ghost use Rattle.page_roff_values.specs.machine.Expansions.{IsHeld, NestedSpot, nested_of};
 
     ghost Value = { NestedSpot };
 

@@ -1,7 +1,7 @@
 //! The bytes at a text's front that are copied (roff(7), "Escape sequences").
 
 ghost use Rattle.std.specs.Prelude.{◌≡◌, ◌≤◌, length, take, drop, IsTrue};
-ghost use Rattle.page_roff_values.specs.Fronts.{IsFront};
+ghost use Rattle.page_roff_values.specs.machine.Fronts.{IsFront};
 ghost use Rattle.page_roff_values.specs.Parts.{begins_escape, copies, seen};
 
 use crate::endings::after;

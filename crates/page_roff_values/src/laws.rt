@@ -2,7 +2,7 @@
 
 ghost use Rattle.std.specs.Prelude.{ℕ, List};
 ghost use Rattle.page_roff_values.specs.Environments.{Surroundings};
-ghost use Rattle.page_roff_values.specs.Texts.{AreLines, IsText};
+ghost use Rattle.page_roff_values.specs.machine.Texts.{AreLines, IsText};
 ghost use Rattle.page_roff_values.specs.Values as laying;
 
 /// No line makes more than `EXPAND` interpolations, and none is longer than `LINE`.

@@ -1,10 +1,10 @@
 //! What a text is made of (roff(7), "Escape sequences").
 
 ghost use Rattle.std.specs.Prelude.{◌≡◌, ◌<◌, ◌≤◌, ◌+◌, ◌==◌, length, Some, None, IsTrue, option_map, IfSome, take, drop, get_or};
-ghost use Rattle.page_roff_values.specs.Brackets.{IsKnown};
+ghost use Rattle.page_roff_values.specs.machine.Brackets.{IsKnown};
 ghost use Rattle.page_roff_values.specs.Parts as reading;
-ghost use Rattle.page_roff_values.specs.Searches.{EndsUnits, IsPassed};
-ghost use Rattle.page_roff_values.specs.Views.{seen_of, cut_of, call_of};
+ghost use Rattle.page_roff_values.specs.machine.Searches.{EndsUnits, IsPassed};
+ghost use Rattle.page_roff_values.specs.machine.Views.{seen_of, cut_of, call_of};
 
 use crate::endings::after;
 use memchr::{memchr, memmem};

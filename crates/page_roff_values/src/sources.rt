@@ -1,7 +1,7 @@
 //! The texts that are being read.
 
 ghost use Rattle.std.specs.Prelude.{◌≡◌, ℕ, ◌<◌, ◌≤◌, ◌+◌, ◌^◌, [], ◌∷◌, length, Option, Some, None, MatchOption};
-ghost use Rattle.page_roff_values.specs.Rest.{texts_of, size, Reads};
+ghost use Rattle.page_roff_values.specs.machine.Rest.{texts_of, size, Reads};
 
 use crate::parts::Part;
 use crate::unread::Unread;

@@ -1,10 +1,10 @@
 //! What is left of a text.
 
 ghost use Rattle.std.specs.Prelude.{◌≡◌, ◌<◌, ◌≤◌, length, take, drop};
-ghost use Rattle.page_roff_values.specs.Brackets.{IsKnown};
-ghost use Rattle.page_roff_values.specs.Fronts.{IsFront};
+ghost use Rattle.page_roff_values.specs.machine.Brackets.{IsKnown};
+ghost use Rattle.page_roff_values.specs.machine.Fronts.{IsFront};
 ghost use Rattle.page_roff_values.specs.Parts as reading;
-ghost use Rattle.page_roff_values.specs.Views.{part_of};
+ghost use Rattle.page_roff_values.specs.machine.Views.{part_of};
 
 use crate::endings::after;
 use crate::fronts::front_len;

@@ -3,7 +3,7 @@
 ghost use Rattle.std.specs.Prelude.{◌≡◌, ◌+◌, ◌<◌, ◌≤◌, length, map, false, IsTrue};
 ghost use Rattle.std.specs.Simd.Lanes.{mask_l};
 ghost use Rattle.page_core_limits.specs.declared.TheConstants.{LINE};
-ghost use Rattle.page_roff_values.specs.Verbatim.{GivesItself, IsFree, IsFreeFrom, IsVerbatim, is_backslash, may_call};
+ghost use Rattle.page_roff_values.specs.machine.Verbatim.{GivesItself, IsFree, IsFreeFrom, IsVerbatim, is_backslash, may_call};
 
 use memchr::memchr;
 use std::simd::prelude::*;

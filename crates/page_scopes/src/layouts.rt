@@ -4,7 +4,7 @@ ghost use Rattle.std.specs.Prelude.{◌≡◌, ◌<◌, ◌∷◌, reverse, vec_
 ghost use Rattle.page_roff_forms.specs.Arguments.{argument_view};
 ghost use Rattle.page_scopes.specs.Tables.{start};
 ghost use Rattle.page_scopes_phrases.specs.KeptTexts.{kept_of};
-ghost use Rattle.page_scopes_tree.specs.Stacks.{Keeps};
+ghost use Rattle.page_scopes_tree.specs.machine.Stacks.{Keeps};
 
 use crate::bodies::{give_coming, give_standing};
 use page_core_base::{PieceOut, Place};

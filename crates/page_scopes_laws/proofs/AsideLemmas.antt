@@ -3,7 +3,7 @@ use Rattle.std.proofs.Common.{◌≡◌, ℕ, zero, suc, ◌≤◌, ◌<◌, Lis
 use Rattle.page_scopes_laws.specs.Nestings.{Standing, as_node, as_leaf, as_nothing, Nesting, standing_of, mode_of, IsSound}
 use Rattle.page_scopes_laws.specs.declared.Scope.{Scope}
 use Rattle.page_scopes_laws.specs.Layouts.{Layout, scope_of, labels, Edge}
-use Rattle.page_scopes_laws.specs.Machines.{ended_items, ended_state, placed_items, placed_state, placed_scopes, count_ended, state_left, step, step_items}
+use Rattle.page_scopes_laws.specs.machine.Machines.{ended_items, ended_state, placed_items, placed_state, placed_scopes, count_ended, state_left, step, step_items}
 use Rattle.page_scopes_laws.specs.Asides.{With, act, aside, ends_with, stands_with, standing_with, with_asides, Beside, Sides, layout_with, beside, before_leaf}
 
 fits_with : {Y M L A F : Type 0} (nests : Nesting M L A F) {most : ℕ} → IsSound nests most → (m : M) (a : With Y A) (nodes : List L)

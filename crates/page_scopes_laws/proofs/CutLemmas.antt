@@ -5,7 +5,7 @@ use Rattle.std.proofs.lemmas.List.{append-nil}
 use Rattle.page_scopes_laws.specs.Nestings.{Standing, as_node, as_leaf, as_nothing, Nesting, standing_of, IsSound}
 use Rattle.page_scopes_laws.specs.declared.Scope.{Scope}
 use Rattle.page_scopes_laws.specs.Layouts.{Layout, labels, Edge, settled, edge}
-use Rattle.page_scopes_laws.specs.Machines.{ended_items, ended_state, placed_scopes, count_ended, state_left, step_items, step, run_items, run}
+use Rattle.page_scopes_laws.specs.machine.Machines.{ended_items, ended_state, placed_scopes, count_ended, state_left, step_items, step, run_items, run}
 use Rattle.page_scopes_laws.proofs.RunLemmas.{settled-run, length-labels, left_labels}
 use Rattle.page_scopes_laws.proofs.EdgeLemmas.{edge-run}
 

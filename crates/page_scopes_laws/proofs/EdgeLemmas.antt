@@ -5,7 +5,7 @@ use Rattle.page_scopes_laws.specs.Nestings.{Standing, as_node, as_leaf, as_nothi
 use Rattle.page_scopes_laws.specs.Forests.{Ender, by_act, still_open, Forest, none, node, After, Rest, leaf_first, node_of, ended, placed, all_open, tree}
 use Rattle.page_scopes_laws.specs.declared.Scope.{Scope}
 use Rattle.page_scopes_laws.specs.Layouts.{Layout, scope_of, after, labels, Edge, open_in, open_outer, open_rest, after_outer, after_rest, mode_after, edge}
-use Rattle.page_scopes_laws.specs.Machines.{ended_state, placed_state, placed_scopes, count_ended, state_left, step, run}
+use Rattle.page_scopes_laws.specs.machine.Machines.{ended_state, placed_state, placed_scopes, count_ended, state_left, step, run}
 use Rattle.page_scopes_laws.proofs.RunLemmas.{ends_fit, left_labels}
 
 -- once a node is open, those around it are

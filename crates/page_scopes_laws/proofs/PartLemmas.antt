@@ -2,7 +2,7 @@
 use Rattle.std.proofs.Common.{◌≡◌, ℕ, zero, suc, ◌+◌, ◌*◌, ◌≤◌, List, [], ◌∷◌, length, drop, refl, ◌∙◌, ap, arith}
 use Rattle.page_scopes_laws.specs.Nestings.{Standing, as_node, as_leaf, as_nothing, Nesting, IsSound}
 use Rattle.page_scopes_laws.specs.Forests.{Ender, still_open, Forest, none, node, Rest, leaf_first, node_first, ended, placed, all_open, tree}
-use Rattle.page_scopes_laws.specs.Parts.{Ahead, over, on, ending, Part, with_leaf, with_node, stand, part, rest_by}
+use Rattle.page_scopes_laws.specs.machine.Parts.{Ahead, over, on, ending, Part, with_leaf, with_node, stand, part, rest_by}
 
 -- the tree of what lies ahead
 abbrev rest_of : {M L A F : Type 0} → Nesting M L A F → List L → Ahead M A → Rest L A F

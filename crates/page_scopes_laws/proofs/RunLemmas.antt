@@ -5,7 +5,7 @@ use Rattle.page_scopes_laws.specs.Nestings.{Standing, as_node, as_leaf, as_nothi
 use Rattle.page_scopes_laws.specs.Forests.{Forest, After, Rest, node_of, ended, placed, all_open, tree}
 use Rattle.page_scopes_laws.specs.declared.Scope.{Scope}
 use Rattle.page_scopes_laws.specs.Layouts.{Layout, scope_of, lay_outer, lay_rest, labels, Edge, settled}
-use Rattle.page_scopes_laws.specs.Machines.{ended_items, ended_state, placed_items, placed_state, placed_scopes, count_ended, state_left, step, run_items}
+use Rattle.page_scopes_laws.specs.machine.Machines.{ended_items, ended_state, placed_items, placed_state, placed_scopes, count_ended, state_left, step, run_items}
 
 -- the end of the list
 lay_all_open : {L A F S B I : Type 0} (lays : Layout L A F S B I) (scopes : List (Scope L B)) (s : S) →

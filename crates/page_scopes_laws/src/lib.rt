@@ -5,7 +5,7 @@
 //! `Layouts.antt` (what it gives).
 //!
 //! Proved: `part_law`, `stack_law`, `cut_law`: the block tree of a list of acts, laid out, is what a stack of open scopes gives act by act, and it
-//! may be cut anywhere (`specs/Parts.antt`, `Layouts.antt`). `asides_law`: what stands among the acts and is none, as a message, is a leaf where it
+//! may be cut anywhere (`specs/machine/Parts.antt`, `Layouts.antt`). `asides_law`: what stands among the acts and is none, as a message, is a leaf where it
 //! comes (`specs/Asides.antt`).
 #![tactic(auto)]
 
@@ -13,9 +13,9 @@ ghost use Rattle.std.specs.Prelude.{◌≡◌, ℕ, ◌+◌, ◌*◌, ◌≤◌,
 ghost use Rattle.page_scopes_laws.specs.Forests.{tree};
 ghost use Rattle.page_scopes_laws.specs.Asides.{act, aside, before_leaf, beside, layout_with, Sides, with_asides};
 ghost use Rattle.page_scopes_laws.specs.Layouts.{Edge, edge, labels, Layout, settled};
-ghost use Rattle.page_scopes_laws.specs.Machines.{count_ended, ended_items, placed_items, run, run_items, state_left, step, step_items};
+ghost use Rattle.page_scopes_laws.specs.machine.Machines.{count_ended, ended_items, placed_items, run, run_items, state_left, step, step_items};
 ghost use Rattle.page_scopes_laws.specs.Nestings.{IsSound, Nesting, standing_of};
-ghost use Rattle.page_scopes_laws.specs.Parts.{on, rest_by};
+ghost use Rattle.page_scopes_laws.specs.machine.Parts.{on, rest_by};
 
 /// An open node, with what it keeps of the state before it.
 #[derive(Drop)]

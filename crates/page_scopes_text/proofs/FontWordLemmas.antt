@@ -8,12 +8,12 @@ use Rattle.page_core_base.specs.Pieces.{Item}
 use Rattle.page_core_base.specs.declared.places.Place.{Place}
 use Rattle.page_core_escapes.specs.Meanings as meanings
 use Rattle.page_core_escapes.specs.Meanings.{Face, face, is_known}
-use Rattle.page_core_escapes.specs.ShortEscapes.{ShortFont}
+use Rattle.page_core_escapes.specs.machine.ShortEscapes.{ShortFont}
 use Rattle.page_core_escapes.specs.Tokens.{TextToken, plain, escaped, begins_word, prints_itself, token_at, token_len, token_view}
 use Rattle.page_scopes_words.specs.Words.{at, face_notes}
 use Rattle.page_scopes_text.proofs.PartedLemmas.{no_word, plain_begins, plain_token, words_more}
 use Rattle.page_scopes_text.proofs.PlainWordLemmas.{blank_len}
-use Rattle.page_scopes_text.specs.FontWords.{ReadsBlankFontWord, ReadsFont, ReadsFontWord, ReadsPart, Silent, font_tokens, part_tokens}
+use Rattle.page_scopes_text.specs.machine.FontWords.{ReadsBlankFontWord, ReadsFont, ReadsFontWord, ReadsPart, Silent, font_tokens, part_tokens}
 use Rattle.page_scopes_text.specs.Parted.{Parted}
 use Rattle.page_scopes_text.specs.Words.{body_items, empty_items, gap_after, gap_items, pen_after, pen_through, plain_items, tokens_items, word_begun, word_items, word_notes}
 use Rattle.page_scopes_text.specs.declared.font_words.FontWord.{FontWord}

@@ -6,7 +6,7 @@ use Rattle.page_core_base.specs.declared.cells.Font.{Font}
 use Rattle.page_core_base.specs.declared.pieces.Piece.TheVariants.{Split}
 use Rattle.page_core_base.specs.declared.places.Place.{Place}
 use Rattle.page_core_base.proofs.WordPartLemmas.{joined, joined-parts}
-use Rattle.page_scopes_text.specs.Parts.{later_items}
+use Rattle.page_scopes_text.specs.machine.Parts.{later_items}
 use Rattle.page_scopes_text.specs.Words.{parts_items}
 
 pub no_parts : (font : Font) (place : Place) (bytes : List ℕ) → length bytes ≤ 0 → parts_items font place bytes ≡ []

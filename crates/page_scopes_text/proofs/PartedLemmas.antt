@@ -14,7 +14,7 @@ use Rattle.page_core_escapes.proofs.TokenLemmas.{tokens_more as text_tokens, tok
 use Rattle.page_scopes_text.specs.Words.{pen_after, pen_through, printed_items, tokens_items}
 use Rattle.page_scopes_text.specs.declared.pens.Pen.{Pen}
 use Rattle.page_scopes_text.specs.Parted.{Parted, after_token, parted, words_of, spaced_front}
-use Rattle.page_scopes_text.specs.Reads.{ReadsPlain}
+use Rattle.page_scopes_text.specs.machine.Reads.{ReadsPlain}
 
 token_before : (token : TextToken) (text : Parted) → is_space token ≡ false → after_token token text ≡ record { word = token ∷ text.word; others = text.others }
 token_before (white bytes) text h = let no : ⊥ = cc in absurd no

@@ -8,7 +8,7 @@ use Rattle.std.proofs.lemmas.Simd.{get_or-chunk, get_or-zip2, leading_from_mask_
 use lib.Bits.{bit_or}
 use lib.Count.{count_trailing_zeros}
 use lib.Lanes.{chunk, mask_l, top, zip2}
-use Rattle.page_scopes_text.specs.Runs.{GoesOn, ends_run}
+use Rattle.page_scopes_text.specs.machine.Runs.{GoesOn, ends_run}
 
 -- ---- lanes
 

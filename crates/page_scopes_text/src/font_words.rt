@@ -3,7 +3,7 @@
 ghost use Rattle.std.specs.Prelude.{◌≡◌, ◌<◌, ◌+◌, ◌^◌, false, length, IfSome};
 ghost use Rattle.page_core_base.specs.Latches.{Came};
 ghost use Rattle.page_core_escapes.specs.Tokens.{token_view};
-ghost use Rattle.page_scopes_text.specs.FontWords.{ReadsFont, ReadsFontWord, ReadsPart, Silent, font_tokens, part_tokens, word_len};
+ghost use Rattle.page_scopes_text.specs.machine.FontWords.{ReadsFont, ReadsFontWord, ReadsPart, Silent, font_tokens, part_tokens, word_len};
 ghost use Rattle.page_scopes_text.specs.Words as words;
 
 use crate::Pen;

@@ -3,7 +3,7 @@
 ghost use Rattle.std.specs.Prelude.{◌≡◌, ◌<◌, ◌==◌, false, length};
 ghost use Rattle.page_core_base.specs.Latches.{Came, CameUpTo};
 ghost use Rattle.page_core_escapes.specs.Tokens.{is_space, token_view};
-ghost use Rattle.page_scopes_text.specs.Parts.{later_items};
+ghost use Rattle.page_scopes_text.specs.machine.Parts.{later_items};
 ghost use Rattle.page_scopes_text.specs.Words as words;
 
 use crate::tokens::{give_letters, give_token};

@@ -2,7 +2,7 @@
 
 ghost use Rattle.std.specs.Prelude.{◌≡◌, ◌<◌, ◌+◌, ◌^◌, [], ◌∷◌, length, IsTrue};
 ghost use Rattle.page_core_escapes.specs.Tokens.{plain, token_bytes, token_view};
-ghost use Rattle.page_scopes_text.specs.Reads.{resting};
+ghost use Rattle.page_scopes_text.specs.machine.Reads.{resting};
 ghost use Rattle.page_scopes_text.specs.Texts.{indented_pen, white_after};
 ghost use Rattle.page_scopes_text.specs.Words.{body_after, gap_after, has_gap_cells, pen_after, word_begun, word_ended};
 

@@ -2,7 +2,7 @@
 
 ghost use Rattle.std.specs.Prelude.{◌≡◌, ◌≤◌, ◌<◌, ◌+◌, length, if◌then◌else◌, true};
 ghost use Rattle.std.specs.Simd.Lanes.{mask_l, zip2};
-ghost use Rattle.page_scopes_text.specs.Runs.{GoesOn, ends_run, ends_run_at};
+ghost use Rattle.page_scopes_text.specs.machine.Runs.{GoesOn, ends_run, ends_run_at};
 
 use std::simd::prelude::*;
 

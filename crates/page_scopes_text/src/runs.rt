@@ -6,7 +6,7 @@ ghost use Rattle.page_core_base.specs.Latches.{Came};
 ghost use Rattle.page_core_base.specs.Pieces.{shown};
 ghost use Rattle.page_core_base.specs.Words.{blank_words, is_word, word_items};
 ghost use Rattle.page_core_escapes.specs.Tokens.{begins_word};
-ghost use Rattle.page_scopes_text.specs.Runs.{BeginsRun, BeginsWith};
+ghost use Rattle.page_scopes_text.specs.machine.Runs.{BeginsRun, BeginsWith};
 ghost use Rattle.page_scopes_text.specs.Words as words;
 
 use crate::parts::give_parts;

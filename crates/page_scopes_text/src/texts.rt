@@ -3,9 +3,9 @@
 ghost use Rattle.std.specs.Prelude.{◌≡◌, ◌≤◌, ◌<◌, ◌+◌, ◌^◌, true, false, length, IfSome};
 ghost use Rattle.page_core_base.specs.Latches.{Came, CameUpTo};
 ghost use Rattle.page_core_escapes.specs.Tokens.{begins_white, begins_word};
-ghost use Rattle.page_scopes_text.specs.FontWords.{ReadsBlankFontWord};
+ghost use Rattle.page_scopes_text.specs.machine.FontWords.{ReadsBlankFontWord};
 ghost use Rattle.page_scopes_text.specs.Parted.{spaced_front, words_of};
-ghost use Rattle.page_scopes_text.specs.Reads.{Fits, ReadsSpaced, Within};
+ghost use Rattle.page_scopes_text.specs.machine.Reads.{Fits, ReadsSpaced, Within};
 ghost use Rattle.page_scopes_text.specs.Texts as texts;
 ghost use Rattle.page_scopes_text.specs.Words.{body_after};
 

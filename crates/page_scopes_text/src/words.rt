@@ -3,9 +3,9 @@
 ghost use Rattle.std.specs.Prelude.{◌≡◌, ◌≤◌, ◌<◌, ◌+◌, ◌^◌, false, [], ◌∷◌, IfSome, length};
 ghost use Rattle.page_core_base.specs.Latches.{Came};
 ghost use Rattle.page_core_escapes.specs.Tokens.{plain, token_view};
-ghost use Rattle.page_scopes_text.specs.FontWords.{Silent, font_tokens, word_len};
+ghost use Rattle.page_scopes_text.specs.machine.FontWords.{Silent, font_tokens, word_len};
 ghost use Rattle.page_scopes_text.specs.Parted.{words_of};
-ghost use Rattle.page_scopes_text.specs.Reads.{Fits, ReadsPlain, ReadsWord};
+ghost use Rattle.page_scopes_text.specs.machine.Reads.{Fits, ReadsPlain, ReadsWord};
 ghost use Rattle.page_scopes_text.specs.Words as words;
 
 use crate::font_words::{FontWord, give_font_tokens, read_font_word};

@@ -7,13 +7,13 @@ use Rattle.page_scopes_laws.proofs.EdgeLemmas.{edge-run}
 use Rattle.page_scopes_laws.proofs.RunLemmas.{settled-run}
 use Rattle.page_scopes_laws.specs.Layouts.{Layout, Edge, settled, edge}
 use Rattle.page_scopes_laws.specs.Nestings.{Nesting, IsSound}
-use Rattle.page_scopes_laws.specs.Machines.{ended_items, ended_state, step_items, step}
+use Rattle.page_scopes_laws.specs.machine.Machines.{ended_items, ended_state, step_items, step}
 use Rattle.page_scopes_laws.specs.declared.Scope.{Scope}
 use Rattle.page_core_base.specs.Pieces.{Item}
 use Rattle.page_scopes_tree.proofs.FitLemmas.{scopes-sound}
 use Rattle.page_scopes_tree.specs.Acts.{Step}
 use Rattle.page_scopes_tree.specs.Nests.{Fact, scopes_nesting}
-use Rattle.page_scopes_tree.specs.Stacks.{stack_edge}
+use Rattle.page_scopes_tree.specs.machine.Stacks.{stack_edge}
 use Rattle.page_core_limits.specs.declared.TheConstants.{SCOPES}
 use Rattle.page_scopes_labels.specs.declared.labels.Label.{Label}
 

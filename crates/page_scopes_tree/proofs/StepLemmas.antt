@@ -4,7 +4,7 @@ use Rattle.page_core_base.specs.Latches.{Came}
 use Rattle.page_core_base.specs.Pieces.{Item}
 use Rattle.page_scopes_laws.proofs.RunLemmas.{left_labels}
 use Rattle.page_scopes_laws.specs.Layouts.{Edge, Layout, labels}
-use Rattle.page_scopes_laws.specs.Machines.{ended_items, ended_state, placed_items, placed_scopes, placed_state, step, step_items}
+use Rattle.page_scopes_laws.specs.machine.Machines.{ended_items, ended_state, placed_items, placed_scopes, placed_state, step, step_items}
 use Rattle.page_scopes_laws.specs.Nestings.{Standing, as_nothing}
 use Rattle.page_scopes_laws.specs.declared.Scope.{Scope}
 use Rattle.page_sets_lines.specs.declared.events.Event.{Event}
@@ -12,7 +12,7 @@ use Rattle.page_scopes_tree.specs.Acts.{Step, does}
 use Rattle.page_scopes_tree.specs.Ends.{act_ends}
 use Rattle.page_scopes_tree.specs.Frames.{Tables, framed}
 use Rattle.page_scopes_tree.specs.Nests.{Fact, scopes_nesting, standing_by, step_ends, step_standing}
-use Rattle.page_scopes_tree.specs.Stacks.{TakesStep}
+use Rattle.page_scopes_tree.specs.machine.Stacks.{TakesStep}
 use Rattle.page_scopes_tree.specs.Placements.{act_placement, act_skips, is_passed_over}
 use Rattle.page_scopes_tree.specs.declared.acts.Act.{Act}
 use Rattle.page_scopes_labels.specs.declared.labels.Label.{Label}

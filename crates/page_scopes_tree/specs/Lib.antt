@@ -5,5 +5,4 @@ pub mod Broken
 pub mod Nests
 pub mod Frames
 pub mod Edges
-pub mod Stacks
-pub mod Runs
+pub mod machine

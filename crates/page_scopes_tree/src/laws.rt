@@ -2,7 +2,7 @@
 
 ghost use Rattle.std.specs.Prelude.{◌≡◌, ℕ, ◌+◌, ◌*◌, ◌≤◌, Bool, List, ◌++◌, length};
 ghost use Rattle.page_scopes_laws.specs.Forests.{tree};
-ghost use Rattle.page_scopes_laws.specs.Parts.{on, rest_by};
+ghost use Rattle.page_scopes_laws.specs.machine.Parts.{on, rest_by};
 ghost use Rattle.page_sets_lines.specs.declared.events.Event.{Event};
 ghost use Rattle.page_scopes_tree.specs.Acts.{Step};
 ghost use Rattle.page_scopes_tree.specs.Edges.{ScopesEdge, events_edge, events_items, page_end_items, page_items};

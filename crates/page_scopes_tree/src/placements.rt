@@ -3,7 +3,7 @@
 ghost use Rattle.std.specs.Prelude.{◌≡◌, ◌≤◌, length, reverse};
 ghost use Rattle.page_scopes_laws.specs.Layouts.{labels};
 ghost use Rattle.page_scopes_tree.specs.Acts.{act_view};
-ghost use Rattle.page_scopes_tree.specs.Stacks as stacks;
+ghost use Rattle.page_scopes_tree.specs.machine.Stacks as stacks;
 ghost use Rattle.page_scopes_tree.specs.Placements as placements;
 ghost use Rattle.page_sets_lines.specs.Events.{closer_view, kind_view, leaf_view, opener_view, request_view, text_view};
 

@@ -26,7 +26,7 @@ pub struct ScopeStack<Y: Renderer> {
 impl<Y: Renderer> Model for ScopeStack<Y> {
     ghost use Rattle.std.specs.Prelude.{◌≤◌, vec_capacity, vec_len};
     ghost use Rattle.page_scopes_tree.specs.Edges.{ScopesEdge};
-    ghost use Rattle.page_scopes_tree.specs.Stacks.{stack_edge};
+    ghost use Rattle.page_scopes_tree.specs.machine.Stacks.{stack_edge};
     ghost use Rattle.page_core_limits.specs.declared.TheConstants.{SCOPES};
 
     ghost Value = { ScopesEdge Y Y.Kept };

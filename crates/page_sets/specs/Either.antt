@@ -5,10 +5,10 @@ use Rattle.page_sets_lines.specs.declared.events.Event.{Event}
 use Rattle.page_sets_lines.specs.Laws.{AreSlices, AreInOrder}
 use Rattle.page_sets_man.specs.declared.man_set.TheConstants as man
 use Rattle.page_sets_man.specs.Man.{man_events}
-use Rattle.page_sets_man.specs.ManLaws.{man_slices, man_in_order, man_few}
+use Rattle.page_sets_man.specs.machine.ManLaws.{man_slices, man_in_order, man_few}
 use Rattle.page_sets_mdoc.specs.declared.mdoc_set.TheConstants as mdoc
 use Rattle.page_sets_mdoc.specs.Mdoc.{mdoc_events}
-use Rattle.page_sets_mdoc.specs.MdocLaws as mdoc_laws
+use Rattle.page_sets_mdoc.specs.machine.MdocLaws as mdoc_laws
 use Rattle.page_sets.specs.declared.either.Either.{Either}
 use Rattle.page_sets.specs.declared.either.Either.TheVariants.{Man, Mdoc}
 

@@ -2,7 +2,7 @@
 use Rattle.std.proofs.Common.{◌≡◌, ℕ, zero, suc, ◌+◌, ◌<◌, List, [], ◌∷◌, length, drop, Option, None, Some, arith, refl, sym, ◌∙◌, ap, ◌++◌, append-nil, add-one}
 use Rattle.std.specs.Borrow.{Bor}
 use Rattle.page_sets_lines.specs.declared.events.Event.{Event}
-use Rattle.page_sets_lines.specs.EventOuts.{nth, found, kept_view}
+use Rattle.page_sets_lines.specs.machine.EventOuts.{nth, found, kept_view}
 use Rattle.page_sets_lines.specs.Laws.{AreSlices}
 
 pub nth_within : (n : ℕ) (events : List (Event (List ℕ))) (event : Event (List ℕ)) → nth n events ≡ Some event → n < length events

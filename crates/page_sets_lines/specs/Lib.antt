@@ -6,4 +6,4 @@ pub mod Laws
 pub mod ControlLines
 pub mod PlainLines
 pub mod Fits
-pub mod EventOuts
+pub mod machine

@@ -3,7 +3,7 @@
 ghost use Rattle.std.specs.Prelude.{◌≡◌, List, [], ◌∷◌, ℕ, Option};
 ghost use Rattle.page_sets_lines.specs.Events.{event_view};
 ghost use Rattle.page_core_base.specs.Latches.{Came};
-ghost use Rattle.page_sets_lines.specs.EventOuts.{found, nth, kept_view};
+ghost use Rattle.page_sets_lines.specs.machine.EventOuts.{found, nth, kept_view};
 ghost use Rattle.page_sets_lines.specs.Fits.{IsShort};
 
 use crate::events::Event;
@@ -45,7 +45,7 @@ pub struct Handed<'o, O> {
 }
 
 impl<'a, O: EventOut> EventTaker<'a> for Handed<'_, O> {
-    ghost use Rattle.page_sets_lines.specs.EventOuts.{LeftHanded, PlannedHanded};
+    ghost use Rattle.page_sets_lines.specs.machine.EventOuts.{LeftHanded, PlannedHanded};
 
     ghost Plan = { PlannedHanded O.Plan };
 

@@ -1,3 +1,3 @@
 pub mod Rows
 pub mod Man
-pub mod ManLaws
+pub mod machine

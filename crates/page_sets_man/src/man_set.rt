@@ -15,7 +15,7 @@ impl MacroSet for Man {
     ghost use Rattle.std.specs.Prelude.{◌≤◌, length, drop};
     ghost use Rattle.page_sets_man.specs.declared.man_set.TheConstants.{PAGE_INDENT};
     ghost use Rattle.page_sets_man.specs.Man.{man_events};
-    ghost use Rattle.page_sets_man.specs.ManLaws.{man_slices, man_in_order, man_few};
+    ghost use Rattle.page_sets_man.specs.machine.ManLaws.{man_slices, man_in_order, man_few};
     ghost use Rattle.page_sets_lines.proofs.NthLemmas.{slices_after};
 
     type Place = usize;
@@ -44,7 +44,7 @@ impl MacroSet for Man {
         0
     }
 
-    #[tactic(auto, using(crate::specs::ManLaws::man_few))]
+    #[tactic(auto, using(crate::specs::machine::ManLaws::man_few))]
     fn next<'a>(&self, line: Taken<'a>, place: &mut usize) -> Option<Event<&'a [u8]>> {
         let mut nth = Nth::new(*place);
         give_events(&mut nth, line);

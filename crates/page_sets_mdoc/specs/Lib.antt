@@ -1,4 +1,2 @@
-pub mod Calls
 pub mod Mdoc
-pub mod RestLaws
-pub mod MdocLaws
+pub mod machine

@@ -9,12 +9,12 @@ ghost use Rattle.page_sets_lines.specs.ControlLines.{name_of};
 ghost use Rattle.page_sets_mdoc_rows.specs.Rows as rows;
 ghost use Rattle.page_sets_mdoc_lines.specs.LineWords.{arguments_after, is_closing};
 ghost use Rattle.page_sets_mdoc_lines.specs.Parts.{parts};
-ghost use Rattle.page_sets_mdoc_lines.specs.Cursors.{IsCursorOf};
+ghost use Rattle.page_sets_mdoc_lines.specs.machine.Cursors.{IsCursorOf};
 ghost use Rattle.page_sets_mdoc_lines.specs.Words.{words_view};
 ghost use Rattle.page_sets_mdoc_words.specs.Printed.{printed};
 ghost use Rattle.page_sets_mdoc_words.specs.Sentences.{sentence_events};
 ghost use Rattle.page_sets_mdoc_blocks.specs.Fronts.{name_column, has_real_word, given_names, line_arguments};
-ghost use Rattle.page_sets_mdoc.specs.Calls.{FindsCall};
+ghost use Rattle.page_sets_mdoc.specs.machine.Calls.{FindsCall};
 ghost use Rattle.page_sets_mdoc.specs.Mdoc as mdoc;
 
 use page_core_base::{Font, Taken};

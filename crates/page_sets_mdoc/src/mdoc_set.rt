@@ -15,7 +15,7 @@ impl MacroSet for Mdoc {
     ghost use Rattle.std.specs.Prelude.{◌≤◌, length, drop};
     ghost use Rattle.page_sets_mdoc.specs.declared.mdoc_set.TheConstants.{PAGE_INDENT};
     ghost use Rattle.page_sets_mdoc.specs.Mdoc.{mdoc_events};
-    ghost use Rattle.page_sets_mdoc.specs.MdocLaws.{mdoc_slices, mdoc_in_order, mdoc_few};
+    ghost use Rattle.page_sets_mdoc.specs.machine.MdocLaws.{mdoc_slices, mdoc_in_order, mdoc_few};
     ghost use Rattle.page_sets_lines.proofs.NthLemmas.{slices_after};
 
     type Place = usize;
@@ -44,7 +44,7 @@ impl MacroSet for Mdoc {
         0
     }
 
-    #[tactic(auto, using(crate::specs::MdocLaws::mdoc_few))]
+    #[tactic(auto, using(crate::specs::machine::MdocLaws::mdoc_few))]
     fn next<'a>(&self, line: Taken<'a>, place: &mut usize) -> Option<Event<&'a [u8]>> {
         let mut nth = Nth::new(*place);
         give_events(&mut nth, line);

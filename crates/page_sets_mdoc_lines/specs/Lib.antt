@@ -1,4 +1,4 @@
 pub mod LineWords
 pub mod Parts
-pub mod Cursors
 pub mod Words
+pub mod machine

@@ -4,7 +4,7 @@ ghost use Rattle.std.specs.Prelude.{◌≡◌, ◌≤◌, length, drop, None};
 ghost use Rattle.page_roff_forms.specs.Arguments.{argument_view};
 ghost use Rattle.page_sets_mdoc_lines.specs.LineWords.{arguments_after};
 ghost use Rattle.page_sets_mdoc_lines.specs.Parts.{parts, span_of, is_call};
-ghost use Rattle.page_sets_mdoc_lines.specs.Cursors.{IsCursorOf};
+ghost use Rattle.page_sets_mdoc_lines.specs.machine.Cursors.{IsCursorOf};
 
 use crate::cursors::Cursor;
 use crate::line_words::{is_closing, is_real, word_call};

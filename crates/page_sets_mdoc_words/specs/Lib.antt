@@ -1,5 +1,5 @@
 pub mod Printed
 pub mod Inlines
-pub mod Lone
 pub mod Synopses
 pub mod Sentences
+pub mod machine

@@ -9,7 +9,7 @@ ghost use Rattle.page_sets_lines.specs.PlainLines.{event_at};
 ghost use Rattle.page_sets_lines.specs.declared.events.EventKind.TheVariants as kinds;
 ghost use Rattle.page_sets_lines.specs.declared.openers.Opener.TheVariants as begins;
 ghost use Rattle.page_sets_lines.specs.declared.openers.Closer.TheVariants as ends;
-ghost use Rattle.page_sets_mdoc_lines.specs.Cursors.{IsCursorOf};
+ghost use Rattle.page_sets_mdoc_lines.specs.machine.Cursors.{IsCursorOf};
 ghost use Rattle.page_sets_mdoc_lines.specs.Words.{AreIn, AreKnown, words_view};
 ghost use Rattle.page_sets_mdoc_words.specs.Inlines as inlines;
 ghost use Rattle.page_sets_mdoc_words.specs.Printed.{printed};

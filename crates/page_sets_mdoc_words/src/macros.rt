@@ -9,7 +9,7 @@ ghost use Rattle.page_sets_lines.specs.declared.events.EventKind.TheVariants as 
 ghost use Rattle.page_sets_lines.specs.declared.openers.LineOpener.TheVariants as lines;
 ghost use Rattle.page_sets_names.specs.declared.generated_texts.GeneratedText.TheVariants.{Apostrophe};
 ghost use Rattle.page_sets_lines.specs.declared.events.Join.TheVariants.{Glued};
-ghost use Rattle.page_sets_mdoc_lines.specs.Cursors.{IsCursorOf};
+ghost use Rattle.page_sets_mdoc_lines.specs.machine.Cursors.{IsCursorOf};
 ghost use Rattle.page_sets_mdoc_lines.specs.Words.{AreIn, AreKnown, words_view};
 ghost use Rattle.page_sets_mdoc_words.specs.Inlines as inlines;
 ghost use Rattle.page_sets_mdoc_words.specs.Printed.{generated_word, printed, step_event};

@@ -4,10 +4,10 @@ ghost use Rattle.std.specs.Prelude.{◌≡◌, ◌≤◌, ◌&&◌, length, if�
 ghost use Rattle.page_sets_names.specs.declared.generated_texts.GeneratedText.TheVariants.{Flag, JoinedFlag};
 ghost use Rattle.page_core_base.specs.Latches.{Came};
 ghost use Rattle.page_sets_lines.specs.Events.{event_view};
-ghost use Rattle.page_sets_mdoc_lines.specs.Cursors.{IsCursorOf};
+ghost use Rattle.page_sets_mdoc_lines.specs.machine.Cursors.{IsCursorOf};
 ghost use Rattle.page_sets_mdoc_lines.specs.Words.{words_view};
 ghost use Rattle.page_sets_mdoc_words.specs.Inlines as inlines;
-ghost use Rattle.page_sets_mdoc_words.specs.Lone.{lone_event};
+ghost use Rattle.page_sets_mdoc_words.specs.machine.Lone.{lone_event};
 
 use crate::plain::give_printed;
 use crate::printed::{is_opening, generated_word, printed_word, step_event, word_event};

@@ -3,7 +3,7 @@
 ghost use Rattle.std.specs.Prelude.{◌≡◌, ◌≤◌, None, length};
 ghost use Rattle.page_core_base.specs.Latches.{Came};
 ghost use Rattle.page_sets_lines.specs.Events.{event_view};
-ghost use Rattle.page_sets_mdoc_lines.specs.Cursors.{IsCursorOf};
+ghost use Rattle.page_sets_mdoc_lines.specs.machine.Cursors.{IsCursorOf};
 ghost use Rattle.page_sets_mdoc_lines.specs.Words.{words_view};
 ghost use Rattle.page_sets_mdoc_words.specs.Inlines as inlines;
 

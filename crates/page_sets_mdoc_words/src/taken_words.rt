@@ -6,7 +6,7 @@ ghost use Rattle.page_core_base.specs.Latches.{Came};
 ghost use Rattle.page_roff_forms.specs.Arguments.{argument_view};
 ghost use Rattle.page_sets_lines.specs.Events.{given_view};
 ghost use Rattle.page_sets_lines.specs.Fits.{GivenFits};
-ghost use Rattle.page_sets_mdoc_lines.specs.Cursors.{IsCursorOf};
+ghost use Rattle.page_sets_mdoc_lines.specs.machine.Cursors.{IsCursorOf};
 ghost use Rattle.page_sets_mdoc_lines.specs.LineWords.{is_real};
 ghost use Rattle.page_sets_mdoc_lines.specs.Words.{words_view};
 ghost use Rattle.page_sets_mdoc_words.specs.Inlines as inlines;

@@ -1,7 +1,7 @@
 use Rattle.std.proofs.Common.{◌≡◌, ◌+◌, ◌-◌, ◌≤◌, Some, [], ◌∷◌, ◌++◌, length, drop, sym, ap, ◌∙◌, subst, arith, All}
 use Rattle.std.proofs.lemmas.List.{length-take}
 use Rattle.std.proofs.lemmas.List.Elements.{All-push, All-nil, All-take}
-use Rattle.page_core_escapes.specs.Steps.{first_character}
+use Rattle.page_core_escapes.specs.machine.Steps.{first_character}
 use Rattle.page_core_escapes.proofs.Contents.{written_len-fits}
 use Rattle.page_core_escapes.proofs.Unwinding.{total_len, quoted_len-none, quoted_len-some, total_len-passes, total_len-opens, total_len-closes, total_len-stops, total_len-end, delimiters, delimiters-push, delimiters-open, delimiters-first, delimiters-none, step_of-slice_from, passes_within, opens_within, closes_within}
 use Rattle.page_core_escapes.proofs.quoted.nested_len.Goals as goal

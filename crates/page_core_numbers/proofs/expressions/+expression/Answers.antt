@@ -1,7 +1,7 @@
 use Rattle.std.proofs.Common.{◌≡◌, ◌+◌, ◌≤◌, ◌∙◌, ap, sym, arith, length, option_map, option_copied}
 use Rattle.page_core_numbers.specs.Expressions.{first, after_operation, operand_by, in_parentheses, expression_within}
-use Rattle.page_core_numbers.specs.CodeValues.{expression_view, operand_view, found_view, count_of}
-use Rattle.page_core_numbers.specs.Signs.{inside_of}
+use Rattle.page_core_numbers.specs.machine.CodeValues.{expression_view, operand_view, found_view, count_of}
+use Rattle.page_core_numbers.specs.machine.Signs.{inside_of}
 use Rattle.page_core_numbers.proofs.ExpressionLemmas.{operand-number, operand-inside, operand-full, expression-is, goes-from, goes-on, goes-end}
 use Rattle.page_core_numbers.proofs.SignLemmas.{operand-signed, after_signs-front, after_signs-plus}
 use Rattle.page_core_numbers.proofs.expressions.+expression.Goals as goal

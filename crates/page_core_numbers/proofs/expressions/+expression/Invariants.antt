@@ -1,7 +1,7 @@
 use Rattle.std.proofs.Common.{◌≤◌, ◌+◌, ◌*◌, length}
 use Rattle.page_core_numbers.specs.Expressions.{expression_within, operand_by}
-use Rattle.page_core_numbers.specs.CodeValues.{expression_view, count_of}
-use Rattle.page_core_numbers.specs.Signs.{inside_of}
+use Rattle.page_core_numbers.specs.machine.CodeValues.{expression_view, count_of}
+use Rattle.page_core_numbers.specs.machine.Signs.{inside_of}
 use Rattle.page_core_numbers.proofs.ExpressionLemmas.{Goes}
 use Rattle.page_core_numbers.proofs.expressions.+expression.Given as goal
 

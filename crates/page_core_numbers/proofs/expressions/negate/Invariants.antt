@@ -1,5 +1,5 @@
 use Rattle.std.proofs.Common.{◌≡◌}
-use Rattle.page_core_numbers.specs.Signs.{negated_value}
+use Rattle.page_core_numbers.specs.machine.Signs.{negated_value}
 use Rattle.page_core_numbers.proofs.expressions.negate.Given as goal
 
 abbrev pub invariant-loop : goal.invariant-loop

@@ -1,5 +1,5 @@
 use Rattle.std.proofs.Common.{◌≡◌, ◌≤◌, ◌+◌, drop}
-use Rattle.page_core_numbers.specs.Signs.{minus_count, after_signs}
+use Rattle.page_core_numbers.specs.machine.Signs.{minus_count, after_signs}
 use Rattle.page_core_numbers.proofs.expressions.split_signs.Given as goal
 
 abbrev pub invariant-loop-place : goal.invariant-loop-place

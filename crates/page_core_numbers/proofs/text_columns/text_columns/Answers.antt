@@ -1,6 +1,6 @@
 use Rattle.std.proofs.Common.{◌≡◌, ◌<◌, ◌+◌, true, ◌∙◌, ap, sym, arith, length, take, drop}
 use Rattle.std.proofs.lemmas.Bool.Decides.{nat_tests}
-use Rattle.page_core_numbers.specs.Plain.{are_plain}
+use Rattle.page_core_numbers.specs.machine.Plain.{are_plain}
 use Rattle.page_core_numbers.proofs.ColumnLemmas.{Left, left-next, left-none}
 use Rattle.page_core_numbers.proofs.PlainLemmas.{left-plain, plain-boundary}
 use Rattle.page_core_numbers.proofs.text_columns.text_columns.Goals as goal

@@ -1,6 +1,6 @@
 use Rattle.std.proofs.Common.{refl}
 use Rattle.page_core_tables.specs.Glyphs.{table, first_spelling}
-use Rattle.page_core_tables.specs.Rows.{keys_rise, rows_are_spelled, is_spelled, spellings_have_rows}
+use Rattle.page_core_tables.specs.machine.Rows.{keys_rise, rows_are_spelled, is_spelled, spellings_have_rows}
 use Rattle.page_core_tables.proofs.rows.by_code.Goals as goal
 
 -- each fact is a test of the whole table, which computes

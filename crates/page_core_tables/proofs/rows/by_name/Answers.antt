@@ -1,6 +1,6 @@
 use Rattle.std.proofs.Common.{refl}
 use Rattle.page_core_tables.specs.Glyphs.{table}
-use Rattle.page_core_tables.specs.Rows.{keys_rise}
+use Rattle.page_core_tables.specs.machine.Rows.{keys_rise}
 use Rattle.page_core_tables.proofs.rows.by_name.Goals as goal
 
 pub returns-clause-rows : goal.returns-clause-rows

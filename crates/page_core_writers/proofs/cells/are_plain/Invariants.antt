@@ -1,6 +1,6 @@
 use Rattle.std.proofs.Common.{◌≡◌, ◌<◌, take, true}
 use Rattle.std.specs.List.{list_all}
-use Rattle.page_core_writers.specs.PlainCells.{is_plain}
+use Rattle.page_core_writers.specs.machine.PlainCells.{is_plain}
 use Rattle.page_core_writers.proofs.cells.are_plain.Given as goal
 
 -- what was joined is plain where each of the cells is

@@ -1,5 +1,5 @@
 use Rattle.std.proofs.Common.{◌≡◌, ◌+◌, ◌≤◌, length}
-use Rattle.page_engine_index.specs.Steps.{name_len}
+use Rattle.page_engine_index.specs.machine.Steps.{name_len}
 use Rattle.page_engine_index.proofs.matches.name_len.Given as goal
 
 abbrev pub invariant-loop-byte : goal.invariant-loop-byte

@@ -1,7 +1,7 @@
 use Rattle.std.proofs.Common.{◌≡◌, length}
 use Rattle.page_core_base.specs.Latches.{CameUpTo}
-use Rattle.page_roff_source.specs.Taking.{given_of}
-use Rattle.page_engine_lines.specs.Given.{given_items, body_after}
+use Rattle.page_roff_source.specs.machine.Taking.{given_of}
+use Rattle.page_engine_lines.specs.machine.Given.{given_items, body_after}
 use Rattle.page_engine_lines.proofs.taking.give_taken.Given as goal
 
 abbrev pub invariant-loop-taken : goal.invariant-loop-taken

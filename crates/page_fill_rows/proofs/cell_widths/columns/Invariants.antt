@@ -1,5 +1,5 @@
 use Rattle.std.proofs.Common.{◌≡◌, ◌*◌, ◌≤◌, take}
-use Rattle.page_fill_rows.specs.Sheets as sheet
+use Rattle.page_fill_rows.specs.machine.Sheets as sheet
 use Rattle.page_fill_rows.proofs.cell_widths.columns.Given as goal
 
 abbrev pub invariant-loop-cell : goal.invariant-loop-cell

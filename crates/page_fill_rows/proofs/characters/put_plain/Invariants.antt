@@ -1,8 +1,8 @@
 use Rattle.std.proofs.Common.{◌≡◌, length, true}
 use Rattle.page_core_base.specs.Latches.{CameRowsUpTo}
-use Rattle.page_fill_rows.specs.Sheets as sheet
+use Rattle.page_fill_rows.specs.machine.Sheets as sheet
 use Rattle.page_fill_rows.specs.Characters as shown
-use Rattle.page_fill_rows.specs.Plain as plain
+use Rattle.page_fill_rows.specs.machine.Plain as plain
 use Rattle.page_fill_rows.proofs.characters.put_plain.Given as goal
 
 abbrev pub invariant-loop-rest : goal.invariant-loop-rest

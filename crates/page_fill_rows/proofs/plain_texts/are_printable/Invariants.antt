@@ -1,5 +1,5 @@
 use Rattle.std.proofs.Common.{◌≡◌, ◌&&◌, drop}
-use Rattle.page_fill_rows.specs.Plain as plain
+use Rattle.page_fill_rows.specs.machine.Plain as plain
 use Rattle.page_fill_rows.proofs.plain_texts.are_printable.Given as goal
 
 abbrev pub invariant-loop-byte : goal.invariant-loop-byte

@@ -1,5 +1,5 @@
 use Rattle.std.proofs.Common.{◌≡◌, ◌-◌, ◌+◌, ◌≤◌, take, true}
-use Rattle.page_fill_rows.specs.Plain as plain
+use Rattle.page_fill_rows.specs.machine.Plain as plain
 use Rattle.page_fill_rows.proofs.plain_texts.groups_printable.Given as goal
 
 abbrev pub invariant-loop-at : goal.invariant-loop-at

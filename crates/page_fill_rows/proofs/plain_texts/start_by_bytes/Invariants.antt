@@ -1,5 +1,5 @@
 use Rattle.std.proofs.Common.{◌≡◌, ◌≤◌, length, take}
-use Rattle.page_fill_rows.specs.Plain as plain
+use Rattle.page_fill_rows.specs.machine.Plain as plain
 use Rattle.page_fill_rows.proofs.plain_texts.start_by_bytes.Given as goal
 
 abbrev pub invariant-loop-start : goal.invariant-loop-start

@@ -1,5 +1,5 @@
 use Rattle.std.proofs.Common.{◌≡◌, ◌+◌, ◌++◌, take, replicate, length}
-use Rattle.page_fill_rows.specs.Sheets as sheet
+use Rattle.page_fill_rows.specs.machine.Sheets as sheet
 use Rattle.page_fill_rows.proofs.row_cells.put_blanks.Given as goal
 
 abbrev pub invariant-loop-i : goal.invariant-loop-i

@@ -1,6 +1,6 @@
 use Rattle.std.proofs.Common.{◌≡◌, ℕ, ◌+◌, ◌≤◌, ◌++◌, take, drop, length}
 use Rattle.page_fill_rows.specs.Characters as shown
-use Rattle.page_fill_rows.specs.Plain as plain
+use Rattle.page_fill_rows.specs.machine.Plain as plain
 use Rattle.page_fill_rows.proofs.row_cells.put_word.Given as goal
 
 abbrev pub invariant-loop-byte : goal.invariant-loop-byte

@@ -1,8 +1,8 @@
 use Rattle.std.proofs.Common.{rules}
 use Rattle.page_core_base.proofs.RowLatchLemmas.{latched}
 use Rattle.page_core_base.specs.Pieces.{piece_of}
-use Rattle.page_core_base.specs.RowPlans.{seen}
-use Rattle.page_fill_steps.specs.Fill.{laid_piece}
+use Rattle.page_core_base.specs.machine.RowPlans.{seen}
+use Rattle.page_fill_steps.specs.machine.Fill.{laid_piece}
 use Rattle.page_fill_steps.proofs.pieces.fill_piece.Goals as goal
 
 pub returns : goal.returns

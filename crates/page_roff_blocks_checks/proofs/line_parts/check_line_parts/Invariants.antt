@@ -1,4 +1,4 @@
-use Rattle.page_roff_blocks.specs.LinePlaces.{IsPlaceIn}
+use Rattle.page_roff_blocks.specs.machine.LinePlaces.{IsPlaceIn}
 use Rattle.page_roff_blocks_checks.proofs.line_parts.check_line_parts.Given as goal
 
 abbrev pub invariant-loop : goal.invariant-loop

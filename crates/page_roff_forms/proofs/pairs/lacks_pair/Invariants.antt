@@ -1,5 +1,5 @@
 use Rattle.std.proofs.Common.{◌≡◌, ℕ, ◌<◌, ◌-◌, false, length}
-use Rattle.page_roff_forms.specs.Pairs.{pair_at}
+use Rattle.page_roff_forms.specs.machine.Pairs.{pair_at}
 use Rattle.page_roff_forms.proofs.pairs.lacks_pair.Given as goal
 
 -- no pair begins before this place

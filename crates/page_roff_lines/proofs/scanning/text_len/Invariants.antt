@@ -1,6 +1,6 @@
 use Rattle.std.proofs.Common.{◌≡◌, ◌+◌, ◌-◌, ◌≤◌, length, drop}
 use Rattle.std.specs.List.{prefix_len}
-use Rattle.page_roff_lines.specs.Scan.{is_text}
+use Rattle.page_roff_lines.specs.machine.Scan.{is_text}
 use Rattle.page_roff_lines.proofs.scanning.text_len.Given as goal
 
 -- the bytes before this place are text

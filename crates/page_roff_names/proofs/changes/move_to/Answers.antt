@@ -1,6 +1,6 @@
 use Rattle.std.proofs.Common.{◌∙◌, subst, sym, ap, arith, length}
 use Rattle.page_roff_names.specs.Entries.{definition, size}
-use Rattle.page_roff_names.specs.Changes.{IsKept}
+use Rattle.page_roff_names.specs.machine.Changes.{IsKept}
 use Rattle.page_roff_names.proofs.Laid.{length-remove, size-remove}
 use Rattle.page_roff_names.proofs.Search.{same_name}
 use Rattle.page_roff_names.proofs.Kept.{short_at, kept_remove, same_definition, moved, not_moved, undone}

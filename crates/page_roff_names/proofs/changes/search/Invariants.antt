@@ -1,5 +1,5 @@
 use Rattle.std.proofs.Common.{◌≤◌, ◌-◌, length}
-use Rattle.page_roff_names.specs.Changes.{IsBelow, IsAbove}
+use Rattle.page_roff_names.specs.machine.Changes.{IsBelow, IsAbove}
 use Rattle.page_roff_names.proofs.changes.search.Given as goal
 
 abbrev pub invariant-loop-low : goal.invariant-loop-low

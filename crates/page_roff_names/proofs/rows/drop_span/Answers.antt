@@ -1,5 +1,5 @@
 use Rattle.std.proofs.Common.{◌∙◌, ap, arith}
-use Rattle.page_roff_names.specs.Layout.{extent}
+use Rattle.page_roff_names.specs.machine.Layout.{extent}
 use Rattle.page_roff_names.proofs.Laid.{extent-remove}
 use Rattle.page_roff_names.proofs.rows.drop_span.Goals as goal
 

@@ -1,5 +1,5 @@
 use Rattle.std.proofs.Common.{◌≡◌, ◌+◌, ◌++◌, take, drop}
-use Rattle.page_roff_names.specs.Layout.{extent, relaid}
+use Rattle.page_roff_names.specs.machine.Layout.{extent, relaid}
 use Rattle.page_roff_names.proofs.rows.relay.Given as goal
 
 abbrev pub invariant-loop-i : goal.invariant-loop-i

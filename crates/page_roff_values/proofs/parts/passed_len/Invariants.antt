@@ -1,5 +1,5 @@
 use Rattle.std.proofs.Common.{◌≤◌, ◌-◌, length}
-use Rattle.page_roff_values.specs.Searches.{IsPassed}
+use Rattle.page_roff_values.specs.machine.Searches.{IsPassed}
 use Rattle.page_roff_values.proofs.parts.passed_len.Given as goal
 
 abbrev pub invariant-loop-len : goal.invariant-loop-len

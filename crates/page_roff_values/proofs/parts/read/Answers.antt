@@ -1,6 +1,6 @@
 use Rattle.std.proofs.Common.{add-zero, ap, arith, ◌∙◌}
 use Rattle.page_roff_values.specs.Parts.{SeenText}
-use Rattle.page_roff_values.specs.Views.{seen_of}
+use Rattle.page_roff_values.specs.machine.Views.{seen_of}
 use Rattle.page_roff_values.proofs.BracketLemmas.{known_after, known_drop}
 use Rattle.page_roff_values.proofs.ReadLemmas.{plain_part}
 use Rattle.page_roff_values.proofs.parts.read.Goals as goal

@@ -1,6 +1,6 @@
 use Rattle.std.proofs.Common.{◌+◌, length, add-zero, ◌∙◌, sym}
 use Rattle.std.proofs.Math.Seq.{take-length, drop-length}
-use Rattle.page_roff_values.specs.Views.{seen_of}
+use Rattle.page_roff_values.specs.machine.Views.{seen_of}
 use Rattle.page_roff_values.proofs.ReadLemmas.{escape_alone, escape_pair, escape_called, escape_doubled}
 use Rattle.page_roff_values.proofs.parts.read_escape.Goals as goal
 

@@ -1,6 +1,6 @@
 use Rattle.std.proofs.Common.{ℕ, refl, arith}
 use Rattle.std.proofs.lemmas.Simd.{zip2_splat}
-use Rattle.page_roff_values.specs.Verbatim.{is_backslash}
+use Rattle.page_roff_values.specs.machine.Verbatim.{is_backslash}
 use Rattle.page_roff_values.proofs.VerbatimLemmas.{masked}
 use Rattle.page_roff_values.proofs.verbatim.backslashes.Goals as goal
 

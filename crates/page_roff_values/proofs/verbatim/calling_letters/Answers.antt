@@ -1,7 +1,7 @@
 use Rattle.std.proofs.Common.{ℕ, refl, arith}
 use Rattle.std.proofs.lemmas.Simd.{zip2_splat, zip2_of_maps}
 use lib.Bits.{bit_or}
-use Rattle.page_roff_values.specs.Verbatim.{may_call}
+use Rattle.page_roff_values.specs.machine.Verbatim.{may_call}
 use Rattle.page_roff_values.proofs.VerbatimLemmas.{masked}
 use Rattle.page_roff_values.proofs.verbatim.calling_letters.Goals as goal
 

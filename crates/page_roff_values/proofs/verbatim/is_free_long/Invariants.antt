@@ -1,5 +1,5 @@
 use Rattle.std.proofs.Common.{◌+◌, ◌-◌, ◌≤◌}
-use Rattle.page_roff_values.specs.Verbatim.{IsFreeFrom}
+use Rattle.page_roff_values.specs.machine.Verbatim.{IsFreeFrom}
 use Rattle.page_roff_values.proofs.verbatim.is_free_long.Given as goal
 
 -- no interpolation begins before this place

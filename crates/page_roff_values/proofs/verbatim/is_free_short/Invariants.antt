@@ -1,5 +1,5 @@
 use Rattle.std.proofs.Common.{◌≡◌, ℕ, ◌+◌, ◌-◌, ◌<◌, false, length}
-use Rattle.page_roff_values.specs.Verbatim.{may_call_at}
+use Rattle.page_roff_values.specs.machine.Verbatim.{may_call_at}
 use Rattle.page_roff_values.proofs.verbatim.is_free_short.Given as goal
 
 -- no interpolation begins before the byte before this place

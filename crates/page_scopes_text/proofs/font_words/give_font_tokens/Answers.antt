@@ -1,7 +1,7 @@
 use Rattle.std.proofs.Common.{sym, ◌∙◌, ◌∷◌, append_assoc}
 use Rattle.page_core_escapes.specs.Tokens.{token_view}
 use Rattle.page_scopes_text.proofs.FontWordLemmas.{font_items, part_pen}
-use Rattle.page_scopes_text.specs.FontWords.{part_tokens}
+use Rattle.page_scopes_text.specs.machine.FontWords.{part_tokens}
 use Rattle.page_scopes_text.specs.Words.{pen_after}
 use Rattle.page_scopes_text.proofs.font_words.give_font_tokens.Goals as goal
 

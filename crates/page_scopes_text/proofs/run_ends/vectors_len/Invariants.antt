@@ -1,5 +1,5 @@
 use Rattle.std.proofs.Common.{◌-◌, ◌+◌, ◌≤◌}
-use Rattle.page_scopes_text.specs.Runs.{GoesOn}
+use Rattle.page_scopes_text.specs.machine.Runs.{GoesOn}
 use Rattle.page_scopes_text.proofs.run_ends.vectors_len.Given as goal
 
 -- before this place no run ends

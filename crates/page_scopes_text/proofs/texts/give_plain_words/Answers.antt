@@ -1,7 +1,7 @@
 use Rattle.std.proofs.Common.{◌≡◌, false, rules}
 use Rattle.page_scopes_text.proofs.RunLemmas.{run_came, run_pen}
-use Rattle.page_scopes_text.specs.Reads.{resting}
-use Rattle.page_scopes_text.specs.Runs.{BeginsRun}
+use Rattle.page_scopes_text.specs.machine.Reads.{resting}
+use Rattle.page_scopes_text.specs.machine.Runs.{BeginsRun}
 use Rattle.page_scopes_text.proofs.texts.give_plain_words.Goals as goal
 
 pub returns-clause-came : goal.returns-clause-came

@@ -1,7 +1,7 @@
 use Rattle.std.proofs.Common.{List, [], ◌∷◌, ◌++◌, false, length, drop, ap, sym, ◌∙◌, append_assoc, refl}
 use Rattle.page_core_escapes.specs.Tokens.{TextToken, token_bytes}
 use Rattle.page_scopes_text.proofs.TextLemmas.{after_spaced_end, after_spaced_word, spaced_end, spaced_word}
-use Rattle.page_scopes_text.specs.FontWords.{font_tokens}
+use Rattle.page_scopes_text.specs.machine.FontWords.{font_tokens}
 use Rattle.page_scopes_text.specs.Texts.{place_after, white_after, white_items}
 use Rattle.page_scopes_text.specs.Words.{word_after, word_items}
 use Rattle.page_scopes_text.specs.declared.pens.Pen.{Pen}

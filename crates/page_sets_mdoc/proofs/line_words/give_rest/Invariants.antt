@@ -1,6 +1,6 @@
 use Rattle.std.proofs.Common.{◌≡◌, [], None, true, length}
 use Rattle.page_core_base.specs.Latches.{CameUpTo}
-use Rattle.page_sets_mdoc_lines.specs.Cursors.{IsCursorOf}
+use Rattle.page_sets_mdoc_lines.specs.machine.Cursors.{IsCursorOf}
 use Rattle.page_sets_mdoc_lines.specs.LineWords.{arguments_after}
 use Rattle.page_sets_mdoc_lines.specs.Parts.{parts}
 use Rattle.page_sets_mdoc.specs.Mdoc.{rest_events}

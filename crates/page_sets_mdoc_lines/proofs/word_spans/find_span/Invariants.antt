@@ -1,5 +1,5 @@
 use Rattle.std.proofs.Common.{◌≡◌, ◌+◌, ◌≤◌, length, drop, None}
-use Rattle.page_sets_mdoc_lines.specs.Cursors.{IsCursorOf}
+use Rattle.page_sets_mdoc_lines.specs.machine.Cursors.{IsCursorOf}
 use Rattle.page_sets_mdoc_lines.specs.LineWords.{arguments_after, is_closing, is_real}
 use Rattle.page_sets_mdoc_lines.specs.Parts.{parts, span_of, is_call}
 use Rattle.page_sets_mdoc_lines.proofs.WordSpanLemmas.{passed}

@@ -2,7 +2,7 @@ use Rattle.std.proofs.Common.{◌≡◌, ◌<◌, ◌^◌, ℕ, List, length}
 use Rattle.page_core_sources.specs.Sources.{HasGiven}
 use Rattle.page_core_sources.proofs.GivenLemmas.{IsBusy}
 use Rattle.page_engine.specs.Streams.{sinks}
-use Rattle.page_engine.specs.Steps.{Through}
+use Rattle.page_engine.specs.machine.Steps.{Through}
 use Rattle.page_engine.proofs.runs.Run.read_all.Given as goal
 
 abbrev pub invariant-loop-calls : goal.invariant-loop-calls

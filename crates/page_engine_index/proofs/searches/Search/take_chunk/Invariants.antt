@@ -1,6 +1,6 @@
 use Rattle.std.proofs.Common.{◌≡◌, ◌+◌, ◌≤◌, ◌++◌, ℕ, List, length}
 use Rattle.page_engine_index.specs.Searches.{rows_to}
-use Rattle.page_engine_index.specs.Steps.{Here}
+use Rattle.page_engine_index.specs.machine.Steps.{Here}
 use Rattle.page_engine_index.specs.Whatis.{asked_of}
 use Rattle.page_engine_index.proofs.searches.Search.take_chunk.Given as goal
 

@@ -1,6 +1,6 @@
 use Rattle.std.proofs.Common.{refl, ◌∙◌, arith}
 use Rattle.page_engine_index.specs.Searches.{rows_to}
-use Rattle.page_engine_index.specs.Steps.{entries_by}
+use Rattle.page_engine_index.specs.machine.Steps.{entries_by}
 use Rattle.page_engine_index.specs.Whatis.{asked_of}
 use Rattle.page_engine_index.proofs.SearchLemmas.{line_broke}
 use Rattle.page_engine_index.proofs.searches.Search.take_line.Goals as goal

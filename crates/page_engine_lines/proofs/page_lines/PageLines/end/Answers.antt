@@ -1,6 +1,6 @@
 use Rattle.std.proofs.Common.{rules}
 use Rattle.page_core_base.proofs.LatchLemmas.{latched}
-use Rattle.page_engine_lines.specs.Lines.{end_items}
+use Rattle.page_engine_lines.specs.machine.Lines.{end_items}
 use Rattle.page_engine_lines.proofs.page_lines.PageLines.end.Goals as goal
 
 pub returns : goal.returns

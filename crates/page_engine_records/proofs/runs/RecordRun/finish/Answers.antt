@@ -1,5 +1,5 @@
 use Rattle.std.proofs.Common.{ap, ◌∙◌}
-use Rattle.page_engine_records.specs.Fronts.{Front}
+use Rattle.page_engine_records.specs.machine.Fronts.{Front}
 use Rattle.page_engine_records.proofs.FrontLemmas.{end_named}
 use Rattle.page_engine_records.proofs.runs.RecordRun.finish.Goals as goal
 

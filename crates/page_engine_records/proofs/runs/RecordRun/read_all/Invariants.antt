@@ -1,7 +1,7 @@
 use Rattle.std.proofs.Common.{◌≡◌, ◌<◌, ◌^◌, ℕ, List, length}
 use Rattle.page_core_sources.specs.Sources.{HasGiven}
 use Rattle.page_core_sources.proofs.GivenLemmas.{IsBusy}
-use Rattle.page_engine_records.specs.Steps.{Through}
+use Rattle.page_engine_records.specs.machine.Steps.{Through}
 use Rattle.page_engine_records.proofs.runs.RecordRun.read_all.Given as goal
 
 abbrev pub invariant-loop-calls : goal.invariant-loop-calls

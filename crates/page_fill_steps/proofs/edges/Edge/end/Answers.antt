@@ -1,7 +1,7 @@
 use Rattle.std.proofs.Common.{rules}
 use Rattle.page_core_base.proofs.RowLatchLemmas.{latched}
-use Rattle.page_core_base.specs.RowPlans.{seen}
-use Rattle.page_fill_steps.specs.Fill.{ended}
+use Rattle.page_core_base.specs.machine.RowPlans.{seen}
+use Rattle.page_fill_steps.specs.machine.Fill.{ended}
 use Rattle.page_fill_steps.proofs.edges.Edge.end.Goals as goal
 
 pub returns : goal.returns

@@ -2,7 +2,7 @@ use Rattle.std.proofs.Common.{◌≡◌, ◌<◌, ◌≤◌, ap, arith, drop, le
 use Rattle.std.proofs.lemmas.List.{length-take-le}
 use Rattle.page_core_base.specs.declared.cells.Font.TheVariants.{R}
 use Rattle.page_core_base.specs.Words.{last_start, parts_of}
-use Rattle.page_fill_rows.specs.Plain.{free_cells, word_start}
+use Rattle.page_fill_rows.specs.machine.Plain.{free_cells, word_start}
 use Rattle.page_fill_steps.proofs.TakenWordLemmas.{front-plain, takes-none, takes-words}
 use Rattle.page_fill_steps.proofs.edges.Edge.take_roman.Goals as goal
 

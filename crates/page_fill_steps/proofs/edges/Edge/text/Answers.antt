@@ -1,5 +1,5 @@
 use Rattle.std.proofs.Common.{append_assoc, sym, ap, ◌∙◌, refl}
-use Rattle.page_fill_steps.specs.Fill.{on_sheet}
+use Rattle.page_fill_steps.specs.machine.Fill.{on_sheet}
 use Rattle.page_fill_steps.proofs.WordLemmas.{text-none, text-some}
 use Rattle.page_fill_steps.proofs.edges.Edge.text.Goals as goal
 

@@ -1,5 +1,5 @@
 use Rattle.std.proofs.Common.{◌≤◌, length, ap, sym, ◌∙◌}
-use Rattle.page_roff_blocks.specs.LinePlaces.{is_block}
+use Rattle.page_roff_blocks.specs.machine.LinePlaces.{is_block}
 use Rattle.page_roff_blocks.proofs.EndLemmas.{slice_opens}
 use Rattle.page_roff_blocks.proofs.line_places.LinePlace.opens_block.Goals as goal
 

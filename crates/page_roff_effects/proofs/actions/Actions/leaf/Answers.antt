@@ -1,4 +1,4 @@
-use Rattle.page_roff_effects.specs.Acting.{measured}
+use Rattle.page_roff_effects.specs.machine.Acting.{measured}
 use Rattle.page_roff_effects.proofs.CallLemmas.{leaf_callable}
 use Rattle.page_roff_effects.proofs.actions.Actions.leaf.Goals as goal
 

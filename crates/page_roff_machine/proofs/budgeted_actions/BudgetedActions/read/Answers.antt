@@ -1,5 +1,5 @@
 use Rattle.std.proofs.Common.{refl, ap, ◌∙◌, not, ◌&&◌}
-use Rattle.page_roff_effects.specs.Acting.{measured}
+use Rattle.page_roff_effects.specs.machine.Acting.{measured}
 use Rattle.page_roff_machine.proofs.DoingLemmas.{read_met, passed_nothing}
 use Rattle.page_roff_machine.proofs.budgeted_actions.BudgetedActions.read.Goals as goal
 

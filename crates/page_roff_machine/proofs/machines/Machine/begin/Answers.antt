@@ -1,5 +1,5 @@
 use Rattle.std.proofs.Common.{ap, ◌∙◌}
-use Rattle.page_roff_effects.specs.Acting.{with_number}
+use Rattle.page_roff_effects.specs.machine.Acting.{with_number}
 use Rattle.page_roff_machine.proofs.AtOnceLemmas.{takes_line, taken_sound, kept_begins, kept_sound}
 use Rattle.page_roff_machine.proofs.machines.Machine.begin.Goals as goal
 

@@ -1,6 +1,6 @@
 use Rattle.std.proofs.Common.{sym, ◌∙◌}
 use Rattle.page_roff_blocks.specs.declared.line_parts.LinePart.TheVariants.{Leaf}
-use Rattle.page_roff_stack.specs.Stacks.{next_of}
+use Rattle.page_roff_stack.specs.machine.Stacks.{next_of}
 use Rattle.page_roff_machine.proofs.ActLemmas.{is_the_part, decides_leaf, decides_passed}
 use Rattle.page_roff_machine.proofs.runners.Runner.act.Goals as goal
 

@@ -1,6 +1,6 @@
 use Rattle.std.proofs.Common.{ap, ◌∙◌}
-use Rattle.page_roff_stack.specs.Stacks.{Stack, next_of, is_line}
-use Rattle.page_roff_machine.specs.Moving.{line_in}
+use Rattle.page_roff_stack.specs.machine.Stacks.{Stack, next_of, is_line}
+use Rattle.page_roff_machine.specs.machine.Moving.{line_in}
 use Rattle.page_roff_machine.proofs.ActLemmas.{room, is_the_line, line_there, begins}
 use Rattle.page_roff_machine.proofs.runners.Runner.begin_line.Goals as goal
 

@@ -1,4 +1,4 @@
-use Rattle.page_roff_machine.specs.Stepping.{machine_of}
+use Rattle.page_roff_machine.specs.machine.Stepping.{machine_of}
 use Rattle.page_roff_machine.proofs.StepLemmas.{leads_once, takes_line, is_done, advances_on, sound_once, sound_line, sound_done, line_once, done_once}
 use Rattle.page_roff_machine.proofs.runners.Runner.run.Goals as goal
 

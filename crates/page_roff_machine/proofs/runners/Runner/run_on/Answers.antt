@@ -1,4 +1,4 @@
-use Rattle.page_roff_machine.specs.Stepping.{machine_of}
+use Rattle.page_roff_machine.specs.machine.Stepping.{machine_of}
 use Rattle.std.proofs.Common.{true, false}
 use Rattle.page_roff_machine.proofs.StepLemmas.{sound_of, leads_once, takes_line, is_done, leads_refl, leads_on, advances_on, measured_once, sound_line, sound_done, line_once, done_once}
 use Rattle.page_roff_machine.proofs.runners.Runner.run_on.Goals as goal

@@ -1,4 +1,4 @@
-use Rattle.page_roff_machine.specs.Stepping.{machine_of, IsMeasured, Leads}
+use Rattle.page_roff_machine.specs.machine.Stepping.{machine_of, IsMeasured, Leads}
 use Rattle.page_roff_machine.proofs.StepLemmas.{work_of}
 use Rattle.page_roff_machine.proofs.runners.Runner.run_on.Given as goal
 

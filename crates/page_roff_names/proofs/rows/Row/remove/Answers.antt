@@ -1,6 +1,6 @@
 use Rattle.std.proofs.Common.{◌∙◌, ap, arith}
 use Rattle.std.specs.List.{remove}
-use Rattle.page_roff_names.specs.Layout.{relaid}
+use Rattle.page_roff_names.specs.machine.Layout.{relaid}
 use Rattle.page_roff_names.proofs.Laid.{Lies, lies, opened, closed, seen, begins, relaid-remove, text_removed, length-remove, size-remove}
 use Rattle.page_roff_names.proofs.rows.Row.remove.Goals as goal
 

@@ -1,5 +1,5 @@
 use Rattle.std.proofs.Common.{ap}
-use Rattle.page_roff_stack.specs.Stacks.{Stack}
+use Rattle.page_roff_stack.specs.machine.Stacks.{Stack}
 use Rattle.page_roff_source.proofs.RoffLineLemmas.{new_at, new_invariant}
 use Rattle.page_roff_source.proofs.roff_lines.RoffLines.new.Goals as goal
 

@@ -1,6 +1,6 @@
 use Rattle.std.proofs.Common.{ap, ◌∙◌}
-use Rattle.page_roff_stack.specs.InputStacks.{stack_of}
-use Rattle.page_roff_stack.specs.Stacks.{next_of, is_line}
+use Rattle.page_roff_stack.specs.machine.InputStacks.{stack_of}
+use Rattle.page_roff_stack.specs.machine.Stacks.{next_of, is_line}
 use Rattle.page_roff_stack.proofs.StackLemmas.{line_next}
 use Rattle.page_roff_stack.proofs.input_stacks.InputStack.begins_line.Goals as goal
 

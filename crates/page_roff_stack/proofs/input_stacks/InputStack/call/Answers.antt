@@ -1,11 +1,11 @@
 use Rattle.std.proofs.Common.{◌≡◌, ◌++◌, ap, ◌∙◌, arith, length-append}
 use Rattle.page_roff_language.specs.Languages.{is_some}
-use Rattle.page_roff_language.specs.Machine.{depth, entered}
+use Rattle.page_roff_language.specs.machine.Machine.{depth, entered}
 use Rattle.page_roff_values.specs.Arguments.{arguments_in, lines_in}
 use Rattle.page_roff_stack.specs.declared.input_stacks.Caller.{Caller}
 use Rattle.page_roff_stack.specs.declared.input_stacks.InputStack.TheInside.{Inside}
-use Rattle.page_roff_stack.specs.InputFrames.{frame_of}
-use Rattle.page_roff_stack.specs.Stacks.{call_of}
+use Rattle.page_roff_stack.specs.machine.InputFrames.{frame_of}
+use Rattle.page_roff_stack.specs.machine.Stacks.{call_of}
 use Rattle.page_roff_stack.proofs.InputStackLemmas.{may_be_called, call_room, IsCalled, called_stack, called_held}
 use Rattle.page_roff_stack.proofs.input_stacks.InputStack.call.Goals as goal
 

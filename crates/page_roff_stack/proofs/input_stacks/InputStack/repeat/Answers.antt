@@ -1,13 +1,13 @@
 use Rattle.std.proofs.Common.{◌≡◌, ◌++◌, drop, ap, ◌∙◌, arith, length-append}
 use Rattle.page_roff_regions.specs.Regions.{text_view}
 use Rattle.page_roff_language.specs.Languages.{body, is_some}
-use Rattle.page_roff_language.specs.Machine.{depth, looped}
+use Rattle.page_roff_language.specs.machine.Machine.{depth, looped}
 use Rattle.page_roff_values.specs.Arguments.{lines_in}
 use Rattle.page_roff_stack.specs.declared.input_stacks.Caller.{Caller}
 use Rattle.page_roff_stack.specs.declared.input_stacks.InputStack.TheInside.{Inside}
-use Rattle.page_roff_stack.specs.InputFrames.{frame_of}
-use Rattle.page_roff_stack.specs.Stacks.{first_text, loop_of}
-use Rattle.page_roff_stack.specs.Views.{packed_text, unpacked}
+use Rattle.page_roff_stack.specs.machine.InputFrames.{frame_of}
+use Rattle.page_roff_stack.specs.machine.Stacks.{first_text, loop_of}
+use Rattle.page_roff_stack.specs.machine.Views.{packed_text, unpacked}
 use Rattle.page_roff_stack.proofs.InputStackLemmas.{may_be_called, call_room, IsCalled, looped_stack, called_held}
 use Rattle.page_roff_stack.proofs.input_stacks.InputStack.repeat.Goals as goal
 

@@ -1,8 +1,8 @@
 use Rattle.std.proofs.Common.{[], ap, ◌∙◌, arith}
 use Rattle.page_roff_stack.specs.declared.input_stacks.InputStack.TheInside.{Inside}
-use Rattle.page_roff_stack.specs.Changes.{page_line}
-use Rattle.page_roff_stack.specs.InputStacks.{stack_of}
-use Rattle.page_roff_stack.specs.Stacks.{Stack, next_of, is_nothing}
+use Rattle.page_roff_stack.specs.machine.Changes.{page_line}
+use Rattle.page_roff_stack.specs.machine.InputStacks.{stack_of}
+use Rattle.page_roff_stack.specs.machine.Stacks.{Stack, next_of, is_nothing}
 use Rattle.page_roff_stack.proofs.InputStackLemmas.{callers_none, line_set}
 use Rattle.page_roff_stack.proofs.StackLemmas.{nothing_there}
 use Rattle.page_roff_stack.proofs.input_stacks.InputStack.set_line.Goals as goal

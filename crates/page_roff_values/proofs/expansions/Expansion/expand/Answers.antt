@@ -1,4 +1,4 @@
-use Rattle.page_roff_values.specs.Views.{surroundings_of}
+use Rattle.page_roff_values.specs.machine.Views.{surroundings_of}
 use Rattle.page_roff_values.specs.Values.{nothing, adds, start, expanded}
 use Rattle.page_roff_values.proofs.LayLemmas.{goes_same}
 use Rattle.page_roff_values.proofs.VerbatimLemmas.{verbatim_line}

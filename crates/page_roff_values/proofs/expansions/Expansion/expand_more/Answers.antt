@@ -1,7 +1,7 @@
 use Rattle.std.proofs.Common.{◌≡◌, ◌<◌, ◌==◌, false, [], ◌∷◌, length, ◌∙◌, sym, arith, rules}
 use Rattle.std.proofs.lemmas.Bool.Decides.{nat_tests}
-use Rattle.page_roff_values.specs.Views.{surroundings_of}
-use Rattle.page_roff_values.specs.Rest.{rest}
+use Rattle.page_roff_values.specs.machine.Views.{surroundings_of}
+use Rattle.page_roff_values.specs.machine.Rest.{rest}
 use Rattle.page_roff_values.specs.Values.{NEST, after_bytes, nothing, seq, value}
 use Rattle.page_roff_values.proofs.GoingLemmas.{begins, nest_is}
 use Rattle.page_roff_values.proofs.LayLemmas.{goes_same, goes_then}

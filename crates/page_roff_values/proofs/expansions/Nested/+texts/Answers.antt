@@ -3,11 +3,11 @@ use Rattle.std.proofs.Common.{◌-◌, [], ◌∷◌, length, codes, arith, ap, 
 use Rattle.std.proofs.Common.{w32}
 use Rattle.std.proofs.lemmas.Int.{to_z-of_z}
 use Rattle.page_core_base.specs.declared.note_kinds.NoteKind.TheVariants.{UndefString, ArgOutside, Loop}
-use Rattle.page_roff_values.specs.Views.{surroundings_of}
-use Rattle.page_roff_values.specs.Expansions.{NestedSpot}
-use Rattle.page_roff_values.specs.Rest.{rest, room_in, steps, texts_of}
+use Rattle.page_roff_values.specs.machine.Views.{surroundings_of}
+use Rattle.page_roff_values.specs.machine.Expansions.{NestedSpot}
+use Rattle.page_roff_values.specs.machine.Rest.{rest, room_in, steps, texts_of}
 use Rattle.page_roff_values.specs.Values.{Spot, nothing, seq, says, ends, counts, put, width, inside, call_at, value}
-use Rattle.page_roff_values.specs.Views.{call_of}
+use Rattle.page_roff_values.specs.machine.Views.{call_of}
 use Rattle.page_roff_values.proofs.CallLemmas.{call_ends, call_deep, call_gives, call_enters, string_some, string_none, argument_some, argument_none, register_some, width_some, steps_counts, steps_later, steps_less, size_value}
 use Rattle.page_roff_values.proofs.FollowLemmas.{put_follows, put_count, width_follows, value_follows}
 use Rattle.page_roff_values.proofs.GoingLemmas.{begins}

@@ -1,0 +1,5 @@
+-- The code's own steps and fast ways. Trust needs no reading of them.
+pub mod CodeValues
+pub mod Evaluations
+pub mod Plain
+pub mod Signs

@@ -1,0 +1,110 @@
+-- A machine, which settles what the steps of Sheets settle: the fast way for plain texts (plain_law), and for words that a row takes at once
+-- (`take_words` of page_fill). They are bytes of printable ASCII, each a cell of one column, so that an open row with room for them takes them as
+-- a whole.
+use Rattle.std.specs.Prelude.{ℕ, ◌+◌, Bool, true, not, ◌&&◌, ◌||◌, ◌==◌, ◌-◌, nat_le, nat_lt, min, List, [], ◌∷◌, ◌++◌, length, drop, replicate, if◌then◌else◌}
+use Rattle.std.specs.List.{list_all}
+use Rattle.page_core_base.specs.declared.cells.Cell.{Cell}
+use Rattle.page_core_base.specs.declared.cells.Font.TheVariants.{R}
+use Rattle.page_core_base.specs.Laid.{Laid}
+use Rattle.page_core_base.specs.Words.{last_start, parts_of}
+use Rattle.page_fill_rows.specs.Characters.{cells_of}
+use Rattle.page_fill_rows.specs.machine.Sheets.{Sheet, begins, columns, blank, counted, emptied, gives, opens, over, passes}
+use Rattle.page_core_limits.specs.declared.TheConstants.{CELLS}
+use Rattle.page_fill_rows.specs.declared.TheConstants.{TAG_COLUMNS}
+
+-- a byte from ' ' to '~'
+abbrev pub is_printable : ℕ → Bool
+is_printable b = nat_le 32 b && nat_le b 126
+
+abbrev pub is_printable_ascii : List ℕ → Bool
+is_printable_ascii bytes = list_all is_printable bytes
+
+-- neither the width nor the row's end comes before the end of this count of cells of a column each
+abbrev pub has_room : Sheet → ℕ → Bool
+has_room s count =
+    nat_le (length s.cells + count) CELLS
+    && (s.literal || (s.gap == 0 || nat_le (s.margin + columns s.cells + count) s.width))
+
+-- the same of a row that has a cell
+abbrev pub has_part_room : Sheet → ℕ → Bool
+has_part_room s count = not (length s.cells == 0) && has_room s count
+
+-- an open row that is filled has room for blanks and this count of cells of a column each after them
+abbrev pub has_word_room : Sheet → ℕ → ℕ → Bool
+has_word_room s blanks count =
+    not s.literal
+    && (not (length s.cells == 0)
+    && (nat_le (length s.cells + blanks + count) CELLS && nat_le (s.margin + columns s.cells + blanks + count) s.width))
+
+-- an open row that is filled ends before a word after one blank, with this count of cells of a column each
+abbrev pub ends_before : Sheet → ℕ → Bool
+ends_before s count =
+    not s.literal
+    && (not (length s.cells == 0)
+    && (nat_le (length s.cells + 1 + count) CELLS && nat_lt s.width (s.margin + columns s.cells + 1 + count)))
+
+-- the row took a blank before its next word
+abbrev pub spaced : Sheet → Sheet
+spaced s = let t = counted (opens s) blank in record t { cells = t.cells ++ blank ∷ []; word = length t.cells + 1 }
+
+-- the same of a count of blanks
+abbrev pub spaced_by : Sheet → ℕ → Sheet
+spaced_by s n = record s {
+  cells = s.cells ++ replicate n blank;
+  gap = length s.cells;
+  word = length s.cells + n;
+  tag_columns = min (s.tag_columns + n) TAG_COLUMNS;
+  tag_begun = true;
+}
+
+-- a row is open, perhaps without cells
+abbrev pub opened : Sheet → Sheet
+opened s = if length s.cells == 0 then begins s [] else s
+
+-- the row took cells of a column each
+abbrev pub taken : Sheet → List Cell → Sheet
+taken s cells =
+    record s {
+      margin = (opened s).margin;
+      first = (opened s).first;
+      cells = s.cells ++ cells;
+      gap = (opened s).gap;
+      word = (opened s).word;
+      tag_columns = min (s.tag_columns + length cells) TAG_COLUMNS;
+      tag_begun = true;
+    }
+
+-- the blank before a word counts for the open tag where it does not pass the width itself
+abbrev pub blank_counted : Sheet → Sheet
+blank_counted s = if passes (opens s) blank then opens s else counted (opens s) blank
+
+-- the row ended before a word of a column a cell, which begins the next row
+abbrev pub wraps_plain : Sheet → List Cell → Laid Sheet
+wraps_plain s cells = over (gives (blank_counted s) s.cells) (λ t. taken (emptied t) cells)
+
+-- how many cells of a column each go into an open row that is filled, before it ends
+abbrev pub free_cells : Sheet → ℕ
+free_cells s = if s.literal || length s.cells == 0 then 0 else min (CELLS - length s.cells) (s.width - s.margin - columns s.cells)
+
+-- where the letters after the last blank begin; 0 where there is no blank
+unfoldable pub word_start : List ℕ → ℕ
+word_start [] = 0
+word_start (b ∷ bytes) = if not (word_start bytes == 0) then word_start bytes + 1 else if b == 32 then 1 else 0
+
+-- the row took roman words with a blank before each, one after another: the bytes of a text
+abbrev pub words_taken : Sheet → List ℕ → Sheet
+words_taken s text = record s {
+  cells = s.cells ++ cells_of R text;
+  gap = length s.cells + (word_start text - 1);
+  word = length s.cells + word_start text;
+  tag_columns = min (s.tag_columns + length text) TAG_COLUMNS;
+  tag_begun = true;
+}
+
+-- the row's last word is parted: its last part begins after this count of the word's cells
+abbrev pub parted_at : Sheet → ℕ → Sheet
+parted_at s start = if start == 0 then s else record s { gap = s.word + start; word = s.word + start }
+
+-- the same where the row may end within the last one of these words
+abbrev pub words_parted : Sheet → List ℕ → Sheet
+words_parted s text = parted_at (words_taken s text) (last_start (parts_of (drop (word_start text) text)))

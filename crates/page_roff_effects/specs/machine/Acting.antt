@@ -1,0 +1,189 @@
+-- What the code's object holds, and what its calls do, in terms of the effects of parts. Trust needs no reading of it.
+-- Source: roff(7), "LANGUAGE SYNTAX".
+use Rattle.std.specs.Prelude.{◌≡◌, ℕ, ◌≤◌, Bool, true, false, List, [], ◌∷◌, length, Option, Some, None, if◌then◌else◌}
+use Rattle.page_core_limits.specs.declared.TheConstants.{ARGS, BODY}
+use Rattle.page_core_base.specs.Messages.{Message}
+use Rattle.page_core_base.specs.LinesTaken.{Line}
+use Rattle.page_core_base.specs.declared.lines_taken.Form.{Form}
+use Rattle.page_core_base.specs.declared.lines_taken.Form.TheVariants.{Text, Blank}
+use Rattle.page_core_base.specs.declared.page_settings.Output.{Output}
+use Rattle.page_roff_blocks.specs.declared.line_parts.LinePart.TheVariants.{Leaf}
+use Rattle.page_roff_blocks.specs.LineParts.{line_parts}
+use Rattle.page_roff_forms.specs.LineForms.{has_word}
+use Rattle.page_core_base.specs.Latches.{Came}
+use Rattle.page_roff_values.specs.Values.{Spot, Laid, expanded}
+use Rattle.page_roff_values.specs.machine.Views.{units_of_bytes}
+use Rattle.page_roff_language.specs.Budgets.{Effects}
+use Rattle.page_roff_language.specs.Languages.{Kind, arguments_of}
+use Rattle.page_roff_conditions.specs.Answers.{Answer}
+use Rattle.page_roff_names.specs.Names.{Definitions}
+use Rattle.page_roff_buffers.specs.Calls.{Call}
+use Rattle.page_roff_effects.specs.declared.commands.Command.TheVariants.{Pass}
+use Rattle.page_roff_effects.specs.Commands.{command_of}
+use Rattle.page_roff_effects.specs.declared.commands.ProductKind.{ProductKind}
+use Rattle.page_roff_effects.specs.declared.commands.ProductKind.TheVariants as kinds
+use Rattle.page_roff_effects.specs.States.{Memory, first_memory, Product, no_product, line_product, call_product, loop_product, Outcome, Setting, State, surroundings, counted}
+use Rattle.page_roff_effects.specs.Effects.{effects, test_outcome}
+use Rattle.page_roff_effects.specs.Leaves as leaves
+use Rattle.page_roff_effects.specs.declared.leaves.ControlLine.{ControlLine}
+
+-- the output, and the arguments of the macro that runs, if one does
+pub record ActingSetting : Type 0 where
+  pub output : Output
+  pub arguments : Option (List (List ℕ))
+
+-- the code measures any bytes
+abbrev pub measured : ActingSetting → Setting
+measured setting = record { units = units_of_bytes setting.output; arguments = setting.arguments }
+
+abbrev pub acting_setting : Output → Kind → ActingSetting
+acting_setting output kind = record { output = output; arguments = arguments_of kind }
+
+abbrev pub acting_effects : Output → Effects State
+acting_effects output = effects (units_of_bytes output)
+
+-- What decides, what is remembered, the line as far as it is expanded, and what was taken last: a line, and a call.
+pub record Acting : Type 0 where
+  pub setting : ActingSetting
+  pub memory : Memory
+  pub finished : Spot
+  pub line : Line
+  pub call : Call
+
+abbrev pub first_setting : Output → ActingSetting
+first_setting output = record { output = output; arguments = None }
+
+-- what comes of a part, as the code says it
+abbrev pub kind_of : Product → ProductKind
+kind_of no_product = kinds.Nothing
+kind_of (line_product line) = kinds.Line
+kind_of (call_product call) = kinds.Call
+kind_of (loop_product text) = kinds.Loop
+
+-- what came of a part is what is lent
+abbrev pub Lends : Product → Acting → Type 0
+Lends no_product a = Unit {0}
+Lends (line_product line) a = a.line ≡ line
+Lends (call_product call) a = a.call ≡ call
+Lends (loop_product text) a = a.call.body ≡ text
+
+-- one more macro may run, and this one is within the limits
+pub record IsCallable (may_call : Bool) (call : Call) : Type 0 where
+  pub room : may_call ≡ true
+  pub body : length call.body ≤ BODY
+  pub packed : length call.packed ≤ ARGS
+
+-- what comes of a leaf: it may be a call, of which something is true, and is no loop
+abbrev pub IfCalled : ProductKind → Type 0 → Type 0
+IfCalled kinds.Nothing P = Unit {0}
+IfCalled kinds.Line P = Unit {0}
+IfCalled kinds.Call P = P
+IfCalled kinds.Loop P = ⊥
+
+-- one more loop may run, and the text of this one is within its limit
+pub record IsRepeatable (may_call : Bool) (text : List ℕ) : Type 0 where
+  pub room : may_call ≡ true
+  pub short : length text ≤ BODY
+
+-- what comes of a loop that is whole: nothing, or the loop, of which something is true
+abbrev pub IfRepeated : ProductKind → Type 0 → Type 0
+IfRepeated kinds.Nothing P = Unit {0}
+IfRepeated kinds.Line P = ⊥
+IfRepeated kinds.Call P = ⊥
+IfRepeated kinds.Loop P = P
+
+-- a call did what an outcome says: its messages came, and this is remembered
+pub record Does {P S : Type 0} (left : P → S → List Message → Type 0) (old : Acting) (out : S) (o : Outcome) (new : Acting) (out_new : S) : Type 0 where
+  pub setting : new.setting ≡ old.setting
+  pub memory : new.memory ≡ o.memory
+  pub came : Came left out o.notes out_new
+
+-- and it answered what comes of the part, which is lent from then on
+pub record Gives {P S : Type 0} (left : P → S → List Message → Type 0) (old : Acting) (out : S) (o : Outcome) (result : ProductKind) (new : Acting) (out_new : S) : Type 0 where
+  pub does : Does left old out o new out_new
+  pub kind : result ≡ kind_of o.product
+  pub lends : Lends o.product new
+
+-- a condition was tested
+pub record Tests {P S : Type 0} (left : P → S → List Message → Type 0) (old : Acting) (out : S) (answer : Answer) (result : Bool) (new : Acting) (out_new : S) : Type 0 where
+  pub does : Does left old out (test_outcome answer old.memory) new out_new
+  pub holds : result ≡ answer.holds
+
+-- a line was expanded
+abbrev pub with_finished : Laid → Acting → Acting
+with_finished laid a =
+    record {
+      setting = a.setting;
+      memory = counted laid.edge.count a.memory;
+      finished = laid.edge;
+      line = a.line;
+      call = a.call;
+    }
+
+abbrev pub Expands : {P S : Type 0} → (P → S → List Message → Type 0) → S → S → Spot → Laid → Type 0
+Expands left old new edge laid = (edge ≡ laid.edge) × Came left old laid.notes new
+
+abbrev pub line_laid : Bool → List ℕ → Acting → Laid
+line_laid copy text a = expanded (surroundings copy (measured a.setting) a.memory) a.memory.number text
+
+-- a line was expanded, or is what it gives and was not copied
+abbrev pub text_given : Bool → List ℕ → Acting → List ℕ
+text_given kept text a = if kept then text else a.finished.text
+
+pub record ExpandsOrKeeps {P S : Type 0} (left : P → S → List Message → Type 0) (copy : Bool) (old : Acting) (out : S) (text : List ℕ) (kept : Bool)
+    (new : Acting) (out_new : S) : Type 0 where
+  pub setting : new.setting ≡ old.setting
+  pub memory : new.memory ≡ counted (line_laid copy text old).edge.count old.memory
+  pub given : text_given kept text new ≡ (line_laid copy text old).edge.text
+  pub came : Came left out (line_laid copy text old).notes out_new
+
+abbrev pub with_arguments : Option (List (List ℕ)) → Acting → Acting
+with_arguments arguments a = record a { setting = record { output = a.setting.output; arguments = arguments } }
+
+abbrev pub with_number : ℕ → Acting → Acting
+with_number number a = record a {
+  memory = record { definitions = a.memory.definitions; body = a.memory.body; number = number; expansions = a.memory.expansions };
+}
+
+-- something came of a part, without a message
+pub record Takes (old : Acting) (o : Outcome) (result : ProductKind) (new : Acting) : Type 0 where
+  pub setting : new.setting ≡ old.setting
+  pub memory : new.memory ≡ o.memory
+  pub kind : result ≡ kind_of o.product
+  pub lends : Lends o.product new
+
+-- a raw line whose name is left to the set of macros, and which is one part then, where it has a name
+abbrev pub IsPassed : List ℕ → Option (List ℕ) → Definitions → Type 0
+IsPassed raw None d = Unit {0}
+IsPassed raw (Some name) d = (command_of name d ≡ Pass) × (line_parts raw ≡ Leaf raw ∷ [])
+
+-- a raw line that is one part was taken without a message, whether one more macro may run or not; or nothing was done
+pub record IsTaken (old : Acting) (raw : List ℕ) (outcome : Bool → Outcome) (new : Acting) : Type 0 where
+  pub leaf : line_parts raw ≡ Leaf raw ∷ []
+  pub setting : new.setting ≡ old.setting
+  pub memory : new.memory ≡ old.memory
+  pub given : (may_call : Bool) → outcome may_call ≡ record { notes = []; product = line_product new.line; memory = old.memory }
+
+abbrev pub TakesIf : Bool → Acting → List ℕ → (Bool → Outcome) → Acting → Type 0
+TakesIf true old raw outcome new = IsTaken old raw outcome new
+TakesIf false old raw outcome new = new ≡ old
+
+-- an object between two lines remembers this
+pub record Remembers (output : Output) (remembered : Memory) (a : Acting) : Type 0 where
+  pub setting : a.setting ≡ first_setting output
+  pub memory : a.memory ≡ remembered
+
+-- a new object remembers nothing
+pub record IsNew (output : Output) (a : Acting) : Type 0 where
+  pub setting : a.setting ≡ first_setting output
+  pub memory : a.memory ≡ first_memory
+
+-- ---- of the program, with what its texts hold
+
+abbrev pub control_view : ControlLine → leaves.ControlLine
+control_view line =
+    record { name = line.name.now; column = line.column; name_end = line.name_end; text = line.text.now }
+
+-- the form of a line of plain text
+abbrev pub plain_form : List ℕ → Form
+plain_form line = if has_word line then Text else Blank

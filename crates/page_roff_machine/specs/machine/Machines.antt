@@ -1,0 +1,145 @@
+-- The machine that runs a source line, as the code makes its steps: what is still to come of the line. Trust needs no reading of it.
+-- Source: roff(7), "LANGUAGE SYNTAX"; mandoc(1), "DIAGNOSTICS".
+use Rattle.std.specs.Prelude.{◌≡◌, ℕ, Bool, true, false, List, [], ◌∷◌, Option, Some, None}
+use Rattle.page_core_base.specs.LinesTaken.{Line}
+use Rattle.page_core_base.specs.Messages.{Message}
+use Rattle.page_core_base.specs.declared.page_settings.Output.{Output}
+use Rattle.page_roff_blocks.specs.Levels.{Place}
+use Rattle.page_roff_blocks.specs.Run.{At}
+use Rattle.page_core_base.specs.Latches.{Came}
+use Rattle.page_core_limits.specs.declared.TheConstants.{REREAD}
+use Rattle.page_roff_language.specs.Languages.{Language, run_page}
+use Rattle.page_roff_language.specs.machine.Machine.{Running, rest_of}
+use Rattle.page_roff_language.specs.Budgets.{Budgeted, language}
+use Rattle.page_roff_language.specs.machine.Counting.{Budget, budgeted, first_budget, budget_at}
+use Rattle.page_roff_effects.specs.machine.Acting.{Acting, acting_effects}
+use Rattle.page_roff_effects.specs.machine.Acting as acting
+use Rattle.page_roff_effects.specs.RegionLines.{finish_outcome}
+use Rattle.page_roff_effects.specs.States.{Memory, State, Given, takes, numbered}
+use Rattle.page_roff_stack.specs.machine.Stacks.{Stack, first_stack, stack_at, running, next_of, is_nothing}
+use Rattle.page_roff_machine.specs.Giving.{notes_before, next_line, after_line}
+
+-- the sources that run, what their parts do with what is remembered, and the budget of the source line
+pub record Machine : Type 0 where
+  pub stack : Stack
+  pub actions : Acting
+  pub budget : Budget
+
+abbrev pub output_of : Machine → Output
+output_of m = m.actions.setting.output
+
+abbrev pub language_of : Machine → Language (Budgeted State)
+language_of m = language (acting_effects (output_of m))
+
+-- as the definitions see it, where this was given before
+abbrev pub running_of : List Given → Machine → Running (Budgeted State)
+running_of given m = running m.stack (budgeted m.budget (record { memory = m.actions.memory; out = given }))
+
+-- ---- what is to come
+
+-- all that is still to come of the source line, and where it leaves the page
+unfoldable pub outcome_of : Machine → At (Budgeted State)
+outcome_of m = rest_of (language_of m) (running_of [] m)
+
+abbrev pub to_come : Machine → List Given
+to_come m = (outcome_of m).state.rest.out
+
+-- without what is given
+abbrev pub hushed : At (Budgeted State) → At (Budgeted State)
+hushed a = record {
+  place = a.place;
+  state = record {
+    left = a.state.left;
+    gave_up = a.state.gave_up;
+    taken = a.state.taken;
+    rest = record { memory = a.state.rest.memory; out = [] };
+  };
+}
+
+abbrev pub end_of : Machine → At (Budgeted State)
+end_of m = hushed (outcome_of m)
+
+-- the source line is done, or none came
+abbrev pub is_idle : Machine → Bool
+is_idle m = is_nothing (next_of m.stack)
+
+-- where the page stands between two lines, and the state there
+abbrev pub place_of : Machine → Place
+place_of m = record { region = m.stack.top.region; levels = m.stack.top.cursor.levels }
+
+abbrev pub stands : Machine → At (Budgeted State)
+stands m = record { place = place_of m; state = (running_of [] m).state }
+
+-- ---- a source line
+
+-- a source line begins, with a budget of its own
+abbrev pub begun_at : ℕ → Machine → At (Budgeted State)
+begun_at number m = record {
+  place = place_of m;
+  state = record {
+    left = REREAD;
+    gave_up = false;
+    taken = m.budget.taken;
+    rest = record { memory = numbered number m.actions.memory; out = [] };
+  };
+}
+
+-- all of a line of the page is to come
+pub record Begins (line : List ℕ) (number : ℕ) (old new : Machine) : Type 0 where
+  pub output : output_of new ≡ output_of old
+  pub outcome : outcome_of new ≡ run_page (language_of old) (line ∷ []) (begun_at number old)
+
+-- where the machine stands, and what was given
+abbrev pub stands_after : List Given → Machine → At (Budgeted State)
+stands_after given m = record { place = place_of m; state = (running_of given m).state }
+
+-- all of a line of the page was taken at once: that line is all that it gives, and it is done
+pub record Takes (line : List ℕ) (number : ℕ) (old new : Machine) : Type 0 where
+  pub output : output_of new ≡ output_of old
+  pub idle : is_idle new ≡ true
+  pub outcome : stands_after (takes new.actions.line ∷ []) new ≡ run_page (language_of old) (line ∷ []) (begun_at number old)
+
+abbrev pub BeginsOrTakes : Bool → List ℕ → ℕ → Machine → Machine → Type 0
+BeginsOrTakes true line number old new = Takes line number old new
+BeginsOrTakes false line number old new = Begins line number old new
+
+-- ---- running on
+
+abbrev pub taken_if : Bool → Line → Option Line
+taken_if true line = Some line
+taken_if false line = None
+
+abbrev pub IsIdleUnless : Bool → Machine → Type 0
+IsIdleUnless true m = Unit {0}
+IsIdleUnless false m = is_idle m ≡ true
+
+-- It ran on: the messages before the next line came, and that line was taken, if there is one; what comes after it is still to come, and
+-- leads to the same end. Where there is none, the source line is done.
+pub record Advances {P S : Type 0} (left : P → S → List Message → Type 0) (old : Machine) (out : S)
+    (result : Bool) (new : Machine) (out_new : S) : Type 0 where
+  pub output : output_of new ≡ output_of old
+  pub came : Came left out (notes_before (to_come old)) out_new
+  pub line : next_line (to_come old) ≡ taken_if result new.actions.line
+  pub rest : to_come new ≡ after_line (to_come old)
+  pub ends : end_of new ≡ end_of old
+  pub idle : IsIdleUnless result new
+
+-- ---- before the first line, and after the last one
+
+pub record IsNew (output : Output) (m : Machine) : Type 0 where
+  pub stack : m.stack ≡ first_stack
+  pub actions : acting.IsNew output m.actions
+  pub budget : m.budget ≡ first_budget
+
+-- between two lines of a page, where it stands so, with what is remembered and the number of lines that were taken
+pub record Resumes (output : Output) (place : Place) (memory : Memory) (taken : ℕ) (m : Machine) : Type 0 where
+  pub stack : m.stack ≡ stack_at place
+  pub actions : acting.Remembers output memory m.actions
+  pub budget : m.budget ≡ budget_at taken
+
+-- the page ends: a region or a loop that is open is dropped with a message
+abbrev pub end_notes : Machine → List Message
+end_notes m = (finish_outcome m.stack.top.region m.stack.top.cursor.levels.in_loop false m.actions.memory).notes
+
+abbrev pub end_memory : Machine → Memory
+end_memory m = (finish_outcome m.stack.top.region m.stack.top.cursor.levels.in_loop false m.actions.memory).memory
