@@ -1,5 +1,9 @@
 //! Cells: the characters of a row with their fonts.
 
+ghost use Rattle.std.specs.Prelude.{◌≡◌};
+ghost use Rattle.std.specs.List.{list_all};
+ghost use Rattle.page_core_base.specs.Rows.{is_blank, is_blank_row, row_of};
+
 /// The font of a cell: roman, bold, italic, or bold and italic (mandoc_char(7), roff(7) `ft`).
 #[derive(Clone, Copy, Debug, PartialEq, Eq)]
 pub enum Font {
@@ -14,4 +18,23 @@ pub enum Font {
 pub struct Cell {
     pub c: char,
     pub font: Font,
+}
+
+/// More cells than a row of words has: those that are blanks are looked for in groups.
+pub const LONG_ROW: usize = 512;
+
+/// The cells of a long row that are looked at together: so many that the compiler makes a loop for them that tests several at once.
+pub const BLANK_GROUP: usize = 64;
+
+/// Whether a few cells are blanks. All of them are read.
+#[inline(always)]
+pub fn are_blank(cells: &[Cell]) -> bool
+    ensures cells { result ≡ list_all is_blank cells.now }
+    ensures row { result ≡ is_blank_row (row_of 0 cells.now) }
+{
+    let mut all = true;
+    for cell in cells {
+        all &= cell.c == ' ';
+    }
+    all
 }

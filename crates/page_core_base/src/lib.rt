@@ -28,7 +28,7 @@ mod row_sinks;
 mod texts;
 mod word_parts;
 
-pub use cells::{Cell, Font};
+pub use cells::{BLANK_GROUP, Cell, Font, LONG_ROW, are_blank};
 pub use faults::Fault;
 pub use lines_taken::{Form, Taken};
 pub use note_kinds::{Level, NoteKind};

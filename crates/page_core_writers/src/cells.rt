@@ -2,12 +2,12 @@
 
 ghost use Rattle.std.specs.Prelude.{◌≡◌, ℕ, ◌+◌, ◌*◌, ◌<◌, ◌≤◌, [], ◌∷◌, ◌++◌, length, take, true, encode_utf8};
 ghost use Rattle.std.specs.List.{flat_map, list_all};
-ghost use Rattle.page_core_base.specs.Rows.{is_blank, trimmed};
+ghost use Rattle.page_core_base.specs.Rows.{trimmed};
 ghost use Rattle.page_core_writers.specs.machine.PlainCells.{is_plain, is_roman};
 ghost use Rattle.page_core_writers.specs.RowBytes.{cell_bytes_of};
 
 use arrayvec::ArrayVec;
-use page_core_base::{Cell, Font};
+use page_core_base::{BLANK_GROUP, Cell, Font, LONG_ROW, are_blank};
 
 // The bytes of a cell at most.
 const CELL_BYTES: usize = 16;
@@ -212,38 +212,20 @@ fn write_char(bytes: &mut [u8], start: usize, c: char) -> usize
     end
 }
 
-// More cells than a row of words has.
-const LONG: usize = 512;
-
-// The cells of a long row that are looked at together: so many that the compiler makes a loop for them that tests several at once.
-const GROUP: usize = 64;
-
-// Whether a few cells are blanks. All of them are read.
-#[inline(always)]
-fn are_blank(cells: &[Cell]) -> bool
-    ensures { result ≡ list_all is_blank cells.now }
-{
-    let mut all = true;
-    for cell in cells {
-        all &= cell.c == ' ';
-    }
-    all
-}
-
 // How many cells there are before the groups of blanks at the end of a long row.
 fn len_before_groups(cells: &[Cell]) -> usize
     ensures same { trimmed cells.now ≡ trimmed (take result cells.now) }
     ensures within { result ≤ length cells.now }
 {
-    if cells.len() < LONG {
+    if cells.len() < LONG_ROW {
         return cells.len();
     }
     let mut len = cells.len();
-    while len >= GROUP {
-        if !are_blank(&cells[len - GROUP..len]) {
+    while len >= BLANK_GROUP {
+        if !are_blank(&cells[len - BLANK_GROUP..len]) {
             return len;
         }
-        len -= GROUP;
+        len -= BLANK_GROUP;
     }
     len
 }

@@ -18,7 +18,7 @@ use page_core_limits::LINE;
 use page_engine_header::{Fields, Measure, give_footer_row, give_header};
 use page_scopes::{OpenScopes, PageLayout};
 use page_scopes_words::report;
-use page_sets::{EventKind, Either, Event, Leaf, MacroSet};
+use page_sets::{Either, Event, EventKind, Leaf, MacroSet};
 use page_sets_lines::{EventOut, PlainLine};
 use std::alloc::{AllocError, Global};
 use std::marker::Model;

@@ -4,7 +4,7 @@ ghost use Rattle.std.specs.Prelude.{◌≡◌, ◌*◌, ◌≤◌, length};
 ghost use Rattle.page_fill_rows.specs.machine.Sheets as sheet;
 ghost use Rattle.page_core_base.specs.Rows.{is_blank_row, row_of};
 
-use page_core_base::{Cell, Font};
+use page_core_base::{BLANK_GROUP, Cell, Font, LONG_ROW, are_blank};
 use page_core_tables::char_columns;
 
 /// A blank.
@@ -34,32 +34,14 @@ pub fn columns(cells: &[Cell]) -> u32
     sum
 }
 
-// More cells than a row of words has.
-const LONG: usize = 512;
-
-// The cells of a long row that are looked at together: so many that the compiler makes a loop for them that tests several at once.
-const GROUP: usize = 64;
-
-// Whether no cell of a few prints anything. All of them are read.
-#[inline(always)]
-fn are_blank(cells: &[Cell]) -> bool
-    ensures { result ≡ is_blank_row (row_of 0 cells.now) }
-{
-    let mut all = true;
-    for cell in cells {
-        all &= cell.c == ' ';
-    }
-    all
-}
-
 // Whether no cell of a long row prints anything.
 #[inline(never)]
 fn is_long_blank(cells: &[Cell]) -> bool
     ensures { result ≡ is_blank_row (row_of 0 cells.now) }
 {
     let mut rest = cells;
-    while rest.len() >= GROUP {
-        let (group, later) = rest.split_at(GROUP);
+    while rest.len() >= BLANK_GROUP {
+        let (group, later) = rest.split_at(BLANK_GROUP);
         if !are_blank(group) {
             return false;
         }
@@ -84,7 +66,7 @@ fn is_short_blank(cells: &[Cell]) -> bool
 pub(crate) fn is_blank(cells: &[Cell]) -> bool
     ensures { result ≡ is_blank_row (row_of 0 cells.now) }
 {
-    if cells.len() < LONG {
+    if cells.len() < LONG_ROW {
         is_short_blank(cells)
     } else {
         is_long_blank(cells)

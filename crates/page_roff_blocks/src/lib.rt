@@ -10,20 +10,20 @@
 //! open start, and it may be cut anywhere.
 #![tactic(auto)]
 
-mod line_parts;
+mod block_cursors;
 mod laws;
 mod levels;
+mod line_parts;
 mod line_places;
 mod loops;
 mod parts;
-mod block_cursors;
 mod standings;
 
-pub use line_parts::{LinePart, Branch, Head, Opening};
-pub use laws::{line_parts_law, cut_law, fold_law, lines_law, room_law};
+pub use block_cursors::{BlockCursor, Pass, Reached};
+pub use laws::{cut_law, fold_law, line_parts_law, lines_law, room_law};
 pub use levels::{Answer, Ended, Levels, Way};
+pub use line_parts::{Branch, Head, LinePart, Opening};
 pub use line_places::LinePlace;
 pub use loops::loop_text;
 pub use parts::is_leaf;
-pub use block_cursors::{Pass, Reached, BlockCursor};
 pub use standings::Standing;

@@ -14,7 +14,7 @@ ghost use Rattle.page_roff_blocks.specs.Parts.{columns_of, named_part};
 ghost use Rattle.page_roff_blocks.specs.declared.parts.Keyword.TheVariants as keywords;
 ghost use Rattle.page_roff_regions.specs.Regions.{text_view};
 
-use crate::line_parts::{LinePart, Branch, Head, Opening};
+use crate::line_parts::{Branch, Head, LinePart, Opening};
 use page_core_limits::LINE;
 use page_roff_forms::{LineForm, control_name, form_of, white_len};
 use page_roff_heads::{

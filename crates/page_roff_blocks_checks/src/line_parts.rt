@@ -1,7 +1,7 @@
 //! The parts of lines.
 
 use arrayvec::ArrayVec;
-use page_roff_blocks::{LinePart, Branch, Head, LinePlace, Opening, loop_text};
+use page_roff_blocks::{Branch, Head, LinePart, LinePlace, Opening, loop_text};
 use page_roff_heads::LoopHead;
 use page_roff_regions::RegionHead;
 use std::process::Abort;

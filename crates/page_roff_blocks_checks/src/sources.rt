@@ -2,7 +2,8 @@
 
 use arrayvec::ArrayVec;
 use page_roff_blocks::{
-    Answer, LinePart, Branch, Ended, Head, LinePlace, Opening, Pass, Reached, BlockCursor, Way, loop_text,
+    Answer, BlockCursor, Branch, Ended, Head, LinePart, LinePlace, Opening, Pass, Reached, Way,
+    loop_text,
 };
 use page_roff_heads::{Condition, LoopHead, Test};
 use page_roff_regions::OpenRegion;
@@ -78,7 +79,8 @@ impl Source {
             return None;
         }
         let value = self.value(head);
-        head.branch.answered(self.cursor.levels().bit(), Some(value))
+        head.branch
+            .answered(self.cursor.levels().bit(), Some(value))
     }
 
     fn guard(&mut self, rt: &impl Abort, head: Head<&[u8]>) {

@@ -105,7 +105,9 @@ fn close<O: NoteOut>(
 fn open_loop<O: NoteOut>(rt: &impl Abort, actions: &mut Actions, line: &str, out: &mut O) {
     assert!(rt; line.len() <= 65_000);
     match LinePlace::start(line.as_bytes()).next_line_part(line.as_bytes()) {
-        Some(LinePart::Loop(head) | LinePart::Block(Opening::Loop(head))) => actions.open_loop(&head, out),
+        Some(LinePart::Loop(head) | LinePart::Block(Opening::Loop(head))) => actions.open_loop(
+            &head, out,
+        ),
         _ => panic!(rt; "{line}"),
     }
 }

@@ -18,7 +18,7 @@ use crate::budgeted_actions::BudgetedActions;
 use arrayvec::ArrayVec;
 use page_core_base::NoteOut;
 use page_core_limits::ARGS;
-use page_roff_blocks::{Answer, LinePart, Ended, Opening, Pass, Reached, Way};
+use page_roff_blocks::{Answer, Ended, LinePart, Opening, Pass, Reached, Way};
 use page_roff_effects::ProductKind;
 use page_roff_stack::{InputStack, Movement, Next};
 

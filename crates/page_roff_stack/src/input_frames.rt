@@ -27,7 +27,7 @@ use crate::spans::{NOWHERE, Span};
 use crate::turns::Turns;
 use memchr::memchr;
 use page_core_limits::{ARGS, BODY, LINE, REREAD};
-use page_roff_blocks::{LinePart, LinePlace, Pass, BlockCursor, Standing};
+use page_roff_blocks::{BlockCursor, LinePart, LinePlace, Pass, Standing};
 use page_roff_regions::OpenRegion;
 
 // The turns that a loop has at most, and one more: each takes a line, or is given up.

@@ -21,7 +21,7 @@ use crate::input_frames::InputFrame;
 use crate::movements::Movement;
 use crate::next::Next;
 use page_core_limits::{ARGS, BODY, CALLS, LINE};
-use page_roff_blocks::{LinePart, Levels, Reached, Standing};
+use page_roff_blocks::{Levels, LinePart, Reached, Standing};
 use page_roff_regions::OpenRegion;
 use std::alloc::{AllocError, Global};
 use std::marker::Model;

@@ -4,7 +4,7 @@
 use arrayvec::ArrayVec;
 use page_core_base::is_line;
 use page_core_limits::{ARGS, BODY};
-use page_roff_blocks::{LinePart, Branch, Ended, Head, Opening, Pass, Reached, loop_text};
+use page_roff_blocks::{Branch, Ended, Head, LinePart, Opening, Pass, Reached, loop_text};
 use page_roff_heads::{Condition, LoopHead, Test};
 use page_roff_stack::{InputStack, Movement, Next};
 use std::alloc::AllocError;

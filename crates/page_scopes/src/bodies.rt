@@ -19,7 +19,9 @@ use page_scopes_phrases::{KeptText, Running, argument_word, give_line_word};
 use page_scopes_text::give_number;
 use page_scopes_tree::Act;
 use page_scopes_words::report;
-use page_sets_lines::{BlockCloser, Closer, EventKind, Event, Join, Leaf, LineOpener, LineStep, Opener};
+use page_sets_lines::{
+    BlockCloser, Closer, Event, EventKind, Join, Leaf, LineOpener, LineStep, Opener,
+};
 
 // Whether a step of a line may begin the body: the address of `Lk`, the name of the manual, and the end of a function.
 fn step_begins(step: &LineStep<&[u8]>) -> bool

@@ -15,7 +15,7 @@ use page_scopes_layout::Context;
 use page_scopes_nodes::{PageLayout, give_begun, give_ended};
 use page_scopes_phrases::{KeptText, Running};
 use page_scopes_tree::{Act, Renderer};
-use page_sets_lines::{EventKind, Event, Opener};
+use page_sets_lines::{Event, EventKind, Opener};
 
 /// What scopes and other events are laid out by.
 #[derive(Drop)]

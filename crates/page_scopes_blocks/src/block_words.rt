@@ -15,9 +15,11 @@ use page_scopes_labels::{Explicit, Label};
 use page_scopes_layout::{Context, SeriesSoFar};
 use page_scopes_leaves::give_function_end;
 use page_scopes_phrases::{
-    Phrase, Running, argument_word, give_line_word, give_generated_word, give_phrase,
+    Phrase, Running, argument_word, give_generated_word, give_line_word, give_phrase,
 };
-use page_sets_lines::{Block, BlockOpener, Join, LineOpener, Marks, GeneratedText, GeneratedWord, Word};
+use page_sets_lines::{
+    Block, BlockOpener, GeneratedText, GeneratedWord, Join, LineOpener, Marks, Word,
+};
 
 // The mark before the words of an enclosure.
 fn opening_word(marks: Marks) -> GeneratedWord

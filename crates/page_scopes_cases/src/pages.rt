@@ -13,7 +13,7 @@ use page_scopes::OpenScopes;
 use page_scopes_nodes::PageLayout;
 use page_sets::Man;
 use page_sets_checks::Verbatim;
-use page_sets_lines::{EventKind, Event, MacroSet};
+use page_sets_lines::{Event, EventKind, MacroSet};
 use std::alloc::{AllocError, Global};
 
 /// The scopes of a page, and the number of its next line.

@@ -12,9 +12,9 @@ ghost use Rattle.page_sets_lines.specs.Events.{kind_view, given_view, word_view}
 use page_core_base::Font;
 use page_roff_forms::{Argument, Quoting};
 use page_sets_lines::{
-    BlockCloser, BlockOpener, BodyParagraphName, Closer, EventKind, HeadingName, Join, Leaf, LineOpener,
-    LineStep, ListKind, Marks, OneLineName, Opener, GeneratedText, GeneratedWord, Quotation, Role, SynopsisStep,
-    Word, read_list_options,
+    BlockCloser, BlockOpener, BodyParagraphName, Closer, EventKind, GeneratedText, GeneratedWord,
+    HeadingName, Join, Leaf, LineOpener, LineStep, ListKind, Marks, OneLineName, Opener, Quotation,
+    Role, SynopsisStep, Word, read_list_options,
 };
 
 // The bytes at most of a text, and the columns of a line.

@@ -10,11 +10,13 @@ use crate::margins::give_row_margins;
 use page_core_base::{NoteKind, Piece, PieceOut, Place};
 use page_scopes_layout::{Context, PageSection, SeriesSoFar, give_margins};
 use page_scopes_phrases::{
-    KeptText, Running, argument_word, blanks_part, give_column_step, give_line_word,
-    give_manual_name, give_generated_word, is_heading, joined_gap,
+    KeptText, Running, argument_word, blanks_part, give_column_step, give_generated_word,
+    give_line_word, give_manual_name, is_heading, joined_gap,
 };
 use page_scopes_words::{Setting, report};
-use page_sets_lines::{BodyParagraphName, Join, LineStep, GeneratedText, GeneratedWord, SynopsisStep};
+use page_sets_lines::{
+    BodyParagraphName, GeneratedText, GeneratedWord, Join, LineStep, SynopsisStep,
+};
 
 // The next word is glued to the one before: `Ns`.
 fn glue(context: &Context, running: &mut Running)

@@ -6,7 +6,7 @@ use page_scopes_layout::Context;
 use page_scopes_leaves::give_kind;
 use page_scopes_phrases::Running;
 use page_scopes_shown::Shown;
-use page_sets::{EventKind, Event, Leaf, Man};
+use page_sets::{Event, EventKind, Leaf, Man};
 use page_sets_checks::events_of;
 use std::alloc::Global;
 use std::process::Abort;

@@ -8,9 +8,9 @@ use crate::pages::{MOST, Page, check_shown};
 use page_core_base::{Font, Place};
 use page_roff_forms::{Argument, Quoting};
 use page_scopes_leaves::{TagPlace, end_line, give_leaf, give_raw_line, give_tag};
-use page_scopes_phrases::{give_line_word, give_generated_word};
+use page_scopes_phrases::{give_generated_word, give_line_word};
 use page_scopes_shown::Shown;
-use page_sets::{Join, Leaf, GeneratedText, GeneratedWord, Role, Word};
+use page_sets::{GeneratedText, GeneratedWord, Join, Leaf, Role, Word};
 use std::alloc::Global;
 use std::process::Abort;
 
@@ -100,7 +100,14 @@ fn marked(alloc: Global) -> Shown {
     give_line_word(&mut out, 1, &argument("a.", None), context, running);
     give_generated_word(&mut out, place, mark, context, running);
     end_line(&mut out, context, running);
-    give_leaf(&mut out, place, &Leaf::Generated(mark), &None, context, running);
+    give_leaf(
+        &mut out,
+        place,
+        &Leaf::Generated(mark),
+        &None,
+        context,
+        running,
+    );
     give_raw_line(&mut out, place, b"b", context, running);
     out.add_number(running.gap);
     out

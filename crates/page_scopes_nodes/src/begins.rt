@@ -14,7 +14,7 @@ use page_scopes_blocks::give_line_words;
 use page_scopes_labels::Label;
 use page_scopes_layout::{Context, give_begin};
 use page_scopes_phrases::{HeadingSoFar, Running};
-use page_sets_lines::{EventKind, Event, FontMacro, HeadingName, LineOpener};
+use page_sets_lines::{Event, EventKind, FontMacro, HeadingName, LineOpener};
 
 // The column of the heading of `SH`, `SS`, `Sh` or `Ss`.
 fn heading_column(name: HeadingName) -> u32

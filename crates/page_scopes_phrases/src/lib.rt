@@ -23,7 +23,7 @@ pub use cells::give_column_step;
 pub use headings::{HeadingSoFar, is_heading};
 pub use kept_texts::{FieldText, KeptText};
 pub use kept_words::{give_kept, give_kept_gap, report_cut};
-pub use line_words::{argument_word, give_line_word, give_generated_word};
+pub use line_words::{argument_word, give_generated_word, give_line_word};
 pub use manual_names::{give_manual_name, keep_name};
 pub use phrases::{Phrase, blanks_part, give_phrase, joined_gap};
 pub use runnings::{LineSoFar, Running};

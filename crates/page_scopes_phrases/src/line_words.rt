@@ -17,7 +17,7 @@ use page_core_limits::LINE;
 use page_roff_forms::{Argument, Quoting};
 use page_scopes_layout::Context;
 use page_scopes_words::{ends_sentence, report};
-use page_sets_lines::{Join, GeneratedWord, Role, Word};
+use page_sets_lines::{GeneratedWord, Join, Role, Word};
 
 // Reports a quote without its end.
 fn report_quote<O: PieceOut>(out: &mut O, line: u32, quoting: Quoting, column: u32)

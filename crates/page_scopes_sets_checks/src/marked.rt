@@ -11,9 +11,10 @@ use page_core_base::{Font, NoteKind, Place, Taken};
 use page_core_limits::LINE;
 use page_roff_forms::{Argument, has_arguments};
 use page_sets::{
-    BlockCloser, BlockOpener, Closer, EventKind, Event, Join, MacroSet, Opener, Quotation, Role, Word,
+    BlockCloser, BlockOpener, Closer, Event, EventKind, Join, MacroSet, Opener, Quotation, Role,
+    Word,
 };
-use page_sets_lines::{PlainLine, find_name, read_after};
+use page_sets_lines::{PlainLine, event_at, find_name, read_after};
 
 /// The set.
 #[derive(Clone, Copy)]
@@ -34,19 +35,6 @@ pub enum MarkedPlace {
     End(bool),
     /// Nothing.
     Nothing,
-}
-
-// An event in a column of a line.
-fn event_at<'a>(number: u32, column: u32, kind: EventKind<&'a [u8]>) -> Event<&'a [u8]>
-    ensures { event_view result ≡ event_at number column (kind_view kind.entry) }
-{
-    Event {
-        place: Place {
-            line: number,
-            column,
-        },
-        kind,
-    }
 }
 
 // A word in italic.

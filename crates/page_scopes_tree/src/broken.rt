@@ -12,7 +12,7 @@ use crate::placements::Obstacle;
 use page_core_base::{Note, NoteKind, PieceOut, Place};
 use page_core_limits::Limit;
 use page_scopes_labels::{Label, ScopeEnd};
-use page_sets_lines::{Closer, EventKind, Event, Leaf, Opener};
+use page_sets_lines::{Closer, Event, EventKind, Leaf, Opener};
 
 // Gives a message about a place.
 fn report<O: PieceOut>(out: &mut O, kind: NoteKind, place: Place, detail: &[u8])

@@ -14,7 +14,7 @@ use crate::runs::{Run, run_len};
 use page_core_limits::SCOPES;
 use page_scopes_labels::{Explicit, Label};
 use page_scopes_laws::Scope;
-use page_sets_lines::{Closer, EventKind, Event, Leaf, Opener};
+use page_sets_lines::{Closer, Event, EventKind, Leaf, Opener};
 
 // All scopes up to one that was found and with it, and none where it does not come before an end.
 fn up_to(found: usize, end: usize) -> usize

@@ -13,12 +13,12 @@ mod acts;
 mod broken;
 mod ends;
 mod laws;
-mod renderers;
 mod numbers;
+mod placements;
+mod renderers;
 mod runs;
 mod scope_stacks;
 mod stacks;
-mod placements;
 
 pub use acts::Act;
 pub use laws::{events_law, tree_law};

@@ -12,7 +12,7 @@ use crate::runs::{Run, run_len};
 use page_core_limits::SCOPES;
 use page_scopes_labels::{Explicit, Label};
 use page_scopes_laws::Scope;
-use page_sets_lines::{BlockOpener, Closer, EventKind, Event, Leaf, LineOpener, Opener, Request};
+use page_sets_lines::{BlockOpener, Closer, Event, EventKind, Leaf, LineOpener, Opener, Request};
 
 /// Why an event is refused.
 #[derive(Clone, Copy, PartialEq, Eq)]
@@ -206,7 +206,11 @@ fn leaf_placement<B>(leaf: &Leaf<&[u8]>, remaining: &[Scope<Label, B>]) -> Place
 
 // What becomes of an event that ended this many scopes and leaves these.
 #[inline(always)]
-fn kind_placement<B>(kind: &EventKind<&[u8]>, count: usize, remaining: &[Scope<Label, B>]) -> Placement
+fn kind_placement<B>(
+    kind: &EventKind<&[u8]>,
+    count: usize,
+    remaining: &[Scope<Label, B>],
+) -> Placement
     requires { length remaining.now ≤ SCOPES }
     ensures { result ≡ placements.kind_placement (kind_view kind.now) count (labels (reverse remaining.now)) }
 {

@@ -12,7 +12,9 @@ ghost use Rattle.page_sets_lines.specs.Events.{event_view};
 
 use crate::broken::{report_broken, report_obstacle};
 use crate::ends::count_ended;
-use crate::placements::{Placement, placement_of, is_idle, is_passed_over, skips_after, stands_alone};
+use crate::placements::{
+    Placement, is_idle, is_passed_over, placement_of, skips_after, stands_alone,
+};
 use crate::{Act, Renderer};
 use page_core_base::PieceOut;
 use page_core_limits::SCOPES;

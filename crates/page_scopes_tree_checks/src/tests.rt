@@ -7,8 +7,9 @@ use page_roff_forms::{Argument, Quoting};
 use page_scopes_shown::{Brief, Notation, ShownBy};
 use page_scopes_tree::ScopeStack;
 use page_sets_lines::{
-    BlockCloser, BlockOpener, Closer, EventKind, Event, FontMacro, HeadingName, Join, Leaf, LineOpener,
-    Link, Marks, OneLineName, Opener, ParagraphName, Quotation, Request, Role, TagName, Word,
+    BlockCloser, BlockOpener, Closer, Event, EventKind, FontMacro, HeadingName, Join, Leaf,
+    LineOpener, Link, Marks, OneLineName, Opener, ParagraphName, Quotation, Request, Role, TagName,
+    Word,
 };
 use std::alloc::{AllocError, Global};
 use std::process::Abort;

@@ -10,9 +10,10 @@ mod either;
 pub use either::Either;
 pub use page_core_base::{Form, Taken};
 pub use page_sets_lines::{
-    Block, BlockCloser, BlockOpener, BodyParagraphName, Closer, EventKind, Event, FontMacro,
-    HeadingName, Join, Leaf, LineOpener, LineStep, Link, MacroSet, Marks, OneLineName, Opener, GeneratedText,
-    GeneratedWord, ParagraphName, Prologue, Quotation, Request, Role, SynopsisStep, TagName, Word,
+    Block, BlockCloser, BlockOpener, BodyParagraphName, Closer, Event, EventKind, FontMacro,
+    GeneratedText, GeneratedWord, HeadingName, Join, Leaf, LineOpener, LineStep, Link, MacroSet,
+    Marks, OneLineName, Opener, ParagraphName, Prologue, Quotation, Request, Role, SynopsisStep,
+    TagName, Word,
 };
 pub use page_sets_man::Man;
 pub use page_sets_mdoc::Mdoc;

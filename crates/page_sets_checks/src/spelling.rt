@@ -8,8 +8,8 @@ use page_core_base::{Font, NoteKind, Taken};
 use page_core_limits::LINE;
 use page_roff_forms::{Argument, Quoting};
 use page_sets::{
-    BlockCloser, BlockOpener, Closer, EventKind, Event, Join, Leaf, LineStep, MacroSet, Opener, GeneratedWord,
-    Request, Role, SynopsisStep, Word,
+    BlockCloser, BlockOpener, Closer, Event, EventKind, GeneratedWord, Join, Leaf, LineStep,
+    MacroSet, Opener, Request, Role, SynopsisStep, Word,
 };
 
 pub type Spelling = ArrayVec<u8, 500>;

@@ -1,7 +1,7 @@
 //! A second set, which keeps the laws of macro sets and is not that of man(7).
 
 use page_core_base::{Place, Taken};
-use page_sets::{EventKind, Event, MacroSet};
+use page_sets::{Event, EventKind, MacroSet};
 
 /// The set without macros: each line is shown as it is.
 #[derive(Clone, Copy)]

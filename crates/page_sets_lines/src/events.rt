@@ -1,6 +1,8 @@
 //! Events: what a macro set makes of a line, for the scopes of a page (man(7), mdoc(7)).
 
 ghost use Rattle.std.specs.Prelude.{◌≡◌};
+ghost use Rattle.page_sets_lines.specs.Events.{event_view, kind_view};
+ghost use Rattle.page_sets_lines.specs.PlainLines.{event_at};
 
 use crate::leaves::Leaf;
 use crate::openers::{Closer, LineOpener, Opener};
@@ -104,5 +106,18 @@ impl<W: Copy> Clone for Event<W> {
 
     fn clone(&self) -> Result<Event<W>, AllocError> {
         Ok(*self)
+    }
+}
+
+/// An event in a column of a line.
+pub fn event_at<'a>(number: u32, column: u32, kind: EventKind<&'a [u8]>) -> Event<&'a [u8]>
+    ensures { event_view result ≡ event_at number column (kind_view kind.entry) }
+{
+    Event {
+        place: Place {
+            line: number,
+            column,
+        },
+        kind,
     }
 }

@@ -24,15 +24,15 @@ mod requests;
 pub use blocks::{Block, BlockCloser, BlockOpener};
 pub use control_lines::{NameSpan, find_name, first_of, open_quote, read_after};
 pub use event_outs::{EventOut, EventTaker, Handed, Nth};
-pub use events::{EventKind, Event, Join, Role, Word};
-pub use leaves::{Leaf, GeneratedWord, Request};
+pub use events::{Event, EventKind, Join, Role, Word, event_at};
+pub use leaves::{GeneratedWord, Leaf, Request};
 pub use line_steps::{LineStep, SynopsisStep};
 pub use lists::{Awaited, ListKind, ListOptions, ListWord, read_list_options};
 pub use macro_sets::MacroSet;
 pub use openers::{Closer, LineOpener, Opener};
 pub use page_sets_names::{
-    BodyParagraphName, FontMacro, HeadingName, Link, Marks, OneLineName, GeneratedText, ParagraphName,
-    Prologue, Quotation, TagName,
+    BodyParagraphName, FontMacro, GeneratedText, HeadingName, Link, Marks, OneLineName,
+    ParagraphName, Prologue, Quotation, TagName,
 };
 pub use plain_lines::PlainLine;
 pub use requests::{layout_request, with_argument};

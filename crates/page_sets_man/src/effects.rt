@@ -11,8 +11,8 @@ ghost use Rattle.page_sets_man.specs.Man as man;
 use crate::rows::{Closes, Effect, Opens, Sets};
 use page_core_limits::LINE;
 use page_sets_lines::{
-    Closer, EventKind, HeadingName, Join, Leaf, LineOpener, Opener, GeneratedWord, Prologue, TagName,
-    first_of, read_after, with_argument,
+    Closer, EventKind, GeneratedWord, HeadingName, Join, Leaf, LineOpener, Opener, Prologue,
+    TagName, first_of, read_after, with_argument,
 };
 
 // The text of the first argument that begins after this many bytes.

@@ -17,8 +17,8 @@ use page_core_base::{Font, NoteKind, Place, Taken};
 use page_core_limits::LINE;
 use page_roff_forms::{Argument, has_arguments};
 use page_sets_lines::{
-    Closer, EventKind, Event, EventTaker, Join, Leaf, LineOpener, GeneratedText, GeneratedWord, PlainLine, Role, Word,
-    find_name, open_quote, read_after,
+    Closer, Event, EventKind, EventTaker, GeneratedText, GeneratedWord, Join, Leaf, LineOpener,
+    PlainLine, Role, Word, event_at, find_name, open_quote, read_after,
 };
 
 /// The quote of an argument without its closing one: its column, and whether its message may begin the body of the
@@ -27,19 +27,6 @@ use page_sets_lines::{
 pub(crate) struct Quote {
     pub(crate) column: u32,
     pub(crate) begins_body: bool,
-}
-
-// An event in a column of a line.
-fn event_at<'a>(number: u32, column: u32, kind: EventKind<&'a [u8]>) -> Event<&'a [u8]>
-    ensures { event_view result ≡ event_at number column (kind_view kind.entry) }
-{
-    Event {
-        place: Place {
-            line: number,
-            column,
-        },
-        kind,
-    }
 }
 
 // The message about a missing closing quote.
@@ -113,7 +100,13 @@ fn argument_word(
 }
 
 // A mark of a macro's text.
-fn mark<'a>(number: u32, column: u32, text: GeneratedText, before: Join, after: Join) -> Event<&'a [u8]>
+fn mark<'a>(
+    number: u32,
+    column: u32,
+    text: GeneratedText,
+    before: Join,
+    after: Join,
+) -> Event<&'a [u8]>
     ensures { event_view result ≡ man.mark number column text before after }
 {
     Event {

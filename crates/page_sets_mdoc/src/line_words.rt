@@ -20,12 +20,12 @@ ghost use Rattle.page_sets_mdoc.specs.Mdoc as mdoc;
 use page_core_base::{Font, Taken};
 use page_core_limits::LINE;
 use page_roff_forms::Argument;
-use page_sets_lines::{Closer, EventKind, EventTaker, LineStep, SynopsisStep, find_name};
+use page_sets_lines::{Closer, EventKind, EventTaker, LineStep, SynopsisStep, event_at, find_name};
 use page_sets_mdoc_blocks::{has_real_word, is_standard};
 use page_sets_mdoc_lines::{Cursor, Words, find_words, is_closing, word_call};
 use page_sets_mdoc_rows::{Inline, LineMacro, Sentence, is_parsed};
 use page_sets_mdoc_words::{
-    MacroName, event_at, give_include, give_macro, give_printed, give_sentence, step_event,
+    MacroName, give_include, give_macro, give_printed, give_sentence, step_event,
 };
 
 /// A macro that a word of a line calls.

@@ -11,10 +11,9 @@ use page_core_base::{NoteKind, Taken};
 use page_core_limits::LINE;
 use page_roff_forms::has_arguments;
 use page_roff_requests::LayoutRequest;
-use page_sets_lines::{EventKind, EventTaker, PlainLine, find_name, layout_request};
+use page_sets_lines::{EventKind, EventTaker, PlainLine, event_at, find_name, layout_request};
 use page_sets_mdoc_blocks::{give_front, give_refusal, give_request, has_phrase};
 use page_sets_mdoc_rows::{LineMacro, line_macro};
-use page_sets_mdoc_words::event_at;
 
 // A line's end.
 fn give_end<'a, O: EventTaker<'a>>(out: &mut O, number: u32, fills: bool)

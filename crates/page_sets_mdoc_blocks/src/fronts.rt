@@ -15,7 +15,7 @@ use page_core_base::{NoteKind, Place, Taken};
 use page_core_limits::LINE;
 use page_roff_requests::LayoutRequest;
 use page_sets_lines::{
-    BlockCloser, BlockOpener, Closer, EventKind, Event, EventTaker, HeadingName, Leaf, LineOpener,
+    BlockCloser, BlockOpener, Closer, Event, EventKind, EventTaker, HeadingName, Leaf, LineOpener,
     LineStep, Opener, find_name, first_of, with_argument,
 };
 use page_sets_mdoc_rows::{Block, LineMacro};

@@ -8,8 +8,8 @@ use page_core_base::{Font, NoteKind, Taken};
 use page_core_limits::LINE;
 use page_roff_forms::Argument;
 use page_sets_lines::{
-    Block, BlockCloser, BlockOpener, Closer, EventKind, Event, EventTaker, Join, Leaf, LineStep, Opener,
-    GeneratedWord, Role, SynopsisStep, Word, find_name,
+    Block, BlockCloser, BlockOpener, Closer, Event, EventKind, EventTaker, GeneratedWord, Join,
+    Leaf, LineStep, Opener, Role, SynopsisStep, Word, find_name,
 };
 use page_sets_mdoc_lines::{Cursor, find_words};
 use page_sets_mdoc_rows::{LineMacro, is_parsed, line_macro};

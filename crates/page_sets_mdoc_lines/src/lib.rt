@@ -7,13 +7,13 @@
 #![tactic(auto)]
 
 mod cursors;
-mod word_spans;
 mod laws;
 mod line_words;
+mod word_spans;
 mod words;
 
 pub use cursors::Cursor;
-pub use word_spans::WordSpan;
 pub use laws::{few_law, front_law, parts_law};
 pub use line_words::{is_closing, is_real, word_call, word_delimiter};
+pub use word_spans::WordSpan;
 pub use words::{MacroWords, Words, find_words};

@@ -10,8 +10,8 @@ ghost use Rattle.page_sets_mdoc_lines.specs.machine.Cursors.{IsCursorOf};
 ghost use Rattle.page_sets_mdoc_lines.specs.Words.{words_view, AreKnown, AreIn, TakesWord};
 
 use crate::cursors::Cursor;
-use crate::word_spans::find_span;
 use crate::line_words::{may_take, takes_next};
+use crate::word_spans::find_span;
 use page_core_limits::LINE;
 use page_roff_forms::Argument;
 use page_sets_mdoc_rows::Inline;

@@ -9,7 +9,7 @@ ghost use Rattle.page_sets_mdoc_words.specs.Inlines as inlines;
 use crate::printed::{generated_word, printed_word};
 use page_core_base::Font;
 use page_core_limits::LINE;
-use page_sets_lines::{EventTaker, Join, GeneratedText};
+use page_sets_lines::{EventTaker, GeneratedText, Join};
 use page_sets_mdoc_lines::{Words, is_real};
 
 /// A dash before each word that is no delimiter.

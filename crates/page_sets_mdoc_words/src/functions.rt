@@ -7,10 +7,12 @@ ghost use Rattle.page_sets_mdoc_lines.specs.Words.{AreIn, words_view};
 ghost use Rattle.page_sets_mdoc_words.specs.Inlines as inlines;
 
 use crate::plain::give_printed;
-use crate::printed::{event_at, generated_word, printed_word, step_event};
+use crate::printed::{generated_word, printed_word, step_event};
 use page_core_base::Font;
 use page_core_limits::LINE;
-use page_sets_lines::{BlockOpener, EventKind, EventTaker, Join, LineStep, Opener, GeneratedText};
+use page_sets_lines::{
+    BlockOpener, EventKind, EventTaker, GeneratedText, Join, LineStep, Opener, event_at,
+};
 use page_sets_mdoc_lines::{MacroWords, Words, is_real};
 
 // The arguments of `Fn`: a comma before each but the first.
@@ -30,7 +32,14 @@ fn give_arguments<'a, O: EventTaker<'a>>(
     while let Some(word) = left.read(text) {
         if is_real(word) {
             if !is_first {
-                out.give(generated_word(number, column, GeneratedText::Comma, None, Join::Glued, Join::Apart));
+                out.give(generated_word(
+                    number,
+                    column,
+                    GeneratedText::Comma,
+                    None,
+                    Join::Glued,
+                    Join::Apart,
+                ));
             }
             is_first = false;
         }

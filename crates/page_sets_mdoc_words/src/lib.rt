@@ -25,5 +25,5 @@ mod taken_words;
 pub use includes::give_include;
 pub use macros::give_macro;
 pub use plain::{MacroName, give_printed};
-pub use printed::{event_at, step_event};
+pub use printed::step_event;
 pub use sentences::give_sentence;

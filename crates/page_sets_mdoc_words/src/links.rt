@@ -14,7 +14,7 @@ use crate::printed::{generated_word, printed_word, step_event};
 use page_core_base::Font;
 use page_core_limits::LINE;
 use page_roff_forms::Argument;
-use page_sets_lines::{EventTaker, Join, LineStep, GeneratedText};
+use page_sets_lines::{EventTaker, GeneratedText, Join, LineStep};
 use page_sets_mdoc_lines::{MacroWords, Words, is_real};
 
 // An address, after its texts.
@@ -39,7 +39,14 @@ fn give_address<'a, O: EventTaker<'a>>(
     };
     out.give(printed_word(number, Some(Font::I), first));
     give_printed(out, number, Some(Font::I), text, left);
-    out.give(generated_word(number, column, GeneratedText::Colon, None, Join::Glued, Join::Apart));
+    out.give(generated_word(
+        number,
+        column,
+        GeneratedText::Colon,
+        None,
+        Join::Glued,
+        Join::Apart,
+    ));
     out.give(step_event(number, column, LineStep::Uri(uri)));
 }
 

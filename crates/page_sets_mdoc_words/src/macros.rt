@@ -21,7 +21,7 @@ use crate::functions::{give_function, give_next_arguments};
 use crate::links::give_link;
 use crate::names::{Lone, give_lone, give_named};
 use crate::plain::{MacroName, give_printed, give_refused};
-use crate::printed::{event_at, generated_word, step_event};
+use crate::printed::{generated_word, step_event};
 use crate::references::give_reference;
 use crate::synopses::{after_words, before_words};
 use crate::systems::{give_bsd, system_word};
@@ -29,7 +29,8 @@ use crate::taken_words::{give_author, give_prefix};
 use page_core_base::Font;
 use page_core_limits::LINE;
 use page_sets_lines::{
-    EventKind, Event, EventTaker, Join, LineOpener, LineStep, Marks, GeneratedText, SynopsisStep,
+    Event, EventKind, EventTaker, GeneratedText, Join, LineOpener, LineStep, Marks, SynopsisStep,
+    event_at,
 };
 use page_sets_mdoc_lines::{MacroWords, Words};
 use page_sets_mdoc_rows::Inline;

@@ -10,10 +10,10 @@ ghost use Rattle.page_sets_mdoc_words.specs.Inlines as inlines;
 ghost use Rattle.page_sets_mdoc_words.specs.machine.Lone.{lone_event};
 
 use crate::plain::give_printed;
-use crate::printed::{is_opening, generated_word, printed_word, step_event, word_event};
+use crate::printed::{generated_word, is_opening, printed_word, step_event, word_event};
 use page_core_base::Font;
 use page_core_limits::LINE;
-use page_sets_lines::{Event, EventTaker, Join, LineStep, GeneratedText, Role};
+use page_sets_lines::{Event, EventTaker, GeneratedText, Join, LineStep, Role};
 use page_sets_mdoc_lines::{Words, is_real};
 use page_sets_mdoc_rows::Defaulted;
 
@@ -57,11 +57,25 @@ fn lone_event<'a>(number: u32, column: u32, lone: Lone, is_last: bool) -> Event<
         Lone::ManualName => step_event(number, column, LineStep::ManualName),
         Lone::Default(default) => {
             let text = default_text(default);
-            generated_word(number, column, text, Some(Font::I), Join::Apart, Join::Apart)
+            generated_word(
+                number,
+                column,
+                text,
+                Some(Font::I),
+                Join::Apart,
+                Join::Apart,
+            )
         }
         Lone::Dash { follows } => {
             let text = dash(follows, is_last);
-            generated_word(number, column, text, Some(Font::B), Join::Apart, Join::Apart)
+            generated_word(
+                number,
+                column,
+                text,
+                Some(Font::B),
+                Join::Apart,
+                Join::Apart,
+            )
         }
     }
 }

@@ -7,10 +7,10 @@ ghost use Rattle.page_sets_mdoc_lines.specs.Words.{words_view};
 ghost use Rattle.page_sets_mdoc_words.specs.Inlines.{refused};
 ghost use Rattle.page_sets_mdoc_words.specs.Printed as printed;
 
-use crate::printed::{event_at, printed_word};
+use crate::printed::printed_word;
 use page_core_base::{Font, NoteKind};
 use page_core_limits::LINE;
-use page_sets_lines::{EventKind, EventTaker};
+use page_sets_lines::{EventKind, EventTaker, event_at};
 use page_sets_mdoc_lines::Words;
 
 /// The name of a macro in its line.

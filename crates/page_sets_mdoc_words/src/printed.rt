@@ -7,24 +7,13 @@ ghost use Rattle.page_sets_lines.specs.Fits.{ArgumentFits, IsShort};
 ghost use Rattle.page_sets_lines.specs.PlainLines.{event_at};
 ghost use Rattle.page_sets_mdoc_words.specs.Printed as printed;
 
-use page_core_base::{Font, Place};
+use page_core_base::Font;
 use page_roff_forms::Argument;
-use page_sets_lines::{EventKind, Event, Join, Leaf, LineStep, GeneratedText, GeneratedWord, Role, Word};
+use page_sets_lines::{
+    Event, EventKind, GeneratedText, GeneratedWord, Join, Leaf, LineStep, Role, Word, event_at,
+};
 use page_sets_mdoc_lines::word_delimiter;
 use page_sets_mdoc_rows::Delimiter;
-
-/// An event in a column of a line.
-pub fn event_at<'a>(number: u32, column: u32, kind: EventKind<&'a [u8]>) -> Event<&'a [u8]>
-    ensures { event_view result ≡ event_at number column (kind_view kind.entry) }
-{
-    Event {
-        place: Place {
-            line: number,
-            column,
-        },
-        kind,
-    }
-}
 
 /// An argument as a word, in its text column.
 pub fn word_event(

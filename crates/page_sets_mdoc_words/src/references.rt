@@ -9,7 +9,7 @@ ghost use Rattle.page_sets_mdoc_words.specs.Inlines as inlines;
 use crate::plain::give_printed;
 use crate::printed::{generated_word, printed_word};
 use page_core_limits::LINE;
-use page_sets_lines::{EventTaker, Join, GeneratedText};
+use page_sets_lines::{EventTaker, GeneratedText, Join};
 use page_sets_mdoc_lines::{Words, is_real};
 
 // The section, in parentheses.
@@ -22,7 +22,10 @@ fn give_section<'a, O: EventTaker<'a>>(out: &mut O, number: u32, text: &'a [u8],
     while let Some(word) = left.read(text) {
         if is_real(word) {
             let column = word.column;
-            let (opening, closing) = (GeneratedText::OpenParenthesis, GeneratedText::CloseParenthesis);
+            let (opening, closing) = (
+                GeneratedText::OpenParenthesis,
+                GeneratedText::CloseParenthesis,
+            );
             out.give(generated_word(number, column, opening, None, Join::Glued, Join::Glued));
             out.give(printed_word(number, None, word));
             out.give(generated_word(number, column, closing, None, Join::Glued, Join::Apart));

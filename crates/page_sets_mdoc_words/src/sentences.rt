@@ -12,7 +12,7 @@ ghost use Rattle.page_sets_mdoc_words.specs.Sentences as sentences;
 use crate::printed::{generated_word, real_word, step_event};
 use page_core_base::Font;
 use page_core_limits::LINE;
-use page_sets_lines::{Event, EventTaker, Join, LineStep, GeneratedText};
+use page_sets_lines::{Event, EventTaker, GeneratedText, Join, LineStep};
 use page_sets_mdoc_lines::Words;
 use page_sets_mdoc_rows::Sentence;
 
@@ -91,7 +91,12 @@ fn sentence_word<'a>(number: u32, column: u32, text: GeneratedText) -> Event<&'a
 }
 
 // What is glued to a name.
-fn give_mark<'a, O: EventTaker<'a>>(out: &mut O, number: u32, column: u32, mark: Option<GeneratedText>)
+fn give_mark<'a, O: EventTaker<'a>>(
+    out: &mut O,
+    number: u32,
+    column: u32,
+    mark: Option<GeneratedText>,
+)
     ensures { Came O.left out.old (sentences.marked number column mark []) out.new }
 {
     if let Some(text) = mark {

@@ -8,9 +8,9 @@ ghost use Rattle.page_sets_mdoc_lines.specs.Words.{words_view};
 ghost use Rattle.page_sets_mdoc_words.specs.Inlines as inlines;
 
 use crate::plain::give_printed;
-use crate::printed::{is_opening, generated_word, printed_word};
+use crate::printed::{generated_word, is_opening, printed_word};
 use page_core_limits::LINE;
-use page_sets_lines::{Event, EventTaker, Join, GeneratedText};
+use page_sets_lines::{Event, EventTaker, GeneratedText, Join};
 use page_sets_mdoc_lines::{Words, is_real};
 use page_sets_mdoc_rows::System;
 
@@ -58,17 +58,38 @@ pub(crate) fn give_bsd<'a, O: EventTaker<'a>>(
     while let Some(word) = left.read(text) {
         if is_real(word) {
             out.give(printed_word(number, None, word));
-            out.give(generated_word(number, column, GeneratedText::Bsd, None, Join::Glued, Join::Apart));
+            out.give(generated_word(
+                number,
+                column,
+                GeneratedText::Bsd,
+                None,
+                Join::Glued,
+                Join::Apart,
+            ));
             give_printed(out, number, None, text, left);
             return;
         }
         if !is_opening(word) {
-            out.give(generated_word(number, column, GeneratedText::Bsd, None, Join::Apart, Join::Apart));
+            out.give(generated_word(
+                number,
+                column,
+                GeneratedText::Bsd,
+                None,
+                Join::Apart,
+                Join::Apart,
+            ));
             out.give(printed_word(number, None, word));
             give_printed(out, number, None, text, left);
             return;
         }
         out.give(printed_word(number, None, word));
     }
-    out.give(generated_word(number, column, GeneratedText::Bsd, None, Join::Apart, Join::Apart));
+    out.give(generated_word(
+        number,
+        column,
+        GeneratedText::Bsd,
+        None,
+        Join::Apart,
+        Join::Apart,
+    ));
 }

@@ -7,12 +7,12 @@
 //! `Marks.antt`, `GeneratedTexts.antt`).
 #![tactic(auto)]
 
+mod generated_texts;
 mod macro_names;
 mod marks;
-mod generated_texts;
 
+pub use generated_texts::GeneratedText;
 pub use macro_names::{
     BodyParagraphName, FontMacro, HeadingName, Link, OneLineName, ParagraphName, Prologue, TagName,
 };
 pub use marks::{Marks, Quotation};
-pub use generated_texts::GeneratedText;

@@ -93,18 +93,48 @@ impl Quotation {
 
 // The marks, in the order of `Marks`: the one before the words, the one after them, and the first macro that has them.
 static MARKS: [(Marks, GeneratedText, GeneratedText, &str); 7] = [
-    (Marks::Angle, GeneratedText::OpenAngle, GeneratedText::CloseAngle, "Aq"),
-    (Marks::Square, GeneratedText::OpenBracket, GeneratedText::CloseBracket, "Bq"),
-    (Marks::Curly, GeneratedText::OpenBrace, GeneratedText::CloseBrace, "Brq"),
+    (
+        Marks::Angle,
+        GeneratedText::OpenAngle,
+        GeneratedText::CloseAngle,
+        "Aq",
+    ),
+    (
+        Marks::Square,
+        GeneratedText::OpenBracket,
+        GeneratedText::CloseBracket,
+        "Bq",
+    ),
+    (
+        Marks::Curly,
+        GeneratedText::OpenBrace,
+        GeneratedText::CloseBrace,
+        "Brq",
+    ),
     (
         Marks::Round,
         GeneratedText::OpenParenthesis,
         GeneratedText::CloseParenthesis,
         "Pq",
     ),
-    (Marks::Double, GeneratedText::OpenDouble, GeneratedText::CloseDouble, "Dq"),
-    (Marks::Single, GeneratedText::OpenSingle, GeneratedText::CloseSingle, "Sq"),
-    (Marks::Straight, GeneratedText::Straight, GeneratedText::Straight, "Qq"),
+    (
+        Marks::Double,
+        GeneratedText::OpenDouble,
+        GeneratedText::CloseDouble,
+        "Dq",
+    ),
+    (
+        Marks::Single,
+        GeneratedText::OpenSingle,
+        GeneratedText::CloseSingle,
+        "Sq",
+    ),
+    (
+        Marks::Straight,
+        GeneratedText::Straight,
+        GeneratedText::Straight,
+        "Qq",
+    ),
 ];
 
 // The enclosures, in the order of `Quotation`: their marks, the macro that opens each, and the one that closes it.
