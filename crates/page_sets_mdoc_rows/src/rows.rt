@@ -72,12 +72,9 @@ pub fn line_macro(name: &[u8]) -> Option<LineMacro>
 pub fn called(name: &[u8]) -> Option<Inline>
     ensures { result ≡ rows.called name.now }
 {
-    match row_of(name)? {
-        Row {
-            begins: LineMacro::Inline(inline),
-            is_callable: true,
-            ..
-        } => Some(inline),
+    let row = row_of(name)?;
+    match row.begins {
+        LineMacro::Inline(inline) if row.is_callable => Some(inline),
         _ => None,
     }
 }
