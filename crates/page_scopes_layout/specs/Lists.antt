@@ -14,7 +14,7 @@ use Rattle.page_scopes_layout.specs.declared.contexts.PagePart.TheVariants as pa
 use Rattle.page_scopes_layout.specs.declared.lists.ColumnWidths.{ColumnWidths}
 use Rattle.page_scopes_layout.specs.declared.lists.OpenList.{OpenList}
 
--- ---- the widths of columns, 16 at most, as `fits` says of each that there is
+-- ---- the widths of columns; `fits` bounds their count
 
 abbrev pub no_widths : ColumnWidths
 no_widths = record { widths = replicate COLUMNS 0; count = 0; fits = omega arith }
