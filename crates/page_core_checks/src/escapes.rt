@@ -1,4 +1,4 @@
-//! Escapes of a whole line; `page_core_cases` has the others.
+//! Escapes of a whole line; `page_layer_cases` has the others.
 
 use crate::checks::{check, check_count};
 use page_core::{Escape, LINE, escape};

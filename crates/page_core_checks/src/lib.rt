@@ -1,5 +1,5 @@
 //! Tests of messages, settings, writers, and of escapes, columns and numbers where lines are long or writers fail, through the door `page_core`;
-//! the cases of escapes, glyphs, columns and numbers are those of `page_core_cases`.
+//! the cases of escapes, glyphs, columns and numbers are those of `page_layer_cases`.
 #![tactic(auto)]
 
 #[cfg(test)]

@@ -1,4 +1,4 @@
-//! Numbers whose messages fail, and columns of a whole line; `page_core_cases` has the others.
+//! Numbers whose messages fail, and columns of a whole line; `page_layer_cases` has the others.
 
 use crate::checks::{check_bytes, check_count, check_failures};
 use crate::writers::narrow_writer;

@@ -1,4 +1,4 @@
-//! A test of the names of a page, on public calls: a thousand changes; `page_roff_cases` has the other cases.
+//! A test of the names of a page, on public calls: a thousand changes; `page_layer_cases` has the other cases.
 #![tactic(auto)]
 
 #[cfg(test)]

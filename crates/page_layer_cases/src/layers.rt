@@ -1,0 +1,22 @@
+//! The layers whose calls are shown, and the headings of their lines.
+
+/// A layer below a page.
+#[derive(Clone, Copy)]
+pub(crate) enum Layer {
+    /// Escapes, glyphs, characters and numbers.
+    Core,
+    /// Lines, names, conditions and definitions, and a source of lines.
+    Roff,
+    /// What the events of lines open and close.
+    Scopes,
+}
+
+/// The layer of the lines below this one, where it is a heading.
+pub(crate) fn layer_below(line: &str) -> Option<Layer> {
+    match line {
+        "==== core" => Some(Layer::Core),
+        "==== roff" => Some(Layer::Roff),
+        "==== scopes" => Some(Layer::Scopes),
+        _ => None,
+    }
+}

@@ -1,0 +1,178 @@
+//! A page, whose lines come one by one.
+
+ghost use Rattle.std.specs.Prelude.{◌≡◌, ◌≤◌, length};
+ghost use Rattle.page_sets_lines.specs.Fits.{KindFits};
+ghost use Rattle.page_sets_lines.specs.Events.{kind_view};
+
+use super::shown::{Shown, nothing};
+use super::spelled::{kind_of, list_kind, read_part};
+use page_core_base::{Form, Output, Place, Taken};
+use page_core_limits::LINE;
+use page_roff_forms::{LineForm, form_of};
+use page_scopes::OpenScopes;
+use page_scopes_nodes::PageLayout;
+use page_sets::Man;
+use page_sets_checks::Verbatim;
+use page_sets_lines::{Event, EventKind, MacroSet};
+use std::alloc::{AllocError, Global};
+
+/// The scopes of a page, and the number of its next line.
+#[derive(Drop)]
+pub(crate) struct Page {
+    scopes: OpenScopes,
+    line: u32,
+}
+
+// What a line is, and the bytes up to the end of its name.
+fn form_and_name(text: &[u8]) -> (Form, u32)
+    requires { length text.now ≤ LINE }
+{
+    match form_of(text) {
+        LineForm::Control { rest_column, .. } => (Form::Control, rest_column.saturating_sub(1)),
+        LineForm::Comment | LineForm::BlankLine => (Form::Blank, 0),
+        LineForm::Text(_) => (Form::Text, 0),
+    }
+}
+
+// A line of a table.
+fn raw_line(text: &[u8], line: u32) -> Taken<'_>
+    ensures { result.text.now ≡ text.now }
+{
+    Taken {
+        form: Form::Raw,
+        text,
+        line,
+        name_end: 0,
+    }
+}
+
+// A line as roff hands it to a macro set.
+fn taken(text: &[u8], line: u32) -> Taken<'_>
+    requires { length text.now ≤ LINE }
+    ensures { length result.text.now ≤ length text.now }
+{
+    if let [b'|', raw @ ..] = text {
+        return raw_line(raw, line);
+    }
+    let (form, name_end) = form_and_name(text);
+    Taken {
+        form,
+        text,
+        line,
+        name_end,
+    }
+}
+
+// Gives what the events of a line settle, which a set of macros says.
+fn give_line<S: MacroSet>(set: &S, line: Taken<'_>, scopes: &mut OpenScopes, out: &mut Shown)
+where
+    S::Place: Drop,
+    requires { length line.text.now ≤ LINE }
+{
+    let mut place = set.start(line);
+    while let Some(event) = set.next(line, &mut place) {
+        scopes.give_event(&event, out);
+    }
+}
+
+// Gives what an event settles.
+fn give_kind(scopes: &mut OpenScopes, out: &mut Shown, place: Place, kind: EventKind<&[u8]>)
+    requires { KindFits (kind_view kind) }
+{
+    scopes.give_event(&Event { place, kind }, out);
+}
+
+// Gives what the events of a line settle, which are spelled, each in its column.
+fn give_spelled(text: &str, line: u32, scopes: &mut OpenScopes, out: &mut Shown) {
+    let mut column = 2u32;
+    for part in text.split(' ') {
+        let (name, text) = read_part(part, column);
+        give_kind(
+            scopes,
+            out,
+            Place { line, column },
+            kind_of(name, column, text),
+        );
+        let len = u32::try_from(part.len()).unwrap_or(u32::MAX);
+        column = column.saturating_add(1).saturating_add(len);
+    }
+}
+
+// Gives what a line of mdoc(7) settles, and its end.
+fn give_mdoc(text: &str, line: u32, scopes: &mut OpenScopes, out: &mut Shown) {
+    match text.strip_prefix("Bl ") {
+        Some(options) => {
+            let place = Place { line, column: 2 };
+            give_kind(scopes, out, place, list_kind(options.as_bytes()));
+        }
+        None => give_spelled(text, line, scopes, out),
+    }
+    let place = Place { line, column: 1 };
+    give_kind(scopes, out, place, EventKind::End { fills: true });
+}
+
+impl Page {
+    /// A page before its first line, at an indent of 7 columns.
+    pub(crate) fn new(alloc: Global) -> Result<Page, AllocError> {
+        let layout = PageLayout {
+            indent: 7,
+            output: Output::Ascii,
+        };
+        Ok(Page {
+            scopes: OpenScopes::new(alloc, layout)?,
+            line: 1,
+        })
+    }
+
+    /// Takes a heading and a word.
+    pub(crate) fn begin(&mut self, alloc: Global) {
+        let mut out = nothing(alloc);
+        self.take(&mut out, ".SH A");
+        self.take(&mut out, "x");
+    }
+
+    // Takes a line; one that begins with `^` by the second set, which shows it as it is.
+    fn take_line(&mut self, out: &mut Shown, text: &[u8])
+        requires { length text.now ≤ LINE }
+    {
+        if let [b'^', raw @ ..] = text {
+            let line = raw_line(raw, self.line);
+            give_line(&Verbatim, line, &mut self.scopes, out);
+        } else {
+            give_line(&Man, taken(text, self.line), &mut self.scopes, out);
+        }
+    }
+
+    // Takes a line; `end` ends the page.
+    fn take(&mut self, out: &mut Shown, text: &str) {
+        if text.len() > LINE / 2 {
+            return;
+        }
+        if text == "end" {
+            self.scopes.give_end(self.line, out);
+        } else if let Some(spelled) = text.strip_prefix('&') {
+            give_mdoc(spelled, self.line, &mut self.scopes, out);
+        } else {
+            self.take_line(out, text.as_bytes());
+        }
+        self.line = self.line.saturating_add(1);
+    }
+
+    /// Shows what a line gives.
+    pub(crate) fn show(&mut self, rt: &HostRuntime, text: &str) {
+        let mut out = nothing(rt.alloc());
+        self.take(&mut out, text);
+        let _ = println!(rt; "   {}", out.notation.text());
+    }
+
+    /// Takes a line a number of times, which stands before it, and shows the last.
+    pub(crate) fn repeat(&mut self, rt: &HostRuntime, text: &str) {
+        let (count, line) = text.split_once(' ').unwrap_or(("0", text));
+        let count: u32 = count.parse().unwrap_or(0);
+        for _i in 0..count.saturating_sub(1) {
+            let mut out = nothing(rt.alloc());
+            self.take(&mut out, line);
+        }
+        self.show(rt, line);
+    }
+}
