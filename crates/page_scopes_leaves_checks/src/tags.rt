@@ -92,7 +92,7 @@ fn marked(alloc: Global) -> Shown {
         column: u32::MAX,
     };
     let mark = GeneratedWord {
-        own: GeneratedText::CloseBracket,
+        text: GeneratedText::CloseBracket,
         font: None,
         before: Join::Glued,
         after: Join::Apart,
