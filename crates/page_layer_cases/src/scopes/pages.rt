@@ -5,14 +5,13 @@ ghost use Rattle.page_sets_lines.specs.Fits.{KindFits};
 ghost use Rattle.page_sets_lines.specs.Events.{kind_view};
 
 use super::shown::{Shown, nothing};
-use super::spelled::{kind_of, list_kind, read_part};
 use page_core_base::{Form, Output, Place, Taken};
 use page_core_limits::LINE;
 use page_roff_forms::{LineForm, form_of};
 use page_scopes::OpenScopes;
 use page_scopes_nodes::PageLayout;
 use page_sets::Man;
-use page_sets_checks::Verbatim;
+use page_sets_checks::{Verbatim, read_spelled, spelled_kind, spelled_list};
 use page_sets_lines::{Event, EventKind, MacroSet};
 use std::alloc::{AllocError, Global};
 
@@ -86,12 +85,12 @@ fn give_kind(scopes: &mut OpenScopes, out: &mut Shown, place: Place, kind: Event
 fn give_spelled(text: &str, line: u32, scopes: &mut OpenScopes, out: &mut Shown) {
     let mut column = 2u32;
     for part in text.split(' ') {
-        let (name, text) = read_part(part, column);
+        let (name, text) = read_spelled(part, column);
         give_kind(
             scopes,
             out,
             Place { line, column },
-            kind_of(name, column, text),
+            spelled_kind(name, column, text),
         );
         let len = u32::try_from(part.len()).unwrap_or(u32::MAX);
         column = column.saturating_add(1).saturating_add(len);
@@ -103,7 +102,7 @@ fn give_mdoc(text: &str, line: u32, scopes: &mut OpenScopes, out: &mut Shown) {
     match text.strip_prefix("Bl ") {
         Some(options) => {
             let place = Place { line, column: 2 };
-            give_kind(scopes, out, place, list_kind(options.as_bytes()));
+            give_kind(scopes, out, place, spelled_list(options.as_bytes()));
         }
         None => give_spelled(text, line, scopes, out),
     }
