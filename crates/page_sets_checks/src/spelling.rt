@@ -99,7 +99,7 @@ fn show_generated<'a>(word: GeneratedWord) -> Shown<'a> {
     with(
         joined(word.before, after, kinds),
         font_name(word.font),
-        Some(bare(word.text.as_str().as_bytes())),
+        Some(bare(word.text.text().as_bytes())),
     )
 }
 

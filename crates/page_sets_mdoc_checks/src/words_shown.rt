@@ -67,7 +67,7 @@ fn put_generated(out: &mut Shown, word: GeneratedWord) {
     };
     put_kind(out, word.before, "own", after);
     put_font(out, word.font);
-    put_part(out, word.text.as_str().as_bytes());
+    put_part(out, word.text.text().as_bytes());
 }
 
 // What a macro does in the SYNOPSIS.
