@@ -23,29 +23,26 @@ const STEPS: usize = 8_192;
 
 const STEP: usize = 1_040;
 
-// The stack that is made sure of for calls, in bytes: a run over a page takes a tenth of it.
-const STACK: usize = 1_048_576;
+// The stack that is made sure of for calls: so many parts, and the bytes of each. A run over a page takes a tenth of it.
+const PARTS: u32 = 256;
 
-// Fills what is on the stack.
+const PART: usize = 4_096;
+
+// Fills a part, which so lies on the stack.
 #[inline(never)]
-fn fill(room: &mut [u8; STACK], byte: u8) {
-    for place in 0..STACK {
-        room[place] = byte;
+fn fill(part: &mut [u8; PART], byte: u8) {
+    for place in 0..PART {
+        part[place] = byte;
     }
 }
 
-// Whether the ends of what is on the stack are filled.
+// Makes the stack larger by a part, and by so many more. It answers whether it is: each part is filled still when those after it are.
 #[inline(never)]
-fn is_filled(room: &[u8; STACK], byte: u8) -> bool {
-    room[0] == byte && room[STACK - 1] == byte
-}
-
-// Makes the stack larger by what is made sure of. It answers whether it is.
-#[inline(never)]
-fn grow_stack(byte: u8) -> bool {
-    let mut room = [0u8; STACK];
-    fill(&mut room, byte);
-    is_filled(&room, byte)
+fn grow_stack(parts: u32) -> bool {
+    let mut part = [0u8; PART];
+    fill(&mut part, b's');
+    let is_larger = parts == 0 || grow_stack(parts - 1);
+    is_larger && part[0] == b's' && part[PART - 1] == b's'
 }
 
 /// Memory that is kept from all else.
@@ -59,7 +56,7 @@ pub struct Scarcity {
 impl Scarcity {
     /// Keeps nothing yet but the steps, which lie side by side, and makes the stack larger.
     pub fn new(alloc: Global) -> Option<Scarcity> {
-        if !grow_stack(b's') {
+        if !grow_stack(PARTS) {
             return None;
         }
         let blocks = Vec::with_capacity(alloc, BLOCKS).ok()?;
