@@ -1,5 +1,7 @@
 //! The same page in other ways: by parts, cut, and with a read or a write that fails.
 
+ghost use Rattle.std.specs.Prelude.{◌<◌};
+
 use page_core_base::{Fault, Settings};
 use page_engine::{Outcome, run_page};
 use page_test_streams::{Chunks, Fails, Store};
@@ -67,9 +69,11 @@ enum Sink {
     Messages,
 }
 
-// A step by which no more than `PLACES` of a number of places are tried, and a few.
-fn step_of(places: usize) -> usize {
-    (places / PLACES).saturating_add(1)
+/// A step by which no more than `PLACES` of a number of places are tried, and a few.
+pub(crate) fn step_of(places: usize) -> usize
+    ensures { 0 < result }
+{
+    places / PLACES + 1
 }
 
 // A run that takes and gives at most this count of bytes a call.

@@ -1,8 +1,42 @@
-//! How a page is run and shown, by words.
+//! What a case is, and how a page is run and shown, by the words of its title.
 
-use page_core_base::{Language, Level, Output, Settings};
+use page_core_base::{Encoding, Language, Level, Output, Settings};
 
-/// What the words of a title say of its page.
+/// What a case is, by the front of its title.
+#[derive(Clone, Copy)]
+pub(crate) enum Kind<'a> {
+    /// A page.
+    Page,
+    /// A page whose record is shown.
+    Record,
+    /// An index, and what is asked of it.
+    Search { asked: &'a str, is_scarce: bool },
+}
+
+impl<'a> Kind<'a> {
+    /// What a title `WORDS: what it shows` makes of its case: `record` makes it a record, `whatis` a search, which `scarce` before it has run
+    /// with memory refused too.
+    pub(crate) fn of_title(title: &'a str) -> Kind<'a> {
+        let front = front_of(title);
+        let (words, is_scarce) = match front.strip_prefix("scarce ") {
+            Some(words) => (words, true),
+            None => (front, false),
+        };
+        match words.split_once(' ').unwrap_or((words, "")) {
+            ("record", _) => Kind::Record,
+            ("whatis", asked) => Kind::Search { asked, is_scarce },
+            _ => Kind::Page,
+        }
+    }
+}
+
+// The words of a title `WORDS: what it shows`, if it has some.
+fn front_of(title: &str) -> &str {
+    let (front, _) = title.split_once(": ").unwrap_or(("", title));
+    front
+}
+
+/// What the words of a title say of its page. A page whose record is shown has settings, and may be scarce.
 #[derive(Drop)]
 pub(crate) struct Words {
     pub(crate) settings: Settings,
@@ -31,12 +65,11 @@ impl Words {
     }
 
     /// The words of a title `WORDS: what it shows`: `once`, `times`, `short`, `scarce`, and of its settings `utf8`, `lint`, `man`, `mdoc`,
-    /// `os=NAME`, `width=N`, `indent=N`, a level in capitals below which no message is given, or NONE for no message at all. With none of
-    /// these words the output is ASCII, the page decides its language, and all messages are given.
+    /// `ascii-bytes`, `latin1-bytes`, `os=NAME`, `width=N`, `indent=N`, a level in capitals below which no message is given, or NONE for no
+    /// message at all. With none of these words the output is ASCII, the page decides its encoding and its language, and all messages are given.
     pub(crate) fn of_title(title: &str) -> Words {
         let mut words = Words::new();
-        let (front, _) = title.split_once(": ").unwrap_or(("", title));
-        for word in front.split(' ') {
+        for word in front_of(title).split(' ') {
             match word {
                 "once" => words.is_once = true,
                 "times" => words.is_repeated = true,
@@ -67,6 +100,8 @@ fn set(settings: &mut Settings, word: &str) {
         "lint" => settings.output = Output::Lint,
         "man" => settings.language = Language::Man,
         "mdoc" => settings.language = Language::Mdoc,
+        "ascii-bytes" => settings.encoding = Encoding::Ascii,
+        "latin1-bytes" => settings.encoding = Encoding::Latin1,
         "NONE" => settings.least = None,
         "STYLE" => settings.least = Some(Level::Style),
         "WARNING" => settings.least = Some(Level::Warning),

@@ -1,42 +1,7 @@
-//! What the words of a title ask for: settings by which the record of a page is read, or a search.
+//! What the words of a title ask for: a search in an index.
 
-use page_core_base::{Encoding, Language, Output, Settings};
 use page_engine_index::Show;
 use std::alloc::{AllocError, Global};
-
-/// The words of a title `WORDS: what it shows`, and whether they begin with `scarce`, which goes.
-pub(crate) fn words_of(title: &str) -> (&str, bool) {
-    let (words, _) = title.split_once(": ").unwrap_or(("", title));
-    match words.strip_prefix("scarce") {
-        Some(words) => (words.trim(), true),
-        None => (words, false),
-    }
-}
-
-/// The settings that words give: `utf8`, `man`, `mdoc`, `ascii-bytes`, `latin1-bytes` and `width=N`. With none of
-/// them they are those of a run over a page that is given none.
-pub(crate) fn settings_of(words: &str) -> Settings {
-    let mut settings = Settings::new();
-    for word in words.split(' ') {
-        if let Some(digits) = word.strip_prefix("width=") {
-            settings.width = digits.parse().unwrap_or(0);
-        } else {
-            set(&mut settings, word);
-        }
-    }
-    settings
-}
-
-fn set(settings: &mut Settings, word: &str) {
-    match word {
-        "utf8" => settings.output = Output::Utf8,
-        "man" => settings.language = Language::Man,
-        "mdoc" => settings.language = Language::Mdoc,
-        "ascii-bytes" => settings.encoding = Encoding::Ascii,
-        "latin1-bytes" => settings.encoding = Encoding::Latin1,
-        _ => {}
-    }
-}
 
 /// What is looked for in an index.
 #[derive(Drop)]

@@ -1,8 +1,7 @@
 //! The record of a page, read at once and in other ways.
 
-ghost use Rattle.std.specs.Prelude.{◌<◌};
-
-use page_core_base::{Fault, Settings};
+use crate::ways::{Case, step_of};
+use page_core_base::Fault;
 use page_engine_index::Record;
 use page_engine_records::name_record;
 use page_test_streams::{Chunks, Ended, Scarce};
@@ -11,34 +10,15 @@ use std::alloc::Global;
 /// What reading a page answers.
 pub(crate) type Reading = Result<Option<Record>, Fault>;
 
-/// The places, of reads and of ends, that are tried of a page: about as many at most.
-const PLACES: usize = 1_000;
-
-/// A step by which no more than `PLACES` of a number of places are tried, and a few.
-pub(crate) fn step_of(places: usize) -> usize
-    ensures { 0 < result }
-{
-    places / PLACES + 1
+/// The record, where all bytes come at once.
+pub(crate) fn read(alloc: Global, case: Case) -> Reading {
+    read_by(alloc, case, usize::MAX, None)
 }
 
-/// A page and its settings.
-#[derive(Clone, Copy)]
-pub(crate) struct Case<'a> {
-    pub(crate) page: &'a [u8],
-    pub(crate) settings: &'a Settings,
-}
-
-impl Case<'_> {
-    /// The record, where all bytes come at once.
-    pub(crate) fn read(&self, alloc: Global) -> Reading {
-        self.read_by(alloc, usize::MAX, None)
-    }
-
-    // The record, where at most this count of bytes comes a call, and calls fail after so many of them.
-    fn read_by(&self, alloc: Global, size: usize, fails: Option<usize>) -> Reading {
-        let mut reader = Chunks::new(self.page, size, fails);
-        name_record(alloc, &mut reader, self.settings)
-    }
+// The record, where at most this count of bytes comes a call, and calls fail after so many of them.
+fn read_by(alloc: Global, case: Case, size: usize, fails: Option<usize>) -> Reading {
+    let mut reader = Chunks::new(case.page, size, fails);
+    name_record(alloc, &mut reader, case.settings)
 }
 
 // Whether a page that is cut anywhere is a page, and has a record that is the same byte by byte.
@@ -48,8 +28,8 @@ fn ends_anywhere(alloc: Global, case: Case) -> bool {
             page: &case.page[..end],
             settings: case.settings,
         };
-        let reading = cut.read(alloc);
-        if reading.is_err() || !is_same(&cut.read_by(alloc, 1, None), &reading) {
+        let reading = read(alloc, cut);
+        if reading.is_err() || !is_same(&read_by(alloc, cut, 1, None), &reading) {
             return false;
         }
     }
@@ -60,7 +40,7 @@ fn ends_anywhere(alloc: Global, case: Case) -> bool {
 fn stands_failing_reads(alloc: Global, case: Case) -> bool {
     let size = step_of(case.page.len());
     for calls in 0..(case.page.len() / size).saturating_add(1) {
-        if !matches!(case.read_by(alloc, size, Some(calls)), Err(Fault::Read)) {
+        if !matches!(read_by(alloc, case, size, Some(calls)), Err(Fault::Read)) {
             return false;
         }
     }
@@ -69,7 +49,7 @@ fn stands_failing_reads(alloc: Global, case: Case) -> bool {
 
 /// The first way to read a page in which something else is answered.
 pub(crate) fn difference(alloc: Global, case: Case, whole: &Reading) -> Option<&'static str> {
-    if !is_same(&case.read_by(alloc, 1, None), whole) {
+    if !is_same(&read_by(alloc, case, 1, None), whole) {
         return Some("byte by byte");
     }
     if whole.is_err() {

@@ -1,6 +1,6 @@
 //! What words find in an index, at once and in other ways.
 
-use crate::readings::step_of;
+use crate::ways::step_of;
 use page_core_base::Fault;
 use page_engine_index::{Show, whatis};
 use page_test_streams::{Chunks, Ended, Fails, Scarce, Store};
