@@ -3,8 +3,9 @@
 ghost use Rattle.page_core_sources.specs.Sources.{source_state};
 
 use crate::checks::{all_messages, check_count, check_outcome, outcome};
-use page_core_base::{Cell, Fault, Level, Note, NoteSink, RowSink, SettingFault, Settings};
+use page_core_base::{Fault, Level, SettingFault, Settings};
 use page_engine::{Outcome, Reading, Source, run_sinks};
+use page_test_streams::CountingSink;
 use std::process::Abort;
 use std::test::Fail;
 
@@ -57,93 +58,6 @@ impl Source for Bytes<'_> {
     }
 }
 
-// Counts rows, and fails at the row of a number.
-#[derive(Drop)]
-struct Rows {
-    failing: u64,
-    calls: u64,
-    failures: u64,
-}
-
-impl RowSink for Rows {
-    ghost gave = { λ _ _ _. Unit {0} };
-
-    ghost within = { λ _ _ _. Unit {0} };
-
-    ghost failed = { λ s. s.failures };
-
-    ghost Loans = { Unit {0} };
-
-    ghost loans = { λ _. tt };
-
-    ghost laws = { record {
-      none = λ _. tt;
-      more = λ _ _ _ _ _ _ _. tt;
-      after = λ _ _ _ _ _ _ _. tt;
-      before = λ _ _ _ _ _. tt;
-    } };
-
-    ghost whole = { λ _ _ _ _. tt };
-
-    fn row(&mut self, margin: u32, cells: &[Cell]) -> Result<(), Fault> {
-        let _ = margin;
-        let _ = cells.len();
-        self.calls = self.calls.saturating_add(1);
-        if self.calls == self.failing {
-            self.failures = self.failures.saturating_add(1);
-            return Err(Fault::WriteText);
-        }
-        Ok(())
-    }
-
-    fn failures(&self) -> u64 {
-        self.failures
-    }
-}
-
-// Counts messages, and fails at the message of a number.
-#[derive(Drop)]
-struct Notes {
-    failing: u64,
-    calls: u64,
-    failures: u64,
-}
-
-impl NoteSink for Notes {
-    ghost gave = { λ _ _ _. Unit {0} };
-
-    ghost within = { λ _ _ _. Unit {0} };
-
-    ghost failed = { λ s. s.failures };
-
-    ghost Loans = { Unit {0} };
-
-    ghost loans = { λ _. tt };
-
-    ghost laws = { record {
-      none = λ _. tt;
-      more = λ _ _ _ _ _ _ _. tt;
-      after = λ _ _ _ _ _ _ _. tt;
-      before = λ _ _ _ _ _. tt;
-    } };
-
-    ghost whole = { λ _ _ _ _. tt };
-
-    fn note(&mut self, note: &Note) -> Result<(), Fault> {
-        let _ = note.kind;
-        self.calls = self.calls.saturating_add(1);
-        if self.calls == self.failing {
-            self.failures = self.failures.saturating_add(1);
-            return Err(Fault::WriteNotes);
-        }
-        Ok(())
-    }
-
-    fn failures(&self) -> u64 {
-        self.failures
-    }
-}
-
 // An unknown macro in line 3, and a blank line in line 5.
 const PAGE: &[u8] = b".TH T 1 2020-01-01 S\n.SH A\n.ZZ\na\n\nb\n";
 
@@ -160,16 +74,8 @@ fn counts<R: Abort + AllocGlobal>(
     want: Result<Outcome, Fault>,
 ) {
     let mut source = Bytes::new(PAGE, failing.0);
-    let mut rows = Rows {
-        failing: failing.1,
-        calls: 0,
-        failures: 0,
-    };
-    let mut notes = Notes {
-        failing: failing.2,
-        calls: 0,
-        failures: 0,
-    };
+    let mut rows = CountingSink::new(failing.1);
+    let mut notes = CountingSink::new(failing.2);
     let result = run_sinks(rt.alloc(), &mut source, &mut rows, &mut notes, settings);
     check_outcome(rt, result, want);
     check_count(rt, source.calls, counts.0);

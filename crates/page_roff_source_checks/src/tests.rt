@@ -1,52 +1,10 @@
 //! What a sink of messages refuses, and what is known of a page after it.
 
-use page_core_base::{Fault, Note, NoteSink, Settings, is_line};
+use page_core_base::{Fault, NoteSink, Settings, is_line};
 use page_roff_source::{Counts, Roff};
+use page_test_streams::CountingSink;
 use std::process::Abort;
 use std::test::Fail;
-
-// Counts messages, and fails at the message of a number.
-#[derive(Drop)]
-struct Notes {
-    failing: u64,
-    calls: u64,
-    failures: u64,
-}
-
-impl NoteSink for Notes {
-    ghost gave = { λ _ _ _. Unit {0} };
-
-    ghost within = { λ _ _ _. Unit {0} };
-
-    ghost failed = { λ s. s.failures };
-
-    ghost Loans = { Unit {0} };
-
-    ghost loans = { λ _. tt };
-
-    ghost laws = { record {
-      none = λ _. tt;
-      more = λ _ _ _ _ _ _ _. tt;
-      after = λ _ _ _ _ _ _ _. tt;
-      before = λ _ _ _ _ _. tt;
-    } };
-
-    ghost whole = { λ _ _ _ _. tt };
-
-    fn note(&mut self, note: &Note) -> Result<(), Fault> {
-        let _ = note.kind;
-        self.calls = self.calls.saturating_add(1);
-        if self.calls == self.failing {
-            self.failures = self.failures.saturating_add(1);
-            return Err(Fault::WriteNotes);
-        }
-        Ok(())
-    }
-
-    fn failures(&self) -> u64 {
-        self.failures
-    }
-}
 
 // Eight messages: of a text, a condition, a request, a table, the end of a block, a call, the budget, and an open region.
 const PAGE: [&str; 12] = [
@@ -130,16 +88,12 @@ fn check_taken(rt: &impl Abort, roff: &Roff, taken: u64) {
     assert!(rt; counts.taken == taken, "{} lines taken", counts.taken);
 }
 
-fn check_calls(rt: &impl Abort, notes: &Notes, calls: u64) {
+fn check_calls(rt: &impl Abort, notes: &CountingSink, calls: u64) {
     assert!(rt; notes.calls == calls, "{} messages", notes.calls);
 }
 
-fn all_notes() -> Notes {
-    Notes {
-        failing: 0,
-        calls: 0,
-        failures: 0,
-    }
+fn all_notes() -> CountingSink {
+    CountingSink::new(0)
 }
 
 fn check_fault(rt: &impl Abort, got: Result<u64, Fault>, want: Result<u64, Fault>) {
@@ -147,7 +101,7 @@ fn check_fault(rt: &impl Abort, got: Result<u64, Fault>, want: Result<u64, Fault
 }
 
 // A call of each kind after a fault or the end: the fault is reported, and nothing is given.
-fn check_closed(rt: &impl Abort, roff: &mut Roff, notes: &mut Notes) {
+fn check_closed(rt: &impl Abort, roff: &mut Roff, notes: &mut CountingSink) {
     let calls = notes.calls;
     assert!(rt; matches!(roff.take(notes), Err(Fault::Failed)));
     assert!(rt; roff.idle());
@@ -157,11 +111,7 @@ fn check_closed(rt: &impl Abort, roff: &mut Roff, notes: &mut Notes) {
 
 // A sink refuses the message of a number, and then roff is closed.
 fn check_refused(rt: &impl Abort, roff: &mut Roff, failing: u64) {
-    let mut notes = Notes {
-        failing,
-        calls: 0,
-        failures: 0,
-    };
+    let mut notes = CountingSink::new(failing);
     let result = run_page(roff, &mut notes);
     check_fault(rt, result, Err(Fault::WriteNotes));
     assert!(rt; notes.calls == failing);
