@@ -9,19 +9,19 @@
 //!   of macros or of events of mdoc(7). The pieces and messages that it gives stand below it. `new` and `page` begin a page, `end` ends it, and
 //!   `times N` takes its line N times.
 //!
-//! The heads of `core.rt`, `roff.rt` and `scopes.rt` say the rest.
+//! The heads of `core_calls.rt`, `roff_calls.rt` and `scopes_calls.rt` say the rest.
 #![tactic(auto)]
 
 mod bytes;
-mod core;
+mod core_calls;
 mod layers;
-mod roff;
-mod scopes;
+mod roff_calls;
+mod scopes_calls;
 
-use core::show_core;
+use core_calls::show_core;
 use layers::Layer;
-use roff::show_roff;
-use scopes::show_scopes;
+use roff_calls::show_roff;
+use scopes_calls::show_scopes;
 use std::io;
 
 fn main(rt: HostRuntime) -> io::Result<()> {

@@ -1,7 +1,7 @@
 use Rattle.page_core_base.specs.LinesTaken.{line_view}
 use Rattle.page_sets_lines.proofs.SliceLemmas.{first_fits}
 use Rattle.page_sets_lines.specs.Events.{event_view}
-use Rattle.page_layer_cases.proofs.scopes.pages.give_line.Goals as goal
+use Rattle.page_layer_cases.proofs.scopes_calls.pages.give_line.Goals as goal
 
 pub give_event-requires : goal.give_event-requires
 give_event-requires g c =
