@@ -28,21 +28,17 @@ const PARTS: u32 = 256;
 
 const PART: usize = 4_096;
 
-// Fills a part, which so lies on the stack.
+// Makes the stack larger by a part, and by so many more. It answers how many parts it has filled: which byte of a part it reads depends on what
+// those after it answer, so that no compiler can do without one of them.
 #[inline(never)]
-fn fill(part: &mut [u8; PART], byte: u8) {
-    for place in 0..PART {
-        part[place] = byte;
+fn grow_stack(parts: u32, above: &[u8; PART]) -> usize {
+    let mut part = *above;
+    part[parts as usize % PART] = 1;
+    if parts == 0 {
+        return 1;
     }
-}
-
-// Makes the stack larger by a part, and by so many more. It answers whether it is: each part is filled still when those after it are.
-#[inline(never)]
-fn grow_stack(parts: u32) -> bool {
-    let mut part = [0u8; PART];
-    fill(&mut part, b's');
-    let is_larger = parts == 0 || grow_stack(parts - 1);
-    is_larger && part[0] == b's' && part[PART - 1] == b's'
+    let below = grow_stack(parts - 1, &part);
+    below.saturating_add(part[below % PART] as usize)
 }
 
 /// Memory that is kept from all else.
@@ -56,7 +52,7 @@ pub struct Scarcity {
 impl Scarcity {
     /// Keeps nothing yet but the steps, which lie side by side, and makes the stack larger.
     pub fn new(alloc: Global) -> Option<Scarcity> {
-        if !grow_stack(PARTS) {
+        if grow_stack(PARTS, &[0; PART]) <= PARTS as usize {
             return None;
         }
         let blocks = Vec::with_capacity(alloc, BLOCKS).ok()?;
