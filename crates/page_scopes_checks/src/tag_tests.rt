@@ -4,7 +4,7 @@ ghost use Rattle.std.specs.Prelude.{◌≤◌, length};
 ghost use Rattle.page_sets_lines.specs.Fits.{ArgumentFits};
 ghost use Rattle.page_sets_lines.specs.Events.{word_view};
 
-use crate::pages::{MOST, Page, check_shown};
+use crate::leaf_pages::{MOST, Page, check_shown};
 use page_core_base::{Font, Place};
 use page_roff_forms::{Argument, Quoting};
 use page_scopes_leaves::{TagPlace, end_line, give_leaf, give_raw_line, give_tag};

@@ -13,7 +13,7 @@ pub struct Nested {
 }
 
 impl Renderer for Nested {
-    ghost use Rattle.page_scopes_tree_checks.specs.Nested.{nested_tables};
+    ghost use Rattle.page_scopes_checks.specs.Nested.{nested_tables};
 
     type Kept = u32;
 

@@ -13,7 +13,7 @@ use Rattle.page_scopes_labels.specs.Labels.{label_name}
 use Rattle.page_scopes_tree.specs.Frames.{Tables}
 use Rattle.page_scopes_tree.specs.declared.acts.Act.{Act}
 use Rattle.page_scopes_tree.specs.declared.acts.Act.TheVariants as acts
-use Rattle.page_scopes_tree_checks.specs.declared.nested.Nested.{Nested}
+use Rattle.page_scopes_checks.specs.declared.nested.Nested.{Nested}
 
 abbrev pub nested_at : ℕ → Nested
 nested_at margin = record { margin = margin }

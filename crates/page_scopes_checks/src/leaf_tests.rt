@@ -1,6 +1,6 @@
 //! What lines give whose macros open and close nothing.
 
-use crate::pages::{Page, check_shown, give_script};
+use crate::leaf_pages::{Page, check_shown, give_script};
 use page_scopes_shown::Shown;
 use std::alloc::Global;
 use std::process::Abort;

@@ -1,5 +1,0 @@
-//! Tests of contexts, on public calls.
-#![tactic(auto)]
-
-#[cfg(test)]
-mod tests;

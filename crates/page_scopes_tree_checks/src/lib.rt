@@ -1,6 +1,0 @@
-//! Tests of scopes, on public calls, over a small layout.
-#![tactic(auto)]
-
-pub mod nested;
-#[cfg(test)]
-mod tests;
