@@ -1,5 +1,5 @@
-//! Tests of whole pages, and of records as an index has them (makewhatis(8)), on public calls; and what follows from the contracts of two calls of a page
-//! in turn. What words find in an index is shown by `page_cases`.
+//! Tests of whole pages, and of records as an index has them (makewhatis(8)), on public calls; and what follows from the contracts of two calls
+//! of a page in turn. What words find in an index is shown by `page_cases`.
 #![tactic(auto)]
 
 mod edges;

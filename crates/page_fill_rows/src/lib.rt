@@ -5,8 +5,8 @@
 //! in `page_fill_steps`. Read `Sheet` in `specs/OpenRows.antt` first, which is all that a row holds, and then `specs/Characters.antt`.
 //!
 //! Proved: `OpenRow`, `put_character`, `put_characters`, `put_glyph`, `put_plain`, `printable_len`, `word_start`: what the open row is after each
-//! call, and the rows and messages that the call settles (`specs/machine/Sheets.antt`, `Characters.antt`, `Plain.antt`). `plain_law`: printable ASCII that is
-//! put into the row as a whole settles what its cells settle one by one.
+//! call, and the rows and messages that the call settles (`specs/Characters.antt`, `specs/machine/Sheets.antt` and `Plain.antt`). `plain_law`:
+//! printable ASCII that is put into the row as a whole settles what its cells settle one by one.
 #![tactic(auto)]
 
 mod cell_widths;

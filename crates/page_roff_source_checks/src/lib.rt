@@ -1,5 +1,5 @@
-//! Tests of roff, on public calls: a thousand changes of the names of a page, what the parts of a source do, and roff by itself, with messages that are
-//! refused, calls after an end and refused memory. `page_layer_cases` has the other cases.
+//! Tests of roff, on public calls: a thousand changes of the names of a page, what the parts of a source do, and roff by itself, with messages
+//! that are refused, calls after an end and refused memory. `page_layer_cases` has the other cases.
 #![tactic(auto)]
 
 #[cfg(test)]

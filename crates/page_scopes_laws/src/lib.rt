@@ -4,9 +4,9 @@
 //! event gives the same; `page_scopes_tree` puts the scopes of man(7) in. Read `specs/Nestings.antt` first, then `Forests.antt` (the tree) and
 //! `Layouts.antt` (what it gives).
 //!
-//! Proved: `part_law`, `stack_law`, `cut_law`: the block tree of a list of acts, laid out, is what a stack of open scopes gives act by act, and it
-//! may be cut anywhere (`specs/machine/Parts.antt`, `Layouts.antt`). `asides_law`: what stands among the acts and is none, as a message, is a leaf where it
-//! comes (`specs/Asides.antt`).
+//! Proved: `part_law`, `stack_law`, `cut_law`: the block tree of a list of acts, laid out, is what a stack of open scopes gives act by act, and
+//! it may be cut anywhere (`specs/Layouts.antt`, `specs/machine/Parts.antt`). `asides_law`: what stands among the acts and is none, as a message,
+//! is a leaf where it comes (`specs/Asides.antt`).
 #![tactic(auto)]
 
 ghost use Rattle.std.specs.Prelude.{◌≡◌, ℕ, ◌+◌, ◌*◌, ◌≤◌, List, ◌++◌, length};

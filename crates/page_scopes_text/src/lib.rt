@@ -1,8 +1,8 @@
 //! Texts of a page as pieces and messages, word by word: blanks, fonts, rows that are kept as they are, and the messages of escapes (roff(7)).
 //!
 //! A text of an event comes in with a `Pen`, which is what is known before it; its pieces go down to be filled. Read `specs/Parted.antt` first
-//! (the words of a text), then `Words.antt` (a word) and `Texts.antt` (what parts words). What the code does faster, `FontWords.antt`, `Reads.antt`
-//! and `Runs.antt` speak of.
+//! (the words of a text), then `Words.antt` (a word) and `Texts.antt` (what parts words). What the code does faster is in
+//! `specs/machine/`.
 //!
 //! Proved: `give_text`: the pieces and messages of a text, word by word, with the blanks before each, in rows that are filled or kept
 //! (`specs/Parted.antt`, `Words.antt`, `Texts.antt`). `give_number`, `give_columns`, `give_rows`: the value of a number in basic units, columns or
