@@ -224,7 +224,7 @@ fn give_block_last_words<O: PieceOut>(
     }
 }
 
-/// Gives the words that a scope ends with, in its text context: the mark after an enclosure's words, the full stop of a reference (`Rs`) and the end of a
+/// Gives the words that a scope ends with, in its own context: the mark after an enclosure's words, the full stop of a reference (`Rs`) and the end of a
 /// function (`Fo`), of whatever ends it.
 pub fn give_last_words<O: PieceOut>(
     out: &mut O,

@@ -32,7 +32,7 @@ fn give_cells<O: PieceOut>(out: &mut O, place: Place, font: Font, text: &[u8])
     give_part(out, place, font, &text[start..]);
 }
 
-/// Gives a line as it is, as a row of its text.
+/// Gives a line as it is, as a row of its own.
 #[tactic(auto, unfolding(crate::specs::RawLines::raw_line))]
 #[inline(never)]
 pub fn give_raw_line<O: PieceOut>(

@@ -18,7 +18,7 @@ pub enum Block {
     /// `Ao` and `Ac`, `Bo` and `Bc`, `Bro` and `Brc`, `Do` and `Dc`, `Oo` and `Oc`, `Po` and `Pc`, `Qo` and `Qc`,
     /// `So` and `Sc`.
     Quotation(Quotation),
-    /// `Eo` and `Ec`: the marks are their text.
+    /// `Eo` and `Ec`: the marks are their own.
     Custom,
     /// `Xo` and `Xc`: no marks.
     Extension,

@@ -28,11 +28,11 @@ pub enum Role {
     Argument,
     /// A delimiter of mdoc(7).
     Delimiter,
-    /// The first name that `Nm` has, with the column of the macro's text name.
+    /// The first name that `Nm` has, with the column of the macro's own name.
     Name { column: u32 },
 }
 
-/// A word, in a font of its text if it has one; `W` is a text.
+/// A word, in a font of its own if it has one; `W` is a text.
 pub struct Word<W> {
     /// Its text and column.
     pub arg: Argument<W>,

@@ -24,7 +24,7 @@ pub enum Request<W> {
     Literal(bool),
 }
 
-/// A word that a macro prints itself, in a font of its text if it has one.
+/// A word that a macro prints itself, in a font of its own if it has one.
 #[derive(Clone, Copy)]
 pub struct GeneratedWord {
     pub text: GeneratedText,
@@ -42,7 +42,7 @@ pub enum Leaf<W> {
     Request(Request<W>),
     /// A macro of the prologue, with the rest of its line.
     Prologue(Prologue, W),
-    /// A word of the macro's text.
+    /// A word of the macro's own.
     Generated(GeneratedWord),
     /// `EX` (true) and `EE` (false).
     Example(bool),

@@ -29,7 +29,7 @@ pub enum LineStep<W> {
     BodyParagraph(BodyParagraphName),
     /// `Lk`: the address that it prints.
     Uri(Argument<W>),
-    /// `Nm` without a name of its text: the name of the manual.
+    /// `Nm` without a name of its own: the name of the manual.
     ManualName,
     /// The next field of the open reference (`Rs`) begins: `%A`, `%T` and so on.
     NextField,

@@ -53,7 +53,7 @@ pub enum Closer<W> {
     Block(BlockCloser<W>),
 }
 
-/// What opens a scope that ends with a line: its text, or the next one that gives words.
+/// What opens a scope that ends with a line: its own, or the next one that gives words.
 #[derive(Clone, Copy, PartialEq, Eq)]
 pub enum LineOpener {
     /// The words of `It`.

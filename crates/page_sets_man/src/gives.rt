@@ -99,7 +99,7 @@ fn argument_word(
     }
 }
 
-// A mark of a macro's text.
+// A mark of a macro's own.
 fn mark<'a>(
     number: u32,
     column: u32,

@@ -204,7 +204,7 @@ macro_rules! font_words {
     };
 }
 
-// A macro that needs words, which stand in no font of its text, or in several.
+// A macro that needs words, which stand in no font of its own, or in several.
 macro_rules! needs_words {
     ($quotes:expr, $effect:expr, $words:expr, $last:expr) => {
         Row {

@@ -15,7 +15,7 @@ use page_sets_lines::{
 use page_sets_mdoc_lines::word_delimiter;
 use page_sets_mdoc_rows::Delimiter;
 
-/// An argument as a word, in its text column.
+/// An argument as a word, in its own column.
 pub fn word_event(
     number: u32,
     role: Role,
@@ -69,7 +69,7 @@ pub fn printed_word(number: u32, font: Option<Font>, word: Argument<&[u8]>) -> E
     }
 }
 
-/// A text of the macro's text.
+/// A text of the macro's own.
 pub fn generated_word<'a>(
     number: u32,
     column: u32,
