@@ -28,7 +28,7 @@ abbrev pub offset_notes : Place → Option (Argument (List ℕ)) → List Item
 offset_notes place None = []
 offset_notes place (Some offset) = width_notes place offset
 
--- a paragraph, or a row of its text
+-- a paragraph, or a row of its own
 abbrev pub display_gap : Bool → Context → Piece (List ℕ)
 display_gap true c = pieces.Break
 display_gap false c = pieces.Para c.distance.value

@@ -1,4 +1,4 @@
--- Renderer out a block tree: what it gives, sibling after sibling, and what decides the rest. Source: man(7), mdoc(7).
+-- Laying out a block tree: what it gives, sibling after sibling, and what decides the rest. Source: man(7), mdoc(7).
 use Rattle.std.specs.Prelude.{List, [], ◌∷◌, ◌++◌, map}
 use Rattle.page_scopes_laws.specs.Nestings.{Nesting, left_by, standing_of, mode_of, inside}
 use Rattle.page_scopes_laws.specs.declared.Scope.{Scope}

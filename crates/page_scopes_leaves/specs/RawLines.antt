@@ -26,7 +26,7 @@ cells_after place font part (byte ∷ bytes) =
 abbrev pub cells : Place → Font → List ℕ → List Item
 cells place font text = cells_after place font [] text
 
--- a row of its text, which is kept
+-- a row of its own, which is kept
 unfoldable pub raw_line : Place → List ℕ → Context → Running → Outcome
 raw_line place text c r = record {
   items = shown pieces.Break ∷ shown (pieces.Literal true)

@@ -120,7 +120,7 @@ argument_word number font before argument =
     event_at number argument.column
     (kinds.Word (record { arg = argument; role = roles.Argument; font = font; before = before; after = Apart }))
 
--- a mark of the macro's text
+-- a mark of the macro's own
 abbrev pub mark : ℕ → ℕ → GeneratedText → Join → Join → Event (List ℕ)
 mark number column text before after =
     event_at number column (kinds.Leaf (leaves.Generated (record { text = text; font = None; before = before; after = after })))

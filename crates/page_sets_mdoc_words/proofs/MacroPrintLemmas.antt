@@ -65,7 +65,7 @@ link_prints line number column words h =
 abbrev pub own_arguments : Option (Argument (List ℕ)) → List (Argument (List ℕ)) → List (Argument (List ℕ))
 own_arguments taken words = as_list taken ++ words
 
--- a word that is taken and gives nothing of its text
+-- a word that is taken and gives nothing of its own
 skipped : (line : List ℕ) (more : ℕ) (taken : Option (Argument (List ℕ))) (words : List (Argument (List ℕ))) (events : List (Event (List ℕ)))
     → Prints line more words events → Prints line more (own_arguments taken words) events
 skipped line more None words events p = p

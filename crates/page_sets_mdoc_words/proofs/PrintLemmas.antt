@@ -51,7 +51,7 @@ pub more_events : (line : List ℕ) (more most : ℕ) (words : List (Argument (L
     → more ≤ most → Prints line more words events → Prints line most words events
 more_events line more most words events h p = record { slices = p.slices; order = p.order; few = let few = p.few in omega (arith, few, h) }
 
--- a text of the macro's text, or a change
+-- a text of the macro's own, or a change
 pub own_first : (line : List ℕ) (more most : ℕ) (words : List (Argument (List ℕ))) (event : Event (List ℕ)) (events : List (Event (List ℕ)))
     → is_word event.kind ≡ false → HasSlices line event.kind → 1 + more ≤ most → Prints line more words events → Prints line most words (event ∷ events)
 own_first line more most words event events w h m p = record {
@@ -69,7 +69,7 @@ word_first line more word words event events h t p = record {
   few = let few = p.few in omega (arith, few);
 }
 
--- a word that gives no event of its text
+-- a word that gives no event of its own
 pub word_passed : (line : List ℕ) (more : ℕ) (word : Argument (List ℕ)) (words : List (Argument (List ℕ))) (events : List (Event (List ℕ)))
     → Prints line (more + 2) words events → Prints line more (word ∷ words) events
 word_passed line more word words events p = record {

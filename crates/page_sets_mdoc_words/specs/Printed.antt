@@ -17,7 +17,7 @@ use Rattle.page_sets_mdoc_rows.specs.declared.delimiters.Delimiter.{Delimiter}
 use Rattle.page_sets_mdoc_rows.specs.declared.delimiters.Delimiter.TheVariants.{Opening, Middle, Closing}
 use Rattle.page_sets_mdoc_lines.specs.LineWords.{word_delimiter}
 
--- an argument as a word, in its text column
+-- an argument as a word, in its own column
 abbrev pub word_event : ℕ → Role → Option Font → Join → Join → Argument (List ℕ) → Event (List ℕ)
 word_event number role font before after word =
     event_at number word.column
@@ -46,7 +46,7 @@ abbrev pub printed : ℕ → Option Font → List (Argument (List ℕ)) → List
 printed number font [] = []
 printed number font (word ∷ words) = printed_word number font word ∷ printed number font words
 
--- a text of the macro's text
+-- a text of the macro's own
 abbrev pub generated_word : ℕ → ℕ → GeneratedText → Option Font → Join → Join → Event (List ℕ)
 generated_word number column text font before after =
     event_at number column (kinds.Leaf (leaves.Generated (record { text = text; font = font; before = before; after = after })))

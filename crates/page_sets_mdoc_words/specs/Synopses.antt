@@ -23,7 +23,7 @@ begins_row _ = false
 abbrev pub step_if : Bool → SynopsisStep → Option SynopsisStep
 step_if test step = if test then Some step else None
 
--- a declaration (`Cd`, `Fd`) stands on rows of its text, wherever it is; the name of the manual begins a row where it begins a line; a macro that is refused begins none
+-- a declaration (`Cd`, `Fd`) stands on rows of its own, wherever it is; the name of the manual begins a row where it begins a line; a macro that is refused begins none
 abbrev pub before_words : Bool → Inline → Bool → Option SynopsisStep
 before_words first inlines.Declaration real = step_if real Break
 before_words first inlines.Name real = step_if first NameBegins
