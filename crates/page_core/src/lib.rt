@@ -10,9 +10,9 @@ pub use page_core_base::{
 pub use page_core_escapes::{Escape, FontName, escape};
 pub use page_core_limits::{CELLS, FIELD, LINE, Limit, PARENS};
 pub use page_core_numbers::{Evaluation, EvaluationNotes, Scale, columns, evaluate, number};
+pub use page_core_streams::{
+    KeptNotes, KeptRows, Row, TextNotes, TextRows, cell_bytes, write_note,
+};
 pub use page_core_tables::{
     Glyph, Printed, char_columns, glyph, printed_char, printed_glyph, spelling,
-};
-pub use page_core_writers::{
-    KeptNotes, KeptRows, Row, TextNotes, TextRows, cell_bytes, write_note,
 };

@@ -9,12 +9,12 @@ use Rattle.page_fill_steps.specs.declared.edges.Edge.{Edge as FillEdge}
 use Rattle.page_roff_lines.specs.Decoding.{Line}
 use Rattle.page_roff_source.specs.Edges.{Edge as RoffEdge}
 use Rattle.page_roff_source.specs.Given.{done}
-use Rattle.page_engine_body.specs.Bodies.{BodyEdge}
+use Rattle.page_engine_lines.specs.Bodies.{BodyEdge}
 use Rattle.page_engine_lines.specs.Acts.{lines_items, lines_after}
 use Rattle.page_engine_lines.specs.Edges.{LinesEdge}
 use Rattle.page_engine_lines.specs.machine.Lines.{source_items, source_after}
 use Rattle.page_engine_lines.proofs.NumberLemmas.{last_of, done_number_is}
-use Rattle.page_engine_body.proofs.SharedLemmas.{Shared}
+use Rattle.page_engine_lines.proofs.BodySharedLemmas.{Shared}
 use Rattle.page_engine_lines.proofs.SharedLemmas.{lines_shared}
 use Rattle.page_engine_lines.proofs.TreeLemmas.{one_after}
 use Rattle.page_engine.specs.Edges.{Edge, lines_at, moved, roff_at}

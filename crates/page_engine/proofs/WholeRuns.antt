@@ -15,13 +15,13 @@ use Rattle.page_engine.specs.declared.runs.Outcome.{Outcome}
 use Rattle.page_engine.specs.declared.runs.Run.{Run}
 use Rattle.page_engine.specs.States.{IsOpenAt, CannotStart, Ends}
 use Rattle.page_engine.specs.Page.{Edge, counts_at, page, start, settled}
-use Rattle.page_core_sources.specs.Sources.{SourceState}
+use Rattle.page_core_streams.specs.Sources.{SourceState}
 use Rattle.page_engine.specs.Streams.{Streams, Sinks, AllCame}
 use Rattle.page_engine.specs.Runs.{RunsOver, Stopped, HasCause, Broken, whole_page, page_from, settled_from}
 use Rattle.page_engine.specs.machine.PageSinks.{cause_later}
 use Rattle.page_roff_source.specs.declared.counts.Counts.{Counts}
 use Rattle.page_engine.specs.machine.Steps.{source_lines, TookLast, Finished, Finishes, Through, EndedWell, StoppedFrom, ReadsAll}
-use Rattle.page_core_sources.proofs.GivenLemmas.{given_none, lean_none}
+use Rattle.page_core_streams.proofs.GivenLemmas.{given_none, lean_none}
 use Rattle.page_engine.proofs.BytesRead.{both_gave, both_within, page_last, lines_last}
 use Rattle.page_engine.proofs.Through.{broken_front, broken_end}
 use Rattle.page_engine.proofs.WholeLines.{start_reached, page_end, end_counts}

@@ -3,7 +3,7 @@
 use Rattle.std.specs.Prelude.{◌≡◌, ℕ, Bool, true, Option, None, List, unwrap_or}
 use Rattle.page_core_base.specs.declared.note_kinds.Level.{Level}
 use Rattle.page_core_base.specs.declared.page_settings.Settings.{Settings}
-use Rattle.page_engine_body.specs.Bodies.{BodyEdge, HeaderEdge, indent_of}
+use Rattle.page_engine_lines.specs.Bodies.{BodyEdge, HeaderEdge, indent_of}
 use Rattle.page_engine_header.specs.declared.fields.Fields.{Fields}
 use Rattle.page_engine_lines.specs.Edges.{LinesEdge, start_of}
 use Rattle.page_fill_steps.specs.Caps.{IsHeld, is_sound}

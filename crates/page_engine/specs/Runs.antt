@@ -11,7 +11,7 @@ use Rattle.page_roff_lines.specs.Cutting.{Point, first_point, point_after, lines
 use Rattle.page_core_base.specs.Checks.{IsGood, IsFirst}
 use Rattle.page_engine.specs.declared.runs.Outcome.{Outcome}
 use Rattle.page_engine.specs.Page.{Edge, counts_at, settled, page, start}
-use Rattle.page_core_sources.specs.Sources.{SourceState, HasGiven, IsLean}
+use Rattle.page_core_streams.specs.Sources.{SourceState, HasGiven, IsLean}
 use Rattle.page_engine.specs.Streams.{Streams, Sinks, AllCame, FrontCame}
 
 -- from an edge and a point between two bytes: the page of the bytes to come, and what their lines settle

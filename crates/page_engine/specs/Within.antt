@@ -1,6 +1,6 @@
 -- How much is held between two lines. Source: mandoc(1), "DIAGNOSTICS".
 use Rattle.std.specs.Prelude.{◌≡◌, ℕ, ◌+◌, true, length, sum_by, Option, None, Some}
-use Rattle.page_engine_body.specs.Caps.{BodyFits}
+use Rattle.page_engine_lines.specs.Caps.{BodyFits}
 use Rattle.page_fill_steps.specs.Caps.{FillFits, IsHeld, is_sound}
 use Rattle.page_roff_names.specs.Entries.{size}
 use Rattle.page_roff_source.specs.Caps.{RoffFits}

@@ -2,11 +2,11 @@
 -- Source: mandoc(1), "ASCII Output" and "DIAGNOSTICS".
 use Rattle.std.specs.Prelude.{ℕ, List, Option}
 use Rattle.std.specs.List.{flat_map}
-use Rattle.page_core_writers.specs.Grows.{Grows, GrowsInto}
+use Rattle.page_core_streams.specs.Grows.{Grows, GrowsInto}
 use Rattle.page_core_base.specs.Messages.{Message}
 use Rattle.page_core_base.specs.Rows.{LaidRow}
-use Rattle.page_core_writers.specs.RowBytes.{row_bytes}
-use Rattle.page_core_writers.specs.MessageBytes.{message_bytes}
+use Rattle.page_core_streams.specs.RowBytes.{row_bytes}
+use Rattle.page_core_streams.specs.MessageBytes.{message_bytes}
 
 -- a writer whose bytes are known got those of these rows; of a front of them
 abbrev pub WritesRows : {W : Type 0} → (W → Option (List ℕ)) → W → List LaidRow → W → Type 0

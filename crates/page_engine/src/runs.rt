@@ -12,8 +12,7 @@ ghost use Rattle.page_engine.specs.machine.Steps.{CanTake, TakesPart, TakesChunk
 
 use crate::pages::Page;
 use page_core_base::{Fault, Level, NoteSink, RowSink, Settings};
-use page_core_sources::{BYTES, Counted, READS, Reading, SliceSource, Source};
-use page_core_writers::{TextNotes, TextRows};
+use page_core_streams::{BYTES, Counted, READS, Reading, SliceSource, Source, TextNotes, TextRows};
 use page_roff_lines::Cutter;
 use page_roff_source::Counts;
 use std::alloc::Global;

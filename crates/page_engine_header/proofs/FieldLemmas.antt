@@ -4,7 +4,7 @@ use Rattle.std.specs.List.{flat_map}
 use Rattle.std.specs.Str.Lossy.{utf8_valid_len}
 use Rattle.page_core_base.specs.Messages.{text_front}
 use Rattle.page_core_base.specs.declared.places.Place.{Place}
-use Rattle.page_roff_forms.specs.declared.quotes.Argument.{Argument}
+use Rattle.page_roff_syntax.specs.declared.quotes.Argument.{Argument}
 use Rattle.page_engine_header.specs.Fields.{argument_cut, bracketed, dt_fields, first_field, or_else, th_fields, volume_of}
 use Rattle.page_engine_header.specs.declared.fields.Fields.{Fields}
 

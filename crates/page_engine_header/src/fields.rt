@@ -3,14 +3,14 @@
 ghost use Rattle.std.specs.Prelude.{◌≡◌, ◌≤◌, [], ◌∷◌, false, length, take, nat_lt};
 ghost use Rattle.std.specs.List.{flat_map};
 ghost use Rattle.page_core_base.specs.Latches.{Came};
-ghost use Rattle.page_roff_forms.specs.Arguments.{argument_view};
+ghost use Rattle.page_roff_syntax.specs.Arguments.{argument_view};
 ghost use Rattle.page_engine_header.specs.Fields as fields;
 ghost use Rattle.page_engine_header.specs.Fields.{FIELDS, argument_cut, cut_item, no_fields, volume_at, volume_of};
 
 use crate::field_texts::Field;
 use page_core_base::{NoteKind, PieceOut, Place};
 use page_core_limits::{FIELD, Limit};
-use page_roff_forms::{Argument, Arguments};
+use page_roff_syntax::{Argument, Arguments};
 use page_scopes_words::report;
 use page_sets_lines::Prologue;
 

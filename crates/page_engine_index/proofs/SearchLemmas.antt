@@ -11,7 +11,7 @@ use Rattle.std.proofs.lemmas.List.{take-take, take-append-drop, take_at, take_al
 use Rattle.std.proofs.Math.Seq.{split_at}
 use Rattle.memchr.specs.Find.{IsFirstByte, is_byte}
 use Rattle.page_engine_index.proofs.FieldLemmas.{front_none}
-use Rattle.page_core_sources.specs.Sources.{SourceState}
+use Rattle.page_core_streams.specs.Sources.{SourceState}
 use Rattle.page_core_base.specs.Sinks.{IsSink}
 use Rattle.page_core_base.specs.Fails.{Rose}
 use Rattle.page_core_base.specs.declared.faults.Fault.{Fault}

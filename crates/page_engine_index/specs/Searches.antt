@@ -4,7 +4,7 @@ use Rattle.std.specs.Io.KnownBytes.{IsAtEnd}
 use Rattle.page_core_base.specs.Fails.{Rose}
 use Rattle.page_core_base.specs.declared.faults.Fault.{Fault}
 use Rattle.page_core_base.specs.declared.faults.Fault.TheVariants.{Memory, Read, WriteText, WriteNotes, TooLong, Settings, Failed, Ended, BadIndex}
-use Rattle.page_core_sources.specs.Sources.{SourceState, HasGiven}
+use Rattle.page_core_streams.specs.Sources.{SourceState, HasGiven}
 use Rattle.page_engine_index.specs.Entries.{index, whole_index}
 use Rattle.page_engine_index.specs.Whatis.{Asked, rows}
 

@@ -5,11 +5,11 @@ ghost use Rattle.std.specs.Borrow.{GName};
 ghost use Rattle.std.specs.List.{flat_map};
 ghost use Rattle.page_core_base.specs.Sinks.{IsSink, Gives};
 ghost use Rattle.page_core_base.specs.Fails.{FailsAs};
-ghost use Rattle.page_core_writers.specs.Grows.{Adds, AddsInto, adds-sink, adds-whole};
+ghost use Rattle.page_core_streams.specs.Grows.{Adds, AddsInto, adds-sink, adds-whole};
 ghost use Rattle.page_engine_index.specs.Written.{own_bytes};
 
 use page_core_base::Fault;
-use page_core_writers::put_all;
+use page_core_streams::put_all;
 use std::io::Write;
 
 /// Takes lines of text.

@@ -1,12 +1,12 @@
 //! Records of pages, as an index has them and as they are printed (makewhatis(8)).
 
 ghost use Rattle.std.specs.Prelude.{◌≡◌, MatchResult, IfErr, true};
-ghost use Rattle.page_core_writers.specs.Grows.{Grows, GrowsInto};
+ghost use Rattle.page_core_streams.specs.Grows.{Grows, GrowsInto};
 ghost use Rattle.page_engine_index.specs.Fields.{is_field};
 ghost use Rattle.page_engine_index.specs.Records.{entry_with, entry_line, printed_record};
 
 use page_core_base::Fault;
-use page_core_writers::put_all;
+use page_core_streams::put_all;
 use std::io::Write;
 use std::marker::Model;
 

@@ -13,7 +13,7 @@ use crate::open_lines::OpenLine;
 use crate::queries::{Query, Show};
 use memchr::memchr;
 use page_core_base::Fault;
-use page_core_sources::{BYTES, Counted, READS, Reading, Source};
+use page_core_streams::{BYTES, Counted, READS, Reading, Source};
 use std::alloc::Global;
 use std::io::{Read, Write};
 

@@ -1,14 +1,14 @@
 -- The number that roff remembers is the one of its last line, whatever that line does: helpers of proofs.
 use Rattle.std.proofs.Common.{◌≡◌, ℕ, ◌==◌, Bool, true, false, is_some, List, [], ◌∷◌, length, Option, Some, None, refl, ap, ◌∙◌}
 use Rattle.std.specs.Prelude.{if◌then◌else◌}
-use Rattle.page_roff_requests.specs.Requests.{request_of}
-use Rattle.page_roff_requests.specs.declared.requests.Request.{Request}
-use Rattle.page_roff_requests.specs.declared.requests.Request.TheVariants as requests
-use Rattle.page_roff_requests.specs.declared.regions.RegionKind.{RegionKind}
-use Rattle.page_roff_requests.specs.declared.regions.RegionKind.TheVariants.{Define, Append, Ignore, Table, Equation, Picture}
-use Rattle.page_roff_forms.specs.LineForms.{form_of}
-use Rattle.page_roff_forms.specs.declared.line_forms.LineForm.{LineForm}
-use Rattle.page_roff_forms.specs.declared.line_forms.LineForm.TheVariants.{Comment, BlankLine, Text, Control}
+use Rattle.page_roff_syntax.specs.Requests.{request_of}
+use Rattle.page_roff_syntax.specs.declared.requests.Request.{Request}
+use Rattle.page_roff_syntax.specs.declared.requests.Request.TheVariants as requests
+use Rattle.page_roff_syntax.specs.declared.regions.RegionKind.{RegionKind}
+use Rattle.page_roff_syntax.specs.declared.regions.RegionKind.TheVariants.{Define, Append, Ignore, Table, Equation, Picture}
+use Rattle.page_roff_syntax.specs.LineForms.{form_of}
+use Rattle.page_roff_syntax.specs.declared.line_forms.LineForm.{LineForm}
+use Rattle.page_roff_syntax.specs.declared.line_forms.LineForm.TheVariants.{Comment, BlankLine, Text, Control}
 use Rattle.page_roff_heads.specs.declared.loops.LoopHead.{LoopHead}
 use Rattle.page_roff_blocks.specs.LineParts.{line_parts}
 use Rattle.page_roff_regions.specs.OpenRegions.{Opened}

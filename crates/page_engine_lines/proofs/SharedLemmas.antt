@@ -6,9 +6,9 @@ use Rattle.page_core_base.specs.declared.page_settings.Output.{Output}
 use Rattle.page_roff_effects.specs.States.{Given}
 use Rattle.page_roff_source.specs.Edges.{SourceLine}
 use Rattle.page_roff_source.specs.Given.{given}
-use Rattle.page_engine_body.specs.Bodies.{BodyEdge, chosen_if}
-use Rattle.page_engine_body.specs.Trees.{Aside, tree_after}
-use Rattle.page_engine_body.proofs.SharedLemmas.{Shared, shared_of, sharing, tree_shared}
+use Rattle.page_engine_lines.specs.Bodies.{BodyEdge, chosen_if}
+use Rattle.page_engine_lines.specs.Trees.{Aside, tree_after}
+use Rattle.page_engine_lines.proofs.BodySharedLemmas.{Shared, shared_of, sharing, tree_shared}
 use Rattle.page_engine_lines.specs.Acts.{first_language, front_steps, lines_after, reader, rest_steps}
 use Rattle.page_engine_lines.specs.Edges.{LinesEdge}
 use Rattle.page_scopes_laws.specs.Asides.{With}

@@ -7,19 +7,19 @@ use Rattle.page_core_base.specs.Messages.{Message, message_about}
 use Rattle.page_core_base.specs.Pieces.{Item, noted}
 use Rattle.page_core_base.specs.declared.note_kinds.NoteKind.TheVariants.{TrailingBlank}
 use Rattle.page_roff_effects.specs.States.{Given, says, takes}
-use Rattle.page_roff_forms.specs.Ends.{kept_len}
-use Rattle.page_roff_forms.specs.LineForms.{is_white}
+use Rattle.page_roff_syntax.specs.Ends.{kept_len}
+use Rattle.page_roff_syntax.specs.LineForms.{is_white}
 use Rattle.page_roff_source.specs.Edges.{Edge, SourceLine, end_notes}
 use Rattle.page_roff_source.specs.machine.Taking.{before_line, run_line, line_given, line_done}
 use Rattle.page_roff_source.specs.Given.{given, done}
 use Rattle.page_roff_source.specs.machine.LineByLine.{lines_given, lines_done}
 use Rattle.page_roff_source.proofs.CutLemmas.{given-append, done-append}
 use Rattle.page_roff_source.proofs.LineLemmas.{given-by_line, done-by_line}
-use Rattle.page_engine_body.specs.Bodies.{BodyEdge, chosen, chosen_if, decided, events_after, events_items, has_begun, has_title, end_items as body_end_items}
-use Rattle.page_engine_body.specs.Languages.{language_of}
-use Rattle.page_engine_body.specs.Trees.{Aside, reports, events_steps, page_end_steps, tree_items, tree_after}
-use Rattle.page_engine_body.proofs.SharedLemmas.{tree_title}
-use Rattle.page_engine_body.proofs.TreeLemmas.{tree_items-append, tree_after-append, tree_items-none, tree_after-none, aside_items_is, aside_after_is, events_tree_items, events_tree_after, events_keep, end_tree}
+use Rattle.page_engine_lines.specs.Bodies.{BodyEdge, chosen, chosen_if, decided, events_after, events_items, has_begun, has_title, end_items as body_end_items}
+use Rattle.page_engine_lines.specs.Languages.{language_of}
+use Rattle.page_engine_lines.specs.Trees.{Aside, reports, events_steps, page_end_steps, tree_items, tree_after}
+use Rattle.page_engine_lines.proofs.BodySharedLemmas.{tree_title}
+use Rattle.page_engine_lines.proofs.BodyTreeLemmas.{tree_items-append, tree_after-append, tree_items-none, tree_after-none, aside_items_is, aside_after_is, events_tree_items, events_tree_after, events_keep, end_tree}
 use Rattle.page_scopes_laws.specs.Asides.{With, aside}
 use Rattle.page_scopes_tree.specs.Acts.{Step}
 use Rattle.page_scopes_words.specs.Words.{at}

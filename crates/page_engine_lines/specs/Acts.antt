@@ -4,13 +4,13 @@ use Rattle.page_core_base.specs.Messages.{Message, message_about}
 use Rattle.page_core_base.specs.Pieces.{Item}
 use Rattle.page_core_base.specs.declared.note_kinds.NoteKind.TheVariants.{TrailingBlank}
 use Rattle.page_roff_effects.specs.States.{Given, says, takes}
-use Rattle.page_roff_forms.specs.Ends.{kept_len}
-use Rattle.page_roff_forms.specs.LineForms.{is_white}
+use Rattle.page_roff_syntax.specs.Ends.{kept_len}
+use Rattle.page_roff_syntax.specs.LineForms.{is_white}
 use Rattle.page_roff_source.specs.Edges.{Edge, SourceLine, end_notes}
 use Rattle.page_roff_source.specs.Given.{given, done}
-use Rattle.page_engine_body.specs.Bodies.{BodyEdge, chosen_if}
-use Rattle.page_engine_body.specs.Languages.{language_of}
-use Rattle.page_engine_body.specs.Trees.{Aside, reports, events_steps, page_end_steps, tree_items, tree_after}
+use Rattle.page_engine_lines.specs.Bodies.{BodyEdge, chosen_if}
+use Rattle.page_engine_lines.specs.Languages.{language_of}
+use Rattle.page_engine_lines.specs.Trees.{Aside, reports, events_steps, page_end_steps, tree_items, tree_after}
 use Rattle.page_engine_lines.specs.Edges.{LinesEdge}
 use Rattle.page_scopes_laws.specs.Asides.{With, aside}
 use Rattle.page_scopes_tree.specs.Acts.{Step}

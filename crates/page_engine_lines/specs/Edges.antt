@@ -4,8 +4,8 @@ use Rattle.page_core_base.specs.Pieces.{Item}
 use Rattle.page_core_base.specs.declared.page_settings.Settings.{Settings}
 use Rattle.page_roff_source.specs.Edges as roff
 use Rattle.page_roff_source.specs.Edges.{Edge}
-use Rattle.page_engine_body.specs.Bodies as bodies
-use Rattle.page_engine_body.specs.Bodies.{BodyEdge}
+use Rattle.page_engine_lines.specs.Bodies as bodies
+use Rattle.page_engine_lines.specs.Bodies.{BodyEdge}
 
 -- what decides the pieces of the lines to come
 pub record LinesEdge : Type 0 where

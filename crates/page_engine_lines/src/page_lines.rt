@@ -5,15 +5,15 @@ ghost use Rattle.page_core_base.specs.Texts.{IsLine};
 ghost use Rattle.page_core_base.specs.Latches.{Came, Emits};
 ghost use Rattle.page_roff_source.specs.Caps.{RoffFits};
 ghost use Rattle.page_roff_source.specs.Edges.{counts_of};
-ghost use Rattle.page_engine_body.specs.Bodies.{has_title};
-ghost use Rattle.page_engine_body.specs.Caps.{BodyFits};
+ghost use Rattle.page_engine_lines.specs.Bodies.{has_title};
+ghost use Rattle.page_engine_lines.specs.Caps.{BodyFits};
 ghost use Rattle.page_engine_lines.specs.Edges as edges;
 ghost use Rattle.page_engine_lines.specs.machine.Lines as lines;
 
+use crate::Body;
 use crate::item_outs::ItemOut;
 use crate::taking::{give_taken, report_trailing};
 use page_core_base::{Fault, PieceLatch, PieceOut, PieceSink, Settings};
-use page_engine_body::Body;
 use page_engine_header::Fields;
 use page_roff_source::{Counts, RoffLines, RoffPart};
 use std::alloc::{AllocError, Global};

@@ -7,12 +7,12 @@ ghost use Rattle.page_roff_source.specs.machine.Taking.{given_of};
 ghost use Rattle.page_engine_lines.specs.machine.Lines as lines;
 ghost use Rattle.page_engine_lines.specs.machine.Given.{given_items, body_after, line_after, line_items};
 
+use crate::Body;
 use crate::item_outs::ItemOut;
 use page_core_base::{NoteKind, PieceOut, Place, Taken};
 use page_core_limits::LINE;
-use page_engine_body::Body;
-use page_roff_forms::{is_white, kept_len};
 use page_roff_source::RoffLines;
+use page_roff_syntax::{is_white, kept_len};
 use page_scopes_words::report;
 use page_sets_lines::PlainLine;
 

@@ -9,8 +9,8 @@ use Rattle.page_core_base.specs.declared.faults.Fault.{Fault}
 use Rattle.page_core_base.specs.declared.faults.Fault.TheVariants.{Memory, Read, WriteText, WriteNotes, TooLong, Settings, Failed, Ended, BadIndex}
 use Rattle.page_core_base.specs.declared.page_settings.SettingFault.{SettingFault}
 use Rattle.page_core_base.specs.declared.page_settings.Settings.{Settings as PageSettings}
-use Rattle.page_core_sources.specs.Sources.{SourceState}
-use Rattle.page_core_sources.proofs.GivenLemmas.{given_none, lean_none}
+use Rattle.page_core_streams.specs.Sources.{SourceState}
+use Rattle.page_core_streams.proofs.GivenLemmas.{given_none, lean_none}
 use Rattle.page_engine_index.specs.declared.records.Record.{Record}
 use Rattle.page_roff_lines.specs.Cutting.{Point, first_point, last_line, lines_from, lines_within, point_after}
 use Rattle.page_roff_lines.specs.Decoding.{Line, lines}

@@ -5,7 +5,7 @@ use Rattle.std.proofs.lemmas.Bool.{cases_Bool}
 use Rattle.page_core_base.specs.Pieces.{Item, noted, shown}
 use Rattle.page_core_base.specs.declared.page_settings.Settings.{Settings}
 use Rattle.page_core_base.specs.declared.pieces.Piece.{Piece}
-use Rattle.page_engine_body.specs.Bodies.{has_title}
+use Rattle.page_engine_lines.specs.Bodies.{has_title}
 use Rattle.page_engine_header.specs.declared.fields.Fields.{Fields}
 use Rattle.page_engine_index.specs.declared.records.Record.{Record}
 use Rattle.page_engine_lines.specs.Acts.{lines_items, lines_after, ending_items, page_items}

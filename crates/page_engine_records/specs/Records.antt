@@ -5,7 +5,7 @@ use Rattle.page_core_base.specs.declared.page_settings.Output.TheVariants.{Ascii
 use Rattle.page_core_escapes.specs.Tokens.{tokens_of}
 use Rattle.page_engine_header.specs.Printing.{tokens_items}
 use Rattle.page_engine_index.specs.declared.records.Record.{Record}
-use Rattle.page_roff_forms.specs.Ends.{kept_len}
+use Rattle.page_roff_syntax.specs.Ends.{kept_len}
 use Rattle.page_scopes_words.specs.Fonts.{roman_fonts}
 use Rattle.page_scopes_words.specs.Words.{at}
 use Rattle.page_engine_records.specs.NameTexts.{read, reader_at}

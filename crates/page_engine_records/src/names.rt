@@ -8,7 +8,7 @@ ghost use Rattle.page_engine_records.specs.Records.{begins_dash, dash_place, is_
 use crate::texts::{KeptNames, SectionText};
 use memchr::memchr;
 use page_engine_index::{Record, Text};
-use page_roff_forms::kept_len;
+use page_roff_syntax::kept_len;
 
 /// What stands between a page's names and what it is for.
 const DASH: &[u8] = b" - ";

@@ -17,7 +17,7 @@ use crate::name_readers::{NameReader, Side};
 use crate::names::record_of;
 use crate::texts::KeptNames;
 use page_core_base::{Fault, Output, PieceLatch, PieceSink, Place, Settings};
-use page_core_sources::{BYTES, Counted, READS, Reading, Source};
+use page_core_streams::{BYTES, Counted, READS, Reading, Source};
 use page_engine_header::Part;
 use page_engine_index::Record;
 use page_roff_lines::Cutter;

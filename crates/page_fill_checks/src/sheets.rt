@@ -5,7 +5,7 @@ ghost use Rattle.std.specs.Bool.{MatchBool};
 ghost use Rattle.page_core_base.specs.Fails.{Rose};
 
 use page_core_base::{Cell, Fault, Note, NoteSink, RowSink};
-use page_core_writers::{TextRows, write_note};
+use page_core_streams::{TextRows, write_note};
 use std::alloc::Global;
 
 /// A sink of rows or of messages: it counts calls, fails from one on, and keeps what the writers write of the others.

@@ -4,10 +4,10 @@ use Rattle.std.proofs.lemmas.Bool.{cases_Bool}
 use Rattle.std.proofs.lemmas.Bool.Decides.{nat_tests}
 use Rattle.std.proofs.lemmas.List.{length-take-le}
 use Rattle.std.proofs.lemmas.List.Sums.{prefix_len-le-length}
-use Rattle.page_roff_forms.specs.LineForms.{form_of, name_of, name_start, name_len, is_control, is_name, is_white, has_word, begins_comment, without_comment, begins_control, control_line, uncommented_form}
-use Rattle.page_roff_forms.specs.declared.line_forms.LineForm.{LineForm}
-use Rattle.page_roff_forms.specs.declared.line_forms.LineForm.TheVariants.{Comment, BlankLine, Text, Control}
-use Rattle.page_roff_forms.proofs.ControlLemmas.{uncommented_control}
+use Rattle.page_roff_syntax.specs.LineForms.{form_of, name_of, name_start, name_len, is_control, is_name, is_white, has_word, begins_comment, without_comment, begins_control, control_line, uncommented_form}
+use Rattle.page_roff_syntax.specs.declared.line_forms.LineForm.{LineForm}
+use Rattle.page_roff_syntax.specs.declared.line_forms.LineForm.TheVariants.{Comment, BlankLine, Text, Control}
+use Rattle.page_roff_syntax.proofs.ControlLemmas.{uncommented_control}
 use Rattle.page_roff_heads.specs.Heads.{conditional_of, guarded_of, block_end_of}
 use Rattle.page_roff_heads.specs.Loops.{loop_of}
 use Rattle.page_roff_heads.specs.declared.loops.LoopRead.{LoopRead}

@@ -3,9 +3,9 @@ use Rattle.std.proofs.Common.{◌≡◌, ℕ, zero, suc, ◌+◌, ◌-◌, ◌<�
 use Rattle.std.proofs.lemmas.Bool.{cases_Bool}
 use Rattle.std.proofs.lemmas.Bool.Decides.{nat_tests}
 use Rattle.std.proofs.lemmas.List.{length-take-le}
-use Rattle.page_roff_forms.specs.LineForms.{form_of}
-use Rattle.page_roff_forms.specs.declared.line_forms.LineForm.{LineForm}
-use Rattle.page_roff_forms.specs.declared.line_forms.LineForm.TheVariants.{Comment, BlankLine, Text, Control}
+use Rattle.page_roff_syntax.specs.LineForms.{form_of}
+use Rattle.page_roff_syntax.specs.declared.line_forms.LineForm.{LineForm}
+use Rattle.page_roff_syntax.specs.declared.line_forms.LineForm.TheVariants.{Comment, BlankLine, Text, Control}
 use Rattle.page_roff_heads.specs.Heads.{conditional_of, guarded_of, end_place, block_end_of}
 use Rattle.page_roff_heads.specs.Loops.{loop_of}
 use Rattle.page_roff_heads.specs.declared.loops.LoopRead.{LoopRead}

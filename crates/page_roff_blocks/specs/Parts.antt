@@ -1,8 +1,8 @@
 -- The first part of a raw line as it is written, found from its text alone. Source: roff(7), "if", "ie", "el", "while".
 use Rattle.std.specs.Prelude.{ℕ, ◌-◌, Bool, true, false, List, [], ◌∷◌, drop, Option, Some, None}
-use Rattle.page_roff_forms.specs.LineForms.{form_of}
-use Rattle.page_roff_forms.specs.declared.line_forms.LineForm.{LineForm}
-use Rattle.page_roff_forms.specs.declared.line_forms.LineForm.TheVariants.{Comment, BlankLine, Text, Control}
+use Rattle.page_roff_syntax.specs.LineForms.{form_of}
+use Rattle.page_roff_syntax.specs.declared.line_forms.LineForm.{LineForm}
+use Rattle.page_roff_syntax.specs.declared.line_forms.LineForm.TheVariants.{Comment, BlankLine, Text, Control}
 use Rattle.page_roff_heads.specs.Heads.{conditional_of, guarded_of, block_end_of}
 use Rattle.page_roff_heads.specs.Loops.{loop_of}
 use Rattle.page_roff_heads.specs.declared.conditions.Condition.{Condition}
@@ -22,9 +22,9 @@ use Rattle.page_roff_blocks.specs.declared.parts.Columns.{Columns}
 use Rattle.page_roff_blocks.specs.declared.parts.Keyword.{Keyword}
 use Rattle.page_roff_blocks.specs.declared.parts.Keyword.TheVariants as keywords
 use Rattle.page_roff_blocks.specs.declared.parts.Part.{Part}
-use Rattle.page_roff_requests.specs.Requests.{request_of}
-use Rattle.page_roff_requests.specs.declared.requests.Request.{Request}
-use Rattle.page_roff_requests.specs.declared.requests.Request.TheVariants as requests
+use Rattle.page_roff_syntax.specs.Requests.{request_of}
+use Rattle.page_roff_syntax.specs.declared.requests.Request.{Request}
+use Rattle.page_roff_syntax.specs.declared.requests.Request.TheVariants as requests
 use Rattle.page_roff_regions.specs.Regions.{region_head}
 
 -- what a control line of a name heads

@@ -2,7 +2,7 @@
 
 ghost use Rattle.std.specs.Prelude.{◌≡◌, ◌≤◌, ◌+◌, true, [], ◌∷◌, length, Some};
 ghost use Rattle.page_core_limits.specs.declared.TheConstants.{LINE};
-ghost use Rattle.page_roff_forms.specs.LineForms.{form_of, name_of};
+ghost use Rattle.page_roff_syntax.specs.LineForms.{form_of, name_of};
 ghost use Rattle.page_roff_heads.specs.Heads.{conditional_of, guarded_of, guarded_view, FitsGuarded};
 ghost use Rattle.page_roff_heads.specs.Loops.{loop_of, loop_view, FitsLoop};
 ghost use Rattle.page_roff_heads.specs.Texts.{remainder_view};
@@ -16,12 +16,11 @@ ghost use Rattle.page_roff_regions.specs.Regions.{text_view};
 
 use crate::line_parts::{Branch, Head, LinePart, Opening};
 use page_core_limits::LINE;
-use page_roff_forms::{LineForm, control_name, form_of, white_len};
 use page_roff_heads::{
     Guarded, LoopHead, LoopRead, Placed, block_end, read_conditional, read_guarded, read_loop,
 };
 use page_roff_regions::region_head;
-use page_roff_requests::{RegionKind, Request};
+use page_roff_syntax::{LineForm, RegionKind, Request, control_name, form_of, white_len};
 use std::alloc::AllocError;
 
 // What a control line heads.

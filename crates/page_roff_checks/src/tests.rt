@@ -3,7 +3,7 @@ ghost use Rattle.std.specs.Prelude.{◌≡◌, ◌+◌, ◌^◌, ◌<◌, ◌≤
 
 use page_core_base::{Encoding, Fault, Note, NoteKind, NoteSink};
 use page_core_limits::LINE;
-use page_core_writers::KeptNotes;
+use page_core_streams::KeptNotes;
 use page_roff::Cutter;
 use std::alloc::Global;
 use std::process::Abort;

@@ -14,7 +14,7 @@ use Rattle.page_roff_values.specs.Environments.{Surroundings, register_found}
 use Rattle.page_roff_values.specs.Values.{Spot, Laid, NEST, value, start, after_bytes}
 use Rattle.page_core_base.specs.Latches.{Came}
 use Rattle.page_roff_values.specs.Numbers.{value_of, messages_of}
-use Rattle.page_roff_requests.specs.Requests.{request_of}
+use Rattle.page_roff_syntax.specs.Requests.{request_of}
 
 -- what a condition gives: whether it holds, its messages, and its line after that
 pub record Answer : Type 0 where

@@ -13,7 +13,7 @@ ghost use Rattle.page_roff_values.specs.Values.{nothing};
 use page_core_base::{Note, NoteKind, NoteOut, Place};
 use page_roff_heads::{Condition, Placed, Test};
 use page_roff_names::Names;
-use page_roff_requests::Request;
+use page_roff_syntax::Request;
 use page_roff_values::{Environment, Expansion, expression};
 
 // Whether a string, a macro or a request has a name.

@@ -2,8 +2,8 @@
 use Rattle.std.proofs.Common.{◌≡◌, ℕ, zero, suc, ◌+◌, ◌<◌, ◌==◌, Bool, true, false, is_none, List, [], ◌∷◌, length, get_or, drop, if◌then◌else◌, Option, None, Some, refl, arith, length-drop}
 use Rattle.std.proofs.lemmas.List.{get_or-drop}
 use Rattle.memchr.specs.Find.{IsFirstByte, is_byte}
-use Rattle.page_roff_forms.specs.Arguments.{is_blank, first_argument, quoted_argument, bare_argument, argument_len, first_arguments, arguments}
-use Rattle.page_roff_forms.specs.declared.quotes.Argument.{Argument}
+use Rattle.page_roff_syntax.specs.Arguments.{is_blank, first_argument, quoted_argument, bare_argument, argument_len, first_arguments, arguments}
+use Rattle.page_roff_syntax.specs.declared.quotes.Argument.{Argument}
 use Rattle.page_roff_definitions.specs.Arguments.{closing_notes, closings_notes}
 
 abbrev HasNone : List ℕ → Type 0

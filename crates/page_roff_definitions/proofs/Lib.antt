@@ -1,2 +1,4 @@
 pub mod ClosingLemmas
 pub mod Coming
+pub mod CapLemmas
+pub mod PackLemmas

@@ -4,10 +4,10 @@ use Rattle.std.specs.List.{flat_map, prefix_len}
 use Rattle.page_core_base.specs.Messages.{Message, message_about}
 use Rattle.page_core_base.specs.declared.note_kinds.NoteKind.TheVariants.{Unterminated}
 use Rattle.page_core_base.specs.declared.places.Place.{Place}
-use Rattle.page_roff_forms.specs.Arguments.{is_blank}
-use Rattle.page_roff_forms.specs.declared.quotes.Argument.{Argument}
-use Rattle.page_roff_forms.specs.declared.quotes.Quoting.{Quoting}
-use Rattle.page_roff_forms.specs.declared.quotes.Quoting.TheVariants.{Bare, Closed, Unclosed}
+use Rattle.page_roff_syntax.specs.Arguments.{is_blank}
+use Rattle.page_roff_syntax.specs.declared.quotes.Argument.{Argument}
+use Rattle.page_roff_syntax.specs.declared.quotes.Quoting.{Quoting}
+use Rattle.page_roff_syntax.specs.declared.quotes.Quoting.TheVariants.{Bare, Closed, Unclosed}
 
 abbrev pub at : ℕ → ℕ → Place
 at line column = record { line = line; column = column }

@@ -7,16 +7,16 @@ use Rattle.page_core_limits.specs.declared.TheConstants.{LINE}
 use Rattle.page_core_limits.specs.declared.Limit.{Limit}
 use Rattle.page_core_limits.specs.Limits.{name_of}
 use Rattle.page_core_numbers.specs.Numbers.{in_range}
-use Rattle.page_roff_forms.specs.Arguments.{arguments, argument_name}
-use Rattle.page_roff_forms.specs.declared.quotes.Argument.{Argument}
+use Rattle.page_roff_syntax.specs.Arguments.{arguments, argument_name}
+use Rattle.page_roff_syntax.specs.declared.quotes.Argument.{Argument}
 use Rattle.page_roff_names.specs.declared.rows.Meaning.TheVariants.{String}
 use Rattle.page_roff_names.specs.Entries.{definition, Definition}
 use Rattle.page_roff_names.specs.Names.{Definitions, look, string_of, number_of, with_text, without_text, with_register, without_register, refusal}
 use Rattle.page_core_base.specs.Latches.{Came}
 use Rattle.page_roff_values.specs.Numbers.{value_of, messages_of}
 use Rattle.page_roff_definitions.specs.declared.definitions.RequestLine.{RequestLine}
-use Rattle.page_roff_requests.specs.declared.requests.DefinitionRequest.{DefinitionRequest}
-use Rattle.page_roff_requests.specs.declared.requests.DefinitionRequest.TheVariants.{DefineString, AppendString, SetRegister, Remove, Rename, RemoveRegisters}
+use Rattle.page_roff_syntax.specs.declared.requests.DefinitionRequest.{DefinitionRequest}
+use Rattle.page_roff_syntax.specs.declared.requests.DefinitionRequest.TheVariants.{DefineString, AppendString, SetRegister, Remove, Rename, RemoveRegisters}
 use Rattle.page_roff_definitions.specs.Arguments.{closings_notes, first_text, value_after}
 
 -- what is defined after a request, and its messages

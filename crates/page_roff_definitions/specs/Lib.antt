@@ -1,2 +1,4 @@
 pub mod Arguments
 pub mod Definitions
+pub mod Calls
+pub mod machine

@@ -3,14 +3,14 @@
 ghost use Rattle.std.specs.Prelude.{◌≡◌, ◌≤◌, ◌+◌, length};
 ghost use Rattle.std.specs.List.{prefix_len};
 ghost use Rattle.page_core_base.specs.Latches.{Came};
-ghost use Rattle.page_roff_forms.specs.Arguments.{argument_view, arguments, is_blank};
+ghost use Rattle.page_roff_syntax.specs.Arguments.{argument_view, arguments, is_blank};
 ghost use Rattle.page_roff_definitions.specs.Arguments as ends;
 ghost use Rattle.page_roff_definitions.specs.Arguments.{closing_notes, closings_notes, end_of, after_blanks, without_quote, value_after};
 
 use memchr::memchr;
 use page_core_base::{Note, NoteKind, NoteOut, Place};
 use page_core_limits::LINE;
-use page_roff_forms::{Argument, Arguments, Quoting};
+use page_roff_syntax::{Argument, Arguments, Quoting};
 
 // Reports an argument without its closing quote, at its opening one.
 fn report_closing<O: NoteOut>(out: &mut O, line: u32, argument: Argument<&[u8]>)

@@ -2,7 +2,7 @@
 
 ghost use Rattle.std.specs.Prelude.{◌≡◌, ◌≤◌, ◌+◌, length};
 ghost use Rattle.page_core_limits.specs.declared.TheConstants.{LINE};
-ghost use Rattle.page_roff_forms.specs.Arguments.{arguments, argument_view};
+ghost use Rattle.page_roff_syntax.specs.Arguments.{arguments, argument_view};
 ghost use Rattle.page_core_base.specs.Latches.{Came};
 ghost use Rattle.page_roff_definitions.specs.Arguments.{first_text};
 ghost use Rattle.page_roff_definitions.specs.Definitions as defining;
@@ -11,9 +11,8 @@ ghost use Rattle.page_roff_definitions.specs.Definitions.{Does, FitsRequest};
 use crate::arguments::{report_closings, value_after};
 use page_core_base::{Note, NoteKind, NoteOut, Place};
 use page_core_limits::Limit;
-use page_roff_forms::Arguments;
 use page_roff_names::Names;
-use page_roff_requests::DefinitionRequest;
+use page_roff_syntax::{Arguments, DefinitionRequest};
 use page_roff_values::expression;
 
 /// Whether the rest of a request's line is expanded in copy mode.

@@ -3,7 +3,7 @@ use Rattle.std.proofs.Common.{◌≡◌, ℕ, ◌≤◌, ◌==◌, Bool, false, 
 use Rattle.std.specs.List.{prefix_len}
 use Rattle.page_core_limits.specs.declared.TheConstants.{LINE}
 use Rattle.page_core_base.specs.declared.lines_taken.Form.TheVariants as forms
-use Rattle.page_roff_forms.specs.LineForms.{is_plain, begins_control}
+use Rattle.page_roff_syntax.specs.LineForms.{is_plain, begins_control}
 use Rattle.page_roff_values.specs.machine.Verbatim.{GivesItself}
 use Rattle.page_roff_effects.specs.declared.commands.Command.TheVariants.{Pass}
 use Rattle.page_roff_effects.specs.machine.Acting.{plain_form}

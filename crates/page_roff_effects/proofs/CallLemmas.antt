@@ -2,9 +2,9 @@
 use Rattle.std.proofs.Common.{◌≡◌, ℕ, ◌≤◌, nat_le, Bool, true, false, ◌==◌, ◌&&◌, List, [], length, Option, Some, None, unwrap_or, refl, if◌then◌else◌, arith}
 use Rattle.std.proofs.lemmas.Bool.Decides.{nat_tests}
 use Rattle.page_core_limits.specs.declared.TheConstants.{ARGS, BODY}
-use Rattle.page_roff_forms.specs.LineForms.{form_of}
-use Rattle.page_roff_forms.specs.declared.line_forms.LineForm.{LineForm}
-use Rattle.page_roff_forms.specs.declared.line_forms.LineForm.TheVariants.{Comment, BlankLine, Text, Control}
+use Rattle.page_roff_syntax.specs.LineForms.{form_of}
+use Rattle.page_roff_syntax.specs.declared.line_forms.LineForm.{LineForm}
+use Rattle.page_roff_syntax.specs.declared.line_forms.LineForm.TheVariants.{Comment, BlankLine, Text, Control}
 use Rattle.page_roff_names.specs.Names.{body_of}
 use Rattle.page_roff_effects.specs.declared.commands.Command.{Command}
 use Rattle.page_roff_effects.specs.declared.commands.Command.TheVariants.{Call, Define, Ignore, Refuse, Pass}

@@ -6,9 +6,9 @@ use Rattle.std.proofs.lemmas.List.Sums.{prefix_len_passes}
 use Rattle.std.specs.List.{prefix_len}
 use Rattle.page_core_limits.specs.declared.TheConstants.{LINE}
 use Rattle.page_core_base.specs.declared.lines_taken.Form.TheVariants as forms
-use Rattle.page_roff_forms.specs.LineForms.{is_plain, has_word, begins_control, without_comment, uncommented_form}
-use Rattle.page_roff_forms.specs.declared.line_forms.LineForm.TheVariants.{Text}
-use Rattle.page_roff_forms.proofs.FormLemmas.{read_first, read_all, front_of}
+use Rattle.page_roff_syntax.specs.LineForms.{is_plain, has_word, begins_control, without_comment, uncommented_form}
+use Rattle.page_roff_syntax.specs.declared.line_forms.LineForm.TheVariants.{Text}
+use Rattle.page_roff_syntax.proofs.FormLemmas.{read_first, read_all, front_of}
 use Rattle.page_roff_values.proofs.LineLemmas.{plain_expanded}
 use Rattle.page_roff_values.specs.Values.{nothing, adds, start}
 use Rattle.page_roff_effects.specs.machine.Acting.{Acting, measured, plain_form, line_laid}

@@ -2,9 +2,9 @@
 use Rattle.std.specs.Prelude.{ℕ, Bool, false, nat_le, List, length, if◌then◌else◌, Option, Some, None}
 use Rattle.page_core_limits.specs.declared.TheConstants.{BODY}
 use Rattle.page_roff_names.specs.Names.{Definitions, body_of}
-use Rattle.page_roff_requests.specs.Requests.{request_of}
-use Rattle.page_roff_requests.specs.declared.requests.Request.{Request}
-use Rattle.page_roff_requests.specs.declared.requests.Request.TheVariants as requests
+use Rattle.page_roff_syntax.specs.Requests.{request_of}
+use Rattle.page_roff_syntax.specs.declared.requests.Request.{Request}
+use Rattle.page_roff_syntax.specs.declared.requests.Request.TheVariants as requests
 use Rattle.page_roff_definitions.specs.Definitions.{is_in_copy_mode}
 use Rattle.page_roff_effects.specs.declared.commands.Command.{Command}
 use Rattle.page_roff_effects.specs.declared.commands.Command.TheVariants.{Call, Define, Ignore, Refuse, Pass}

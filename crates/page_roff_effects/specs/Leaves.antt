@@ -4,16 +4,16 @@ use Rattle.page_core_base.specs.Messages.{Message, message_about}
 use Rattle.page_core_base.specs.declared.places.Place.{Place}
 use Rattle.page_core_base.specs.declared.lines_taken.Form.TheVariants as forms
 use Rattle.page_core_base.specs.declared.note_kinds.NoteKind.TheVariants as kinds
-use Rattle.page_roff_forms.specs.Arguments.{arguments}
-use Rattle.page_roff_forms.specs.LineForms.{form_of, without_comment}
-use Rattle.page_roff_forms.specs.declared.line_forms.LineForm.{LineForm}
-use Rattle.page_roff_forms.specs.declared.line_forms.LineForm.TheVariants.{Comment, BlankLine, Text, Control}
-use Rattle.page_roff_forms.specs.declared.quotes.Argument.{Argument}
+use Rattle.page_roff_syntax.specs.Arguments.{arguments}
+use Rattle.page_roff_syntax.specs.LineForms.{form_of, without_comment}
+use Rattle.page_roff_syntax.specs.declared.line_forms.LineForm.{LineForm}
+use Rattle.page_roff_syntax.specs.declared.line_forms.LineForm.TheVariants.{Comment, BlankLine, Text, Control}
+use Rattle.page_roff_syntax.specs.declared.quotes.Argument.{Argument}
 use Rattle.page_core_limits.specs.declared.TheConstants.{ARGS}
 use Rattle.page_roff_values.specs.Values.{Laid, expanded}
 use Rattle.page_roff_definitions.specs.Arguments.{closings_notes}
 use Rattle.page_roff_definitions.specs.Definitions.{Outcome, outcome_of}
-use Rattle.page_roff_buffers.specs.Calls.{packed}
+use Rattle.page_roff_definitions.specs.Calls.{packed}
 use Rattle.page_roff_effects.specs.declared.commands.Command.{Command}
 use Rattle.page_roff_effects.specs.declared.commands.Command.TheVariants.{Call, Define, Ignore, Refuse, Pass}
 use Rattle.page_roff_effects.specs.Commands.{called_body, command_of, copies}

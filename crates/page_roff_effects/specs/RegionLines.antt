@@ -10,16 +10,16 @@ use Rattle.page_core_base.specs.declared.places.Place.{Place}
 use Rattle.page_roff_regions.specs.OpenRegions.{Opened, within_limit}
 use Rattle.page_roff_regions.specs.Regions.{has_long_name, macro_name}
 use Rattle.page_roff_regions.specs.declared.regions.RegionHead.{RegionHead}
-use Rattle.page_roff_requests.specs.declared.regions.RegionKind.{RegionKind}
-use Rattle.page_roff_requests.specs.declared.regions.RegionKind.TheVariants.{Define, Append, Ignore, Table, Equation, Picture}
-use Rattle.page_roff_requests.specs.Regions.{region_name}
+use Rattle.page_roff_syntax.specs.declared.regions.RegionKind.{RegionKind}
+use Rattle.page_roff_syntax.specs.declared.regions.RegionKind.TheVariants.{Define, Append, Ignore, Table, Equation, Picture}
+use Rattle.page_roff_syntax.specs.Regions.{region_name}
 use Rattle.page_roff_names.specs.declared.rows.Meaning.TheVariants.{Macro}
 use Rattle.page_roff_names.specs.Entries.{definition}
 use Rattle.page_roff_names.specs.Names.{Definitions, with_text}
 use Rattle.page_roff_values.specs.Values.{expanded}
 use Rattle.page_roff_definitions.specs.Definitions.{settles}
 use Rattle.page_roff_definitions.specs.Definitions as defining
-use Rattle.page_roff_buffers.specs.Calls.{with_line}
+use Rattle.page_roff_definitions.specs.Calls.{with_line}
 use Rattle.page_roff_effects.specs.Commands.{called_body}
 use Rattle.page_roff_effects.specs.Leaves.{defines, after_expansion}
 use Rattle.page_roff_effects.specs.States.{Memory, Outcome, nothing, reports, reports_at, note_at, gives_line, at, with_body, Setting, surroundings}

@@ -5,7 +5,7 @@ use Rattle.page_core_base.specs.LinesTaken.{Line}
 use Rattle.page_core_base.specs.declared.lines_taken.Form.{Form}
 use Rattle.page_core_base.specs.declared.note_kinds.NoteKind.{NoteKind}
 use Rattle.page_core_base.specs.declared.places.Place.{Place}
-use Rattle.page_roff_buffers.specs.Calls.{Call}
+use Rattle.page_roff_definitions.specs.Calls.{Call}
 use Rattle.page_roff_names.specs.Names.{Definitions, definitions}
 use Rattle.page_roff_values.specs.Environments.{Surroundings}
 

@@ -4,7 +4,7 @@ ghost use Rattle.std.specs.Prelude.{◌≡◌, ◌≤◌, [], ◌∷◌, true, l
 ghost use Rattle.page_core_limits.specs.declared.TheConstants.{LINE};
 ghost use Rattle.page_roff_blocks.specs.declared.line_parts.LinePart.TheVariants.{Leaf};
 ghost use Rattle.page_roff_blocks.specs.LineParts.{line_parts};
-ghost use Rattle.page_roff_forms.specs.LineForms.{form_of, name_of};
+ghost use Rattle.page_roff_syntax.specs.LineForms.{form_of, name_of};
 ghost use Rattle.page_roff_effects.specs.declared.commands.Command.TheVariants as commands;
 ghost use Rattle.page_roff_effects.specs.machine.Acting.{control_view, measured, IsPassed, TakesIf};
 ghost use Rattle.page_roff_effects.specs.Commands.{command_of};
@@ -15,7 +15,7 @@ use crate::commands::Command;
 use crate::leaves::{ControlLine, control_line, plain_form};
 use page_core_base::Form;
 use page_roff_blocks::is_leaf;
-use page_roff_forms::{LineForm, begins_control, control_name, form_of, plain_len};
+use page_roff_syntax::{LineForm, begins_control, control_name, form_of, plain_len};
 use page_roff_values::gives_itself;
 
 impl Actions {

@@ -8,7 +8,7 @@ ghost use Rattle.page_roff_effects.specs.Commands as named;
 use page_core_limits::BODY;
 use page_roff_definitions::is_in_copy_mode;
 use page_roff_names::Names;
-use page_roff_requests::{DefinitionRequest, Request};
+use page_roff_syntax::{DefinitionRequest, Request};
 
 /// What a control line with a name does.
 #[derive(Clone, Copy)]

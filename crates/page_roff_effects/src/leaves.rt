@@ -2,8 +2,8 @@
 
 ghost use Rattle.std.specs.Prelude.{◌≡◌, ◌≤◌, ◌+◌, ◌++◌, length, drop, true, if◌then◌else◌};
 ghost use Rattle.page_core_limits.specs.declared.TheConstants.{LINE};
-ghost use Rattle.page_roff_forms.specs.LineForms.{form_of};
-ghost use Rattle.page_roff_forms.specs.declared.line_forms.LineForm.TheVariants.{Control};
+ghost use Rattle.page_roff_syntax.specs.LineForms.{form_of};
+ghost use Rattle.page_roff_syntax.specs.declared.line_forms.LineForm.TheVariants.{Control};
 ghost use Rattle.page_core_base.specs.Latches.{Came};
 ghost use Rattle.page_roff_effects.specs.machine.Acting.{control_view, measured, plain_form, text_given, Does, Gives, Takes, IfCalled, IsCallable};
 ghost use Rattle.page_core_base.specs.declared.lines_taken.Form.TheVariants as forms;
@@ -16,8 +16,7 @@ use crate::commands::{Command, ProductKind, body_or_nothing};
 use page_core_base::{Form, NoteKind, NoteOut, Place};
 use page_core_limits::{LINE, Limit};
 use page_roff_definitions::{RequestLine, define, report_closings};
-use page_roff_forms::{LineForm, begins_control, form_of, has_word, plain_len};
-use page_roff_requests::DefinitionRequest;
+use page_roff_syntax::{DefinitionRequest, LineForm, begins_control, form_of, has_word, plain_len};
 use page_roff_values::Expansion;
 
 /// A control line with a name.

@@ -1,6 +1,6 @@
 //! What is remembered of a page between two of its lines (roff(7), "ds", "de", "while").
 
-use page_roff_buffers::BodyBuffer;
+use page_roff_definitions::BodyBuffer;
 use page_roff_names::Names;
 use std::marker::Model;
 

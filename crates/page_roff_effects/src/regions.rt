@@ -18,10 +18,10 @@ use crate::actions::{Actions, report_at};
 use crate::commands::{ProductKind, body_or_nothing};
 use page_core_base::{Form, Note, NoteKind, NoteOut, Place};
 use page_core_limits::{LINE, Limit, NAME};
-use page_roff_buffers::BodyBuffer;
+use page_roff_definitions::BodyBuffer;
 use page_roff_names::Names;
 use page_roff_regions::{OpenRegion, RegionHead};
-use page_roff_requests::RegionKind;
+use page_roff_syntax::RegionKind;
 
 // Reports a name or an end name that is longer than names may be.
 fn report_name<O: NoteOut>(head: &RegionHead<&[u8]>, line: u32, out: &mut O)

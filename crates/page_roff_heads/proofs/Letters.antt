@@ -1,7 +1,7 @@
 -- A condition of one letter is read with no look at what follows: helpers of proofs.
 use Rattle.std.proofs.Common.{◌≡◌, ℕ, ◌+◌, ◌==◌, true, false, List, [], ◌∷◌, take, refl, inl, inr}
 use Rattle.std.proofs.lemmas.Bool.{cases_Bool, eqb-true}
-use Rattle.page_roff_forms.specs.LineForms.{without_comment}
+use Rattle.page_roff_syntax.specs.LineForms.{without_comment}
 use Rattle.page_roff_heads.specs.declared.conditions.Kind.{Kind}
 use Rattle.page_roff_heads.specs.declared.conditions.Kind.TheVariants.{True, False, Defined, Register, Expression, Letter, Delimiter}
 use Rattle.page_roff_heads.specs.Conditions.{kind_of, read_kind, read_test, condition_of, condition_len, is_always, starts_with_letter}

@@ -7,9 +7,9 @@ use Rattle.std.proofs.lemmas.List.Sums.{prefix_len_stops, prefix_len-le-length}
 use Rattle.std.proofs.lemmas.Bool.{cases_Bool}
 use Rattle.std.specs.List.{prefix_len}
 use Rattle.std.specs.Prelude.{◌&&◌, ◌||◌}
-use Rattle.page_roff_forms.specs.machine.Pairs.{LacksPair}
-use Rattle.page_roff_forms.proofs.PairLemmas.{lacks_later}
-use Rattle.page_roff_forms.specs.LineForms.{is_white, is_plain, begins_comment}
+use Rattle.page_roff_syntax.specs.machine.Pairs.{LacksPair}
+use Rattle.page_roff_syntax.proofs.PairLemmas.{lacks_later}
+use Rattle.page_roff_syntax.specs.LineForms.{is_white, is_plain, begins_comment}
 use Rattle.page_roff_heads.specs.Delimiters.{delimiter_len, place_of, quoted_len, argument_len, expression_rest, expression_len}
 use Rattle.page_roff_heads.specs.Conditions.{longer, texts_after, texts_at}
 use Rattle.page_roff_heads.specs.Heads.{end_place}

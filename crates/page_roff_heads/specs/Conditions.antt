@@ -3,7 +3,7 @@ use Rattle.std.specs.Prelude.{ℕ, ◌+◌, ◌≤◌, ◌%◌, Bool, true, fals
 use Rattle.std.specs.List.{prefix_len, list_any}
 use Rattle.std.specs.Borrow.{Bor}
 use Rattle.page_core_limits.specs.declared.TheConstants.{LINE}
-use Rattle.page_roff_forms.specs.LineForms.{is_name}
+use Rattle.page_roff_syntax.specs.LineForms.{is_name}
 use Rattle.page_roff_heads.specs.declared.conditions.Condition.{Condition}
 use Rattle.page_roff_heads.specs.declared.conditions.Kind.{Kind}
 use Rattle.page_roff_heads.specs.declared.conditions.Kind.TheVariants.{True, False, Defined, Register, Expression, Letter, Delimiter}

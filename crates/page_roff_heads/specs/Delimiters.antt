@@ -3,7 +3,7 @@
 use Rattle.std.specs.Prelude.{ℕ, Bool, false, zero, suc, ◌+◌, ◌==◌, nat_eq, nat_lt, min, List, [], ◌∷◌, length, take, drop, if◌then◌else◌}
 use Rattle.std.specs.List.{starts_with}
 use Rattle.std.specs.Str.{continuation_len}
-use Rattle.page_roff_forms.specs.LineForms.{is_white}
+use Rattle.page_roff_syntax.specs.LineForms.{is_white}
 
 -- a delimiter is a character; its first byte says how many it has
 abbrev pub delimiter_len : List ℕ → ℕ

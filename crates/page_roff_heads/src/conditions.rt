@@ -2,7 +2,7 @@
 
 ghost use Rattle.std.specs.Prelude.{◌≡◌, ◌≤◌, ◌<◌, ◌+◌, ◌^◌, length};
 ghost use Rattle.std.specs.List.{prefix_len};
-ghost use Rattle.page_roff_forms.specs.LineForms.{is_name, without_comment};
+ghost use Rattle.page_roff_syntax.specs.LineForms.{is_name, without_comment};
 ghost use Rattle.page_roff_heads.specs.Conditions as written;
 ghost use Rattle.page_roff_heads.specs.Conditions.{read_view, test_view, condition_view, FitsTest};
 ghost use Rattle.page_roff_heads.specs.declared.conditions.Kind.TheVariants as kinds;
@@ -13,7 +13,7 @@ use crate::delimiters::{delimiter_len, place_of};
 use crate::expressions::expression_len;
 use crate::texts::{Placed, blank_len};
 use page_core_limits::LINE;
-use page_roff_forms::{is_white, uncommented_len};
+use page_roff_syntax::{is_white, uncommented_len};
 use std::alloc::AllocError;
 
 /// What a condition asks; `W` is a text.

@@ -4,7 +4,7 @@ ghost use Rattle.std.specs.Prelude.{◌≡◌, ◌≤◌, length};
 ghost use Rattle.page_roff_heads.specs.Delimiters.{begins_pair, width_len, argument_len, expression_len};
 
 use crate::delimiters::quoted_len;
-use page_roff_forms::is_white;
+use page_roff_syntax::is_white;
 
 // Whether a text begins with a backslash.
 fn begins_pair(text: &[u8]) -> bool

@@ -6,7 +6,7 @@ ghost use Rattle.page_roff_heads.specs.Heads.{guarded_of, guarded_view, conditio
 use crate::conditions::{Condition, read_before_comment};
 use crate::texts::{Placed, begins_pair, blank_len, remainder};
 use page_core_limits::LINE;
-use page_roff_forms::{begins_comment, lacks_pair, plain_len};
+use page_roff_syntax::{begins_comment, lacks_pair, plain_len};
 use std::alloc::AllocError;
 
 /// What the head of a conditional guards; `W` is a text.

@@ -26,7 +26,7 @@ use Rattle.page_roff_effects.specs.machine.Acting.{Acting, kind_of, Lends, IfRep
 use Rattle.page_roff_effects.specs.Effects.{effects, answer_of, turn_answer, test_outcome, tested_after, done_by, done_after, budget_outcome, end_of_block_outcome}
 use Rattle.page_roff_effects.specs.Leaves.{leaf_outcome}
 use Rattle.page_roff_effects.specs.LoopLines.{longer_if_some, loop_outcome, collect_outcome, close_outcome, condition_in, body_in}
-use Rattle.page_roff_buffers.specs.Calls.{Call, with_line}
+use Rattle.page_roff_definitions.specs.Calls.{Call, with_line}
 use Rattle.page_roff_effects.specs.RegionLines.{head_outcome, longer_if, longer, line_outcome, end_outcome, finish_region, finish_outcome}
 use Rattle.page_roff_conditions.specs.Answers.{Answer}
 use Rattle.page_roff_effects.specs.States.{Setting, Memory, State, Outcome, Product, no_product, line_product, call_product, loop_product, Given, says, takes, after, lines_of}

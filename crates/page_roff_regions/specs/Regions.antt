@@ -3,15 +3,15 @@ use Rattle.std.specs.Prelude.{◌≡◌, ℕ, ◌==◌, ◌||◌, Bool, false, n
 use Rattle.std.specs.Str.{bytes_eq}
 use Rattle.std.specs.Borrow.{Bor}
 use Rattle.page_core_limits.specs.declared.TheConstants.{NAME}
-use Rattle.page_roff_forms.specs.Arguments.{arguments, argument_name, argument_view}
-use Rattle.page_roff_forms.specs.LineForms.{form_of}
-use Rattle.page_roff_forms.specs.declared.line_forms.LineForm.{LineForm}
-use Rattle.page_roff_forms.specs.declared.line_forms.LineForm.TheVariants.{Comment, BlankLine, Text, Control}
-use Rattle.page_roff_forms.specs.declared.quotes.Argument.{Argument}
-use Rattle.page_roff_requests.specs.Regions.{fixed_ending}
-pub use Rattle.page_roff_requests.specs.Regions.{text_view}
-use Rattle.page_roff_requests.specs.declared.regions.RegionKind.{RegionKind}
-use Rattle.page_roff_requests.specs.declared.regions.RegionKind.TheVariants.{Define, Append, Ignore, Table, Equation, Picture}
+use Rattle.page_roff_syntax.specs.Arguments.{arguments, argument_name, argument_view}
+use Rattle.page_roff_syntax.specs.LineForms.{form_of}
+use Rattle.page_roff_syntax.specs.declared.line_forms.LineForm.{LineForm}
+use Rattle.page_roff_syntax.specs.declared.line_forms.LineForm.TheVariants.{Comment, BlankLine, Text, Control}
+use Rattle.page_roff_syntax.specs.declared.quotes.Argument.{Argument}
+use Rattle.page_roff_syntax.specs.Regions.{fixed_ending}
+pub use Rattle.page_roff_syntax.specs.Regions.{text_view}
+use Rattle.page_roff_syntax.specs.declared.regions.RegionKind.{RegionKind}
+use Rattle.page_roff_syntax.specs.declared.regions.RegionKind.TheVariants.{Define, Append, Ignore, Table, Equation, Picture}
 use Rattle.page_roff_regions.specs.declared.regions.RegionHead.{RegionHead}
 
 -- an argument without a byte is no name

@@ -5,13 +5,12 @@ ghost use Rattle.page_core_limits.specs.declared.TheConstants.{LINE, NAME};
 ghost use Rattle.page_roff_regions.specs.OpenRegions.{RegionFits};
 ghost use Rattle.page_roff_regions.specs.OpenRegions.{name_if, within_limit, opened};
 ghost use Rattle.page_roff_regions.specs.Regions.{is_ending, text_view, region_view};
-ghost use Rattle.page_roff_forms.specs.Arguments.{argument_view, argument_name};
+ghost use Rattle.page_roff_syntax.specs.Arguments.{argument_view, argument_name};
 
 use crate::regions::{RegionHead, copy_of, is_ending};
 use arrayvec::ArrayVec;
 use page_core_limits::{LINE, NAME};
-use page_roff_forms::Argument;
-use page_roff_requests::RegionKind;
+use page_roff_syntax::{Argument, RegionKind};
 use std::marker::Model;
 
 /// A region that is open, with what of its head decides the rest.

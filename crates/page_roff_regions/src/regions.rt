@@ -2,13 +2,12 @@
 
 ghost use Rattle.std.specs.Prelude.{◌≡◌, ◌≤◌, ◌+◌, length, option_map};
 ghost use Rattle.page_core_limits.specs.declared.TheConstants.{LINE, NAME};
-ghost use Rattle.page_roff_forms.specs.Arguments.{argument_view, argument_name, arguments};
+ghost use Rattle.page_roff_syntax.specs.Arguments.{argument_view, argument_name, arguments};
 ghost use Rattle.page_roff_regions.specs.Regions.{ending_of, end_name, has_long_name, is_too_long, region_head, is_ending, region_view, NameOfNext};
 
 use arrayvec::ArrayVec;
 use page_core_limits::{LINE, NAME};
-use page_roff_forms::{Argument, Arguments, LineForm, form_of};
-use page_roff_requests::RegionKind;
+use page_roff_syntax::{Argument, Arguments, LineForm, RegionKind, form_of};
 use std::alloc::AllocError;
 
 /// The head of a region; `W` is a text. Its names are arguments as they are written, and nothing in them is

@@ -1,3 +1,13 @@
+pub mod AlikeTexts
+pub mod ArgumentTexts
+pub mod LinePartTexts
+pub mod BodyTexts
+pub mod ConditionTexts
+pub mod Cuts
+pub mod DefinitionTexts
+pub mod EffectTexts
+pub mod HeadCuts
+pub mod LineCuts
 pub mod CountLemmas
 pub mod CutLemmas
 pub mod GivenLemmas

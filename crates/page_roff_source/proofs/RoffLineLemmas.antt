@@ -23,8 +23,8 @@ use Rattle.page_roff_machine.specs.machine.Machines.{Machine, output_of, languag
 use Rattle.page_roff_machine.specs.machine.Moving.{IsPassed}
 use Rattle.page_roff_machine.specs.machine.Machines as machine
 use Rattle.page_roff_machine.proofs.MachineLemmas.{idle_stands, new_idle, resumed_idle}
-use Rattle.page_roff_texts.specs.machine.Texts.{HoldsTexts, AreGiven}
-use Rattle.page_roff_texts.proofs.EffectTexts.{first_holds, finish_holds}
+use Rattle.page_roff_source.specs.machine.Texts.{HoldsTexts, AreGiven}
+use Rattle.page_roff_source.proofs.EffectTexts.{first_holds, finish_holds}
 use Rattle.page_roff_source.specs.declared.counts.Counts.{Counts}
 use Rattle.page_roff_source.specs.Caps.{RoffFits}
 use Rattle.page_roff_source.specs.Edges.{Edge, SourceLine, first_edge, counts_of, end_notes}

@@ -13,9 +13,9 @@ use Rattle.page_roff_effects.specs.machine.Acting.{acting_effects}
 use Rattle.page_roff_effects.specs.States.{Given, says, takes}
 use Rattle.page_roff_machine.specs.Giving.{next_line, after_line}
 use Rattle.page_roff_machine.specs.machine.Machines.{taken_if}
-use Rattle.page_roff_texts.specs.machine.Texts.{HoldsTexts, AreGiven}
-use Rattle.page_roff_texts.proofs.AlikeTexts.{page_alike}
-use Rattle.page_roff_texts.proofs.EffectTexts.{HoldsState, page_texts}
+use Rattle.page_roff_source.specs.machine.Texts.{HoldsTexts, AreGiven}
+use Rattle.page_roff_source.proofs.AlikeTexts.{page_alike}
+use Rattle.page_roff_source.proofs.EffectTexts.{HoldsState, page_texts}
 use Rattle.page_roff_source.specs.Edges.{Edge, SourceLine}
 use Rattle.page_roff_source.specs.machine.Taking.{before_line, run_line, given_of, line_taken, left_if}
 

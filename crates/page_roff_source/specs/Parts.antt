@@ -5,7 +5,7 @@ use Rattle.page_core_limits.specs.declared.TheConstants.{LINE, REREAD}
 use Rattle.page_roff_blocks.specs.Levels.{Place}
 use Rattle.page_roff_effects.specs.States.{Memory}
 use Rattle.page_roff_machine.specs.machine.Moving.{IsPassed}
-use Rattle.page_roff_texts.specs.machine.Texts.{HoldsTexts}
+use Rattle.page_roff_source.specs.machine.Texts.{HoldsTexts}
 use Rattle.page_roff_source.specs.Edges.{Edge}
 
 -- where the page stands, in a region and in blocks; what is remembered; how many source lines came, and how many lines were taken of them

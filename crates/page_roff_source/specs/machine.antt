@@ -1,4 +1,5 @@
 -- The code's own steps and fast ways. Trust needs no reading of them.
+pub mod Texts
 pub mod LineByLine
 pub mod RoffLines
 pub mod Taking

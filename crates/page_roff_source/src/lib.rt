@@ -10,6 +10,9 @@
 //! held between two lines (`specs/Parts.antt`), and roff that goes on from it. `caps_law`: what is held, and what runs, is within its limits
 //! (`specs/Caps.antt`). `forest_law`, `cut_law`, `count_law`, `room_law`: the forest of all lines gives what the lines give one after another
 //! (`specs/Given.antt`); a line takes at most 1,001 lines, with at most 1,000 interpolations for each.
+//! `texts_law`: where each line of a page is UTF-8 of at most 65,536 bytes without a control character but the tab, so is each line that roff gives of
+//! it, and each string, argument and line of a macro, whatever is defined, appended, cut or passed (`specs/machine/Texts.antt`). `alike_law`: where two
+//! widths agree on each text, a page is the same by both; so the code may measure any bytes, and the definition measures texts alone.
 #![tactic(auto)]
 
 mod counts;
@@ -17,9 +20,11 @@ mod laws;
 mod parts;
 mod roff_lines;
 mod roffs;
+mod text_laws;
 
 pub use counts::Counts;
 pub use laws::{count_law, cut_law, forest_law, room_law};
 pub use parts::RoffPart;
 pub use roff_lines::RoffLines;
 pub use roffs::Roff;
+pub use text_laws::texts_law;

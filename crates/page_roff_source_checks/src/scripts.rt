@@ -2,7 +2,7 @@
 
 use crate::steps::{Step, act, text_of};
 use page_core_base::{Form, Note, NoteKind, NoteLatch, Output};
-use page_core_writers::KeptNotes;
+use page_core_streams::KeptNotes;
 use page_roff_effects::{Actions, ProductKind};
 use page_roff_regions::OpenRegion;
 use std::alloc::{AllocError, Global};

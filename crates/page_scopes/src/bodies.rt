@@ -11,7 +11,7 @@ ghost use Rattle.page_sets_lines.specs.Events.{closer_view, kind_view, given_vie
 
 use page_core_base::{NoteKind, Output, Piece, PieceOut, Place};
 use page_core_numbers::Scale;
-use page_roff_forms::Argument;
+use page_roff_syntax::Argument;
 use page_scopes_blocks::count_name;
 use page_scopes_layout::{Context, give_margins};
 use page_scopes_leaves::give_kind;

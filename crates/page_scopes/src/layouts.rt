@@ -1,14 +1,14 @@
 //! The layout of man(7) and mdoc(7).
 
 ghost use Rattle.std.specs.Prelude.{◌≡◌, ◌<◌, ◌∷◌, reverse, vec_capacity, vec_len};
-ghost use Rattle.page_roff_forms.specs.Arguments.{argument_view};
+ghost use Rattle.page_roff_syntax.specs.Arguments.{argument_view};
 ghost use Rattle.page_scopes.specs.Tables.{start};
 ghost use Rattle.page_scopes_phrases.specs.KeptTexts.{kept_of};
 ghost use Rattle.page_scopes_tree.specs.machine.Stacks.{Keeps};
 
 use crate::bodies::{give_coming, give_standing};
 use page_core_base::{PieceOut, Place};
-use page_roff_forms::Argument;
+use page_roff_syntax::Argument;
 use page_scopes_labels::Label;
 use page_scopes_laws::Scope;
 use page_scopes_layout::Context;

@@ -3,13 +3,13 @@ use Rattle.std.specs.Prelude.{ℕ, min, false, List, Option, None, Some, codes}
 use Rattle.page_core_base.specs.declared.cells.Font.TheVariants.{B}
 use Rattle.page_core_base.specs.declared.places.Place.{Place}
 use Rattle.page_core_limits.specs.declared.TheConstants.{LINE}
-use Rattle.page_roff_forms.specs.declared.quotes.Argument.{Argument}
+use Rattle.page_roff_syntax.specs.declared.quotes.Argument.{Argument}
 use Rattle.page_scopes_layout.specs.declared.contexts.Context.{Context}
 use Rattle.page_scopes_layout.specs.declared.contexts.SeriesSoFar.{SeriesSoFar}
 use Rattle.page_scopes_layout.specs.declared.contexts.SeriesSoFar.TheVariants.{Begun}
 use Rattle.page_scopes_phrases.specs.LineWords.{argument_word, line_word, generated_word}
 use Rattle.page_scopes_phrases.specs.Outcomes.{Outcome, followed_by, nothing}
-use Rattle.page_scopes_leaves.specs.Steps.{function_end}
+use Rattle.page_scopes_phrases.specs.FunctionEnds.{function_end}
 use Rattle.page_scopes_phrases.specs.Phrases.{phrase_context, phrase_items, phrase_running}
 use Rattle.page_scopes_phrases.specs.declared.phrases.Phrase.{Phrase}
 use Rattle.page_scopes_phrases.specs.declared.runnings.Running.{Running}

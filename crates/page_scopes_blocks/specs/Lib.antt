@@ -1,3 +1,6 @@
 pub mod BlockWords
 pub mod Blocks
 pub mod NameHangs
+pub mod ListWidths
+pub mod OpenLists
+pub mod Items

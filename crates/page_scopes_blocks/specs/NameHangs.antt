@@ -1,9 +1,9 @@
 -- The columns of the words of `Nm` that begin a row of the SYNOPSIS: later rows stand as many further in. Source: mdoc(7), `Nm`.
 use Rattle.std.specs.Prelude.{ℕ, ◌+◌, min, List, Option, None, Some}
 use Rattle.page_core_base.specs.declared.page_settings.Output.{Output}
-use Rattle.page_roff_forms.specs.Arguments.{is_quoted}
+use Rattle.page_roff_syntax.specs.Arguments.{is_quoted}
 use Rattle.page_scopes_layout.specs.declared.TheConstants.{MARGIN}
-use Rattle.page_scopes_leaves.specs.Steps.{counting}
+use Rattle.page_scopes_phrases.specs.Runnings.{counting}
 use Rattle.page_scopes_phrases.specs.declared.kept_texts.KeptText.{KeptText}
 use Rattle.page_scopes_phrases.specs.declared.runnings.Running.{Running}
 use Rattle.page_scopes_widths.specs.Names.{name_columns}

@@ -1,7 +1,7 @@
 //! The words that blocks and line scopes of mdoc(7) print themselves (mdoc(7), "MACRO REFERENCE").
 
 ghost use Rattle.std.specs.Prelude.{◌≡◌};
-ghost use Rattle.page_roff_forms.specs.Arguments.{argument_view};
+ghost use Rattle.page_roff_syntax.specs.Arguments.{argument_view};
 ghost use Rattle.page_scopes_blocks.specs.BlockWords as words;
 ghost use Rattle.page_sets_lines.specs.Fits.{ArgumentFits, BlockOpenerFits, FitsAt, GivenFits};
 ghost use Rattle.page_scopes_phrases.specs.Outcomes.{GivesOutcome};
@@ -10,12 +10,12 @@ ghost use Rattle.page_sets_lines.specs.Events.{block_opener_view, given_view, wo
 
 use page_core_base::{Font, PieceOut, Place};
 use page_core_limits::LINE;
-use page_roff_forms::Argument;
+use page_roff_syntax::Argument;
 use page_scopes_labels::{Explicit, Label};
 use page_scopes_layout::{Context, SeriesSoFar};
-use page_scopes_leaves::give_function_end;
 use page_scopes_phrases::{
-    Phrase, Running, argument_word, give_generated_word, give_line_word, give_phrase,
+    Phrase, Running, argument_word, give_function_end, give_generated_word, give_line_word,
+    give_phrase,
 };
 use page_sets_lines::{
     Block, BlockOpener, GeneratedText, GeneratedWord, Join, LineOpener, Marks, Word,

@@ -2,7 +2,7 @@
 
 ghost use Rattle.std.specs.Prelude.{◌≡◌};
 ghost use Rattle.page_core_base.specs.Latches.{Came};
-ghost use Rattle.page_roff_forms.specs.Arguments.{argument_view};
+ghost use Rattle.page_roff_syntax.specs.Arguments.{argument_view};
 ghost use Rattle.page_scopes_blocks.specs.BlockWords.{function_name};
 ghost use Rattle.page_scopes_blocks.specs.Blocks as blocks;
 ghost use Rattle.page_scopes_layout.specs.Begins.{function_begun};
@@ -12,7 +12,7 @@ ghost use Rattle.page_sets_lines.specs.Events.{block_opener_view, given_view};
 
 use crate::block_words::{give_block_words, give_function_name};
 use page_core_base::{Output, Piece, PieceOut, Place};
-use page_roff_forms::Argument;
+use page_roff_syntax::Argument;
 use page_scopes_layout::{Context, give_margins};
 use page_scopes_phrases::Running;
 use page_scopes_widths::give_width;

@@ -1,7 +1,7 @@
 //! The lines of a script, of which what opens and closes scopes is passed over.
 
 use page_core_base::{Form, Taken};
-use page_roff_forms::{LineForm, form_of};
+use page_roff_syntax::{LineForm, form_of};
 use page_scopes_layout::Context;
 use page_scopes_leaves::give_kind;
 use page_scopes_phrases::Running;

@@ -3,7 +3,7 @@
 use crate::nested::Nested;
 use page_core_base::{Font, Note, Piece, Place};
 use page_core_limits::SCOPES;
-use page_roff_forms::{Argument, Quoting};
+use page_roff_syntax::{Argument, Quoting};
 use page_scopes_shown::{Brief, Notation, ShownBy};
 use page_scopes_tree::ScopeStack;
 use page_sets_lines::{

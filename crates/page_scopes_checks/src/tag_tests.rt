@@ -6,9 +6,9 @@ ghost use Rattle.page_sets_lines.specs.Events.{word_view};
 
 use crate::leaf_pages::{MOST, Page, check_shown};
 use page_core_base::{Font, Place};
-use page_roff_forms::{Argument, Quoting};
-use page_scopes_leaves::{TagPlace, end_line, give_leaf, give_raw_line, give_tag};
-use page_scopes_phrases::{give_generated_word, give_line_word};
+use page_roff_syntax::{Argument, Quoting};
+use page_scopes_leaves::{end_line, give_leaf, give_raw_line};
+use page_scopes_phrases::{TagPlace, give_generated_word, give_line_word, give_tag};
 use page_scopes_shown::Shown;
 use page_sets::{GeneratedText, GeneratedWord, Join, Leaf, Role, Word};
 use std::alloc::Global;

@@ -1,7 +1,7 @@
 //! What texts give, in rows that are filled and in rows that are kept.
 
 use page_core_base::Font;
-use page_roff_forms::{Argument, Quoting};
+use page_roff_syntax::{Argument, Quoting};
 use page_scopes_layout::Context;
 use page_scopes_phrases::{Running, give_line_word};
 use page_scopes_shown::Shown;

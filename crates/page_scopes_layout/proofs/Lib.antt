@@ -1,1 +1,2 @@
 pub mod MarginLemmas
+pub mod HeadingLemmas

@@ -3,3 +3,4 @@ pub mod Margins
 pub mod Begins
 pub mod Lists
 pub mod Nodes
+pub mod Headings

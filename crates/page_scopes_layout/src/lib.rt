@@ -1,19 +1,23 @@
 //! Contexts: what the texts of a page are laid out by, what each scope begins with and gives but its words, and what stays after it (man(7), mdoc(7)).
 //!
 //! A scope that opens changes the context, and one that ends restores it; the layers above give words in it. Read `src/contexts.rt` first, then
-//! `specs/Begins.antt` (a context for each scope) and `Nodes.antt` (the pieces).
+//! `specs/Begins.antt` (a context for each scope) and `Nodes.antt` (the pieces). Which section a heading begins is read from what it prints:
+//! `specs/Headings.antt`.
 //!
 //! Proved: `give_begin`, `give_end`, `margins_of`, the beginnings of `Context`, and `restore`: what each scope of man(7) and mdoc(7) begins with and
-//! gives besides its words, and what stays after it (`specs/Contexts.antt`, `Nodes.antt`).
+//! gives besides its words, and what stays after it (`specs/Contexts.antt`, `Nodes.antt`). `HeadingSoFar`: the section that a heading begins, by the
+//! characters that it prints (`specs/Headings.antt`).
 #![tactic(auto)]
 
 mod begins;
 mod contexts;
+mod headings;
 mod lists;
 mod margins;
 mod nodes;
 
 pub use contexts::{Context, PagePart, PageSection, SeriesSoFar};
+pub use headings::{HeadingSoFar, in_synopsis, is_heading};
 pub use lists::{ColumnWidths, OpenList};
 pub use margins::{Margins, hold, margins_of};
 pub use nodes::{give_begin, give_end, give_margins};

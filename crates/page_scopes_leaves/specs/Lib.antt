@@ -1,4 +1,3 @@
-pub mod Tags
 pub mod Requests
 pub mod RawLines
 pub mod Steps

@@ -5,7 +5,7 @@ use Rattle.page_core_base.specs.declared.cells.Font.{Font}
 use Rattle.page_core_base.specs.declared.pieces.Piece.TheVariants as pieces
 use Rattle.page_core_base.specs.declared.places.Place.{Place}
 use Rattle.page_scopes_layout.specs.declared.contexts.Context.{Context}
-use Rattle.page_scopes_phrases.specs.Headings.{heading_broken}
+use Rattle.page_scopes_layout.specs.Headings.{heading_broken}
 use Rattle.page_scopes_phrases.specs.Outcomes.{Outcome}
 use Rattle.page_scopes_phrases.specs.Runnings.{row_ended, with_content}
 use Rattle.page_scopes_phrases.specs.declared.runnings.Running.{Running}

@@ -6,8 +6,8 @@ use Rattle.page_core_base.specs.declared.places.Place.{Place}
 use Rattle.page_core_escapes.specs.Meanings as meanings
 use Rattle.page_core_escapes.specs.Meanings.{Face, face_of, is_known}
 use Rattle.page_core_numbers.specs.Numbers.{in_range}
-use Rattle.page_roff_forms.specs.Arguments.{is_quoted}
-use Rattle.page_roff_forms.specs.declared.quotes.Argument.{Argument}
+use Rattle.page_roff_syntax.specs.Arguments.{is_quoted}
+use Rattle.page_roff_syntax.specs.declared.quotes.Argument.{Argument}
 use Rattle.page_scopes_words.specs.Settings.{set_to}
 use Rattle.page_scopes_layout.specs.declared.contexts.Context.{Context}
 use Rattle.page_scopes_words.specs.declared.settings.Setting.{Setting}

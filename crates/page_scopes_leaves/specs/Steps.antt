@@ -1,5 +1,5 @@
 -- What macros of mdoc(7) change in their line, or print there. Source: mdoc(7), "MACRO REFERENCE".
-use Rattle.std.specs.Prelude.{ℕ, max, Bool, true, false, not, ◌&&◌, List, [], ◌∷◌, Option, None, Some, if◌then◌else◌}
+use Rattle.std.specs.Prelude.{ℕ, max, Bool, not, List, [], ◌∷◌, Option, None, Some, if◌then◌else◌}
 use Rattle.page_core_base.specs.Pieces.{shown}
 use Rattle.page_core_base.specs.declared.note_kinds.NoteKind.TheVariants.{SkipPara}
 use Rattle.page_core_base.specs.declared.pieces.Piece.TheVariants as pieces
@@ -11,20 +11,19 @@ use Rattle.page_scopes_layout.specs.declared.contexts.Context.{Context}
 use Rattle.page_scopes_phrases.specs.Cells.{column_step}
 use Rattle.page_scopes_layout.specs.declared.contexts.SeriesSoFar.{SeriesSoFar}
 use Rattle.page_scopes_layout.specs.declared.contexts.SeriesSoFar.TheVariants as series
-use Rattle.page_scopes_layout.specs.declared.contexts.PageSection.{PageSection}
-use Rattle.page_scopes_layout.specs.declared.contexts.PageSection.TheVariants.{Synopsis}
+use Rattle.page_scopes_phrases.specs.FunctionEnds.{function_end}
 use Rattle.page_scopes_phrases.specs.LineWords.{argument_word, line_word, generated_word}
 use Rattle.page_scopes_phrases.specs.ManualNames.{manual_name}
-use Rattle.page_scopes_phrases.specs.Headings.{is_heading}
-use Rattle.page_scopes_phrases.specs.Outcomes.{Outcome, followed_by, nothing, row_margin_items}
+use Rattle.page_scopes_layout.specs.Headings.{in_synopsis}
+use Rattle.page_scopes_phrases.specs.Outcomes.{Outcome, nothing, row_margin_items}
 use Rattle.page_scopes_phrases.specs.Phrases.{blanks_part, joined_gap}
-use Rattle.page_scopes_phrases.specs.Runnings.{row_ended}
+use Rattle.page_scopes_phrases.specs.Runnings.{counting, row_ended}
 use Rattle.page_scopes_phrases.specs.declared.kept_texts.KeptText.{KeptText}
 use Rattle.page_scopes_phrases.specs.declared.runnings.Running.{Running}
 use Rattle.page_scopes_words.specs.Words.{says}
 use Rattle.page_sets_names.specs.MacroNames.{body_paragraph_name}
 use Rattle.page_sets_lines.specs.declared.events.Join.TheVariants.{Apart, Glued}
-use Rattle.page_sets_names.specs.declared.generated_texts.GeneratedText.TheVariants.{CloseParenthesis, Comma, Semicolon}
+use Rattle.page_sets_names.specs.declared.generated_texts.GeneratedText.TheVariants.{Comma}
 use Rattle.page_sets_names.specs.declared.generated_texts.GeneratedText.TheVariants as owns
 use Rattle.page_sets_lines.specs.declared.leaves.GeneratedWord.{GeneratedWord}
 use Rattle.page_sets_lines.specs.declared.line_steps.LineStep.{LineStep}
@@ -64,21 +63,9 @@ next_argument series.Begun place c r = generated_word place comma c r
 
 -- ---- the section SYNOPSIS
 
-abbrev pub is_synopsis : PageSection → Bool
-is_synopsis Synopsis = true
-is_synopsis _ = false
-
--- in its text
-abbrev pub in_synopsis : Context → Bool
-in_synopsis c = is_synopsis c.section && not (is_heading c.part)
-
 -- `In`: this stands before its file
 abbrev pub include_word : GeneratedWord
 include_word = record { text = owns.Include; font = None; before = Apart; after = Apart }
-
--- `Nm`: the columns of its words are counted from here on, and later rows stand as many further in
-abbrev pub counting : Option ℕ → Running → Running
-counting columns r = record r { line = record r.line { name_columns = columns } }
 
 abbrev pub name_hung : Option ℕ → Context → Running → Outcome
 name_hung None c r = nothing c r
@@ -100,22 +87,6 @@ synopsis_step place NameEnds c r = name_hung r.line.name_columns c r
 
 abbrev pub if_synopsis : Place → SynopsisStep → Context → Running → Outcome
 if_synopsis place step c r = if in_synopsis c then synopsis_step place step c r else nothing c r
-
--- the end of a function (`Fn`, `Fo`): in the SYNOPSIS a semicolon follows, and the row ends
-abbrev pub closing_mark : GeneratedWord
-closing_mark = record { text = CloseParenthesis; font = None; before = Glued; after = Apart }
-
-abbrev pub semicolon : GeneratedWord
-semicolon = record { text = Semicolon; font = None; before = Glued; after = Apart }
-
-abbrev pub row_break : Context → Running → Outcome
-row_break c r = record { items = shown pieces.Break ∷ []; context = c; running = row_ended r }
-
-abbrev pub declaration_end : Place → Context → Running → Outcome
-declaration_end place c r = if in_synopsis c then followed_by (generated_word place semicolon c r) row_break else nothing c r
-
-unfoldable pub function_end : Place → Context → Running → Outcome
-function_end place c r = followed_by (generated_word place closing_mark c r) (declaration_end place)
 
 -- ---- `Sm`
 

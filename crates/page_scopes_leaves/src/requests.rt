@@ -3,7 +3,7 @@
 ghost use Rattle.std.specs.Prelude.{◌≡◌, Some};
 ghost use Rattle.page_core_base.specs.Latches.{Came};
 ghost use Rattle.page_core_escapes.specs.Escapes.{face_view};
-ghost use Rattle.page_roff_forms.specs.Arguments.{argument_view};
+ghost use Rattle.page_roff_syntax.specs.Arguments.{argument_view};
 ghost use Rattle.page_scopes_phrases.specs.Outcomes.{GivesOutcome};
 ghost use Rattle.page_scopes_leaves.specs.Requests as requests;
 ghost use Rattle.page_scopes_phrases.specs.Runnings.{row_ended, with_content};
@@ -13,7 +13,7 @@ ghost use Rattle.page_sets_lines.specs.Events.{given_view, request_view, text_vi
 use crate::margins::give_row_margins;
 use page_core_base::{Piece, PieceOut, Place};
 use page_core_escapes::{FontName, read_font};
-use page_roff_forms::Argument;
+use page_roff_syntax::Argument;
 use page_scopes_layout::Context;
 use page_scopes_phrases::Running;
 use page_scopes_text::{give_columns, give_rows};

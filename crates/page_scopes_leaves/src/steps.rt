@@ -8,10 +8,10 @@ ghost use Rattle.page_sets_lines.specs.Events.{step_view};
 
 use crate::margins::give_row_margins;
 use page_core_base::{NoteKind, Piece, PieceOut, Place};
-use page_scopes_layout::{Context, PageSection, SeriesSoFar, give_margins};
+use page_scopes_layout::{Context, SeriesSoFar, give_margins, in_synopsis};
 use page_scopes_phrases::{
-    KeptText, Running, argument_word, blanks_part, give_column_step, give_generated_word,
-    give_line_word, give_manual_name, is_heading, joined_gap,
+    KeptText, Running, argument_word, blanks_part, give_column_step, give_function_end,
+    give_generated_word, give_line_word, give_manual_name, joined_gap,
 };
 use page_scopes_words::{Setting, report};
 use page_sets_lines::{
@@ -96,13 +96,6 @@ fn give_next_argument<O: PieceOut>(
     }
 }
 
-// Whether a text stands in the SYNOPSIS, but not in a heading of it.
-fn in_synopsis(context: &Context) -> bool
-    ensures { result ≡ steps.in_synopsis context.now }
-{
-    matches!(context.section, PageSection::Synopsis) && !is_heading(context.part)
-}
-
 // What stands before the file of `In`.
 fn include_word() -> GeneratedWord
     ensures { result ≡ steps.include_word }
@@ -171,72 +164,6 @@ fn give_if_synopsis<O: PieceOut>(
     if in_synopsis(context) {
         give_synopsis_step(out, place, step, context, running);
     }
-}
-
-// What closes the arguments of a function.
-fn closing_mark() -> GeneratedWord
-    ensures { result ≡ steps.closing_mark }
-{
-    GeneratedWord {
-        text: GeneratedText::CloseParenthesis,
-        font: None,
-        before: Join::Glued,
-        after: Join::Apart,
-    }
-}
-
-// What ends a declaration of one.
-fn semicolon() -> GeneratedWord
-    ensures { result ≡ steps.semicolon }
-{
-    GeneratedWord {
-        text: GeneratedText::Semicolon,
-        font: None,
-        before: Join::Glued,
-        after: Join::Apart,
-    }
-}
-
-// Gives the end of a row.
-fn give_row_break<O: PieceOut>(out: &mut O, context: &Context, running: &mut Running)
-    ensures { GivesOutcome O.left out.old (steps.row_break context.now running.old)
-        out.new context.now running.new }
-{
-    out.give(Piece::Break);
-    running.end_row();
-}
-
-// Gives what ends a declaration of a function, which stands in the SYNOPSIS.
-fn give_declaration_end<O: PieceOut>(
-    out: &mut O,
-    place: Place,
-    context: &mut Context,
-    running: &mut Running,
-)
-    ensures { GivesOutcome O.left out.old
-        (steps.declaration_end place context.old running.old)
-        out.new context.new running.new }
-{
-    if in_synopsis(context) {
-        give_generated_word(out, place, semicolon(), context, running);
-        give_row_break(out, context, running);
-    }
-}
-
-/// Gives the end of a function, of `Fn` or of `Fo`: what closes its arguments, and in the SYNOPSIS a semicolon and the end of the row.
-#[tactic(auto, unfolding(crate::specs::Steps::function_end))]
-pub fn give_function_end<O: PieceOut>(
-    out: &mut O,
-    place: Place,
-    context: &mut Context,
-    running: &mut Running,
-)
-    ensures { GivesOutcome O.left out.old
-        (steps.function_end place context.old running.old)
-        out.new context.new running.new }
-{
-    give_generated_word(out, place, closing_mark(), context, running);
-    give_declaration_end(out, place, context, running);
 }
 
 // Whether blanks stand between words from here on: `Sm`.

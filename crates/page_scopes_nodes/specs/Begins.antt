@@ -8,7 +8,7 @@ use Rattle.page_scopes_layout.specs.Lists.{head_begun}
 use Rattle.page_scopes_layout.specs.Nodes.{line_begin_items}
 use Rattle.page_scopes_layout.specs.declared.contexts.Context.{Context}
 use Rattle.page_scopes_blocks.specs.BlockWords.{line_words}
-use Rattle.page_scopes_phrases.specs.Headings.{no_heading}
+use Rattle.page_scopes_layout.specs.Headings.{no_heading}
 use Rattle.page_scopes_phrases.specs.KeptTexts.{kept_of}
 use Rattle.page_scopes_phrases.specs.Outcomes.{Outcome, followed_by, nothing}
 use Rattle.page_scopes_phrases.specs.Runnings.{row_ended}

@@ -6,8 +6,8 @@ use Rattle.page_scopes_layout.specs.Nodes.{end_items, is_row}
 use Rattle.page_scopes_layout.specs.declared.contexts.Context.{Context}
 use Rattle.page_scopes_layout.specs.declared.contexts.PageSection.{PageSection}
 use Rattle.page_scopes_blocks.specs.BlockWords.{last_words}
-use Rattle.page_scopes_phrases.specs.Headings.{headed_section}
-use Rattle.page_scopes_phrases.specs.declared.headings.HeadingSoFar.{HeadingSoFar}
+use Rattle.page_scopes_layout.specs.Headings.{headed_section}
+use Rattle.page_scopes_layout.specs.declared.headings.HeadingSoFar.{HeadingSoFar}
 use Rattle.page_scopes_phrases.specs.Outcomes.{Outcome, followed_by}
 use Rattle.page_scopes_phrases.specs.Runnings.{row_ended}
 use Rattle.page_scopes_phrases.specs.declared.runnings.Running.{Running}

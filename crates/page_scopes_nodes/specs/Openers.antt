@@ -4,23 +4,23 @@ use Rattle.page_core_base.specs.Pieces.{Item}
 use Rattle.page_core_base.specs.declared.cells.Font.TheVariants.{B}
 use Rattle.page_core_base.specs.declared.note_kinds.NoteKind.TheVariants.{SkipPara}
 use Rattle.page_core_base.specs.declared.places.Place.{Place}
-use Rattle.page_roff_forms.specs.Arguments.{is_quoted}
-use Rattle.page_roff_forms.specs.declared.quotes.Argument.{Argument}
+use Rattle.page_roff_syntax.specs.Arguments.{is_quoted}
+use Rattle.page_roff_syntax.specs.declared.quotes.Argument.{Argument}
 use Rattle.page_scopes_layout.specs.Begins.{entered_context, hanging_begun, indented_begun, margin_begun, paragraph_begun, section_begun, subsection_begun, syntax_begun, text_margin}
 use Rattle.page_scopes_layout.specs.Margins.{hold}
 use Rattle.page_scopes_layout.specs.Nodes.{begin_items}
 use Rattle.page_scopes_layout.specs.declared.contexts.Context.{Context}
 use Rattle.page_scopes_blocks.specs.Blocks.{block_opened}
-use Rattle.page_scopes_lists.specs.Items.{item_opened}
-use Rattle.page_scopes_lists.specs.OpenLists.{list_opened}
+use Rattle.page_scopes_blocks.specs.Items.{item_opened}
+use Rattle.page_scopes_blocks.specs.OpenLists.{list_opened}
 use Rattle.page_sets_lines.specs.declared.blocks.BlockOpener.{BlockOpener}
 use Rattle.page_sets_lines.specs.declared.blocks.BlockOpener.TheVariants as block_openers
 use Rattle.page_scopes_phrases.specs.LineWords.{argument_word}
 use Rattle.page_scopes_phrases.specs.Outcomes.{Outcome, after_notes, followed_by, nothing}
 use Rattle.page_scopes_phrases.specs.Runnings.{row_ended}
-use Rattle.page_scopes_leaves.specs.Tags.{tag}
+use Rattle.page_scopes_phrases.specs.Tags.{tag}
 use Rattle.page_scopes_phrases.specs.declared.runnings.Running.{Running}
-use Rattle.page_scopes_leaves.specs.declared.tags.TagPlace.{TagPlace}
+use Rattle.page_scopes_phrases.specs.declared.tags.TagPlace.{TagPlace}
 use Rattle.page_scopes_text.specs.Numbers.{columns_notes, columns_value}
 use Rattle.page_scopes_labels.specs.declared.labels.Explicit.TheVariants.{RelativeMargin, Syntax}
 use Rattle.page_scopes_labels.specs.declared.labels.Label.{Label}

@@ -5,11 +5,11 @@ use Rattle.page_core_base.specs.declared.cells.Font.{Font}
 use Rattle.page_core_base.specs.declared.pieces.Piece.TheVariants.{Text}
 use Rattle.page_core_base.specs.declared.places.Place.{Place}
 use Rattle.page_core_escapes.specs.Tokens.{TextToken, tokens_of}
-use Rattle.page_roff_forms.specs.Arguments.{is_quoted}
-use Rattle.page_roff_forms.specs.declared.quotes.Argument.{Argument}
+use Rattle.page_roff_syntax.specs.Arguments.{is_quoted}
+use Rattle.page_roff_syntax.specs.declared.quotes.Argument.{Argument}
 use Rattle.page_scopes_layout.specs.declared.contexts.Context.{Context}
 use Rattle.page_scopes_words.specs.declared.settings.Setting.{Setting}
-use Rattle.page_scopes_phrases.specs.Headings.{heading_broken}
+use Rattle.page_scopes_layout.specs.Headings.{heading_broken}
 use Rattle.page_scopes_phrases.specs.KeptTexts.{after_kept, cut_notes, fonts_through, gap_items, kept_items, kept_tokens}
 use Rattle.page_scopes_phrases.specs.Outcomes.{Outcome}
 use Rattle.page_scopes_phrases.specs.Phrases.{is_text}

@@ -12,8 +12,8 @@ use crate::openers::give_opened;
 use page_core_base::{Font, PieceOut, Place};
 use page_scopes_blocks::give_line_words;
 use page_scopes_labels::Label;
-use page_scopes_layout::{Context, give_begin};
-use page_scopes_phrases::{HeadingSoFar, Running};
+use page_scopes_layout::{Context, HeadingSoFar, give_begin};
+use page_scopes_phrases::Running;
 use page_sets_lines::{Event, EventKind, FontMacro, HeadingName, LineOpener};
 
 // The column of the heading of `SH`, `SS`, `Sh` or `Ss`.

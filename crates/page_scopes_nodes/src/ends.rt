@@ -9,8 +9,8 @@ use crate::targets::give_target;
 use page_core_base::{PieceOut, Place};
 use page_scopes_blocks::give_last_words;
 use page_scopes_labels::{Explicit, Label};
-use page_scopes_layout::{Context, PageSection, give_end};
-use page_scopes_phrases::{HeadingSoFar, KeptText, Running};
+use page_scopes_layout::{Context, HeadingSoFar, PageSection, give_end};
+use page_scopes_phrases::{KeptText, Running};
 use page_sets_lines::{Block, HeadingName, LineOpener};
 
 // Gives the last words of a scope: the target of `UR` up to `UE`, and of `MT` up to `ME`, and the marks of enclosures.

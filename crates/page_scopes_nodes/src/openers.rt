@@ -2,7 +2,7 @@
 
 ghost use Rattle.std.specs.Prelude.{◌≡◌};
 ghost use Rattle.page_core_base.specs.Latches.{Came};
-ghost use Rattle.page_roff_forms.specs.Arguments.{argument_view};
+ghost use Rattle.page_roff_syntax.specs.Arguments.{argument_view};
 ghost use Rattle.page_sets_lines.specs.Fits.{ArgumentFits, BlockOpenerFits, GivenFits, OpenerFits};
 ghost use Rattle.page_scopes_phrases.specs.Outcomes.{GivesOutcome};
 ghost use Rattle.page_scopes_nodes.specs.Openers as openers;
@@ -11,13 +11,11 @@ ghost use Rattle.page_sets_lines.specs.Events.{block_opener_view, given_view, op
 use crate::PageLayout;
 use crate::targets::report_target;
 use page_core_base::{Font, NoteKind, PieceOut, Place};
-use page_roff_forms::Argument;
-use page_scopes_blocks::give_block;
+use page_roff_syntax::Argument;
+use page_scopes_blocks::{give_block, give_item, give_list};
 use page_scopes_labels::{Explicit, Label};
 use page_scopes_layout::{Context, give_begin, hold};
-use page_scopes_leaves::{TagPlace, give_tag};
-use page_scopes_lists::{give_item, give_list};
-use page_scopes_phrases::{Running, argument_word};
+use page_scopes_phrases::{Running, TagPlace, argument_word, give_tag};
 use page_scopes_text::give_columns;
 use page_scopes_widths::name_columns;
 use page_scopes_words::report;

@@ -3,14 +3,14 @@
 ghost use Rattle.std.specs.Prelude.{◌≡◌, ◌≤◌, ◌<◌, length, false};
 ghost use Rattle.page_core_base.specs.Latches.{Came};
 ghost use Rattle.page_core_escapes.specs.Tokens.{token_view, tokens_of};
-ghost use Rattle.page_roff_forms.specs.Arguments.{argument_view};
+ghost use Rattle.page_roff_syntax.specs.Arguments.{argument_view};
 ghost use Rattle.page_scopes_phrases.specs.Outcomes.{GivesOutcome};
 ghost use Rattle.page_scopes_nodes.specs.Targets as targets;
 
 use page_core_base::{Font, Piece, PieceOut, Place};
 use page_core_escapes::read_token;
 use page_core_limits::LINE;
-use page_roff_forms::Argument;
+use page_roff_syntax::Argument;
 use page_scopes_layout::{Context, PagePart};
 use page_scopes_phrases::{KeptText, Running, give_kept, give_kept_gap, report_cut};
 use page_scopes_text::report_token;

@@ -1,4 +1,3 @@
-pub mod Headings
 pub mod Runnings
 pub mod Outcomes
 pub mod Phrases
@@ -6,3 +5,5 @@ pub mod Cells
 pub mod LineWords
 pub mod KeptTexts
 pub mod ManualNames
+pub mod Tags
+pub mod FunctionEnds

@@ -5,10 +5,10 @@ use Rattle.page_core_base.specs.declared.cells.Font.{Font}
 use Rattle.page_core_base.specs.declared.note_kinds.NoteKind.TheVariants.{Unterminated}
 use Rattle.page_core_base.specs.declared.places.Place.{Place}
 use Rattle.page_core_limits.specs.declared.TheConstants.{LINE}
-use Rattle.page_roff_forms.specs.Arguments.{is_quoted}
-use Rattle.page_roff_forms.specs.declared.quotes.Argument.{Argument}
-use Rattle.page_roff_forms.specs.declared.quotes.Quoting.{Quoting}
-use Rattle.page_roff_forms.specs.declared.quotes.Quoting.TheVariants.{Unclosed}
+use Rattle.page_roff_syntax.specs.Arguments.{is_quoted}
+use Rattle.page_roff_syntax.specs.declared.quotes.Argument.{Argument}
+use Rattle.page_roff_syntax.specs.declared.quotes.Quoting.{Quoting}
+use Rattle.page_roff_syntax.specs.declared.quotes.Quoting.TheVariants.{Unclosed}
 use Rattle.page_scopes_layout.specs.declared.contexts.Context.{Context}
 use Rattle.page_scopes_phrases.specs.Cells.{text_outcome}
 use Rattle.page_scopes_phrases.specs.Outcomes.{Outcome}

@@ -6,9 +6,9 @@ use Rattle.page_core_base.specs.declared.note_kinds.NoteKind.TheVariants.{Missin
 use Rattle.page_core_base.specs.declared.pieces.Piece.TheVariants.{Text}
 use Rattle.page_core_base.specs.declared.places.Place.{Place}
 use Rattle.page_core_limits.specs.declared.TheConstants.{LINE}
-use Rattle.page_roff_forms.specs.declared.quotes.Argument.{Argument}
+use Rattle.page_roff_syntax.specs.declared.quotes.Argument.{Argument}
 use Rattle.page_scopes_layout.specs.declared.contexts.Context.{Context}
-use Rattle.page_scopes_phrases.specs.Headings.{heading_further}
+use Rattle.page_scopes_layout.specs.Headings.{heading_further}
 use Rattle.page_scopes_phrases.specs.KeptTexts.{after_kept, cut_notes, gap_items, kept_items, kept_of, kept_tokens, prints_cell}
 use Rattle.page_scopes_phrases.specs.LineWords.{with_sentence}
 use Rattle.page_scopes_phrases.specs.Outcomes.{Outcome}

@@ -7,7 +7,7 @@ use Rattle.page_scopes_layout.specs.declared.contexts.Context.{Context}
 use Rattle.page_scopes_layout.specs.declared.contexts.PagePart.{PagePart}
 use Rattle.page_scopes_layout.specs.declared.contexts.PagePart.TheVariants as parts
 use Rattle.page_scopes_words.specs.declared.settings.Setting.{Setting}
-use Rattle.page_scopes_phrases.specs.Headings.{heading_further}
+use Rattle.page_scopes_layout.specs.Headings.{heading_further}
 use Rattle.page_scopes_phrases.specs.Outcomes.{Outcome}
 use Rattle.page_scopes_phrases.specs.Runnings.{next_gap}
 use Rattle.page_scopes_phrases.specs.declared.phrases.Phrase.{Phrase}

@@ -1,6 +1,6 @@
 -- What no scope restores: what is known along a page, and of its line so far. Source: man(7); roff(7), "Sentences", `\c`.
-use Rattle.std.specs.Prelude.{ℕ, Bool, true, false, not, ◌==◌, ◌||◌, None, if◌then◌else◌}
-use Rattle.page_scopes_phrases.specs.Headings.{no_heading}
+use Rattle.std.specs.Prelude.{ℕ, Bool, true, false, not, ◌==◌, ◌||◌, Option, None, if◌then◌else◌}
+use Rattle.page_scopes_layout.specs.Headings.{no_heading}
 use Rattle.page_scopes_phrases.specs.declared.runnings.LineSoFar.{LineSoFar}
 use Rattle.page_scopes_phrases.specs.declared.runnings.Running.{Running}
 
@@ -43,3 +43,7 @@ row_ended r = record r { line = record r.line { has_row_words = false; is_after_
 -- something came since the last heading
 abbrev pub with_content : Running → Running
 with_content r = record r { has_content = true }
+
+-- `Nm`: the columns of its words are counted from here on, and later rows stand as many further in
+abbrev pub counting : Option ℕ → Running → Running
+counting columns r = record r { line = record r.line { name_columns = columns } }

@@ -7,7 +7,7 @@ ghost use Rattle.page_core_limits.specs.declared.TheConstants.{FIELD};
 use arrayvec::ArrayVec;
 use page_core_base::text_front;
 use page_core_limits::FIELD;
-use page_roff_forms::Argument;
+use page_roff_syntax::Argument;
 use std::marker::Model;
 
 /// A text of at most [`FIELD`] bytes.
@@ -61,7 +61,7 @@ pub struct KeptText {
 }
 
 impl KeptText {
-    ghost use Rattle.page_roff_forms.specs.Arguments.{argument_view};
+    ghost use Rattle.page_roff_syntax.specs.Arguments.{argument_view};
     ghost use Rattle.page_scopes_phrases.specs.KeptTexts.{kept_of};
 
     /// The same text.

@@ -2,7 +2,7 @@
 
 ghost use Rattle.std.specs.Prelude.{◌≡◌};
 ghost use Rattle.page_core_base.specs.Latches.{Came};
-ghost use Rattle.page_roff_forms.specs.Arguments.{argument_view};
+ghost use Rattle.page_roff_syntax.specs.Arguments.{argument_view};
 ghost use Rattle.page_sets_lines.specs.Fits.{FitsAt};
 ghost use Rattle.page_scopes_phrases.specs.Cells.{text_outcome};
 ghost use Rattle.page_scopes_phrases.specs.LineWords as lines;
@@ -14,7 +14,7 @@ use crate::cells::{give_cells, in_columns};
 use crate::{Phrase, Running, give_phrase};
 use page_core_base::{Font, NoteKind, PieceOut, Place};
 use page_core_limits::LINE;
-use page_roff_forms::{Argument, Quoting};
+use page_roff_syntax::{Argument, Quoting};
 use page_scopes_layout::Context;
 use page_scopes_words::{ends_sentence, report};
 use page_sets_lines::{GeneratedWord, Join, Role, Word};

@@ -2,7 +2,7 @@
 
 ghost use Rattle.std.specs.Prelude.{◌≡◌};
 ghost use Rattle.page_core_base.specs.Latches.{Came};
-ghost use Rattle.page_roff_forms.specs.Arguments.{argument_view};
+ghost use Rattle.page_roff_syntax.specs.Arguments.{argument_view};
 ghost use Rattle.page_sets_lines.specs.Fits.{FitsAt};
 ghost use Rattle.page_scopes_phrases.specs.ManualNames as names;
 ghost use Rattle.page_scopes_phrases.specs.Outcomes.{GivesOutcome};
@@ -13,7 +13,7 @@ use crate::phrases::{Phrase, give_phrase, is_text, own_fonts};
 use crate::{KeptText, Running};
 use page_core_base::{Font, NoteKind, Piece, PieceOut, Place};
 use page_core_limits::LINE;
-use page_roff_forms::Argument;
+use page_roff_syntax::Argument;
 use page_scopes_layout::Context;
 use page_scopes_words::{ends_sentence, report};
 use page_sets_lines::{Join, Role};

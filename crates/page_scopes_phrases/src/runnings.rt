@@ -3,7 +3,7 @@
 ghost use Rattle.std.specs.Prelude.{◌≡◌};
 ghost use Rattle.page_scopes_phrases.specs.Runnings as runnings;
 
-use crate::HeadingSoFar;
+use page_scopes_layout::HeadingSoFar;
 use page_scopes_words::{Fonts, Setting};
 
 /// What is known of a line so far.

@@ -2,14 +2,14 @@
 
 ghost use Rattle.std.specs.Prelude.{◌≡◌, ◌≤◌, length};
 ghost use Rattle.page_core_base.specs.LinesTaken.{line_view};
-ghost use Rattle.page_roff_forms.specs.Arguments.{argument_view};
+ghost use Rattle.page_roff_syntax.specs.Arguments.{argument_view};
 ghost use Rattle.page_sets_lines.specs.Events.{event_view, kind_view};
 ghost use Rattle.page_sets_lines.specs.PlainLines.{event_at};
 ghost use Rattle.page_scopes_sets_checks.specs.Marked as marked;
 
 use page_core_base::{Font, NoteKind, Place, Taken};
 use page_core_limits::LINE;
-use page_roff_forms::{Argument, has_arguments};
+use page_roff_syntax::{Argument, has_arguments};
 use page_sets::{
     BlockCloser, BlockOpener, Closer, Event, EventKind, Join, MacroSet, Opener, Quotation, Role,
     Word,

@@ -2,14 +2,14 @@
 
 ghost use Rattle.std.specs.Prelude.{◌≡◌, ◌≤◌, length};
 ghost use Rattle.page_core_base.specs.Latches.{Came};
-ghost use Rattle.page_roff_forms.specs.Arguments.{argument_view};
+ghost use Rattle.page_roff_syntax.specs.Arguments.{argument_view};
 ghost use Rattle.page_scopes_widths.specs.Widths as widths;
 
 use crate::names::name_columns;
 use page_core_base::{Output, PieceOut, Place};
 use page_core_limits::LINE;
 use page_core_numbers::{Scale, evaluate};
-use page_roff_forms::Argument;
+use page_roff_syntax::Argument;
 use page_scopes_text::give_number;
 
 // The basic units of a column.

@@ -1,7 +1,7 @@
 -- The end of a sentence at a line's end. Source: roff(7), "Sentences"; mandoc(1).
 use Rattle.std.specs.Prelude.{ℕ, Bool, false, ◌==◌, ◌||◌, ◌-◌, List, length, Option, None, Some, slice_get, if◌then◌else◌}
-use Rattle.page_roff_forms.specs.Ends.{kept}
-use Rattle.page_roff_forms.specs.LineForms.{is_white}
+use Rattle.page_roff_syntax.specs.Ends.{kept}
+use Rattle.page_roff_syntax.specs.LineForms.{is_white}
 
 -- a full stop, an exclamation mark or a question mark
 abbrev pub is_end : ℕ → Bool

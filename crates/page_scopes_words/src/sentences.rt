@@ -3,7 +3,7 @@
 ghost use Rattle.std.specs.Prelude.{◌≡◌};
 ghost use Rattle.page_scopes_words.specs.Sentences.{ends_with, is_closer, is_end, ends_sentence, without_blanks};
 
-use page_roff_forms::{is_white, kept_len};
+use page_roff_syntax::{is_white, kept_len};
 
 // Whether a byte ends a sentence.
 fn is_end(byte: u8) -> bool

@@ -4,7 +4,7 @@ use crate::spelling::{Spelling, spelled};
 use arrayvec::ArrayVec;
 use page_core_base::{Form, Taken};
 use page_core_limits::LINE;
-use page_roff_forms::{LineForm, form_of};
+use page_roff_syntax::{LineForm, form_of};
 use page_sets::{Event, MacroSet, Mdoc};
 use page_sets_lines::EventOut;
 use std::process::Abort;

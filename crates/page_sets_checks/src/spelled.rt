@@ -6,11 +6,11 @@
 
 ghost use Rattle.std.specs.Prelude.{IfSome};
 ghost use Rattle.page_sets_lines.specs.Fits.{ArgumentFits, KindFits, GivenFits};
-ghost use Rattle.page_roff_forms.specs.Arguments.{argument_view};
+ghost use Rattle.page_roff_syntax.specs.Arguments.{argument_view};
 ghost use Rattle.page_sets_lines.specs.Events.{kind_view, given_view, word_view};
 
 use page_core_base::Font;
-use page_roff_forms::{Argument, Quoting};
+use page_roff_syntax::{Argument, Quoting};
 use page_sets_lines::{
     BlockCloser, BlockOpener, BodyParagraphName, Closer, EventKind, GeneratedText, GeneratedWord,
     HeadingName, Join, Leaf, LineOpener, LineStep, ListKind, Marks, OneLineName, Opener, Quotation,

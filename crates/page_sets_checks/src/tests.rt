@@ -3,7 +3,7 @@
 use crate::spelling::spelled;
 use crate::{Verbatim, events_of};
 use page_core_base::{Form, Taken};
-use page_roff_forms::{LineForm, form_of};
+use page_roff_syntax::{LineForm, form_of};
 use page_sets::{MacroSet, Man};
 use std::alloc::AllocError;
 use std::process::Abort;

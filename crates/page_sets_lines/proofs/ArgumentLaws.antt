@@ -2,9 +2,9 @@
 use Rattle.std.proofs.Common.{◌≡◌, ℕ, zero, suc, ◌+◌, ◌-◌, ◌<◌, ◌≤◌, List, [], ◌∷◌, length, take, drop, refl, sym, ap, subst, ◌∙◌, arith, inl, inr, length-drop, length-take}
 use Rattle.std.proofs.lemmas.Bool.{cases_Bool}
 use Rattle.std.proofs.lemmas.List.{drop-drop}
-use Rattle.page_roff_forms.specs.declared.quotes.Argument.{Argument}
-use Rattle.page_roff_forms.specs.Arguments.{is_blank, bare_len, quoted_len, begins_quoted, argument_len, first_argument, first_arguments, quoted_argument, bare_argument, arguments}
-use Rattle.page_roff_forms.proofs.ArgumentLemmas.{bare_within, quoted_within}
+use Rattle.page_roff_syntax.specs.declared.quotes.Argument.{Argument}
+use Rattle.page_roff_syntax.specs.Arguments.{is_blank, bare_len, quoted_len, begins_quoted, argument_len, first_argument, first_arguments, quoted_argument, bare_argument, arguments}
+use Rattle.page_roff_syntax.proofs.ArgumentLemmas.{bare_within, quoted_within}
 use Rattle.page_sets_lines.specs.Laws.{IsSlice, IsArgument}
 use Rattle.page_sets_lines.specs.ControlLines.{arguments_after}
 

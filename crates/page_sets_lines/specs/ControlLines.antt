@@ -1,12 +1,12 @@
 -- The name and the arguments of a finished control line. Source: roff(7), "LANGUAGE SYNTAX".
 use Rattle.std.specs.Prelude.{◌≡◌, ◌≤◌, MatchOption, ℕ, zero, suc, ◌+◌, ◌-◌, min, max, ◌==◌, Bool, true, false, if◌then◌else◌, List, [], ◌∷◌, length, take, drop, Option, None, Some}
 use Rattle.std.specs.List.{prefix_len}
-use Rattle.page_roff_forms.specs.declared.quotes.Argument.{Argument}
-use Rattle.page_roff_forms.specs.declared.quotes.Quoting.{Quoting}
-use Rattle.page_roff_forms.specs.declared.quotes.Quoting.TheVariants.{Bare, Closed, Unclosed}
+use Rattle.page_roff_syntax.specs.declared.quotes.Argument.{Argument}
+use Rattle.page_roff_syntax.specs.declared.quotes.Quoting.{Quoting}
+use Rattle.page_roff_syntax.specs.declared.quotes.Quoting.TheVariants.{Bare, Closed, Unclosed}
 use Rattle.page_core_base.specs.LinesTaken.{Line}
-use Rattle.page_roff_forms.specs.LineForms.{is_white}
-use Rattle.page_roff_forms.specs.Arguments.{arguments, argument_view}
+use Rattle.page_roff_syntax.specs.LineForms.{is_white}
+use Rattle.page_roff_syntax.specs.Arguments.{arguments, argument_view}
 use Rattle.std.specs.Borrow.{Bor}
 
 -- the bytes before the name: the control character and the white space after it

@@ -2,7 +2,7 @@
 use Rattle.std.specs.Prelude.{ℕ, Bool, true, false, not, is_some, List, [], ◌∷◌, Option, None, Some, if◌then◌else◌, option_map, find, codes}
 use Rattle.std.specs.Borrow.{Bor}
 use Rattle.std.specs.Str.{bytes_eq}
-use Rattle.page_roff_forms.specs.declared.quotes.Argument.{Argument}
+use Rattle.page_roff_syntax.specs.declared.quotes.Argument.{Argument}
 use Rattle.page_sets_lines.specs.Events.{given_view}
 use Rattle.page_sets_lines.specs.declared.lists.ListKind.{ListKind}
 use Rattle.page_sets_lines.specs.declared.lists.ListKind.TheVariants as kinds

@@ -2,14 +2,14 @@
 use Rattle.std.specs.Prelude.{ℕ, Bool, true, false, List, [], ◌∷◌, Option, None, Some, if◌then◌else◌}
 use Rattle.page_core_base.specs.declared.lines_taken.Form.{Form}
 use Rattle.page_core_base.specs.declared.lines_taken.Form.TheVariants as forms
-use Rattle.page_roff_forms.specs.declared.quotes.Argument.{Argument}
-use Rattle.page_roff_forms.specs.declared.quotes.Quoting.TheVariants.{Bare}
-use Rattle.page_roff_forms.specs.LineForms.{has_word}
-use Rattle.page_roff_requests.specs.Requests.{request_of}
-use Rattle.page_roff_requests.specs.declared.requests.LayoutRequest.{LayoutRequest}
-use Rattle.page_roff_requests.specs.declared.requests.LayoutRequest.TheVariants as layout
-use Rattle.page_roff_requests.specs.declared.requests.Request.TheVariants as names
-use Rattle.page_roff_requests.specs.declared.requests.Request as roff
+use Rattle.page_roff_syntax.specs.declared.quotes.Argument.{Argument}
+use Rattle.page_roff_syntax.specs.declared.quotes.Quoting.TheVariants.{Bare}
+use Rattle.page_roff_syntax.specs.LineForms.{has_word}
+use Rattle.page_roff_syntax.specs.Requests.{request_of}
+use Rattle.page_roff_syntax.specs.declared.requests.LayoutRequest.{LayoutRequest}
+use Rattle.page_roff_syntax.specs.declared.requests.LayoutRequest.TheVariants as layout
+use Rattle.page_roff_syntax.specs.declared.requests.Request.TheVariants as names
+use Rattle.page_roff_syntax.specs.declared.requests.Request as roff
 use Rattle.page_sets_lines.specs.ControlLines.{text_of}
 use Rattle.page_sets_lines.specs.declared.leaves.Request.{Request}
 use Rattle.page_sets_lines.specs.declared.leaves.Request.TheVariants as requests

@@ -6,7 +6,7 @@ ghost use Rattle.page_sets_lines.specs.Events.{block_opener_view, block_closer_v
 
 use crate::lists::ListKind;
 use page_core_base::Font;
-use page_roff_forms::Argument;
+use page_roff_syntax::Argument;
 use page_sets_names::Quotation;
 use std::alloc::AllocError;
 

@@ -3,14 +3,14 @@
 ghost use Rattle.std.specs.Prelude.{◌≡◌, ◌≤◌, ◌==◌, length, IfSome};
 ghost use Rattle.std.specs.List.{list_any};
 ghost use Rattle.page_core_base.specs.LinesTaken.{line_view};
-ghost use Rattle.page_roff_forms.specs.Arguments.{argument_view};
+ghost use Rattle.page_roff_syntax.specs.Arguments.{argument_view};
 ghost use Rattle.page_sets_lines.specs.Events.{given_view};
 ghost use Rattle.page_sets_lines.specs.Fits.{ArgumentFits, GivenFits};
 ghost use Rattle.page_sets_lines.specs.ControlLines.{before_name, name_end, arguments_after, first_of, is_quote, open_quote, ReadsAfter};
 
 use page_core_base::Taken;
 use page_core_limits::LINE;
-use page_roff_forms::{Argument, Arguments, Quoting, read_argument, white_len};
+use page_roff_syntax::{Argument, Arguments, Quoting, read_argument, white_len};
 
 /// Where the name of a control line begins and ends, in bytes.
 #[derive(Clone, Copy)]

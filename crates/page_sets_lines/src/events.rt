@@ -7,7 +7,7 @@ ghost use Rattle.page_sets_lines.specs.PlainLines.{event_at};
 use crate::leaves::Leaf;
 use crate::openers::{Closer, LineOpener, Opener};
 use page_core_base::{Font, NoteKind, Place};
-use page_roff_forms::Argument;
+use page_roff_syntax::Argument;
 use std::alloc::AllocError;
 
 /// How a word stands beside another.

@@ -6,7 +6,7 @@ ghost use Rattle.std.specs.Prelude.{◌≡◌};
 use crate::events::Join;
 use crate::line_steps::LineStep;
 use page_core_base::Font;
-use page_roff_forms::Argument;
+use page_roff_syntax::Argument;
 use page_sets_names::{GeneratedText, Prologue};
 use std::alloc::AllocError;
 

@@ -2,7 +2,7 @@
 
 ghost use Rattle.std.specs.Prelude.{◌≡◌};
 
-use page_roff_forms::Argument;
+use page_roff_syntax::Argument;
 use page_sets_names::BodyParagraphName;
 use std::alloc::AllocError;
 

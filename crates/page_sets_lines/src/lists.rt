@@ -1,13 +1,13 @@
 //! The types of lists, and what the arguments of `Bl` say (mdoc(7), `Bl`).
 
 ghost use Rattle.std.specs.Prelude.{◌≡◌, ◌≤◌, length, true, not, is_some};
-ghost use Rattle.page_roff_forms.specs.Arguments.{argument_view};
+ghost use Rattle.page_roff_syntax.specs.Arguments.{argument_view};
 ghost use Rattle.page_sets_lines.specs.ControlLines.{arguments_after};
 ghost use Rattle.page_sets_lines.specs.Lists as lists;
 ghost use Rattle.page_sets_lines.specs.Lists.{options_view};
 
 use page_core_limits::LINE;
-use page_roff_forms::{Argument, Arguments};
+use page_roff_syntax::{Argument, Arguments};
 
 /// The type of a list.
 #[derive(Clone, Copy, PartialEq, Eq)]

@@ -4,7 +4,7 @@ ghost use Rattle.std.specs.Prelude.{◌≡◌};
 ghost use Rattle.page_sets_lines.specs.Openers as names;
 
 use crate::blocks::{BlockCloser, BlockOpener};
-use page_roff_forms::Argument;
+use page_roff_syntax::Argument;
 use page_sets_names::{FontMacro, HeadingName, Link, Marks, OneLineName, ParagraphName, TagName};
 use std::alloc::AllocError;
 

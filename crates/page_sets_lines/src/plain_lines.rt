@@ -10,7 +10,7 @@ use crate::events::{EventKind, Join, Role, Word};
 use crate::leaves::Leaf;
 use page_core_base::{Form, Taken};
 use page_core_limits::LINE;
-use page_roff_forms::{Argument, Quoting, has_word};
+use page_roff_syntax::{Argument, Quoting, has_word};
 
 /// What a line is that is no control line.
 #[derive(Clone, Copy)]

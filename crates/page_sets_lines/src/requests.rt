@@ -7,16 +7,15 @@ ghost use Rattle.page_sets_lines.specs.PlainLines.{layout_request};
 ghost use Rattle.page_sets_lines.specs.PlainLines as plain;
 
 use crate::leaves::Request;
-use page_roff_forms::Argument;
-use page_roff_requests::LayoutRequest;
+use page_roff_syntax::{Argument, LayoutRequest};
 
 /// The request of this name that changes rows.
 #[tactic(auto, unfolding(crate::specs::PlainLines::layout_request))]
 pub fn layout_request(name: &[u8]) -> Option<LayoutRequest>
     ensures { result ≡ layout_request name.now }
 {
-    match page_roff_requests::Request::of(name) {
-        Some(page_roff_requests::Request::Layout(request)) => Some(request),
+    match page_roff_syntax::Request::of(name) {
+        Some(page_roff_syntax::Request::Layout(request)) => Some(request),
         _ => None,
     }
 }

@@ -4,8 +4,8 @@ use Rattle.page_core_base.specs.declared.cells.Font.{Font}
 use Rattle.page_core_base.specs.declared.cells.Font.TheVariants as fonts
 use Rattle.page_core_base.specs.declared.note_kinds.NoteKind.{NoteKind}
 use Rattle.page_core_base.specs.declared.note_kinds.NoteKind.TheVariants.{Unterminated, UnknownMacro, EmptyMacro}
-use Rattle.page_roff_forms.specs.declared.quotes.Argument.{Argument}
-use Rattle.page_roff_forms.specs.Arguments.{has_arguments}
+use Rattle.page_roff_syntax.specs.declared.quotes.Argument.{Argument}
+use Rattle.page_roff_syntax.specs.Arguments.{has_arguments}
 use Rattle.page_sets_names.specs.declared.macro_names.HeadingName.TheVariants.{SH, SS}
 use Rattle.page_sets_names.specs.declared.macro_names.TagName.TheVariants.{TP, TQ}
 use Rattle.page_sets_names.specs.declared.macro_names.Prologue.TheVariants.{TH}

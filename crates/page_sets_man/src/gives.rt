@@ -7,7 +7,7 @@ ghost use Rattle.page_core_base.specs.Latches.{Came};
 ghost use Rattle.page_sets_lines.specs.Fits.{IsShortKind};
 ghost use Rattle.page_sets_lines.specs.ControlLines.{arguments_after};
 ghost use Rattle.page_sets_lines.specs.PlainLines.{event_at, line_end};
-ghost use Rattle.page_roff_forms.specs.Arguments.{argument_view};
+ghost use Rattle.page_roff_syntax.specs.Arguments.{argument_view};
 ghost use Rattle.page_sets_lines.specs.declared.events.Join.TheVariants.{Apart};
 ghost use Rattle.page_sets_man.specs.Man as man;
 
@@ -15,7 +15,7 @@ use crate::effects::{effect_kind, line_scope};
 use crate::rows::{Alone, Last, Quotes, Row, Words, row_of};
 use page_core_base::{Font, NoteKind, Place, Taken};
 use page_core_limits::LINE;
-use page_roff_forms::{Argument, has_arguments};
+use page_roff_syntax::{Argument, has_arguments};
 use page_sets_lines::{
     Closer, Event, EventKind, EventTaker, GeneratedText, GeneratedWord, Join, Leaf, LineOpener,
     PlainLine, Role, Word, event_at, find_name, open_quote, read_after,

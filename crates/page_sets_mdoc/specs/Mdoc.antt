@@ -5,9 +5,9 @@ use Rattle.page_core_base.specs.declared.note_kinds.NoteKind.TheVariants.{Unknow
 use Rattle.page_core_base.specs.LinesTaken.{Line}
 use Rattle.page_core_base.specs.declared.cells.Font.{Font}
 use Rattle.page_core_base.specs.declared.cells.Font.TheVariants.{I}
-use Rattle.page_roff_forms.specs.declared.quotes.Argument.{Argument}
-use Rattle.page_roff_forms.specs.Arguments.{has_arguments}
-use Rattle.page_roff_requests.specs.declared.requests.LayoutRequest.{LayoutRequest}
+use Rattle.page_roff_syntax.specs.declared.quotes.Argument.{Argument}
+use Rattle.page_roff_syntax.specs.Arguments.{has_arguments}
+use Rattle.page_roff_syntax.specs.declared.requests.LayoutRequest.{LayoutRequest}
 use Rattle.page_sets_lines.specs.declared.events.EventKind.TheVariants as kinds
 use Rattle.page_sets_lines.specs.declared.events.Event.{Event}
 use Rattle.page_sets_lines.specs.declared.line_steps.SynopsisStep.TheVariants.{Break}
@@ -15,10 +15,10 @@ use Rattle.page_sets_lines.specs.declared.openers.Closer.TheVariants as closers
 use Rattle.page_sets_lines.specs.declared.plain_lines.PlainLine.{PlainLine}
 use Rattle.page_sets_lines.specs.ControlLines.{name_of, rest_of, is_nameless}
 use Rattle.page_sets_lines.specs.PlainLines.{event_at, line_end, plain_line, plain_events, layout_request}
-use Rattle.page_sets_mdoc_rows.specs.declared.macros.Inline.{Inline}
-use Rattle.page_sets_mdoc_rows.specs.declared.blocks.LineMacro.{LineMacro}
-use Rattle.page_sets_mdoc_rows.specs.declared.blocks.LineMacro.TheVariants as lines
-use Rattle.page_sets_mdoc_rows.specs.Rows.{line_macro, is_parsed}
+use Rattle.page_sets_mdoc_lines.specs.declared.macros.Inline.{Inline}
+use Rattle.page_sets_mdoc_lines.specs.declared.blocks.LineMacro.{LineMacro}
+use Rattle.page_sets_mdoc_lines.specs.declared.blocks.LineMacro.TheVariants as lines
+use Rattle.page_sets_mdoc_lines.specs.Rows.{line_macro, is_parsed}
 use Rattle.page_sets_mdoc_lines.specs.Parts.{Call, LineParts, parts, has_calls}
 use Rattle.page_sets_mdoc_words.specs.Printed.{printed}
 use Rattle.page_sets_mdoc_words.specs.Synopses.{framed, placed_events}

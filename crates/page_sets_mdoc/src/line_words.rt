@@ -3,10 +3,10 @@
 ghost use Rattle.std.specs.Prelude.{◌≡◌, ◌≤◌, [], ◌∷◌, None, Some, true, length};
 ghost use Rattle.page_core_base.specs.LinesTaken.{line_view};
 ghost use Rattle.page_core_base.specs.Latches.{Came};
-ghost use Rattle.page_roff_forms.specs.Arguments.{argument_view};
+ghost use Rattle.page_roff_syntax.specs.Arguments.{argument_view};
 ghost use Rattle.std.specs.List.{list_all};
 ghost use Rattle.page_sets_lines.specs.ControlLines.{name_of};
-ghost use Rattle.page_sets_mdoc_rows.specs.Rows as rows;
+ghost use Rattle.page_sets_mdoc_lines.specs.Rows as rows;
 ghost use Rattle.page_sets_mdoc_lines.specs.LineWords.{arguments_after, is_closing};
 ghost use Rattle.page_sets_mdoc_lines.specs.Parts.{parts};
 ghost use Rattle.page_sets_mdoc_lines.specs.machine.Cursors.{IsCursorOf};
@@ -19,11 +19,12 @@ ghost use Rattle.page_sets_mdoc.specs.Mdoc as mdoc;
 
 use page_core_base::{Font, Taken};
 use page_core_limits::LINE;
-use page_roff_forms::Argument;
+use page_roff_syntax::Argument;
 use page_sets_lines::{Closer, EventKind, EventTaker, LineStep, SynopsisStep, event_at, find_name};
 use page_sets_mdoc_blocks::{has_real_word, is_standard};
-use page_sets_mdoc_lines::{Cursor, Words, find_words, is_closing, word_call};
-use page_sets_mdoc_rows::{Inline, LineMacro, Sentence, is_parsed};
+use page_sets_mdoc_lines::{
+    Cursor, Inline, LineMacro, Sentence, Words, find_words, is_closing, is_parsed, word_call,
+};
 use page_sets_mdoc_words::{
     MacroName, give_include, give_macro, give_printed, give_sentence, step_event,
 };

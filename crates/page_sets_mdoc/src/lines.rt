@@ -9,11 +9,10 @@ ghost use Rattle.page_sets_mdoc.specs.Mdoc as mdoc;
 use crate::line_words::give_words;
 use page_core_base::{NoteKind, Taken};
 use page_core_limits::LINE;
-use page_roff_forms::has_arguments;
-use page_roff_requests::LayoutRequest;
+use page_roff_syntax::{LayoutRequest, has_arguments};
 use page_sets_lines::{EventKind, EventTaker, PlainLine, event_at, find_name, layout_request};
 use page_sets_mdoc_blocks::{give_front, give_refusal, give_request, has_phrase};
-use page_sets_mdoc_rows::{LineMacro, line_macro};
+use page_sets_mdoc_lines::{LineMacro, line_macro};
 
 // A line's end.
 fn give_end<'a, O: EventTaker<'a>>(out: &mut O, number: u32, fills: bool)

@@ -5,7 +5,7 @@ use Rattle.page_core_base.specs.LinesTaken.{Line}
 use Rattle.page_core_limits.specs.declared.TheConstants.{LINE}
 use Rattle.page_core_base.specs.declared.note_kinds.NoteKind.{NoteKind}
 use Rattle.page_core_base.specs.declared.note_kinds.NoteKind.TheVariants as note_kinds
-use Rattle.page_roff_requests.specs.declared.requests.LayoutRequest.{LayoutRequest}
+use Rattle.page_roff_syntax.specs.declared.requests.LayoutRequest.{LayoutRequest}
 use Rattle.page_sets_lines.specs.declared.events.EventKind.{EventKind}
 use Rattle.page_sets_lines.specs.declared.events.Event.{Event}
 use Rattle.page_sets_names.specs.declared.macro_names.HeadingName.{HeadingName}
@@ -20,11 +20,11 @@ use Rattle.page_sets_lines.specs.ControlLines.{name_end, rest_of, open_quote}
 use Rattle.page_sets_lines.proofs.SliceLemmas.{kind_fits}
 use Rattle.page_sets_lines.proofs.OrderLemmas.{AreArguments, all_arguments}
 use Rattle.page_sets_lines.proofs.LawLemmas.{nothing_part, rest_part, end_within, name_part, first_slice_after, first_text_after, request_slices, AreSlices-append, HasNoWord}
-use Rattle.page_roff_forms.specs.declared.quotes.Argument.{Argument}
-use Rattle.page_sets_mdoc_rows.specs.declared.blocks.Block.{Block}
-use Rattle.page_sets_mdoc_rows.specs.declared.blocks.Block.TheVariants as blocks
-use Rattle.page_sets_mdoc_rows.specs.declared.blocks.LineMacro.{LineMacro}
-use Rattle.page_sets_mdoc_rows.specs.declared.blocks.LineMacro.TheVariants as lines
+use Rattle.page_roff_syntax.specs.declared.quotes.Argument.{Argument}
+use Rattle.page_sets_mdoc_lines.specs.declared.blocks.Block.{Block}
+use Rattle.page_sets_mdoc_lines.specs.declared.blocks.Block.TheVariants as blocks
+use Rattle.page_sets_mdoc_lines.specs.declared.blocks.LineMacro.{LineMacro}
+use Rattle.page_sets_mdoc_lines.specs.declared.blocks.LineMacro.TheVariants as lines
 use Rattle.page_sets_mdoc_blocks.specs.Fronts.{at_name, line_arguments, quote_events, missing_quote, request_front, heading_opener, first_text, opener_of, closer_of, kind_at_name, note_detail, note_events, block_note, begin_front, end_front, has_real_word, field_front, option_quote, include_front, spacing_of, spacing_kind, spacing_front, block_front}
 use Rattle.page_sets_mdoc_blocks.specs.declared.displays.DisplayOptions.{DisplayOptions}
 use Rattle.page_sets_mdoc_blocks.specs.Displays.{display_type, first_type, no_options, option_read, options_after}

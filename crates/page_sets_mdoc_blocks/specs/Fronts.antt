@@ -6,9 +6,9 @@ use Rattle.std.specs.List.{list_any}
 use Rattle.page_core_base.specs.LinesTaken.{Line}
 use Rattle.page_core_base.specs.declared.note_kinds.NoteKind.{NoteKind}
 use Rattle.page_core_base.specs.declared.note_kinds.NoteKind.TheVariants.{Unterminated, UnknownFont, EmptyMacro}
-use Rattle.page_roff_forms.specs.Arguments.{is_quoted}
-use Rattle.page_roff_forms.specs.declared.quotes.Argument.{Argument}
-use Rattle.page_roff_requests.specs.declared.requests.LayoutRequest.{LayoutRequest}
+use Rattle.page_roff_syntax.specs.Arguments.{is_quoted}
+use Rattle.page_roff_syntax.specs.declared.quotes.Argument.{Argument}
+use Rattle.page_roff_syntax.specs.declared.requests.LayoutRequest.{LayoutRequest}
 use Rattle.page_sets_lines.specs.declared.events.EventKind.{EventKind}
 use Rattle.page_sets_lines.specs.declared.events.EventKind.TheVariants as kinds
 use Rattle.page_sets_lines.specs.declared.events.Event.{Event}
@@ -27,10 +27,10 @@ use Rattle.page_sets_lines.specs.declared.blocks.BlockCloser.TheVariants as bloc
 use Rattle.page_sets_lines.specs.ControlLines.{before_name, name_end, name_of, rest_of, arguments_after, first_of, text_of, is_unclosed, open_quote}
 use Rattle.page_sets_lines.specs.PlainLines.{event_at, request}
 use Rattle.page_core_base.specs.declared.cells.Font.{Font}
-use Rattle.page_sets_mdoc_rows.specs.declared.blocks.Block.{Block}
-use Rattle.page_sets_mdoc_rows.specs.declared.blocks.Block.TheVariants as blocks
-use Rattle.page_sets_mdoc_rows.specs.declared.blocks.LineMacro.{LineMacro}
-use Rattle.page_sets_mdoc_rows.specs.declared.blocks.LineMacro.TheVariants as lines
+use Rattle.page_sets_mdoc_lines.specs.declared.blocks.Block.{Block}
+use Rattle.page_sets_mdoc_lines.specs.declared.blocks.Block.TheVariants as blocks
+use Rattle.page_sets_mdoc_lines.specs.declared.blocks.LineMacro.{LineMacro}
+use Rattle.page_sets_mdoc_lines.specs.declared.blocks.LineMacro.TheVariants as lines
 use Rattle.page_sets_mdoc_lines.specs.LineWords.{is_real}
 use Rattle.page_sets_lines.specs.Lists.{list_options}
 use Rattle.page_sets_mdoc_blocks.specs.Displays.{display, given_font}

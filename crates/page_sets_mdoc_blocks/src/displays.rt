@@ -3,7 +3,7 @@
 ghost use Rattle.std.specs.Prelude.{◌≡◌, ◌≤◌, ◌||◌, length};
 ghost use Rattle.std.specs.Str.{bytes_eq};
 ghost use Rattle.page_core_base.specs.LinesTaken.{line_view};
-ghost use Rattle.page_roff_forms.specs.Arguments.{argument_view};
+ghost use Rattle.page_roff_syntax.specs.Arguments.{argument_view};
 ghost use Rattle.page_sets_lines.specs.Events.{block_opener_view};
 ghost use Rattle.page_sets_mdoc_blocks.specs.Displays as displays;
 ghost use Rattle.page_sets_mdoc_blocks.specs.Displays.{options_view};
@@ -12,7 +12,7 @@ ghost use Rattle.page_sets_mdoc_blocks.specs.Fronts.{line_arguments, first_text}
 use crate::line_arguments::{arguments_of, first_text};
 use page_core_base::{Font, Taken};
 use page_core_limits::LINE;
-use page_roff_forms::Argument;
+use page_roff_syntax::Argument;
 use page_sets_lines::BlockOpener;
 
 /// What arguments of `Bd` say; `W` is a text.

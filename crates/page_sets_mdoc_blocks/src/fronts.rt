@@ -13,12 +13,12 @@ use crate::lists::{list_note, list_of};
 use crate::sentences::{option_quote, spacing_of};
 use page_core_base::{NoteKind, Place, Taken};
 use page_core_limits::LINE;
-use page_roff_requests::LayoutRequest;
+use page_roff_syntax::LayoutRequest;
 use page_sets_lines::{
     BlockCloser, BlockOpener, Closer, Event, EventKind, EventTaker, HeadingName, Leaf, LineOpener,
     LineStep, Opener, find_name, first_of, with_argument,
 };
-use page_sets_mdoc_rows::{Block, LineMacro};
+use page_sets_mdoc_lines::{Block, LineMacro};
 
 // An event at the name of the macro that begins a line.
 fn at_name<'a>(line: Taken<'_>, kind: EventKind<&'a [u8]>) -> Event<&'a [u8]>

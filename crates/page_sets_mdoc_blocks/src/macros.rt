@@ -3,7 +3,7 @@
 ghost use Rattle.std.specs.Prelude.{◌≡◌};
 ghost use Rattle.page_sets_mdoc_blocks.specs.Macros as macros;
 
-use page_sets_mdoc_rows::LineMacro;
+use page_sets_mdoc_lines::LineMacro;
 
 /// Whether the words after a macro are its title, its description or its row: `Sh Ss Nd D1 Dl`, which need one.
 pub fn has_phrase(begins: LineMacro) -> bool

@@ -2,14 +2,14 @@
 
 ghost use Rattle.std.specs.Prelude.{◌≡◌, ◌≤◌, length};
 ghost use Rattle.page_core_base.specs.LinesTaken.{line_view};
-ghost use Rattle.page_roff_forms.specs.Arguments.{argument_view};
+ghost use Rattle.page_roff_syntax.specs.Arguments.{argument_view};
 ghost use Rattle.page_sets_lines.specs.ControlLines.{is_unclosed};
 ghost use Rattle.page_sets_lines.specs.Events.{text_view};
 ghost use Rattle.page_sets_mdoc_blocks.specs.Fronts as fronts;
 
 use page_core_base::Taken;
 use page_core_limits::LINE;
-use page_roff_forms::{Argument, Quoting};
+use page_roff_syntax::{Argument, Quoting};
 use page_sets_lines::{find_name, first_of};
 
 /// Whether a word is the option of a sentence, `-std`.

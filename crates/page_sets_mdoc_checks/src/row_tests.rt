@@ -2,7 +2,7 @@
 
 use page_core_base::Font;
 use page_sets_lines::{BodyParagraphName, HeadingName, Marks, OneLineName, Prologue, Quotation};
-use page_sets_mdoc_rows::{
+use page_sets_mdoc_lines::{
     Block, Defaulted, Delimiter, Inline, LineMacro, Pair, Sentence, System, called, delimiter_of,
     is_parsed, line_macro,
 };

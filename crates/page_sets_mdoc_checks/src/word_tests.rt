@@ -2,7 +2,7 @@
 
 use crate::words_shown::shown;
 use page_core_base::{Form, Taken};
-use page_roff_forms::{LineForm, form_of};
+use page_roff_syntax::{LineForm, form_of};
 use std::process::Abort;
 
 // Checks the events of the words of a macro that begins its line (`first`), or that a word calls.

@@ -6,13 +6,12 @@ ghost use Rattle.std.specs.Prelude.{◌≤◌, length};
 use arrayvec::ArrayVec;
 use page_core_base::{Font, NoteKind, Taken};
 use page_core_limits::LINE;
-use page_roff_forms::Argument;
+use page_roff_syntax::Argument;
 use page_sets_lines::{
     Block, BlockCloser, BlockOpener, Closer, Event, EventKind, EventTaker, GeneratedWord, Join,
     Leaf, LineStep, Opener, Role, SynopsisStep, Word, find_name,
 };
-use page_sets_mdoc_lines::{Cursor, find_words};
-use page_sets_mdoc_rows::{LineMacro, is_parsed, line_macro};
+use page_sets_mdoc_lines::{Cursor, LineMacro, find_words, is_parsed, line_macro};
 use page_sets_mdoc_words::{MacroName, give_macro};
 
 pub type Shown = ArrayVec<u8, 500>;

@@ -1,7 +1,7 @@
 -- A cursor, one argument further on: helpers of proofs.
 use Rattle.std.proofs.Common.{◌≡◌, ℕ, ◌+◌, ◌-◌, ◌≤◌, List, [], length, take, drop, refl, ap, arith, length-drop}
 use Rattle.std.proofs.lemmas.List.{drop_all, take_all}
-use Rattle.page_roff_forms.specs.Arguments.{arguments}
+use Rattle.page_roff_syntax.specs.Arguments.{arguments}
 use Rattle.page_sets_mdoc_lines.specs.LineWords.{arguments_after}
 use Rattle.page_sets_mdoc_lines.proofs.FewLemmas.{few_arguments_after}
 

@@ -1,8 +1,8 @@
 -- A text has at most half as many arguments as bytes, and one more: helpers of proofs.
 use Rattle.std.proofs.Common.{◌≡◌, ℕ, zero, suc, ◌+◌, ◌-◌, ◌*◌, ◌≤◌, ◌==◌, min, Bool, true, false, List, [], ◌∷◌, length, drop, refl, arith, inl, inr, length-drop}
 use Rattle.std.proofs.lemmas.Bool.{cases_Bool}
-use Rattle.page_roff_forms.specs.Arguments.{is_blank, bare_len, quoted_len, argument_len, first_arguments, arguments}
-use Rattle.page_roff_forms.proofs.ArgumentLemmas.{bare_some, bare_within}
+use Rattle.page_roff_syntax.specs.Arguments.{is_blank, bare_len, quoted_len, argument_len, first_arguments, arguments}
+use Rattle.page_roff_syntax.proofs.ArgumentLemmas.{bare_some, bare_within}
 use Rattle.page_sets_mdoc_lines.specs.LineWords.{arguments_after}
 
 -- a text is at its end, or a blank parts it from what came before

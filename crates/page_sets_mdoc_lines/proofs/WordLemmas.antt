@@ -2,8 +2,8 @@
 use Rattle.std.proofs.Common.{◌≡◌, ℕ, zero, suc, ◌+◌, ◌-◌, ◌≤◌, ◌==◌, Bool, true, false, ◌&&◌, List, [], ◌∷◌, length, take, drop, refl, sym, add-one, arith, Option, None, Some, if◌then◌else◌}
 use Rattle.std.specs.List.{list_any}
 use Rattle.std.proofs.lemmas.List.{drop-take, take-take, take_all}
-use Rattle.page_roff_forms.specs.declared.quotes.Argument.{Argument}
-use Rattle.page_sets_mdoc_rows.specs.declared.macros.Inline.{Inline}
+use Rattle.page_roff_syntax.specs.declared.quotes.Argument.{Argument}
+use Rattle.page_sets_mdoc_lines.specs.declared.macros.Inline.{Inline}
 use Rattle.page_sets_mdoc_lines.specs.declared.word_spans.WordSpan.{WordSpan}
 use Rattle.page_sets_mdoc_lines.specs.LineWords.{arguments_after, is_closing, is_real, takes_next}
 use Rattle.page_sets_mdoc_lines.specs.Parts.{span_of, front_len, parts, rest_parts}

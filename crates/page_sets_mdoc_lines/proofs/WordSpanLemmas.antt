@@ -5,13 +5,13 @@ use Rattle.std.specs.Str.{bytes_eq}
 use Rattle.std.proofs.lemmas.Bool.{cases_Bool, and_parts, cond-false, both_ways}
 use Rattle.std.proofs.lemmas.Slice.Eq.{bytes_eq-Decides}
 use Rattle.std.proofs.lemmas.Bool.Decides.{nat_tests}
-use Rattle.page_roff_forms.specs.declared.quotes.Argument.{Argument}
-use Rattle.page_roff_forms.specs.Arguments.{is_quoted}
-use Rattle.page_sets_mdoc_rows.specs.declared.macros.Inline.{Inline}
+use Rattle.page_roff_syntax.specs.declared.quotes.Argument.{Argument}
+use Rattle.page_roff_syntax.specs.Arguments.{is_quoted}
+use Rattle.page_sets_mdoc_lines.specs.declared.macros.Inline.{Inline}
 use Rattle.page_sets_mdoc_lines.specs.declared.word_spans.WordSpan.{WordSpan}
-use Rattle.page_sets_mdoc_rows.specs.Rows.{row_of, called}
-use Rattle.page_sets_mdoc_rows.specs.Delimiters.{delimiters, delimiter_of}
-use Rattle.page_sets_mdoc_rows.specs.declared.delimiters.Delimiter.{Delimiter}
+use Rattle.page_sets_mdoc_lines.specs.Rows.{row_of, called}
+use Rattle.page_sets_mdoc_lines.specs.Delimiters.{delimiters, delimiter_of}
+use Rattle.page_sets_mdoc_lines.specs.declared.delimiters.Delimiter.{Delimiter}
 use Rattle.page_sets_mdoc_lines.specs.LineWords.{word_call, word_delimiter, closes, is_nothing, is_closing, is_real}
 use Rattle.page_sets_mdoc_lines.specs.Parts.{LineParts, parts, part_first, if_parsed, is_call, is_something, front_len, has_calls, span_of}
 

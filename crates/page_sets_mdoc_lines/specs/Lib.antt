@@ -1,3 +1,6 @@
+pub mod Names
+pub mod Rows
+pub mod Delimiters
 pub mod LineWords
 pub mod Parts
 pub mod Words

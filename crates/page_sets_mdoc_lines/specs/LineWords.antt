@@ -2,16 +2,16 @@
 -- Source: mdoc(7), "MACRO SYNTAX" and "Delimiters".
 use Rattle.std.specs.Prelude.{ℕ, ◌+◌, Bool, true, false, ◌||◌, List, drop, Option, None, Some, codes, if◌then◌else◌}
 use Rattle.std.specs.Str.{bytes_eq}
-use Rattle.page_roff_forms.specs.declared.quotes.Argument.{Argument}
-use Rattle.page_roff_forms.specs.Arguments.{arguments, is_quoted}
-use Rattle.page_sets_mdoc_rows.specs.declared.delimiters.Delimiter.{Delimiter}
-use Rattle.page_sets_mdoc_rows.specs.declared.delimiters.Delimiter.TheVariants.{Closing}
-use Rattle.page_sets_mdoc_rows.specs.declared.macros.Inline.{Inline}
-use Rattle.page_sets_mdoc_rows.specs.declared.macros.Inline.TheVariants.{Author, Prefix, Opens, Closes}
-use Rattle.page_sets_mdoc_rows.specs.declared.macros.Pair.{Pair}
-use Rattle.page_sets_mdoc_rows.specs.declared.macros.Pair.TheVariants.{Custom}
-use Rattle.page_sets_mdoc_rows.specs.Delimiters.{delimiter_of}
-use Rattle.page_sets_mdoc_rows.specs.Rows.{called}
+use Rattle.page_roff_syntax.specs.declared.quotes.Argument.{Argument}
+use Rattle.page_roff_syntax.specs.Arguments.{arguments, is_quoted}
+use Rattle.page_sets_mdoc_lines.specs.declared.delimiters.Delimiter.{Delimiter}
+use Rattle.page_sets_mdoc_lines.specs.declared.delimiters.Delimiter.TheVariants.{Closing}
+use Rattle.page_sets_mdoc_lines.specs.declared.macros.Inline.{Inline}
+use Rattle.page_sets_mdoc_lines.specs.declared.macros.Inline.TheVariants.{Author, Prefix, Opens, Closes}
+use Rattle.page_sets_mdoc_lines.specs.declared.macros.Pair.{Pair}
+use Rattle.page_sets_mdoc_lines.specs.declared.macros.Pair.TheVariants.{Custom}
+use Rattle.page_sets_mdoc_lines.specs.Delimiters.{delimiter_of}
+use Rattle.page_sets_mdoc_lines.specs.Rows.{called}
 
 -- the arguments that begin after this many bytes of a line
 abbrev pub arguments_after : ℕ → List ℕ → List (Argument (List ℕ))

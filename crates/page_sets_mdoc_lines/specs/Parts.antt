@@ -2,8 +2,8 @@
 -- Source: mdoc(7), "MACRO SYNTAX".
 use Rattle.std.specs.Prelude.{ℕ, ◌+◌, ◌==◌, Bool, true, false, ◌&&◌, List, [], ◌∷◌, ◌++◌, length, Option, None, Some, if◌then◌else◌}
 use Rattle.std.specs.List.{list_all, list_any}
-use Rattle.page_roff_forms.specs.declared.quotes.Argument.{Argument}
-use Rattle.page_sets_mdoc_rows.specs.declared.macros.Inline.{Inline}
+use Rattle.page_roff_syntax.specs.declared.quotes.Argument.{Argument}
+use Rattle.page_sets_mdoc_lines.specs.declared.macros.Inline.{Inline}
 use Rattle.page_sets_mdoc_lines.specs.declared.word_spans.WordSpan.{WordSpan}
 use Rattle.page_sets_mdoc_lines.specs.LineWords.{word_call, is_closing, is_real, takes_next}
 

@@ -1,8 +1,8 @@
 -- The words of a macro, and what is known of them before they are read.
 use Rattle.std.specs.Prelude.{◌≡◌, ℕ, Bool, List, take, drop, Option, None, Some}
 use Rattle.std.specs.List.{list_any}
-use Rattle.page_roff_forms.specs.declared.quotes.Argument.{Argument}
-use Rattle.page_sets_mdoc_rows.specs.declared.macros.Inline.{Inline}
+use Rattle.page_roff_syntax.specs.declared.quotes.Argument.{Argument}
+use Rattle.page_sets_mdoc_lines.specs.declared.macros.Inline.{Inline}
 use Rattle.page_sets_mdoc_lines.specs.declared.words.MacroWords.{MacroWords}
 use Rattle.page_sets_mdoc_lines.specs.declared.words.Words.{Words}
 use Rattle.page_sets_mdoc_lines.specs.machine.Cursors.{IsCursorOf}

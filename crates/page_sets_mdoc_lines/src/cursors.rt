@@ -2,14 +2,14 @@
 
 ghost use Rattle.std.specs.Prelude.{◌≡◌, ◌≤◌, [], length, MatchBool, IfSome};
 ghost use Rattle.std.specs.List.{list_all};
-ghost use Rattle.page_roff_forms.specs.Arguments.{ReadsNext, argument_view};
+ghost use Rattle.page_roff_syntax.specs.Arguments.{ReadsNext, argument_view};
 ghost use Rattle.page_sets_lines.specs.Fits.{ArgumentFits};
 ghost use Rattle.page_sets_mdoc_lines.specs.LineWords.{arguments_after, is_closing};
 ghost use Rattle.page_sets_mdoc_lines.specs.machine.Cursors.{IsCursorOf};
 
 use crate::line_words::is_closing;
 use page_core_limits::LINE;
-use page_roff_forms::{Argument, Arguments};
+use page_roff_syntax::{Argument, Arguments};
 use page_sets_lines::read_after;
 
 /// Where the arguments of a line begin that are still to be read, in bytes.

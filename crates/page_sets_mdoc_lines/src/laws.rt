@@ -2,8 +2,8 @@
 
 ghost use Rattle.std.specs.Prelude.{◌≡◌, ℕ, ◌+◌, ◌-◌, ◌*◌, ◌≤◌, ◌==◌, Bool, true, List, ◌∷◌, length, take, drop, Option, None};
 ghost use Rattle.std.specs.List.{list_all};
-ghost use Rattle.page_roff_forms.specs.declared.quotes.Argument.{Argument};
-ghost use Rattle.page_sets_mdoc_rows.specs.declared.macros.Inline.{Inline};
+ghost use Rattle.page_roff_syntax.specs.declared.quotes.Argument.{Argument};
+ghost use Rattle.page_sets_mdoc_lines.specs.declared.macros.Inline.{Inline};
 ghost use Rattle.page_sets_mdoc_lines.specs.LineWords.{arguments_after};
 ghost use Rattle.page_sets_mdoc_lines.specs.Parts.{parts, rest_parts, parts_arguments, front_len};
 

@@ -1,19 +1,31 @@
-//! A control line of mdoc(7) parted, before any macro means anything: which macros stand in it, and the words of
-//! each. The definition is `parts` in `specs/Parts.antt`; the code reads a line with a cursor, and finds the words of a
-//! macro, and where its line goes on after them, before it gives any, so that each argument is read a few times, whatever the line.
+//! A control line of mdoc(7) parted, before any macro means anything: which macros stand in it, and the words of each.
 //!
-//! Proved: `Cursor`, `Words`, `find_words`, `parts_law`, `front_law`, `few_law`: a line of mdoc(7) is parted into its macros and the words of each by one
-//! fold over its arguments (`specs/Parts.antt`): each argument stands in one part, in order.
+//! First of the crates of that set. Which macro a name names, and which words part the others as delimiters, is one table: read `macros.rt`, then
+//! `rows.rt`. How a line is parted is `parts` in `specs/Parts.antt`; the code reads a line with a cursor, and finds the words of a macro, and where its
+//! line goes on after them, before it gives any, so that each argument is read a few times, whatever the line.
+//!
+//! Proved: `line_macro`, `called`, `is_parsed`, `delimiter_of`: what a macro of mdoc(7) does, which names a word can call, and in which lines words
+//! call, by one table, `MACROS` in `src/rows.rt`, which the definitions cite (`specs/Rows.antt`); and which words are delimiters
+//! (`Delimiters.antt`). `Cursor`, `Words`, `find_words`, `parts_law`, `front_law`, `few_law`: a line of mdoc(7) is parted into its macros and the words
+//! of each by one fold over its arguments (`specs/Parts.antt`): each argument stands in one part, in order.
 #![tactic(auto)]
 
+mod blocks;
 mod cursors;
+mod delimiters;
 mod laws;
 mod line_words;
+mod macros;
+mod rows;
 mod word_spans;
 mod words;
 
+pub use blocks::{Block, LineMacro, Sentence};
 pub use cursors::Cursor;
+pub use delimiters::{Delimiter, delimiter_of};
 pub use laws::{few_law, front_law, parts_law};
 pub use line_words::{is_closing, is_real, word_call, word_delimiter};
+pub use macros::{Defaulted, Inline, Pair, System};
+pub use rows::{called, is_parsed, line_macro};
 pub use word_spans::WordSpan;
 pub use words::{MacroWords, Words, find_words};

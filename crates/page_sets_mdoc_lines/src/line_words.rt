@@ -2,12 +2,12 @@
 //! SYNTAX").
 
 ghost use Rattle.std.specs.Prelude.{◌≡◌, ℕ, List, false, MatchBool};
-ghost use Rattle.page_roff_forms.specs.declared.quotes.Argument.{Argument};
-ghost use Rattle.page_roff_forms.specs.Arguments.{argument_view};
+ghost use Rattle.page_roff_syntax.specs.declared.quotes.Argument.{Argument};
+ghost use Rattle.page_roff_syntax.specs.Arguments.{argument_view};
 ghost use Rattle.page_sets_mdoc_lines.specs.LineWords as words;
 
-use page_roff_forms::Argument;
-use page_sets_mdoc_rows::{Delimiter, Inline, Pair, called, delimiter_of};
+use crate::{Delimiter, Inline, Pair, called, delimiter_of};
+use page_roff_syntax::Argument;
 
 /// The delimiter that a word is, if it is one; a word with quotes is none.
 #[inline(always)]

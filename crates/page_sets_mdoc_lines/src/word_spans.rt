@@ -1,7 +1,7 @@
 //! The span of a macro's words (mdoc(7), "MACRO SYNTAX").
 
 ghost use Rattle.std.specs.Prelude.{◌≡◌, ◌≤◌, length, drop, None};
-ghost use Rattle.page_roff_forms.specs.Arguments.{argument_view};
+ghost use Rattle.page_roff_syntax.specs.Arguments.{argument_view};
 ghost use Rattle.page_sets_mdoc_lines.specs.LineWords.{arguments_after};
 ghost use Rattle.page_sets_mdoc_lines.specs.Parts.{parts, span_of, is_call};
 ghost use Rattle.page_sets_mdoc_lines.specs.machine.Cursors.{IsCursorOf};
@@ -9,7 +9,7 @@ ghost use Rattle.page_sets_mdoc_lines.specs.machine.Cursors.{IsCursorOf};
 use crate::cursors::Cursor;
 use crate::line_words::{is_closing, is_real, word_call};
 use page_core_limits::LINE;
-use page_roff_forms::Argument;
+use page_roff_syntax::Argument;
 
 /// What is known of a macro's own words before they are read.
 #[derive(Clone, Copy)]

@@ -1,7 +1,7 @@
 //! The words of a macro in its line (mdoc(7), "MACRO SYNTAX").
 
 ghost use Rattle.std.specs.Prelude.{◌≡◌, ◌≤◌, length, true, IfSome};
-ghost use Rattle.page_roff_forms.specs.Arguments.{ReadsNext, argument_view};
+ghost use Rattle.page_roff_syntax.specs.Arguments.{ReadsNext, argument_view};
 ghost use Rattle.page_sets_lines.specs.Events.{given_view};
 ghost use Rattle.page_sets_lines.specs.Fits.{ArgumentFits, GivenFits};
 ghost use Rattle.page_sets_mdoc_lines.specs.LineWords.{arguments_after};
@@ -9,12 +9,12 @@ ghost use Rattle.page_sets_mdoc_lines.specs.Parts.{parts, has_calls, rest_parts}
 ghost use Rattle.page_sets_mdoc_lines.specs.machine.Cursors.{IsCursorOf};
 ghost use Rattle.page_sets_mdoc_lines.specs.Words.{words_view, AreKnown, AreIn, TakesWord};
 
+use crate::Inline;
 use crate::cursors::Cursor;
 use crate::line_words::{may_take, takes_next};
 use crate::word_spans::find_span;
 use page_core_limits::LINE;
-use page_roff_forms::Argument;
-use page_sets_mdoc_rows::Inline;
+use page_roff_syntax::Argument;
 
 /// Words in a row in a line: how many, and where they begin.
 #[derive(Clone, Copy)]

@@ -2,16 +2,16 @@
 use Rattle.std.proofs.Common.{◌≡◌, ℕ, ◌+◌, ◌≤◌, Bool, true, false, List, [], ◌∷◌, ◌++◌, take, drop, refl, arith, Option, None, Some, if◌then◌else◌}
 use Rattle.std.specs.List.{list_any}
 use Rattle.page_core_base.specs.declared.cells.Font.TheVariants.{R, B, I}
-use Rattle.page_roff_forms.specs.declared.quotes.Argument.{Argument}
+use Rattle.page_roff_syntax.specs.declared.quotes.Argument.{Argument}
 use Rattle.page_sets_lines.specs.declared.events.Event.{Event}
 use Rattle.page_sets_lines.specs.declared.line_steps.SynopsisStep.TheVariants.{Break}
 use Rattle.page_sets_lines.specs.Laws.{HasSlices, IsArgumentIfGiven, IsPart}
 use Rattle.page_sets_lines.proofs.LawLemmas.{is_word}
 use Rattle.page_sets_lines.proofs.OrderLemmas.{AreArguments, AreArguments-drop, AreArguments-take}
-use Rattle.page_sets_mdoc_rows.specs.declared.macros.Inline.{Inline}
-use Rattle.page_sets_mdoc_rows.specs.declared.macros.Inline.TheVariants as inlines
-use Rattle.page_sets_mdoc_rows.specs.declared.macros.Pair.{Pair}
-use Rattle.page_sets_mdoc_rows.specs.declared.macros.Pair.TheVariants as pairs
+use Rattle.page_sets_mdoc_lines.specs.declared.macros.Inline.{Inline}
+use Rattle.page_sets_mdoc_lines.specs.declared.macros.Inline.TheVariants as inlines
+use Rattle.page_sets_mdoc_lines.specs.declared.macros.Pair.{Pair}
+use Rattle.page_sets_mdoc_lines.specs.declared.macros.Pair.TheVariants as pairs
 use Rattle.page_sets_mdoc_lines.specs.LineWords.{is_closing, is_real}
 use Rattle.page_sets_mdoc_lines.specs.Parts.{as_list, front_len}
 use Rattle.page_sets_mdoc_words.specs.Printed.{printed}

@@ -4,9 +4,9 @@ use Rattle.page_sets_lines.specs.declared.events.Event.{Event}
 use Rattle.page_sets_names.specs.declared.generated_texts.GeneratedText.{GeneratedText}
 use Rattle.page_sets_mdoc_words.specs.declared.sentences.NameCount.{NameCount}
 use Rattle.page_sets_mdoc_words.specs.declared.sentences.NameCount.TheVariants as counts
-use Rattle.page_roff_forms.specs.declared.quotes.Argument.{Argument}
+use Rattle.page_roff_syntax.specs.declared.quotes.Argument.{Argument}
 use Rattle.page_sets_lines.specs.declared.line_steps.LineStep.TheVariants.{ManualName}
-use Rattle.page_sets_mdoc_rows.specs.declared.blocks.Sentence.{Sentence}
+use Rattle.page_sets_mdoc_lines.specs.declared.blocks.Sentence.{Sentence}
 use Rattle.page_sets_mdoc_words.specs.Printed.{step_event}
 use Rattle.page_sets_mdoc_words.specs.Sentences.{given_names, is_zero, joined, marked, name_count, name_mark, names_events}
 

@@ -3,7 +3,7 @@ use Rattle.std.specs.Prelude.{ℕ, ◌-◌, Bool, true, false, ◌&&◌, List, [
 use Rattle.std.specs.List.{list_any}
 use Rattle.page_core_base.specs.declared.cells.Font.TheVariants.{R, B, I}
 use Rattle.page_core_base.specs.declared.note_kinds.NoteKind.TheVariants.{EmptyMacro, Unterminated}
-use Rattle.page_roff_forms.specs.declared.quotes.Argument.{Argument}
+use Rattle.page_roff_syntax.specs.declared.quotes.Argument.{Argument}
 use Rattle.page_sets_lines.specs.declared.blocks.BlockOpener.TheVariants as openers
 use Rattle.page_sets_lines.specs.declared.blocks.BlockCloser.TheVariants as closers
 use Rattle.page_sets_lines.specs.declared.events.Join.TheVariants.{Apart, Glued}
@@ -18,14 +18,14 @@ use Rattle.page_sets_lines.specs.declared.openers.Opener.TheVariants as begins
 use Rattle.page_sets_lines.specs.declared.openers.Closer.TheVariants as ends
 use Rattle.page_sets_lines.specs.ControlLines.{is_unclosed}
 use Rattle.page_sets_lines.specs.PlainLines.{event_at}
-use Rattle.page_sets_mdoc_rows.specs.declared.macros.Defaulted.{Defaulted}
-use Rattle.page_sets_mdoc_rows.specs.declared.macros.Defaulted.TheVariants as defaults
-use Rattle.page_sets_mdoc_rows.specs.declared.macros.System.{System}
-use Rattle.page_sets_mdoc_rows.specs.declared.macros.System.TheVariants as systems
-use Rattle.page_sets_mdoc_rows.specs.declared.macros.Pair.{Pair}
-use Rattle.page_sets_mdoc_rows.specs.declared.macros.Pair.TheVariants as pairs
-use Rattle.page_sets_mdoc_rows.specs.declared.macros.Inline.{Inline}
-use Rattle.page_sets_mdoc_rows.specs.declared.macros.Inline.TheVariants as inlines
+use Rattle.page_sets_mdoc_lines.specs.declared.macros.Defaulted.{Defaulted}
+use Rattle.page_sets_mdoc_lines.specs.declared.macros.Defaulted.TheVariants as defaults
+use Rattle.page_sets_mdoc_lines.specs.declared.macros.System.{System}
+use Rattle.page_sets_mdoc_lines.specs.declared.macros.System.TheVariants as systems
+use Rattle.page_sets_mdoc_lines.specs.declared.macros.Pair.{Pair}
+use Rattle.page_sets_mdoc_lines.specs.declared.macros.Pair.TheVariants as pairs
+use Rattle.page_sets_mdoc_lines.specs.declared.macros.Inline.{Inline}
+use Rattle.page_sets_mdoc_lines.specs.declared.macros.Inline.TheVariants as inlines
 use Rattle.page_sets_mdoc_lines.specs.LineWords.{is_real}
 use Rattle.page_sets_mdoc_lines.specs.Words.{inside, outside}
 use Rattle.page_sets_mdoc_words.specs.Printed.{word_event, printed_word, printed, generated_word, step_event, is_opening}

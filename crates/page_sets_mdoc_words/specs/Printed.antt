@@ -2,7 +2,7 @@
 use Rattle.std.specs.Prelude.{ℕ, Bool, true, false, List, [], ◌∷◌, Option, None, Some}
 use Rattle.page_core_base.specs.declared.cells.Font.{Font}
 use Rattle.page_core_base.specs.declared.cells.Font.TheVariants.{R}
-use Rattle.page_roff_forms.specs.declared.quotes.Argument.{Argument}
+use Rattle.page_roff_syntax.specs.declared.quotes.Argument.{Argument}
 use Rattle.page_sets_lines.specs.declared.events.Join.{Join}
 use Rattle.page_sets_lines.specs.declared.events.Join.TheVariants.{Apart, Glued}
 use Rattle.page_sets_lines.specs.declared.events.Role.{Role}
@@ -13,8 +13,8 @@ use Rattle.page_sets_names.specs.declared.generated_texts.GeneratedText.{Generat
 use Rattle.page_sets_lines.specs.declared.leaves.Leaf.TheVariants as leaves
 use Rattle.page_sets_lines.specs.declared.line_steps.LineStep.{LineStep}
 use Rattle.page_sets_lines.specs.PlainLines.{event_at}
-use Rattle.page_sets_mdoc_rows.specs.declared.delimiters.Delimiter.{Delimiter}
-use Rattle.page_sets_mdoc_rows.specs.declared.delimiters.Delimiter.TheVariants.{Opening, Middle, Closing}
+use Rattle.page_sets_mdoc_lines.specs.declared.delimiters.Delimiter.{Delimiter}
+use Rattle.page_sets_mdoc_lines.specs.declared.delimiters.Delimiter.TheVariants.{Opening, Middle, Closing}
 use Rattle.page_sets_mdoc_lines.specs.LineWords.{word_delimiter}
 
 -- an argument as a word, in its own column

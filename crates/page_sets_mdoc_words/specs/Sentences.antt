@@ -1,15 +1,15 @@
 -- Words of macros that begin a line and read all of it: the sentences of `Ex` and `Rv`, and the file of `In`. Source: mdoc(7), `Ex`, `In` and `Rv`.
 use Rattle.std.specs.Prelude.{ℕ, Bool, true, false, not, ◌&&◌, List, [], ◌∷◌, Option, None, Some, if◌then◌else◌}
 use Rattle.page_core_base.specs.declared.cells.Font.TheVariants.{B}
-use Rattle.page_roff_forms.specs.declared.quotes.Argument.{Argument}
+use Rattle.page_roff_syntax.specs.declared.quotes.Argument.{Argument}
 use Rattle.page_sets_lines.specs.declared.events.Event.{Event}
 use Rattle.page_sets_lines.specs.declared.events.Join.TheVariants.{Apart, Glued}
 use Rattle.page_sets_names.specs.declared.generated_texts.GeneratedText.{GeneratedText}
 use Rattle.page_sets_names.specs.declared.generated_texts.GeneratedText.TheVariants as owns
 use Rattle.page_sets_lines.specs.declared.line_steps.LineStep.TheVariants as steps
 use Rattle.page_sets_lines.specs.declared.line_steps.SynopsisStep.TheVariants.{Include}
-use Rattle.page_sets_mdoc_rows.specs.declared.blocks.Sentence.{Sentence}
-use Rattle.page_sets_mdoc_rows.specs.declared.blocks.Sentence.TheVariants.{Exit, Return}
+use Rattle.page_sets_mdoc_lines.specs.declared.blocks.Sentence.{Sentence}
+use Rattle.page_sets_mdoc_lines.specs.declared.blocks.Sentence.TheVariants.{Exit, Return}
 use Rattle.page_sets_mdoc_lines.specs.LineWords.{is_real}
 use Rattle.page_sets_mdoc_words.specs.declared.sentences.NameCount.{NameCount}
 use Rattle.page_sets_mdoc_words.specs.declared.sentences.NameCount.TheVariants as counts

@@ -1,14 +1,14 @@
 -- What a macro does in the section SYNOPSIS, before its words and after them. Source: mdoc(7), `Cd`, `Fd`, `Fn`, `Fo`, `Ft`, `Nm`, `Vt`.
 use Rattle.std.specs.Prelude.{ℕ, Bool, true, false, ◌&&◌, List, [], ◌∷◌, ◌++◌, Option, None, Some, if◌then◌else◌}
 use Rattle.std.specs.List.{list_any}
-use Rattle.page_roff_forms.specs.declared.quotes.Argument.{Argument}
+use Rattle.page_roff_syntax.specs.declared.quotes.Argument.{Argument}
 use Rattle.page_sets_lines.specs.declared.events.Event.{Event}
 use Rattle.page_sets_lines.specs.declared.line_steps.LineStep.TheVariants as steps
 use Rattle.page_sets_lines.specs.declared.line_steps.SynopsisStep.{SynopsisStep}
 use Rattle.page_sets_lines.specs.declared.line_steps.SynopsisStep.TheVariants.{Break, NameBegins, NameEnds}
-use Rattle.page_sets_mdoc_rows.specs.declared.macros.Pair.TheVariants as pairs
-use Rattle.page_sets_mdoc_rows.specs.declared.macros.Inline.{Inline}
-use Rattle.page_sets_mdoc_rows.specs.declared.macros.Inline.TheVariants as inlines
+use Rattle.page_sets_mdoc_lines.specs.declared.macros.Pair.TheVariants as pairs
+use Rattle.page_sets_mdoc_lines.specs.declared.macros.Inline.{Inline}
+use Rattle.page_sets_mdoc_lines.specs.declared.macros.Inline.TheVariants as inlines
 use Rattle.page_sets_mdoc_lines.specs.LineWords.{is_real}
 use Rattle.page_sets_mdoc_words.specs.Inlines.{inline_events}
 use Rattle.page_sets_mdoc_words.specs.Printed.{step_event}

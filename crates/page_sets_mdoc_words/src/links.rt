@@ -2,7 +2,7 @@
 
 ghost use Rattle.std.specs.Prelude.{◌≤◌, ◌++◌, None, length};
 ghost use Rattle.page_core_base.specs.Latches.{Came};
-ghost use Rattle.page_roff_forms.specs.Arguments.{argument_view};
+ghost use Rattle.page_roff_syntax.specs.Arguments.{argument_view};
 ghost use Rattle.page_sets_lines.specs.Fits.{ArgumentFits};
 ghost use Rattle.page_sets_mdoc_lines.specs.machine.Cursors.{IsCursorOf};
 ghost use Rattle.page_sets_mdoc_lines.specs.Words.{AreIn, words_view};
@@ -13,7 +13,7 @@ use crate::plain::give_printed;
 use crate::printed::{generated_word, printed_word, step_event};
 use page_core_base::Font;
 use page_core_limits::LINE;
-use page_roff_forms::Argument;
+use page_roff_syntax::Argument;
 use page_sets_lines::{EventTaker, GeneratedText, Join, LineStep};
 use page_sets_mdoc_lines::{MacroWords, Words, is_real};
 

@@ -32,8 +32,7 @@ use page_sets_lines::{
     Event, EventKind, EventTaker, GeneratedText, Join, LineOpener, LineStep, Marks, SynopsisStep,
     event_at,
 };
-use page_sets_mdoc_lines::{MacroWords, Words};
-use page_sets_mdoc_rows::Inline;
+use page_sets_mdoc_lines::{Inline, MacroWords, Words};
 
 // An event, and then the words.
 fn give_before<'a, O: EventTaker<'a>>(

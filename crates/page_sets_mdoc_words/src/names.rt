@@ -14,8 +14,7 @@ use crate::printed::{generated_word, is_opening, printed_word, step_event, word_
 use page_core_base::Font;
 use page_core_limits::LINE;
 use page_sets_lines::{Event, EventTaker, GeneratedText, Join, LineStep, Role};
-use page_sets_mdoc_lines::{Words, is_real};
-use page_sets_mdoc_rows::Defaulted;
+use page_sets_mdoc_lines::{Defaulted, Words, is_real};
 
 /// What a macro prints where all its words are delimiters.
 #[derive(Clone, Copy)]

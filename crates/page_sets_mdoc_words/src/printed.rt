@@ -1,19 +1,18 @@
 //! Words and delimiters as they are printed (mdoc(7), "MACRO SYNTAX" and "Delimiters").
 
 ghost use Rattle.std.specs.Prelude.{◌≡◌};
-ghost use Rattle.page_roff_forms.specs.Arguments.{argument_view};
+ghost use Rattle.page_roff_syntax.specs.Arguments.{argument_view};
 ghost use Rattle.page_sets_lines.specs.Events.{event_view, kind_view, step_view};
 ghost use Rattle.page_sets_lines.specs.Fits.{ArgumentFits, IsShort};
 ghost use Rattle.page_sets_lines.specs.PlainLines.{event_at};
 ghost use Rattle.page_sets_mdoc_words.specs.Printed as printed;
 
 use page_core_base::Font;
-use page_roff_forms::Argument;
+use page_roff_syntax::Argument;
 use page_sets_lines::{
     Event, EventKind, GeneratedText, GeneratedWord, Join, Leaf, LineStep, Role, Word, event_at,
 };
-use page_sets_mdoc_lines::word_delimiter;
-use page_sets_mdoc_rows::Delimiter;
+use page_sets_mdoc_lines::{Delimiter, word_delimiter};
 
 /// An argument as a word, in its own column.
 pub fn word_event(

@@ -13,8 +13,7 @@ use crate::printed::{generated_word, real_word, step_event};
 use page_core_base::Font;
 use page_core_limits::LINE;
 use page_sets_lines::{Event, EventTaker, GeneratedText, Join, LineStep};
-use page_sets_mdoc_lines::Words;
-use page_sets_mdoc_rows::Sentence;
+use page_sets_mdoc_lines::{Sentence, Words};
 
 /// How many names there are.
 #[derive(Clone, Copy)]

@@ -5,7 +5,7 @@ ghost use Rattle.std.specs.Prelude.{◌≡◌};
 ghost use Rattle.page_sets_mdoc_words.specs.Synopses as synopses;
 
 use page_sets_lines::SynopsisStep;
-use page_sets_mdoc_rows::{Inline, Pair};
+use page_sets_mdoc_lines::{Inline, Pair};
 
 // Whether a macro begins a row where it begins a line.
 fn begins_row(inline: Inline) -> bool

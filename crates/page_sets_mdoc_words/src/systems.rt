@@ -11,8 +11,7 @@ use crate::plain::give_printed;
 use crate::printed::{generated_word, is_opening, printed_word};
 use page_core_limits::LINE;
 use page_sets_lines::{Event, EventTaker, GeneratedText, Join};
-use page_sets_mdoc_lines::{Words, is_real};
-use page_sets_mdoc_rows::System;
+use page_sets_mdoc_lines::{System, Words, is_real};
 
 // The text of a system.
 fn system_text(system: System) -> GeneratedText

@@ -3,7 +3,7 @@
 ghost use Rattle.std.specs.Prelude.{◌≡◌, ◌≤◌, length, true, false};
 ghost use Rattle.std.specs.List.{list_any};
 ghost use Rattle.page_core_base.specs.Latches.{Came};
-ghost use Rattle.page_roff_forms.specs.Arguments.{argument_view};
+ghost use Rattle.page_roff_syntax.specs.Arguments.{argument_view};
 ghost use Rattle.page_sets_lines.specs.Events.{given_view};
 ghost use Rattle.page_sets_lines.specs.Fits.{GivenFits};
 ghost use Rattle.page_sets_mdoc_lines.specs.machine.Cursors.{IsCursorOf};
@@ -15,7 +15,7 @@ use crate::plain::{MacroName, give_printed, give_refused};
 use crate::printed::word_event;
 use page_core_base::{Font, NoteKind};
 use page_core_limits::LINE;
-use page_roff_forms::{Argument, Quoting};
+use page_roff_syntax::{Argument, Quoting};
 use page_sets_lines::{EventKind, EventTaker, Join, Role, event_at};
 use page_sets_mdoc_lines::Words;
 

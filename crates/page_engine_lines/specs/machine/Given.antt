@@ -4,7 +4,7 @@ use Rattle.std.specs.Prelude.{ℕ, List, [], ◌∷◌, ◌++◌}
 use Rattle.page_core_base.specs.Pieces.{Item, noted}
 use Rattle.page_roff_effects.specs.States.{Given, says, takes}
 use Rattle.page_core_base.specs.LinesTaken.{Line}
-use Rattle.page_engine_body.specs.Bodies.{BodyEdge, decided, events_after, events_items}
+use Rattle.page_engine_lines.specs.Bodies.{BodyEdge, decided, events_after, events_items}
 use Rattle.page_sets.specs.Either.{either_events}
 use Rattle.page_sets_lines.specs.declared.events.Event.{Event}
 

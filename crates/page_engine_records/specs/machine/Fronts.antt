@@ -2,7 +2,7 @@
 -- page is what the contracts of a run say, and trust needs no reading of it. Source: mandoc(1), makewhatis.
 use Rattle.std.specs.Prelude.{Bool, ◌&&◌, if◌then◌else◌, List, [], ◌∷◌, Option}
 use Rattle.page_core_base.specs.declared.page_settings.Settings.{Settings}
-use Rattle.page_engine_body.specs.Bodies.{has_title}
+use Rattle.page_engine_lines.specs.Bodies.{has_title}
 use Rattle.page_engine_index.specs.declared.records.Record.{Record}
 use Rattle.page_engine_lines.specs.Acts.{lines_items, lines_after, ending_items}
 use Rattle.page_engine_lines.specs.Edges.{LinesEdge, start_of}

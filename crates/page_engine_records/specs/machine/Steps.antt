@@ -4,7 +4,7 @@ use Rattle.std.specs.Io.KnownBytes.{IsAtEnd}
 use Rattle.page_core_base.specs.Fails.{Rose}
 use Rattle.page_core_base.specs.declared.faults.Fault.{Fault}
 use Rattle.page_core_base.specs.declared.faults.Fault.TheVariants.{Memory, Read, WriteText, WriteNotes, TooLong, Settings, Failed, Ended, BadIndex}
-use Rattle.page_core_sources.specs.Sources.{SourceState, HasGiven, IsLean}
+use Rattle.page_core_streams.specs.Sources.{SourceState, HasGiven, IsLean}
 use Rattle.page_engine_lines.specs.machine.Lines.{end_items}
 use Rattle.page_roff_lines.specs.Cutting.{Point, first_point, last_line, lines_from, lines_within, point_after}
 use Rattle.page_core_base.specs.declared.page_settings.Settings.{Settings as PageSettings}

@@ -4,9 +4,9 @@ use super::names::Roff;
 use crate::bytes::show_messages;
 use page_core_base::{NoteLatch, Place};
 use page_core_limits::LINE;
-use page_core_writers::TextNotes;
+use page_core_streams::TextNotes;
 use page_roff_definitions::{RequestLine, define, is_in_copy_mode};
-use page_roff_requests::Request;
+use page_roff_syntax::Request;
 
 /// Does a request in line 7, of which the name and the expanded rest are given, and shows its messages.
 pub(crate) fn show_request(rt: &HostRuntime, roff: &mut Roff, text: &str) {

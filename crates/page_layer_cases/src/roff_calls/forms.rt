@@ -2,7 +2,7 @@
 
 use crate::bytes::shown;
 use page_core_limits::LINE;
-use page_roff_forms::{
+use page_roff_syntax::{
     Argument, Arguments, LineForm, Quoting, form_of, has_arguments, is_white, kept_len,
     read_argument,
 };

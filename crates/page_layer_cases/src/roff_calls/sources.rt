@@ -2,7 +2,7 @@
 
 use crate::bytes::shown;
 use page_core_base::{Fault, Form, Settings, Taken, is_line};
-use page_core_writers::TextNotes;
+use page_core_streams::TextNotes;
 use page_roff_source::Roff;
 use std::alloc::{AllocError, Global};
 use std::io::{self, Write};

@@ -9,7 +9,7 @@ use Rattle.page_core_base.specs.declared.lines_taken.Form.TheVariants.{Text, Bla
 use Rattle.page_core_base.specs.declared.page_settings.Output.{Output}
 use Rattle.page_roff_blocks.specs.declared.line_parts.LinePart.TheVariants.{Leaf}
 use Rattle.page_roff_blocks.specs.LineParts.{line_parts}
-use Rattle.page_roff_forms.specs.LineForms.{has_word}
+use Rattle.page_roff_syntax.specs.LineForms.{has_word}
 use Rattle.page_core_base.specs.Latches.{Came}
 use Rattle.page_roff_values.specs.Values.{Spot, Laid, expanded}
 use Rattle.page_roff_values.specs.machine.Views.{units_of_bytes}
@@ -17,7 +17,7 @@ use Rattle.page_roff_language.specs.Budgets.{Effects}
 use Rattle.page_roff_language.specs.Languages.{Kind, arguments_of}
 use Rattle.page_roff_conditions.specs.Answers.{Answer}
 use Rattle.page_roff_names.specs.Names.{Definitions}
-use Rattle.page_roff_buffers.specs.Calls.{Call}
+use Rattle.page_roff_definitions.specs.Calls.{Call}
 use Rattle.page_roff_effects.specs.declared.commands.Command.TheVariants.{Pass}
 use Rattle.page_roff_effects.specs.Commands.{command_of}
 use Rattle.page_roff_effects.specs.declared.commands.ProductKind.{ProductKind}

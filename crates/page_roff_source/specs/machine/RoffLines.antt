@@ -8,7 +8,7 @@ use Rattle.page_roff_machine.specs.Giving.{notes_before, next_line}
 use Rattle.page_roff_effects.specs.States.{Given, takes}
 use Rattle.page_roff_machine.specs.machine.Machines.{Machine, output_of, outcome_of, to_come, taken_if}
 use Rattle.page_roff_machine.specs.machine.Machines as machine
-use Rattle.page_roff_texts.specs.machine.Texts.{HoldsTexts, AreGiven}
+use Rattle.page_roff_source.specs.machine.Texts.{HoldsTexts, AreGiven}
 use Rattle.page_roff_source.specs.declared.roff_lines.Remaining.{Remaining}
 use Rattle.page_roff_source.specs.declared.roff_lines.Remaining.TheVariants as remaining
 use Rattle.page_roff_source.specs.Edges.{Edge}

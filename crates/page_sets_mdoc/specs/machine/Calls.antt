@@ -1,7 +1,7 @@
 -- The macro that the next word of a line calls.
 use Rattle.std.specs.Prelude.{◌≡◌, ℕ, true, false, List, ◌∷◌, Option, Some, MatchOption}
 use Rattle.std.specs.List.{list_all}
-use Rattle.page_roff_forms.specs.Arguments.{argument_view}
+use Rattle.page_roff_syntax.specs.Arguments.{argument_view}
 use Rattle.page_sets_mdoc_lines.specs.declared.cursors.Cursor.{Cursor}
 use Rattle.page_sets_mdoc_lines.specs.machine.Cursors.{IsCursorOf}
 use Rattle.page_sets_mdoc_lines.specs.LineWords.{arguments_after, is_closing, word_call}

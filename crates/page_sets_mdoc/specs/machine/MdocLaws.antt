@@ -4,8 +4,8 @@ use Rattle.std.proofs.lemmas.Bool.{cases_Bool}
 use Rattle.page_core_base.specs.LinesTaken.{Line}
 use Rattle.page_core_base.specs.declared.note_kinds.NoteKind.{NoteKind}
 use Rattle.page_core_base.specs.declared.note_kinds.NoteKind.TheVariants.{UnknownMacro, EmptyMacro}
-use Rattle.page_roff_forms.specs.declared.quotes.Argument.{Argument}
-use Rattle.page_roff_requests.specs.declared.requests.LayoutRequest.{LayoutRequest}
+use Rattle.page_roff_syntax.specs.declared.quotes.Argument.{Argument}
+use Rattle.page_roff_syntax.specs.declared.requests.LayoutRequest.{LayoutRequest}
 use Rattle.page_sets_lines.specs.declared.events.Event.{Event}
 use Rattle.page_sets_lines.specs.declared.plain_lines.PlainLine.{PlainLine}
 use Rattle.page_sets_lines.specs.ControlLines.{name_end, name_of, is_nameless}
@@ -14,15 +14,15 @@ use Rattle.page_sets_lines.specs.PlainLines.{line_end, plain_line, layout_reques
 use Rattle.page_sets_lines.proofs.ArgumentLaws.{ArgumentsFrom, all_after, earlier}
 use Rattle.page_sets_lines.proofs.LawLemmas.{name_part, line_slices, AreSlices-append, HasNoWord, order_after, order_before, line_order, named_bytes}
 use Rattle.page_sets_lines.proofs.OrderLemmas.{AreArguments, all_arguments, in_order}
-use Rattle.page_sets_mdoc_rows.specs.declared.blocks.LineMacro.{LineMacro}
-use Rattle.page_sets_mdoc_rows.specs.declared.blocks.LineMacro.TheVariants as lines
-use Rattle.page_sets_mdoc_rows.specs.Rows.{line_macro, is_parsed}
+use Rattle.page_sets_mdoc_lines.specs.declared.blocks.LineMacro.{LineMacro}
+use Rattle.page_sets_mdoc_lines.specs.declared.blocks.LineMacro.TheVariants as lines
+use Rattle.page_sets_mdoc_lines.specs.Rows.{line_macro, is_parsed}
 use Rattle.page_sets_mdoc_lines.proofs.FewLemmas.{few_arguments_after}
 use Rattle.page_sets_mdoc_words.proofs.PrintLemmas.{Prints, no_event, more_events, word_passed, printed_prints, include_prints, sentence_prints, framed_prints}
 use Rattle.page_sets_mdoc_blocks.specs.Fronts.{name_column, line_arguments, request_front, has_real_word, is_standard, given_names, block_front}
 use Rattle.page_sets_mdoc_blocks.proofs.FrontLemmas.{request_front_slices, block_slices, request_no_word, block_no_word, request_few, words_more, block_few}
 use Rattle.page_sets_mdoc_words.specs.Sentences.{sentence_events}
-use Rattle.page_sets_mdoc_rows.specs.declared.blocks.Sentence.{Sentence}
+use Rattle.page_sets_mdoc_lines.specs.declared.blocks.Sentence.{Sentence}
 use Rattle.page_sets_lines.specs.declared.line_steps.SynopsisStep.TheVariants.{Break}
 use Rattle.page_sets_mdoc.specs.Mdoc.{field_font, include_words, words_events, refused_events, lacks_words, macro_events, request_events, named_events, control_events, line_events, mdoc_events}
 use Rattle.page_sets_mdoc.specs.machine.RestLaws.{head_prints, phrase_prints}

@@ -1,5 +1,5 @@
 use Rattle.std.proofs.Common.{◌≡◌, length}
-use Rattle.page_roff_forms.specs.Arguments.{arguments}
+use Rattle.page_roff_syntax.specs.Arguments.{arguments}
 use Rattle.page_roff_definitions.specs.Definitions.{removes}
 use Rattle.page_roff_definitions.proofs.definitions.remove_all.Given as goal
 

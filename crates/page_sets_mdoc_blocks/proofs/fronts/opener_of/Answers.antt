@@ -1,5 +1,5 @@
 use Rattle.page_core_base.specs.LinesTaken.{line_view}
-use Rattle.page_sets_mdoc_rows.specs.declared.blocks.Block.TheVariants as blocks
+use Rattle.page_sets_mdoc_lines.specs.declared.blocks.Block.TheVariants as blocks
 use Rattle.page_sets_mdoc_blocks.proofs.FrontLemmas.{opens_fit}
 use Rattle.page_sets_mdoc_blocks.proofs.fronts.opener_of.Goals as goal
 

@@ -1,5 +1,5 @@
 use Rattle.std.proofs.Common.{◌≡◌, ◌≤◌, ◌+◌, ap, sym, refl, ◌∙◌, arith, length, drop, true, if◌then◌else◌}
-use Rattle.page_roff_forms.specs.Arguments.{argument_view}
+use Rattle.page_roff_syntax.specs.Arguments.{argument_view}
 use Rattle.page_sets_mdoc_lines.specs.declared.word_spans.WordSpan.{WordSpan}
 use Rattle.page_sets_mdoc_lines.specs.LineWords.{arguments_after, is_closing, is_real}
 use Rattle.page_sets_mdoc_lines.specs.Parts.{is_call}

@@ -1,7 +1,7 @@
 use Rattle.std.proofs.Common.{◌≡◌, ◌<◌, ◌≤◌, ◌+◌, ◌-◌, ◌^◌, ◌++◌, [], refl, ◌∙◌, take, drop, length, length-append, append-nil, arith, inl, inr}
 use Rattle.std.proofs.lemmas.List.{length-take, take_all}
 use Rattle.page_engine.specs.Streams.{sinks}
-use Rattle.page_core_sources.proofs.GivenLemmas.{given_none, given_more, given_end, busy_none, busy_more, busy_end, busy_lean}
+use Rattle.page_core_streams.proofs.GivenLemmas.{given_none, given_more, given_end, busy_none, busy_more, busy_end, busy_lean}
 use Rattle.page_engine.proofs.Through.{through_none, through_more, room_after, fresh_room, broken_chunk, cut_take, up_to}
 use Rattle.page_engine.proofs.WholeRuns.{ended_with, stopped_by}
 use Rattle.page_engine.proofs.runs.Run.read_all.Goals as goal

@@ -1,6 +1,6 @@
 use Rattle.std.proofs.Common.{◌≡◌, ◌<◌, ◌^◌, ℕ, List, length}
-use Rattle.page_core_sources.specs.Sources.{HasGiven}
-use Rattle.page_core_sources.proofs.GivenLemmas.{IsBusy}
+use Rattle.page_core_streams.specs.Sources.{HasGiven}
+use Rattle.page_core_streams.proofs.GivenLemmas.{IsBusy}
 use Rattle.page_engine.specs.Streams.{sinks}
 use Rattle.page_engine.specs.machine.Steps.{Through}
 use Rattle.page_engine.proofs.runs.Run.read_all.Given as goal

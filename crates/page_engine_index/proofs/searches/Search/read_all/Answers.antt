@@ -1,7 +1,7 @@
 use Rattle.std.proofs.Common.{◌≡◌, ◌<◌, ◌≤◌, ◌+◌, ◌-◌, ◌^◌, ◌++◌, [], refl, ◌∙◌, take, drop, length, length-append, append-nil, arith, inl, inr, Err}
 use Rattle.std.proofs.lemmas.List.{length-take, take_all}
 use Rattle.page_core_base.specs.declared.faults.Fault.TheVariants.{Read, TooLong}
-use Rattle.page_core_sources.proofs.GivenLemmas.{given_none, given_more, given_end}
+use Rattle.page_core_streams.proofs.GivenLemmas.{given_none, given_more, given_end}
 use Rattle.page_engine_index.specs.Searches.{rows_to}
 use Rattle.page_engine_index.specs.Whatis.{asked_of}
 use Rattle.page_engine_index.proofs.SearchLemmas.{here_start, read_whole, over_end, over_stopped, stopped_more, stopped_at, cut_take, up_to}

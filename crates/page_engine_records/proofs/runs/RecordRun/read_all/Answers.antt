@@ -1,6 +1,6 @@
 use Rattle.std.proofs.Common.{◌<◌, ◌+◌, ◌-◌, ◌^◌, ◌++◌, [], refl, ◌∙◌, take, length, length-append, arith, inl, inr}
 use Rattle.std.proofs.lemmas.List.{length-take}
-use Rattle.page_core_sources.proofs.GivenLemmas.{given_none, given_more, given_end, busy_none, busy_more, busy_end, busy_lean}
+use Rattle.page_core_streams.proofs.GivenLemmas.{given_none, given_more, given_end, busy_none, busy_more, busy_end, busy_lean}
 use Rattle.page_engine_records.proofs.RunLemmas.{finished, is_here, room_less, through_more, through_none}
 use Rattle.page_engine_records.proofs.runs.RecordRun.read_all.Goals as goal
 

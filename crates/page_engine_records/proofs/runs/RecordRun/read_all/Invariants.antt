@@ -1,6 +1,6 @@
 use Rattle.std.proofs.Common.{◌≡◌, ◌<◌, ◌^◌, ℕ, List, length}
-use Rattle.page_core_sources.specs.Sources.{HasGiven}
-use Rattle.page_core_sources.proofs.GivenLemmas.{IsBusy}
+use Rattle.page_core_streams.specs.Sources.{HasGiven}
+use Rattle.page_core_streams.proofs.GivenLemmas.{IsBusy}
 use Rattle.page_engine_records.specs.machine.Steps.{Through}
 use Rattle.page_engine_records.proofs.runs.RecordRun.read_all.Given as goal
 

@@ -1,0 +1,4 @@
+pub mod GivenLemmas
+pub mod GrowsLemmas
+pub mod PlainLemmas
+pub mod RowLemmas

@@ -1,0 +1,6 @@
+pub mod Sources
+pub mod Readings
+pub mod Grows
+pub mod MessageBytes
+pub mod RowBytes
+pub mod machine

@@ -1,0 +1,91 @@
+//! The bytes of messages (mandoc(1), "DIAGNOSTICS").
+
+ghost use Rattle.std.specs.Prelude.{◌≡◌, MatchResult, IfErr};
+ghost use Rattle.page_core_base.specs.Messages.{message_of};
+ghost use Rattle.page_core_streams.specs.Grows.{Grows, GrowsInto, Writes};
+ghost use Rattle.page_core_streams.specs.MessageBytes.{message_bytes, shown_bytes};
+
+use crate::writing::put_all;
+use itoa::Buffer;
+use page_core_base::{Fault, Note};
+use std::io::Write;
+
+/// Writes a message as `mandoc: FILE:LINE:COLUMN: LEVEL: TEXT`, then `: DETAIL` where there is one, and a line feed. Its fault is
+/// [`Fault::WriteNotes`], where the writer failed; then a front of these bytes was written.
+pub fn write_note<W: Write>(out: &mut W, file: &str, note: &Note) -> Result<(), Fault>
+    ensures gives { MatchResult result
+        (λ _. Grows (W.contents out.old) (W.contents out.new) (message_bytes file.now (message_of note.now)))
+        (λ _. GrowsInto (W.contents out.old) (W.contents out.new) (message_bytes file.now (message_of note.now))) }
+    ensures fault { IfErr result (λ fault. fault ≡ Fault.WriteNotes) }
+{
+    if put_note(out, file, note) {
+        Ok(())
+    } else {
+        Err(Fault::WriteNotes)
+    }
+}
+
+// Writes a message, and says whether that succeeded.
+pub(crate) fn put_note<W: Write>(out: &mut W, file: &str, note: &Note) -> bool
+    ensures { Writes result (W.contents out.old) (W.contents out.new)
+        (message_bytes file.now (message_of note.now)) }
+{
+    let mut line = Buffer::new();
+    let mut column = Buffer::new();
+    let place = ShownPlace {
+        file: file.as_bytes(),
+        line: line.format(note.line).as_bytes(),
+        column: column.format(note.column).as_bytes(),
+    };
+    put_parts(
+        out,
+        place,
+        note.kind.level().name().as_bytes(),
+        note.kind.text().as_bytes(),
+        note.detail.as_str().as_bytes(),
+    )
+}
+
+// A message's place as it is shown.
+#[derive(Clone, Copy)]
+struct ShownPlace<'a> {
+    file: &'a [u8],
+    line: &'a [u8],
+    column: &'a [u8],
+}
+
+// Writes the parts of a message with what stands between them.
+fn put_parts<'a, W: Write>(
+    out: &mut W,
+    place: ShownPlace<'a>,
+    level: &'a [u8],
+    text: &'a [u8],
+    detail: &'a [u8],
+) -> bool
+    ensures { Writes result (W.contents out.old) (W.contents out.new)
+        (shown_bytes place.entry level.now text.now detail.now) }
+{
+    let program: &'a [u8] = b"mandoc: ";
+    let colon: &'a [u8] = b":";
+    let gap: &'a [u8] = b": ";
+    let before_detail: &'a [u8] = if detail.is_empty() { b"" } else { b": " };
+    let end: &'a [u8] = b"\n";
+    put_all(
+        out,
+        &[
+            program,
+            place.file,
+            colon,
+            place.line,
+            colon,
+            place.column,
+            gap,
+            level,
+            gap,
+            text,
+            before_detail,
+            detail,
+            end,
+        ],
+    )
+}

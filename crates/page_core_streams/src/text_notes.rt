@@ -1,0 +1,62 @@
+//! Messages as lines of a writer.
+
+ghost use Rattle.std.specs.Prelude.{◌≡◌};
+ghost use Rattle.std.specs.Borrow.{GName};
+ghost use Rattle.page_core_streams.specs.Grows.{AddsBy, AddsIntoBy, adds-by-sink, adds-by-whole};
+ghost use Rattle.page_core_streams.specs.MessageBytes.{message_bytes};
+
+use crate::message_bytes::put_note;
+use page_core_base::{Fault, Note, NoteSink};
+use std::io::Write;
+
+/// Writes messages as lines about a file.
+#[derive(Drop)]
+pub struct TextNotes<'a, 'f, W> {
+    out: &'a mut W,
+    file: &'f str,
+    failures: u64,
+}
+
+impl<'a, 'f, W: Write> TextNotes<'a, 'f, W> {
+    /// A sink over a writer, for messages about a file.
+    pub fn new(out: &'a mut W, file: &'f str) -> TextNotes<'a, 'f, W>
+        ensures loan { result.out.ghost_name ≡ out.entry.ghost_name }
+        ensures out { result.out.now ≡ out.entry.now }
+        ensures file { result.file.now ≡ file.now }
+        ensures failures { result.failures ≡ 0 }
+    {
+        TextNotes {
+            out,
+            file,
+            failures: 0,
+        }
+    }
+}
+
+impl<W: Write> NoteSink for TextNotes<'_, '_, W> {
+    ghost gave = { AddsBy (λ s. W.contents s.out.now) (λ s. s.file.now) message_bytes };
+
+    ghost within = { AddsIntoBy (λ s. W.contents s.out.now) (λ s. s.file.now) message_bytes };
+
+    ghost failed = { λ s. s.failures };
+
+    ghost Loans = { GName };
+
+    ghost loans = { λ s. s.out.ghost_name };
+
+    ghost laws = { adds-by-sink (λ s. W.contents s.out.now) (λ s. s.file.now) message_bytes };
+
+    ghost whole = { adds-by-whole (λ s. W.contents s.out.now) (λ s. s.file.now) message_bytes };
+
+    fn note(&mut self, note: &Note) -> Result<(), Fault> {
+        if put_note(self.out, self.file, note) {
+            return Ok(());
+        }
+        self.failures = self.failures.saturating_add(1);
+        Err(Fault::WriteNotes)
+    }
+
+    fn failures(&self) -> u64 {
+        self.failures
+    }
+}

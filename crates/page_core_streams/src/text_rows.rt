@@ -1,0 +1,156 @@
+//! Rows as bytes of a writer (mandoc(1), "ASCII Output").
+
+ghost use Rattle.std.specs.Prelude.{◌≡◌, ◌+◌, ◌<◌, ◌≤◌, ◌++◌, [], ◌∷◌, MatchOption, length, take, true, replicate};
+ghost use Rattle.std.specs.Borrow.{GName};
+ghost use Rattle.std.specs.List.{flat_map, list_all};
+ghost use Rattle.page_core_streams.specs.Grows.{GrowsInto, GrowsUpTo, Writes};
+ghost use Rattle.page_core_streams.specs.Grows.{Adds, AddsInto, adds-sink, adds-whole};
+ghost use Rattle.page_core_streams.specs.machine.PlainCells.{is_plain};
+ghost use Rattle.page_core_streams.specs.RowBytes.{row_bytes, printed, cell_bytes_of};
+
+use crate::cells::{without_blanks_at_end, write_group, write_mixed};
+use crate::writing::{BUFFER, put};
+use page_core_base::{Cell, Fault, RowSink};
+use std::io::Write;
+
+// The bytes of a row that may wait before more of its cells come.
+const WAITING: usize = 256;
+
+// The cells of a row that are written at a time: a number that the compiler knows, so that it needs no loop over them.
+const GROUP: usize = 8;
+
+/// Writes rows as bytes (mandoc(1), "ASCII Output").
+#[derive(Drop)]
+pub struct TextRows<'a, W> {
+    out: &'a mut W,
+    failures: u64,
+    // The bytes of a row that wait; what they are between two rows means nothing.
+    bytes: [u8; BUFFER],
+}
+
+impl<'a, W: Write> TextRows<'a, W> {
+    /// A sink over a writer.
+    pub fn new(out: &'a mut W) -> TextRows<'a, W>
+        ensures loan { result.out.ghost_name ≡ out.entry.ghost_name }
+        ensures out { result.out.now ≡ out.entry.now }
+        ensures failures { result.failures ≡ 0 }
+    {
+        TextRows {
+            out,
+            failures: 0,
+            bytes: [b' '; BUFFER],
+        }
+    }
+}
+
+// Writes a margin in blanks, but for a few that wait, and answers how many.
+fn put_margin<W: Write>(out: &mut W, margin: u32) -> Option<usize>
+    ensures { MatchOption result
+        (GrowsInto (W.contents out.old) (W.contents out.new) (replicate margin 32))
+        (λ left. (left ≤ 256) × GrowsUpTo (W.contents out.old) (W.contents out.new) (replicate margin 32) (replicate left 32)) }
+{
+    let mut left = margin as usize;
+    while left > WAITING {
+        let blanks = [b' '; WAITING];
+        if !put(out, &blanks) {
+            return None;
+        }
+        left -= WAITING;
+    }
+    Some(left)
+}
+
+// Makes room after the bytes that wait, by a write where they are too many, and answers where the next one goes.
+fn room_after<W: Write>(out: &mut W, bytes: &[u8], end: usize) -> Option<usize>
+    requires { end ≤ length bytes.now }
+    ensures { MatchOption result
+        (GrowsInto (W.contents out.old) (W.contents out.new) (take end bytes.now))
+        (λ at. (at ≤ 256) × GrowsUpTo (W.contents out.old) (W.contents out.new) (take end bytes.now) (take at bytes.now)) }
+{
+    if end <= WAITING {
+        return Some(end);
+    }
+    if put(out, &bytes[..end]) {
+        Some(0)
+    } else {
+        None
+    }
+}
+
+// Writes the bytes before a place, and then fewer cells than a group and a line feed.
+fn put_end<W: Write>(out: &mut W, bytes: &mut [u8; BUFFER], start: usize, cells: &[Cell]) -> bool
+    requires few { length cells.now < 8 }
+    requires room { start ≤ 384 }
+    ensures { Writes result (W.contents out.old) (W.contents out.new)
+        (take start bytes.old ++ (flat_map cell_bytes_of cells.now ++ 10 ∷ [])) }
+{
+    let end = write_group(bytes, start, cells);
+    bytes[end] = b'\n';
+    put(out, &bytes[..end + 1])
+}
+
+// Writes the bytes before a place, and then cells, a group of them after another, and a line feed.
+fn put_cells<W: Write>(out: &mut W, bytes: &mut [u8; BUFFER], start: usize, cells: &[Cell]) -> bool
+    requires { start ≤ 256 }
+    ensures { Writes result (W.contents out.old) (W.contents out.new)
+        (take start bytes.old ++ (flat_map cell_bytes_of cells.now ++ 10 ∷ [])) }
+{
+    let mut rest = cells;
+    let mut end = start;
+    while rest.len() >= GROUP {
+        let Some(room) = room_after(out, bytes, end) else {
+            return false;
+        };
+        let (group, later) = rest.split_at(GROUP);
+        end = write_mixed(bytes, room, group);
+        rest = later;
+    }
+    put_end(out, bytes, end, rest)
+}
+
+// Writes a margin, cells and a line feed, or the line feed alone where there is no cell; the bytes have room for what waits.
+fn put_row<W: Write>(out: &mut W, bytes: &mut [u8; BUFFER], margin: u32, cells: &[Cell]) -> bool
+    ensures { Writes result (W.contents out.old) (W.contents out.new) (printed margin cells.now) }
+{
+    if cells.is_empty() {
+        return put(out, b"\n");
+    }
+    let Some(left) = put_margin(out, margin) else {
+        return false;
+    };
+    bytes[..left].fill(b' ');
+    put_cells(out, bytes, left, cells)
+}
+
+impl<W: Write> RowSink for TextRows<'_, W> {
+    ghost gave = { Adds (λ s. W.contents s.out.now) row_bytes };
+
+    ghost within = { AddsInto (λ s. W.contents s.out.now) row_bytes };
+
+    ghost failed = { λ s. s.failures };
+
+    ghost Loans = { GName };
+
+    ghost loans = { λ s. s.out.ghost_name };
+
+    ghost laws = { adds-sink (λ s. W.contents s.out.now) row_bytes };
+
+    ghost whole = { adds-whole (λ s. W.contents s.out.now) row_bytes };
+
+    fn row(&mut self, margin: u32, cells: &[Cell]) -> Result<(), Fault> {
+        if put_row(
+            self.out,
+            &mut self.bytes,
+            margin,
+            without_blanks_at_end(cells),
+        ) {
+            return Ok(());
+        }
+        self.failures = self.failures.saturating_add(1);
+        Err(Fault::WriteText)
+    }
+
+    fn failures(&self) -> u64 {
+        self.failures
+    }
+}

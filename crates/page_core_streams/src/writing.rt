@@ -1,0 +1,87 @@
+//! Writing bytes, in few calls.
+
+ghost use Rattle.std.specs.Prelude.{◌≡◌, ◌+◌, ◌≤◌, [], ◌++◌, length, true};
+ghost use Rattle.std.specs.List.{flat_map};
+ghost use Rattle.page_core_streams.specs.Grows.{Writes, WritesUpTo};
+
+use arrayvec::ArrayVec;
+use std::io::{ErrorKind, Write};
+
+/// The bytes that are collected before they are written.
+pub(crate) const BUFFER: usize = 512;
+
+/// How often an interrupted write is tried again.
+const INTERRUPTIONS: u32 = 1_000_000;
+
+// Bytes that are still to be written.
+type Unsent = ArrayVec<u8, 512>;
+
+/// Writes all bytes. A write of 0 bytes is a failure; an interrupted one is tried again.
+pub(crate) fn put<W: Write>(out: &mut W, bytes: &[u8]) -> bool
+    ensures { Writes result (W.contents out.old) (W.contents out.new) bytes.now }
+{
+    let mut rest = bytes;
+    let mut tries = INTERRUPTIONS;
+    while !rest.is_empty() {
+        match out.write(rest) {
+            Ok(count) if count > 0 => rest = &rest[count..],
+            Err(error) if error.kind() == ErrorKind::Interrupted && tries > 0 => tries -= 1,
+            _ => return false,
+        }
+    }
+    true
+}
+
+// Makes room for a number of bytes, by a write where there is too little.
+fn make_room<W: Write>(out: &mut W, unsent: &mut Unsent, bytes: usize) -> bool
+    requires { bytes ≤ 512 }
+    ensures sent { WritesUpTo result (W.contents out.old)
+        (W.contents out.new) unsent.old.items unsent.new.items }
+    ensures room { result ≡ true → length unsent.new.items + bytes ≤ 512 }
+{
+    if unsent.remaining_capacity() >= bytes {
+        return true;
+    }
+    send(out, unsent)
+}
+
+// Collects the bytes of a text, and writes what has no room.
+fn add<W: Write>(out: &mut W, unsent: &mut Unsent, text: &[u8]) -> bool
+    ensures { WritesUpTo result (W.contents out.old) (W.contents out.new) (unsent.old.items
+        ++ text.now) unsent.new.items }
+{
+    if text.len() > BUFFER {
+        return send(out, unsent) && put(out, text);
+    }
+    if !make_room(out, unsent, text.len()) {
+        return false;
+    }
+    unsent.try_extend_from_slice(text).is_ok()
+}
+
+// Writes what was collected.
+fn send<W: Write>(out: &mut W, unsent: &mut Unsent) -> bool
+    ensures sent { Writes result (W.contents out.old) (W.contents out.new) unsent.old.items }
+    ensures empty { result ≡ true → unsent.new.items ≡ [] }
+{
+    if !put(out, unsent.as_slice()) {
+        return false;
+    }
+    unsent.clear();
+    true
+}
+
+/// Writes texts one after another, and says whether that succeeded; else a front of them was written. Short ones are collected to be written
+/// at once. A write of 0 bytes is a failure.
+pub fn put_all<W: Write>(out: &mut W, texts: &[&[u8]]) -> bool
+    ensures { Writes result (W.contents out.old) (W.contents out.new)
+        (flat_map (λ text. text.now) texts.now) }
+{
+    let mut unsent = Unsent::new();
+    for text in texts {
+        if !add(out, &mut unsent, *text) {
+            return false;
+        }
+    }
+    put(out, unsent.as_slice())
+}

@@ -1,3 +1,0 @@
-pub mod GrowsLemmas
-pub mod PlainLemmas
-pub mod RowLemmas

@@ -1,7 +1,0 @@
-use Rattle.std.proofs.Common.{◌≡◌, ◌++◌, ◌+◌, take}
-use Rattle.std.specs.List.{flat_map}
-use Rattle.page_core_writers.specs.RowBytes.{cell_bytes_of}
-use Rattle.page_core_writers.proofs.cells.write_plain.Given as goal
-
-abbrev pub invariant-loop-cell : goal.invariant-loop-cell
-invariant-loop-cell l = (take l.end l.bytes ≡ take l.fn.start l.fn.bytes ++ flat_map cell_bytes_of (take l.cell-index l.cells)) × (l.end ≡ l.fn.start + l.cell-index)

@@ -1,9 +1,0 @@
-use Rattle.std.proofs.Common.{replicate}
-use Rattle.page_core_writers.specs.Grows.{GrowsUpTo}
-use Rattle.page_core_writers.proofs.text_rows.put_margin.Given as goal
-
-abbrev pub invariant-loop-left : goal.invariant-loop-left
-invariant-loop-left g l = GrowsUpTo (g.W.Write.contents l.fn.out) (g.W.Write.contents l.out) (replicate l.margin 32) (replicate l.left 32)
-
-abbrev pub decreases-loop-left : goal.decreases-loop-left
-decreases-loop-left g l = l.left

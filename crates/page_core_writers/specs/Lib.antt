@@ -1,4 +1,0 @@
-pub mod Grows
-pub mod MessageBytes
-pub mod RowBytes
-pub mod machine

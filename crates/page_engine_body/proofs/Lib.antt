@@ -1,4 +1,0 @@
-pub mod EventLemmas
-pub mod SharedLemmas
-pub mod TreeLemmas
-pub mod BodyOutLemmas

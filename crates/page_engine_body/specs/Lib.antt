@@ -1,6 +1,0 @@
-pub mod Languages
-pub mod Bodies
-pub mod Caps
-pub mod Titles
-pub mod Trees
-pub mod machine

@@ -1,2 +1,0 @@
-pub mod CapLemmas
-pub mod PackLemmas

@@ -1,9 +1,0 @@
-use Rattle.std.proofs.Common.{◌≡◌, ◌≤◌, ◌+◌, ◌-◌, length, drop}
-use Rattle.page_roff_forms.specs.Arguments.{quoted_len}
-use Rattle.page_roff_forms.proofs.quotes.quoted_len.Given as goal
-
-abbrev pub invariant-loop-len : goal.invariant-loop-len
-invariant-loop-len l = (l.len ≤ length l.text) × (quoted_len l.text ≡ l.len + quoted_len (drop l.len l.text))
-
-abbrev pub decreases-loop-len : goal.decreases-loop-len
-decreases-loop-len l = length l.text - l.len

@@ -1,4 +1,0 @@
-pub mod Ends
-pub mod LineForms
-pub mod Arguments
-pub mod machine

@@ -1,0 +1,110 @@
+-- The arguments of a control line. Source: roff(7), "Macro syntax".
+use Rattle.std.specs.Prelude.{◌≡◌, ◌≤◌, ℕ, zero, suc, ◌+◌, Bool, true, false, ◌==◌, ◌&&◌, nat_lt, min, List, [], ◌∷◌, length, take, drop, if◌then◌else◌, Option, MatchOption}
+use Rattle.std.specs.List.{prefix_len}
+use Rattle.std.specs.Borrow.{Bor}
+use Rattle.page_roff_syntax.specs.declared.quotes.Argument.{Argument}
+use Rattle.page_roff_syntax.specs.declared.quotes.Quoting.{Quoting}
+use Rattle.page_roff_syntax.specs.declared.names.TheConstants.{NAME_ROOM}
+use Rattle.page_roff_syntax.specs.declared.quotes.Quoting.TheVariants.{Bare, Closed, Unclosed}
+
+-- blanks (32) part arguments, tabs do not
+abbrev pub is_blank : ℕ → Bool
+is_blank byte = byte == 32
+
+-- an argument without quotes goes up to a blank; a backslash (92) keeps its next byte
+abbrev pub bare_len : List ℕ → ℕ
+bare_len [] = 0
+bare_len (byte ∷ []) = if is_blank byte then 0 else 1
+bare_len (byte ∷ next ∷ bytes) =
+    if is_blank byte then 0
+    else if byte == 92 then 2 + bare_len bytes
+    else 1 + bare_len (next ∷ bytes)
+
+-- after its first quote (34) a quoted argument goes up to the next lone quote or the end; a pair of quotes is no end, and a backslash
+-- keeps its next byte here, too
+abbrev pub quoted_len : List ℕ → ℕ
+quoted_len [] = 0
+quoted_len (byte ∷ []) = if byte == 34 then 0 else 1
+quoted_len (byte ∷ next ∷ bytes) =
+    if byte == 34 then (if next == 34 then 2 + quoted_len bytes else 0)
+    else if byte == 92 then 2 + quoted_len bytes
+    else 1 + quoted_len (next ∷ bytes)
+
+-- whether it has its last quote
+abbrev pub quoting_of : List ℕ → Quoting
+quoting_of inner = if nat_lt (quoted_len inner) (length inner) then Closed else Unclosed
+
+-- whether it is quoted
+abbrev pub is_quoted : Quoting → Bool
+is_quoted Bare = false
+is_quoted Closed = true
+is_quoted Unclosed = true
+
+-- the column is the text's, which a quote may stand before
+abbrev pub quoted_argument : ℕ → List ℕ → Argument (List ℕ)
+quoted_argument column inner =
+    record { text = take (quoted_len inner) inner; column = column + 1; quoting = quoting_of inner }
+
+-- in a quoted argument a pair of quotes is one quote
+abbrev pub unpaired : List ℕ → List ℕ
+unpaired [] = []
+unpaired (byte ∷ []) = byte ∷ []
+unpaired (byte ∷ next ∷ bytes) =
+    if byte == 34 && next == 34 then 34 ∷ unpaired bytes else byte ∷ unpaired (next ∷ bytes)
+
+-- what an argument says
+abbrev pub argument_value : Argument (List ℕ) → List ℕ
+argument_value argument = if is_quoted argument.quoting then unpaired argument.text else argument.text
+
+-- the name that an argument is, up to one byte beyond the limit of names: a longer one is refused, whatever its other bytes are
+abbrev pub argument_name : Argument (List ℕ) → List ℕ
+argument_name argument = take NAME_ROOM (argument_value argument)
+
+abbrev pub bare_argument : ℕ → List ℕ → Argument (List ℕ)
+bare_argument column text = record { text = take (bare_len text) text; column = column; quoting = Bare }
+
+abbrev pub begins_quoted : List ℕ → Bool
+begins_quoted [] = false
+begins_quoted (byte ∷ bytes) = byte == 34
+
+-- the argument that a text begins with, and its bytes with its quotes
+abbrev pub first_argument : ℕ → List ℕ → Argument (List ℕ)
+first_argument column text =
+    if begins_quoted text then quoted_argument column (drop 1 text) else bare_argument column text
+
+abbrev pub argument_len : List ℕ → ℕ
+argument_len text =
+    if begins_quoted text then min (length text) (quoted_len (drop 1 text) + 2) else bare_len text
+
+-- the arguments of a text, of which the first byte stands at a column; at most n parts of it are read
+abbrev pub first_arguments : ℕ → ℕ → List ℕ → List (Argument (List ℕ))
+first_arguments zero column text = []
+first_arguments (suc n) column [] = []
+first_arguments (suc n) column (byte ∷ bytes) =
+    if is_blank byte then first_arguments n (column + 1) bytes
+    else
+    first_argument column (byte ∷ bytes)
+    ∷ first_arguments n (column + argument_len (byte ∷ bytes)) (drop (argument_len (byte ∷ bytes)) (byte ∷ bytes))
+
+-- all of them: a text has no more parts than bytes
+unfoldable pub arguments : ℕ → List ℕ → List (Argument (List ℕ))
+arguments column text = first_arguments (length text) column text
+
+abbrev pub has_arguments : List ℕ → Bool
+has_arguments rest = nat_lt (prefix_len is_blank rest) (length rest)
+
+-- an argument of the program, with what its text holds
+abbrev pub argument_view : Argument (Bor (List ℕ)) → Argument (List ℕ)
+argument_view argument =
+    record { text = argument.text.now; column = argument.column; quoting = argument.quoting }
+
+-- the first of a text's arguments, if there is one, and the bytes after which the others begin
+abbrev pub ReadsFirst : ℕ → List ℕ → Option (Argument (Bor (List ℕ)) × ℕ) → Type 0
+ReadsFirst column text result =
+    MatchOption result (arguments column text ≡ [])
+    (λ read. (read.1 ≤ length text) × (arguments column text ≡ argument_view read.0 ∷ arguments (column + read.1) (drop read.1 text)))
+
+-- the first of the arguments that are still to be read, if there is one, and then the others
+abbrev pub ReadsNext : List (Argument (List ℕ)) → Option (Argument (Bor (List ℕ))) → List (Argument (List ℕ)) → Type 0
+ReadsNext old result new =
+    MatchOption result ((old ≡ []) × (new ≡ [])) (λ argument. old ≡ argument_view argument ∷ new)

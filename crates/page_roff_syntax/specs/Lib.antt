@@ -1,0 +1,6 @@
+pub mod Regions
+pub mod Requests
+pub mod Ends
+pub mod LineForms
+pub mod Arguments
+pub mod machine

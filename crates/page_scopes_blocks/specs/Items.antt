@@ -1,0 +1,68 @@
+-- Items of lists: their marks and numbers. Source: mdoc(7), `Bl` and `It`.
+use Rattle.std.specs.Prelude.{ℕ, min, false, List, ◌++◌, Option, None, Some, codes, decimal, pos}
+use Rattle.page_core_base.specs.declared.places.Place.{Place}
+use Rattle.page_core_limits.specs.declared.TheConstants.{LINE}
+use Rattle.page_scopes_layout.specs.Begins.{entered_context}
+use Rattle.page_scopes_layout.specs.Lists.{item_begun}
+use Rattle.page_scopes_layout.specs.Margins.{hold}
+use Rattle.page_scopes_layout.specs.Nodes.{begin_items, margin_items}
+use Rattle.page_scopes_layout.specs.declared.contexts.Context.{Context}
+use Rattle.page_scopes_layout.specs.declared.lists.OpenList.{OpenList}
+use Rattle.page_scopes_phrases.specs.Outcomes.{Outcome, followed_by, nothing}
+use Rattle.page_scopes_phrases.specs.Runnings.{row_ended}
+use Rattle.page_scopes_phrases.specs.Tags.{phrase_tag}
+use Rattle.page_scopes_phrases.specs.declared.phrases.Phrase.{Phrase}
+use Rattle.page_scopes_phrases.specs.declared.runnings.Running.{Running}
+use Rattle.page_scopes_phrases.specs.declared.tags.TagPlace.{TagPlace}
+use Rattle.page_scopes_labels.specs.declared.labels.Label.TheVariants as labels
+use Rattle.page_sets_lines.specs.declared.events.Join.TheVariants.{Apart}
+use Rattle.page_sets_lines.specs.declared.lists.ListKind.{ListKind}
+use Rattle.page_sets_lines.specs.declared.lists.ListKind.TheVariants as kinds
+
+-- ---- marks
+
+-- the mark of the open item, of which the number counts from 1
+abbrev pub mark_of : ListKind → ℕ → Option (List ℕ)
+mark_of kinds.Bullet number = Some (codes "\\(bu")
+mark_of kinds.Dash number = Some (codes "-")
+mark_of kinds.Hyphen number = Some (codes "-")
+mark_of kinds.Enum number = Some (decimal number ++ codes ".")
+mark_of _ number = None
+
+-- it stands at its macro
+abbrev pub mark_phrase : Place → List ℕ → Phrase (List ℕ)
+mark_phrase place mark = record {
+  text = mark;
+  column = min place.column LINE;
+  is_quoted = false;
+  is_line = false;
+  is_written = false;
+  font = None;
+  before = Apart;
+  after = Apart;
+}
+
+abbrev pub mark_place : OpenList → TagPlace
+mark_place list = record { margin = list.head; hang = hold (pos list.hang) }
+
+-- a mark is a tag of its item's text; in other lists the text stands at its margin
+abbrev pub given_mark : Place → OpenList → Option (List ℕ) → Context → Running → Outcome
+given_mark place list (Some mark) c r = phrase_tag (mark_place list) place.line (mark_phrase place mark) c r
+given_mark place list None c r = record { items = margin_items c; context = c; running = r }
+
+abbrev pub mark : Place → Option OpenList → Context → Running → Outcome
+mark place (Some list) c r = given_mark place list (mark_of list.kind list.items) c r
+mark place None c r = nothing c r
+
+-- ---- items
+
+abbrev pub item_begins : Context → Running → Outcome
+item_begins c r = record {
+  items = begin_items labels.Item (item_begun c.list c);
+  context = item_begun c.list c;
+  running = row_ended r;
+}
+
+-- after a blank row or in a new row, with its mark
+unfoldable pub item_opened : Place → Context → Running → Outcome
+item_opened place c r = followed_by (item_begins (entered_context c) r) (λ d s. mark place d.list d s)

@@ -1,0 +1,128 @@
+//! Items of lists: their marks and numbers (mdoc(7), `Bl` and `It`).
+
+ghost use Rattle.std.specs.Prelude.{◌≡◌, ◌≤◌, ◌++◌, length, codes, decimal};
+ghost use Rattle.page_sets_lines.specs.Fits.{FitsAt};
+ghost use Rattle.page_scopes_phrases.specs.Outcomes.{GivesOutcome};
+ghost use Rattle.page_scopes_phrases.specs.Phrases.{phrase_view};
+ghost use Rattle.page_scopes_blocks.specs.Items as items;
+
+use arrayvec::ArrayVec;
+use itoa::Buffer;
+use page_core_base::{PieceOut, Place};
+use page_core_limits::LINE;
+use page_scopes_labels::Label;
+use page_scopes_layout::{Context, OpenList, give_begin, give_margins, hold};
+use page_scopes_phrases::{Phrase, Running, TagPlace, give_phrase_tag};
+use page_sets_lines::{Join, ListKind};
+
+// Room for a number and a full stop.
+type NumberText = ArrayVec<u8, 48>;
+
+// A number with a full stop.
+fn number_text(number: u32) -> NumberText
+    ensures { result.items ≡ decimal number ++ codes "." }
+{
+    let mut buffer = Buffer::new();
+    let mut text = ArrayVec::new();
+    let _ = text.try_extend_from_slice(buffer.format(number).as_bytes());
+    let _ = text.try_extend_from_slice(b".");
+    text
+}
+
+// A mark at its macro.
+fn mark_phrase<'a>(place: Place, mark: &'a [u8]) -> Phrase<&'a [u8]>
+    requires { length mark.now ≤ 48 }
+    ensures seen { phrase_view result ≡ items.mark_phrase place mark.now }
+    ensures fits { FitsAt result.column result.text.now }
+{
+    Phrase {
+        text: mark,
+        column: place.column.min(LINE as u32),
+        is_quoted: false,
+        is_line: false,
+        is_written: false,
+        font: None,
+        before: Join::Apart,
+        after: Join::Apart,
+    }
+}
+
+// Where the mark of the open item stands.
+fn mark_place(list: &OpenList) -> TagPlace
+    ensures { result ≡ items.mark_place list.now }
+{
+    TagPlace {
+        margin: list.head,
+        hang: hold(i64::from(list.hang)),
+    }
+}
+
+// Gives a mark of an item.
+fn give_mark<O: PieceOut>(
+    out: &mut O,
+    place: Place,
+    list: &OpenList,
+    mark: &[u8],
+    context: &mut Context,
+    running: &mut Running,
+)
+    requires { length mark.now ≤ 48 }
+    ensures { GivesOutcome O.left out.old
+        (items.given_mark place list.now (Some mark.now) context.old running.old)
+        out.new context.new running.new }
+{
+    let phrase = mark_phrase(place, mark);
+    give_phrase_tag(out, mark_place(list), place.line, &phrase, context, running);
+}
+
+// Gives the mark of the open item of a list, where its type has one.
+fn give_mark_of<O: PieceOut>(
+    out: &mut O,
+    place: Place,
+    list: &OpenList,
+    context: &mut Context,
+    running: &mut Running,
+)
+    ensures { GivesOutcome O.left out.old
+        (items.given_mark place list.now (items.mark_of list.now.kind list.now.items) context.old running.old)
+        out.new context.new running.new }
+{
+    match list.kind {
+        ListKind::Bullet => give_mark(out, place, list, b"\\(bu", context, running),
+        ListKind::Dash | ListKind::Hyphen => give_mark(out, place, list, b"-", context, running),
+        ListKind::Enum => {
+            let number = number_text(list.items);
+            give_mark(out, place, list, number.as_slice(), context, running);
+        }
+        _ => give_margins(out, context),
+    }
+}
+
+// Begins an item of the open list.
+fn begin_item<O: PieceOut>(out: &mut O, context: &mut Context, running: &mut Running)
+    ensures { GivesOutcome O.left out.old (items.item_begins context.old running.old)
+        out.new context.new running.new }
+{
+    *context = context.item_begun();
+    give_begin(out, Label::Item, context);
+    running.end_row();
+}
+
+/// Gives what an item of the open list begins with.
+#[tactic(auto, unfolding(crate::specs::Items::item_opened))]
+pub fn give_item<O: PieceOut>(
+    out: &mut O,
+    place: Place,
+    context: &mut Context,
+    running: &mut Running,
+)
+    ensures { GivesOutcome O.left out.old
+        (items.item_opened place context.old running.old)
+        out.new context.new running.new }
+{
+    *context = context.entered();
+    begin_item(out, context, running);
+    if let Some(list) = context.list {
+        give_mark_of(out, place, &list, context, running);
+    }
+}

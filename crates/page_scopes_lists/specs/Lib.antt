@@ -1,3 +1,0 @@
-pub mod ListWidths
-pub mod OpenLists
-pub mod Items
