@@ -12,6 +12,7 @@
 //! (`specs/Latches.antt`).
 #![tactic(auto)]
 
+mod bounded_texts;
 mod cells;
 mod faults;
 mod lines_taken;
@@ -28,6 +29,7 @@ mod row_sinks;
 mod texts;
 mod word_parts;
 
+pub use bounded_texts::BoundedText;
 pub use cells::{BLANK_GROUP, Cell, Font, LONG_ROW, are_blank};
 pub use faults::Fault;
 pub use lines_taken::{Form, Taken};

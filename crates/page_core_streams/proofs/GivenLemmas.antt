@@ -1,7 +1,7 @@
 -- What a source gave, call by call.
 use Rattle.std.proofs.Common.{◌≡◌, ℕ, ◌+◌, ◌-◌, ◌≤◌, List, [], ◌++◌, length, refl, sym, ap, ◌∙◌, append_assoc, append-nil, arith, length-append, Option, Some, None}
 use Rattle.std.specs.Io.KnownBytes.{Consumes}
-use Rattle.page_core_streams.specs.Sources.{SourceState, HasGiven, IsLean, counted}
+use Rattle.page_core_streams.specs.Sources.{SourceState, HasGiven, IsBusy, IsLean, counted}
 
 pub consumes_none : (a : Option (List ℕ)) → Consumes a a []
 consumes_none None = tt
@@ -38,12 +38,6 @@ given_end {s} {t} {u} a b xs g h = rw append-nil at (given_more a b xs [] g h)
 
 pub lean_none : (s : SourceState) → IsLean s s 0 []
 lean_none s = record { idle = 0; empty = counted_none s.empty; most = omega arith }
-
--- so far, without a call that was the end or a failure
-pub record IsBusy (s t : SourceState) (asked : ℕ) (bytes : List ℕ) : Type 0 where
-  pub idle : ℕ
-  pub empty : t.empty ≡ counted s.empty idle
-  pub most : asked ≤ length bytes + idle
 
 pub busy_none : (s : SourceState) → IsBusy s s 0 []
 busy_none s = record { idle = 0; empty = counted_none s.empty; most = omega arith }

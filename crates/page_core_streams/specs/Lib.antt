@@ -1,5 +1,6 @@
 pub mod Sources
 pub mod Readings
+pub mod Chunks
 pub mod Grows
 pub mod MessageBytes
 pub mod RowBytes

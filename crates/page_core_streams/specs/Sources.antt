@@ -1,5 +1,5 @@
 -- A source of bytes, as its counts show it.
-use Rattle.std.specs.Prelude.{◌≡◌, ℕ, ◌+◌, ◌-◌, ◌^◌, ◌≤◌, min, List, Option, length}
+use Rattle.std.specs.Prelude.{◌≡◌, ℕ, ◌+◌, ◌-◌, ◌^◌, ◌≤◌, ◌<◌, ◌⊎◌, min, List, Option, length}
 use Rattle.std.specs.Io.KnownBytes.{Consumes}
 
 -- the bytes to come, where they are known; how often it failed and was asked, how many bytes it gave, and how many of its calls were empty:
@@ -30,3 +30,13 @@ pub record IsLean (s t : SourceState) (asked : ℕ) (bytes : List ℕ) : Type 0 
   pub idle : ℕ
   pub empty : t.empty ≡ counted s.empty idle
   pub most : asked ≤ length bytes + idle + 1
+
+-- so far each gave a byte or was empty
+pub record IsBusy (s t : SourceState) (asked : ℕ) (bytes : List ℕ) : Type 0 where
+  pub idle : ℕ
+  pub empty : t.empty ≡ counted s.empty idle
+  pub most : asked ≤ length bytes + idle
+
+-- the bound on calls was reached, or the bound on bytes was passed
+abbrev pub IsTooLong : ℕ → List ℕ → Type 0
+IsTooLong asked bytes = (asked ≡ 2 ^ 32 - 1) ⊎ (2 ^ 31 - 1 < length bytes)

@@ -12,6 +12,7 @@
 #![tactic(auto)]
 
 mod cells;
+mod chunks;
 mod kept;
 mod message_bytes;
 mod sources;
@@ -20,6 +21,7 @@ mod text_rows;
 mod writing;
 
 pub use cells::cell_bytes;
+pub use chunks::Chunks;
 pub use kept::{KeptNotes, KeptRows, Row};
 pub use message_bytes::write_note;
 pub use sources::{BYTES, Counted, READS, Reading, SliceSource, Source};

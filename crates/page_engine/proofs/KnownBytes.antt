@@ -6,10 +6,10 @@ use Rattle.page_core_base.specs.Rows.{LaidRow}
 use Rattle.page_core_base.specs.declared.faults.Fault.{Fault}
 use Rattle.page_core_base.specs.declared.faults.Fault.TheVariants.{Memory, Read, WriteText, WriteNotes, TooLong, Settings, Failed, Ended, BadIndex}
 use Rattle.page_core_base.specs.declared.page_settings.Settings.{Settings as PageSettings}
-use Rattle.page_core_streams.specs.Sources.{SourceState, source_state, IsLean}
+use Rattle.page_core_streams.specs.Sources.{SourceState, source_state, IsLean, IsTooLong}
 use Rattle.page_engine.specs.declared.runs.Outcome.{Outcome}
 use Rattle.page_engine.specs.Page.{start}
-use Rattle.page_engine.specs.Runs.{RunsOver, RunsIn, IsTooLong, whole_page, settled_page}
+use Rattle.page_engine.specs.Runs.{RunsOver, RunsIn, whole_page, settled_page}
 use Rattle.page_engine.specs.Streams.{Sinks, Streams, AllCame, FrontCame}
 use Rattle.std.proofs.lemmas.List.{take-append-le}
 

@@ -1,6 +1,6 @@
 -- Parts of a page that follow one another, and what is known where a sink failed.
 use Rattle.std.proofs.Common.{◌≡◌, ℕ, false, ◌+◌, ◌<◌, ◌≤◌, ◌^◌, List, [], ◌∷◌, ◌++◌, length, take, drop, refl, sym, ap, ◌∙◌, append_assoc, append-nil, arith, length-append, inl, inr}
-use Rattle.std.proofs.lemmas.List.{take-append-drop, take-take, take_at}
+use Rattle.std.proofs.lemmas.List.{take-append-drop}
 use Rattle.page_core_base.specs.Sinks.{IsSink}
 use Rattle.page_core_base.specs.Laid.{nothing}
 use Rattle.page_core_base.specs.declared.faults.Fault.{Fault}
@@ -93,32 +93,15 @@ room_after {run} {mid} xs count more m c h = record {
 
 -- ---- a sink failed
 
-cut_parts : (xs bs as_ zs : List ℕ) (n : ℕ) → xs ++ ((bs ++ as_) ++ zs) ≡ (xs ++ bs) ++ (take n as_ ++ (drop n as_ ++ zs))
-cut_parts xs bs as_ zs n =
-    ap (λ l. xs ++ l) (append_assoc bs as_ zs)
-    ∙ (sym (append_assoc xs bs (as_ ++ zs))
-    ∙ ap (λ l. (xs ++ bs) ++ l) (ap (λ l. l ++ zs) (sym (take-append-drop n as_)) ∙ append_assoc (take n as_) (drop n as_) zs))
+cut_parts : (xs bs as_ : List ℕ) (n : ℕ) → xs ++ (bs ++ as_) ≡ (xs ++ bs) ++ (take n as_ ++ drop n as_)
+cut_parts xs bs as_ n = sym (append_assoc xs bs as_) ∙ ap (λ l. (xs ++ bs) ++ l) (sym (take-append-drop n as_))
 
-cut_length : (ys bs as_ zs : List ℕ) (n most : ℕ) → ys ≡ bs ++ as_ → length (ys ++ zs) ≤ most → length (take n as_ ++ (drop n as_ ++ zs)) ≤ most
-cut_length ys bs as_ zs n most h m =
-    omega (
-      arith,
-      m,
-      ap length h,
-      length-append ys zs,
-      length-append bs as_,
-      length-append (take n as_) (drop n as_ ++ zs),
-      length-append (drop n as_) zs,
-      length-append (take n as_) (drop n as_),
-      ap length (take-append-drop n as_),
-    )
-
--- in a chunk after bytes that were taken, where these are left aside
+-- in a chunk after bytes that were taken
 pub broken_chunk : {R N : Type 0} (k : Sinks R N) → IsSink k.to.row_gave k.to.row_within → IsSink k.to.note_gave k.to.note_within
-    → {run mid : Run} {r a a' : R} {n b b' : N} (xs ys zs : List ℕ) (fault : Fault) → Through k run mid r a n b xs
-    → ((e : Edge) → IsOpenAt mid.page e → ChunkBroke k a a' b b' e mid.cutter.point ys fault) → length (ys ++ zs) ≤ 2 ^ 14
-    → (e : Edge) → IsOpenAt run.page e → Broken k r a' n b' e run.cutter.point (xs ++ (ys ++ zs)) fault
-broken_chunk k rows notes {run} {mid} {r} {a} {a'} {n} {b} {b'} xs ys zs fault s t m e h =
+    → {run mid : Run} {r a a' : R} {n b b' : N} (xs ys : List ℕ) (fault : Fault) → Through k run mid r a n b xs
+    → ((e : Edge) → IsOpenAt mid.page e → ChunkBroke k a a' b b' e mid.cutter.point ys fault) → length ys ≤ 2 ^ 14
+    → (e : Edge) → IsOpenAt run.page e → Broken k r a' n b' e run.cutter.point (xs ++ ys) fault
+broken_chunk k rows notes {run} {mid} {r} {a} {a'} {n} {b} {b'} xs ys fault s t m e h =
     let p = run.cutter.point in
     let q = mid.cutter.point in
     let f = s.settled e h in
@@ -129,9 +112,9 @@ broken_chunk k rows notes {run} {mid} {r} {a} {a'} {n} {b} {b'} xs ys zs fault s
     let z = point_after-append p xs c.before ∙ ap (λ v. point_after v c.before) (sym s.moved.point) in record {
       before = xs ++ c.before;
       own = take c.broke.count c.after;
-      left = drop c.broke.count c.after ++ zs;
-      parts = ap (λ l. xs ++ (l ++ zs)) c.parts ∙ cut_parts xs c.before c.after zs c.broke.count;
-      recent = cut_length ys c.before c.after zs c.broke.count (2 ^ 14) c.parts m;
+      left = drop c.broke.count c.after;
+      parts = ap (λ l. xs ++ l) c.parts ∙ cut_parts xs c.before c.after c.broke.count;
+      recent = omega (arith, m, ap length c.parts, length-append c.before c.after, ap length (take-append-drop c.broke.count c.after));
       rows = c.rows;
       notes = c.notes;
       whole = rw w (both_gave rows notes c.rows c.notes x y f.came.gave c.whole.gave);
@@ -189,15 +172,8 @@ pub all_done : (xs ys zs : List ℕ) → xs ≡ ys ++ zs → length zs ≤ 0 →
 all_done xs ys [] h n = h ∙ append-nil ys
 all_done xs ys (z ∷ zs) h n = absurd (omega arith)
 
-pub cut_take : (m n : ℕ) (l : List ℕ) → m ≤ n → take m l ++ drop m (take n l) ≡ take n l
-cut_take m n l h = rw (← take-take m n l h) (take-append-drop m (take n l))
-
 pub part_of : (xs ys zs : List ℕ) (n : ℕ) → xs ≡ ys ++ zs → xs ≡ (ys ++ take n zs) ++ drop n zs
 part_of xs ys zs n h = h ∙ (ap (λ l. ys ++ l) (sym (take-append-drop n zs)) ∙ sym (append_assoc ys (take n zs) (drop n zs)))
-
--- the bytes up to a bound
-pub up_to : (n : ℕ) (xs ys zs : List ℕ) → n ≡ length xs + length ys → take n (xs ++ (ys ++ zs)) ≡ xs ++ ys
-up_to n xs ys zs h = rw (← append_assoc xs ys zs) (take_at (xs ++ ys) zs n (length-append xs ys ∙ sym h))
 
 pub fresh_room : (run : Run) (count : ℕ) → IsFresh run → count < 2 ^ 31 → CanTake run count
 fresh_room run count f h = record { free = f.free; room = omega (arith, f.room, h); few_lines = omega (arith, f.no_lines, ap length f.no_line) }

@@ -15,6 +15,7 @@ use Rattle.page_engine.specs.declared.runs.Outcome.{Outcome}
 use Rattle.page_engine.specs.declared.runs.Run.{Run}
 use Rattle.page_engine.specs.States.{IsOpenAt, CannotStart, Ends}
 use Rattle.page_engine.specs.Page.{Edge, counts_at, page, start, settled}
+use Rattle.page_core_streams.specs.Chunks.{Stops}
 use Rattle.page_core_streams.specs.Sources.{SourceState}
 use Rattle.page_engine.specs.Streams.{Streams, Sinks, AllCame}
 use Rattle.page_engine.specs.Runs.{RunsOver, Stopped, HasCause, Broken, whole_page, page_from, settled_from}
@@ -109,6 +110,24 @@ pub ended_with : {R N : Type 0} (k : Sinks R N) → IsSink k.to.row_gave k.to.ro
 ended_with k rows notes run' r' n' (Ok o) s t asked xs z g f i q e h = ended_well k rows notes s t xs z g f i q e h
 ended_with k rows notes {run} {r = r} {n = n} run' r' n' (Err fault) s t asked xs z g f i q e h =
     stopped_by k s t r r' n n' e run.cutter.point asked xs fault (broken_end k xs fault g f e h)
+
+-- a fault of the source does
+pub stopped_reading : {R N : Type 0} (fault : Fault) (k : Sinks R N) {run mid : Run} {r a : R} {n b : N} (run' : Run) (s t : SourceState) (bytes : List ℕ)
+    → Stops s t bytes fault → Through k run mid r a n b bytes → (e : Edge) → IsOpenAt run.page e
+    → (all : List ℕ) × ReadsAll (Err fault) k run' s t r a n b e run.cutter.point all
+stopped_reading Read k run' s t bytes w g e h =
+    (bytes, record { asked = w.0; few = w.1.few; source = w.1.source; lean = w.1.lean; ends = ((g.settled e h).came.gave, w.2) })
+stopped_reading TooLong k run' s t bytes w g e h = (
+      w.1,
+      record { asked = w.0; few = w.2.few; source = w.2.source; lean = w.2.lean; ends = (rw w.4 (g.settled e h).came.gave, w.3) },
+    )
+stopped_reading Memory k run' s t bytes w g e h = absurd w
+stopped_reading WriteText k run' s t bytes w g e h = absurd w
+stopped_reading WriteNotes k run' s t bytes w g e h = absurd w
+stopped_reading (Settings f) k run' s t bytes w g e h = absurd w
+stopped_reading Failed k run' s t bytes w g e h = absurd w
+stopped_reading Ended k run' s t bytes w g e h = absurd w
+stopped_reading (BadIndex l) k run' s t bytes w g e h = absurd w
 
 -- ---- from the start of a page
 

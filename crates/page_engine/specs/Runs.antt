@@ -11,7 +11,7 @@ use Rattle.page_roff_lines.specs.Cutting.{Point, first_point, point_after, lines
 use Rattle.page_core_base.specs.Checks.{IsGood, IsFirst}
 use Rattle.page_engine.specs.declared.runs.Outcome.{Outcome}
 use Rattle.page_engine.specs.Page.{Edge, counts_at, settled, page, start}
-use Rattle.page_core_streams.specs.Sources.{SourceState, HasGiven, IsLean}
+use Rattle.page_core_streams.specs.Sources.{SourceState, HasGiven, IsLean, IsTooLong}
 use Rattle.page_engine.specs.Streams.{Streams, Sinks, AllCame, FrontCame}
 
 -- from an edge and a point between two bytes: the page of the bytes to come, and what their lines settle
@@ -81,10 +81,6 @@ pub record Broken {R N : Type 0} (k : Sinks R N) (r r' : R) (n n' : N) (e : Edge
   pub whole : AllCame k.to r rows n notes (settled_from e p before)
   pub front : BrokeIn k.to rows r' notes n' (settled_from e p before).edge (point_after p before) own left
   pub cause : IsSinkFault fault (k.rows_failed r) (k.rows_failed r') (k.notes_failed n) (k.notes_failed n')
-
--- the bound on calls was reached, or the bound on bytes was passed
-abbrev pub IsTooLong : ℕ → List ℕ → Type 0
-IsTooLong asked bytes = (asked ≡ 2 ^ 32 - 1) ⊎ (2 ^ 31 - 1 < length bytes)
 
 -- nothing was read and nothing was given
 pub record Untouched {R N : Type 0} (a b : SourceState) (r r' : R) (n n' : N) : Type 0 where

@@ -12,14 +12,11 @@ ghost use Rattle.page_engine.specs.machine.Steps.{CanTake, TakesPart, TakesChunk
 
 use crate::pages::Page;
 use page_core_base::{Fault, Level, NoteSink, RowSink, Settings};
-use page_core_streams::{BYTES, Counted, READS, Reading, SliceSource, Source, TextNotes, TextRows};
+use page_core_streams::{Chunks, Counted, SliceSource, Source, TextNotes, TextRows};
 use page_roff_lines::Cutter;
 use page_roff_source::Counts;
 use std::alloc::Global;
 use std::io::{Read, Write};
-
-/// The bytes of a chunk at most: those that are read at a time.
-const CHUNK: usize = 16_384;
 
 /// How a run ended: the worst level of the messages that were given, and the counts.
 #[derive(Clone, Copy, Debug, PartialEq, Eq)]
@@ -142,28 +139,11 @@ impl Run {
         ensures rows_same { R.loans rows.new ≡ R.loans rows.old }
         ensures notes_same { N.loans notes.new ≡ N.loans notes.old }
     {
-        let mut bytes = 0u32;
-        let mut buffer = [0u8; CHUNK];
-        for calls in 0..READS {
-            match source.read(&mut buffer) {
-                Reading::End => return self.finish(rows, notes),
-                Reading::Failure => return Err(Fault::Read),
-                Reading::Bytes(count) => {
-                    let room = BYTES - bytes;
-                    if count as u64 > u64::from(room) {
-                        if let Err(fault) = self.take_chunk(&buffer[..room as usize], rows, notes) {
-                            return Err(fault);
-                        }
-                        return Err(Fault::TooLong);
-                    }
-                    bytes += count as u32;
-                    if let Err(fault) = self.take_chunk(&buffer[..count], rows, notes) {
-                        return Err(fault);
-                    }
-                }
-            }
+        let mut chunks = Chunks::new();
+        while chunks.read(source)? {
+            self.take_chunk(chunks.chunk(), rows, notes)?;
         }
-        Err(Fault::TooLong)
+        self.finish(rows, notes)
     }
 }
 
@@ -173,7 +153,7 @@ impl Run {
 /// The settings are checked first, and memory is reserved before the first read: with [`Fault::Settings`] and
 /// [`Fault::Memory`] nothing is read and nothing is given. [`Fault::Read`] comes where the source failed,
 /// [`Fault::WriteText`] and [`Fault::WriteNotes`] where that sink failed, and [`Fault::TooLong`] for a page of
-/// more than [`BYTES`] bytes or after [`READS`] read calls. After the fault of a sink nothing more is read, and
+/// more than [`crate::BYTES`] bytes or after [`crate::READS`] read calls. After the fault of a sink nothing more is read, and
 /// of the lines after the one at which it came nothing is given to the other.
 pub fn run_sinks<S: Source, R: RowSink, N: NoteSink>(
     alloc: Global,
@@ -222,7 +202,7 @@ pub fn run_page<I: Read, W: Write, V: Write>(
 }
 
 /// Formats a page that is in memory, as [`run_page`] does one that is read. Its faults are those of [`run_page`], but never [`Fault::Read`], and
-/// [`Fault::TooLong`] only for more than [`BYTES`] bytes.
+/// [`Fault::TooLong`] only for more than [`crate::BYTES`] bytes.
 pub fn run_bytes<W: Write, V: Write>(
     alloc: Global,
     bytes: &[u8],

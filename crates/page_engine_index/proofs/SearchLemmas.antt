@@ -11,6 +11,7 @@ use Rattle.std.proofs.lemmas.List.{take-take, take-append-drop, take_at, take_al
 use Rattle.std.proofs.Math.Seq.{split_at}
 use Rattle.memchr.specs.Find.{IsFirstByte, is_byte}
 use Rattle.page_engine_index.proofs.FieldLemmas.{front_none}
+use Rattle.page_core_streams.specs.Chunks.{Stops}
 use Rattle.page_core_streams.specs.Sources.{SourceState}
 use Rattle.page_core_base.specs.Sinks.{IsSink}
 use Rattle.page_core_base.specs.Fails.{Rose}
@@ -19,7 +20,7 @@ use Rattle.page_core_base.specs.declared.faults.Fault.TheVariants.{Memory, Read,
 use Rattle.page_core_limits.specs.declared.TheConstants.{LINE}
 use Rattle.page_engine_index.specs.Entries.{Line, Entry, Index, all_read, with_entries, bad_at, lines, whole_lines, index_from, index, whole_index, entry_of, version_of}
 use Rattle.page_engine_index.specs.Whatis.{Asked, rows, row_of}
-use Rattle.page_engine_index.specs.Searches.{RowsTo, ReadWhole, Searches, Stopped, FoundBad, Quiet, HasCause}
+use Rattle.page_engine_index.specs.Searches.{RowsTo, ReadWhole, Searches, SearchesOver, Stopped, FoundBad, Quiet, HasCause}
 use Rattle.page_engine_index.specs.machine.Steps.{Here, TookLine, TookPart, TakesPart, TakesOpen, BreaksIn, LineBroke, LineStops, IsNext, IsBad, index_at, StoppedIn, BrokeWriting, CameToBad, GivesRows, EndedWell, EndStops, Finishes, IsFresh, open_line}
 use Rattle.page_engine_index.specs.declared.entries.Place.{Place}
 use Rattle.page_engine_index.specs.declared.entries.Version.{Version}
@@ -304,34 +305,7 @@ end_stopped k q laws first s t run bytes (Settings f) some v h = absurd v
 end_stopped k q laws first s t run bytes Failed some v h = absurd v
 end_stopped k q laws first s t run bytes Ended some v h = absurd v
 
--- ---- a run that stopped
-
-pub stopped_more : {L : Type 0} (k : RowsTo L) (q : Asked) (s t : L) (bytes more : List ℕ) (fault : Fault) → StoppedIn k q s t bytes fault
-    → StoppedIn k q s t (bytes ++ more) fault
-stopped_more k q s t bytes more WriteText w = record {
-  came = w.came;
-  gave = w.gave;
-  cause = w.cause;
-  front = λ later. let f = w.front (more ++ later) in (f.0, ap (λ l. (index l).entries) (append_assoc bytes more later) ∙ f.1);
-}
-stopped_more k q s t bytes more (BadIndex n) w =
-    record { came = w.came; gave = w.gave; quiet = w.quiet; bad = λ later. ap index (append_assoc bytes more later) ∙ w.bad (more ++ later) }
-stopped_more k q s t bytes more Memory w = absurd w
-stopped_more k q s t bytes more Read w = absurd w
-stopped_more k q s t bytes more WriteNotes w = absurd w
-stopped_more k q s t bytes more TooLong w = absurd w
-stopped_more k q s t bytes more (Settings f) w = absurd w
-stopped_more k q s t bytes more Failed w = absurd w
-stopped_more k q s t bytes more Ended w = absurd w
-
 -- ---- what a search did
-
-pub cut_take : (m n : ℕ) (l : List ℕ) → m ≤ n → take m l ++ drop m (take n l) ≡ take n l
-cut_take m n l h = rw (← take-take m n l h) (take-append-drop m (take n l))
-
--- the bytes up to a bound
-pub up_to : (n : ℕ) (xs ys zs : List ℕ) → n ≡ length xs + length ys → take n (xs ++ (ys ++ zs)) ≡ xs ++ ys
-up_to n xs ys zs h = rw (← append_assoc xs ys zs) (take_at (xs ++ ys) zs n (length-append xs ys ∙ sym h))
 
 -- a part of a chunk
 pub part_of : (xs ys zs : List ℕ) (n : ℕ) → xs ≡ ys ++ zs → xs ≡ (ys ++ take n zs) ++ drop n zs
@@ -392,6 +366,31 @@ over_stopped TooLong k laws a b s t q asked bytes quiet w = absurd w
 over_stopped (Settings x) k laws a b s t q asked bytes quiet w = absurd w
 over_stopped Failed k laws a b s t q asked bytes quiet w = absurd w
 over_stopped Ended k laws a b s t q asked bytes quiet w = absurd w
+
+-- by a fault of the source
+pub over_fault : {L : Type 0} (fault : Fault) (k : RowsTo L) (a b : SourceState) (s t : L) (q : Asked) (run : Search) (bytes : List ℕ)
+    → Stops a b bytes fault → Here k q s t run bytes → (all : List ℕ) × SearchesOver (Err fault) k a b s t q all
+over_fault Read k a b s t q run bytes w h = (
+      bytes,
+      record { asked = w.0; few = w.1.few; source = w.1.source; ends = read_whole k q s t run bytes h; cause = (w.2, h.quiet) },
+    )
+over_fault TooLong k a b s t q run bytes w h = (
+      w.1,
+      record {
+        asked = w.0;
+        few = w.2.few;
+        source = w.2.source;
+        ends = rw w.4 (read_whole k q s t run bytes h);
+        cause = (w.3, record { source = w.5; rows = h.quiet });
+      },
+    )
+over_fault Memory k a b s t q run bytes w h = absurd w
+over_fault WriteText k a b s t q run bytes w h = absurd w
+over_fault WriteNotes k a b s t q run bytes w h = absurd w
+over_fault (BadIndex n) k a b s t q run bytes w h = absurd w
+over_fault (Settings x) k a b s t q run bytes w h = absurd w
+over_fault Failed k a b s t q run bytes w h = absurd w
+over_fault Ended k a b s t q run bytes w h = absurd w
 
 -- ---- the code's steps
 

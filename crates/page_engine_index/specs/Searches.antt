@@ -4,7 +4,7 @@ use Rattle.std.specs.Io.KnownBytes.{IsAtEnd}
 use Rattle.page_core_base.specs.Fails.{Rose}
 use Rattle.page_core_base.specs.declared.faults.Fault.{Fault}
 use Rattle.page_core_base.specs.declared.faults.Fault.TheVariants.{Memory, Read, WriteText, WriteNotes, TooLong, Settings, Failed, Ended, BadIndex}
-use Rattle.page_core_streams.specs.Sources.{SourceState, HasGiven}
+use Rattle.page_core_streams.specs.Sources.{SourceState, HasGiven, IsTooLong}
 use Rattle.page_engine_index.specs.Entries.{index, whole_index}
 use Rattle.page_engine_index.specs.Whatis.{Asked, rows}
 
@@ -56,10 +56,6 @@ Searches res j s t q bytes after =
     MatchResult res (λ number. Shown j s t q bytes after number) (λ fault. Stopped j s t q bytes after fault)
 
 -- ---- the causes of faults
-
--- the bound on calls was reached, or the bound on bytes was passed
-abbrev pub IsTooLong : ℕ → List ℕ → Type 0
-IsTooLong asked bytes = (asked ≡ 2 ^ 32 - 1) ⊎ (2 ^ 31 - 1 < length bytes)
 
 -- nothing failed
 pub record Quiet {L : Type 0} (k : RowsTo L) (a b : SourceState) (s t : L) : Type 0 where

@@ -13,12 +13,9 @@ use crate::open_lines::OpenLine;
 use crate::queries::{Query, Show};
 use memchr::memchr;
 use page_core_base::Fault;
-use page_core_streams::{BYTES, Counted, READS, Reading, Source};
+use page_core_streams::{Chunks, Counted, Source};
 use std::alloc::Global;
 use std::io::{Read, Write};
-
-/// The bytes of a chunk at most: those that are read at a time.
-const CHUNK: usize = 16_384;
 
 // A search: how far the index was read, the line that is open, and the rows that were given.
 #[derive(Drop)]
@@ -157,28 +154,11 @@ impl Search {
         ensures source_same { S.loans source.new ≡ S.loans source.old }
         ensures rows_same { L.loans out.new ≡ L.loans out.old }
     {
-        let mut bytes = 0u32;
-        let mut buffer = [0u8; CHUNK];
-        for calls in 0..READS {
-            match source.read(&mut buffer) {
-                Reading::End => return self.finish(query, out),
-                Reading::Failure => return Err(Fault::Read),
-                Reading::Bytes(count) => {
-                    let room = BYTES - bytes;
-                    if count as u64 > u64::from(room) {
-                        if let Err(fault) = self.take_chunk(&buffer[..room as usize], query, out) {
-                            return Err(fault);
-                        }
-                        return Err(Fault::TooLong);
-                    }
-                    bytes += count as u32;
-                    if let Err(fault) = self.take_chunk(&buffer[..count], query, out) {
-                        return Err(fault);
-                    }
-                }
-            }
+        let mut chunks = Chunks::new();
+        while chunks.read(source)? {
+            self.take_chunk(chunks.chunk(), query, out)?;
         }
-        Err(Fault::TooLong)
+        self.finish(query, out)
     }
 }
 
@@ -188,7 +168,7 @@ impl Search {
 /// The memory of one line is reserved before the first read: with [`Fault::Memory`] nothing is read and nothing is given.
 /// [`Fault::BadIndex`] names the first bad line: a first line that names no version, one with another number of fields, or of more than
 /// [`page_core_limits::LINE`] bytes; the rows of the lines before it were given then. [`Fault::Read`] comes where the source failed,
-/// [`Fault::WriteText`] where the sink failed, and [`Fault::TooLong`] for an index of more than [`BYTES`] bytes or after [`READS`] read calls.
+/// [`Fault::WriteText`] where the sink failed, and [`Fault::TooLong`] for an index of more than [`page_core_streams::BYTES`] bytes or after [`page_core_streams::READS`] read calls.
 pub fn search_index<S: Source, L: LineSink>(
     alloc: Global,
     source: &mut S,

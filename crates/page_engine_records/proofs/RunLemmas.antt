@@ -9,6 +9,7 @@ use Rattle.page_core_base.specs.declared.faults.Fault.{Fault}
 use Rattle.page_core_base.specs.declared.faults.Fault.TheVariants.{Memory, Read, WriteText, WriteNotes, TooLong, Settings, Failed, Ended, BadIndex}
 use Rattle.page_core_base.specs.declared.page_settings.SettingFault.{SettingFault}
 use Rattle.page_core_base.specs.declared.page_settings.Settings.{Settings as PageSettings}
+use Rattle.page_core_streams.specs.Chunks.{Stops}
 use Rattle.page_core_streams.specs.Sources.{SourceState}
 use Rattle.page_core_streams.proofs.GivenLemmas.{given_none, lean_none}
 use Rattle.page_engine_index.specs.declared.records.Record.{Record}
@@ -120,6 +121,21 @@ finished run mid run' a b bytes s t all quiet =
       all = all;
       quiet = quiet;
     }
+
+-- a fault of the source ends it
+pub stopped : (fault : Fault) (run run' : RecordRun) (a b : SourceState) (bytes : List ℕ) → Stops a b bytes fault
+    → (all : List ℕ) × ReadsAll (Err fault) run run' a b all
+stopped Read run run' a b bytes w =
+    (bytes, record { asked = w.0; few = w.1.few; source = w.1.source; lean = w.1.lean; ends = w.2 })
+stopped TooLong run run' a b bytes w =
+    (w.1, record { asked = w.0; few = w.2.few; source = w.2.source; lean = w.2.lean; ends = (w.3, w.5) })
+stopped Memory run run' a b bytes w = absurd w
+stopped WriteText run run' a b bytes w = absurd w
+stopped WriteNotes run run' a b bytes w = absurd w
+stopped (Settings f) run run' a b bytes w = absurd w
+stopped Failed run run' a b bytes w = absurd w
+stopped Ended run run' a b bytes w = absurd w
+stopped (BadIndex l) run run' a b bytes w = absurd w
 
 -- ---- a run
 

@@ -6,7 +6,7 @@ use Rattle.page_core_base.specs.Fails.{Rose}
 use Rattle.page_core_base.specs.declared.faults.Fault.{Fault}
 use Rattle.page_core_base.specs.declared.faults.Fault.TheVariants.{Memory, Read, WriteText, WriteNotes, TooLong, Settings, Failed, Ended, BadIndex}
 use Rattle.page_core_base.specs.declared.page_settings.Settings.{Settings as PageSettings}
-use Rattle.page_core_streams.specs.Sources.{SourceState, HasGiven, IsLean}
+use Rattle.page_core_streams.specs.Sources.{SourceState, HasGiven, IsLean, IsTooLong}
 use Rattle.page_engine_index.specs.declared.records.Record.{Record}
 use Rattle.page_engine_records.specs.PageRecords.{page_record}
 
@@ -33,10 +33,6 @@ abbrev pub ReadsRecord : Result (Option Record) Fault → PageSettings → List 
 ReadsRecord res s bytes after = MatchResult res (λ found. IsRecord s bytes after found) (λ fault. Stopped s bytes fault)
 
 -- ---- the causes of faults
-
--- the bound on calls was reached, or the bound on bytes was passed
-abbrev pub IsTooLong : ℕ → List ℕ → Type 0
-IsTooLong asked bytes = (asked ≡ 2 ^ 32 - 1) ⊎ (2 ^ 31 - 1 < length bytes)
 
 abbrev pub HasCause : SourceState → SourceState → ℕ → List ℕ → Fault → Type 0
 HasCause a b asked bytes Memory = b ≡ a

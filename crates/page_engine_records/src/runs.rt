@@ -17,15 +17,12 @@ use crate::name_readers::{NameReader, Side};
 use crate::names::record_of;
 use crate::texts::KeptNames;
 use page_core_base::{Fault, Output, PieceLatch, PieceSink, Place, Settings};
-use page_core_streams::{BYTES, Counted, READS, Reading, Source};
+use page_core_streams::{Chunks, Counted, Source};
 use page_engine_header::Part;
 use page_engine_index::Record;
 use page_roff_lines::Cutter;
 use std::alloc::{AllocError, Global};
 use std::io::Read;
-
-/// The bytes of a chunk at most: those that are read at a time.
-const CHUNK: usize = 16_384;
 
 /// A page whose record is read, and the cutter of its bytes.
 #[derive(Drop)]
@@ -128,26 +125,12 @@ impl RecordRun {
         ensures reads { (bytes : List ℕ) × ReadsAll result self.old self.new (S.state source.old) (S.state source.new) bytes }
         ensures same { S.loans source.new ≡ S.loans source.old }
     {
-        let mut bytes = 0u32;
-        let mut buffer = [0u8; CHUNK];
-        for calls in 0..READS {
-            match source.read(&mut buffer) {
-                Reading::End => {
-                    self.finish();
-                    return Ok(());
-                }
-                Reading::Failure => return Err(Fault::Read),
-                Reading::Bytes(count) => {
-                    let room = BYTES - bytes;
-                    if count as u64 > u64::from(room) {
-                        return Err(Fault::TooLong);
-                    }
-                    bytes += count as u32;
-                    self.take_chunk(&buffer[..count]);
-                }
-            }
+        let mut chunks = Chunks::new();
+        while chunks.read(source)? {
+            self.take_chunk(chunks.chunk());
         }
-        Err(Fault::TooLong)
+        self.finish();
+        Ok(())
     }
 
     // The record that was read, of a page that has ended.
@@ -189,7 +172,7 @@ fn read_section(reader: &mut NameReader, section: &[u8])
 /// source, in chunks of any size. A page without such a section, or whose section has no name, has no record.
 ///
 /// The settings are checked first, and memory is reserved before the first read: with [`Fault::Settings`] and [`Fault::Memory`] nothing is read.
-/// [`Fault::Read`] comes where the source failed, and [`Fault::TooLong`] for a page of more than [`BYTES`] bytes or after [`READS`] read calls.
+/// [`Fault::Read`] comes where the source failed, and [`Fault::TooLong`] for a page of more than [`page_core_streams::BYTES`] bytes or after [`page_core_streams::READS`] read calls.
 pub fn read_record<S: Source>(
     alloc: Global,
     source: &mut S,

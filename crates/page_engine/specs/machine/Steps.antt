@@ -9,9 +9,9 @@ use Rattle.page_roff_lines.specs.Cutting.{Point, first_point, point_after, lines
 use Rattle.page_engine.specs.declared.runs.Run.{Run}
 use Rattle.page_engine.specs.States.{PageState, IsOpenAt}
 use Rattle.page_engine.specs.Page.{Edge, counts_at, settled, page, start}
-use Rattle.page_core_streams.specs.Sources.{SourceState, HasGiven, IsLean}
+use Rattle.page_core_streams.specs.Sources.{SourceState, HasGiven, IsLean, IsTooLong}
 use Rattle.page_engine.specs.Streams.{Sinks, AllCame, Came, Front}
-use Rattle.page_engine.specs.Runs.{page_from, settled_from, Broken, IsTooLong}
+use Rattle.page_engine.specs.Runs.{page_from, settled_from, Broken}
 
 -- ---- bytes that are taken
 

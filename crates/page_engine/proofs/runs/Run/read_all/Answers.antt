@@ -1,176 +1,100 @@
-use Rattle.std.proofs.Common.{◌≡◌, ◌<◌, ◌≤◌, ◌+◌, ◌-◌, ◌^◌, ◌++◌, [], refl, ◌∙◌, take, drop, length, length-append, append-nil, arith, inl, inr}
-use Rattle.std.proofs.lemmas.List.{length-take, take_all}
+use Rattle.std.proofs.Common.{◌≤◌, ◌+◌, ◌-◌, ◌^◌, ◌++◌, [], refl, ◌∙◌, length, length-append, arith}
+use Rattle.std.proofs.lemmas.Result.{err_from_is_err_and}
+use Rattle.page_core_streams.proofs.GivenLemmas.{busy_lean}
 use Rattle.page_engine.specs.Streams.{sinks}
-use Rattle.page_core_streams.proofs.GivenLemmas.{given_none, given_more, given_end, busy_none, busy_more, busy_end, busy_lean}
-use Rattle.page_engine.proofs.Through.{through_none, through_more, room_after, fresh_room, broken_chunk, cut_take, up_to}
-use Rattle.page_engine.proofs.WholeRuns.{ended_with, stopped_by}
+use Rattle.page_engine.proofs.Through.{through_none, through_more, room_after, fresh_room, broken_chunk}
+use Rattle.page_engine.proofs.WholeRuns.{ended_with, stopped_by, stopped_reading}
 use Rattle.page_engine.proofs.runs.Run.read_all.Goals as goal
 
-pub loop-calls-init : goal.loop-calls-init
-loop-calls-init g c =
+pub loop-self-init : goal.loop-self-init
+loop-self-init g c =
     let r = g.R.RowSink in
     let n = g.N.NoteSink in
     let k = sinks r.gave r.within r.failed n.gave n.within n.failed in
-    ([], given_none _, refl, through_none k g.met.R.RowSink.laws g.met.N.NoteSink.laws _ _ _ c.requires.free, refl, omega arith, refl, refl, refl, busy_none _)
+    ([], c.new-chunks.ensures (g.S.Source.state c.args.source.now), through_none k g.met.R.RowSink.laws g.met.N.NoteSink.laws _ _ _ c.requires.free, refl, refl, refl)
 
-pub finish-requires : goal.finish-requires
-finish-requires g c =
-    let i = c.loop-calls.invariant in
-    room_after i.0 (2 ^ 31 - 1) 0 i.3.moved (fresh_room c.args.self.now (2 ^ 31 - 1) c.requires (omega arith)) (omega (arith, i.4, i.5))
+pub returns-in_err-read-clause-reads : goal.returns-in_err-read-clause-reads
+returns-in_err-read-clause-reads g c =
+    let r = g.R.RowSink in
+    let n = g.N.NoteSink in
+    let k = sinks r.gave r.within r.failed n.gave n.within n.failed in
+    let i = c.loop-self.invariant in
+    let w = c.in_err-read.ensures.reads (g.S.Source.state c.args.source.now) i.0 i.1 in
+    let p = err_from_is_err_and c.from_residual.result c.from_residual.ensures.1 in
+    rw (p.1, p.2) (λ e h. stopped_reading c.in_err-read.field-0.0 k _ (g.S.Source.state c.args.source.now) (g.S.Source.state c.read.new.source) i.0 w i.2 e h)
+
+pub chunk-requires : goal.chunk-requires
+chunk-requires g c =
+    let i = c.loop-self.invariant in
+    let m = rw c.if-branch.true at (c.in_ok-read.ensures.reads (g.S.Source.state c.args.source.now) i.0 i.1) in
+    m.small
 
 pub take_chunk-requires-clause-room : goal.take_chunk-requires-clause-room
 take_chunk-requires-clause-room g c =
-    let i = c.loop-calls.invariant in
-    let t = length-take (2147483647 - c.loop-calls.bytes) c.read.new.buffer in
-    room_after i.0 (2 ^ 31 - 1) _ i.3.moved (fresh_room c.args.self.now (2 ^ 31 - 1) c.requires (omega arith)) (omega (arith, i.4, i.5, t))
+    let i = c.loop-self.invariant in
+    let m = rw c.if-branch.true at (c.in_ok-read.ensures.reads (g.S.Source.state c.args.source.now) i.0 i.1) in
+    let chunk = c.chunk.result.now in
+    room_after i.0 (2 ^ 31 - 1) (length chunk) i.2.moved (fresh_room c.args.self.now (2 ^ 31 - 1) c.requires (omega arith))
+    (omega (arith, rw (← c.chunk.ensures.value) at m.room, length-append i.0 chunk))
 
-pub take_chunk-requires-in-Bytes-clause-room : goal.take_chunk-requires-in-Bytes-clause-room
-take_chunk-requires-in-Bytes-clause-room g c =
-    let i = c.loop-calls.invariant in
-    let t = length-take c.in-Bytes.count c.read.new.buffer in
-    room_after i.0 (2 ^ 31 - 1) _ i.3.moved (fresh_room c.args.self.now (2 ^ 31 - 1) c.requires (omega arith))
-    (omega (arith, i.4, i.5, t, c.if-count-from.false, c.from.ensures))
-
-pub returns-in-End-clause-reads : goal.returns-in-End-clause-reads
-returns-in-End-clause-reads g c = λ e h.
+pub loop-self-preserved : goal.loop-self-preserved
+loop-self-preserved g c =
     let r = g.R.RowSink in
     let n = g.N.NoteSink in
     let k = sinks r.gave r.within r.failed n.gave n.within n.failed in
-    let i = c.loop-calls.invariant in
-    let d = c.in-End.ensures.reads in (
-      i.0,
-      record {
-        asked = c.loop-calls.calls + 1;
-        few = omega (arith, c.loop-calls-test.true);
-        source = given_end c.loop-calls.calls 1 i.0 i.1 d.0;
-        lean = busy_end c.loop-calls.calls i.0 i.9 d.3;
-        ends = ended_with k g.met.R.RowSink.laws g.met.N.NoteSink.laws _ _ _ c.finish.result _ _ _ i.0 c.requires.no_lines i.3
-            c.finish.ensures.ends d.2 (d.1 ∙ i.2) e h;
-      },
+    let i = c.loop-self.invariant in
+    let m = rw c.if-branch.true at (c.in_ok-read.ensures.reads (g.S.Source.state c.args.source.now) i.0 i.1) in
+    let s = c.in_ok-take_chunk.ensures in
+    let chunk = c.chunk.result.now in (
+      i.0 ++ chunk,
+      rw c.chunk.ensures.value m,
+      through_more k g.met.R.RowSink.laws g.met.N.NoteSink.laws i.0 chunk i.2 s.takes,
+      c.in_ok-read.ensures.same ∙ i.3,
+      s.rows_same ∙ i.4,
+      s.notes_same ∙ i.5,
     )
 
-pub returns-in-Failure-clause-reads : goal.returns-in-Failure-clause-reads
-returns-in-Failure-clause-reads g c = λ e h.
-    let i = c.loop-calls.invariant in
-    let d = c.in-Failure.ensures.reads in (
-      i.0,
-      record {
-        asked = c.loop-calls.calls + 1;
-        few = omega (arith, c.loop-calls-test.true);
-        source = given_end c.loop-calls.calls 1 i.0 i.1 d.0;
-        lean = busy_end c.loop-calls.calls i.0 i.9 d.2;
-        ends = ((i.3.settled e h).came.gave, rw i.2 at d.1);
-      },
-    )
-
-pub returns-in-Err-clause-reads : goal.returns-in-Err-clause-reads
-returns-in-Err-clause-reads g c = λ e h.
+pub returns-in_err-take_chunk-clause-reads : goal.returns-in_err-take_chunk-clause-reads
+returns-in_err-take_chunk-clause-reads g c =
     let r = g.R.RowSink in
     let n = g.N.NoteSink in
     let k = sinks r.gave r.within r.failed n.gave n.within n.failed in
-    let i = c.loop-calls.invariant in
-    let d = c.in-Bytes.ensures.reads in
-    let room = 2147483647 - c.loop-calls.bytes in
-    let count = c.in-Bytes.count in
-    let buffer = c.read.new.buffer in
-    let ys = take room buffer in
-    let zs = drop room (take count buffer) in
-    let cut = cut_take room count buffer (omega (arith, c.if-count-from.true, c.from.ensures)) in
-    let most : length (ys ++ zs) ≤ 2 ^ 14 = rw cut (omega (arith, length-take count buffer, d.2)) in (
-      i.0 ++ (ys ++ zs),
+    let i = c.loop-self.invariant in
+    let m = rw c.if-branch.true at (c.in_ok-read.ensures.reads (g.S.Source.state c.args.source.now) i.0 i.1) in
+    let chunk = c.chunk.result.now in
+    let fault = c.in_err-take_chunk.field-0.0 in
+    let p = err_from_is_err_and c.from_residual-in_err-take_chunk.result c.from_residual-in_err-take_chunk.ensures.1 in
+    rw (p.1, p.2) (λ e h. (
+      i.0 ++ chunk,
       record {
-        asked = c.loop-calls.calls + 1;
-        few = omega (arith, c.loop-calls-test.true);
-        source = rw cut (given_more c.loop-calls.calls 1 i.0 (take count buffer) i.1 d.0);
-        lean = rw cut (busy_lean (c.loop-calls.calls + 1) (i.0 ++ take count buffer)
-            (busy_more c.loop-calls.calls count i.0 (take count buffer) i.9 (omega (arith, length-take count buffer, d.2)) d.3));
-        ends = stopped_by k (g.S.Source.state c.args.source.now) (g.S.Source.state c.read.new.self) _ _ _ _ e c.args.self.now.cutter.point _ (i.0 ++ (ys ++ zs)) c.in-Err.fault
-            (broken_chunk k g.met.R.RowSink.laws g.met.N.NoteSink.laws i.0 ys zs c.in-Err.fault i.3 c.in-Err.ensures.takes most e h);
+        asked = m.asked;
+        few = omega (arith, m.calls);
+        source = rw c.chunk.ensures.value m.given;
+        lean = rw c.chunk.ensures.value (busy_lean m.asked _ m.busy);
+        ends = stopped_by k (g.S.Source.state c.args.source.now) (g.S.Source.state c.read.new.source) _ _ _ _ e c.args.self.now.cutter.point _ (i.0 ++ chunk) fault
+            (broken_chunk k g.met.R.RowSink.laws g.met.N.NoteSink.laws i.0 chunk fault i.2 c.in_err-take_chunk.ensures.takes c.chunk.ensures.small e h);
       },
-    )
+    ))
 
-pub returns-then-count-from-clause-reads : goal.returns-then-count-from-clause-reads
-returns-then-count-from-clause-reads g c = λ e h.
-    let r = g.R.RowSink in
-    let n = g.N.NoteSink in
-    let k = sinks r.gave r.within r.failed n.gave n.within n.failed in
-    let i = c.loop-calls.invariant in
-    let d = c.in-Bytes.ensures.reads in
-    let room = 2147483647 - c.loop-calls.bytes in
-    let count = c.in-Bytes.count in
-    let buffer = c.read.new.buffer in
-    let ys = take room buffer in
-    let zs = drop room (take count buffer) in
-    let over : room < count = omega (arith, c.if-count-from.true, c.from.ensures) in
-    let cut = cut_take room count buffer (omega arith) in
-    let whole : 2 ^ 31 - 1 ≡ length i.0 + length ys = omega (arith, length-take room buffer, d.2, over, i.4, i.5) in
-    let t = through_more k g.met.R.RowSink.laws g.met.N.NoteSink.laws i.0 ys i.3 c.in_default.ensures.takes in
-    let long : 2 ^ 31 - 1 < length (i.0 ++ (ys ++ zs)) =
-    rw cut (omega (arith, length-append i.0 (take count buffer), length-take count buffer, d.2, over, i.4, i.5)) in (
-      i.0 ++ (ys ++ zs),
-      record {
-        asked = c.loop-calls.calls + 1;
-        few = omega (arith, c.loop-calls-test.true);
-        source = rw cut (given_more c.loop-calls.calls 1 i.0 (take count buffer) i.1 d.0);
-        lean = rw cut (busy_lean (c.loop-calls.calls + 1) (i.0 ++ take count buffer)
-            (busy_more c.loop-calls.calls count i.0 (take count buffer) i.9 (omega (arith, length-take count buffer, d.2)) d.3));
-        ends = (rw (up_to (2 ^ 31 - 1) i.0 ys zs whole) (t.settled e h).came.gave, inr long);
-      },
-    )
-
-pub returns-in-Err-take_chunk-clause-reads : goal.returns-in-Err-take_chunk-clause-reads
-returns-in-Err-take_chunk-clause-reads g c = λ e h.
-    let r = g.R.RowSink in
-    let n = g.N.NoteSink in
-    let k = sinks r.gave r.within r.failed n.gave n.within n.failed in
-    let i = c.loop-calls.invariant in
-    let d = c.in-Bytes.ensures.reads in
-    let ys = take c.in-Bytes.count c.read.new.buffer in
-    let most : length (ys ++ []) ≤ 2 ^ 14 = rw append-nil (omega (arith, length-take c.in-Bytes.count c.read.new.buffer, d.2)) in (
-      i.0 ++ (ys ++ []),
-      record {
-        asked = c.loop-calls.calls + 1;
-        few = omega (arith, c.loop-calls-test.true);
-        source = rw (append-nil ys) (given_more c.loop-calls.calls 1 i.0 ys i.1 d.0);
-        lean = rw (append-nil ys) (busy_lean (c.loop-calls.calls + 1) (i.0 ++ ys)
-            (busy_more c.loop-calls.calls c.in-Bytes.count i.0 ys i.9 (omega (arith, length-take c.in-Bytes.count c.read.new.buffer, d.2)) d.3));
-        ends = stopped_by k (g.S.Source.state c.args.source.now) (g.S.Source.state c.read.new.self) _ _ _ _ e c.args.self.now.cutter.point _ (i.0 ++ (ys ++ [])) c.in-Err-take_chunk.fault
-            (broken_chunk k g.met.R.RowSink.laws g.met.N.NoteSink.laws i.0 ys [] c.in-Err-take_chunk.fault i.3 c.in-Err-take_chunk.ensures.takes most e h);
-      },
-    )
-
-pub loop-calls-preserved : goal.loop-calls-preserved
-loop-calls-preserved g c =
-    let r = g.R.RowSink in
-    let n = g.N.NoteSink in
-    let k = sinks r.gave r.within r.failed n.gave n.within n.failed in
-    let i = c.loop-calls.invariant in
-    let d = c.in-Bytes.ensures.reads in
-    let s = c.in_default-take_chunk.ensures in
-    let ys = take c.in-Bytes.count c.read.new.buffer in
-    let t = length-take c.in-Bytes.count c.read.new.buffer in (
-      i.0 ++ ys,
-      given_more c.loop-calls.calls 1 i.0 ys i.1 d.0,
-      d.1 ∙ i.2,
-      through_more k g.met.R.RowSink.laws g.met.N.NoteSink.laws i.0 ys i.3 s.takes,
-      omega (arith, i.4, length-append i.0 ys, t, d.2),
-      omega (arith, i.5, c.if-count-from.false, c.from.ensures),
-      c.in-Bytes.ensures.same ∙ i.6,
-      s.rows_same ∙ i.7,
-      s.notes_same ∙ i.8,
-      busy_more c.loop-calls.calls c.in-Bytes.count i.0 ys i.9 (omega (arith, t, d.2)) d.3,
-    )
+pub finish-requires : goal.finish-requires
+finish-requires g c =
+    let i = c.loop-self.invariant in
+    room_after i.0 (2 ^ 31 - 1) 0 i.2.moved (fresh_room c.args.self.now (2 ^ 31 - 1) c.requires (omega arith)) (omega (arith, i.1.room))
 
 pub returns-clause-reads : goal.returns-clause-reads
 returns-clause-reads g c = λ e h.
-    let i = c.loop-calls.invariant in
-    let all = take_all (2 ^ 31 - 1) i.0 (omega (arith, i.4, i.5)) in (
+    let r = g.R.RowSink in
+    let n = g.N.NoteSink in
+    let k = sinks r.gave r.within r.failed n.gave n.within n.failed in
+    let i = c.loop-self.invariant in
+    let m = rw c.if-branch.false at (c.in_ok-read.ensures.reads (g.S.Source.state c.args.source.now) i.0 i.1) in (
       i.0,
       record {
-        asked = c.loop-calls.calls;
-        few = omega (arith, c.loop-calls.auto.calls-end);
-        source = i.1;
-        lean = busy_lean c.loop-calls.calls i.0 i.9;
-        ends = (rw all (i.3.settled e h).came.gave, inl (omega (arith, c.loop-calls-test.false, c.loop-calls.auto.calls-end)));
+        asked = m.0;
+        few = m.1.few;
+        source = m.1.source;
+        lean = m.1.lean;
+        ends = ended_with k g.met.R.RowSink.laws g.met.N.NoteSink.laws _ _ _ c.finish.result _ _ _ i.0 c.requires.no_lines i.2
+            c.finish.ensures.ends m.3 m.2 e h;
       },
     )

@@ -1,172 +1,83 @@
-use Rattle.std.proofs.Common.{◌≡◌, ◌<◌, ◌≤◌, ◌+◌, ◌-◌, ◌^◌, ◌++◌, [], refl, ◌∙◌, take, drop, length, length-append, append-nil, arith, inl, inr, Err}
-use Rattle.std.proofs.lemmas.List.{length-take, take_all}
-use Rattle.page_core_base.specs.declared.faults.Fault.TheVariants.{Read, TooLong}
-use Rattle.page_core_streams.proofs.GivenLemmas.{given_none, given_more, given_end}
+use Rattle.std.proofs.Common.{◌≡◌, ◌<◌, ◌≤◌, ◌+◌, ◌^◌, ◌++◌, [], refl, ◌∙◌, length, length-append, arith}
+use Rattle.std.proofs.lemmas.Result.{err_from_is_err_and}
 use Rattle.page_engine_index.specs.Searches.{rows_to}
 use Rattle.page_engine_index.specs.Whatis.{asked_of}
-use Rattle.page_engine_index.proofs.SearchLemmas.{here_start, read_whole, over_end, over_stopped, stopped_more, stopped_at, cut_take, up_to}
+use Rattle.page_engine_index.proofs.SearchLemmas.{here_start, over_end, over_fault, over_stopped}
 use Rattle.page_engine_index.proofs.searches.Search.read_all.Goals as goal
 
-pub loop-calls-init : goal.loop-calls-init
-loop-calls-init g c =
+pub loop-self-init : goal.loop-self-init
+loop-self-init g c =
     let o = g.L.LineSink in
     let k = rows_to o.gave o.within o.failed in (
       [],
-      given_none _,
-      refl,
+      c.new-chunks.ensures (g.S.Source.state c.args.source.now),
       here_start k (asked_of c.args.query.now) g.met.L.LineSink.laws c.args.out.now c.args.self.now c.requires,
-      refl,
-      omega arith,
       omega (arith, c.requires.lines),
       omega (arith, c.requires.rows),
       refl,
       refl,
     )
 
-pub returns-in-End-clause-searches : goal.returns-in-End-clause-searches
-returns-in-End-clause-searches g c =
+pub returns-in_err-read-clause-searches : goal.returns-in_err-read-clause-searches
+returns-in_err-read-clause-searches g c =
     let o = g.L.LineSink in
     let k = rows_to o.gave o.within o.failed in
-    let i = c.loop-calls.invariant in
-    let d = c.in-End.ensures.reads in
-    let w = over_end c.finish.result k (g.S.Source.state c.args.source.now) (g.S.Source.state c.read.new.self) c.args.out.now c.loop-calls.out c.finish.new.out
-    (asked_of c.args.query.now) c.loop-calls.self (c.loop-calls.calls + 1) i.0 d.2 (d.1 ∙ i.2) i.3 c.finish.ensures.ends in (
-      i.0,
-      record {
-        asked = c.loop-calls.calls + 1;
-        few = omega (arith, c.loop-calls-test.true);
-        source = given_end c.loop-calls.calls 1 i.0 i.1 d.0;
-        ends = w.0;
-        cause = w.1;
-      },
-    )
+    let i = c.loop-self.invariant in
+    let w = c.in_err-read.ensures.reads (g.S.Source.state c.args.source.now) i.0 i.1 in
+    let p = err_from_is_err_and c.from_residual.result c.from_residual.ensures.1 in
+    rw (p.1, p.2)
+    (over_fault c.in_err-read.field-0.0 k (g.S.Source.state c.args.source.now) (g.S.Source.state c.read.new.source) c.args.out.now c.loop-self.out
+    (asked_of c.args.query.now) c.loop-self.self i.0 w i.2)
 
-pub returns-in-Failure-clause-searches : goal.returns-in-Failure-clause-searches
-returns-in-Failure-clause-searches g c =
-    let o = g.L.LineSink in
-    let k = rows_to o.gave o.within o.failed in
-    let i = c.loop-calls.invariant in
-    let d = c.in-Failure.ensures.reads in (
-      i.0,
-      record {
-        asked = c.loop-calls.calls + 1;
-        few = omega (arith, c.loop-calls-test.true);
-        source = given_end c.loop-calls.calls 1 i.0 i.1 d.0;
-        ends = read_whole k (asked_of c.args.query.now) c.args.out.now c.loop-calls.out c.loop-calls.self i.0 i.3;
-        cause = (rw i.2 at d.1, i.3.quiet);
-      },
-    )
+pub chunk-requires : goal.chunk-requires
+chunk-requires g c =
+    let i = c.loop-self.invariant in
+    let r = rw c.if-branch.true at (c.in_ok-read.ensures.reads (g.S.Source.state c.args.source.now) i.0 i.1) in
+    r.small
 
-pub returns-in-Err-clause-searches : goal.returns-in-Err-clause-searches
-returns-in-Err-clause-searches g c =
-    let o = g.L.LineSink in
-    let k = rows_to o.gave o.within o.failed in
-    let q = asked_of c.args.query.now in
-    let i = c.loop-calls.invariant in
-    let d = c.in-Bytes.ensures.reads in
-    let room = 2147483647 - c.loop-calls.bytes in
-    let count = c.in-Bytes.count in
-    let buffer = c.read.new.buffer in
-    let ys = take room buffer in
-    let zs = drop room (take count buffer) in
-    let cut = cut_take room count buffer (omega (arith, c.if-count-from.true, c.from.ensures)) in
-    let whole = i.0 ++ (ys ++ zs) in
-    let stopped = stopped_at k q c.args.out.now c.take_chunk.new.out i.0 (ys ++ zs) ys zs c.in-Err.fault refl
-    (stopped_more k q c.args.out.now c.take_chunk.new.out (i.0 ++ ys) zs c.in-Err.fault (c.in-Err.ensures.takes c.args.out.now i.0 i.3)) in
-    let w = over_stopped c.in-Err.fault k g.met.L.LineSink.laws (g.S.Source.state c.args.source.now) (g.S.Source.state c.read.new.self) c.args.out.now c.take_chunk.new.out q
-    (c.loop-calls.calls + 1) whole (d.1 ∙ i.2) stopped in (
-      whole,
-      record {
-        asked = c.loop-calls.calls + 1;
-        few = omega (arith, c.loop-calls-test.true);
-        source = rw cut (given_more c.loop-calls.calls 1 i.0 (take count buffer) i.1 d.0);
-        ends = w.0;
-        cause = w.1;
-      },
-    )
+pub take_chunk-requires-clause-count : goal.take_chunk-requires-clause-count
+take_chunk-requires-clause-count g c =
+    let i = c.loop-self.invariant in
+    let r = rw c.if-branch.true at (c.in_ok-read.ensures.reads (g.S.Source.state c.args.source.now) i.0 i.1) in
+    let chunk = c.chunk.result.now in
+    omega (arith, i.3, rw (← c.chunk.ensures.value) at r.room, length-append i.0 chunk)
 
-pub returns-then-count-from-clause-searches : goal.returns-then-count-from-clause-searches
-returns-then-count-from-clause-searches g c =
-    let o = g.L.LineSink in
-    let k = rows_to o.gave o.within o.failed in
-    let q = asked_of c.args.query.now in
-    let i = c.loop-calls.invariant in
-    let d = c.in-Bytes.ensures.reads in
-    let room = 2147483647 - c.loop-calls.bytes in
-    let count = c.in-Bytes.count in
-    let buffer = c.read.new.buffer in
-    let ys = take room buffer in
-    let zs = drop room (take count buffer) in
-    let over : room < count = omega (arith, c.if-count-from.true, c.from.ensures) in
-    let cut = cut_take room count buffer (omega arith) in
-    let whole : 2 ^ 31 - 1 ≡ length i.0 + length ys = omega (arith, length-take room buffer, d.2, over, i.4, i.5) in
-    let h = c.in_default.ensures.takes.here c.args.out.now i.0 i.3 in
-    let long : 2 ^ 31 - 1 < length (i.0 ++ (ys ++ zs)) =
-    rw cut (omega (arith, length-append i.0 (take count buffer), length-take count buffer, d.2, over, i.4, i.5)) in (
-      i.0 ++ (ys ++ zs),
-      record {
-        asked = c.loop-calls.calls + 1;
-        few = omega (arith, c.loop-calls-test.true);
-        source = rw cut (given_more c.loop-calls.calls 1 i.0 (take count buffer) i.1 d.0);
-        ends = rw (up_to (2 ^ 31 - 1) i.0 ys zs whole) (read_whole k q c.args.out.now c.take_chunk.new.out c.take_chunk.new.self (i.0 ++ ys) h);
-        cause = (inr long, record { source = d.1 ∙ i.2; rows = h.quiet });
-      },
-    )
-
-pub returns-in-Err-take_chunk-clause-searches : goal.returns-in-Err-take_chunk-clause-searches
-returns-in-Err-take_chunk-clause-searches g c =
-    let o = g.L.LineSink in
-    let k = rows_to o.gave o.within o.failed in
-    let q = asked_of c.args.query.now in
-    let i = c.loop-calls.invariant in
-    let d = c.in-Bytes.ensures.reads in
-    let ys = take c.in-Bytes.count c.read.new.buffer in
-    let w = over_stopped c.in-Err-take_chunk.fault k g.met.L.LineSink.laws (g.S.Source.state c.args.source.now) (g.S.Source.state c.read.new.self) c.args.out.now
-    c.take_chunk-in-Bytes.new.out q (c.loop-calls.calls + 1) (i.0 ++ ys) (d.1 ∙ i.2) (c.in-Err-take_chunk.ensures.takes c.args.out.now i.0 i.3) in (
-      i.0 ++ ys,
-      record {
-        asked = c.loop-calls.calls + 1;
-        few = omega (arith, c.loop-calls-test.true);
-        source = given_more c.loop-calls.calls 1 i.0 ys i.1 d.0;
-        ends = w.0;
-        cause = w.1;
-      },
-    )
-
-pub loop-calls-preserved : goal.loop-calls-preserved
-loop-calls-preserved g c =
-    let i = c.loop-calls.invariant in
-    let d = c.in-Bytes.ensures.reads in
-    let s = c.in_default-take_chunk.ensures in
-    let ys = take c.in-Bytes.count c.read.new.buffer in
-    let t = length-take c.in-Bytes.count c.read.new.buffer in (
-      i.0 ++ ys,
-      given_more c.loop-calls.calls 1 i.0 ys i.1 d.0,
-      d.1 ∙ i.2,
-      s.takes.here c.args.out.now i.0 i.3,
-      omega (arith, i.4, length-append i.0 ys, t, d.2),
-      omega (arith, i.5, c.if-count-from.false, c.from.ensures),
-      omega (arith, i.6, s.takes.lines, t, d.2),
+pub loop-self-preserved : goal.loop-self-preserved
+loop-self-preserved g c =
+    let i = c.loop-self.invariant in
+    let r = rw c.if-branch.true at (c.in_ok-read.ensures.reads (g.S.Source.state c.args.source.now) i.0 i.1) in
+    let s = c.in_ok-take_chunk.ensures in
+    let chunk = c.chunk.result.now in (
+      i.0 ++ chunk,
+      rw c.chunk.ensures.value r,
+      s.takes.here c.args.out.now i.0 i.2,
+      omega (arith, i.3, s.takes.lines, length-append i.0 chunk),
       s.takes.few,
-      c.in-Bytes.ensures.same ∙ i.8,
-      s.same ∙ i.9,
+      c.in_ok-read.ensures.same ∙ i.5,
+      s.same ∙ i.6,
+    )
+
+pub returns-in_err-take_chunk-clause-searches : goal.returns-in_err-take_chunk-clause-searches
+returns-in_err-take_chunk-clause-searches g c =
+    let o = g.L.LineSink in
+    let k = rows_to o.gave o.within o.failed in
+    let i = c.loop-self.invariant in
+    let r = rw c.if-branch.true at (c.in_ok-read.ensures.reads (g.S.Source.state c.args.source.now) i.0 i.1) in
+    let chunk = c.chunk.result.now in
+    let w = over_stopped c.in_err-take_chunk.field-0.0 k g.met.L.LineSink.laws (g.S.Source.state c.args.source.now) (g.S.Source.state c.read.new.source) c.args.out.now
+    c.take_chunk.new.out (asked_of c.args.query.now) r.asked (i.0 ++ chunk) r.quiet (c.in_err-take_chunk.ensures.takes c.args.out.now i.0 i.2) in
+    let p = err_from_is_err_and c.from_residual-in_err-take_chunk.result c.from_residual-in_err-take_chunk.ensures.1 in
+    rw (p.1, p.2) (
+      i.0 ++ chunk,
+      record { asked = r.asked; few = omega (arith, r.calls); source = rw c.chunk.ensures.value r.given; ends = w.0; cause = w.1 },
     )
 
 pub returns-clause-searches : goal.returns-clause-searches
 returns-clause-searches g c =
     let o = g.L.LineSink in
     let k = rows_to o.gave o.within o.failed in
-    let i = c.loop-calls.invariant in
-    let all = take_all (2 ^ 31 - 1) i.0 (omega (arith, i.4, i.5)) in (
-      i.0,
-      record {
-        asked = c.loop-calls.calls;
-        few = omega (arith, c.loop-calls.auto.calls-end);
-        source = i.1;
-        ends = rw all (read_whole k (asked_of c.args.query.now) c.args.out.now c.loop-calls.out c.loop-calls.self i.0 i.3);
-        cause = (
-          inl (omega (arith, c.loop-calls-test.false, c.loop-calls.auto.calls-end)),
-          record { source = i.2; rows = i.3.quiet },
-        );
-      },
-    )
+    let i = c.loop-self.invariant in
+    let r = rw c.if-branch.false at (c.in_ok-read.ensures.reads (g.S.Source.state c.args.source.now) i.0 i.1) in
+    let w = over_end c.finish.result k (g.S.Source.state c.args.source.now) (g.S.Source.state c.read.new.source) c.args.out.now c.loop-self.out c.finish.new.out
+    (asked_of c.args.query.now) c.loop-self.self r.0 i.0 r.3 r.2 i.2 c.finish.ensures.ends in
+    (i.0, record { asked = r.0; few = r.1.few; source = r.1.source; ends = w.0; cause = w.1 })

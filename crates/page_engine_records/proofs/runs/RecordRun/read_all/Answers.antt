@@ -1,103 +1,59 @@
-use Rattle.std.proofs.Common.{◌<◌, ◌+◌, ◌-◌, ◌^◌, ◌++◌, [], refl, ◌∙◌, take, length, length-append, arith, inl, inr}
-use Rattle.std.proofs.lemmas.List.{length-take}
-use Rattle.page_core_streams.proofs.GivenLemmas.{given_none, given_more, given_end, busy_none, busy_more, busy_end, busy_lean}
-use Rattle.page_engine_records.proofs.RunLemmas.{finished, is_here, room_less, through_more, through_none}
+use Rattle.std.proofs.Common.{◌+◌, ◌-◌, ◌^◌, ◌++◌, [], refl, ◌∙◌, length, length-append, arith}
+use Rattle.std.proofs.lemmas.Result.{err_from_is_err_and}
+use Rattle.page_engine_records.proofs.RunLemmas.{finished, is_here, room_less, stopped, through_more, through_none}
 use Rattle.page_engine_records.proofs.runs.RecordRun.read_all.Goals as goal
 
-pub loop-calls-init : goal.loop-calls-init
-loop-calls-init g c = ([], given_none _, refl, through_none _, refl, omega arith, refl, busy_none _)
+pub loop-self-init : goal.loop-self-init
+loop-self-init g c = ([], c.new-chunks.ensures (g.S.Source.state c.args.source.now), through_none _, refl)
 
-pub finish-requires : goal.finish-requires
-finish-requires g c =
-    let i = c.loop-calls.invariant in record {
-      room = i.3.room 0 (room_less c.args.self.now (2 ^ 31 - 1) (length i.0 + 0) c.requires.room (omega (arith, i.4, i.5)));
-      idle = (i.3.at _ (is_here c.args.self.now c.requires.idle)).idle;
-    }
+pub returns-in_err-read-clause-reads : goal.returns-in_err-read-clause-reads
+returns-in_err-read-clause-reads g c =
+    let i = c.loop-self.invariant in
+    let w = c.in_err-read.ensures.reads (g.S.Source.state c.args.source.now) i.0 i.1 in
+    let p = err_from_is_err_and c.from_residual.result c.from_residual.ensures.1 in
+    rw (p.1, p.2)
+    (stopped c.in_err-read.field-0.0 c.args.self.now c.loop-self.self (g.S.Source.state c.args.source.now) (g.S.Source.state c.read.new.source) i.0 w)
+
+pub chunk-requires : goal.chunk-requires
+chunk-requires g c =
+    let i = c.loop-self.invariant in
+    let r = rw c.if-branch.true at (c.in_ok-read.ensures.reads (g.S.Source.state c.args.source.now) i.0 i.1) in
+    r.small
 
 pub take_chunk-requires : goal.take_chunk-requires
 take_chunk-requires g c =
-    let i = c.loop-calls.invariant in
-    let count = c.in-Bytes.count in
-    let chunk = take count c.read.new.buffer in
-    let t = length-take count c.read.new.buffer in record {
-      room = i.3.room (length chunk) (room_less c.args.self.now (2 ^ 31 - 1) (length i.0 + length chunk) c.requires.room
-          (omega (arith, i.4, i.5, t, c.if-count-from.false, c.from.ensures)));
-      idle = (i.3.at _ (is_here c.args.self.now c.requires.idle)).idle;
+    let i = c.loop-self.invariant in
+    let r = rw c.if-branch.true at (c.in_ok-read.ensures.reads (g.S.Source.state c.args.source.now) i.0 i.1) in
+    let chunk = c.chunk.result.now in record {
+      room = i.2.room (length chunk) (room_less c.args.self.now (2 ^ 31 - 1) (length i.0 + length chunk) c.requires.room
+          (omega (arith, rw (← c.chunk.ensures.value) at r.room, length-append i.0 chunk)));
+      idle = (i.2.at _ (is_here c.args.self.now c.requires.idle)).idle;
     }
 
-pub returns-in-End-clause-reads : goal.returns-in-End-clause-reads
-returns-in-End-clause-reads g c =
-    let i = c.loop-calls.invariant in
-    let d = c.in-End.ensures.reads in (
-      i.0,
-      record {
-        asked = c.loop-calls.calls + 1;
-        few = omega (arith, c.loop-calls-test.true);
-        source = given_end c.loop-calls.calls 1 i.0 i.1 d.0;
-        lean = busy_end c.loop-calls.calls i.0 i.7 d.3;
-        ends = finished c.args.self.now c.loop-calls.self _ _ _ i.0 i.3 c.finish.ensures d.2 (d.1 ∙ i.2);
-      },
-    )
+pub loop-self-preserved : goal.loop-self-preserved
+loop-self-preserved g c =
+    let i = c.loop-self.invariant in
+    let r = rw c.if-branch.true at (c.in_ok-read.ensures.reads (g.S.Source.state c.args.source.now) i.0 i.1) in
+    let chunk = c.chunk.result.now in
+    (i.0 ++ chunk, rw c.chunk.ensures.value r, through_more i.0 chunk i.2 c.take_chunk.ensures, c.in_ok-read.ensures.same ∙ i.3)
 
-pub returns-in-Failure-clause-reads : goal.returns-in-Failure-clause-reads
-returns-in-Failure-clause-reads g c =
-    let i = c.loop-calls.invariant in
-    let d = c.in-Failure.ensures.reads in (
-      i.0,
-      record {
-        asked = c.loop-calls.calls + 1;
-        few = omega (arith, c.loop-calls-test.true);
-        source = given_end c.loop-calls.calls 1 i.0 i.1 d.0;
-        lean = busy_end c.loop-calls.calls i.0 i.7 d.2;
-        ends = rw i.2 at d.1;
-      },
-    )
-
-pub returns-then-count-from-clause-reads : goal.returns-then-count-from-clause-reads
-returns-then-count-from-clause-reads g c =
-    let i = c.loop-calls.invariant in
-    let d = c.in-Bytes.ensures.reads in
-    let count = c.in-Bytes.count in
-    let chunk = take count c.read.new.buffer in
-    let t = length-take count c.read.new.buffer in
-    let long : 2 ^ 31 - 1 < length (i.0 ++ chunk) =
-    omega (arith, c.if-count-from.true, c.from.ensures, length-append i.0 chunk, t, d.2, i.4, i.5) in (
-      i.0 ++ chunk,
-      record {
-        asked = c.loop-calls.calls + 1;
-        few = omega (arith, c.loop-calls-test.true);
-        source = given_more c.loop-calls.calls 1 i.0 chunk i.1 d.0;
-        lean = busy_lean (c.loop-calls.calls + 1) (i.0 ++ chunk) (busy_more c.loop-calls.calls count i.0 chunk i.7 (omega (arith, t, d.2)) d.3);
-        ends = (inr long, d.1 ∙ i.2);
-      },
-    )
-
-pub loop-calls-preserved : goal.loop-calls-preserved
-loop-calls-preserved g c =
-    let i = c.loop-calls.invariant in
-    let d = c.in-Bytes.ensures.reads in
-    let count = c.in-Bytes.count in
-    let chunk = take count c.read.new.buffer in
-    let t = length-take count c.read.new.buffer in (
-      i.0 ++ chunk,
-      given_more c.loop-calls.calls 1 i.0 chunk i.1 d.0,
-      d.1 ∙ i.2,
-      through_more i.0 chunk i.3 c.take_chunk.ensures,
-      omega (arith, i.4, length-append i.0 chunk, t, d.2),
-      omega (arith, i.5, c.if-count-from.false, c.from.ensures),
-      c.in-Bytes.ensures.same ∙ i.6,
-      busy_more c.loop-calls.calls count i.0 chunk i.7 (omega (arith, t, d.2)) d.3,
-    )
+pub finish-requires : goal.finish-requires
+finish-requires g c =
+    let i = c.loop-self.invariant in record {
+      room = i.2.room 0 (room_less c.args.self.now (2 ^ 31 - 1) (length i.0 + 0) c.requires.room (omega (arith, i.1.room)));
+      idle = (i.2.at _ (is_here c.args.self.now c.requires.idle)).idle;
+    }
 
 pub returns-clause-reads : goal.returns-clause-reads
 returns-clause-reads g c =
-    let i = c.loop-calls.invariant in (
+    let i = c.loop-self.invariant in
+    let r = rw c.if-branch.false at (c.in_ok-read.ensures.reads (g.S.Source.state c.args.source.now) i.0 i.1) in (
       i.0,
       record {
-        asked = c.loop-calls.calls;
-        few = omega (arith, c.loop-calls.auto.calls-end);
-        source = i.1;
-        lean = busy_lean c.loop-calls.calls i.0 i.7;
-        ends = (inl (omega (arith, c.loop-calls-test.false, c.loop-calls.auto.calls-end)), i.2);
+        asked = r.0;
+        few = r.1.few;
+        source = r.1.source;
+        lean = r.1.lean;
+        ends = finished c.args.self.now c.loop-self.self _ _ _ i.0 i.2 c.finish.ensures r.3 r.2;
       },
     )
