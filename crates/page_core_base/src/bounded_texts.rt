@@ -53,6 +53,7 @@ impl<const MOST: usize> BoundedText<MOST> {
     pub fn add(&mut self, more: &[u8]) -> bool
         ensures fits { result ≡ nat_le (length more.now) (MOST - length self.old) }
         ensures after { self.new ≡ (if result then self.old ++ more.now else self.old) }
+        ensures bound { length self.new ≤ MOST }
     {
         if more.len() > MOST - self.bytes.len() {
             return false;
@@ -66,6 +67,7 @@ impl<const MOST: usize> BoundedText<MOST> {
     pub fn add_byte(&mut self, byte: u8) -> bool
         ensures fits { result ≡ nat_le 1 (MOST - length self.old) }
         ensures after { self.new ≡ (if result then self.old ++ byte ∷ [] else self.old) }
+        ensures bound { length self.new ≤ MOST }
     {
         if self.bytes.len() >= MOST {
             return false;

@@ -1,20 +1,15 @@
 -- What the test of a word says, and what an index that was written holds.
-use Rattle.std.proofs.Common.{◌≡◌, ℕ, suc, ◌+◌, ◌<◌, ◌≤◌, ◌==◌, ◌&&◌, ◌||◌, not, Bool, true, false, List, [], ◌∷◌, ◌++◌, length, take, drop, map, Option, Some, None, nat_le, codes, refl, sym, ap, ◌∙◌, subst, arith, inl, inr, append_assoc, append-nil, length-append}
-use Rattle.std.specs.Prelude.{if◌then◌else◌}
-use Rattle.std.specs.Char.{to_ascii_lowercase}
-use Rattle.std.specs.List.{All, flat_map, list_any, slice_split}
+use Rattle.std.proofs.Common.{◌≡◌, ℕ, suc, ◌+◌, ◌&&◌, ◌||◌, not, Bool, true, false, List, [], ◌∷◌, ◌++◌, length, take, drop, map, Some, None, nat_le, codes, refl, sym, ap, ◌∙◌, arith, inl, inr, append_assoc, append-nil, length-append}
+use Rattle.std.specs.List.{flat_map, list_any, slice_split}
 use Rattle.std.specs.Str.{bytes_eq}
 use Rattle.std.proofs.lemmas.Bool.{cases_Bool, false≢true, le-leb}
 use Rattle.std.proofs.lemmas.List.{take-append-drop, take_at}
-use Rattle.std.proofs.lemmas.List.Elements.{All-more}
-use Rattle.std.proofs.lemmas.List.Splits.{slice_split_at, slice_split_none}
 use Rattle.std.proofs.lemmas.Slice.Eq.{bytes_eq-Decides}
 use Rattle.page_core_limits.specs.declared.TheConstants.{LINE}
 use Rattle.page_engine_index.specs.Entries.{Line, Entry, Index, all_read, with_entries, entry_in, entry_of, index, index_from, is_line_feed, is_tab, lines, version_of}
 use Rattle.page_engine_index.specs.Matches.{IsMatch, begins_word, ends_word, folded, is_match, is_word_byte, matches_here, matches_in}
 use Rattle.page_engine_index.specs.Records.{AreKept, IsKept, entry_line, is_end}
-use Rattle.page_engine_index.specs.declared.entries.Version.{Version}
-use Rattle.page_engine_index.specs.declared.entries.Version.TheVariants.{One, Two}
+use Rattle.page_engine_index.specs.declared.entries.Version.TheVariants.{Two}
 use Rattle.page_engine_index.proofs.LineLemmas.{HasNoFeed, lines_end, no_lines, no_feed-append}
 
 -- ---- a word in a name

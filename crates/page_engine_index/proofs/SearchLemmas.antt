@@ -1,31 +1,29 @@
 -- A run as far as it has come: the lines that were read, and the line that is open.
-use Rattle.std.proofs.Common.{◌≡◌, ℕ, zero, suc, ◌+◌, ◌-◌, ◌<◌, ◌≤◌, ◌^◌, Bool, true, false, List, [], ◌∷◌, ◌++◌, length, take, drop, get_or, add-one, nat_le, Option, Some, None, Result, Ok, Err, MatchResult, refl, sym, ap, subst, ◌∙◌, arith, inl, inr, append_assoc, append-nil, length-append, codes}
-use Rattle.std.specs.Prelude.{if◌then◌else◌}
-use Rattle.std.specs.List.{flat_map}
+use Rattle.std.proofs.Common.{◌≡◌, ℕ, suc, ◌+◌, ◌-◌, ◌<◌, ◌≤◌, Bool, true, false, List, [], ◌∷◌, ◌++◌, length, take, drop, get_or, add-one, nat_le, Option, Some, None, Result, Ok, Err, MatchResult, refl, sym, ap, subst, ◌∙◌, arith, inl, inr, append_assoc, append-nil, length-append, codes}
 use Rattle.std.specs.Str.{bytes_eq}
-use Rattle.std.proofs.lemmas.Bool.{cases_Bool, false≢true, lt-leb, eqb-true}
+use Rattle.std.proofs.lemmas.Bool.{lt-leb, eqb-true}
+use Rattle.std.proofs.lemmas.Bool.Decides.{nat_tests}
 use Rattle.std.proofs.lemmas.Slice.Eq.{bytes_eq-Decides}
-use Rattle.std.proofs.lemmas.Grind.{flat_map-append, common_steps}
+use Rattle.std.proofs.lemmas.Grind.{flat_map-append}
 use Rattle.std.specs.Io.KnownBytes.{IsAtEnd}
-use Rattle.std.proofs.lemmas.List.{take-take, take-append-drop, take_at, take_all, length-take}
+use Rattle.std.proofs.lemmas.List.{take-append-drop, take_at, take_all, length-take}
 use Rattle.std.proofs.Math.Seq.{split_at}
 use Rattle.memchr.specs.Find.{IsFirstByte, is_byte}
 use Rattle.page_engine_index.proofs.FieldLemmas.{front_none}
 use Rattle.page_core_streams.specs.Chunks.{Stops}
 use Rattle.page_core_streams.specs.Sources.{SourceState}
 use Rattle.page_core_base.specs.Sinks.{IsSink}
-use Rattle.page_core_base.specs.Fails.{Rose}
 use Rattle.page_core_base.specs.declared.faults.Fault.{Fault}
 use Rattle.page_core_base.specs.declared.faults.Fault.TheVariants.{Memory, Read, WriteText, WriteNotes, TooLong, Settings, Failed, Ended, BadIndex}
 use Rattle.page_core_limits.specs.declared.TheConstants.{LINE}
 use Rattle.page_engine_index.specs.Entries.{Line, Entry, Index, all_read, with_entries, bad_at, lines, whole_lines, index_from, index, whole_index, entry_of, version_of}
 use Rattle.page_engine_index.specs.Whatis.{Asked, rows, row_of}
-use Rattle.page_engine_index.specs.Searches.{RowsTo, ReadWhole, Searches, SearchesOver, Stopped, FoundBad, Quiet, HasCause}
-use Rattle.page_engine_index.specs.machine.Steps.{Here, TookLine, TookPart, TakesPart, TakesOpen, BreaksIn, LineBroke, LineStops, IsNext, IsBad, index_at, StoppedIn, BrokeWriting, CameToBad, GivesRows, EndedWell, EndStops, Finishes, IsFresh, open_line}
+use Rattle.page_engine_index.specs.Searches.{RowsTo, ReadWhole, Searches, SearchesOver, Stopped, Quiet, HasCause}
+use Rattle.page_engine_index.specs.machine.Steps.{Here, TookLine, TookPart, TakesPart, TakesOpen, BreaksIn, LineStops, IsNext, index_at, StoppedIn, CameToBad, EndedWell, EndStops, Finishes, IsFresh, open_line}
 use Rattle.page_engine_index.specs.declared.entries.Place.{Place}
 use Rattle.page_engine_index.specs.declared.entries.Version.{Version}
 use Rattle.page_engine_index.specs.declared.searches.Search.{Search}
-use Rattle.page_engine_index.proofs.LineLemmas.{HasNoFeed, no_feed_all, whole-append, open-append, lines-append, no_feed-append, open_no_feed, whole_flat, open_flat, whole_end, open_end, lines_end, lines_begun, lines_flat, no_lines, whole_most}
+use Rattle.page_engine_index.proofs.LineLemmas.{HasNoFeed, no_feed_all, whole-append, open-append, lines-append, no_feed-append, open_no_feed, whole_flat, open_flat, whole_end, open_end, lines_end, lines_begun, lines_flat, no_lines}
 
 -- ---- entries and their rows
 
@@ -410,6 +408,10 @@ taken_line chunk n h =
     let l : length (take n chunk ++ 10 ∷ []) ≡ n + 1 = omega (arith, length-append (take n chunk) (10 ∷ []), length-take n chunk, h.0.high) in
     ap (take (n + 1)) (feed_at chunk n h ∙ sym (append_assoc (take n chunk) (10 ∷ []) (drop (n + 1) chunk)))
     ∙ take_at (take n chunk ++ 10 ∷ []) (drop (n + 1) chunk) (n + 1) l
+
+-- more than a line may hold
+pub no_room : (held more : List ℕ) → false ≡ nat_le (length more) (LINE - length held) → LINE < length (held ++ more)
+no_room held more full = grind (arith, nat_tests, full, length-append held more)
 
 pub part_open : {L : Type 0} (res : Result ℕ Fault) (k : RowsTo L) (q : Asked) (run run' : Search) (s : L) (chunk : List ℕ) → HasNoFeed chunk → 0 < length chunk
     → run.rows ≤ run.place.lines → TakesOpen res run run' chunk → TakesPart res k q run run' s s chunk

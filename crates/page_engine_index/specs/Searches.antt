@@ -1,5 +1,5 @@
 -- What a search of an index did, by its answer. Source: whatis(1).
-use Rattle.std.specs.Prelude.{◌≡◌, ◌<◌, ◌≤◌, ℕ, ◌-◌, ◌^◌, List, [], ◌++◌, Option, Some, None, Result, MatchResult, ◌⊎◌, length, take}
+use Rattle.std.specs.Prelude.{◌≡◌, ◌≤◌, ℕ, ◌-◌, ◌^◌, List, [], ◌++◌, Option, Some, None, Result, MatchResult, ◌⊎◌, length, take}
 use Rattle.std.specs.Io.KnownBytes.{IsAtEnd}
 use Rattle.page_core_base.specs.Fails.{Rose}
 use Rattle.page_core_base.specs.declared.faults.Fault.{Fault}

@@ -13,7 +13,6 @@ mod fields;
 mod laws;
 mod line_sinks;
 mod matches;
-mod open_lines;
 mod queries;
 mod records;
 mod searches;

@@ -9,10 +9,10 @@ ghost use Rattle.page_engine_index.specs.Written.{written};
 
 use crate::entries::Place;
 use crate::line_sinks::{LineSink, TextLines};
-use crate::open_lines::OpenLine;
 use crate::queries::{Query, Show};
 use memchr::memchr;
-use page_core_base::Fault;
+use page_core_base::{BoundedText, Fault};
+use page_core_limits::LINE;
 use page_core_streams::{Chunks, Counted, Source};
 use std::alloc::Global;
 use std::io::{Read, Write};
@@ -21,7 +21,7 @@ use std::io::{Read, Write};
 #[derive(Drop)]
 struct Search {
     place: Place,
-    held: OpenLine,
+    held: BoundedText<LINE>,
     rows: u64,
 }
 
@@ -31,7 +31,7 @@ impl Search {
         ensures ok { IfOk result IsFresh }
         ensures fault { IfErr result (λ fault. fault ≡ Fault.Memory) }
     {
-        let Ok(held) = OpenLine::new(alloc) else {
+        let Ok(held) = BoundedText::new(alloc) else {
             return Err(Fault::Memory);
         };
         Ok(Search {

@@ -7,8 +7,8 @@ ghost use Rattle.page_engine_header.specs.Printing.{characters_of, plain_printed
 ghost use Rattle.page_engine_records.specs.NameTexts.{has_ended, heading, paragraph, read, reader_at, taken, top_heading, with_character, with_characters};
 ghost use Rattle.page_engine_records.specs.machine.ReaderSinks.{reader-items, reader-messages, reader-notes, reader-well};
 
-use crate::texts::SectionText;
-use page_core_base::{Fault, Note, NoteKind, NoteSink, Output, Piece, PieceSink};
+use crate::texts::{TEXT, add_byte};
+use page_core_base::{BoundedText, Fault, Note, NoteKind, NoteSink, Output, Piece, PieceSink};
 use page_core_tables::{Printed, printed_char, printed_glyph};
 use std::alloc::{AllocError, Global};
 
@@ -26,7 +26,7 @@ pub struct NameReader {
     pub(crate) side: Side,
     /// Where a row begins, in columns.
     pub(crate) margin: u32,
-    pub(crate) text: SectionText,
+    pub(crate) text: BoundedText<TEXT>,
     /// A blank stands before the next character.
     pub(crate) is_apart: bool,
     /// How much of the text stood before the last paragraph.
@@ -41,7 +41,7 @@ impl NameReader {
         Ok(NameReader {
             side,
             margin: 0,
-            text: SectionText::new(alloc)?,
+            text: BoundedText::new(alloc)?,
             is_apart: false,
             before: 0,
         })
@@ -62,9 +62,9 @@ impl NameReader {
             return;
         }
         if self.is_apart && !self.text.bytes().is_empty() {
-            self.text.add(b' ');
+            add_byte(&mut self.text, b' ');
         }
-        self.text.add(c as u8);
+        add_byte(&mut self.text, c as u8);
         self.is_apart = false;
     }
 

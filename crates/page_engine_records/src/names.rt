@@ -5,8 +5,9 @@ ghost use Rattle.std.specs.List.{slice_split};
 ghost use Rattle.page_engine_records.specs.declared.texts.TheConstants.{NAMES};
 ghost use Rattle.page_engine_records.specs.Records.{begins_dash, dash_place, is_comma, record_of, trimmed, with_names, without_front};
 
-use crate::texts::{KeptNames, SectionText};
+use crate::texts::{NAMES, TEXT, add_name};
 use memchr::memchr;
+use page_core_base::BoundedText;
 use page_engine_index::{Record, Text};
 use page_roff_syntax::kept_len;
 
@@ -74,20 +75,24 @@ fn split_at_comma<'a>(text: &'a [u8]) -> Option<(&'a [u8], &'a [u8])>
 }
 
 // Adds the names in a text, which commas part.
-fn add_names(names: &mut KeptNames, text: &[u8])
+fn add_names(names: &mut BoundedText<NAMES>, text: &[u8])
     requires { length names.old + 2 * length text.now + 2 ≤ NAMES }
     ensures { names.new ≡ with_names names.old (slice_split is_comma text.now) }
 {
     let mut rest = text;
     while let Some((name, after)) = split_at_comma(rest) {
-        names.add(trimmed(name));
+        add_name(names, trimmed(name));
         rest = after;
     }
-    names.add(trimmed(rest));
+    add_name(names, trimmed(rest));
 }
 
 /// The record in the text of a section NAME, with the number of the manual's section; the names go into memory that has none.
-pub(crate) fn record_of(text: SectionText, section: Vec<u8>, names: KeptNames) -> Option<Record>
+pub(crate) fn record_of(
+    text: BoundedText<TEXT>,
+    section: Vec<u8>,
+    names: BoundedText<NAMES>,
+) -> Option<Record>
     requires { names ≡ [] }
     ensures { result ≡ record_of text section.items }
 {

@@ -15,8 +15,8 @@ ghost use Rattle.page_engine_records.specs.machine.Steps.{Finished, HasRoom, Hol
 use crate::fronts::PageFront;
 use crate::name_readers::{NameReader, Side};
 use crate::names::record_of;
-use crate::texts::KeptNames;
-use page_core_base::{Fault, Output, PieceLatch, PieceSink, Place, Settings};
+use crate::texts::NAMES;
+use page_core_base::{BoundedText, Fault, Output, PieceLatch, PieceSink, Place, Settings};
 use page_core_streams::{Chunks, Counted, Source};
 use page_engine_header::Part;
 use page_engine_index::Record;
@@ -35,7 +35,7 @@ struct RecordRun {
 #[derive(Drop)]
 struct RecordRoom {
     section: NameReader,
-    names: KeptNames,
+    names: BoundedText<NAMES>,
 }
 
 impl RecordRoom {
@@ -45,7 +45,7 @@ impl RecordRoom {
     {
         Ok(RecordRoom {
             section: NameReader::new(alloc, Side::Inside)?,
-            names: KeptNames::new(alloc)?,
+            names: BoundedText::new(alloc)?,
         })
     }
 }

@@ -1,9 +1,9 @@
 -- The steps of a run, as the code takes them: a machine of proofs, which no public clause cites.
-use Rattle.std.specs.Prelude.{◌≡◌, ◌<◌, ◌≤◌, ℕ, ◌+◌, ◌^◌, List, [], ◌∷◌, ◌++◌, ◌==◌, ◌&&◌, if◌then◌else◌, Option, None, Some, option_map, Result, MatchResult, length, take}
+use Rattle.std.specs.Prelude.{◌≡◌, ◌<◌, ◌≤◌, ℕ, ◌+◌, List, [], ◌∷◌, ◌++◌, if◌then◌else◌, Option, None, Some, option_map, Result, MatchResult, length, take}
 use Rattle.std.specs.Borrow.{Bor}
 use Rattle.page_core_base.specs.Fails.{Rose}
 use Rattle.page_core_base.specs.declared.faults.Fault.{Fault}
-use Rattle.page_core_base.specs.declared.faults.Fault.TheVariants.{Memory, Read, WriteText, WriteNotes, TooLong, Settings, Failed, Ended, BadIndex}
+use Rattle.page_core_base.specs.declared.faults.Fault.TheVariants.{WriteText, BadIndex}
 use Rattle.page_core_limits.specs.declared.TheConstants.{LINE}
 use Rattle.page_engine_index.specs.Entries.{Line, Entry, entry_in, Index, with_entries, bad_at, whole_lines, index_from, index}
 use Rattle.page_engine_index.specs.Matches.{ends_name}

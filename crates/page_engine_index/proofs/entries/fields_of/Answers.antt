@@ -1,4 +1,4 @@
-use Rattle.std.proofs.Common.{ap, ◌∙◌, sym, None, Some}
+use Rattle.std.proofs.Common.{None, Some}
 use Rattle.page_engine_index.proofs.FieldLemmas.{entry_one, entry_two, entry_last}
 use Rattle.page_engine_index.proofs.entries.fields_of.Goals as goal
 

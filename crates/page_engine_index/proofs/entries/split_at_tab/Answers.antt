@@ -1,4 +1,4 @@
-use Rattle.std.proofs.Common.{◌≡◌, ◌+◌, ◌-◌, length, take, drop, arith, ◌≤◌}
+use Rattle.std.proofs.Common.{◌+◌}
 use Rattle.std.proofs.lemmas.List.{take_rest}
 use Rattle.page_engine_index.proofs.FieldLemmas.{split_none, split_some}
 use Rattle.page_engine_index.proofs.entries.split_at_tab.Goals as goal

@@ -1,4 +1,4 @@
-use Rattle.std.proofs.Common.{◌≡◌, sym, ◌∙◌, arith, ◌<◌, ◌≤◌, length, ◌+◌, drop}
+use Rattle.std.proofs.Common.{◌≡◌, sym, ◌∙◌, arith, ◌<◌, length}
 use Rattle.page_engine_index.proofs.MatchLemmas.{no_room, split_found, split_last, split_on}
 use Rattle.page_engine_index.proofs.matches.has_match.Goals as goal
 

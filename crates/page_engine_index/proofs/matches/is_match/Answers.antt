@@ -1,5 +1,4 @@
 use Rattle.std.proofs.Common.{sym, ◌∙◌}
-use Rattle.page_engine_index.specs.Matches.{matches_in}
 use Rattle.page_engine_index.proofs.MatchLemmas.{place_found, place_on, place_end}
 use Rattle.page_engine_index.proofs.matches.is_match.Goals as goal
 

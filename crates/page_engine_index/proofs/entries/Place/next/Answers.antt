@@ -1,5 +1,4 @@
-use Rattle.std.proofs.Common.{refl, sym, ◌∙◌, ap, option_map, Some}
-use Rattle.page_engine_index.specs.machine.Steps.{entry_by}
+use Rattle.std.proofs.Common.{refl, sym, ◌∙◌}
 use Rattle.page_engine_index.proofs.FieldLemmas.{begins, no_version, next_entry, no_entry}
 use Rattle.page_engine_index.proofs.entries.Place.next.Goals as goal
 

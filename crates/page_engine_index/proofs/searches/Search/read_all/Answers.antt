@@ -1,4 +1,4 @@
-use Rattle.std.proofs.Common.{◌≡◌, ◌<◌, ◌≤◌, ◌+◌, ◌^◌, ◌++◌, [], refl, ◌∙◌, length, length-append, arith}
+use Rattle.std.proofs.Common.{◌++◌, [], refl, ◌∙◌, length-append, arith}
 use Rattle.std.proofs.lemmas.Result.{err_from_is_err_and}
 use Rattle.page_engine_index.specs.Searches.{rows_to}
 use Rattle.page_engine_index.specs.Whatis.{asked_of}

@@ -1,4 +1,4 @@
-use Rattle.std.proofs.Common.{◌≡◌, ◌≤◌, ◌+◌, refl, [], ◌++◌, ◌∙◌, ap, take, drop, length, length-append, append-nil, arith}
+use Rattle.std.proofs.Common.{◌≤◌, refl, [], ◌++◌, ◌∙◌, ap, take, length, length-append, append-nil, arith}
 use Rattle.std.proofs.lemmas.Bool.Decides.{nat_tests}
 use Rattle.std.proofs.lemmas.List.{take_rest, length-take}
 use Rattle.page_engine_index.specs.Searches.{rows_to}

@@ -1,4 +1,4 @@
-use Rattle.std.proofs.Common.{refl, ◌∙◌, arith}
+use Rattle.std.proofs.Common.{arith}
 use Rattle.page_engine_index.specs.Searches.{rows_to}
 use Rattle.page_engine_index.specs.machine.Steps.{entries_by}
 use Rattle.page_engine_index.specs.Whatis.{asked_of}
