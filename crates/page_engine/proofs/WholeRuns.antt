@@ -118,9 +118,9 @@ pub stopped_reading : {R N : Type 0} (fault : Fault) (k : Sinks R N) {run mid : 
 stopped_reading Read k run' s t bytes w g e h =
     (bytes, record { asked = w.0; few = w.1.few; source = w.1.source; lean = w.1.lean; ends = ((g.settled e h).came.gave, w.2) })
 stopped_reading TooLong k run' s t bytes w g e h = (
-      w.1,
-      record { asked = w.0; few = w.2.few; source = w.2.source; lean = w.2.lean; ends = (rw w.4 (g.settled e h).came.gave, w.3) },
-    )
+  w.1,
+  record { asked = w.0; few = w.2.few; source = w.2.source; lean = w.2.lean; ends = (rw w.4 (g.settled e h).came.gave, w.3) },
+)
 stopped_reading Memory k run' s t bytes w g e h = absurd w
 stopped_reading WriteText k run' s t bytes w g e h = absurd w
 stopped_reading WriteNotes k run' s t bytes w g e h = absurd w

@@ -369,19 +369,19 @@ over_stopped Ended k laws a b s t q asked bytes quiet w = absurd w
 pub over_fault : {L : Type 0} (fault : Fault) (k : RowsTo L) (a b : SourceState) (s t : L) (q : Asked) (run : Search) (bytes : List ℕ)
     → Stops a b bytes fault → Here k q s t run bytes → (all : List ℕ) × SearchesOver (Err fault) k a b s t q all
 over_fault Read k a b s t q run bytes w h = (
-      bytes,
-      record { asked = w.0; few = w.1.few; source = w.1.source; ends = read_whole k q s t run bytes h; cause = (w.2, h.quiet) },
-    )
+  bytes,
+  record { asked = w.0; few = w.1.few; source = w.1.source; ends = read_whole k q s t run bytes h; cause = (w.2, h.quiet) },
+)
 over_fault TooLong k a b s t q run bytes w h = (
-      w.1,
-      record {
-        asked = w.0;
-        few = w.2.few;
-        source = w.2.source;
-        ends = rw w.4 (read_whole k q s t run bytes h);
-        cause = (w.3, record { source = w.5; rows = h.quiet });
-      },
-    )
+  w.1,
+  record {
+    asked = w.0;
+    few = w.2.few;
+    source = w.2.source;
+    ends = rw w.4 (read_whole k q s t run bytes h);
+    cause = (w.3, record { source = w.5; rows = h.quiet });
+  },
+)
 over_fault Memory k a b s t q run bytes w h = absurd w
 over_fault WriteText k a b s t q run bytes w h = absurd w
 over_fault WriteNotes k a b s t q run bytes w h = absurd w

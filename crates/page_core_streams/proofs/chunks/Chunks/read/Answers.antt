@@ -5,13 +5,13 @@ use Rattle.page_core_streams.proofs.chunks.Chunks.read.Goals as goal
 
 pub returns-then-self-eq0-clause-reads : goal.returns-then-self-eq0-clause-reads
 returns-then-self-eq0-clause-reads g c = λ a bytes r. (
-      r.asked,
-      bytes,
-      record { few = omega (arith, r.calls); source = r.given; lean = busy_lean r.asked bytes r.busy },
-      inl (omega (arith, r.calls, c.if-self-eq0.true)),
-      take_all (2 ^ 31 - 1) bytes (omega (arith, r.room)),
-      r.quiet,
-    )
+  r.asked,
+  bytes,
+  record { few = omega (arith, r.calls); source = r.given; lean = busy_lean r.asked bytes r.busy },
+  inl (omega (arith, r.calls, c.if-self-eq0.true)),
+  take_all (2 ^ 31 - 1) bytes (omega (arith, r.room)),
+  r.quiet,
+)
 
 pub returns-in-End-clause-reads : goal.returns-in-End-clause-reads
 returns-in-End-clause-reads g c = λ a bytes r.
