@@ -1,5 +1,6 @@
 -- The events of text lines, blank lines and raw lines, and the requests that change rows. Source: roff(7), "LANGUAGE SYNTAX" and "REQUEST REFERENCE".
 use Rattle.std.specs.Prelude.{ℕ, Bool, true, false, List, [], ◌∷◌, Option, None, Some, if◌then◌else◌}
+use Rattle.page_core_base.specs.declared.cells.Font.{Font}
 use Rattle.page_core_base.specs.declared.lines_taken.Form.{Form}
 use Rattle.page_core_base.specs.declared.lines_taken.Form.TheVariants as forms
 use Rattle.page_roff_syntax.specs.declared.quotes.Argument.{Argument}
@@ -14,18 +15,33 @@ use Rattle.page_sets_lines.specs.ControlLines.{text_of}
 use Rattle.page_sets_lines.specs.declared.leaves.Request.{Request}
 use Rattle.page_sets_lines.specs.declared.leaves.Request.TheVariants as requests
 use Rattle.page_sets_lines.specs.declared.leaves.Leaf.TheVariants.{BlankLine, Wordless}
+use Rattle.page_sets_lines.specs.declared.leaves.Leaf.TheVariants as leaves
 use Rattle.page_sets_lines.specs.declared.events.Word.{Word}
+use Rattle.page_sets_lines.specs.declared.events.Role.{Role}
 use Rattle.page_sets_lines.specs.declared.events.Role.TheVariants as roles
+use Rattle.page_sets_lines.specs.declared.events.Join.{Join}
 use Rattle.page_sets_lines.specs.declared.events.Join.TheVariants.{Apart}
 use Rattle.page_sets_lines.specs.declared.events.EventKind.{EventKind}
 use Rattle.page_sets_lines.specs.declared.events.EventKind.TheVariants as kinds
 use Rattle.page_sets_lines.specs.declared.events.Event.{Event}
 use Rattle.page_sets_lines.specs.declared.plain_lines.PlainLine.{PlainLine}
 use Rattle.page_sets_lines.specs.declared.plain_lines.PlainLine.TheVariants as lines
+use Rattle.page_sets_names.specs.declared.generated_texts.GeneratedText.{GeneratedText}
 
 -- an event in a column of a line
 abbrev pub event_at : ℕ → ℕ → EventKind (List ℕ) → Event (List ℕ)
 event_at number column kind = record { place = record { line = number; column = column }; kind = kind }
+
+-- an argument as a word, in its own column
+abbrev pub word_event : ℕ → Role → Option Font → Join → Join → Argument (List ℕ) → Event (List ℕ)
+word_event number role font before after word =
+    event_at number word.column
+    (kinds.Word (record { arg = word; role = role; font = font; before = before; after = after }))
+
+-- a text of a macro's own
+abbrev pub generated_word : ℕ → ℕ → GeneratedText → Option Font → Join → Join → Event (List ℕ)
+generated_word number column text font before after =
+    event_at number column (kinds.Leaf (leaves.Generated (record { text = text; font = font; before = before; after = after })))
 
 -- a whole line is one word
 abbrev pub line_word : List ℕ → Word (List ℕ)

@@ -2,12 +2,14 @@
 
 ghost use Rattle.std.specs.Prelude.{◌≡◌};
 ghost use Rattle.page_sets_lines.specs.Events.{event_view, kind_view};
-ghost use Rattle.page_sets_lines.specs.PlainLines.{event_at};
+ghost use Rattle.page_roff_syntax.specs.Arguments.{argument_view};
+ghost use Rattle.page_sets_lines.specs.PlainLines.{event_at, generated_word, word_event};
 
-use crate::leaves::Leaf;
+use crate::leaves::{GeneratedWord, Leaf};
 use crate::openers::{Closer, LineOpener, Opener};
 use page_core_base::{Font, NoteKind, Place};
 use page_roff_syntax::Argument;
+use page_sets_names::GeneratedText;
 use std::alloc::AllocError;
 
 /// How a word stands beside another.
@@ -120,4 +122,51 @@ pub fn event_at<'a>(number: u32, column: u32, kind: EventKind<&'a [u8]>) -> Even
         },
         kind,
     }
+}
+
+/// An argument as a word, in its own column.
+pub fn word_event(
+    number: u32,
+    role: Role,
+    font: Option<Font>,
+    before: Join,
+    after: Join,
+    word: Argument<&[u8]>,
+) -> Event<&[u8]>
+    ensures { event_view result ≡ word_event number role font before after (argument_view word.entry) }
+{
+    event_at(
+        number,
+        word.column,
+        EventKind::Word(Word {
+            arg: word,
+            role,
+            font,
+            before,
+            after,
+        }),
+    )
+}
+
+/// A text of a macro's own.
+pub fn generated_word<'a>(
+    number: u32,
+    column: u32,
+    text: GeneratedText,
+    font: Option<Font>,
+    before: Join,
+    after: Join,
+) -> Event<&'a [u8]>
+    ensures { event_view result ≡ generated_word number column text font before after }
+{
+    event_at(
+        number,
+        column,
+        EventKind::Leaf(Leaf::Generated(GeneratedWord {
+            text,
+            font,
+            before,
+            after,
+        })),
+    )
 }

@@ -28,7 +28,7 @@ use Rattle.page_sets_lines.specs.declared.events.EventKind.TheVariants as kinds
 use Rattle.page_sets_lines.specs.declared.events.Event.{Event}
 use Rattle.page_core_base.specs.LinesTaken.{Line}
 use Rattle.page_sets_lines.specs.ControlLines.{before_name, name_end, name_of, is_nameless, rest_of, arguments_after, first_of, second_of, text_of, open_quote}
-use Rattle.page_sets_lines.specs.PlainLines.{event_at, line_end, plain_line, plain_events, request}
+use Rattle.page_sets_lines.specs.PlainLines.{event_at, generated_word, line_end, plain_line, plain_events, request, word_event}
 use Rattle.page_sets_man.specs.declared.rows.Opens.{Opens}
 use Rattle.page_sets_man.specs.declared.rows.Opens.TheVariants as opens
 use Rattle.page_sets_man.specs.declared.rows.Closes.{Closes}
@@ -116,14 +116,11 @@ line_scope (effects.Sets change) = sets_line_scope change
 
 -- an argument as a word
 abbrev pub argument_word : ℕ → Option Font → Join → Argument (List ℕ) → Event (List ℕ)
-argument_word number font before argument =
-    event_at number argument.column
-    (kinds.Word (record { arg = argument; role = roles.Argument; font = font; before = before; after = Apart }))
+argument_word number font before argument = word_event number roles.Argument font before Apart argument
 
 -- a mark of the macro's own
 abbrev pub mark : ℕ → ℕ → GeneratedText → Join → Join → Event (List ℕ)
-mark number column text before after =
-    event_at number column (kinds.Leaf (leaves.Generated (record { text = text; font = None; before = before; after = after })))
+mark number column text before after = generated_word number column text None before after
 
 -- all arguments, in the font around them
 abbrev pub plain_words : ℕ → List (Argument (List ℕ)) → List (Event (List ℕ))

@@ -13,12 +13,12 @@ ghost use Rattle.page_sets_man.specs.Man as man;
 
 use crate::effects::{effect_kind, line_scope};
 use crate::rows::{Alone, Last, Quotes, Row, Words, row_of};
-use page_core_base::{Font, NoteKind, Place, Taken};
+use page_core_base::{Font, NoteKind, Taken};
 use page_core_limits::LINE;
 use page_roff_syntax::{Argument, has_arguments};
 use page_sets_lines::{
-    Closer, Event, EventKind, EventTaker, GeneratedText, GeneratedWord, Join, Leaf, LineOpener,
-    PlainLine, Role, Word, event_at, find_name, open_quote, read_after,
+    Closer, Event, EventKind, EventTaker, GeneratedText, Join, Leaf, LineOpener, PlainLine, Role,
+    event_at, find_name, generated_word, open_quote, read_after, word_event,
 };
 
 /// The quote of an argument without its closing one: its column, and whether its message may begin the body of the
@@ -84,19 +84,7 @@ fn argument_word(
 ) -> Event<&[u8]>
     ensures { event_view result ≡ man.argument_word number font before (argument_view argument.entry) }
 {
-    Event {
-        place: Place {
-            line: number,
-            column: argument.column,
-        },
-        kind: EventKind::Word(Word {
-            arg: argument,
-            role: Role::Argument,
-            font,
-            before,
-            after: Join::Apart,
-        }),
-    }
+    word_event(number, Role::Argument, font, before, Join::Apart, argument)
 }
 
 // A mark of a macro's own.
@@ -109,18 +97,7 @@ fn mark<'a>(
 ) -> Event<&'a [u8]>
     ensures { event_view result ≡ man.mark number column text before after }
 {
-    Event {
-        place: Place {
-            line: number,
-            column,
-        },
-        kind: EventKind::Leaf(Leaf::Generated(GeneratedWord {
-            text,
-            font: None,
-            before,
-            after,
-        })),
-    }
+    generated_word(number, column, text, None, before, after)
 }
 
 // All arguments, in the font around them.

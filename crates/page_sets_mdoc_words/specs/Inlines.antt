@@ -17,7 +17,7 @@ use Rattle.page_sets_lines.specs.declared.openers.LineOpener.TheVariants as line
 use Rattle.page_sets_lines.specs.declared.openers.Opener.TheVariants as begins
 use Rattle.page_sets_lines.specs.declared.openers.Closer.TheVariants as ends
 use Rattle.page_sets_lines.specs.ControlLines.{is_unclosed}
-use Rattle.page_sets_lines.specs.PlainLines.{event_at}
+use Rattle.page_sets_lines.specs.PlainLines.{event_at, word_event, generated_word}
 use Rattle.page_sets_mdoc_lines.specs.declared.macros.Defaulted.{Defaulted}
 use Rattle.page_sets_mdoc_lines.specs.declared.macros.Defaulted.TheVariants as defaults
 use Rattle.page_sets_mdoc_lines.specs.declared.macros.System.{System}
@@ -28,7 +28,7 @@ use Rattle.page_sets_mdoc_lines.specs.declared.macros.Inline.{Inline}
 use Rattle.page_sets_mdoc_lines.specs.declared.macros.Inline.TheVariants as inlines
 use Rattle.page_sets_mdoc_lines.specs.LineWords.{is_real}
 use Rattle.page_sets_mdoc_lines.specs.Words.{inside, outside}
-use Rattle.page_sets_mdoc_words.specs.Printed.{word_event, printed_word, printed, generated_word, step_event, is_opening}
+use Rattle.page_sets_mdoc_words.specs.Printed.{printed_word, printed, step_event, is_opening}
 
 -- ---- macros without words
 

@@ -12,16 +12,10 @@ use Rattle.page_sets_lines.specs.declared.events.Event.{Event}
 use Rattle.page_sets_names.specs.declared.generated_texts.GeneratedText.{GeneratedText}
 use Rattle.page_sets_lines.specs.declared.leaves.Leaf.TheVariants as leaves
 use Rattle.page_sets_lines.specs.declared.line_steps.LineStep.{LineStep}
-use Rattle.page_sets_lines.specs.PlainLines.{event_at}
+use Rattle.page_sets_lines.specs.PlainLines.{event_at, word_event}
 use Rattle.page_sets_mdoc_lines.specs.declared.delimiters.Delimiter.{Delimiter}
 use Rattle.page_sets_mdoc_lines.specs.declared.delimiters.Delimiter.TheVariants.{Opening, Middle, Closing}
 use Rattle.page_sets_mdoc_lines.specs.LineWords.{word_delimiter}
-
--- an argument as a word, in its own column
-abbrev pub word_event : ℕ → Role → Option Font → Join → Join → Argument (List ℕ) → Event (List ℕ)
-word_event number role font before after word =
-    event_at number word.column
-    (kinds.Word (record { arg = word; role = role; font = font; before = before; after = after }))
 
 -- a word that is no delimiter, between blanks
 abbrev pub real_word : ℕ → Option Font → Argument (List ℕ) → Event (List ℕ)
@@ -45,11 +39,6 @@ printed_word number font word = word_or_delimiter number font (word_delimiter wo
 abbrev pub printed : ℕ → Option Font → List (Argument (List ℕ)) → List (Event (List ℕ))
 printed number font [] = []
 printed number font (word ∷ words) = printed_word number font word ∷ printed number font words
-
--- a text of the macro's own
-abbrev pub generated_word : ℕ → ℕ → GeneratedText → Option Font → Join → Join → Event (List ℕ)
-generated_word number column text font before after =
-    event_at number column (kinds.Leaf (leaves.Generated (record { text = text; font = font; before = before; after = after })))
 
 abbrev pub step_event : ℕ → ℕ → LineStep (List ℕ) → Event (List ℕ)
 step_event number column step = event_at number column (kinds.Leaf (leaves.Step step))

@@ -13,7 +13,8 @@ use Rattle.page_sets_mdoc_lines.specs.declared.blocks.Sentence.TheVariants.{Exit
 use Rattle.page_sets_mdoc_lines.specs.LineWords.{is_real}
 use Rattle.page_sets_mdoc_words.specs.declared.sentences.NameCount.{NameCount}
 use Rattle.page_sets_mdoc_words.specs.declared.sentences.NameCount.TheVariants as counts
-use Rattle.page_sets_mdoc_words.specs.Printed.{real_word, printed_word, printed, generated_word, step_event}
+use Rattle.page_sets_mdoc_words.specs.Printed.{real_word, printed_word, printed, step_event}
+use Rattle.page_sets_lines.specs.PlainLines.{generated_word}
 use Rattle.page_sets_mdoc_words.specs.Synopses.{synopsis_event}
 
 -- ---- `Ex`, `Rv`

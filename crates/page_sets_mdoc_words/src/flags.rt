@@ -6,10 +6,10 @@ ghost use Rattle.page_sets_mdoc_lines.specs.machine.Cursors.{IsCursorOf};
 ghost use Rattle.page_sets_mdoc_lines.specs.Words.{words_view};
 ghost use Rattle.page_sets_mdoc_words.specs.Inlines as inlines;
 
-use crate::printed::{generated_word, printed_word};
+use crate::printed::printed_word;
 use page_core_base::Font;
 use page_core_limits::LINE;
-use page_sets_lines::{EventTaker, GeneratedText, Join};
+use page_sets_lines::{EventTaker, GeneratedText, Join, generated_word};
 use page_sets_mdoc_lines::{Words, is_real};
 
 /// A dash before each word that is no delimiter.

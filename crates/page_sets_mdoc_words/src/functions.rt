@@ -7,11 +7,12 @@ ghost use Rattle.page_sets_mdoc_lines.specs.Words.{AreIn, words_view};
 ghost use Rattle.page_sets_mdoc_words.specs.Inlines as inlines;
 
 use crate::plain::give_printed;
-use crate::printed::{generated_word, printed_word, step_event};
+use crate::printed::{printed_word, step_event};
 use page_core_base::Font;
 use page_core_limits::LINE;
 use page_sets_lines::{
     BlockOpener, EventKind, EventTaker, GeneratedText, Join, LineStep, Opener, event_at,
+    generated_word,
 };
 use page_sets_mdoc_lines::{MacroWords, Words, is_real};
 

@@ -7,9 +7,9 @@ ghost use Rattle.page_sets_mdoc_lines.specs.Words.{words_view};
 ghost use Rattle.page_sets_mdoc_words.specs.Sentences.{include_events};
 
 use crate::plain::give_printed;
-use crate::printed::{generated_word, printed_word, step_event};
+use crate::printed::{printed_word, step_event};
 use page_core_limits::LINE;
-use page_sets_lines::{EventTaker, GeneratedText, Join, LineStep, SynopsisStep};
+use page_sets_lines::{EventTaker, GeneratedText, Join, LineStep, SynopsisStep, generated_word};
 use page_sets_mdoc_lines::{Words, is_real};
 
 /// Gives the words of `In`: the first that is no delimiter is a file, which stands in angles.

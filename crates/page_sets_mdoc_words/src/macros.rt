@@ -4,7 +4,7 @@ ghost use Rattle.std.specs.Prelude.{◌≡◌, ◌≤◌, [], ◌∷◌, None, S
 ghost use Rattle.page_core_base.specs.Latches.{Came};
 ghost use Rattle.page_sets_lines.specs.Events.{event_view, given_view, step_view};
 ghost use Rattle.page_sets_lines.specs.Fits.{GivenFits, IsShort};
-ghost use Rattle.page_sets_lines.specs.PlainLines.{event_at};
+ghost use Rattle.page_sets_lines.specs.PlainLines.{event_at, generated_word};
 ghost use Rattle.page_sets_lines.specs.declared.events.EventKind.TheVariants as kinds;
 ghost use Rattle.page_sets_lines.specs.declared.openers.LineOpener.TheVariants as lines;
 ghost use Rattle.page_sets_names.specs.declared.generated_texts.GeneratedText.TheVariants.{Apostrophe};
@@ -12,7 +12,7 @@ ghost use Rattle.page_sets_lines.specs.declared.events.Join.TheVariants.{Glued};
 ghost use Rattle.page_sets_mdoc_lines.specs.machine.Cursors.{IsCursorOf};
 ghost use Rattle.page_sets_mdoc_lines.specs.Words.{AreIn, AreKnown, words_view};
 ghost use Rattle.page_sets_mdoc_words.specs.Inlines as inlines;
-ghost use Rattle.page_sets_mdoc_words.specs.Printed.{generated_word, printed, step_event};
+ghost use Rattle.page_sets_mdoc_words.specs.Printed.{printed, step_event};
 ghost use Rattle.page_sets_mdoc_words.specs.Synopses as synopses;
 
 use crate::enclosures::{give_closed, give_opened};
@@ -21,7 +21,7 @@ use crate::functions::{give_function, give_next_arguments};
 use crate::links::give_link;
 use crate::names::{Lone, give_lone, give_named};
 use crate::plain::{MacroName, give_printed, give_refused};
-use crate::printed::{generated_word, step_event};
+use crate::printed::step_event;
 use crate::references::give_reference;
 use crate::synopses::{after_words, before_words};
 use crate::systems::{give_bsd, system_word};
@@ -30,7 +30,7 @@ use page_core_base::Font;
 use page_core_limits::LINE;
 use page_sets_lines::{
     Event, EventKind, EventTaker, GeneratedText, Join, LineOpener, LineStep, Marks, SynopsisStep,
-    event_at,
+    event_at, generated_word,
 };
 use page_sets_mdoc_lines::{Inline, MacroWords, Words};
 

@@ -10,10 +10,12 @@ ghost use Rattle.page_sets_mdoc_words.specs.Inlines as inlines;
 ghost use Rattle.page_sets_mdoc_words.specs.machine.Lone.{lone_event};
 
 use crate::plain::give_printed;
-use crate::printed::{generated_word, is_opening, printed_word, step_event, word_event};
+use crate::printed::{is_opening, printed_word, step_event};
 use page_core_base::Font;
 use page_core_limits::LINE;
-use page_sets_lines::{Event, EventTaker, GeneratedText, Join, LineStep, Role};
+use page_sets_lines::{
+    Event, EventTaker, GeneratedText, Join, LineStep, Role, generated_word, word_event,
+};
 use page_sets_mdoc_lines::{Defaulted, Words, is_real};
 
 /// What a macro prints where all its words are delimiters.

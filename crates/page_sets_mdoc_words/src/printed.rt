@@ -9,34 +9,8 @@ ghost use Rattle.page_sets_mdoc_words.specs.Printed as printed;
 
 use page_core_base::Font;
 use page_roff_syntax::Argument;
-use page_sets_lines::{
-    Event, EventKind, GeneratedText, GeneratedWord, Join, Leaf, LineStep, Role, Word, event_at,
-};
+use page_sets_lines::{Event, EventKind, Join, Leaf, LineStep, Role, event_at, word_event};
 use page_sets_mdoc_lines::{Delimiter, word_delimiter};
-
-/// An argument as a word, in its own column.
-pub fn word_event(
-    number: u32,
-    role: Role,
-    font: Option<Font>,
-    before: Join,
-    after: Join,
-    word: Argument<&[u8]>,
-) -> Event<&[u8]>
-    ensures { event_view result ≡ printed.word_event number role font before after (argument_view word.entry) }
-{
-    event_at(
-        number,
-        word.column,
-        EventKind::Word(Word {
-            arg: word,
-            role,
-            font,
-            before,
-            after,
-        }),
-    )
-}
 
 /// A word that is no delimiter, or stands for none, between blanks.
 pub fn real_word(number: u32, font: Option<Font>, word: Argument<&[u8]>) -> Event<&[u8]>
@@ -66,29 +40,6 @@ pub fn printed_word(number: u32, font: Option<Font>, word: Argument<&[u8]>) -> E
         Some(delimiter) => delimiter_word(number, delimiter, word),
         None => real_word(number, font, word),
     }
-}
-
-/// A text of the macro's own.
-pub fn generated_word<'a>(
-    number: u32,
-    column: u32,
-    text: GeneratedText,
-    font: Option<Font>,
-    before: Join,
-    after: Join,
-) -> Event<&'a [u8]>
-    ensures { event_view result ≡ printed.generated_word number column text font before after }
-{
-    event_at(
-        number,
-        column,
-        EventKind::Leaf(Leaf::Generated(GeneratedWord {
-            text,
-            font,
-            before,
-            after,
-        })),
-    )
 }
 
 /// What a macro changes in its line.

@@ -7,9 +7,9 @@ ghost use Rattle.page_sets_mdoc_lines.specs.Words.{words_view};
 ghost use Rattle.page_sets_mdoc_words.specs.Inlines as inlines;
 
 use crate::plain::give_printed;
-use crate::printed::{generated_word, printed_word};
+use crate::printed::printed_word;
 use page_core_limits::LINE;
-use page_sets_lines::{EventTaker, GeneratedText, Join};
+use page_sets_lines::{EventTaker, GeneratedText, Join, generated_word};
 use page_sets_mdoc_lines::{Words, is_real};
 
 // The section, in parentheses.

@@ -8,9 +8,9 @@ ghost use Rattle.page_sets_mdoc_lines.specs.Words.{words_view};
 ghost use Rattle.page_sets_mdoc_words.specs.Inlines as inlines;
 
 use crate::plain::give_printed;
-use crate::printed::{generated_word, is_opening, printed_word};
+use crate::printed::{is_opening, printed_word};
 use page_core_limits::LINE;
-use page_sets_lines::{Event, EventTaker, GeneratedText, Join};
+use page_sets_lines::{Event, EventTaker, GeneratedText, Join, generated_word};
 use page_sets_mdoc_lines::{System, Words, is_real};
 
 // The text of a system.

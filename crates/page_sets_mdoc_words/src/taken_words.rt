@@ -12,11 +12,10 @@ ghost use Rattle.page_sets_mdoc_lines.specs.Words.{words_view};
 ghost use Rattle.page_sets_mdoc_words.specs.Inlines as inlines;
 
 use crate::plain::{MacroName, give_printed, give_refused};
-use crate::printed::word_event;
 use page_core_base::{Font, NoteKind};
 use page_core_limits::LINE;
 use page_roff_syntax::{Argument, Quoting};
-use page_sets_lines::{EventKind, EventTaker, Join, Role, event_at};
+use page_sets_lines::{EventKind, EventTaker, Join, Role, event_at, word_event};
 use page_sets_mdoc_lines::Words;
 
 // The message about an option that lacks its last quote.
