@@ -10,10 +10,10 @@ ghost use Rattle.page_core_base.specs.Fails.{FailsAs, Rose};
 ghost use Rattle.page_core_base.specs.Texts.{IsLine};
 
 use crate::choosing::choose;
-use crate::decoding::DecodedText;
+use crate::decoding::decode;
 use crate::open::OpenLine;
 use crate::reporting::{report, report_limit};
-use page_core_base::{Encoding, Fault, NoteSink};
+use page_core_base::{BoundedText, Encoding, Fault, NoteSink};
 use page_core_limits::LINE;
 use std::alloc::Global;
 use std::marker::Model;
@@ -23,7 +23,7 @@ use std::marker::Model;
 #[derive(Drop)]
 pub struct Cutter {
     line: OpenLine,
-    decoded: DecodedText,
+    decoded: BoundedText<LINE>,
     encoding: Encoding,
     ready: bool,
     printable: bool,
@@ -58,7 +58,7 @@ impl Cutter {
         let Ok(line) = OpenLine::new(alloc) else {
             return Err(Fault::Memory);
         };
-        let Ok(decoded) = DecodedText::new(alloc) else {
+        let Ok(decoded) = BoundedText::new(alloc) else {
             return Err(Fault::Memory);
         };
         Ok(Cutter {
@@ -141,7 +141,7 @@ impl Cutter {
         if self.printable {
             return report_limit(cut, number, notes);
         }
-        let passed = self.decoded.decode(self.line.text(), self.encoding);
+        let passed = decode(&mut self.decoded, self.line.text(), self.encoding);
         report(
             self.line.text(),
             self.encoding,

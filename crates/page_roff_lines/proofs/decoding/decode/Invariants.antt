@@ -1,11 +1,11 @@
 use Rattle.std.proofs.Common.{◌≤◌, ◌-◌, length, drop}
 use Rattle.page_roff_lines.specs.Characters.{characters}
 use Rattle.page_roff_lines.proofs.CharacterLemmas.{FitsSoFar}
-use Rattle.page_roff_lines.proofs.decoding.DecodedText.decode.Given as goal
+use Rattle.page_roff_lines.proofs.decoding.decode.Given as goal
 
 -- what fits of the text was decoded as far as this place
 abbrev pub invariant-loop-at : goal.invariant-loop-at
-invariant-loop-at l = (l.at ≤ length l.text) × FitsSoFar (characters l.encoding l.text) l.self (characters l.encoding (drop l.at l.text))
+invariant-loop-at l = (l.at ≤ length l.text) × FitsSoFar (characters l.encoding l.text) l.decoded (characters l.encoding (drop l.at l.text))
 
 abbrev pub decreases-loop-at : goal.decreases-loop-at
 decreases-loop-at l = length l.text - l.at

@@ -5,14 +5,14 @@ use Rattle.page_roff_lines.proofs.FineLemmas.{decode_line-is_line}
 use Rattle.page_roff_lines.proofs.OpenLaws.{rest_of}
 use Rattle.page_roff_lines.proofs.CharacterLemmas.{so_far-more, so_far-stop, so_far-end, characters-at}
 use Rattle.page_roff_lines.proofs.PlainLemmas.{so_far-text}
-use Rattle.page_roff_lines.proofs.decoding.DecodedText.decode.Goals as goal
+use Rattle.page_roff_lines.proofs.decoding.decode.Goals as goal
 
 pub loop-at-preserved-then-at-text : goal.loop-at-preserved-then-at-text
 loop-at-preserved-then-at-text c =
     let text = c.args.text.now in
     let n = c.put_text-at.result in
     let at = c.loop-at.at + n in
-    let run = so_far-text c.args.encoding text c.loop-at.self c.put_text-at.new.self c.loop-at.at n
+    let run = so_far-text c.args.encoding text c.loop-at.decoded c.put_text-at.new.decoded c.loop-at.at n
     c.put_text-at.ensures.fits c.put_text-at.ensures.text c.put_text-at.ensures.after c.loop-at.invariant.1 in
     let f = c.of-front.result in
     let rest = rest_of text at in
@@ -32,7 +32,7 @@ loop-at-preserved c =
     let text = c.args.text.now in
     let within = rw (rest_of text c.loop-at.at) at c.put_text-at.ensures.within in (
       omega (arith, within, length-drop c.loop-at.at text),
-      so_far-text c.args.encoding text c.loop-at.self c.put_text-at.new.self c.loop-at.at c.put_text-at.result
+      so_far-text c.args.encoding text c.loop-at.decoded c.put_text-at.new.decoded c.loop-at.at c.put_text-at.result
           c.put_text-at.ensures.fits c.put_text-at.ensures.text c.put_text-at.ensures.after c.loop-at.invariant.1,
     )
 
@@ -41,7 +41,7 @@ returns-then-not-put_front-clause-after c =
     let text = c.args.text.now in
     let n = c.put_text-at.result in
     let at = c.loop-at.at + n in
-    let run = so_far-text c.args.encoding text c.loop-at.self c.put_text-at.new.self c.loop-at.at n
+    let run = so_far-text c.args.encoding text c.loop-at.decoded c.put_text-at.new.decoded c.loop-at.at n
     c.put_text-at.ensures.fits c.put_text-at.ensures.text c.put_text-at.ensures.after c.loop-at.invariant.1 in
     let f = c.of-front.result in
     let rest = rest_of text at in
@@ -58,7 +58,7 @@ returns-then-not-put_front-clause-passed c =
     let text = c.args.text.now in
     let n = c.put_text-at.result in
     let at = c.loop-at.at + n in
-    let run = so_far-text c.args.encoding text c.loop-at.self c.put_text-at.new.self c.loop-at.at n
+    let run = so_far-text c.args.encoding text c.loop-at.decoded c.put_text-at.new.decoded c.loop-at.at n
     c.put_text-at.ensures.fits c.put_text-at.ensures.text c.put_text-at.ensures.after c.loop-at.invariant.1 in
     let f = c.of-front.result in
     let rest = rest_of text at in
