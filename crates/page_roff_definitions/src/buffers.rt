@@ -1,59 +1,31 @@
 //! What was taken last, in memory that is reserved once: a line, a call, the body of a region or a loop.
 
-ghost use Rattle.std.specs.Prelude.{◌≡◌, ◌≤◌, ◌+◌, [], ◌∷◌, ◌++◌, length, IfOk, IfSome, None, Some};
-ghost use Rattle.std.specs.Vec.{vec_len, vec_capacity};
+ghost use Rattle.std.specs.Prelude.{◌≡◌, ◌≤◌, length, IfOk, IfSome, None, Some};
 ghost use Rattle.page_core_base.specs.LinesTaken.{line_view};
 ghost use Rattle.page_core_limits.specs.declared.TheConstants.{BODY, LINE};
 ghost use Rattle.page_roff_definitions.specs.machine.Buffers.{no_line, AddsLine};
 ghost use Rattle.page_roff_syntax.specs.Regions.{text_view};
 
-use page_core_base::{Form, Taken};
+use page_core_base::{BoundedText, Form, Taken};
 use page_core_limits::{BODY, LINE};
 use std::alloc::{AllocError, Global};
 use std::marker::Model;
-
-/// Puts bytes at the end, within what is reserved.
-pub(crate) fn append(text: &mut Vec<u8>, more: &[u8])
-    requires { vec_len text.old + length more.now ≤ vec_capacity text.old }
-    ensures items { text.new.items ≡ text.old.items ++ more.now }
-    ensures capacity { vec_capacity text.old ≤ vec_capacity text.new }
-{
-    match text.extend_from_slice(more) {
-        Ok(()) => (),
-        Err(_) => unreachable!(),
-    }
-}
-
-/// Puts bytes in place of what is there, within what is reserved.
-pub(crate) fn replace(text: &mut Vec<u8>, bytes: &[u8])
-    requires { length bytes.now ≤ vec_capacity text.old }
-    ensures items { text.new.items ≡ bytes.now }
-    ensures capacity { vec_capacity text.old ≤ vec_capacity text.new }
-{
-    text.clear();
-    append(text, bytes);
-}
 
 /// The finished line that was taken last.
 #[derive(Drop)]
 pub struct LineBuffer {
     form: Form,
-    text: Vec<u8>,
+    text: BoundedText<LINE>,
     line: u32,
     name_end: u32,
 }
 
 impl Model for LineBuffer {
-    ghost use Rattle.std.specs.Prelude.{◌≤◌, length};
-    ghost use Rattle.std.specs.Vec.{vec_capacity};
     ghost use Rattle.page_core_base.specs.LinesTaken.{Line};
-    ghost use Rattle.page_core_limits.specs.declared.TheConstants.{LINE};
 
     ghost Value = { Line };
 
-    ghost view = { λ l. record { form = l.form; text = l.text.items; number = l.line; name_end = l.name_end } };
-
-    ghost invariant = { λ l. (length l.text.items ≤ LINE) × (LINE ≤ vec_capacity l.text) };
+    ghost view = { λ l. record { form = l.form; text = l.text; number = l.line; name_end = l.name_end } };
 }
 
 impl LineBuffer {
@@ -63,7 +35,7 @@ impl LineBuffer {
     {
         Ok(LineBuffer {
             form: Form::Text,
-            text: Vec::with_capacity(alloc, LINE)?,
+            text: BoundedText::new(alloc)?,
             line: 0,
             name_end: 0,
         })
@@ -74,7 +46,7 @@ impl LineBuffer {
         requires { length text.now ≤ LINE }
         ensures { self.new ≡ record { form = form; text = text.now; number = line; name_end = name_end } }
     {
-        replace(&mut self.text, text);
+        self.text.set(text);
         self.form = form;
         self.line = line;
         self.name_end = name_end;
@@ -87,7 +59,7 @@ impl LineBuffer {
     {
         Taken {
             form: self.form,
-            text: self.text.as_slice(),
+            text: self.text.bytes(),
             line: self.line,
             name_end: self.name_end,
         }
@@ -98,19 +70,15 @@ impl LineBuffer {
 #[derive(Drop)]
 pub struct BodyBuffer {
     is_open: bool,
-    text: Vec<u8>,
+    text: BoundedText<BODY>,
 }
 
 impl Model for BodyBuffer {
-    ghost use Rattle.std.specs.Prelude.{ℕ, List, Option, Some, None, ◌≤◌, length, if◌then◌else◌};
-    ghost use Rattle.std.specs.Vec.{vec_capacity};
-    ghost use Rattle.page_core_limits.specs.declared.TheConstants.{BODY};
+    ghost use Rattle.std.specs.Prelude.{ℕ, List, Option, Some, None, if◌then◌else◌};
 
     ghost Value = { Option (List ℕ) };
 
-    ghost view = { λ b. if b.is_open then Some b.text.items else None };
-
-    ghost invariant = { λ b. (length b.text.items ≤ BODY) × (BODY ≤ vec_capacity b.text) };
+    ghost view = { λ b. if b.is_open then Some b.text else None };
 }
 
 impl BodyBuffer {
@@ -120,7 +88,7 @@ impl BodyBuffer {
     {
         Ok(BodyBuffer {
             is_open: false,
-            text: Vec::with_capacity(alloc, BODY)?,
+            text: BoundedText::new(alloc)?,
         })
     }
 
@@ -128,11 +96,9 @@ impl BodyBuffer {
     pub fn copy(&self, alloc: Global) -> Result<BodyBuffer, AllocError>
         ensures { IfOk result (λ r. r ≡ self.now) }
     {
-        let mut text = Vec::with_capacity(alloc, BODY)?;
-        append(&mut text, &self.text);
         Ok(BodyBuffer {
             is_open: self.is_open,
-            text,
+            text: self.text.copy(alloc)?,
         })
     }
 
@@ -148,7 +114,7 @@ impl BodyBuffer {
         requires { length front.now ≤ BODY }
         ensures { self.new ≡ Some front.now }
     {
-        replace(&mut self.text, front);
+        self.text.set(front);
         self.is_open = true;
     }
 
@@ -158,7 +124,7 @@ impl BodyBuffer {
         ensures short { IfSome result (λ body. length body.now ≤ BODY) }
     {
         if self.is_open {
-            Some(self.text.as_slice())
+            Some(self.text.bytes())
         } else {
             None
         }
@@ -171,13 +137,8 @@ impl BodyBuffer {
         if !self.is_open {
             return false;
         }
-        if BODY - self.text.len() <= line.len() {
-            self.is_open = false;
-            return false;
-        }
-        append(&mut self.text, line);
-        append(&mut self.text, b"\n");
-        true
+        self.is_open = self.text.add(line) && self.text.add_byte(b'\n');
+        self.is_open
     }
 
     /// The body is within its limit. Nothing is done: what is added keeps to it.
@@ -185,5 +146,6 @@ impl BodyBuffer {
         ensures { IfSome self.now (λ body. length body ≤ BODY) }
     {
         let _is_open = self.is_open;
+        let _text = self.text.bytes();
     }
 }

@@ -8,12 +8,24 @@ ghost use Rattle.page_roff_definitions.specs.Arguments.{closing_notes, closings_
 ghost use Rattle.page_roff_definitions.specs.machine.Buffers.{no_call, Packs};
 ghost use Rattle.page_roff_definitions.specs.Calls.{packed};
 
-use crate::buffers::{append, replace};
 use memchr::memchr;
+use page_core_base::BoundedText;
 use page_core_limits::{ARGS, BODY, LINE};
 use page_roff_syntax::{Argument, Arguments, Quoting, after_byte};
 use std::alloc::{AllocError, Global};
 use std::marker::Model;
+
+// Puts bytes at the end, within what is reserved.
+fn append(text: &mut Vec<u8>, more: &[u8])
+    requires { vec_len text.old + length more.now ≤ vec_capacity text.old }
+    ensures items { text.new.items ≡ text.old.items ++ more.now }
+    ensures capacity { vec_capacity text.old ≤ vec_capacity text.new }
+{
+    match text.extend_from_slice(more) {
+        Ok(()) => (),
+        Err(_) => unreachable!(),
+    }
+}
 
 // Puts the text of a quoted argument at the end, within what is reserved.
 fn append_unpaired(text: &mut Vec<u8>, quoted: &[u8])
@@ -92,22 +104,21 @@ fn append_arguments(text: &mut Vec<u8>, arguments: &mut Arguments<'_>) -> Packin
 /// The call that was taken last.
 #[derive(Drop)]
 pub struct CallBuffer {
-    body: Vec<u8>,
+    body: BoundedText<BODY>,
     packed: Vec<u8>,
 }
 
 impl Model for CallBuffer {
     ghost use Rattle.std.specs.Prelude.{◌≤◌, ◌+◌};
     ghost use Rattle.std.specs.Vec.{vec_capacity};
-    ghost use Rattle.page_core_limits.specs.declared.TheConstants.{BODY, LINE};
-    ghost use Rattle.page_core_limits.specs.declared.TheConstants.{ARGS};
+    ghost use Rattle.page_core_limits.specs.declared.TheConstants.{ARGS, LINE};
     ghost use Rattle.page_roff_definitions.specs.Calls.{Call};
 
     ghost Value = { Call };
 
-    ghost view = { λ c. record { body = c.body.items; packed = c.packed.items } };
+    ghost view = { λ c. record { body = c.body; packed = c.packed.items } };
 
-    ghost invariant = { λ c. (BODY ≤ vec_capacity c.body) × (ARGS + LINE + 1 ≤ vec_capacity c.packed) };
+    ghost invariant = { λ c. ARGS + LINE + 1 ≤ vec_capacity c.packed };
 }
 
 impl CallBuffer {
@@ -116,7 +127,7 @@ impl CallBuffer {
         ensures { IfOk result (λ r. r ≡ no_call) }
     {
         Ok(CallBuffer {
-            body: Vec::with_capacity(alloc, BODY)?,
+            body: BoundedText::new(alloc)?,
             packed: Vec::with_capacity(alloc, ARGS + LINE + 1)?,
         })
     }
@@ -137,14 +148,14 @@ impl CallBuffer {
         requires { length body.now ≤ BODY }
         ensures { self.new ≡ record { body = body.now; packed = self.old.packed } }
     {
-        replace(&mut self.body, body);
+        self.body.set(body);
     }
 
     /// Lends the body.
     pub fn body(&self) -> &[u8]
         ensures { result.now ≡ self.now.body }
     {
-        self.body.as_slice()
+        self.body.bytes()
     }
 
     /// Lends the arguments, each with a line feed after it.
