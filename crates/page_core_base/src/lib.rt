@@ -1,5 +1,5 @@
-//! What the layers of the formatter share: messages and their levels, settings, faults, cells, what is filled, the traits of the
-//! sinks that take rows, messages and pieces, and the latches through which inner functions give to them.
+//! What the layers of the formatter share: messages and their levels, settings, faults, cells, what is filled, texts within a limit, the traits of
+//! the sinks that take rows, messages and pieces, and the latches through which inner functions give to them.
 //!
 //! It stands below every layer: what one gives and the next one takes is a type of this crate.
 //!
@@ -8,8 +8,8 @@
 //!
 //! Proved: `is_line`, `Level::is_below`, `NoteKind::level`, `NoteKind::text`, `Note::about`: what a line may hold, and the level and the text of each
 //! kind of message (`specs/Texts.antt`, `Messages.antt`). `Settings::check`, `Settings::set_os`: settings are refused exactly where a bound is
-//! passed, the first one first (`specs/Checks.antt`). `PieceLatch`, `NoteLatch`: all that is given came to the sink, or a front of it and then its fault
-//! (`specs/Latches.antt`).
+//! passed, the first one first (`specs/Checks.antt`). `BoundedText`: bytes are added whole or not at all, within the limit. `PieceLatch`,
+//! `NoteLatch`: all that is given came to the sink, or a front of it and then its fault (`specs/Latches.antt`).
 #![tactic(auto)]
 
 mod bounded_texts;

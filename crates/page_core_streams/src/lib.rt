@@ -7,7 +7,8 @@
 //! `specs/RowBytes.antt`, and `TextNotes` in `text_notes.rt` with `specs/MessageBytes.antt`.
 //!
 //! Proved: `Counted`, `SliceSource`: a source counts its calls and its failures, and gives the bytes of its reader, or of its slice, in their order
-//! (`specs/Sources.antt`). `write_note`, `cell_bytes`, `TextRows`, `TextNotes`: a writer gets exactly the bytes of each message, cell and row; with a
+//! (`specs/Sources.antt`). `Chunks`: the chunks of a source are its bytes, up to both bounds, and why there are no more
+//! (`specs/Chunks.antt`). `write_note`, `cell_bytes`, `TextRows`, `TextNotes`: a writer gets exactly the bytes of each message, cell and row; with a
 //! fault, a front of them.
 #![tactic(auto)]
 
