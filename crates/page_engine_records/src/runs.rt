@@ -57,7 +57,9 @@ impl RecordRun {
         ensures fault { IfErr result (λ fault. fault ≡ Fault.Memory) }
     {
         let page = PageFront::new(alloc, settings)?;
-        let cutter = Cutter::new(alloc, settings.encoding)?;
+        let Ok(cutter) = Cutter::new(alloc, settings.encoding) else {
+            return Err(Fault::Memory);
+        };
         Ok(RecordRun { page, cutter })
     }
 
