@@ -2,13 +2,13 @@
 //!
 //! It stands below the layers of a page, which take their limits from here.
 //!
-//! Read first: the constants, and `Limit::name`.
+//! Read first: `specs/Limits.antt`, one table of the limits with their names and values.
 //!
-//! Proved: `Limit::name`: the name of each limit is that of `specs/Limits.antt`.
+//! Proved: `limits_law`, `Limit::name`: the constants and the names are those of that table.
 #![tactic(auto)]
 
 ghost use Rattle.std.specs.Prelude.{◌≡◌};
-ghost use Rattle.page_core_limits.specs.Limits.{name_of};
+ghost use Rattle.page_core_limits.specs.Limits.{name_of, value_of};
 
 /// The bytes of a line.
 pub const LINE: usize = 65_536;
@@ -82,6 +82,17 @@ pub enum Limit {
     Expand,
     Nest,
 }
+
+/// The constants are the values of the table of limits.
+pub fn limits_law()
+    ensures { (LINE ≡ value_of Limit.Line) × (FIELD ≡ value_of Limit.Field) × (CELLS ≡ value_of Limit.Cells)
+        × (BLANKS ≡ value_of Limit.Blanks) × (SCOPES ≡ value_of Limit.Scopes)
+        × (COLUMNS ≡ value_of Limit.Columns) × (PARENS ≡ value_of Limit.Parens)
+        × (NAME ≡ value_of Limit.Name) × (NAMES ≡ value_of Limit.Names) × (BODY ≡ value_of Limit.Body)
+        × (DEFS ≡ value_of Limit.Defs) × (CONDS ≡ value_of Limit.Conds) × (CALLS ≡ value_of Limit.Calls)
+        × (ARGS ≡ value_of Limit.Args) × (REREAD ≡ value_of Limit.Reread) × (EXPAND ≡ value_of Limit.Expand)
+        × (NEST ≡ value_of Limit.Nest) }
+{}
 
 impl Limit {
     /// The name that the message shows where the limit is passed.
