@@ -1,8 +1,8 @@
 -- The glyphs that have a name, of mandoc_char(7): which character a name stands for, and how a character is spelled in ASCII.
-use Rattle.std.specs.Prelude.{ℕ, ◌+◌, ◌*◌, List, [], ◌∷◌, ◌&&◌, ◌==◌, nat_le, if◌then◌else◌, map, Option, Some, None}
+use Prim.Native.String.{String}
+use Rattle.std.specs.Prelude.{ℕ, ◌+◌, ◌*◌, List, [], ◌∷◌, ◌&&◌, ◌==◌, nat_le, if◌then◌else◌, map, Option, Some, None, codes}
 use Rattle.std.specs.Borrow.{Bor}
 use Rattle.page_core_tables.specs.declared.rows.Glyph.{Glyph}
-use Rattle.page_core_tables.specs.declared.rows.TheConstants.{GLYPHS}
 
 -- what a name stands for: a character's code point, and its spelling in ASCII, which is empty where it has none
 pub record Symbol : Type 0 where
@@ -25,18 +25,174 @@ entry key code spelling = record { key = key; symbol = record { code = code; spe
 abbrev pub entries : List (ℕ × ℕ × Bor (List ℕ)) → List Entry
 entries rows = map (λ row. entry row.0 row.1 row.2.now) rows
 
--- the rows of the names
+-- the key of a name of two bytes
+abbrev pub name_key : ℕ → ℕ → ℕ
+name_key first second = first * 256 + second
+
+-- the key of a name; each name of the table has two bytes
+abbrev pub key_of : List ℕ → ℕ
+key_of (first ∷ second ∷ _) = name_key first second
+key_of _ = 0
+
+-- a row of the table: a name, its character's code point, and that character's spelling in ASCII
+abbrev pub glyph : String → ℕ → String → Entry
+glyph name code spelling = entry (key_of (codes name)) code (codes spelling)
+
+-- the table of the names
 unfoldable pub table : List Entry
-table = map (λ row. entry row.0 row.1 row.2.now) GLYPHS
+table =
+    glyph "!=" 0x2260 "!=" ∷
+    glyph "'A" 0xC1 "A" ∷
+    glyph "'E" 0xC9 "E" ∷
+    glyph "'I" 0xCD "I" ∷
+    glyph "'O" 0xD3 "O" ∷
+    glyph "'U" 0xDA "U" ∷
+    glyph "'a" 0xE1 "a" ∷
+    glyph "'e" 0xE9 "e" ∷
+    glyph "'i" 0xED "i" ∷
+    glyph "'o" 0xF3 "o" ∷
+    glyph "'u" 0xFA "u" ∷
+    glyph "**" 0x2217 "*" ∷
+    glyph "*D" 0x394 "<Delta>" ∷
+    glyph "*S" 0x3A3 "<Sigma>" ∷
+    glyph "*W" 0x3A9 "<Omega>" ∷
+    glyph "*a" 0x3B1 "<alpha>" ∷
+    glyph "*b" 0x3B2 "<beta>" ∷
+    glyph "*d" 0x3B4 "<delta>" ∷
+    glyph "*g" 0x3B3 "<gamma>" ∷
+    glyph "*l" 0x3BB "<lambda>" ∷
+    glyph "*m" 0x3BC "<mu>" ∷
+    glyph "*p" 0x3C0 "<pi>" ∷
+    glyph "*s" 0x3C3 "<sigma>" ∷
+    glyph "+-" 0xB1 "+-" ∷
+    glyph ",C" 0xC7 "C" ∷
+    glyph ",c" 0xE7 "c" ∷
+    glyph "->" 0x2192 "->" ∷
+    glyph "/O" 0xD8 "O" ∷
+    glyph "/o" 0xF8 "o" ∷
+    glyph "12" 0xBD "1/2" ∷
+    glyph "14" 0xBC "1/4" ∷
+    glyph "34" 0xBE "3/4" ∷
+    glyph ":A" 0xC4 "A" ∷
+    glyph ":O" 0xD6 "O" ∷
+    glyph ":U" 0xDC "U" ∷
+    glyph ":a" 0xE4 "a" ∷
+    glyph ":e" 0xEB "e" ∷
+    glyph ":i" 0xEF "i" ∷
+    glyph ":o" 0xF6 "o" ∷
+    glyph ":u" 0xFC "u" ∷
+    glyph "<-" 0x2190 "<-" ∷
+    glyph "<=" 0x2264 "<=" ∷
+    glyph "<>" 0x2194 "<->" ∷
+    glyph "==" 0x2261 "==" ∷
+    glyph ">=" 0x2265 ">=" ∷
+    glyph "AE" 0xC6 "AE" ∷
+    glyph "AN" 0x2227 "^" ∷
+    glyph "Bq" 0x201E ",," ∷
+    glyph "Do" 0x24 "$" ∷
+    glyph "Eu" 0x20AC "EUR" ∷
+    glyph "Fc" 0xBB ">>" ∷
+    glyph "Fo" 0xAB "<<" ∷
+    glyph "OK" 0x2713 "" ∷
+    glyph "OR" 0x2228 "v" ∷
+    glyph "Po" 0xA3 "" ∷
+    glyph "S1" 0xB9 "1" ∷
+    glyph "S2" 0xB2 "2" ∷
+    glyph "S3" 0xB3 "3" ∷
+    glyph "Ye" 0xA5 "" ∷
+    glyph "^a" 0xE2 "a" ∷
+    glyph "^e" 0xEA "e" ∷
+    glyph "^i" 0xEE "i" ∷
+    glyph "^o" 0xF4 "o" ∷
+    glyph "^u" 0xFB "u" ∷
+    glyph "`a" 0xE0 "a" ∷
+    glyph "`e" 0xE8 "e" ∷
+    glyph "`i" 0xEC "i" ∷
+    glyph "`o" 0xF2 "o" ∷
+    glyph "`u" 0xF9 "u" ∷
+    glyph "aa" 0xB4 "'" ∷
+    glyph "ae" 0xE6 "ae" ∷
+    glyph "aq" 0x27 "'" ∷
+    glyph "at" 0x40 "@" ∷
+    glyph "ba" 0x7C "|" ∷
+    glyph "bq" 0x201A "," ∷
+    glyph "br" 0x2502 "|" ∷
+    glyph "bu" 0x2022 "o" ∷
+    glyph "ca" 0x2229 "" ∷
+    glyph "ci" 0x25CB "O" ∷
+    glyph "co" 0xA9 "(C)" ∷
+    glyph "cq" 0x2019 "'" ∷
+    glyph "ct" 0xA2 "" ∷
+    glyph "cu" 0x222A "" ∷
+    glyph "da" 0x2193 "v" ∷
+    glyph "dd" 0x2021 "" ∷
+    glyph "de" 0xB0 "<deg>" ∷
+    glyph "dg" 0x2020 "" ∷
+    glyph "di" 0xF7 "/" ∷
+    glyph "dq" 0x22 "\"" ∷
+    glyph "em" 0x2014 "--" ∷
+    glyph "en" 0x2013 "-" ∷
+    glyph "eq" 0x3D "=" ∷
+    glyph "es" 0x2205 "" ∷
+    glyph "eu" 0x20AC "EUR" ∷
+    glyph "fa" 0x2200 "" ∷
+    glyph "fc" 0x203A ">" ∷
+    glyph "fm" 0x2032 "'" ∷
+    glyph "fo" 0x2039 "<" ∷
+    glyph "ga" 0x60 "`" ∷
+    glyph "gr" 0x2207 "" ∷
+    glyph "hA" 0x21D4 "<=>" ∷
+    glyph "ha" 0x5E "^" ∷
+    glyph "hy" 0x2010 "-" ∷
+    glyph "if" 0x221E "" ∷
+    glyph "lA" 0x21D0 "<=" ∷
+    glyph "lB" 0x5B "[" ∷
+    glyph "lC" 0x7B "{" ∷
+    glyph "la" 0x27E8 "<" ∷
+    glyph "lq" 0x201C "\"" ∷
+    glyph "lz" 0x25CA "" ∷
+    glyph "mi" 0x2212 "-" ∷
+    glyph "mo" 0x2208 "" ∷
+    glyph "mu" 0xD7 "x" ∷
+    glyph "no" 0xAC "~" ∷
+    glyph "oA" 0xC5 "A" ∷
+    glyph "oa" 0xE5 "a" ∷
+    glyph "oq" 0x2018 "`" ∷
+    glyph "pd" 0x2202 "" ∷
+    glyph "pl" 0x2B "+" ∷
+    glyph "ps" 0xB6 "" ∷
+    glyph "r!" 0xA1 "" ∷
+    glyph "r?" 0xBF "" ∷
+    glyph "rA" 0x21D2 "=>" ∷
+    glyph "rB" 0x5D "]" ∷
+    glyph "rC" 0x7D "}" ∷
+    glyph "ra" 0x27E9 ">" ∷
+    glyph "rg" 0xAE "(R)" ∷
+    glyph "rq" 0x201D "\"" ∷
+    glyph "rs" 0x5C "\\" ∷
+    glyph "sc" 0xA7 "<S>" ∷
+    glyph "sd" 0x2033 "\"" ∷
+    glyph "sh" 0x23 "#" ∷
+    glyph "sl" 0x2F "/" ∷
+    glyph "sq" 0x25A1 "" ∷
+    glyph "sr" 0x221A "" ∷
+    glyph "ss" 0xDF "ss" ∷
+    glyph "te" 0x2203 "" ∷
+    glyph "ti" 0x7E "~" ∷
+    glyph "tm" 0x2122 "(TM)" ∷
+    glyph "ua" 0x2191 "^" ∷
+    glyph "ul" 0x5F "_" ∷
+    glyph "~N" 0xD1 "N" ∷
+    glyph "~a" 0xE3 "a" ∷
+    glyph "~n" 0xF1 "n" ∷
+    glyph "~o" 0xF5 "o" ∷
+    glyph "~~" 0x2248 "~~" ∷
+    []
 
 -- the symbol of the first entry with a key
 unfoldable pub symbol_at : List Entry → ℕ → Option Symbol
 symbol_at [] key = None
 symbol_at (e ∷ es) key = if e.key == key then Some e.symbol else symbol_at es key
-
--- the key of a name of two bytes
-abbrev pub name_key : ℕ → ℕ → ℕ
-name_key first second = first * 256 + second
 
 -- the symbol that a name stands for, if it stands for one; each name of the table has two bytes
 unfoldable pub glyph_of : List ℕ → Option Symbol

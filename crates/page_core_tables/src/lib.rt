@@ -2,11 +2,10 @@
 //!
 //! It stands below filling, which prints them, and below numbers, which count their columns.
 //!
-//! Read first: `glyph` and `spelling` below, with the table in `rows.rt`; then `printing.rt`.
+//! Read first: `glyph` and `spelling` below, with the table in `specs/Glyphs.antt`; then `printing.rt`.
 //!
 //! Proved: `glyph`, `spelling`, `printed_char`, `printed_glyph`: the glyph of a name, the spelling in ASCII of a character, and what each prints in
-//! an output, are those of one table, `GLYPHS` in `src/rows.rt`, which the definitions cite (`specs/Glyphs.antt`,
-//! `Printed.antt`).
+//! an output, are those of one table (`specs/Glyphs.antt`, `Printed.antt`), with which the rows of the program are compared.
 #![tactic(auto)]
 
 ghost use Rattle.std.specs.Prelude.{◌≡◌, option_map};
