@@ -1,6 +1,6 @@
 -- A search in rows, one after another, and in lists of rows by their first letter.
-use Rattle.std.proofs.Common.{◌≡◌, ap, sym, arith, refl, ℕ, zero, suc, ◌+◌, ◌<◌, true, false, List, [], ◌∷◌, length, get_or, drop, drop-cons, map, Option, Some, None, cond, Bor, ◌∙◌, eqb}
-use Rattle.std.proofs.lemmas.Bool.{and_parts, eqb-true, cond-true, cond-false, false_from_ne_true}
+use Rattle.std.proofs.Common.{◌≡◌, ap, sym, arith, refl, ℕ, zero, suc, ◌+◌, ◌<◌, true, false, List, [], ◌∷◌, ◌++◌, length, get_or, drop, drop-cons, map, Option, Some, None, cond, Bor, ◌∙◌, eqb, inl, inr}
+use Rattle.std.proofs.lemmas.Bool.{cases_Bool, and_parts, eqb-true, cond-true, cond-false, false_from_ne_true}
 use Rattle.std.proofs.lemmas.Slice.Eq.{bytes_eq-Decides}
 use Rattle.std.specs.List.{list_all}
 use Rattle.std.specs.Option.{option_or}
@@ -71,3 +71,25 @@ list_view (rows ∷ more) (suc i) = list_view more i
 pub row_of_table : {V : Type 0} (lists : List (Bor (List (Bor (List ℕ) × V)))) (name : List ℕ) → stand_by_letter 0 (table_view lists) ≡ true
     → row_in (seen (get_or (map (λ rows. rows.now) lists) (letter_of name) [])) name ≡ row_among (table_view lists) name
 row_of_table lists name stand = ap (λ rows. row_in rows name) (list_view lists (letter_of name)) ∙ sym (row_by_letter 0 (table_view lists) name (letter_of name) stand (omega arith))
+
+-- lists of rows, one after another
+abbrev pub joined : {V : Type 0} → List (List (List ℕ × V)) → List (List ℕ × V)
+joined [] = []
+joined (rows ∷ more) = rows ++ joined more
+
+row_in-append : {V : Type 0} (rows more : List (List ℕ × V)) (name : List ℕ) → option_or (row_in rows name) (row_in more name) ≡ row_in (rows ++ more) name
+row_in-append [] more name = refl
+row_in-append (row ∷ rows) more name =
+    elim (cases_Bool (bytes_eq row.0 name)) [
+      | inl same ↦ rw same refl
+      | inr other ↦ rw other (row_in-append rows more name)
+    ]
+
+row_among-joined : {V : Type 0} (lists : List (List (List ℕ × V))) (name : List ℕ) → row_among lists name ≡ row_in (joined lists) name
+row_among-joined [] name = refl
+row_among-joined (rows ∷ more) name = ap (option_or (row_in rows name)) (row_among-joined more name) ∙ row_in-append rows (joined more) name
+
+-- where the lists of the program, one after another, are the rows of a table, the list of a name's letter says of it what the table says
+pub row_of_rows : {V : Type 0} (lists : List (Bor (List (Bor (List ℕ) × V)))) (table : List (List ℕ × V)) (name : List ℕ) → stand_by_letter 0 (table_view lists) ≡ true
+    → joined (table_view lists) ≡ table → row_in (seen (get_or (map (λ rows. rows.now) lists) (letter_of name) [])) name ≡ row_in table name
+row_of_rows lists table name stand same = row_of_table lists name stand ∙ row_among-joined (table_view lists) name ∙ ap (λ rows. row_in rows name) same

@@ -2,11 +2,11 @@
 //! "Macro syntax" and "REQUEST REFERENCE").
 //!
 //! The lowest crate of roff: heads, commands and calls are read by it, and so are the lines that the sets of macros get. The names that roff knows are
-//! one table, with one row for each request and what it is. Read `specs/LineForms.antt` and `Arguments.antt` first, then `requests.rt`.
+//! one table, with one row for each request and what it is. Read `specs/LineForms.antt`, `Arguments.antt` and `Requests.antt` first.
 //!
 //! Proved: `form_of`, `control_name`, `Arguments::next_argument`, `read_argument`: the form of a raw line, the name of a control line, and its
 //! arguments one after another, are those of `specs/LineForms.antt` and `Arguments.antt`. `Request::of`, `RegionKind::name`, `fixed_ending`: which names
-//! are requests, and what each is, by one table, `REQUESTS` in `src/requests.rt`, which the definition cites (`specs/Requests.antt`, `Regions.antt`).
+//! are requests, and what each is, by one table (`specs/Requests.antt`, `Regions.antt`), with which the rows of the program are compared.
 #![tactic(auto)]
 
 mod arguments;
