@@ -3,7 +3,7 @@ use Rattle.std.proofs.Common.{◌≡◌, ℕ, ◌+◌, ◌*◌, ◌≤◌, Bool,
 use Rattle.std.specs.List.{list_all}
 use Rattle.std.specs.Option.{option_or}
 use Rattle.std.specs.Str.{bytes_eq}
-use Rattle.std.proofs.lemmas.Bool.{cases_Bool, and_parts}
+use Rattle.std.proofs.lemmas.Bool.{cases_Bool}
 use Rattle.std.proofs.lemmas.Bool.Decides.{nat_tests}
 use Rattle.page_core_base.specs.declared.cells.Font.{Font}
 use Rattle.page_core_base.specs.declared.cells.Font.TheVariants as fonts
@@ -42,7 +42,7 @@ use Rattle.page_sets_man.specs.declared.rows.Last.{Last}
 use Rattle.page_sets_man.specs.declared.rows.Last.TheVariants as lasts
 use Rattle.page_sets_man.specs.declared.rows.Row.{Row}
 use Rattle.page_sets_man.specs.declared.gives.Quote.{Quote}
-use Rattle.page_core_names.specs.Rows.{row_in, row_among}
+use Rattle.page_core_names.specs.Rows.{row_in}
 use Rattle.page_sets_man.specs.Rows.{quiet, table, macro_row, request_row, row_of}
 use Rattle.page_sets_man.specs.Man.{opener, closer, leaf, effect_kind, line_scope, one_word, plain_words, alternating_words, option_words, section_words, reference_words, words_events, has_words, break_events, quote_at, missing_quote, quote_events, kind_events, scope_events, last_events, macro_events, lone_events, row_events, named_events, control_events, line_events, man_events}
 
@@ -458,15 +458,9 @@ light_either : (one other : Option Row) (row : Row) → (one ≡ Some row → is
 light_either None other row h k e = k e
 light_either (Some found) other row h k e = h e
 
-light_among : (lists : List (List (List ℕ × Row))) (name : List ℕ) (row : Row) → list_all are_light lists ≡ true → row_among lists name ≡ Some row → is_light row ≡ true
-light_among [] name row h e = cc
-light_among (rows ∷ more) name row h e =
-    let parts = and_parts (are_light rows) (list_all are_light more) h in
-    light_either (row_in rows name) (row_among more name) row (light_in rows name row parts.0) (light_among more name row parts.1) e
-
 light_macro : (name : List ℕ) (row : Row) → macro_row name ≡ Some row → is_light row ≡ true
 unfolding macro_row is_light weight break_weight quotes_weight effect_weight scope_weight marks_weight last_weight
-light_macro name row e = light_among table name row refl e
+light_macro name row e = light_in table name row refl e
 
 light_request : (request : Option LayoutRequest) (row : Row) → option_map (λ name. quiet (sets.Request name)) request ≡ Some row → is_light row ≡ true
 unfolding is_light weight break_weight quotes_weight effect_weight scope_weight marks_weight last_weight
