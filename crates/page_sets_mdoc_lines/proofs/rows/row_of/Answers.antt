@@ -1,13 +1,18 @@
-use Rattle.std.proofs.Common.{ap, ◌∙◌}
-use Rattle.page_core_names.proofs.RowLemmas.{row_of_table, seen}
+use Rattle.std.proofs.Common.{◌≡◌, refl, ap, map, ◌∙◌}
+use Rattle.page_core_names.proofs.RowLemmas.{joined, row_of_rows, seen}
 use Rattle.page_core_names.specs.Rows.{row_in}
-use Rattle.page_sets_mdoc_lines.specs.Rows.{row_of}
+use Rattle.page_sets_mdoc_lines.specs.declared.rows.TheConstants.{MACROS}
+use Rattle.page_sets_mdoc_lines.specs.Rows.{table, row_of}
 use Rattle.page_sets_mdoc_lines.proofs.rows.row_of.Goals as goal
 
--- the table is tested whole: each name stands in the list of its letter
+-- the rows of the program, list after list, are those of the table
+same_rows : joined (map (λ rows. map (λ row. (row.0.now, row.1)) rows.now) MACROS) ≡ table
+same_rows = refl
+
+-- the lists are tested whole: each name stands in the list of its letter
 pub returns : goal.returns
 unfolding row_of
 returns c =
     c.row_named.ensures
     ∙ ap (λ rows. row_in (seen rows) c.args.name.now) c.list_for.ensures
-    ∙ search row_of_table
+    ∙ search (row_of_rows, same_rows)
