@@ -1,21 +1,67 @@
 -- The texts that macros print themselves. Source: man(7) and mdoc(7), "MACRO REFERENCE".
-use Rattle.std.specs.Prelude.{ℕ, Bool, true, false, List, [], find}
-use Rattle.std.specs.Option.{option_map_or}
-use denote.Enum.Bare.{sameb}
-use Rattle.page_sets_names.specs.contracts.generated_texts.GeneratedText.{the_type}
+use Prim.Native.String.{String}
+use Rattle.std.specs.Prelude.{ℕ, Bool, true, false, List, codes}
 use Rattle.page_sets_names.specs.declared.generated_texts.GeneratedText.{GeneratedText}
-use Rattle.page_sets_names.specs.declared.generated_texts.GeneratedText.TheVariants.{JoinedFlag, Files, JoinedFiles}
+use Rattle.page_sets_names.specs.declared.generated_texts.GeneratedText.TheVariants.{OpenParenthesis, CloseParenthesis, OpenBracket, CloseBracket, OpenAngle, CloseAngle, OpenBrace, CloseBrace, OpenDouble, CloseDouble, OpenSingle, CloseSingle, Straight, Comma, FullStop, Colon, Apostrophe, Dash, Flag, JoinedFlag, Files, JoinedFiles, Home, Bsd, BsdOs, DragonFly, FreeBsd, NetBsd, OpenBsd, Unix, Call, CallComma, Semicolon, Include, The, And, UtilityExits, UtilitiesExit, FunctionReturns, FunctionsReturn}
 use Rattle.page_sets_names.specs.declared.generated_texts.Role.{Role}
 use Rattle.page_sets_names.specs.declared.generated_texts.Role.TheVariants.{Mark, Word, Sentence}
-use Rattle.page_sets_names.specs.declared.generated_texts.TheConstants.{GENERATED_TEXTS}
 
--- the text of its row
+-- a text, and what it is in a sentence
+pub record Row : Type 0 where
+  pub text : List ℕ
+  pub role : Role
+
+abbrev pub row : String → Role → Row
+row text role = record { text = codes text; role = role }
+
+-- the table
+abbrev pub row_of : GeneratedText → Row
+row_of OpenParenthesis = row "(" Mark
+row_of CloseParenthesis = row ")" Mark
+row_of OpenBracket = row "[" Mark
+row_of CloseBracket = row "]" Mark
+row_of OpenAngle = row "<" Mark
+row_of CloseAngle = row ">" Mark
+row_of OpenBrace = row "{" Mark
+row_of CloseBrace = row "}" Mark
+row_of OpenDouble = row "\\(lq" Mark
+row_of CloseDouble = row "\\(rq" Mark
+row_of OpenSingle = row "\\(oq" Mark
+row_of CloseSingle = row "\\(cq" Mark
+row_of Straight = row "\"" Mark
+row_of Comma = row "," Mark
+row_of FullStop = row "." Mark
+row_of Colon = row ":" Mark
+row_of Apostrophe = row "'" Mark
+row_of Dash = row "-" Mark
+row_of Flag = row "-" Word
+row_of JoinedFlag = row "-" Word
+row_of Files = row "file ..." Word
+row_of JoinedFiles = row "file..." Word
+row_of Home = row "~" Word
+row_of Bsd = row "BSD" Word
+row_of BsdOs = row "BSD/OS" Word
+row_of DragonFly = row "DragonFly" Word
+row_of FreeBsd = row "FreeBSD" Word
+row_of NetBsd = row "NetBSD" Word
+row_of OpenBsd = row "OpenBSD" Word
+row_of Unix = row "UNIX" Word
+row_of Call = row "()" Mark
+row_of CallComma = row "()," Mark
+row_of Semicolon = row ";" Mark
+row_of Include = row "#include" Word
+row_of The = row "The" Word
+row_of And = row "and" Word
+row_of UtilityExits = row "utility exits 0 on success, and >0 if an error occurs." Sentence
+row_of UtilitiesExit = row "utilities exit 0 on success, and >0 if an error occurs." Sentence
+row_of FunctionReturns = row "function returns the value 0 if successful; otherwise the value -1 is returned and the global variable errno is set to indicate the error." Sentence
+row_of FunctionsReturn = row "functions return the value 0 if successful; otherwise the value -1 is returned and the global variable errno is set to indicate the error." Sentence
+
 abbrev pub generated_text : GeneratedText → List ℕ
-generated_text text = option_map_or (λ row. row.1.now) (find (λ row. sameb the_type row.0 text) GENERATED_TEXTS) []
+generated_text text = (row_of text).text
 
--- what its row says that it is in a sentence
 abbrev pub generated_role : GeneratedText → Role
-generated_role text = option_map_or (λ row. row.2) (find (λ row. sameb the_type row.0 text) GENERATED_TEXTS) Mark
+generated_role text = (row_of text).role
 
 abbrev pub is_word : Role → Bool
 is_word Mark = false
