@@ -2,13 +2,13 @@
 //!
 //! It stands below the layers of a page, which take their limits from here.
 //!
-//! Read first: `specs/Limits.antt`, one table of the limits with their names and values.
+//! Read first: `specs/Limits.antt`, the limits that definitions cite, with their names.
 //!
-//! Proved: `limits_law`, `Limit::name`: the constants and the names are those of that table.
+//! Proved: `limits_law`, `Limit::name`: the constants and the names are those of `specs/Limits.antt`.
 #![tactic(auto)]
 
 ghost use Rattle.std.specs.Prelude.{◌≡◌};
-ghost use Rattle.page_core_limits.specs.Limits.{name_of, value_of};
+ghost use Rattle.page_core_limits.specs.Limits as limits;
 
 /// The bytes of a line.
 pub const LINE: usize = 65_536;
@@ -83,21 +83,19 @@ pub enum Limit {
     Nest,
 }
 
-/// The constants are the values of the table of limits.
+/// The constants are the limits of the definitions.
 pub fn limits_law()
-    ensures { (LINE ≡ value_of Limit.Line) × (FIELD ≡ value_of Limit.Field) × (CELLS ≡ value_of Limit.Cells)
-        × (BLANKS ≡ value_of Limit.Blanks) × (SCOPES ≡ value_of Limit.Scopes)
-        × (COLUMNS ≡ value_of Limit.Columns) × (PARENS ≡ value_of Limit.Parens)
-        × (NAME ≡ value_of Limit.Name) × (NAMES ≡ value_of Limit.Names) × (BODY ≡ value_of Limit.Body)
-        × (DEFS ≡ value_of Limit.Defs) × (CONDS ≡ value_of Limit.Conds) × (CALLS ≡ value_of Limit.Calls)
-        × (ARGS ≡ value_of Limit.Args) × (REREAD ≡ value_of Limit.Reread) × (EXPAND ≡ value_of Limit.Expand)
-        × (NEST ≡ value_of Limit.Nest) }
+    ensures { (LINE ≡ limits.LINE) × (FIELD ≡ limits.FIELD) × (CELLS ≡ limits.CELLS)
+        × (BLANKS ≡ limits.BLANKS) × (SCOPES ≡ limits.SCOPES) × (COLUMNS ≡ limits.COLUMNS)
+        × (PARENS ≡ limits.PARENS) × (NAME ≡ limits.NAME) × (NAMES ≡ limits.NAMES) × (BODY ≡ limits.BODY)
+        × (DEFS ≡ limits.DEFS) × (CONDS ≡ limits.CONDS) × (CALLS ≡ limits.CALLS) × (ARGS ≡ limits.ARGS)
+        × (REREAD ≡ limits.REREAD) × (EXPAND ≡ limits.EXPAND) × (NEST ≡ limits.NEST) }
 {}
 
 impl Limit {
     /// The name that the message shows where the limit is passed.
     pub fn name(self) -> &'static str
-        ensures { result.now ≡ name_of self }
+        ensures { result.now ≡ limits.name_of self }
     {
         match self {
             Limit::Line => "LINE",

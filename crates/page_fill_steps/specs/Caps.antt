@@ -1,6 +1,6 @@
 -- How much a filler holds between two pieces, and what each edge that a page comes to keeps. Source: mandoc(1), "DIAGNOSTICS".
 use Rattle.std.specs.Prelude.{◌≤◌, Bool, not, ◌&&◌, length}
-use Rattle.page_core_limits.specs.declared.TheConstants.{CELLS}
+use Rattle.page_core_limits.specs.Limits.{CELLS}
 use Rattle.page_fill_rows.specs.declared.TheConstants.{TAG_COLUMNS, BLANK_ROWS}
 pub use Rattle.page_fill_rows.specs.OpenRows.{IsHeld}
 use Rattle.page_fill_steps.specs.Edges.{Edge, OpenWord}

@@ -1,6 +1,6 @@
 -- How much is held of where a source stands between two lines. Source: roff(7), "de", "if"; mandoc(1), "DIAGNOSTICS".
 use Rattle.std.specs.Prelude.{◌≤◌, length, IfSome}
-use Rattle.page_core_limits.specs.declared.TheConstants.{CONDS}
+use Rattle.page_core_limits.specs.Limits.{CONDS}
 use Rattle.page_roff_blocks.specs.Levels.{Place}
 use Rattle.page_roff_regions.specs.OpenRegions.{RegionFits}
 

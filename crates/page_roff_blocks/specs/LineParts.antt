@@ -1,7 +1,7 @@
 -- The parts of a raw line, found from its text alone. Source: roff(7), "if", "ie", "el", "while".
 use Rattle.std.specs.Prelude.{◌≡◌, ℕ, zero, suc, ◌+◌, ◌≤◌, Bool, true, false, List, [], ◌∷◌, length, Option, Some, None, MatchOption}
 use Rattle.std.specs.Borrow.{Bor}
-use Rattle.page_core_limits.specs.declared.TheConstants.{LINE}
+use Rattle.page_core_limits.specs.Limits.{LINE}
 use Rattle.page_roff_heads.specs.Conditions.{condition_view, FitsTest}
 use Rattle.page_roff_heads.specs.declared.loops.LoopHead.{LoopHead}
 use Rattle.page_roff_blocks.specs.declared.line_parts.LinePart.{LinePart}

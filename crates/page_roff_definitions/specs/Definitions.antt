@@ -3,7 +3,7 @@ use Rattle.std.specs.Prelude.{◌≡◌, ℕ, ◌+◌, ◌≤◌, length, Bool, 
 use Rattle.page_core_base.specs.Messages.{Message, message_about}
 use Rattle.page_core_base.specs.declared.note_kinds.NoteKind.TheVariants as kinds
 use Rattle.page_core_base.specs.declared.places.Place.{Place}
-use Rattle.page_core_limits.specs.declared.TheConstants.{LINE}
+use Rattle.page_core_limits.specs.Limits.{LINE}
 use Rattle.page_core_limits.specs.declared.Limit.{Limit}
 use Rattle.page_core_limits.specs.Limits.{name_of}
 use Rattle.page_core_numbers.specs.Numbers.{in_range}

@@ -9,7 +9,7 @@ use Rattle.page_roff_syntax.specs.LineForms.{form_of, without_comment}
 use Rattle.page_roff_syntax.specs.declared.line_forms.LineForm.{LineForm}
 use Rattle.page_roff_syntax.specs.declared.line_forms.LineForm.TheVariants.{Comment, BlankLine, Text, Control}
 use Rattle.page_roff_syntax.specs.declared.quotes.Argument.{Argument}
-use Rattle.page_core_limits.specs.declared.TheConstants.{ARGS}
+use Rattle.page_core_limits.specs.Limits.{ARGS}
 use Rattle.page_roff_values.specs.Values.{Laid, expanded}
 use Rattle.page_roff_definitions.specs.Arguments.{closings_notes}
 use Rattle.page_roff_definitions.specs.Definitions.{Outcome, outcome_of}

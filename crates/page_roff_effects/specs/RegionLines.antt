@@ -1,6 +1,6 @@
 -- What the heads and the lines of regions do. Source: roff(7), "de", "am", "ig"; mandoc(1), "unsupported".
 use Rattle.std.specs.Prelude.{ℕ, Bool, true, false, nat_le, is_some, List, [], ◌∷◌, ◌++◌, length, codes, if◌then◌else◌, Option, Some, None, unwrap_or}
-use Rattle.page_core_limits.specs.declared.TheConstants.{BODY}
+use Rattle.page_core_limits.specs.Limits.{BODY}
 use Rattle.page_core_limits.specs.declared.Limit.TheVariants as limits
 use Rattle.page_core_limits.specs.Limits.{name_of}
 use Rattle.page_core_base.specs.Messages.{Message, message_about}

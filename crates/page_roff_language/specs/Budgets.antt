@@ -7,7 +7,7 @@ use Rattle.page_roff_regions.specs.declared.regions.RegionHead.{RegionHead}
 use Rattle.page_roff_regions.specs.OpenRegions.{Opened}
 use Rattle.page_roff_blocks.specs.Loops.{loop_text}
 use Rattle.page_roff_blocks.specs.Run.{Meaning}
-use Rattle.page_core_limits.specs.declared.TheConstants.{REREAD}
+use Rattle.page_core_limits.specs.Limits.{REREAD}
 use Rattle.page_roff_language.specs.Languages.{Kind, page, body, Done, gives, calls, repeats, Language}
 
 -- How many re-read lines of the source line are left, whether one beyond them came, how many lines were taken, and all else.

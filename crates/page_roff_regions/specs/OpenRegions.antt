@@ -1,7 +1,7 @@
 -- A region that is open, and how much is held of it. Source: roff(7), "de", "am", "ig"; mandoc(1), "DIAGNOSTICS".
 use Rattle.std.specs.Prelude.{◌≤◌, Bool, true, false, ℕ, List, length, nat_le, Option, Some, None, IfSome, if◌then◌else◌}
 use Rattle.std.specs.Borrow.{Bor}
-use Rattle.page_core_limits.specs.declared.TheConstants.{NAME}
+use Rattle.page_core_limits.specs.Limits.{NAME}
 use Rattle.page_roff_syntax.specs.declared.regions.RegionKind.{RegionKind}
 use Rattle.page_roff_regions.specs.declared.regions.RegionHead.{RegionHead}
 use Rattle.page_roff_regions.specs.Regions.{macro_name, end_name}

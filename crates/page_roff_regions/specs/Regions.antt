@@ -2,7 +2,7 @@
 use Rattle.std.specs.Prelude.{◌≡◌, ℕ, ◌==◌, ◌||◌, Bool, false, not, nat_le, List, [], ◌∷◌, length, codes, if◌then◌else◌, Option, Some, None, option_map}
 use Rattle.std.specs.Str.{bytes_eq}
 use Rattle.std.specs.Borrow.{Bor}
-use Rattle.page_core_limits.specs.declared.TheConstants.{NAME}
+use Rattle.page_core_limits.specs.Limits.{NAME}
 use Rattle.page_roff_syntax.specs.Arguments.{arguments, argument_name, argument_view}
 use Rattle.page_roff_syntax.specs.LineForms.{form_of}
 use Rattle.page_roff_syntax.specs.declared.line_forms.LineForm.{LineForm}

@@ -12,7 +12,7 @@ use Rattle.page_roff_blocks.specs.Levels.{BlockCursor, at_line, after_part, outs
 use Rattle.page_roff_regions.specs.OpenRegions.{Opened}
 use Rattle.page_roff_blocks.specs.Run.{Meaning, At, keep_if}
 use Rattle.page_roff_blocks.specs.machine.Steps.{met, step_guard, step_block, step_region, step_parts, begin_line, step_lines}
-use Rattle.page_core_limits.specs.declared.TheConstants.{CALLS}
+use Rattle.page_core_limits.specs.Limits.{CALLS}
 use Rattle.page_roff_language.specs.Languages.{Kind, page, body, inner, Done, gives, calls, repeats, TURNS, Language, is_some, finish_at, run_body, turns, meaning_at}
 
 -- The turns of a loop that is being run: its condition, all lines of its body, how many turns may still come, and whether one was begun.
