@@ -1,0 +1,13 @@
+-- Fronts of what lines settle.
+use Rattle.std.specs.Prelude.{◌≡◌, List, ◌++◌}
+use Rattle.page_core_base.specs.Laid.{Laid}
+
+-- a list that another one begins with
+pub record IsFront {A : Type 0} (front all : List A) : Type 0 where
+  pub rest : List A
+  pub parts : all ≡ front ++ rest
+
+-- the same of rows and of messages
+pub record IsLaidFront {E : Type 0} (front all : Laid E) : Type 0 where
+  pub rows : IsFront front.rows all.rows
+  pub notes : IsFront front.notes all.notes
