@@ -1,3 +1,5 @@
+pub mod Failures
+pub mod Inputs
 pub mod Sources
 pub mod Readings
 pub mod Chunks

@@ -14,18 +14,22 @@
 
 mod cells;
 mod chunks;
+mod inputs;
 mod kept;
 mod message_bytes;
 mod sources;
+mod targets;
 mod text_notes;
 mod text_rows;
 mod writing;
 
 pub use cells::cell_bytes;
 pub use chunks::Chunks;
+pub use inputs::{Input, Over};
 pub use kept::{KeptNotes, KeptRows, Row};
 pub use message_bytes::write_note;
 pub use sources::{BYTES, Counted, READS, Reading, SliceSource, Source};
+pub use targets::{CountedWriter, Nowhere, Target};
 pub use text_notes::TextNotes;
 pub use text_rows::TextRows;
 pub use writing::put_all;

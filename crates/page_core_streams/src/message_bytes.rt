@@ -2,20 +2,22 @@
 
 ghost use Rattle.std.specs.Prelude.{◌≡◌, MatchResult, IfErr};
 ghost use Rattle.page_core_base.specs.Messages.{message_of};
+ghost use Rattle.page_core_streams.specs.Failures.{FailsBy, ErrsBy};
 ghost use Rattle.page_core_streams.specs.Grows.{Grows, GrowsInto, Writes};
 ghost use Rattle.page_core_streams.specs.MessageBytes.{message_bytes, shown_bytes};
 
+use crate::targets::Target;
 use crate::writing::put_all;
 use itoa::Buffer;
 use page_core_base::{Fault, Note};
-use std::io::Write;
 
 /// Writes a message as `mandoc: FILE:LINE:COLUMN: LEVEL: TEXT`, then `: DETAIL` where there is one, and a line feed. Its fault is
 /// [`Fault::WriteNotes`], where the writer failed; then a front of these bytes was written.
-pub fn write_note<W: Write>(out: &mut W, file: &str, note: &Note) -> Result<(), Fault>
+pub fn write_note<W: Target>(out: &mut W, file: &str, note: &Note) -> Result<(), Fault>
     ensures gives { MatchResult result
         (λ _. Grows (W.contents out.old) (W.contents out.new) (message_bytes file.now (message_of note.now)))
         (λ _. GrowsInto (W.contents out.old) (W.contents out.new) (message_bytes file.now (message_of note.now))) }
+    ensures cause { ErrsBy W.counts result (W.failures out.old) (W.failures out.new) }
     ensures fault { IfErr result (λ fault. fault ≡ Fault.WriteNotes) }
 {
     if put_note(out, file, note) {
@@ -26,9 +28,10 @@ pub fn write_note<W: Write>(out: &mut W, file: &str, note: &Note) -> Result<(), 
 }
 
 // Writes a message, and says whether that succeeded.
-pub(crate) fn put_note<W: Write>(out: &mut W, file: &str, note: &Note) -> bool
-    ensures { Writes result (W.contents out.old) (W.contents out.new)
+pub(crate) fn put_note<W: Target>(out: &mut W, file: &str, note: &Note) -> bool
+    ensures writes { Writes result (W.contents out.old) (W.contents out.new)
         (message_bytes file.now (message_of note.now)) }
+    ensures fails { FailsBy W.counts result (W.failures out.old) (W.failures out.new) }
 {
     let mut line = Buffer::new();
     let mut column = Buffer::new();
@@ -55,15 +58,16 @@ struct ShownPlace<'a> {
 }
 
 // Writes the parts of a message with what stands between them.
-fn put_parts<'a, W: Write>(
+fn put_parts<'a, W: Target>(
     out: &mut W,
     place: ShownPlace<'a>,
     level: &'a [u8],
     text: &'a [u8],
     detail: &'a [u8],
 ) -> bool
-    ensures { Writes result (W.contents out.old) (W.contents out.new)
+    ensures writes { Writes result (W.contents out.old) (W.contents out.new)
         (shown_bytes place.entry level.now text.now detail.now) }
+    ensures fails { FailsBy W.counts result (W.failures out.old) (W.failures out.new) }
 {
     let program: &'a [u8] = b"mandoc: ";
     let colon: &'a [u8] = b":";

@@ -3,11 +3,12 @@
 ghost use Rattle.std.specs.Prelude.{◌≡◌};
 ghost use Rattle.std.specs.Borrow.{GName};
 ghost use Rattle.page_core_streams.specs.Grows.{AddsBy, AddsIntoBy, adds-by-sink, adds-by-whole};
+ghost use Rattle.page_core_streams.specs.Failures.{count_of};
 ghost use Rattle.page_core_streams.specs.MessageBytes.{message_bytes};
 
 use crate::message_bytes::put_note;
+use crate::targets::Target;
 use page_core_base::{Fault, Note, NoteSink};
-use std::io::Write;
 
 /// Writes messages as lines about a file.
 #[derive(Drop)]
@@ -17,7 +18,7 @@ pub struct TextNotes<'a, 'f, W> {
     failures: u64,
 }
 
-impl<'a, 'f, W: Write> TextNotes<'a, 'f, W> {
+impl<'a, 'f, W: Target> TextNotes<'a, 'f, W> {
     /// A sink over a writer, for messages about a file.
     pub fn new(out: &'a mut W, file: &'f str) -> TextNotes<'a, 'f, W>
         ensures loan { result.out.ghost_name ≡ out.entry.ghost_name }
@@ -33,12 +34,12 @@ impl<'a, 'f, W: Write> TextNotes<'a, 'f, W> {
     }
 }
 
-impl<W: Write> NoteSink for TextNotes<'_, '_, W> {
+impl<W: Target> NoteSink for TextNotes<'_, '_, W> {
     ghost gave = { AddsBy (λ s. W.contents s.out.now) (λ s. s.file.now) message_bytes };
 
     ghost within = { AddsIntoBy (λ s. W.contents s.out.now) (λ s. s.file.now) message_bytes };
 
-    ghost failed = { λ s. s.failures };
+    ghost failed = { λ s. count_of W.counts (W.failures s.out.now) s.failures };
 
     ghost Loans = { GName };
 
@@ -57,6 +58,10 @@ impl<W: Write> NoteSink for TextNotes<'_, '_, W> {
     }
 
     fn failures(&self) -> u64 {
-        self.failures
+        if self.out.is_counted() {
+            self.out.failures()
+        } else {
+            self.failures
+        }
     }
 }

@@ -3,15 +3,16 @@
 ghost use Rattle.std.specs.Prelude.{◌≡◌, ◌+◌, ◌<◌, ◌≤◌, ◌++◌, [], ◌∷◌, MatchOption, length, take, true, replicate};
 ghost use Rattle.std.specs.Borrow.{GName};
 ghost use Rattle.std.specs.List.{flat_map, list_all};
+ghost use Rattle.page_core_streams.specs.Failures.{FailsBy, StopsBy, count_of};
 ghost use Rattle.page_core_streams.specs.Grows.{GrowsInto, GrowsUpTo, Writes};
 ghost use Rattle.page_core_streams.specs.Grows.{Adds, AddsInto, adds-sink, adds-whole};
 ghost use Rattle.page_core_streams.specs.machine.PlainCells.{is_plain};
 ghost use Rattle.page_core_streams.specs.RowBytes.{row_bytes, printed, cell_bytes_of};
 
 use crate::cells::{without_blanks_at_end, write_group, write_mixed};
+use crate::targets::Target;
 use crate::writing::{BUFFER, put};
 use page_core_base::{Cell, Fault, RowSink};
-use std::io::Write;
 
 // The bytes of a row that may wait before more of its cells come.
 const WAITING: usize = 256;
@@ -28,7 +29,7 @@ pub struct TextRows<'a, W> {
     bytes: [u8; BUFFER],
 }
 
-impl<'a, W: Write> TextRows<'a, W> {
+impl<'a, W: Target> TextRows<'a, W> {
     /// A sink over a writer.
     pub fn new(out: &'a mut W) -> TextRows<'a, W>
         ensures loan { result.out.ghost_name ≡ out.entry.ghost_name }
@@ -44,10 +45,11 @@ impl<'a, W: Write> TextRows<'a, W> {
 }
 
 // Writes a margin in blanks, but for a few that wait, and answers how many.
-fn put_margin<W: Write>(out: &mut W, margin: u32) -> Option<usize>
-    ensures { MatchOption result
+fn put_margin<W: Target>(out: &mut W, margin: u32) -> Option<usize>
+    ensures writes { MatchOption result
         (GrowsInto (W.contents out.old) (W.contents out.new) (replicate margin 32))
         (λ left. (left ≤ 256) × GrowsUpTo (W.contents out.old) (W.contents out.new) (replicate margin 32) (replicate left 32)) }
+    ensures fails { StopsBy W.counts result (W.failures out.old) (W.failures out.new) }
 {
     let mut left = margin as usize;
     while left > WAITING {
@@ -61,11 +63,12 @@ fn put_margin<W: Write>(out: &mut W, margin: u32) -> Option<usize>
 }
 
 // Makes room after the bytes that wait, by a write where they are too many, and answers where the next one goes.
-fn room_after<W: Write>(out: &mut W, bytes: &[u8], end: usize) -> Option<usize>
+fn room_after<W: Target>(out: &mut W, bytes: &[u8], end: usize) -> Option<usize>
     requires { end ≤ length bytes.now }
-    ensures { MatchOption result
+    ensures writes { MatchOption result
         (GrowsInto (W.contents out.old) (W.contents out.new) (take end bytes.now))
         (λ at. (at ≤ 256) × GrowsUpTo (W.contents out.old) (W.contents out.new) (take end bytes.now) (take at bytes.now)) }
+    ensures fails { StopsBy W.counts result (W.failures out.old) (W.failures out.new) }
 {
     if end <= WAITING {
         return Some(end);
@@ -78,11 +81,12 @@ fn room_after<W: Write>(out: &mut W, bytes: &[u8], end: usize) -> Option<usize>
 }
 
 // Writes the bytes before a place, and then fewer cells than a group and a line feed.
-fn put_end<W: Write>(out: &mut W, bytes: &mut [u8; BUFFER], start: usize, cells: &[Cell]) -> bool
+fn put_end<W: Target>(out: &mut W, bytes: &mut [u8; BUFFER], start: usize, cells: &[Cell]) -> bool
     requires few { length cells.now < 8 }
     requires room { start ≤ 384 }
-    ensures { Writes result (W.contents out.old) (W.contents out.new)
+    ensures writes { Writes result (W.contents out.old) (W.contents out.new)
         (take start bytes.old ++ (flat_map cell_bytes_of cells.now ++ 10 ∷ [])) }
+    ensures fails { FailsBy W.counts result (W.failures out.old) (W.failures out.new) }
 {
     let end = write_group(bytes, start, cells);
     bytes[end] = b'\n';
@@ -90,10 +94,11 @@ fn put_end<W: Write>(out: &mut W, bytes: &mut [u8; BUFFER], start: usize, cells:
 }
 
 // Writes the bytes before a place, and then cells, a group of them after another, and a line feed.
-fn put_cells<W: Write>(out: &mut W, bytes: &mut [u8; BUFFER], start: usize, cells: &[Cell]) -> bool
+fn put_cells<W: Target>(out: &mut W, bytes: &mut [u8; BUFFER], start: usize, cells: &[Cell]) -> bool
     requires { start ≤ 256 }
-    ensures { Writes result (W.contents out.old) (W.contents out.new)
+    ensures writes { Writes result (W.contents out.old) (W.contents out.new)
         (take start bytes.old ++ (flat_map cell_bytes_of cells.now ++ 10 ∷ [])) }
+    ensures fails { FailsBy W.counts result (W.failures out.old) (W.failures out.new) }
 {
     let mut rest = cells;
     let mut end = start;
@@ -109,8 +114,9 @@ fn put_cells<W: Write>(out: &mut W, bytes: &mut [u8; BUFFER], start: usize, cell
 }
 
 // Writes a margin, cells and a line feed, or the line feed alone where there is no cell; the bytes have room for what waits.
-fn put_row<W: Write>(out: &mut W, bytes: &mut [u8; BUFFER], margin: u32, cells: &[Cell]) -> bool
-    ensures { Writes result (W.contents out.old) (W.contents out.new) (printed margin cells.now) }
+fn put_row<W: Target>(out: &mut W, bytes: &mut [u8; BUFFER], margin: u32, cells: &[Cell]) -> bool
+    ensures writes { Writes result (W.contents out.old) (W.contents out.new) (printed margin cells.now) }
+    ensures fails { FailsBy W.counts result (W.failures out.old) (W.failures out.new) }
 {
     if cells.is_empty() {
         return put(out, b"\n");
@@ -122,12 +128,12 @@ fn put_row<W: Write>(out: &mut W, bytes: &mut [u8; BUFFER], margin: u32, cells: 
     put_cells(out, bytes, left, cells)
 }
 
-impl<W: Write> RowSink for TextRows<'_, W> {
+impl<W: Target> RowSink for TextRows<'_, W> {
     ghost gave = { Adds (λ s. W.contents s.out.now) row_bytes };
 
     ghost within = { AddsInto (λ s. W.contents s.out.now) row_bytes };
 
-    ghost failed = { λ s. s.failures };
+    ghost failed = { λ s. count_of W.counts (W.failures s.out.now) s.failures };
 
     ghost Loans = { GName };
 
@@ -151,6 +157,10 @@ impl<W: Write> RowSink for TextRows<'_, W> {
     }
 
     fn failures(&self) -> u64 {
-        self.failures
+        if self.out.is_counted() {
+            self.out.failures()
+        } else {
+            self.failures
+        }
     }
 }

@@ -2,8 +2,10 @@
 
 ghost use Rattle.std.specs.Prelude.{◌≡◌, ◌+◌, ◌≤◌, [], ◌++◌, length, true};
 ghost use Rattle.std.specs.List.{flat_map};
+ghost use Rattle.page_core_streams.specs.Failures.{FailsBy};
 ghost use Rattle.page_core_streams.specs.Grows.{Writes, WritesUpTo};
 
+use crate::targets::Target;
 use arrayvec::ArrayVec;
 use std::io::{ErrorKind, Write};
 
@@ -17,7 +19,7 @@ const INTERRUPTIONS: u32 = 1_000_000;
 type Unsent = ArrayVec<u8, 512>;
 
 /// Writes all bytes. A write of 0 bytes is a failure; an interrupted one is tried again.
-pub(crate) fn put<W: Write>(out: &mut W, bytes: &[u8]) -> bool
+pub(crate) fn write_bytes<W: Write>(out: &mut W, bytes: &[u8]) -> bool
     ensures { Writes result (W.contents out.old) (W.contents out.new) bytes.now }
 {
     let mut rest = bytes;
@@ -32,11 +34,20 @@ pub(crate) fn put<W: Write>(out: &mut W, bytes: &[u8]) -> bool
     true
 }
 
+/// Writes all bytes to a target, and says whether that succeeded.
+pub(crate) fn put<W: Target>(out: &mut W, bytes: &[u8]) -> bool
+    ensures writes { Writes result (W.contents out.old) (W.contents out.new) bytes.now }
+    ensures fails { FailsBy W.counts result (W.failures out.old) (W.failures out.new) }
+{
+    out.put(bytes)
+}
+
 // Makes room for a number of bytes, by a write where there is too little.
-fn make_room<W: Write>(out: &mut W, unsent: &mut Unsent, bytes: usize) -> bool
+fn make_room<W: Target>(out: &mut W, unsent: &mut Unsent, bytes: usize) -> bool
     requires { bytes ≤ 512 }
     ensures sent { WritesUpTo result (W.contents out.old)
         (W.contents out.new) unsent.old.items unsent.new.items }
+    ensures fails { FailsBy W.counts result (W.failures out.old) (W.failures out.new) }
     ensures room { result ≡ true → length unsent.new.items + bytes ≤ 512 }
 {
     if unsent.remaining_capacity() >= bytes {
@@ -46,9 +57,10 @@ fn make_room<W: Write>(out: &mut W, unsent: &mut Unsent, bytes: usize) -> bool
 }
 
 // Collects the bytes of a text, and writes what has no room.
-fn add<W: Write>(out: &mut W, unsent: &mut Unsent, text: &[u8]) -> bool
-    ensures { WritesUpTo result (W.contents out.old) (W.contents out.new) (unsent.old.items
+fn add<W: Target>(out: &mut W, unsent: &mut Unsent, text: &[u8]) -> bool
+    ensures sent { WritesUpTo result (W.contents out.old) (W.contents out.new) (unsent.old.items
         ++ text.now) unsent.new.items }
+    ensures fails { FailsBy W.counts result (W.failures out.old) (W.failures out.new) }
 {
     if text.len() > BUFFER {
         return send(out, unsent) && put(out, text);
@@ -60,8 +72,9 @@ fn add<W: Write>(out: &mut W, unsent: &mut Unsent, text: &[u8]) -> bool
 }
 
 // Writes what was collected.
-fn send<W: Write>(out: &mut W, unsent: &mut Unsent) -> bool
+fn send<W: Target>(out: &mut W, unsent: &mut Unsent) -> bool
     ensures sent { Writes result (W.contents out.old) (W.contents out.new) unsent.old.items }
+    ensures fails { FailsBy W.counts result (W.failures out.old) (W.failures out.new) }
     ensures empty { result ≡ true → unsent.new.items ≡ [] }
 {
     if !put(out, unsent.as_slice()) {
@@ -73,9 +86,10 @@ fn send<W: Write>(out: &mut W, unsent: &mut Unsent) -> bool
 
 /// Writes texts one after another, and says whether that succeeded; else a front of them was written. Short ones are collected to be written
 /// at once. A write of 0 bytes is a failure.
-pub fn put_all<W: Write>(out: &mut W, texts: &[&[u8]]) -> bool
-    ensures { Writes result (W.contents out.old) (W.contents out.new)
+pub fn put_all<W: Target>(out: &mut W, texts: &[&[u8]]) -> bool
+    ensures writes { Writes result (W.contents out.old) (W.contents out.new)
         (flat_map (λ text. text.now) texts.now) }
+    ensures fails { FailsBy W.counts result (W.failures out.old) (W.failures out.new) }
 {
     let mut unsent = Unsent::new();
     for text in texts {

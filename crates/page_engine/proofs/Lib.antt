@@ -14,3 +14,4 @@ pub mod BytesRead
 pub mod Through
 pub mod WholeRuns
 pub mod KnownBytes
+pub mod Causes

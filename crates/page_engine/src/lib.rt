@@ -25,7 +25,9 @@ mod shown;
 
 pub use edges::Edge;
 pub use laws::{count_law, cut_law, line_by_line_law, reached_law, texts_law};
-pub use page_core_streams::{BYTES, Counted, READS, Reading, SliceSource, Source};
+pub use page_core_streams::{
+    BYTES, Counted, CountedWriter, Input, READS, Reading, SliceSource, Source, Target,
+};
 pub use page_engine_index::{Record, Show, is_field, whatis, write_record};
 pub use page_engine_records::name_record;
 pub use page_roff_source::Counts;

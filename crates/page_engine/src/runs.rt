@@ -1,6 +1,6 @@
 //! A run: the bytes of a source become the rows and messages of a page.
 
-ghost use Rattle.std.specs.Prelude.{◌≡◌, ◌<◌, ◌≤◌, ◌^◌, ℕ, List, length, IfOk, IfErr};
+ghost use Rattle.std.specs.Prelude.{◌≡◌, ◌<◌, ◌≤◌, ◌^◌, ℕ, List, length, IfOk, IfErr, true};
 ghost use Rattle.std.specs.Io.KnownBytes.{Consumes};
 ghost use Rattle.page_core_base.specs.Checks.{IsGood};
 ghost use Rattle.page_engine.specs.Page.{Edge};
@@ -12,11 +12,10 @@ ghost use Rattle.page_engine.specs.machine.Steps.{CanTake, TakesPart, TakesChunk
 
 use crate::pages::Page;
 use page_core_base::{Fault, Level, NoteSink, RowSink, Settings};
-use page_core_streams::{Chunks, Counted, SliceSource, Source, TextNotes, TextRows};
+use page_core_streams::{Chunks, Input, Over, SliceSource, Source, Target, TextNotes, TextRows};
 use page_roff_lines::Cutter;
 use page_roff_source::Counts;
 use std::alloc::Global;
-use std::io::{Read, Write};
 
 /// How a run ended: the worst level of the messages that were given, and the counts.
 #[derive(Clone, Copy, Debug, PartialEq, Eq)]
@@ -180,8 +179,8 @@ pub fn run_sinks<S: Source, R: RowSink, N: NoteSink>(
 }
 
 /// Formats a page as [`run_sinks`] does: reads a reader, and writes the rows to one writer and the messages,
-/// about a file, to another.
-pub fn run_page<I: Read, W: Write, V: Write>(
+/// about a file, to another. Where these count their failures, each fault has its cause.
+pub fn run_page<I: Input, W: Target, V: Target>(
     alloc: Global,
     reader: &mut I,
     out: &mut W,
@@ -189,13 +188,18 @@ pub fn run_page<I: Read, W: Write, V: Write>(
     file: &str,
     settings: &Settings,
 ) -> Result<Outcome, Fault>
-    ensures { (bytes : List ℕ) × Consumes (I.remaining reader.old) (I.remaining reader.new) bytes
+    ensures runs { (bytes : List ℕ) × Consumes (I.state reader.old).remaining (I.state reader.new).remaining bytes
         × Runs result (streams
         (WritesRows W.contents) (WritesRowsInto W.contents)
         (WritesNotes V.contents file.now) (WritesNotesInto V.contents file.now))
-        out.old out.new notes.old notes.new settings.now bytes (I.remaining reader.new) }
+        out.old out.new notes.old notes.new settings.now bytes (I.state reader.new).remaining }
+    ensures causes { I.counts ≡ true → W.counts ≡ true → V.counts ≡ true → (bytes : List ℕ)
+        × RunsOver result (sinks
+        (WritesRows W.contents) (WritesRowsInto W.contents) W.failures
+        (WritesNotes V.contents file.now) (WritesNotesInto V.contents file.now) V.failures)
+        (I.state reader.old) (I.state reader.new) out.old out.new notes.old notes.new settings.now bytes }
 {
-    let mut source = Counted::new(reader);
+    let mut source = Over::new(reader);
     let mut rows = TextRows::new(out);
     let mut messages = TextNotes::new(notes, file);
     run_sinks(alloc, &mut source, &mut rows, &mut messages, settings)
@@ -203,7 +207,7 @@ pub fn run_page<I: Read, W: Write, V: Write>(
 
 /// Formats a page that is in memory, as [`run_page`] does one that is read. Its faults are those of [`run_page`], but never [`Fault::Read`], and
 /// [`Fault::TooLong`] only for more than [`crate::BYTES`] bytes.
-pub fn run_bytes<W: Write, V: Write>(
+pub fn run_bytes<W: Target, V: Target>(
     alloc: Global,
     bytes: &[u8],
     out: &mut W,

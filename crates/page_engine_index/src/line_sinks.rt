@@ -5,12 +5,12 @@ ghost use Rattle.std.specs.Borrow.{GName};
 ghost use Rattle.std.specs.List.{flat_map};
 ghost use Rattle.page_core_base.specs.Sinks.{IsSink, Gives};
 ghost use Rattle.page_core_base.specs.Fails.{FailsAs};
+ghost use Rattle.page_core_streams.specs.Failures.{count_of};
 ghost use Rattle.page_core_streams.specs.Grows.{Adds, AddsInto, adds-sink, adds-whole};
 ghost use Rattle.page_engine_index.specs.Written.{own_bytes};
 
 use page_core_base::Fault;
-use page_core_streams::put_all;
-use std::io::Write;
+use page_core_streams::{Target, put_all};
 
 /// Takes lines of text.
 pub trait LineSink {
@@ -45,7 +45,7 @@ pub struct TextLines<'a, W> {
     failures: u64,
 }
 
-impl<'a, W: Write> TextLines<'a, W> {
+impl<'a, W: Target> TextLines<'a, W> {
     /// A sink over a writer.
     pub fn new(out: &'a mut W) -> TextLines<'a, W>
         ensures loan { result.out.ghost_name ≡ out.entry.ghost_name }
@@ -56,12 +56,12 @@ impl<'a, W: Write> TextLines<'a, W> {
     }
 }
 
-impl<W: Write> LineSink for TextLines<'_, W> {
+impl<W: Target> LineSink for TextLines<'_, W> {
     ghost gave = { Adds (λ s. W.contents s.out.now) own_bytes };
 
     ghost within = { AddsInto (λ s. W.contents s.out.now) own_bytes };
 
-    ghost failed = { λ s. s.failures };
+    ghost failed = { λ s. count_of W.counts (W.failures s.out.now) s.failures };
 
     ghost Loans = { GName };
 

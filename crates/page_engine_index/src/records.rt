@@ -1,13 +1,13 @@
 //! Records of pages, as an index has them and as they are printed (makewhatis(8)).
 
 ghost use Rattle.std.specs.Prelude.{◌≡◌, MatchResult, IfErr, true};
+ghost use Rattle.page_core_streams.specs.Failures.{ErrsBy};
 ghost use Rattle.page_core_streams.specs.Grows.{Grows, GrowsInto};
 ghost use Rattle.page_engine_index.specs.Fields.{is_field};
 ghost use Rattle.page_engine_index.specs.Records.{entry_with, entry_line, printed_record};
 
 use page_core_base::Fault;
-use page_core_streams::put_all;
-use std::io::Write;
+use page_core_streams::{Target, put_all};
 use std::marker::Model;
 
 /// The first line of an index, without its line feed: its version.
@@ -55,11 +55,12 @@ pub struct Record {
 
 /// Writes a record as a line of an index of version 2: its fields and the page's file below its directory, parted by tabs. Its fault is
 /// [`Fault::WriteText`], where the writer failed; then a front of the line was written.
-pub fn write_record<W: Write>(out: &mut W, page: &Record, file: &str) -> Result<(), Fault>
+pub fn write_record<W: Target>(out: &mut W, page: &Record, file: &str) -> Result<(), Fault>
     requires { is_field file.now ≡ true }
     ensures gives { MatchResult result
         (λ _. Grows (W.contents out.old) (W.contents out.new) (entry_line (entry_with page.now file.now)))
         (λ _. GrowsInto (W.contents out.old) (W.contents out.new) (entry_line (entry_with page.now file.now))) }
+    ensures cause { ErrsBy W.counts result (W.failures out.old) (W.failures out.new) }
     ensures fault { IfErr result (λ fault. fault ≡ Fault.WriteText) }
 {
     let texts: [&[u8]; 8] = [
@@ -81,10 +82,11 @@ pub fn write_record<W: Write>(out: &mut W, page: &Record, file: &str) -> Result<
 
 /// Prints a record as `names(section) - description` and a line feed. Its fault is [`Fault::WriteText`], where the writer failed; then a
 /// front of the line was written.
-pub fn print_record<W: Write>(out: &mut W, page: &Record) -> Result<(), Fault>
+pub fn print_record<W: Target>(out: &mut W, page: &Record) -> Result<(), Fault>
     ensures gives { MatchResult result
         (λ _. Grows (W.contents out.old) (W.contents out.new) (printed_record page.now))
         (λ _. GrowsInto (W.contents out.old) (W.contents out.new) (printed_record page.now)) }
+    ensures cause { ErrsBy W.counts result (W.failures out.old) (W.failures out.new) }
     ensures fault { IfErr result (λ fault. fault ≡ Fault.WriteText) }
 {
     let texts: [&[u8]; 6] = [

@@ -1,14 +1,20 @@
-use Rattle.std.proofs.Common.{◌-◌, replicate, arith}
+use Rattle.std.proofs.Common.{◌-◌, replicate, arith, ◌∙◌}
 use Rattle.page_core_streams.proofs.GrowsLemmas.{GrowsUpTo-more, GrowsUpTo-broken}
+use Rattle.page_core_streams.proofs.FailureLemmas.{rises-after}
 use Rattle.page_core_streams.proofs.RowLemmas.{blanks_moved}
 use Rattle.page_core_streams.proofs.text_rows.put_margin.Goals as goal
 
-pub returns-then-not-put : goal.returns-then-not-put
-returns-then-not-put g c =
+pub returns-then-not-put-clause-writes : goal.returns-then-not-put-clause-writes
+returns-then-not-put-clause-writes g c =
     let left = c.loop-left.left in
-    GrowsUpTo-broken _ (replicate 256 32) (replicate (left - 256) 32) c.loop-left.invariant (blanks_moved 256 left (omega arith)) c.if-not-put.ensures
+    GrowsUpTo-broken _ (replicate 256 32) (replicate (left - 256) 32) c.loop-left.invariant.0 (blanks_moved 256 left (omega arith)) c.if-not-put.ensures.writes
 
 pub loop-left-preserved : goal.loop-left-preserved
 loop-left-preserved g c =
-    let left = c.loop-left.left in
-    GrowsUpTo-more _ (replicate 256 32) (replicate (left - 256) 32) c.loop-left.invariant (blanks_moved 256 left (omega arith)) c.if-not-put.ensures
+    let left = c.loop-left.left in (
+      GrowsUpTo-more _ (replicate 256 32) (replicate (left - 256) 32) c.loop-left.invariant.0 (blanks_moved 256 left (omega arith)) c.if-not-put.ensures.writes,
+      c.if-not-put.ensures.fails ∙ c.loop-left.invariant.1,
+    )
+
+pub returns-then-not-put-clause-fails : goal.returns-then-not-put-clause-fails
+returns-then-not-put-clause-fails g c = rises-after _ _ _ _ c.loop-left.invariant.1 c.if-not-put.ensures.fails

@@ -12,8 +12,8 @@ returns g c =
     let rows = c.new-rows.ensures in
     let notes = c.new-messages.ensures in
     let file = c.args.file.now in
-    let w = g.W.Write in
-    let v = g.V.Write in
+    let w = g.W.Target in
+    let v = g.V.Target in
     let y = runs_in _ c.args.settings.now c.args.bytes.now c.run_sinks.new.source.rest.now h.0 c.run_sinks.new.source.calls
     c.run_sinks.new.source.given c.run_sinks.result (rw (source.rest, source.calls, source.given) at h.1) in
     let z : RunsIn c.run_sinks.result (streams (WritesRows w.contents) (WritesRowsInto w.contents) (WritesNotes v.contents file) (WritesNotesInto v.contents file))

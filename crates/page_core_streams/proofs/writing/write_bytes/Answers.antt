@@ -1,7 +1,7 @@
 use Rattle.std.proofs.Common.{sym, take, drop}
 use Rattle.std.proofs.lemmas.List.{take_rest, take-append-drop}
 use Rattle.page_core_streams.proofs.GrowsLemmas.{GrowsUpTo-more}
-use Rattle.page_core_streams.proofs.writing.put.Goals as goal
+use Rattle.page_core_streams.proofs.writing.write_bytes.Goals as goal
 
 pub loop-rest-preserved-then-count-gt0 : goal.loop-rest-preserved-then-count-gt0
 loop-rest-preserved-then-count-gt0 g c =

@@ -1,0 +1,130 @@
+//! What bytes are read from: any reader, and a source, whose calls and failures are counted.
+
+ghost use Rattle.std.specs.Prelude.{◌≡◌, ◌<◌, Bool, length};
+ghost use Rattle.std.specs.Borrow.{GName};
+ghost use Rattle.page_core_streams.specs.Inputs.{HasReadIf};
+
+use crate::{Counted, Reading, SliceSource, Source};
+use std::io::{ErrorKind, Read};
+
+/// What bytes are read from. Each reader is one, whose calls are not counted; of [`Counted`] and [`SliceSource`] they are, and so a call over them can
+/// be held to its reasons.
+pub trait Input {
+    ghost use Rattle.page_core_streams.specs.Sources.{SourceState};
+
+    // Whether its calls are counted; the bytes to come, where they are known, and the counts.
+    ghost counts: { Bool };
+
+    ghost state: { Self → SourceState };
+
+    /// Reads bytes to the front of a buffer.
+    fn read_part(&mut self, buffer: &mut [u8]) -> Reading
+        requires { 0 < length buffer.old }
+        ensures reads { HasReadIf counts result (state self.old) (state self.new) buffer.new };
+}
+
+impl<I: Read> Input for I {
+    ghost use Rattle.std.specs.Prelude.{false};
+    ghost use Rattle.page_core_streams.specs.Sources.{SourceState, source_state};
+
+    ghost counts = { false };
+
+    ghost state = { λ s. source_state (I.remaining s) 0 0 0 0 };
+
+    fn read_part(&mut self, buffer: &mut [u8]) -> Reading {
+        match self.read(buffer) {
+            Ok(0) => Reading::End,
+            Ok(count) => Reading::Bytes(count),
+            Err(error) if error.kind() == ErrorKind::Interrupted => Reading::Bytes(0),
+            Err(_) => Reading::Failure,
+        }
+    }
+}
+
+impl<I: Read> Input for Counted<'_, I> {
+    ghost use Rattle.std.specs.Prelude.{true};
+    ghost use Rattle.page_core_streams.specs.Sources.{SourceState, source_state};
+
+    ghost counts = { true };
+
+    ghost state = { λ s. source_state (I.remaining s.reader.now) s.failures s.calls s.given s.empty };
+
+    fn read_part(&mut self, buffer: &mut [u8]) -> Reading {
+        Source::read(self, buffer)
+    }
+}
+
+impl Input for SliceSource<'_> {
+    ghost use Rattle.std.specs.Prelude.{Some, true};
+    ghost use Rattle.page_core_streams.specs.Sources.{SourceState, source_state};
+
+    ghost counts = { true };
+
+    ghost state = { λ s. source_state (Some s.rest.now) 0 s.calls s.given 0 };
+
+    fn read_part(&mut self, buffer: &mut [u8]) -> Reading {
+        Source::read(self, buffer)
+    }
+}
+
+/// An input as a source: its counts are those of the input, where it counts, else its own.
+#[derive(Drop)]
+pub struct Over<'a, I> {
+    input: &'a mut I,
+    failures: u64,
+    calls: u64,
+    given: u64,
+    empty: u64,
+}
+
+impl<'a, I: Input> Over<'a, I> {
+    /// A source over an input.
+    pub fn new(input: &'a mut I) -> Over<'a, I>
+        ensures loan { result.input.ghost_name ≡ input.entry.ghost_name }
+        ensures input { result.input.now ≡ input.entry.now }
+        ensures failures { result.failures ≡ 0 }
+        ensures calls { result.calls ≡ 0 }
+        ensures given { result.given ≡ 0 }
+        ensures empty { result.empty ≡ 0 }
+    {
+        Over {
+            input,
+            failures: 0,
+            calls: 0,
+            given: 0,
+            empty: 0,
+        }
+    }
+}
+
+impl<I: Input> Source for Over<'_, I> {
+    ghost use Rattle.page_core_streams.specs.Sources.{SourceState};
+    ghost use Rattle.page_core_streams.specs.Inputs.{state_of};
+    ghost use Rattle.std.specs.Borrow.{GName};
+
+    ghost state = { λ s. state_of I.counts (I.state s.input.now) s.failures s.calls s.given s.empty };
+
+    ghost Loans = { GName };
+
+    ghost loans = { λ s. s.input.ghost_name };
+
+    fn read(&mut self, buffer: &mut [u8]) -> Reading {
+        let given = self.given;
+        self.calls = self.calls.saturating_add(1);
+        match self.input.read_part(buffer) {
+            Reading::End => Reading::End,
+            Reading::Bytes(0) => {
+                self.empty = self.empty.saturating_add(1);
+                Reading::Bytes(0)
+            }
+            Reading::Bytes(count) => {
+                self.given = given.saturating_add(count as u64);
+                Reading::Bytes(count)
+            }
+            Reading::Failure => {
+                self.failures = self.failures.saturating_add(1);
+                Reading::Failure
+            }
+        }
+    }
+}

@@ -1,0 +1,129 @@
+//! What bytes are written to: any writer, and one whose failures are counted.
+
+ghost use Rattle.std.specs.Prelude.{◌≡◌, ℕ, Bool, List, Option};
+ghost use Rattle.page_core_streams.specs.Grows.{Writes};
+ghost use Rattle.page_core_streams.specs.Failures.{FailsBy};
+
+use crate::writing::write_bytes;
+use std::io::Write;
+
+/// What bytes are written to. Each writer is one, whose failures are not counted; of a [`CountedWriter`] they are, and so a call over it can be held
+/// to its reasons.
+pub trait Target {
+    // The bytes that it holds, where they are known.
+    ghost contents: { Self → Option (List ℕ) };
+
+    // Whether its failures are counted, and how often it has failed.
+    ghost counts: { Bool };
+
+    ghost failures: { Self → ℕ };
+
+    /// Writes all bytes, and says whether that succeeded; else a front of them was written.
+    fn put(&mut self, bytes: &[u8]) -> bool
+        ensures writes { Writes result (contents self.old) (contents self.new) bytes.now }
+        ensures fails { FailsBy counts result (failures self.old) (failures self.new) };
+
+    /// Whether its failures are counted.
+    fn is_counted(&self) -> bool
+        ensures { result ≡ counts };
+
+    /// How often it has failed, where that is counted.
+    fn failures(&self) -> u64
+        ensures { result ≡ failures self.now };
+}
+
+impl<W: Write> Target for W {
+    ghost use Rattle.std.specs.Prelude.{false};
+
+    ghost contents = { λ s. W.contents s };
+
+    ghost counts = { false };
+
+    ghost failures = { λ _. 0 };
+
+    fn put(&mut self, bytes: &[u8]) -> bool {
+        write_bytes(self, bytes)
+    }
+
+    fn is_counted(&self) -> bool {
+        false
+    }
+
+    fn failures(&self) -> u64 {
+        0
+    }
+}
+
+/// A writer whose failures are counted, up to 2^64 - 1.
+#[derive(Drop)]
+pub struct CountedWriter<'a, W> {
+    writer: &'a mut W,
+    failures: u64,
+}
+
+impl<'a, W: Write> CountedWriter<'a, W> {
+    /// Over a writer.
+    pub fn new(writer: &'a mut W) -> CountedWriter<'a, W>
+        ensures loan { result.writer.ghost_name ≡ writer.entry.ghost_name }
+        ensures writer { result.writer.now ≡ writer.entry.now }
+        ensures failures { result.failures ≡ 0 }
+    {
+        CountedWriter {
+            writer,
+            failures: 0,
+        }
+    }
+}
+
+impl<W: Write> Target for CountedWriter<'_, W> {
+    ghost use Rattle.std.specs.Prelude.{true};
+
+    ghost contents = { λ s. W.contents s.writer.now };
+
+    ghost counts = { true };
+
+    ghost failures = { λ s. s.failures };
+
+    fn put(&mut self, bytes: &[u8]) -> bool {
+        if write_bytes(self.writer, bytes) {
+            return true;
+        }
+        self.failures = self.failures.saturating_add(1);
+        false
+    }
+
+    fn is_counted(&self) -> bool {
+        true
+    }
+
+    fn failures(&self) -> u64 {
+        self.failures
+    }
+}
+
+/// Takes bytes, and keeps none: it never fails.
+#[derive(Clone, Copy)]
+pub struct Nowhere;
+
+impl Target for Nowhere {
+    ghost use Rattle.std.specs.Prelude.{None, true};
+
+    ghost contents = { λ _. None };
+
+    ghost counts = { true };
+
+    ghost failures = { λ _. 0 };
+
+    fn put(&mut self, bytes: &[u8]) -> bool {
+        let _ = bytes;
+        true
+    }
+
+    fn is_counted(&self) -> bool {
+        true
+    }
+
+    fn failures(&self) -> u64 {
+        0
+    }
+}
