@@ -4,11 +4,11 @@
 #![tactic(auto)]
 
 pub use page_core_base::{
-    Cell, Encoding, Fault, Font, Form, Language, Level, Note, NoteKind, NoteSink, Output, Piece,
-    PieceSink, Place, RowSink, SettingFault, Settings, TagForm, Taken, is_line,
+    CELLS, Cell, Encoding, FIELD, Fault, Font, Form, LINE, Language, Level, Limit, Note, NoteKind,
+    NoteSink, Output, PARENS, Piece, PieceSink, Place, RowSink, SettingFault, Settings, TagForm,
+    Taken, is_line,
 };
 pub use page_core_escapes::{Escape, FontName, escape};
-pub use page_core_limits::{CELLS, FIELD, LINE, Limit, PARENS};
 pub use page_core_numbers::{Evaluation, EvaluationNotes, Scale, columns, evaluate, number};
 pub use page_core_streams::{
     KeptNotes, KeptRows, Row, TextNotes, TextRows, cell_bytes, write_note,

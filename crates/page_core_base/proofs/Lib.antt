@@ -4,3 +4,4 @@ pub mod PieceLatchLemmas
 pub mod RowLatchLemmas
 pub mod TextLemmas
 pub mod WordPartLemmas
+pub mod RowLemmas

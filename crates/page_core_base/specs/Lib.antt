@@ -10,3 +10,5 @@ pub mod Pieces
 pub mod Latches
 pub mod LinesTaken
 pub mod machine
+pub mod Limits
+pub mod TableRows

@@ -1,6 +1,6 @@
 -- The text of a line. Source: mandoc(1), -K; roff(7), "LANGUAGE SYNTAX".
 use Rattle.std.specs.Prelude.{ℕ, ◌≤◌, ◌≡◌, Bool, true, not, ◌&&◌, ◌||◌, ◌==◌, nat_lt, List, [], ◌∷◌, length, IsUtf8}
-use Rattle.page_core_limits.specs.Limits.{LINE}
+use Rattle.page_core_base.specs.Limits.{LINE}
 
 -- a byte after another belongs to no control character but the tab; of those above ASCII the first byte is 0xC2 and the second below 0xA0
 abbrev pub is_no_control : ℕ → ℕ → Bool

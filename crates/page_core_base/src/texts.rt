@@ -3,7 +3,7 @@
 ghost use Rattle.std.specs.Prelude.{◌≡◌, ◌↔◌, IsTrue};
 ghost use Rattle.page_core_base.specs.Texts.{IsLine, has_no_control, is_no_control};
 
-use page_core_limits::LINE;
+use crate::LINE;
 
 /// Whether a text may be a line of a page: UTF-8, at most [`LINE`] bytes, and no control character but the tab.
 pub fn is_line(text: &[u8]) -> bool

@@ -15,7 +15,7 @@ ghost use Rattle.page_core_escapes.specs.Escapes.{escape_of, meaning_view, HasTe
 
 use extents::{Extent, read_extent};
 use meaning::read_meaning;
-use page_core_limits::LINE;
+use page_core_base::LINE;
 use quoted::quoted_len;
 
 mod extents;

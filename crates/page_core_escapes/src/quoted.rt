@@ -6,7 +6,7 @@ ghost use Rattle.page_core_escapes.specs.machine.Steps.{first_character, opening
 
 use crate::extents::{Extent, read_extent, written_len};
 use arrayvec::ArrayVec;
-use page_core_limits::LINE;
+use page_core_base::LINE;
 
 // One more than the arguments that can stand inside one another on a line: each takes three bytes at least.
 const NESTING: usize = 21_846;

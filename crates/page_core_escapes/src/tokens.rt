@@ -9,7 +9,7 @@ ghost use Rattle.page_core_escapes.specs.Tokens.{is_white, begins_white, begins_
 
 use crate::meaning::font_by_letter;
 use crate::{Escape, FontName, read_escape};
-use page_core_limits::LINE;
+use page_core_base::LINE;
 use std::simd::prelude::*;
 
 // The bytes that are tested at a time.

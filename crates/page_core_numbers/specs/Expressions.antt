@@ -4,8 +4,8 @@ use Rattle.std.specs.Prelude.{ℕ, zero, suc, Bool, true, false, ◌==◌, List,
 use Rattle.page_core_base.specs.declared.note_kinds.NoteKind.{NoteKind}
 use Rattle.page_core_base.specs.declared.note_kinds.NoteKind.TheVariants as kinds
 use Rattle.page_core_base.specs.Messages.{Message}
-use Rattle.page_core_limits.specs.declared.Limit.TheVariants.{Parens}
-use Rattle.page_core_limits.specs.Limits.{name_of}
+use Rattle.page_core_base.specs.declared.limits.Limit.TheVariants.{Parens}
+use Rattle.page_core_base.specs.Limits.{name_of}
 use Rattle.page_core_escapes.specs.Bytes.{plus, minus, parenthesis, closing_parenthesis}
 use Rattle.page_core_numbers.specs.declared.scales.Scale.{Scale}
 use Rattle.page_core_numbers.specs.declared.operators.Operator.{Operator}

@@ -9,8 +9,7 @@ ghost use Rattle.page_core_numbers.specs.machine.Evaluations.{reported, TakesFir
 use crate::expressions::read_expression;
 use crate::scales::Scale;
 use crate::troubles::Troubles;
-use page_core_base::{Fault, Note, NoteSink, Place};
-use page_core_limits::PARENS;
+use page_core_base::{Fault, Note, NoteSink, PARENS, Place};
 use std::marker::Model;
 
 /// What the expression at the front of a text comes to.

@@ -10,9 +10,8 @@ ghost use Rattle.page_core_numbers.specs.machine.Plain.{is_plain, are_plain};
 
 use crate::expressions::read_expression;
 use crate::scales::Scale;
-use page_core_base::Output;
+use page_core_base::{LINE, Output, PARENS};
 use page_core_escapes::{Escape, escape};
-use page_core_limits::{LINE, PARENS};
 use page_core_tables::{Printed, char_columns, printed_char, printed_glyph};
 
 // The columns of `\h` at most.

@@ -7,8 +7,7 @@ ghost use Rattle.page_core_numbers.specs.Expressions.{message_at};
 ghost use Rattle.page_core_numbers.specs.machine.Evaluations.{troubles_view};
 ghost use Rattle.page_core_numbers.specs.machine.CodeValues.{count_of};
 
-use page_core_base::{Note, NoteKind, Place};
-use page_core_limits::Limit;
+use page_core_base::{Limit, Note, NoteKind, Place};
 
 /// What may be wrong in an expression.
 #[derive(Clone, Copy)]

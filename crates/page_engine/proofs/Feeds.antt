@@ -7,7 +7,7 @@ use Rattle.page_core_base.specs.declared.note_kinds.Level.{Level}
 use Rattle.page_core_base.specs.declared.page_settings.Output.{Output}
 use Rattle.page_core_base.specs.Laid.{Laid, Gets}
 use Rattle.page_core_base.specs.Fails.{FailsBySink, IsPieceFault}
-use Rattle.page_fill_steps.specs.declared.edges.Edge.{Edge as FillEdge}
+use Rattle.page_fill.specs.declared.edges.Edge.{Edge as FillEdge}
 use Rattle.page_engine_lines.specs.Edges.{LinesEdge}
 use Rattle.page_engine.specs.Levels.{FilterGave, FilterWithin}
 use Rattle.page_engine.specs.Shown.{is_silent, ShownGave, ShownWithin}

@@ -8,9 +8,9 @@ use Rattle.page_core_base.specs.declared.pieces.TagForm.{TagForm}
 use Rattle.page_core_base.specs.declared.pieces.TagForm.TheVariants as forms
 use Rattle.page_core_base.specs.Laid.{Laid}
 use Rattle.page_core_base.specs.Pieces.{Item, shown, noted}
-use Rattle.page_fill_steps.specs.declared.edges.OpenTag.{OpenTag}
-use Rattle.page_fill_steps.specs.declared.edges.Edge.{Edge}
-use Rattle.page_fill_steps.specs.Edges.{is_set_in}
+use Rattle.page_fill.specs.declared.edges.OpenTag.{OpenTag}
+use Rattle.page_fill.specs.declared.edges.Edge.{Edge}
+use Rattle.page_fill.specs.Edges.{is_set_in}
 use Rattle.page_fill.specs.machine.ByPiece.{laid_item, laid_items}
 use Rattle.page_fill.specs.Filling.{Group, words, other, groups, after_tag, tag_ended, other_laid, group_laid, groups_laid, filled}
 use Rattle.page_fill.specs.PieceWords.{words_laid, content_laid}

@@ -8,7 +8,7 @@ use Rattle.page_core_base.specs.declared.faults.Fault.TheVariants.{Memory, Read,
 use Rattle.page_core_base.specs.declared.pieces.Piece.{Piece}
 use Rattle.page_core_base.specs.Laid.{Laid, Gave, Gets, join}
 use Rattle.page_core_base.specs.Fails.{FailsAs, FailsBySink, IsPieceFault, IsSinkFault}
-use Rattle.page_fill_steps.specs.declared.edges.Edge.{Edge as FillEdge}
+use Rattle.page_fill.specs.declared.edges.Edge.{Edge as FillEdge}
 use Rattle.page_core_base.specs.Pieces.{Item, shown, noted}
 use Rattle.page_fill.specs.machine.ByPiece.{laid_item, laid_items}
 use Rattle.page_fill.specs.Filling.{filled}

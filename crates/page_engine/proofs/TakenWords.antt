@@ -12,8 +12,8 @@ use Rattle.page_core_base.specs.declared.places.Place.{Place}
 use Rattle.page_fill.specs.machine.ByPiece.{laid_items}
 use Rattle.page_fill.specs.TakenWords.{TakesFirstWords}
 use Rattle.page_fill.proofs.FillerLaw.{items-law}
-use Rattle.page_fill_steps.specs.Caps.{IsHeld, is_sound}
-use Rattle.page_fill_steps.specs.declared.edges.Edge.{Edge as FillEdge}
+use Rattle.page_fill.specs.Caps.{IsHeld, is_sound}
+use Rattle.page_fill.specs.declared.edges.Edge.{Edge as FillEdge}
 use Rattle.page_engine.specs.machine.PageSinks.{Passed, Quiet}
 
 same_edge : (e f : FillEdge) → Some e ≡ Some f → e ≡ f

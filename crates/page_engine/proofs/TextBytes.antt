@@ -5,7 +5,7 @@ use Rattle.std.proofs.lemmas.List.Sums.{sum_by-cons}
 use Rattle.page_roff_names.specs.Entries.{size}
 use Rattle.page_scopes.specs.Caps.{TargetsFit}
 use Rattle.page_scopes.specs.declared.layouts.Kept.{Kept}
-use Rattle.page_scopes_laws.specs.declared.Scope.{Scope}
+use Rattle.page_scopes_tree.specs.declared.nestings.Scope.{Scope}
 use Rattle.page_scopes_labels.specs.declared.labels.Label.{Label}
 use Rattle.page_engine.specs.Page.{Edge}
 use Rattle.page_engine.specs.Within.{IsWithin, bytes_in, target_bytes, text_bytes}

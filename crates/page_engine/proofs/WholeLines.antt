@@ -6,9 +6,9 @@ use Rattle.page_core_base.specs.Laid.{Laid, nothing, join, seq, join_assoc}
 use Rattle.page_core_base.specs.Messages.{Message}
 use Rattle.page_core_base.specs.Pieces.{Item, noted}
 use Rattle.page_core_base.specs.declared.page_settings.Settings.{Settings}
-use Rattle.page_fill_steps.specs.Edges as fill
+use Rattle.page_fill.specs.Edges as fill
 use Rattle.page_fill.specs.machine.ByPiece.{laid_items, laid_items-append}
-use Rattle.page_fill_steps.specs.declared.edges.Edge.{Edge as FillEdge}
+use Rattle.page_fill.specs.declared.edges.Edge.{Edge as FillEdge}
 use Rattle.page_fill.specs.Filling.{filled, row_end}
 use Rattle.page_fill.proofs.FillerLaw.{items-law}
 use Rattle.page_fill.proofs.FillingLaw.{cut-law, held-law}

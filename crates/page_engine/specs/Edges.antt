@@ -6,16 +6,16 @@ use Rattle.page_core_base.specs.declared.page_settings.Settings.{Settings}
 use Rattle.page_engine_lines.specs.Bodies.{BodyEdge, HeaderEdge, indent_of}
 use Rattle.page_engine_header.specs.declared.fields.Fields.{Fields}
 use Rattle.page_engine_lines.specs.Edges.{LinesEdge, start_of}
-use Rattle.page_fill_steps.specs.Caps.{IsHeld, is_sound}
-use Rattle.page_fill_steps.specs.Edges as fill
-use Rattle.page_fill_steps.specs.declared.edges.Edge.{Edge as FillEdge}
+use Rattle.page_fill.specs.Caps.{IsHeld, is_sound}
+use Rattle.page_fill.specs.Edges as fill
+use Rattle.page_fill.specs.declared.edges.Edge.{Edge as FillEdge}
 use Rattle.page_roff_blocks.specs.Levels.{Place}
 use Rattle.page_roff_names.specs.Names.{Definitions}
 use Rattle.page_roff_source.specs.Edges.{Edge as RoffEdge, counts_of}
 use Rattle.page_roff_source.specs.declared.counts.Counts.{Counts}
 use Rattle.page_scopes.specs.Edges.{PageEdge}
 use Rattle.page_scopes.specs.declared.layouts.Kept.{Kept}
-use Rattle.page_scopes_laws.specs.declared.Scope.{Scope}
+use Rattle.page_scopes_tree.specs.declared.nestings.Scope.{Scope}
 use Rattle.page_scopes_layout.specs.declared.contexts.Context.{Context}
 use Rattle.page_scopes_phrases.specs.declared.kept_texts.KeptText.{KeptText}
 use Rattle.page_scopes_phrases.specs.declared.runnings.Running.{Running}

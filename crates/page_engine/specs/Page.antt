@@ -7,8 +7,8 @@ use Rattle.page_core_base.specs.Pieces.{Item}
 use Rattle.page_engine_lines.specs.Acts as acts
 use Rattle.page_engine_lines.specs.Acts.{raw_line, lines_items, lines_after}
 use Rattle.page_engine_lines.specs.Edges.{footer_items}
-use Rattle.page_fill_steps.specs.declared.edges.Edge.{Edge as FillEdge}
-use Rattle.page_fill_steps.specs.Edges as fill
+use Rattle.page_fill.specs.declared.edges.Edge.{Edge as FillEdge}
+use Rattle.page_fill.specs.Edges as fill
 use Rattle.page_fill.specs.Filling.{filled, row_end}
 use Rattle.page_roff_lines.specs.Decoding.{Line}
 use Rattle.page_roff_source.specs.Edges.{SourceLine}

@@ -1,11 +1,11 @@
 -- How much is held between two lines. Source: mandoc(1), "DIAGNOSTICS".
 use Rattle.std.specs.Prelude.{◌≡◌, ℕ, ◌+◌, true, length, sum_by, Option, None, Some}
 use Rattle.page_engine_lines.specs.Caps.{BodyFits}
-use Rattle.page_fill_steps.specs.Caps.{FillFits, IsHeld, is_sound}
+use Rattle.page_fill.specs.Caps.{FillFits, IsHeld, is_sound}
 use Rattle.page_roff_names.specs.Entries.{size}
 use Rattle.page_roff_source.specs.Caps.{RoffFits}
 use Rattle.page_scopes.specs.declared.layouts.Kept.{Kept}
-use Rattle.page_scopes_laws.specs.declared.Scope.{Scope}
+use Rattle.page_scopes_tree.specs.declared.nestings.Scope.{Scope}
 use Rattle.page_scopes_labels.specs.declared.labels.Label.{Label}
 use Rattle.page_engine.specs.Edges.{Edge, lines_at}
 use Rattle.page_engine.specs.States.{PageState}

@@ -5,7 +5,7 @@ ghost use Rattle.page_core_base.specs.Laid.{join};
 ghost use Rattle.page_core_base.specs.declared.page_settings.Settings.{Settings};
 ghost use Rattle.page_roff_lines.specs.Decoding.{Line};
 ghost use Rattle.page_roff_source.specs.Each.{EachIsWithin};
-ghost use Rattle.page_core_limits.specs.declared.TheConstants.{EXPAND, REREAD};
+ghost use Rattle.page_core_base.specs.declared.limits.TheConstants.{EXPAND, REREAD};
 ghost use Rattle.page_engine_lines.specs.Acts.{lines_after};
 ghost use Rattle.page_engine_lines.specs.Edges.{start_of};
 ghost use Rattle.page_engine.specs.machine.ByLine as by_line;

@@ -6,7 +6,7 @@ ghost use Rattle.page_core_base.specs.Laid.{Gets};
 ghost use Rattle.page_core_base.specs.Texts.{IsLine};
 ghost use Rattle.page_roff_lines.specs.Cutting.{line_of};
 ghost use Rattle.page_roff_source.specs.Edges.{counts_of};
-ghost use Rattle.page_fill_steps.specs.declared.edges.Edge.{Edge as FillEdge};
+ghost use Rattle.page_fill.specs.declared.edges.Edge.{Edge as FillEdge};
 ghost use Rattle.page_engine.specs.machine.Layers.{IsAt};
 ghost use Rattle.page_engine.specs.Within.{IsWithin};
 ghost use Rattle.page_engine.specs.machine.ByLine.{settled_text, settled_line, ended, end_laid};

@@ -1,7 +1,7 @@
 -- How a latch ends full rows.
 use Rattle.std.proofs.Common.{◌≡◌, ℕ, zero, suc, ◌-◌, ◌<◌, List, [], ◌∷◌, ◌++◌, refl, ap, append-nil, arith}
 use Rattle.std.specs.Borrow.{GName}
-use Rattle.page_core_limits.specs.declared.TheConstants.{CELLS}
+use Rattle.page_core_base.specs.declared.limits.TheConstants.{CELLS}
 use Rattle.page_core_base.specs.Pieces.{Item, shown}
 use Rattle.page_core_base.specs.declared.pieces.Piece.TheVariants.{Break}
 use Rattle.page_engine_header.specs.Header.{in_rows}

@@ -6,7 +6,7 @@ use Rattle.page_core_base.specs.Pieces.{Item}
 use Rattle.page_core_base.specs.declared.note_kinds.NoteKind.TheVariants.{Limit}
 use Rattle.page_core_base.specs.declared.places.Place.{Place}
 use Rattle.page_core_escapes.specs.Tokens.{unpaired}
-use Rattle.page_core_limits.specs.Limits.{FIELD}
+use Rattle.page_core_base.specs.Limits.{FIELD}
 use Rattle.page_roff_syntax.specs.declared.quotes.Argument.{Argument}
 use Rattle.page_roff_syntax.specs.Arguments.{is_quoted}
 use Rattle.page_scopes_words.specs.Words.{says}

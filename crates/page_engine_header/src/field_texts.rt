@@ -2,14 +2,13 @@
 
 ghost use Rattle.std.specs.Prelude.{◌≡◌, ◌≤◌, ◌<◌, ◌+◌, ◌-◌, [], ◌∷◌, ◌++◌, ◌==◌, length, drop, take, if◌then◌else◌};
 ghost use Rattle.page_core_escapes.specs.Tokens.{unpaired};
-ghost use Rattle.page_core_limits.specs.declared.TheConstants.{FIELD};
+ghost use Rattle.page_core_base.specs.declared.limits.TheConstants.{FIELD};
 ghost use Rattle.page_roff_syntax.specs.Arguments.{argument_view};
 ghost use Rattle.page_engine_header.specs.Fields as fields;
 ghost use Rattle.page_engine_header.specs.Fields.{first_field, or_else, quote_len, written};
 
 use arrayvec::ArrayVec;
-use page_core_base::text_front;
-use page_core_limits::FIELD;
+use page_core_base::{FIELD, text_front};
 use page_roff_syntax::{Argument, Arguments};
 use std::marker::Model;
 

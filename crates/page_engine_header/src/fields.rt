@@ -8,8 +8,7 @@ ghost use Rattle.page_engine_header.specs.Fields as fields;
 ghost use Rattle.page_engine_header.specs.Fields.{FIELDS, argument_cut, cut_item, no_fields, volume_at, volume_of};
 
 use crate::field_texts::Field;
-use page_core_base::{NoteKind, PieceOut, Place};
-use page_core_limits::{FIELD, Limit};
+use page_core_base::{FIELD, Limit, NoteKind, PieceOut, Place};
 use page_roff_syntax::{Argument, Arguments};
 use page_scopes_words::report;
 use page_sets_lines::Prologue;

@@ -2,11 +2,10 @@
 
 ghost use Rattle.std.specs.Prelude.{◌≡◌, List};
 ghost use Rattle.page_core_base.specs.Pieces.{Item};
-ghost use Rattle.page_core_limits.specs.declared.TheConstants.{CELLS};
+ghost use Rattle.page_core_base.specs.declared.limits.TheConstants.{CELLS};
 ghost use Rattle.page_engine_header.specs.machine.RowPlans.{RowPlanned, RowLeft};
 
-use page_core_base::{Font, Note, Piece, PieceOut, Place};
-use page_core_limits::CELLS;
+use page_core_base::{CELLS, Font, Note, Piece, PieceOut, Place};
 
 /// Hands on the characters of a row, and ends the row before one that it has no room for.
 #[derive(Drop)]

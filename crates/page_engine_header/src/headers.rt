@@ -1,7 +1,7 @@
 //! The header and the footer of a page (man(7), `TH`; mdoc(7), `Dd`, `Dt`, `Os`; mandoc(1), "ASCII Output").
 
 ghost use Rattle.std.specs.Prelude.{◌≡◌, ◌≤◌, ◌<◌, ◌-◌, ◌^◌};
-ghost use Rattle.page_core_limits.specs.declared.TheConstants.{CELLS};
+ghost use Rattle.page_core_base.specs.declared.limits.TheConstants.{CELLS};
 ghost use Rattle.page_core_base.specs.Latches.{Came};
 ghost use Rattle.page_engine_header.specs.Header.{second_start, third_start, part_tokens, IsShort, in_rows, row_characters, row_items, if_empty, missing_items, header_items, header_row, footer_row};
 

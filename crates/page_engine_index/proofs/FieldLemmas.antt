@@ -7,7 +7,7 @@ use Rattle.std.proofs.lemmas.List.Splits.{slice_split_at, slice_split_none, leng
 use Rattle.std.proofs.Math.Seq.{split_at}
 use Rattle.std.specs.List.{All, slice_split}
 use Rattle.memchr.specs.Find.{IsFirstByte, Nowhere, Passes, is_byte}
-use Rattle.page_core_limits.specs.declared.TheConstants.{LINE}
+use Rattle.page_core_base.specs.declared.limits.TheConstants.{LINE}
 use Rattle.page_engine_index.specs.Entries.{is_tab, Entry, Index, entry_of, entry_in, version_of, index_from, bad_at, with_entries}
 use Rattle.page_engine_index.specs.declared.entries.Version.{Version}
 use Rattle.page_engine_index.specs.declared.entries.Version.TheVariants.{One, Two}

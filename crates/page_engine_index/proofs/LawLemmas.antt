@@ -5,7 +5,7 @@ use Rattle.std.specs.Str.{bytes_eq}
 use Rattle.std.proofs.lemmas.Bool.{cases_Bool, false≢true, le-leb}
 use Rattle.std.proofs.lemmas.List.{take-append-drop, take_at}
 use Rattle.std.proofs.lemmas.Slice.Eq.{bytes_eq-Decides}
-use Rattle.page_core_limits.specs.declared.TheConstants.{LINE}
+use Rattle.page_core_base.specs.declared.limits.TheConstants.{LINE}
 use Rattle.page_engine_index.specs.Entries.{Line, Entry, Index, all_read, with_entries, entry_in, entry_of, index, index_from, is_line_feed, is_tab, lines, version_of}
 use Rattle.page_engine_index.specs.Matches.{IsMatch, begins_word, ends_word, folded, is_match, is_word_byte, matches_here, matches_in}
 use Rattle.page_engine_index.specs.Records.{AreKept, IsKept, entry_line, is_end}

@@ -15,7 +15,7 @@ use Rattle.page_core_streams.specs.Sources.{SourceState}
 use Rattle.page_core_base.specs.Sinks.{IsSink}
 use Rattle.page_core_base.specs.declared.faults.Fault.{Fault}
 use Rattle.page_core_base.specs.declared.faults.Fault.TheVariants.{Memory, Read, WriteText, WriteNotes, TooLong, Settings, Failed, Ended, BadIndex}
-use Rattle.page_core_limits.specs.declared.TheConstants.{LINE}
+use Rattle.page_core_base.specs.declared.limits.TheConstants.{LINE}
 use Rattle.page_engine_index.specs.Entries.{Line, Entry, Index, all_read, with_entries, bad_at, lines, whole_lines, index_from, index, whole_index, entry_of, version_of}
 use Rattle.page_engine_index.specs.Whatis.{Asked, rows, row_of}
 use Rattle.page_engine_index.specs.Searches.{RowsTo, ReadWhole, Searches, SearchesOver, Stopped, Quiet, HasCause}

@@ -1,7 +1,7 @@
 -- A record of a page, as it is written. Source: makewhatis(8), whatis(1).
 use Rattle.std.specs.Prelude.{◌≡◌, ℕ, ◌+◌, ◌≤◌, Bool, false, ◌||◌, List, [], ◌∷◌, ◌++◌, length, ⊤, codes}
 use Rattle.std.specs.List.{list_any}
-use Rattle.page_core_limits.specs.Limits.{LINE}
+use Rattle.page_core_base.specs.Limits.{LINE}
 use Rattle.page_engine_index.specs.Entries.{Entry, is_line_feed, is_tab}
 use Rattle.page_engine_index.specs.Whatis.{described}
 use Rattle.page_engine_index.specs.declared.records.Record.{Record}

@@ -11,8 +11,7 @@ use crate::entries::Place;
 use crate::line_sinks::{LineSink, TextLines};
 use crate::queries::{Query, Show};
 use memchr::memchr;
-use page_core_base::{BoundedText, Fault};
-use page_core_limits::LINE;
+use page_core_base::{BoundedText, Fault, LINE};
 use page_core_streams::{Chunks, Counted, Source};
 use std::alloc::Global;
 use std::io::{Read, Write};
@@ -167,7 +166,7 @@ impl Search {
 ///
 /// The memory of one line is reserved before the first read: with [`Fault::Memory`] nothing is read and nothing is given.
 /// [`Fault::BadIndex`] names the first bad line: a first line that names no version, one with another number of fields, or of more than
-/// [`page_core_limits::LINE`] bytes; the rows of the lines before it were given then. [`Fault::Read`] comes where the source failed,
+/// [`page_core_base::LINE`] bytes; the rows of the lines before it were given then. [`Fault::Read`] comes where the source failed,
 /// [`Fault::WriteText`] where the sink failed, and [`Fault::TooLong`] for an index of more than [`page_core_streams::BYTES`] bytes or after [`page_core_streams::READS`] read calls.
 pub fn search_index<S: Source, L: LineSink>(
     alloc: Global,

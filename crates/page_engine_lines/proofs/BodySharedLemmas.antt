@@ -6,10 +6,10 @@ use Rattle.page_engine_header.specs.declared.fields.Fields.{Fields}
 use Rattle.page_engine_header.specs.declared.headers.Measure.{Measure}
 use Rattle.page_scopes.specs.Bodies.{begun_after}
 use Rattle.page_scopes.specs.declared.layouts.LayoutState.{LayoutState}
-use Rattle.page_scopes_laws.specs.Asides.{With, act, aside, Beside}
-use Rattle.page_scopes_laws.specs.Forests.{Ender, by_act, still_open, Forest, none, leaf, node, After, Rest, tree}
-use Rattle.page_scopes_laws.specs.Layouts.{Layout, scope_of, closing_state, after, labels, after_outer, after_rest, edge}
-use Rattle.page_scopes_laws.specs.declared.Scope.{Scope}
+use Rattle.page_scopes_tree.specs.Asides.{With, act, aside, Beside}
+use Rattle.page_scopes_tree.specs.Forests.{Ender, by_act, still_open, Forest, none, leaf, node, After, Rest, tree}
+use Rattle.page_scopes_tree.specs.Layouts.{Layout, scope_of, closing_state, after, labels, after_outer, after_rest, edge}
+use Rattle.page_scopes_tree.specs.declared.nestings.Scope.{Scope}
 use Rattle.page_scopes_tree.specs.Acts.{Step}
 use Rattle.page_scopes_tree.specs.Nests.{Fact, coming, standing, refused}
 use Rattle.page_sets.specs.declared.either.Either.{Either}

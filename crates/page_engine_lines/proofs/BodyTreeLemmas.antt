@@ -9,18 +9,18 @@ use Rattle.page_scopes.specs.Edges as scopes
 use Rattle.page_scopes.specs.Tables.{layout_tables}
 use Rattle.page_scopes.specs.declared.layouts.Kept.{Kept}
 use Rattle.page_scopes.specs.declared.layouts.LayoutState.{LayoutState}
-use Rattle.page_scopes_laws.specs.Asides.{With, act, aside, Beside, beside, before_leaf}
-use Rattle.page_scopes_laws.specs.Layouts.{Edge, edge, labels}
-use Rattle.page_scopes_laws.specs.machine.Machines.{run, run_items, step, step_items, placed_items, ended_items, count_ended, state_left}
-use Rattle.page_scopes_laws.specs.Nestings.{Standing, IsSound, standing_of}
-use Rattle.page_scopes_laws.proofs.AsideLemmas.{sound_with, act_items, act_step}
-use Rattle.page_scopes_laws.proofs.CutLemmas.{settled-append, edge-append}
-use Rattle.page_scopes_laws.proofs.RunLemmas.{settled-run}
-use Rattle.page_scopes_laws.proofs.EdgeLemmas.{edge-run}
+use Rattle.page_scopes_tree.specs.Asides.{With, act, aside, Beside, beside, before_leaf}
+use Rattle.page_scopes_tree.specs.Layouts.{Edge, edge, labels}
+use Rattle.page_scopes_tree.specs.machine.Machines.{run, run_items, step, step_items, placed_items, ended_items, count_ended, state_left}
+use Rattle.page_scopes_tree.specs.Nestings.{Standing, IsSound, standing_of}
+use Rattle.page_scopes_tree.proofs.AsideLemmas.{sound_with, act_items, act_step}
+use Rattle.page_scopes_tree.proofs.CutLemmas.{settled-append, edge-append}
+use Rattle.page_scopes_tree.proofs.RunLemmas.{settled-run}
+use Rattle.page_scopes_tree.proofs.EdgeLemmas.{edge-run}
 use Rattle.page_scopes_tree.specs.Acts.{Step, comes, does, steps_of}
 use Rattle.page_scopes_tree.specs.Frames.{framed}
 use Rattle.page_scopes_tree.specs.Nests.{Fact, scopes_nesting, step_standing}
-use Rattle.page_core_limits.specs.declared.TheConstants.{SCOPES}
+use Rattle.page_core_base.specs.declared.limits.TheConstants.{SCOPES}
 use Rattle.page_scopes_tree.specs.declared.acts.Act.{Act}
 use Rattle.page_scopes_tree.specs.declared.acts.Act.TheVariants as acts
 use Rattle.page_scopes_labels.specs.declared.labels.Label.{Label}

@@ -11,7 +11,7 @@ use Rattle.page_engine_lines.specs.Trees.{Aside, tree_after}
 use Rattle.page_engine_lines.proofs.BodySharedLemmas.{Shared, shared_of, sharing, tree_shared}
 use Rattle.page_engine_lines.specs.Acts.{first_language, front_steps, lines_after, reader, rest_steps}
 use Rattle.page_engine_lines.specs.Edges.{LinesEdge}
-use Rattle.page_scopes_laws.specs.Asides.{With}
+use Rattle.page_scopes_tree.specs.Asides.{With}
 use Rattle.page_scopes_tree.specs.Acts.{Step}
 use Rattle.page_sets.specs.declared.either.Either.{Either}
 

@@ -20,7 +20,7 @@ use Rattle.page_engine_lines.specs.Languages.{language_of}
 use Rattle.page_engine_lines.specs.Trees.{Aside, reports, events_steps, page_end_steps, tree_items, tree_after}
 use Rattle.page_engine_lines.proofs.BodySharedLemmas.{tree_title}
 use Rattle.page_engine_lines.proofs.BodyTreeLemmas.{tree_items-append, tree_after-append, tree_items-none, tree_after-none, aside_items_is, aside_after_is, events_tree_items, events_tree_after, events_keep, end_tree}
-use Rattle.page_scopes_laws.specs.Asides.{With, aside}
+use Rattle.page_scopes_tree.specs.Asides.{With, aside}
 use Rattle.page_scopes_tree.specs.Acts.{Step}
 use Rattle.page_scopes_words.specs.Words.{at}
 use Rattle.page_sets.specs.Either.{either_events}

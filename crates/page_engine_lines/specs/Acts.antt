@@ -12,7 +12,7 @@ use Rattle.page_engine_lines.specs.Bodies.{BodyEdge, chosen_if}
 use Rattle.page_engine_lines.specs.Languages.{language_of}
 use Rattle.page_engine_lines.specs.Trees.{Aside, reports, events_steps, page_end_steps, tree_items, tree_after}
 use Rattle.page_engine_lines.specs.Edges.{LinesEdge}
-use Rattle.page_scopes_laws.specs.Asides.{With, aside}
+use Rattle.page_scopes_tree.specs.Asides.{With, aside}
 use Rattle.page_scopes_tree.specs.Acts.{Step}
 use Rattle.page_scopes_words.specs.Words.{at}
 use Rattle.page_sets.specs.Either.{either_events}

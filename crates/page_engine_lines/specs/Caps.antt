@@ -1,6 +1,6 @@
 -- How much is held between two lines of a page's body. Source: mandoc(1), "DIAGNOSTICS".
 use Rattle.std.specs.Prelude.{◌≤◌, length}
-use Rattle.page_core_limits.specs.Limits.{FIELD}
+use Rattle.page_core_base.specs.Limits.{FIELD}
 use Rattle.page_engine_header.specs.declared.fields.Fields.{Fields}
 use Rattle.page_scopes.specs.Caps.{ScopesFit}
 use Rattle.page_engine_lines.specs.Bodies.{BodyEdge}

@@ -11,9 +11,9 @@ use Rattle.page_scopes.specs.Bodies.{begins}
 use Rattle.page_scopes.specs.Tables.{layout_tables}
 use Rattle.page_scopes.specs.declared.layouts.Kept.{Kept}
 use Rattle.page_scopes.specs.declared.layouts.LayoutState.{LayoutState}
-use Rattle.page_scopes_laws.specs.Asides.{With, act, aside, with_asides, Beside, Sides, layout_with, beside}
-use Rattle.page_scopes_laws.specs.Layouts.{Layout, Edge, settled, edge}
-use Rattle.page_scopes_laws.specs.Nestings.{Nesting}
+use Rattle.page_scopes_tree.specs.Asides.{With, act, aside, with_asides, Beside, Sides, layout_with, beside}
+use Rattle.page_scopes_tree.specs.Layouts.{Layout, Edge, settled, edge}
+use Rattle.page_scopes_tree.specs.Nestings.{Nesting}
 use Rattle.page_scopes_tree.specs.Acts.{Step, does, steps_of}
 use Rattle.page_scopes_tree.specs.Frames.{framed}
 use Rattle.page_scopes_tree.specs.Nests.{Fact, coming, standing, refused, scopes_nesting}

@@ -3,7 +3,7 @@
 ghost use Rattle.std.specs.Prelude.{◌≡◌, ℕ, List, [], ◌∷◌, ◌++◌};
 ghost use Rattle.page_core_base.specs.Messages.{Message};
 ghost use Rattle.page_core_base.specs.Pieces.{noted};
-ghost use Rattle.page_scopes_laws.specs.Asides.{With, aside};
+ghost use Rattle.page_scopes_tree.specs.Asides.{With, aside};
 ghost use Rattle.page_scopes_tree.specs.Acts.{Step};
 ghost use Rattle.page_sets_lines.specs.declared.events.Event.{Event};
 ghost use Rattle.page_engine_lines.specs.Bodies.{BodyEdge, end_items, events_after, events_items};

@@ -9,8 +9,7 @@ ghost use Rattle.page_engine_lines.specs.machine.Given.{given_items, body_after,
 
 use crate::Body;
 use crate::item_outs::ItemOut;
-use page_core_base::{NoteKind, PieceOut, Place, Taken};
-use page_core_limits::LINE;
+use page_core_base::{LINE, NoteKind, PieceOut, Place, Taken};
 use page_roff_source::RoffLines;
 use page_roff_syntax::{is_white, kept_len};
 use page_scopes_words::report;

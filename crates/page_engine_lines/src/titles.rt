@@ -4,8 +4,7 @@ ghost use Rattle.std.specs.Prelude.{◌≡◌, ◌≤◌, length};
 ghost use Rattle.page_core_base.specs.Latches.{Came};
 ghost use Rattle.page_engine_lines.specs.Titles as titles;
 
-use page_core_base::{NoteKind, PieceOut, Place};
-use page_core_limits::LINE;
+use page_core_base::{LINE, NoteKind, PieceOut, Place};
 use page_engine_header::{Fields, report_cut_fields};
 use page_roff_syntax::Arguments;
 use page_scopes_words::report;

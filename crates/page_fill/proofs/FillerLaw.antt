@@ -8,11 +8,11 @@ use Rattle.page_core_base.specs.Words.{word_items, word_pieces}
 use Rattle.page_core_base.specs.declared.cells.Font.{Font}
 use Rattle.page_core_base.specs.declared.pieces.Piece.{Piece}
 use Rattle.page_core_base.specs.declared.places.Place.{Place}
-use Rattle.page_fill_steps.specs.Caps.{IsHeld, is_sound}
-use Rattle.page_fill_steps.specs.declared.edges.Edge.{Edge}
-use Rattle.page_fill_steps.specs.machine.Fill.{laid_piece, laid, ended}
-use Rattle.page_fill_steps.specs.machine.Items as steps
-use Rattle.page_fill_steps.specs.machine.TakenWords as taken_steps
+use Rattle.page_fill.specs.Caps.{IsHeld, is_sound}
+use Rattle.page_fill.specs.declared.edges.Edge.{Edge}
+use Rattle.page_fill.specs.machine.Fill.{laid_piece, laid, ended}
+use Rattle.page_fill.specs.machine.Items as steps
+use Rattle.page_fill.specs.machine.TakenWords as taken_steps
 use Rattle.page_fill.specs.machine.ByPiece.{laid_items}
 use Rattle.page_fill.specs.Filling.{filled, row_end}
 use Rattle.page_fill.specs.TakenWords.{TakesFirstWords}

@@ -11,18 +11,18 @@ use Rattle.page_core_base.specs.declared.pieces.TagForm.TheVariants as forms
 use Rattle.page_core_base.specs.Messages.{Message}
 use Rattle.page_core_base.specs.Laid.{Laid, nothing, join, seq}
 use Rattle.page_core_base.specs.Pieces.{Item, shown, noted}
-use Rattle.page_fill_steps.specs.declared.edges.OpenTag.{OpenTag}
-use Rattle.page_fill_steps.specs.declared.edges.Edge.{Edge}
-use Rattle.page_fill_steps.specs.machine.Fill.{laid_piece, on_sheet, opening, tab, fixed_tab, filled_tab, to_stop, ended, paragraph, spaced, row_ended, heading, headed, without_tag, fits_hang}
-use Rattle.page_fill_steps.specs.Edges.{is_set_in, no_word}
-use Rattle.page_fill_steps.specs.machine.Fill as fill
+use Rattle.page_fill.specs.declared.edges.OpenTag.{OpenTag}
+use Rattle.page_fill.specs.declared.edges.Edge.{Edge}
+use Rattle.page_fill.specs.machine.Fill.{laid_piece, on_sheet, opening, tab, fixed_tab, filled_tab, to_stop, ended, paragraph, spaced, row_ended, heading, headed, without_tag, fits_hang}
+use Rattle.page_fill.specs.Edges.{is_set_in, no_word}
+use Rattle.page_fill.specs.machine.Fill as fill
 use Rattle.page_fill_rows.specs.machine.Sheets.{over, blank, broken, empty_rows}
 use Rattle.page_fill.proofs.Marks.{Mark, letters_of, opening_marks}
 use Rattle.page_fill.proofs.Marks as marks
 use Rattle.page_fill.specs.Filled.{CellOrNote}
-use Rattle.page_fill_steps.specs.Caps.{IsHeld, is_sound}
+use Rattle.page_fill.specs.Caps.{IsHeld, is_sound}
 use Rattle.page_fill.specs.PieceWords.{cell_content, and_then, no_more, words_laid, content_laid, after_cell}
-use Rattle.page_fill_steps.specs.machine.Items.{laid_items, laid_items-append}
+use Rattle.page_fill.specs.machine.Items.{laid_items, laid_items-append}
 use Rattle.page_fill.specs.Filling.{Group, words, other, is_of_words, in_front, groups, row_end, blank_rows, after_tag, tag_ended, stop_content, other_laid, groups_laid, filled}
 use Rattle.page_fill.proofs.MarkRuns.{run}
 use Rattle.page_fill.proofs.MarkedPieces.{letters-run, opening-run, run-literal, with_word}

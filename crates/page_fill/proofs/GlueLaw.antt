@@ -10,9 +10,9 @@ use Rattle.page_core_base.specs.declared.places.Place.{Place}
 use Rattle.page_core_base.specs.Laid.{Laid, nothing, seq}
 use Rattle.page_core_base.specs.Pieces.{Item, shown}
 use Rattle.page_core_tables.specs.Printed.{char_printed}
-use Rattle.page_fill_steps.specs.declared.edges.Edge.{Edge}
-use Rattle.page_fill_steps.specs.declared.edges.OpenWord.{OpenWord}
-use Rattle.page_fill_steps.specs.Edges.{begun_word}
+use Rattle.page_fill.specs.declared.edges.Edge.{Edge}
+use Rattle.page_fill.specs.declared.edges.OpenWord.{OpenWord}
+use Rattle.page_fill.specs.Edges.{begun_word}
 use Rattle.page_fill_rows.specs.Characters.{characters_of}
 use Rattle.page_fill_rows.proofs.CharacterLemmas.{characters_of-text, chars-empty}
 use Rattle.page_fill.specs.Filled.{CellOrNote}

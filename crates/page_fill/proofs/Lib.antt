@@ -11,3 +11,7 @@ pub mod FilledPieces
 pub mod HeldSheets
 pub mod FillingLaw
 pub mod FillerLaw
+pub mod WordLemmas
+pub mod PlainWordLemmas
+pub mod WordRunLemmas
+pub mod TakenWordLemmas

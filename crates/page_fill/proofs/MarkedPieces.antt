@@ -10,14 +10,14 @@ use Rattle.page_core_base.specs.declared.pieces.Piece.TheVariants.{Text, Glyph, 
 use Rattle.page_core_base.specs.declared.places.Place.{Place}
 use Rattle.page_core_base.specs.Laid.{Laid, nothing, join, seq}
 use Rattle.page_core_tables.specs.Printed.{Printing, char_printed, glyph_printed}
-use Rattle.page_core_limits.specs.declared.TheConstants.{CELLS}
-use Rattle.page_fill_steps.specs.declared.edges.OpenWord.{OpenWord}
+use Rattle.page_core_base.specs.declared.limits.TheConstants.{CELLS}
+use Rattle.page_fill.specs.declared.edges.OpenWord.{OpenWord}
 use Rattle.page_fill_rows.specs.machine.Sheets.{Sheet, over, blank, letter, letters, space, spaces, new_word, opens, passes}
 use Rattle.page_fill_rows.specs.Characters.{with_notes, cell_of, cells_of, characters_of, unknown_notes, put, character, characters, glyph}
-use Rattle.page_fill_steps.specs.declared.edges.Edge.{Edge}
-use Rattle.page_fill_steps.specs.machine.Fill.{laid_piece, text, one_character, one_glyph, tab, opening, tab_notes, tells_tab, stands, fixed_tab, filled_tab, on_sheet, begun_word, blanks_wait, opened_word, glued_word}
+use Rattle.page_fill.specs.declared.edges.Edge.{Edge}
+use Rattle.page_fill.specs.machine.Fill.{laid_piece, text, one_character, one_glyph, tab, opening, tab_notes, tells_tab, stands, fixed_tab, filled_tab, on_sheet, begun_word, blanks_wait, opened_word, glued_word}
 use Rattle.page_fill.proofs.Marks.{Mark, told, opened, spaced, lettered, letters_of, printed_marks, character_marks, text_marks, tab_marks, blank_marks, opening_marks, is_of_words, piece_marks}
-use Rattle.page_fill_steps.specs.Caps.{is_sound}
+use Rattle.page_fill.specs.Caps.{is_sound}
 use Rattle.page_fill.specs.PieceWords.{after_cell, word_after}
 use Rattle.page_fill.proofs.MarkRuns.{step, run, run-append}
 

@@ -11,8 +11,8 @@ use Rattle.page_core_base.specs.Messages.{Message}
 use Rattle.page_core_tables.specs.Printed.{Printing, char_printed, glyph_printed}
 use Rattle.page_fill_rows.specs.machine.Sheets.{blank}
 use Rattle.page_fill_rows.specs.Characters.{cell_of, cells_of, characters_of, unknown_notes}
-use Rattle.page_fill_steps.specs.declared.edges.OpenWord.{OpenWord}
-use Rattle.page_fill_steps.specs.machine.Fill.{tab_notes}
+use Rattle.page_fill.specs.declared.edges.OpenWord.{OpenWord}
+use Rattle.page_fill.specs.machine.Fill.{tab_notes}
 use Rattle.page_fill.specs.PieceWords.{after_cell}
 
 -- ---- marks

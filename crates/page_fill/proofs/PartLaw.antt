@@ -11,11 +11,11 @@ use Rattle.page_core_base.specs.declared.pieces.Piece.TheVariants.{Text, Split}
 use Rattle.page_core_base.specs.declared.places.Place.{Place}
 use Rattle.page_core_base.specs.Laid.{Laid, nothing, seq}
 use Rattle.page_core_base.specs.Pieces.{Item, shown}
-use Rattle.page_core_limits.specs.declared.TheConstants.{CELLS}
+use Rattle.page_core_base.specs.declared.limits.TheConstants.{CELLS}
 use Rattle.page_core_tables.specs.Printed.{char_printed, known}
-use Rattle.page_fill_steps.specs.declared.edges.Edge.{Edge}
-use Rattle.page_fill_steps.specs.declared.edges.OpenWord.{OpenWord}
-use Rattle.page_fill_steps.specs.Edges.{begun_word}
+use Rattle.page_fill.specs.declared.edges.Edge.{Edge}
+use Rattle.page_fill.specs.declared.edges.OpenWord.{OpenWord}
+use Rattle.page_fill.specs.Edges.{begun_word}
 use Rattle.page_fill_rows.specs.OpenRows.{Sheet, columns, blank}
 use Rattle.page_fill_rows.specs.Characters.{cell_of, cells_of, characters_of}
 use Rattle.page_fill_rows.specs.machine.Plain.{is_printable, is_printable_ascii}

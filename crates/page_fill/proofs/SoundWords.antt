@@ -9,12 +9,12 @@ use Rattle.page_core_base.specs.declared.places.Place.{Place}
 use Rattle.page_core_base.specs.declared.pieces.TagForm.{TagForm}
 use Rattle.page_core_base.specs.declared.pieces.TagForm.TheVariants as forms
 use Rattle.page_core_base.specs.Laid.{nothing}
-use Rattle.page_fill_steps.specs.declared.edges.OpenTag.{OpenTag}
+use Rattle.page_fill.specs.declared.edges.OpenTag.{OpenTag}
 use Rattle.page_fill_rows.specs.Characters.{characters_of}
-use Rattle.page_fill_steps.specs.declared.edges.Edge.{Edge}
-use Rattle.page_fill_steps.specs.machine.Fill.{laid_piece, text, one_character, one_glyph, tab, opening, ended, paragraph, spaced, row_ended, heading, tag_ended, after_tag, fits_hang, without_tag}
-use Rattle.page_fill_steps.specs.Edges.{is_set_in, no_word}
-use Rattle.page_fill_steps.specs.Caps.{is_sound}
+use Rattle.page_fill.specs.declared.edges.Edge.{Edge}
+use Rattle.page_fill.specs.machine.Fill.{laid_piece, text, one_character, one_glyph, tab, opening, ended, paragraph, spaced, row_ended, heading, tag_ended, after_tag, fits_hang, without_tag}
+use Rattle.page_fill.specs.Edges.{is_set_in, no_word}
+use Rattle.page_fill.specs.Caps.{is_sound}
 use Rattle.page_fill.proofs.MarkedPieces.{sound-after}
 
 opening-sound : (e : Edge) (place : Place) → is_sound e.word ≡ true → is_sound (opening e place).edge.word ≡ true

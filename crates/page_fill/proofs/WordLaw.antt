@@ -9,7 +9,7 @@ use Rattle.unicode_width.specs.Width.{char_width}
 use Rattle.page_core_base.specs.declared.cells.Cell.{Cell}
 use Rattle.page_core_base.specs.declared.places.Place.{Place}
 use Rattle.page_core_base.specs.Laid.{nothing}
-use Rattle.page_core_limits.specs.declared.TheConstants.{CELLS}
+use Rattle.page_core_base.specs.declared.limits.TheConstants.{CELLS}
 use Rattle.page_fill_rows.specs.declared.TheConstants.{TAG_COLUMNS}
 use Rattle.page_fill_rows.specs.OpenRows.{columns, cell_columns, blank}
 use Rattle.page_fill.specs.Filled.{CellOrNote, shown, Word, Frame, Row, opens, after_blanks, before_word, with_cell, first_word, Outcome, fits, too_wide, is_wide, outcome, by_word, by_blanks, one_word}

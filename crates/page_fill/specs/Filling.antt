@@ -9,10 +9,10 @@ use Rattle.page_core_base.specs.declared.pieces.TagForm.TheVariants as forms
 use Rattle.page_core_base.specs.Rows.{row_of}
 use Rattle.page_core_base.specs.Laid.{Laid, nothing, seq}
 use Rattle.page_core_base.specs.Pieces.{Item, shown, noted}
-use Rattle.page_fill_steps.specs.declared.edges.OpenTag.{OpenTag}
-use Rattle.page_fill_steps.specs.declared.edges.Edge.{Edge}
-use Rattle.page_fill_steps.specs.declared.TheConstants.{HANG_MAX, TAB_STOP}
-use Rattle.page_fill_steps.specs.Edges.{is_set_in, no_word, placed_word}
+use Rattle.page_fill.specs.declared.edges.OpenTag.{OpenTag}
+use Rattle.page_fill.specs.declared.edges.Edge.{Edge}
+use Rattle.page_fill.specs.declared.stops.TheConstants.{HANG_MAX, TAB_STOP}
+use Rattle.page_fill.specs.Edges.{is_set_in, no_word, placed_word}
 use Rattle.page_fill_rows.specs.OpenRows.{over, blank, columns, more_blank_rows}
 use Rattle.page_fill.specs.Filled.{CellOrNote, at_break}
 use Rattle.page_fill.specs.PieceWords.{cell_content, open_row_of, next_edge, words_laid, content_laid}

@@ -3,3 +3,5 @@ pub mod PieceWords
 pub mod Filling
 pub mod TakenWords
 pub mod machine
+pub mod Edges
+pub mod Caps

@@ -10,11 +10,11 @@ use Rattle.page_core_base.specs.declared.pieces.Piece.TheVariants.{Text, Glyph, 
 use Rattle.page_core_base.specs.declared.places.Place.{Place}
 use Rattle.page_core_base.specs.Messages.{Message}
 use Rattle.page_core_tables.specs.Printed.{Printing, char_printed, glyph_printed}
-use Rattle.page_fill_steps.specs.declared.edges.OpenWord.{OpenWord}
-use Rattle.page_fill_steps.specs.declared.edges.Edge.{Edge}
+use Rattle.page_fill.specs.declared.edges.OpenWord.{OpenWord}
+use Rattle.page_fill.specs.declared.edges.Edge.{Edge}
 use Rattle.page_fill_rows.specs.OpenRows.{Sheet, over, blank, more_blank_rows}
 use Rattle.page_fill_rows.specs.Characters.{cell_of, cells_of, characters_of, unknown_notes}
-use Rattle.page_fill_steps.specs.Edges.{tab_notes, begun_word, blanks_wait, opened_word, glued_word}
+use Rattle.page_fill.specs.Edges.{tab_notes, begun_word, blanks_wait, opened_word, glued_word}
 use Rattle.page_fill.specs.Filled.{CellOrNote, shown, noted, Word, Frame, Row, rest_of_word, filling}
 use Rattle.page_core_base.specs.Pieces.{Item}
 use Rattle.page_core_base.specs.Pieces as items

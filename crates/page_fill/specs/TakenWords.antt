@@ -6,7 +6,7 @@ use Rattle.page_core_base.specs.declared.cells.Font.{Font}
 use Rattle.page_core_base.specs.declared.places.Place.{Place}
 use Rattle.page_core_base.specs.Laid.{nothing}
 use Rattle.page_core_base.specs.Words.{is_word, blank_words, word_items}
-use Rattle.page_fill_steps.specs.declared.edges.Edge.{Edge}
+use Rattle.page_fill.specs.declared.edges.Edge.{Edge}
 use Rattle.page_fill.specs.Filling.{filled}
 
 -- of these bytes, which are words with a blank before each, a filler took the first words: this number of bytes. They settle nothing, and

@@ -4,15 +4,15 @@ ghost use Rattle.std.specs.Prelude.{◌≡◌, ◌≤◌, true, [], ◌∷◌, l
 ghost use Rattle.page_core_base.specs.Fails.{FailsBySink};
 ghost use Rattle.page_core_base.specs.Laid.{Gets};
 ghost use Rattle.page_core_base.specs.Pieces.{piece_of, shown};
-ghost use Rattle.page_core_limits.specs.declared.TheConstants.{CELLS};
-ghost use Rattle.page_fill_steps.specs.Caps.{FillFits, IsHeld, is_sound};
-ghost use Rattle.page_fill_steps.specs.Edges as fill;
-ghost use Rattle.page_fill_steps.specs.declared.edges.Edge.{Edge};
+ghost use Rattle.page_core_base.specs.declared.limits.TheConstants.{CELLS};
+ghost use Rattle.page_fill.specs.Caps.{FillFits, IsHeld, is_sound};
+ghost use Rattle.page_fill.specs.Edges as fill;
+ghost use Rattle.page_fill.specs.declared.edges.Edge.{Edge};
 ghost use Rattle.page_fill.specs.Filling.{filled, row_end};
 ghost use Rattle.page_fill.specs.TakenWords.{TakesFirstWords};
 
+use crate::Edge;
 use page_core_base::{Cell, Fault, Font, NoteSink, Output, Piece, RowSink, Settings};
-use page_fill_steps::Edge;
 use std::alloc::{AllocError, Global};
 use std::marker::Model;
 
@@ -29,8 +29,8 @@ pub struct Filler {
 
 impl Model for Filler {
     ghost use Rattle.std.specs.Prelude.{◌≡◌, true, Option, None, Some, if◌then◌else◌};
-    ghost use Rattle.page_fill_steps.specs.Caps.{IsHeld, is_sound};
-    ghost use Rattle.page_fill_steps.specs.declared.edges.Edge.{Edge};
+    ghost use Rattle.page_fill.specs.Caps.{IsHeld, is_sound};
+    ghost use Rattle.page_fill.specs.declared.edges.Edge.{Edge};
 
     ghost Value = { Option Edge };
 
@@ -47,8 +47,8 @@ pub struct FillerPart {
 
 impl Model for FillerPart {
     ghost use Rattle.std.specs.Prelude.{◌≡◌, true};
-    ghost use Rattle.page_fill_steps.specs.Caps.{IsHeld, is_sound};
-    ghost use Rattle.page_fill_steps.specs.declared.edges.Edge.{Edge};
+    ghost use Rattle.page_fill.specs.Caps.{IsHeld, is_sound};
+    ghost use Rattle.page_fill.specs.declared.edges.Edge.{Edge};
 
     ghost Value = { Edge };
 

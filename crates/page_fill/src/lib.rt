@@ -4,16 +4,24 @@
 //! sink. Between two breaks stands a list of words, each with the blanks before it; a row takes them up to the first one that passes its
 //! width. So says the definition in words that all contracts here cite: read `filled` in `specs/Filling.antt` first, and then [`Filler`].
 //!
+//! What the code does is a machine: one piece after another goes into the open row ([`Edge`], which is all that is held between two pieces), and rows
+//! go out as they are settled (`specs/machine/Fill.antt`, which you need not read to trust the result).
+//!
 //! Proved: `Filler` (`new`, `piece`, `take_words`, `finish`): what a piece settles is `filled` (`specs/Filling.antt`), and the end is `row_end`:
 //! groups of words fill rows by recursion on words, each row up to its first offending cell. `Filler::part`, `Filler::from_part`: what is held
 //! between two pieces. `caps_law`: it is within its limits. `words_law`: piece by piece is `filled` of the whole list, cut anywhere. `word_law`,
 //! `part_law`, `glue_law`: where a row ends; no row is wider unless its first part is; glued texts are one word.
 #![tactic(auto)]
 
+mod edges;
 mod fillers;
 mod laws;
+mod pieces;
+mod stops;
+mod taken_words;
 
+pub use edges::Edge;
 pub use fillers::{Filler, FillerPart};
 pub use laws::{glue_law, part_law, word_law, words_law};
 pub use page_core_base::{Piece, PieceSink, TagForm};
-pub use page_fill_steps::{HANG_MAX, TAB_STOP};
+pub use stops::{HANG_MAX, TAB_STOP};

@@ -4,7 +4,7 @@ use Rattle.std.proofs.lemmas.Bool.Decides.{nat_tests}
 use Rattle.page_core_base.specs.declared.cells.Font.{Font}
 use Rattle.page_core_base.specs.declared.places.Place.{Place}
 use Rattle.page_core_base.specs.Laid.{nothing, seq}
-use Rattle.page_core_limits.specs.declared.TheConstants.{CELLS}
+use Rattle.page_core_base.specs.declared.limits.TheConstants.{CELLS}
 use Rattle.page_fill_rows.specs.machine.Sheets.{Sheet, columns, letters, new_word, opens, space, spaces}
 use Rattle.page_fill_rows.specs.Characters.{cells_of}
 use Rattle.page_fill_rows.specs.machine.Plain.{ends_before, has_room, has_word_room, is_printable_ascii, spaced_by, taken, wraps_plain}

@@ -11,7 +11,7 @@ use Rattle.page_core_base.specs.declared.places.Place.{Place}
 use Rattle.page_core_base.specs.Laid.{nothing}
 use Rattle.page_core_tables.specs.Printed.{char_printed, known}
 use Rattle.page_fill_rows.specs.machine.Sheets.{Sheet, cell_columns, columns, counted, passes, blank, letter, letters, space, spaces}
-use Rattle.page_core_limits.specs.declared.TheConstants.{CELLS}
+use Rattle.page_core_base.specs.declared.limits.TheConstants.{CELLS}
 use Rattle.page_fill_rows.specs.declared.TheConstants.{TAG_COLUMNS}
 use Rattle.page_fill_rows.specs.Characters.{cell_of, cells_of, character, characters, characters_of}
 use Rattle.page_fill_rows.specs.machine.Room.{IsSound}

@@ -9,7 +9,7 @@ use Rattle.page_core_base.specs.declared.cells.Font.{Font}
 use Rattle.page_core_base.specs.declared.places.Place.{Place}
 use Rattle.page_core_base.specs.Laid.{Laid, nothing, join}
 use Rattle.page_core_base.specs.Rows.{row_of}
-use Rattle.page_core_limits.specs.declared.TheConstants.{CELLS}
+use Rattle.page_core_base.specs.declared.limits.TheConstants.{CELLS}
 use Rattle.page_fill_rows.specs.declared.TheConstants.{TAG_COLUMNS}
 use Rattle.page_fill_rows.specs.machine.Sheets.{Sheet, blank, cell_columns, columns, counted, emptied, given, gives, letter, letters, opens, over, passes, space, wraps}
 use Rattle.page_fill_rows.specs.Characters.{cell_of, cells_of}

@@ -7,9 +7,9 @@ use Rattle.page_core_base.specs.declared.places.Place.{Place}
 use Rattle.page_core_base.specs.Messages.{Message, message_about}
 use Rattle.page_core_base.specs.Laid.{Laid}
 use Rattle.page_core_tables.specs.Printed.{char_columns}
-use Rattle.page_core_limits.specs.Limits.{name_of}
-use Rattle.page_core_limits.specs.Limits.{CELLS}
-use Rattle.page_core_limits.specs.declared.Limit.TheVariants.{Cells}
+use Rattle.page_core_base.specs.Limits.{name_of}
+use Rattle.page_core_base.specs.Limits.{CELLS}
+use Rattle.page_core_base.specs.declared.limits.Limit.TheVariants.{Cells}
 use Rattle.page_fill_rows.specs.declared.TheConstants.{BLANK_ROWS}
 
 -- the columns of a cell, and of cells

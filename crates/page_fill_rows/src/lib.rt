@@ -2,7 +2,7 @@
 //!
 //! In the pipeline (bytes, lines, roff, macro set, scopes, filling, rows) it is the last step: an [`OpenRow`] takes cells and blanks, and
 //! gives each row to a sink as soon as no later cell can change it. It knows words only by their places in the row; what a word is stands
-//! in `page_fill_steps`. Read `Sheet` in `specs/OpenRows.antt` first, which is all that a row holds, and then `specs/Characters.antt`.
+//! in `page_fill`. Read `Sheet` in `specs/OpenRows.antt` first, which is all that a row holds, and then `specs/Characters.antt`.
 //!
 //! Proved: `OpenRow`, `put_character`, `put_characters`, `put_glyph`, `put_plain`, `printable_len`, `word_start`: what the open row is after each
 //! call, and the rows and messages that the call settles (`specs/Characters.antt`, `specs/machine/Sheets.antt` and `Plain.antt`). `plain_law`:

@@ -12,8 +12,7 @@ ghost use Rattle.page_fill_rows.specs.machine.Sheets as sheet;
 use crate::cell_widths::{BLANK, cell_columns, columns, is_blank};
 use crate::row_cells::RowCells;
 use crate::{BLANK_ROWS, TAG_COLUMNS};
-use page_core_base::{Cell, Font, Note, NoteKind, Place, RowOut};
-use page_core_limits::{CELLS, Limit};
+use page_core_base::{CELLS, Cell, Font, Limit, Note, NoteKind, Place, RowOut};
 use std::alloc::{AllocError, Global};
 use std::marker::Model;
 

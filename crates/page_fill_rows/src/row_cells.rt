@@ -8,8 +8,7 @@ ghost use Rattle.page_fill_rows.specs.machine.Sheets as sheet;
 
 use crate::cell_widths::BLANK;
 use crate::plain_texts::all_printable;
-use page_core_base::{Cell, Font};
-use page_core_limits::CELLS;
+use page_core_base::{CELLS, Cell, Font};
 use std::alloc::{AllocError, Global};
 use std::marker::Model;
 use std::mem;
@@ -30,7 +29,7 @@ pub(crate) struct RowCells {
 impl Model for RowCells {
     ghost use Rattle.std.specs.Prelude.{◌≡◌, ◌≤◌, List, length, take};
     ghost use Rattle.page_core_base.specs.declared.cells.Cell.{Cell};
-    ghost use Rattle.page_core_limits.specs.declared.TheConstants.{CELLS};
+    ghost use Rattle.page_core_base.specs.declared.limits.TheConstants.{CELLS};
 
     ghost Value = { List Cell };
 

@@ -7,9 +7,9 @@ use Rattle.page_roff_blocks.specs.declared.line_parts.LinePart.{LinePart}
 use Rattle.page_roff_blocks.specs.declared.line_parts.LinePart.TheVariants.{Leaf, Guard, Block, Loop, End, Region}
 use Rattle.page_roff_blocks.specs.declared.line_parts.Head.{Head}
 use Rattle.page_roff_blocks.specs.declared.line_parts.Opening.{Opening}
-use Rattle.page_roff_regions.specs.declared.regions.RegionHead.{RegionHead}
+use Rattle.page_roff_syntax.specs.declared.region_heads.RegionHead.{RegionHead}
 use Rattle.page_roff_blocks.specs.LineParts.{line_parts}
-use Rattle.page_roff_regions.specs.Regions.{end_name, is_ending}
+use Rattle.page_roff_syntax.specs.RegionHeads.{end_name, is_ending}
 
 -- siblings, each with those that follow it
 pub data Forest (X : Type 0) : Type 0 where

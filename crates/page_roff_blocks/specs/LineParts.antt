@@ -1,7 +1,7 @@
 -- The parts of a raw line, found from its text alone. Source: roff(7), "if", "ie", "el", "while".
 use Rattle.std.specs.Prelude.{◌≡◌, ℕ, zero, suc, ◌+◌, ◌≤◌, Bool, true, false, List, [], ◌∷◌, length, Option, Some, None, MatchOption}
 use Rattle.std.specs.Borrow.{Bor}
-use Rattle.page_core_limits.specs.Limits.{LINE}
+use Rattle.page_core_base.specs.Limits.{LINE}
 use Rattle.page_roff_heads.specs.Conditions.{condition_view, FitsTest}
 use Rattle.page_roff_heads.specs.declared.loops.LoopHead.{LoopHead}
 use Rattle.page_roff_blocks.specs.declared.line_parts.LinePart.{LinePart}
@@ -14,7 +14,7 @@ use Rattle.page_roff_blocks.specs.declared.line_parts.Opening.TheVariants as ope
 use Rattle.page_roff_blocks.specs.declared.parts.Part.{Part}
 use Rattle.page_roff_blocks.specs.Loops.{first_text}
 use Rattle.page_roff_blocks.specs.Parts.{written_part}
-use Rattle.page_roff_regions.specs.Regions.{region_view, text_view}
+use Rattle.page_roff_syntax.specs.RegionHeads.{region_view, text_view}
 
 -- of what follows the block of a loop on its line, only what belongs to the loop
 abbrev pub loop_body : Option (List ℕ) → Option (List ℕ)

@@ -25,7 +25,7 @@ use Rattle.page_roff_blocks.specs.declared.parts.Part.{Part}
 use Rattle.page_roff_syntax.specs.Requests.{request_of}
 use Rattle.page_roff_syntax.specs.declared.requests.Request.{Request}
 use Rattle.page_roff_syntax.specs.declared.requests.Request.TheVariants as requests
-use Rattle.page_roff_regions.specs.Regions.{region_head}
+use Rattle.page_roff_syntax.specs.RegionHeads.{region_head}
 
 -- what a control line of a name heads
 abbrev pub keyword_in : Option Request → Keyword

@@ -1,7 +1,7 @@
 //! Where a source stands in a line (roff(7), "if", "ie", "el", "while").
 
 ghost use Rattle.std.specs.Prelude.{◌≡◌, ◌<◌, ◌≤◌, ◌^◌, true, length};
-ghost use Rattle.page_core_limits.specs.declared.TheConstants.{CONDS};
+ghost use Rattle.page_core_base.specs.declared.limits.TheConstants.{CONDS};
 ghost use Rattle.page_roff_blocks.specs.Levels.{outside, at_line, passed, reached};
 
 use crate::levels::{Answer, Levels};

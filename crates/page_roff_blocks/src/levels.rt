@@ -1,13 +1,13 @@
 //! The levels of the blocks of one source (roff(7), "if", "ie", "el", "while").
 
 ghost use Rattle.std.specs.Prelude.{◌≡◌, ◌<◌, ◌≤◌, ◌^◌, length};
-ghost use Rattle.page_core_limits.specs.declared.TheConstants.{CONDS};
+ghost use Rattle.page_core_base.specs.declared.limits.TheConstants.{CONDS};
 ghost use Rattle.page_roff_blocks.specs.LineParts.{branch_view};
 ghost use Rattle.page_roff_blocks.specs.Levels.{outside, bit_after, answered, way_of, enter, open_loop, skip, leave, what_ends};
 
 use crate::line_parts::Branch;
 use arrayvec::ArrayVec;
-use page_core_limits::CONDS;
+use page_core_base::CONDS;
 use std::marker::Model;
 
 /// How a block is entered.

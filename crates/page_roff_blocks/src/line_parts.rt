@@ -3,7 +3,7 @@
 ghost use Rattle.std.specs.Prelude.{◌≡◌};
 
 use page_roff_heads::{Condition, LoopHead};
-use page_roff_regions::RegionHead;
+use page_roff_syntax::RegionHead;
 use std::alloc::AllocError;
 
 /// What the head of a conditional asks; `W` is a text.

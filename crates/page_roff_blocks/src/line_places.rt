@@ -1,16 +1,16 @@
 //! Places in a raw line, between its parts (roff(7), "if", "ie", "el", "while").
 
 ghost use Rattle.std.specs.Prelude.{◌≡◌, ◌≤◌, ◌∷◌, false, length, drop, IfSome};
-ghost use Rattle.page_core_limits.specs.declared.TheConstants.{LINE};
+ghost use Rattle.page_core_base.specs.declared.limits.TheConstants.{LINE};
 ghost use Rattle.page_roff_blocks.specs.LineParts.{line_part_view, line_parts, FitsLinePart, ReadsNext};
 ghost use Rattle.page_roff_blocks.specs.declared.line_parts.LinePart.TheVariants.{Leaf};
 ghost use Rattle.page_roff_blocks.specs.machine.LinePlaces.{parts_at, line_end, is_at_end, is_block, opens_block, place_after, IsPlaceIn, IsEndOf};
-ghost use Rattle.page_roff_regions.specs.Regions.{text_view};
+ghost use Rattle.page_roff_syntax.specs.RegionHeads.{text_view};
 
 use crate::line_parts::LinePart;
 use crate::loops::part_of;
 use crate::parts::{is_leaf, written_part};
-use page_core_limits::LINE;
+use page_core_base::LINE;
 
 /// A place in a raw line, between two of its parts.
 #[derive(Clone, Copy)]

@@ -1,15 +1,15 @@
 //! What of a raw line belongs to a loop (roff(7), "while").
 
 ghost use Rattle.std.specs.Prelude.{◌≡◌, ◌≤◌, ◌<◌, ◌+◌, ◌^◌, true, length, IfSome};
-ghost use Rattle.page_core_limits.specs.declared.TheConstants.{LINE};
+ghost use Rattle.page_core_base.specs.declared.limits.TheConstants.{LINE};
 ghost use Rattle.page_roff_blocks.specs.LineParts.{line_part_view, opening_view, part_of, part_view, whole_opening, FitsOpening, FitsPart, FitsRest};
 ghost use Rattle.page_roff_blocks.specs.Loops.{blocks_left, blocks_after, before_end, some_text, len_of, loop_text, first_text};
-ghost use Rattle.page_roff_regions.specs.Regions.{text_view};
+ghost use Rattle.page_roff_syntax.specs.RegionHeads.{text_view};
 
 use crate::line_parts::{LinePart, Opening};
 use crate::line_places::place_after;
 use crate::parts::{Part, written_part};
-use page_core_limits::LINE;
+use page_core_base::LINE;
 use page_roff_heads::LoopHead;
 
 // The blocks that are open in a loop after the end of one, or none where the loop itself ends.

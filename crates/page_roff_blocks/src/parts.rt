@@ -1,7 +1,7 @@
 //! The first part of a raw line (roff(7), "if", "ie", "el", "while").
 
 ghost use Rattle.std.specs.Prelude.{◌≡◌, ◌≤◌, ◌+◌, true, [], ◌∷◌, length, Some};
-ghost use Rattle.page_core_limits.specs.declared.TheConstants.{LINE};
+ghost use Rattle.page_core_base.specs.declared.limits.TheConstants.{LINE};
 ghost use Rattle.page_roff_syntax.specs.LineForms.{form_of, name_of};
 ghost use Rattle.page_roff_heads.specs.Heads.{conditional_of, guarded_of, guarded_view, FitsGuarded};
 ghost use Rattle.page_roff_heads.specs.Loops.{loop_of, loop_view, FitsLoop};
@@ -12,15 +12,16 @@ ghost use Rattle.page_roff_blocks.specs.LineParts.{head_view, part_view, line_pa
 ghost use Rattle.page_roff_blocks.specs.Parts.{keyword_of, rest_text, head_part, conditional_part, else_part, loop_part, end_part, plain_part, written_part};
 ghost use Rattle.page_roff_blocks.specs.Parts.{columns_of, named_part};
 ghost use Rattle.page_roff_blocks.specs.declared.parts.Keyword.TheVariants as keywords;
-ghost use Rattle.page_roff_regions.specs.Regions.{text_view};
+ghost use Rattle.page_roff_syntax.specs.RegionHeads.{text_view};
 
 use crate::line_parts::{Branch, Head, LinePart, Opening};
-use page_core_limits::LINE;
+use page_core_base::LINE;
 use page_roff_heads::{
     Guarded, LoopHead, LoopRead, Placed, block_end, read_conditional, read_guarded, read_loop,
 };
-use page_roff_regions::region_head;
-use page_roff_syntax::{LineForm, RegionKind, Request, control_name, form_of, white_len};
+use page_roff_syntax::{
+    LineForm, RegionKind, Request, control_name, form_of, region_head, white_len,
+};
 use std::alloc::AllocError;
 
 // What a control line heads.

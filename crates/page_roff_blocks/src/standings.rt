@@ -1,10 +1,10 @@
 //! Where a page stands between two lines (roff(7), "if", "while", "de").
 
 ghost use Rattle.std.specs.Prelude.{◌≡◌};
-ghost use Rattle.page_roff_regions.specs.OpenRegions.{opened_view};
+ghost use Rattle.page_roff_syntax.specs.OpenRegions.{opened_view};
 
 use crate::levels::Levels;
-use page_roff_regions::OpenRegion;
+use page_roff_syntax::OpenRegion;
 use std::marker::Model;
 
 /// Where a page stands between two lines: its open region, and the levels of its blocks.

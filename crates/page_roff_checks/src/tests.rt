@@ -1,8 +1,7 @@
 //! The cases of each rule, cut whole, byte by byte, and in two chunks at each point.
 ghost use Rattle.std.specs.Prelude.{◌≡◌, ◌+◌, ◌^◌, ◌<◌, ◌≤◌, length, false, true, OnOk};
 
-use page_core_base::{Encoding, Fault, Note, NoteKind, NoteSink};
-use page_core_limits::LINE;
+use page_core_base::{Encoding, Fault, LINE, Note, NoteKind, NoteSink};
 use page_core_streams::KeptNotes;
 use page_roff::Cutter;
 use std::alloc::Global;

@@ -3,9 +3,9 @@ use Rattle.std.specs.Prelude.{◌≡◌, ℕ, ◌+◌, ◌≤◌, length, Bool, 
 use Rattle.page_core_base.specs.Messages.{Message, message_about}
 use Rattle.page_core_base.specs.declared.note_kinds.NoteKind.TheVariants as kinds
 use Rattle.page_core_base.specs.declared.places.Place.{Place}
-use Rattle.page_core_limits.specs.Limits.{LINE}
-use Rattle.page_core_limits.specs.declared.Limit.{Limit}
-use Rattle.page_core_limits.specs.Limits.{name_of}
+use Rattle.page_core_base.specs.Limits.{LINE}
+use Rattle.page_core_base.specs.declared.limits.Limit.{Limit}
+use Rattle.page_core_base.specs.Limits.{name_of}
 use Rattle.page_core_numbers.specs.Numbers.{in_range}
 use Rattle.page_roff_syntax.specs.Arguments.{arguments, argument_name}
 use Rattle.page_roff_syntax.specs.declared.quotes.Argument.{Argument}

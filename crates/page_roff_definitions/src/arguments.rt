@@ -8,8 +8,7 @@ ghost use Rattle.page_roff_definitions.specs.Arguments as ends;
 ghost use Rattle.page_roff_definitions.specs.Arguments.{closing_notes, closings_notes, end_of, after_blanks, without_quote, value_after};
 
 use memchr::memchr;
-use page_core_base::{Note, NoteKind, NoteOut, Place};
-use page_core_limits::LINE;
+use page_core_base::{LINE, Note, NoteKind, NoteOut, Place};
 use page_roff_syntax::{Argument, Arguments, Quoting};
 
 // Reports an argument without its closing quote, at its opening one.

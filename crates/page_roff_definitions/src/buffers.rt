@@ -2,12 +2,11 @@
 
 ghost use Rattle.std.specs.Prelude.{◌≡◌, ◌≤◌, length, IfOk, IfSome, None, Some};
 ghost use Rattle.page_core_base.specs.LinesTaken.{line_view};
-ghost use Rattle.page_core_limits.specs.declared.TheConstants.{BODY, LINE};
+ghost use Rattle.page_core_base.specs.declared.limits.TheConstants.{BODY, LINE};
 ghost use Rattle.page_roff_definitions.specs.machine.Buffers.{no_line, AddsLine};
 ghost use Rattle.page_roff_syntax.specs.Regions.{text_view};
 
-use page_core_base::{BoundedText, Form, Taken};
-use page_core_limits::{BODY, LINE};
+use page_core_base::{BODY, BoundedText, Form, LINE, Taken};
 use std::alloc::{AllocError, Global};
 use std::marker::Model;
 

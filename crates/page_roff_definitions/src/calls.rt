@@ -2,15 +2,14 @@
 
 ghost use Rattle.std.specs.Prelude.{◌≡◌, ℕ, true, ◌≤◌, ◌+◌, [], ◌∷◌, ◌++◌, length, nat_le, IfOk};
 ghost use Rattle.std.specs.Vec.{vec_len, vec_capacity};
-ghost use Rattle.page_core_limits.specs.declared.TheConstants.{BODY, LINE};
+ghost use Rattle.page_core_base.specs.declared.limits.TheConstants.{BODY, LINE};
 ghost use Rattle.page_roff_syntax.specs.Arguments.{argument_view, argument_value, arguments, unpaired};
 ghost use Rattle.page_roff_definitions.specs.Arguments.{closing_notes, closings_notes};
 ghost use Rattle.page_roff_definitions.specs.machine.Buffers.{no_call, Packs};
 ghost use Rattle.page_roff_definitions.specs.Calls.{packed};
 
 use memchr::memchr;
-use page_core_base::BoundedText;
-use page_core_limits::{ARGS, BODY, LINE};
+use page_core_base::{ARGS, BODY, BoundedText, LINE};
 use page_roff_syntax::{Argument, Arguments, Quoting, after_byte};
 use std::alloc::{AllocError, Global};
 use std::marker::Model;
@@ -111,7 +110,7 @@ pub struct CallBuffer {
 impl Model for CallBuffer {
     ghost use Rattle.std.specs.Prelude.{◌≤◌, ◌+◌};
     ghost use Rattle.std.specs.Vec.{vec_capacity};
-    ghost use Rattle.page_core_limits.specs.declared.TheConstants.{ARGS, LINE};
+    ghost use Rattle.page_core_base.specs.declared.limits.TheConstants.{ARGS, LINE};
     ghost use Rattle.page_roff_definitions.specs.Calls.{Call};
 
     ghost Value = { Call };

@@ -1,7 +1,7 @@
 //! The requests that define strings and number registers, and take definitions away (roff(7)).
 
 ghost use Rattle.std.specs.Prelude.{◌≡◌, ◌≤◌, ◌+◌, length};
-ghost use Rattle.page_core_limits.specs.declared.TheConstants.{LINE};
+ghost use Rattle.page_core_base.specs.declared.limits.TheConstants.{LINE};
 ghost use Rattle.page_roff_syntax.specs.Arguments.{arguments, argument_view};
 ghost use Rattle.page_core_base.specs.Latches.{Came};
 ghost use Rattle.page_roff_definitions.specs.Arguments.{first_text};
@@ -9,8 +9,7 @@ ghost use Rattle.page_roff_definitions.specs.Definitions as defining;
 ghost use Rattle.page_roff_definitions.specs.Definitions.{Does, FitsRequest};
 
 use crate::arguments::{report_closings, value_after};
-use page_core_base::{Note, NoteKind, NoteOut, Place};
-use page_core_limits::Limit;
+use page_core_base::{Limit, Note, NoteKind, NoteOut, Place};
 use page_roff_names::Names;
 use page_roff_syntax::{Arguments, DefinitionRequest};
 use page_roff_values::expression;

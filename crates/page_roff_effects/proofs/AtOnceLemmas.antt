@@ -1,7 +1,7 @@
 -- Lines that are taken as they are written: helpers of proofs.
 use Rattle.std.proofs.Common.{◌≡◌, ℕ, ◌≤◌, ◌==◌, Bool, false, List, length, refl, ap}
 use Rattle.std.specs.List.{prefix_len}
-use Rattle.page_core_limits.specs.declared.TheConstants.{LINE}
+use Rattle.page_core_base.specs.declared.limits.TheConstants.{LINE}
 use Rattle.page_core_base.specs.declared.lines_taken.Form.TheVariants as forms
 use Rattle.page_roff_syntax.specs.LineForms.{is_plain, begins_control}
 use Rattle.page_roff_values.specs.machine.Verbatim.{GivesItself}

@@ -1,7 +1,7 @@
 -- A call that a line gives is within its limits: helpers of proofs.
 use Rattle.std.proofs.Common.{◌≡◌, ℕ, ◌≤◌, nat_le, Bool, true, false, ◌==◌, ◌&&◌, List, [], length, Option, Some, None, unwrap_or, refl, if◌then◌else◌, arith}
 use Rattle.std.proofs.lemmas.Bool.Decides.{nat_tests}
-use Rattle.page_core_limits.specs.declared.TheConstants.{ARGS, BODY}
+use Rattle.page_core_base.specs.declared.limits.TheConstants.{ARGS, BODY}
 use Rattle.page_roff_syntax.specs.LineForms.{form_of}
 use Rattle.page_roff_syntax.specs.declared.line_forms.LineForm.{LineForm}
 use Rattle.page_roff_syntax.specs.declared.line_forms.LineForm.TheVariants.{Comment, BlankLine, Text, Control}

@@ -1,8 +1,8 @@
 -- How many interpolations a part makes: helpers of proofs.
 use Rattle.std.proofs.Common.{◌≡◌, ℕ, ◌+◌, ◌-◌, ◌≤◌, ◌==◌, Bool, true, false, is_some, List, [], length, Option, Some, None, refl, ap, ◌∙◌, arith, if◌then◌else◌}
 use Rattle.page_core_base.specs.declared.places.Place.{Place}
-use Rattle.page_roff_regions.specs.OpenRegions.{Opened}
-use Rattle.page_roff_regions.specs.declared.regions.RegionHead.{RegionHead}
+use Rattle.page_roff_syntax.specs.OpenRegions.{Opened}
+use Rattle.page_roff_syntax.specs.declared.region_heads.RegionHead.{RegionHead}
 use Rattle.page_roff_syntax.specs.declared.regions.RegionKind.{RegionKind}
 use Rattle.page_roff_syntax.specs.declared.regions.RegionKind.TheVariants.{Define, Append, Ignore, Table, Equation, Picture}
 use Rattle.page_roff_syntax.specs.LineForms.{form_of}
@@ -12,11 +12,11 @@ use Rattle.page_roff_heads.specs.declared.conditions.Condition.{Condition}
 use Rattle.page_roff_heads.specs.declared.conditions.Test.{Test}
 use Rattle.page_roff_heads.specs.declared.conditions.Test.TheVariants.{Always, Unknown, IsDefined, IsRegister, Expression, Texts, Missing}
 use Rattle.page_roff_heads.specs.declared.loops.LoopHead.{LoopHead}
-use Rattle.page_core_limits.specs.declared.TheConstants.{EXPAND}
+use Rattle.page_core_base.specs.declared.limits.TheConstants.{EXPAND}
 use Rattle.page_roff_values.specs.Environments.{Surroundings}
 use Rattle.page_roff_values.specs.Values.{Spot, Laid, IsWithin, start, expanded, NEST}
 use Rattle.page_roff_values.proofs.LineLemmas.{value_within}
-use Rattle.page_roff_conditions.specs.Answers.{Answer, condition_answer, test_answer, unless_cut, expands, bytes_between}
+use Rattle.page_roff_effects.specs.Answers.{Answer, condition_answer, test_answer, unless_cut, expands, bytes_between}
 use Rattle.page_roff_language.specs.Languages.{Kind, state_of}
 use Rattle.page_roff_language.specs.Spent.{Spends}
 use Rattle.page_roff_effects.specs.declared.commands.Command.{Command}

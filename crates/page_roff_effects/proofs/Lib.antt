@@ -4,3 +4,4 @@ pub mod ControlLemmas
 pub mod CountLemmas
 pub mod GivenLemmas
 pub mod PlainLemmas
+pub mod AlikeLemmas

@@ -1,6 +1,6 @@
 -- How much is remembered between two lines. Source: roff(7), "ds", "de"; mandoc(1), "DIAGNOSTICS".
 use Rattle.std.specs.Prelude.{◌≤◌, length, IfSome}
-use Rattle.page_core_limits.specs.Limits.{BODY}
+use Rattle.page_core_base.specs.Limits.{BODY}
 use Rattle.page_roff_names.specs.Caps.{DefinitionsFit}
 use Rattle.page_roff_effects.specs.States.{Memory}
 

@@ -1,6 +1,6 @@
 -- What the name of a control line stands for. Source: roff(7), "MACRO SYNTAX" and "REQUEST REFERENCE".
 use Rattle.std.specs.Prelude.{ℕ, Bool, false, nat_le, List, length, if◌then◌else◌, Option, Some, None}
-use Rattle.page_core_limits.specs.Limits.{BODY}
+use Rattle.page_core_base.specs.Limits.{BODY}
 use Rattle.page_roff_names.specs.Names.{Definitions, body_of}
 use Rattle.page_roff_syntax.specs.Requests.{request_of}
 use Rattle.page_roff_syntax.specs.declared.requests.Request.{Request}

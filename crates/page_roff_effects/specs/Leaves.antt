@@ -9,7 +9,7 @@ use Rattle.page_roff_syntax.specs.LineForms.{form_of, without_comment}
 use Rattle.page_roff_syntax.specs.declared.line_forms.LineForm.{LineForm}
 use Rattle.page_roff_syntax.specs.declared.line_forms.LineForm.TheVariants.{Comment, BlankLine, Text, Control}
 use Rattle.page_roff_syntax.specs.declared.quotes.Argument.{Argument}
-use Rattle.page_core_limits.specs.Limits.{ARGS}
+use Rattle.page_core_base.specs.Limits.{ARGS}
 use Rattle.page_roff_values.specs.Values.{Laid, expanded}
 use Rattle.page_roff_definitions.specs.Arguments.{closings_notes}
 use Rattle.page_roff_definitions.specs.Definitions.{Outcome, outcome_of}
@@ -19,8 +19,8 @@ use Rattle.page_roff_effects.specs.declared.commands.Command.TheVariants.{Call, 
 use Rattle.page_roff_effects.specs.Commands.{called_body, command_of, copies}
 use Rattle.page_roff_effects.specs.States.{Memory, call_product, no_product, nothing, reports, reports_at, gives_line, after_notes, at, with_definitions, counted, Setting, surroundings}
 use Rattle.page_roff_effects.specs.States as states
-use Rattle.page_core_limits.specs.Limits.{name_of}
-use Rattle.page_core_limits.specs.declared.Limit.TheVariants as limits
+use Rattle.page_core_base.specs.Limits.{name_of}
+use Rattle.page_core_base.specs.declared.limits.Limit.TheVariants as limits
 
 -- ---- calls
 

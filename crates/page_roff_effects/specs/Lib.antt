@@ -6,3 +6,4 @@ pub mod LoopLines
 pub mod RegionLines
 pub mod States
 pub mod machine
+pub mod Answers

@@ -1,7 +1,7 @@
 -- What the heads, the lines and the turns of loops do. Source: roff(7), "while"; mandoc(1), "input stack limit exceeded, infinite loop?".
 use Rattle.std.specs.Prelude.{ℕ, Bool, true, false, List, [], ◌∷◌, drop, Option, Some, None}
-use Rattle.page_core_limits.specs.declared.Limit.TheVariants as limits
-use Rattle.page_core_limits.specs.Limits.{name_of}
+use Rattle.page_core_base.specs.declared.limits.Limit.TheVariants as limits
+use Rattle.page_core_base.specs.Limits.{name_of}
 use Rattle.page_core_base.specs.declared.note_kinds.NoteKind.TheVariants as kinds
 use Rattle.page_roff_heads.specs.declared.loops.LoopHead.{LoopHead}
 use Rattle.page_roff_values.specs.Arguments.{lines_in}

@@ -1,15 +1,15 @@
 -- What the heads and the lines of regions do. Source: roff(7), "de", "am", "ig"; mandoc(1), "unsupported".
 use Rattle.std.specs.Prelude.{ℕ, Bool, true, false, nat_le, is_some, List, [], ◌∷◌, ◌++◌, length, codes, if◌then◌else◌, Option, Some, None, unwrap_or}
-use Rattle.page_core_limits.specs.Limits.{BODY}
-use Rattle.page_core_limits.specs.declared.Limit.TheVariants as limits
-use Rattle.page_core_limits.specs.Limits.{name_of}
+use Rattle.page_core_base.specs.Limits.{BODY}
+use Rattle.page_core_base.specs.declared.limits.Limit.TheVariants as limits
+use Rattle.page_core_base.specs.Limits.{name_of}
 use Rattle.page_core_base.specs.Messages.{Message, message_about}
 use Rattle.page_core_base.specs.declared.lines_taken.Form.TheVariants as forms
 use Rattle.page_core_base.specs.declared.note_kinds.NoteKind.TheVariants as kinds
 use Rattle.page_core_base.specs.declared.places.Place.{Place}
-use Rattle.page_roff_regions.specs.OpenRegions.{Opened, within_limit}
-use Rattle.page_roff_regions.specs.Regions.{has_long_name, macro_name}
-use Rattle.page_roff_regions.specs.declared.regions.RegionHead.{RegionHead}
+use Rattle.page_roff_syntax.specs.OpenRegions.{Opened, within_limit}
+use Rattle.page_roff_syntax.specs.RegionHeads.{has_long_name, macro_name}
+use Rattle.page_roff_syntax.specs.declared.region_heads.RegionHead.{RegionHead}
 use Rattle.page_roff_syntax.specs.declared.regions.RegionKind.{RegionKind}
 use Rattle.page_roff_syntax.specs.declared.regions.RegionKind.TheVariants.{Define, Append, Ignore, Table, Equation, Picture}
 use Rattle.page_roff_syntax.specs.Regions.{region_name}

@@ -2,7 +2,7 @@
 
 ghost use Rattle.std.specs.Prelude.{◌≡◌, ◌≤◌, [], ◌∷◌, false, length, IfOk, None, Some};
 ghost use Rattle.page_core_base.specs.LinesTaken.{line_view};
-ghost use Rattle.page_core_limits.specs.declared.TheConstants.{ARGS, LINE};
+ghost use Rattle.page_core_base.specs.declared.limits.TheConstants.{ARGS, LINE};
 ghost use Rattle.page_roff_heads.specs.Conditions.{condition_view, test_view, FitsTest};
 ghost use Rattle.page_roff_values.specs.Arguments.{arguments_in};
 ghost use Rattle.page_roff_values.specs.machine.Views.{surroundings_of};
@@ -14,10 +14,9 @@ ghost use Rattle.page_roff_effects.specs.Effects.{answer_of, turn_answer, budget
 ghost use Rattle.page_core_base.specs.Messages.{message_about};
 ghost use Rattle.page_core_base.specs.Latches.{Came};
 
+use crate::holds;
 use crate::memories::Remembered;
-use page_core_base::{Note, NoteKind, NoteOut, Output, Place, Taken};
-use page_core_limits::{ARGS, Limit};
-use page_roff_conditions::holds;
+use page_core_base::{ARGS, Limit, Note, NoteKind, NoteOut, Output, Place, Taken};
 use page_roff_definitions::{BodyBuffer, CallBuffer, LineBuffer};
 use page_roff_heads::{Condition, read_condition};
 use page_roff_names::Names;
@@ -170,7 +169,7 @@ impl Actions {
 
     /// Lends the line that was taken last, of at most [`LINE`] bytes.
     ///
-    /// [`LINE`]: page_core_limits::LINE
+    /// [`LINE`]: page_core_base::LINE
     pub fn line(&self) -> Taken<'_>
         ensures line { line_view result ≡ self.now.line }
         ensures short { length result.text.now ≤ LINE }

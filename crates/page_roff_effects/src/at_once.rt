@@ -1,7 +1,7 @@
 //! Lines that are taken at once, as they are written: most of a page is made of them (roff(7), "LANGUAGE SYNTAX").
 
 ghost use Rattle.std.specs.Prelude.{◌≡◌, ◌≤◌, [], ◌∷◌, true, length};
-ghost use Rattle.page_core_limits.specs.declared.TheConstants.{LINE};
+ghost use Rattle.page_core_base.specs.declared.limits.TheConstants.{LINE};
 ghost use Rattle.page_roff_blocks.specs.declared.line_parts.LinePart.TheVariants.{Leaf};
 ghost use Rattle.page_roff_blocks.specs.LineParts.{line_parts};
 ghost use Rattle.page_roff_syntax.specs.LineForms.{form_of, name_of};

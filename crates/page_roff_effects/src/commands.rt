@@ -1,11 +1,11 @@
 //! What the name of a control line stands for (roff(7), "MACRO SYNTAX" and "REQUEST REFERENCE").
 
 ghost use Rattle.std.specs.Prelude.{◌≡◌, ◌≤◌, [], length, IfSome, is_some, unwrap_or};
-ghost use Rattle.page_core_limits.specs.declared.TheConstants.{BODY};
-ghost use Rattle.page_roff_regions.specs.Regions.{text_view};
+ghost use Rattle.page_core_base.specs.declared.limits.TheConstants.{BODY};
+ghost use Rattle.page_roff_syntax.specs.RegionHeads.{text_view};
 ghost use Rattle.page_roff_effects.specs.Commands as named;
 
-use page_core_limits::BODY;
+use page_core_base::BODY;
 use page_roff_definitions::is_in_copy_mode;
 use page_roff_names::Names;
 use page_roff_syntax::{DefinitionRequest, Request};

@@ -1,7 +1,7 @@
 //! Laws of what the parts of a source do.
 
 ghost use Rattle.std.specs.Prelude.{◌≡◌, ℕ, List};
-ghost use Rattle.page_core_limits.specs.declared.TheConstants.{EXPAND};
+ghost use Rattle.page_core_base.specs.declared.limits.TheConstants.{EXPAND};
 ghost use Rattle.page_roff_language.specs.Budgets.{language};
 ghost use Rattle.page_roff_language.specs.machine.Fronts.{IsFront};
 ghost use Rattle.page_roff_language.specs.Spent.{Spends};

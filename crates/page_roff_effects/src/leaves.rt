@@ -1,7 +1,7 @@
 //! Lines that head nothing: text, requests, calls of macros (roff(7), "LANGUAGE SYNTAX" and "MACRO SYNTAX").
 
 ghost use Rattle.std.specs.Prelude.{◌≡◌, ◌≤◌, ◌+◌, ◌++◌, length, drop, true, if◌then◌else◌};
-ghost use Rattle.page_core_limits.specs.declared.TheConstants.{LINE};
+ghost use Rattle.page_core_base.specs.declared.limits.TheConstants.{LINE};
 ghost use Rattle.page_roff_syntax.specs.LineForms.{form_of};
 ghost use Rattle.page_roff_syntax.specs.declared.line_forms.LineForm.TheVariants.{Control};
 ghost use Rattle.page_core_base.specs.Latches.{Came};
@@ -13,8 +13,7 @@ ghost use Rattle.page_roff_effects.specs.States.{gives_line};
 
 use crate::actions::{Actions, report_at};
 use crate::commands::{Command, ProductKind, body_or_nothing};
-use page_core_base::{Form, NoteKind, NoteOut, Place};
-use page_core_limits::{LINE, Limit};
+use page_core_base::{Form, LINE, Limit, NoteKind, NoteOut, Place};
 use page_roff_definitions::{RequestLine, define, report_closings};
 use page_roff_syntax::{DefinitionRequest, LineForm, begins_control, form_of, has_word, plain_len};
 use page_roff_values::Expansion;

@@ -10,8 +10,7 @@ ghost use Rattle.page_roff_effects.specs.States.{with_body};
 use crate::actions::{Actions, report_at};
 use crate::commands::ProductKind;
 use crate::regions::report_long_body;
-use page_core_base::{NoteKind, NoteOut};
-use page_core_limits::Limit;
+use page_core_base::{Limit, NoteKind, NoteOut};
 use page_roff_heads::LoopHead;
 
 impl Actions {

@@ -3,11 +3,11 @@
 ghost use Rattle.std.specs.Prelude.{◌≡◌, ◌≤◌, ◌∷◌, [], codes, length, None, Some};
 ghost use Rattle.page_core_base.specs.Messages.{message_about};
 ghost use Rattle.page_core_base.specs.declared.note_kinds.NoteKind.TheVariants as kinds;
-ghost use Rattle.page_core_limits.specs.Limits.{name_of};
-ghost use Rattle.page_core_limits.specs.declared.Limit.TheVariants as limits;
-ghost use Rattle.page_core_limits.specs.declared.TheConstants.{BODY, LINE};
-ghost use Rattle.page_roff_regions.specs.OpenRegions.{within_limit, opened_view};
-ghost use Rattle.page_roff_regions.specs.Regions.{macro_name, region_view, text_view};
+ghost use Rattle.page_core_base.specs.Limits.{name_of};
+ghost use Rattle.page_core_base.specs.declared.limits.Limit.TheVariants as limits;
+ghost use Rattle.page_core_base.specs.declared.limits.TheConstants.{BODY, LINE};
+ghost use Rattle.page_roff_syntax.specs.OpenRegions.{within_limit, opened_view};
+ghost use Rattle.page_roff_syntax.specs.RegionHeads.{macro_name, region_view, text_view};
 ghost use Rattle.page_roff_definitions.specs.Definitions as defining;
 ghost use Rattle.page_core_base.specs.Latches.{Came};
 ghost use Rattle.page_roff_effects.specs.machine.Acting.{measured, Does, Gives};
@@ -16,12 +16,10 @@ ghost use Rattle.page_roff_effects.specs.States.{Memory, reports, with_body};
 
 use crate::actions::{Actions, report_at};
 use crate::commands::{ProductKind, body_or_nothing};
-use page_core_base::{Form, Note, NoteKind, NoteOut, Place};
-use page_core_limits::{LINE, Limit, NAME};
+use page_core_base::{Form, LINE, Limit, NAME, Note, NoteKind, NoteOut, Place};
 use page_roff_definitions::BodyBuffer;
 use page_roff_names::Names;
-use page_roff_regions::{OpenRegion, RegionHead};
-use page_roff_syntax::RegionKind;
+use page_roff_syntax::{OpenRegion, RegionHead, RegionKind};
 
 // Reports a name or an end name that is longer than names may be.
 fn report_name<O: NoteOut>(head: &RegionHead<&[u8]>, line: u32, out: &mut O)
@@ -64,7 +62,7 @@ fn begin_named(kind: RegionKind, name: &[u8], names: &Names, body: &mut BodyBuff
 }
 
 // Begins the body of a macro, where its name is within the limit of names.
-#[tactic(auto, unfolding(page_roff_regions::specs::OpenRegions::within_limit))]
+#[tactic(auto, unfolding(page_roff_syntax::specs::OpenRegions::within_limit))]
 fn begin_within(kind: RegionKind, name: &[u8], names: &Names, body: &mut BodyBuffer)
     ensures { body.new ≡ regions.body_begun kind (within_limit (Some name.now)) names.now }
 {
@@ -76,7 +74,7 @@ fn begin_within(kind: RegionKind, name: &[u8], names: &Names, body: &mut BodyBuf
 }
 
 // Begins the body that a region defines, where it defines one.
-#[tactic(auto, unfolding(page_roff_regions::specs::OpenRegions::within_limit))]
+#[tactic(auto, unfolding(page_roff_syntax::specs::OpenRegions::within_limit))]
 fn begin_body(head: &RegionHead<&[u8]>, names: &Names, body: &mut BodyBuffer)
     ensures { body.new
         ≡ regions.body_begun head.now.kind (within_limit (macro_name (region_view head.now))) names.now }

@@ -1,7 +1,7 @@
 -- The heads of conditionals, and the ends of their blocks, as they are written. Source: roff(7), "if", "ie", "el" and "\}".
 use Rattle.std.specs.Prelude.{ℕ, ◌+◌, ◌≤◌, Bool, true, false, ◌==◌, nat_lt, List, [], ◌∷◌, length, take, drop, if◌then◌else◌, Option, Some, None, option_map, IfSome}
 use Rattle.std.specs.Borrow.{Bor}
-use Rattle.page_core_limits.specs.Limits.{LINE}
+use Rattle.page_core_base.specs.Limits.{LINE}
 use Rattle.page_roff_syntax.specs.LineForms.{begins_comment, without_comment}
 use Rattle.page_roff_heads.specs.declared.heads.BlockEnd.{BlockEnd}
 use Rattle.page_roff_heads.specs.declared.heads.Conditional.{Conditional}

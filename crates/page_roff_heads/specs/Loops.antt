@@ -1,7 +1,7 @@
 -- The heads of loops, as they are written. Source: roff(7), "while".
 use Rattle.std.specs.Prelude.{ℕ, ◌+◌, ◌≤◌, List, [], length, take, drop, if◌then◌else◌}
 use Rattle.std.specs.Borrow.{Bor}
-use Rattle.page_core_limits.specs.Limits.{LINE}
+use Rattle.page_core_base.specs.Limits.{LINE}
 use Rattle.page_roff_syntax.specs.LineForms.{without_comment}
 use Rattle.page_roff_heads.specs.declared.loops.LoopRead.{LoopRead}
 use Rattle.page_roff_heads.specs.Conditions.{condition_len}

@@ -12,7 +12,7 @@ ghost use Rattle.page_roff_heads.specs.Texts.{blank_len};
 use crate::delimiters::{delimiter_len, place_of};
 use crate::expressions::expression_len;
 use crate::texts::{Placed, blank_len};
-use page_core_limits::LINE;
+use page_core_base::LINE;
 use page_roff_syntax::{is_white, uncommented_len};
 use std::alloc::AllocError;
 

@@ -5,7 +5,7 @@ ghost use Rattle.page_roff_heads.specs.Heads.{guarded_of, guarded_view, conditio
 
 use crate::conditions::{Condition, read_before_comment};
 use crate::texts::{Placed, begins_pair, blank_len, remainder};
-use page_core_limits::LINE;
+use page_core_base::LINE;
 use page_roff_syntax::{begins_comment, lacks_pair, plain_len};
 use std::alloc::AllocError;
 

@@ -3,7 +3,7 @@
 ghost use Rattle.std.specs.Prelude.{◌≡◌, ◌≤◌, ◌+◌, length, drop, IfSome};
 ghost use Rattle.page_roff_heads.specs.Texts.{placed_view, FitsPlaced, blank_len, begins_pair, is_some_line, remainder_at, remainder_of, remainder_view};
 
-use page_core_limits::LINE;
+use page_core_base::LINE;
 use std::alloc::AllocError;
 
 /// A text that stands at a column of its line; `W` is a text.

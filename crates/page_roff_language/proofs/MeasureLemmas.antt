@@ -8,11 +8,11 @@ use Rattle.page_roff_blocks.specs.declared.line_parts.Head.{Head}
 use Rattle.page_roff_blocks.specs.declared.line_parts.Opening.{Opening}
 use Rattle.page_roff_blocks.specs.declared.levels.Ended.{Ended}
 use Rattle.page_roff_blocks.specs.declared.levels.Ended.TheVariants as endings
-use Rattle.page_roff_regions.specs.declared.regions.RegionHead.{RegionHead}
+use Rattle.page_roff_syntax.specs.declared.region_heads.RegionHead.{RegionHead}
 use Rattle.page_roff_blocks.specs.LineParts.{line_parts}
-use Rattle.page_roff_regions.specs.Regions.{is_ending}
+use Rattle.page_roff_syntax.specs.RegionHeads.{is_ending}
 use Rattle.page_roff_blocks.specs.Levels.{Levels, leave, what_ends, BlockCursor, at_line, after_part}
-use Rattle.page_roff_regions.specs.OpenRegions.{Opened}
+use Rattle.page_roff_syntax.specs.OpenRegions.{Opened}
 use Rattle.page_roff_blocks.specs.Run.{At, keep_if}
 use Rattle.page_roff_blocks.specs.machine.Steps.{met, guard_met, step_guard, block_met, step_block, step_region}
 use Rattle.page_roff_blocks.specs.machine.Steps as steps

@@ -1,6 +1,6 @@
 -- More turns than lines are left change nothing: helpers of proofs.
 use Rattle.std.proofs.Common.{◌≡◌, ℕ, zero, suc, ◌+◌, ◌≤◌, Bool, true, false, List, Option, refl, arith}
-use Rattle.page_core_limits.specs.declared.TheConstants.{REREAD}
+use Rattle.page_core_base.specs.declared.limits.TheConstants.{REREAD}
 use Rattle.page_roff_language.specs.Languages.{Kind, body, TURNS, run_if, run_body, turns, meaning_at}
 use Rattle.page_roff_language.specs.Budgets.{Budgeted, Effects, with_rest, charge_by, charge, turn_by, turn, language}
 use Rattle.page_roff_language.proofs.BodyLemmas.{body_keeps}

@@ -3,11 +3,11 @@ use Rattle.std.specs.Prelude.{ℕ, zero, suc, ◌+◌, Bool, true, false, ◌&&�
 use Rattle.page_roff_heads.specs.declared.conditions.Condition.{Condition}
 use Rattle.page_roff_heads.specs.declared.loops.LoopHead.{LoopHead}
 use Rattle.page_roff_blocks.specs.declared.line_parts.Head.{Head}
-use Rattle.page_roff_regions.specs.declared.regions.RegionHead.{RegionHead}
-use Rattle.page_roff_regions.specs.OpenRegions.{Opened}
+use Rattle.page_roff_syntax.specs.declared.region_heads.RegionHead.{RegionHead}
+use Rattle.page_roff_syntax.specs.OpenRegions.{Opened}
 use Rattle.page_roff_blocks.specs.Loops.{loop_text}
 use Rattle.page_roff_blocks.specs.Run.{Meaning}
-use Rattle.page_core_limits.specs.Limits.{REREAD}
+use Rattle.page_core_base.specs.Limits.{REREAD}
 use Rattle.page_roff_language.specs.Languages.{Kind, page, body, Done, gives, calls, repeats, Language}
 
 -- How many re-read lines of the source line are left, whether one beyond them came, how many lines were taken, and all else.

@@ -1,9 +1,9 @@
 -- What a source does with its calls of macros and its loops, by recursion on its forest. Source: roff(7), "Macros", "de", "while".
 use Rattle.std.specs.Prelude.{ℕ, zero, suc, ◌+◌, Bool, true, false, List, Option, Some, None}
 use Rattle.page_roff_blocks.specs.Levels.{first_place}
-use Rattle.page_roff_regions.specs.OpenRegions.{Opened}
+use Rattle.page_roff_syntax.specs.OpenRegions.{Opened}
 use Rattle.page_roff_blocks.specs.Run.{Meaning, At, run_lines, headed}
-use Rattle.page_core_limits.specs.Limits.{CALLS, REREAD}
+use Rattle.page_core_base.specs.Limits.{CALLS, REREAD}
 
 -- A source is the page, or a body that runs: that of a macro with its arguments, or that of a loop with those of the innermost macro, if one
 -- runs.

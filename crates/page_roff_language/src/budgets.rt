@@ -3,7 +3,7 @@
 ghost use Rattle.std.specs.Prelude.{◌≡◌, ◌+◌, ◌≤◌, ◌^◌};
 ghost use Rattle.page_roff_language.specs.machine.Counting.{first_budget, budget_at, renewed, begun, charged, exhausts};
 
-use page_core_limits::REREAD;
+use page_core_base::REREAD;
 use std::marker::Model;
 
 /// How many re-read lines of a source line are left, whether one beyond them came, and how many lines were taken.

@@ -2,7 +2,7 @@
 
 ghost use Rattle.std.specs.Prelude.{◌≡◌, ◌≤◌, ℕ, suc, ◌+◌, ◌*◌, List, [], ◌∷◌, ◌++◌, length, Option, Some, None};
 ghost use Rattle.page_roff_blocks.specs.Run.{At};
-ghost use Rattle.page_core_limits.specs.declared.TheConstants.{CALLS, REREAD};
+ghost use Rattle.page_core_base.specs.declared.limits.TheConstants.{CALLS, REREAD};
 ghost use Rattle.page_roff_language.specs.Budgets.{Budgeted, Effects, language};
 ghost use Rattle.page_roff_language.specs.machine.Fronts.{over, over_running, IsFront};
 ghost use Rattle.page_roff_language.specs.Languages.{body, TURNS, Language, run_body, turns, meaning_at, run_page, run_page_lines};

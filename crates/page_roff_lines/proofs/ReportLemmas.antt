@@ -10,8 +10,8 @@ use Rattle.page_core_base.specs.declared.note_kinds.NoteKind.TheVariants.{BadCha
 use Rattle.page_core_base.specs.Messages.{Message, text_front}
 use Rattle.page_core_base.specs.Sinks.{IsSink}
 use Rattle.page_core_base.proofs.TextLemmas.{whole_front}
-use Rattle.page_core_limits.specs.Limits.{name_of}
-use Rattle.page_core_limits.specs.declared.Limit.TheVariants.{Line as LineLimit}
+use Rattle.page_core_base.specs.Limits.{name_of}
+use Rattle.page_core_base.specs.declared.limits.Limit.TheVariants.{Line as LineLimit}
 use Rattle.page_core_base.specs.declared.page_settings.Encoding.{Encoding}
 use Rattle.page_roff_lines.specs.declared.characters.Front.{Front}
 use Rattle.page_roff_lines.specs.declared.characters.Front.TheVariants.{Same, Latin1, Bad}

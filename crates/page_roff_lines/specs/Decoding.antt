@@ -5,8 +5,8 @@ use Rattle.page_core_base.specs.declared.page_settings.Encoding.{Encoding}
 use Rattle.page_core_base.specs.declared.page_settings.Encoding.TheVariants.{Auto, Ascii, Latin1, Utf8}
 use Rattle.page_core_base.specs.declared.note_kinds.NoteKind.TheVariants.{BadChar, Limit}
 use Rattle.page_core_base.specs.Messages.{Message}
-use Rattle.page_core_limits.specs.Limits.{name_of}
-use Rattle.page_core_limits.specs.declared.Limit.TheVariants.{Line as LineLimit}
+use Rattle.page_core_base.specs.Limits.{name_of}
+use Rattle.page_core_base.specs.declared.limits.Limit.TheVariants.{Line as LineLimit}
 use Rattle.page_roff_lines.specs.Limit.{line_limit}
 use Rattle.page_roff_lines.specs.Logical.{Kept, kept_lines, has_mark}
 use Rattle.page_roff_lines.specs.Characters.{Character, good, bad, sequence_length, characters, bytes_of, all_bytes}

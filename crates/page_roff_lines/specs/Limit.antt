@@ -1,6 +1,6 @@
 -- The limit of a line.
 use Rattle.std.specs.Prelude.{◌≡◌, ℕ, refl}
-use Rattle.page_core_limits.specs.Limits.{LINE}
+use Rattle.page_core_base.specs.Limits.{LINE}
 
 -- the bytes that are kept of a logical line, and those of a decoded one, at most
 unfoldable pub line_limit : ℕ

@@ -13,8 +13,7 @@ use crate::choosing::choose;
 use crate::decoding::decode;
 use crate::open::OpenLine;
 use crate::reporting::{report, report_limit};
-use page_core_base::{BoundedText, Encoding, Fault, NoteSink};
-use page_core_limits::LINE;
+use page_core_base::{BoundedText, Encoding, Fault, LINE, NoteSink};
 use std::alloc::Global;
 use std::marker::Model;
 

@@ -9,8 +9,7 @@ ghost use Rattle.page_roff_lines.specs.Decoding.{line_characters};
 
 use crate::characters::Front;
 use crate::scanning::text_within;
-use page_core_base::{BoundedText, Encoding};
-use page_core_limits::LINE;
+use page_core_base::{BoundedText, Encoding, LINE};
 
 // Appends the text at the front of some bytes, as far as it fits; how many bytes that are.
 #[tactic(auto, using(crate::specs::Limit::line_limit_is))]

@@ -6,7 +6,7 @@ ghost use Rattle.page_roff_lines.specs.Held.{extend, shorten, nothing_held};
 
 use crate::characters::is_printable;
 use crate::choosing::is_printable_ascii;
-use page_core_limits::LINE;
+use page_core_base::LINE;
 use std::alloc::{AllocError, Global};
 use std::marker::Model;
 
@@ -22,7 +22,7 @@ pub struct HeldText {
 impl Model for HeldText {
     ghost use Rattle.std.specs.Prelude.{◌≡◌, ◌≤◌, true, vec_len, vec_capacity};
     ghost use Rattle.std.specs.List.{list_all};
-    ghost use Rattle.page_core_limits.specs.declared.TheConstants.{LINE};
+    ghost use Rattle.page_core_base.specs.declared.limits.TheConstants.{LINE};
     ghost use Rattle.page_roff_lines.specs.Characters.{is_printable};
     ghost use Rattle.page_roff_lines.specs.Held.{Held};
 

@@ -6,7 +6,7 @@ ghost use Rattle.page_roff_lines.specs.Characters.{is_printable};
 
 use crate::scanning::{comment_run, paired_run};
 use crate::{HeldText, Mark, Mode};
-use page_core_limits::LINE;
+use page_core_base::LINE;
 use std::alloc::{AllocError, Global};
 use std::marker::Model;
 

@@ -9,8 +9,7 @@ ghost use Rattle.page_roff_lines.specs.Decoding.{bad_character as spec_bad_chara
 
 use crate::characters::Front;
 use crate::scanning::text_within;
-use page_core_base::{Encoding, Fault, Note, NoteKind, NoteSink, Place};
-use page_core_limits::{LINE, Limit};
+use page_core_base::{Encoding, Fault, LINE, Limit, Note, NoteKind, NoteSink, Place};
 
 // A hexadecimal digit.
 fn hex_digit(value: u8) -> u8

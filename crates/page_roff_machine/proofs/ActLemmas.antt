@@ -14,13 +14,13 @@ use Rattle.page_roff_blocks.specs.declared.levels.Ended.{Ended}
 use Rattle.page_roff_blocks.specs.declared.levels.Ended.TheVariants as endings
 use Rattle.page_roff_blocks.specs.declared.levels.Way.{Way}
 use Rattle.page_roff_blocks.specs.declared.levels.Way.TheVariants.{Runs, Skips, Exceeds}
-use Rattle.page_roff_regions.specs.declared.regions.RegionHead.{RegionHead}
+use Rattle.page_roff_syntax.specs.declared.region_heads.RegionHead.{RegionHead}
 use Rattle.page_roff_blocks.specs.declared.block_cursors.Pass.TheVariants as passes
 use Rattle.page_roff_blocks.specs.declared.block_cursors.Reached.{Reached}
 use Rattle.page_roff_blocks.specs.declared.block_cursors.Reached.TheVariants.{PassedOver, First, Remainder}
 use Rattle.page_roff_blocks.specs.LineParts.{line_parts}
 use Rattle.page_roff_blocks.specs.Levels.{Levels, BlockCursor, answered, after_part, guarded_by, way_of, passed, reached, reached_in, skip, what_ends, at_line, leave}
-use Rattle.page_roff_regions.specs.OpenRegions.{Opened, opened}
+use Rattle.page_roff_syntax.specs.OpenRegions.{Opened, opened}
 use Rattle.page_roff_blocks.specs.Run.{Meaning, meet_as, value, refuse_if, keep_if}
 use Rattle.page_roff_blocks.specs.machine.Steps as steps
 use Rattle.page_roff_blocks.specs.machine.Steps.{met, guard_with, guard_met, step_guard, block_with, opening_met, block_met, step_block, step_region, collect_if}

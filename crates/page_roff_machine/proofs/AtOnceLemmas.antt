@@ -2,12 +2,12 @@
 use Rattle.std.proofs.Common.{◌≡◌, ℕ, ◌+◌, ◌≤◌, ◌^◌, Bool, true, false, List, [], ◌∷◌, Option, Some, None, inl, inr, refl, sym, ap, ap₂, subst, ◌∙◌}
 use Rattle.page_core_base.specs.LinesTaken.{Line}
 use Rattle.page_core_base.specs.declared.page_settings.Output.{Output}
-use Rattle.page_core_limits.specs.declared.TheConstants.{REREAD}
+use Rattle.page_core_base.specs.declared.limits.TheConstants.{REREAD}
 use Rattle.page_roff_blocks.specs.declared.line_parts.LinePart.{LinePart}
 use Rattle.page_roff_blocks.specs.declared.line_parts.LinePart.TheVariants.{Leaf}
 use Rattle.page_roff_blocks.specs.LineParts.{line_parts}
 use Rattle.page_roff_blocks.specs.Levels.{Levels, BlockCursor, at_line, after_part, reached, reached_in, reached_from, reached_if}
-use Rattle.page_roff_regions.specs.OpenRegions.{Opened}
+use Rattle.page_roff_syntax.specs.OpenRegions.{Opened}
 use Rattle.page_roff_blocks.specs.Run.{At, meet_as}
 use Rattle.page_roff_blocks.specs.machine.Steps.{met, begin_line, collect_if}
 use Rattle.page_roff_language.specs.Languages.{Kind, page, body, Language, Done, gives, is_some, meaning_at, meaning_by, run_page}

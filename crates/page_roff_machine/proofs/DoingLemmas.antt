@@ -3,15 +3,15 @@ use Rattle.std.proofs.Common.{◌≡◌, ℕ, zero, suc, Bool, true, false, not,
 use Rattle.std.proofs.lemmas.List.{append-nil, map-append}
 use Rattle.page_core_base.specs.Messages.{Message}
 use Rattle.page_core_base.specs.declared.page_settings.Output.{Output}
-use Rattle.page_core_limits.specs.declared.TheConstants.{BODY}
+use Rattle.page_core_base.specs.declared.limits.TheConstants.{BODY}
 use Rattle.page_roff_heads.specs.declared.conditions.Condition.{Condition}
 use Rattle.page_roff_heads.specs.declared.loops.LoopHead.{LoopHead}
 use Rattle.page_roff_blocks.specs.declared.line_parts.Branch.{Branch}
 use Rattle.page_roff_blocks.specs.declared.line_parts.Branch.TheVariants.{If, IfElse, Else}
-use Rattle.page_roff_regions.specs.declared.regions.RegionHead.{RegionHead}
+use Rattle.page_roff_syntax.specs.declared.region_heads.RegionHead.{RegionHead}
 use Rattle.page_roff_blocks.specs.declared.block_cursors.Reached.{Reached}
 use Rattle.page_roff_blocks.specs.declared.block_cursors.Reached.TheVariants.{PassedOver, First, Remainder}
-use Rattle.page_roff_regions.specs.OpenRegions.{Opened}
+use Rattle.page_roff_syntax.specs.OpenRegions.{Opened}
 use Rattle.page_roff_blocks.specs.Loops.{loop_text}
 use Rattle.page_roff_blocks.specs.Run.{meet_as, value, keep_if}
 use Rattle.page_roff_values.specs.Arguments.{arguments_in, lines_in}
@@ -28,7 +28,7 @@ use Rattle.page_roff_effects.specs.Leaves.{leaf_outcome}
 use Rattle.page_roff_effects.specs.LoopLines.{longer_if_some, loop_outcome, collect_outcome, close_outcome, condition_in, body_in}
 use Rattle.page_roff_definitions.specs.Calls.{Call, with_line}
 use Rattle.page_roff_effects.specs.RegionLines.{head_outcome, longer_if, longer, line_outcome, end_outcome, finish_region, finish_outcome}
-use Rattle.page_roff_conditions.specs.Answers.{Answer}
+use Rattle.page_roff_effects.specs.Answers.{Answer}
 use Rattle.page_roff_effects.specs.States.{Setting, Memory, State, Outcome, Product, no_product, line_product, call_product, loop_product, Given, says, takes, after, lines_of}
 use Rattle.page_roff_stack.specs.machine.Changes.{is_page}
 use Rattle.page_roff_machine.specs.declared.budgeted_actions.BudgetedActions.{BudgetedActions}

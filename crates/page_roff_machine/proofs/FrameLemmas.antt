@@ -1,6 +1,6 @@
 -- What is so of each source that runs: helpers of proofs.
 use Rattle.std.proofs.Common.{◌≡◌, ℕ, zero, suc, ◌+◌, ◌*◌, ◌≤◌, ◌==◌, Bool, true, false, List, [], ◌∷◌, drop, length, Option, Some, None, refl, sym, ap, if◌then◌else◌, arith}
-use Rattle.page_core_limits.specs.declared.TheConstants.{BODY}
+use Rattle.page_core_base.specs.declared.limits.TheConstants.{BODY}
 use Rattle.page_roff_blocks.specs.declared.line_parts.LinePart.{LinePart}
 use Rattle.page_roff_blocks.specs.declared.line_parts.LinePart.TheVariants.{Leaf, Guard, Block, Loop, End, Region}
 use Rattle.page_roff_blocks.specs.declared.block_cursors.Pass.{Pass}
@@ -8,7 +8,7 @@ use Rattle.page_roff_blocks.specs.declared.block_cursors.Pass.TheVariants as pas
 use Rattle.page_roff_blocks.specs.declared.levels.Way.{Way}
 use Rattle.page_roff_blocks.specs.declared.levels.Way.TheVariants.{Runs, Skips, Exceeds}
 use Rattle.page_roff_blocks.specs.Levels.{Levels, BlockCursor, at_line, after_part, way_of, enter, skip, leave_level, leave_loop, leave_from, leave, passed}
-use Rattle.page_roff_regions.specs.OpenRegions.{Opened, opened}
+use Rattle.page_roff_syntax.specs.OpenRegions.{Opened, opened}
 use Rattle.page_roff_values.specs.Arguments.{begin_first, arguments_in, lines_in}
 use Rattle.page_roff_language.specs.machine.Machine.{Frame, Turning, turned, at_part}
 use Rattle.page_roff_language.specs.machine.Measures.{weight, turns_of}

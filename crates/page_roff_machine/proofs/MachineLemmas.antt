@@ -5,7 +5,7 @@ use Rattle.page_core_base.specs.Messages.{Message}
 use Rattle.page_core_base.specs.declared.page_settings.Output.{Output}
 use Rattle.page_roff_blocks.specs.declared.line_parts.LinePart.{LinePart}
 use Rattle.page_roff_blocks.specs.Levels.{Place, at_line}
-use Rattle.page_roff_regions.specs.OpenRegions.{Opened}
+use Rattle.page_roff_syntax.specs.OpenRegions.{Opened}
 use Rattle.page_roff_blocks.specs.Run.{Meaning, At}
 use Rattle.page_roff_language.specs.Languages.{Language, meaning_at, run_page}
 use Rattle.page_roff_language.specs.machine.Machine.{Frame, depth, at_page, rest_of, next, stands_at}

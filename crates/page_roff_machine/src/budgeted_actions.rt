@@ -1,10 +1,10 @@
 //! What the parts of sources do, under the budget of re-read lines (mandoc(1), "input stack limit exceeded, infinite loop?").
 
 ghost use Rattle.std.specs.Prelude.{◌≡◌, ◌≤◌, ◌<◌, ◌^◌, ◌&&◌, true, false, not, length};
-ghost use Rattle.page_core_limits.specs.declared.TheConstants.{LINE};
+ghost use Rattle.page_core_base.specs.declared.limits.TheConstants.{LINE};
 ghost use Rattle.page_roff_blocks.specs.LineParts.{branch_view, loop_head_view, FitsBranch};
-ghost use Rattle.page_roff_regions.specs.Regions.{region_view};
-ghost use Rattle.page_roff_regions.specs.OpenRegions.{opened_view};
+ghost use Rattle.page_roff_syntax.specs.RegionHeads.{region_view};
+ghost use Rattle.page_roff_syntax.specs.OpenRegions.{opened_view};
 ghost use Rattle.page_roff_machine.specs.machine.Doing.{Does, Answers, Makes, IsAt, IsIn, HasRoom, state_after, line_after, done_as};
 ghost use Rattle.page_roff_machine.specs.machine.Doing.{charged_in, begun_in, met_in, value_in, answer_in, region_in, leaf_in};
 ghost use Rattle.page_roff_machine.specs.machine.Doing.{opened_in, closed_in, passed_in, kept_in, collected_in, turned_in};
@@ -17,7 +17,7 @@ use page_roff_blocks::{Branch, Reached, loop_text};
 use page_roff_effects::{Actions, ProductKind};
 use page_roff_heads::LoopHead;
 use page_roff_language::Budget;
-use page_roff_regions::{OpenRegion, RegionHead};
+use page_roff_syntax::{OpenRegion, RegionHead};
 
 /// What the parts of sources do, under the budget of the source line.
 #[derive(Drop)]

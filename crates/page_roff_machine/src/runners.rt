@@ -2,7 +2,7 @@
 
 ghost use Rattle.std.specs.Prelude.{◌≡◌, ◌≤◌, ◌^◌, true, false, None, length};
 ghost use Rattle.page_core_base.specs.Texts.{IsLine};
-ghost use Rattle.page_core_limits.specs.declared.TheConstants.{ARGS};
+ghost use Rattle.page_core_base.specs.declared.limits.TheConstants.{ARGS};
 ghost use Rattle.page_roff_blocks.specs.Levels as levels;
 ghost use Rattle.page_roff_effects.specs.declared.commands.ProductKind.TheVariants as kinds;
 ghost use Rattle.page_roff_stack.specs.machine.Stacks.{next_of, part_in, is_part, is_line, may_end, is_nothing};
@@ -16,8 +16,7 @@ ghost use Rattle.page_roff_machine.specs.machine.Stepping.{IsSound, IsMeasured, 
 use crate::acts::{Act, Progress};
 use crate::budgeted_actions::BudgetedActions;
 use arrayvec::ArrayVec;
-use page_core_base::NoteOut;
-use page_core_limits::ARGS;
+use page_core_base::{ARGS, NoteOut};
 use page_roff_blocks::{Answer, Ended, LinePart, Opening, Pass, Reached, Way};
 use page_roff_effects::ProductKind;
 use page_roff_stack::{InputStack, Movement, Next};

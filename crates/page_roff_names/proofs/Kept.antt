@@ -10,8 +10,8 @@ use Rattle.std.specs.FinMap.{is_sorted}
 use Rattle.std.specs.FinMap.Entries.{by_order, is_sorted-put, is_sorted-where_key}
 use Rattle.std.specs.List.{insert, remove}
 use Rattle.std.proofs.lemmas.Cmp.{nat_list_cmp_total}
-use Rattle.page_core_limits.specs.declared.TheConstants.{BODY}
-use Rattle.page_core_limits.specs.declared.Limit.{Limit}
+use Rattle.page_core_base.specs.declared.limits.TheConstants.{BODY}
+use Rattle.page_core_base.specs.declared.limits.Limit.{Limit}
 use Rattle.page_roff_names.specs.declared.changes.OtherSet.{OtherSet}
 use Rattle.page_roff_names.specs.declared.rows.Meaning.{Meaning}
 use Rattle.page_roff_names.specs.Caps.{EntryFits, EntriesFit, DefinitionsFit}

@@ -5,7 +5,7 @@ use Rattle.std.specs.List.{insert, remove}
 use Rattle.page_roff_names.specs.declared.rows.Span.{Span}
 use Rattle.page_roff_names.specs.Entries.{Entries, Definition, definition, size, name_at, definition_at, value_at, meaning_at, with_meaning}
 use Rattle.page_roff_names.specs.declared.rows.Meaning.{Meaning}
-use Rattle.page_core_limits.specs.declared.TheConstants.{DEFS, NAMES}
+use Rattle.page_core_base.specs.declared.limits.TheConstants.{DEFS, NAMES}
 use Rattle.page_roff_names.specs.machine.Layout.{flat, layout, cut, extent, relaid, marked, IsLaid}
 
 pub cut_laid : (k : ℕ) (m : Entries) → cut (layout k m) (flat m) ≡ m

@@ -2,8 +2,8 @@
 use Rattle.std.proofs.Common.{◌≡◌, ℕ, ◌≤◌, Bool, true, false, cond, Some, None, refl, ap, ◌∙◌}
 use Rattle.std.specs.Prelude.{nat_lt}
 use Rattle.std.proofs.lemmas.Bool.{ltb-false}
-use Rattle.page_core_limits.specs.declared.TheConstants.{BODY, DEFS, NAME, NAMES}
-use Rattle.page_core_limits.specs.declared.Limit.TheVariants.{Name, Names, Body, Defs}
+use Rattle.page_core_base.specs.declared.limits.TheConstants.{BODY, DEFS, NAME, NAMES}
+use Rattle.page_core_base.specs.declared.limits.Limit.TheVariants.{Name, Names, Body, Defs}
 use Rattle.page_roff_names.specs.Names.{first_passed}
 
 pub same_limits : (a : ℕ) {b c v w y z : ℕ} → b ≡ c → v ≡ w → y ≡ z → first_passed a b v y ≡ first_passed a c w z

@@ -1,6 +1,6 @@
 -- How much names and what they stand for may hold. Source: roff(7), "ds", "de", "nr"; mandoc(1), "DIAGNOSTICS".
 use Rattle.std.specs.Prelude.{ℕ, ◌+◌, ◌≤◌, List, [], ◌∷◌, length}
-use Rattle.page_core_limits.specs.Limits.{BODY, DEFS, NAME, NAMES}
+use Rattle.page_core_base.specs.Limits.{BODY, DEFS, NAME, NAMES}
 use Rattle.page_roff_names.specs.Entries.{Definition, Entries, size}
 use Rattle.page_roff_names.specs.Names.{Definitions}
 

@@ -11,9 +11,9 @@ use Rattle.std.specs.Ordering.{nat_cmp, eq_by_cmp}
 use Rattle.std.specs.Cmp.Lexicographic.{slice_cmp}
 use Rattle.std.specs.FinMap.{find, put as put_entry}
 use Rattle.std.specs.FinMap.Entries.{where_key}
-use Rattle.page_core_limits.specs.Limits.{BODY, DEFS, NAME, NAMES}
-use Rattle.page_core_limits.specs.declared.Limit.{Limit}
-use Rattle.page_core_limits.specs.declared.Limit.TheVariants.{Name, Names, Body, Defs}
+use Rattle.page_core_base.specs.Limits.{BODY, DEFS, NAME, NAMES}
+use Rattle.page_core_base.specs.declared.limits.Limit.{Limit}
+use Rattle.page_core_base.specs.declared.limits.Limit.TheVariants.{Name, Names, Body, Defs}
 use Rattle.page_roff_names.specs.declared.rows.Meaning.{Meaning}
 use Rattle.page_roff_names.specs.declared.rows.Meaning.TheVariants.{String, Macro, Register}
 use Rattle.page_roff_names.specs.Entries.{Definition, Entries, definition, size}

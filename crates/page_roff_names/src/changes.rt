@@ -14,7 +14,7 @@ ghost use Rattle.page_roff_names.specs.machine.Changes.{FoundAt, MissingAt, Stan
 
 use crate::predefined::predefined;
 use crate::rows::{Meaning, Row, append};
-use page_core_limits::{BODY, DEFS, Limit, NAME, NAMES};
+use page_core_base::{BODY, DEFS, Limit, NAME, NAMES};
 use std::cmp::Ordering;
 
 /// How many names the other set has, and how many bytes their entries.

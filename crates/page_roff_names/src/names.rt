@@ -11,7 +11,7 @@ use crate::changes::{
 };
 use crate::places::Places;
 use crate::rows::{Meaning, Row};
-use page_core_limits::{BODY, Limit};
+use page_core_base::{BODY, Limit};
 use std::alloc::{AllocError, Global};
 use std::marker::Model;
 
@@ -28,7 +28,7 @@ pub struct Names {
 impl Model for Names {
     ghost use Rattle.std.specs.Prelude.{◌≤◌};
     ghost use Rattle.std.specs.Vec.{vec_capacity};
-    ghost use Rattle.page_core_limits.specs.declared.TheConstants.{BODY};
+    ghost use Rattle.page_core_base.specs.declared.limits.TheConstants.{BODY};
     ghost use Rattle.page_roff_names.specs.Names.{Definitions, definitions};
     ghost use Rattle.page_roff_names.specs.machine.Changes.{IsStore};
 

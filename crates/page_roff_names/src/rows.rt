@@ -6,7 +6,7 @@ ghost use Rattle.std.specs.Vec.{vec_len, vec_capacity};
 ghost use Rattle.page_roff_names.specs.Entries.{Entries, size, name_at, definition_at, definition, with_meaning};
 ghost use Rattle.page_roff_names.specs.machine.Layout.{extent, layout, relaid, marked};
 
-use page_core_limits::{DEFS, NAMES};
+use page_core_base::{DEFS, NAMES};
 use std::alloc::{AllocError, Global};
 use std::marker::Model;
 

@@ -3,7 +3,7 @@ use Rattle.std.proofs.Common.{◌≡◌, ℕ, zero, ◌+◌, ◌==◌, nat_lt, B
 use Rattle.std.proofs.Math.Utf8.{encode}
 use Rattle.std.proofs.lemmas.Bool.{cases_Bool, and_parts}
 use Rattle.page_core_base.specs.Texts.{IsLine}
-use Rattle.page_roff_conditions.proofs.AlikeLemmas.{HasTexts}
+use Rattle.page_roff_effects.proofs.AlikeLemmas.{HasTexts}
 use Rattle.page_roff_syntax.specs.LineForms.{without_comment}
 use Rattle.page_roff_heads.specs.declared.conditions.Condition.{Condition}
 use Rattle.page_roff_heads.specs.Conditions.{is_among, is_letter, begins_expression, kind_of, second_of, has_both, texts_after, texts_at, read_kind, read_test, turn_len, condition_of}

@@ -2,8 +2,8 @@
 use Rattle.std.proofs.Common.{◌≡◌, ℕ, ◌+◌, ◌*◌, ◌≤◌, Bool, true, false, List, [], ◌∷◌, ◌++◌, length, map, Option, Some, None, refl, ap, arith}
 use Rattle.page_core_base.specs.Messages.{Message}
 use Rattle.page_roff_heads.specs.declared.conditions.Condition.{Condition}
-use Rattle.page_roff_regions.specs.OpenRegions.{Opened}
-use Rattle.page_core_limits.specs.declared.TheConstants.{EXPAND, REREAD}
+use Rattle.page_roff_syntax.specs.OpenRegions.{Opened}
+use Rattle.page_core_base.specs.declared.limits.TheConstants.{EXPAND, REREAD}
 use Rattle.page_roff_values.specs.Values.{units_of}
 use Rattle.page_roff_language.specs.Languages.{Kind, state_of}
 use Rattle.page_roff_language.specs.Spent.{Spends}

@@ -8,7 +8,7 @@ use Rattle.std.specs.declared.cmp.Ordering.TheVariants.{Less, Equal, Greater}
 use Rattle.std.specs.Ordering.{eq_by_cmp}
 use Rattle.std.specs.FinMap.Entries.{by_order}
 use Rattle.std.proofs.lemmas.Bool.{and_parts, leb-true, ltb-true}
-use Rattle.page_core_limits.specs.declared.Limit.{Limit}
+use Rattle.page_core_base.specs.declared.limits.Limit.{Limit}
 use Rattle.page_core_base.specs.declared.places.Place.{Place}
 use Rattle.page_roff_syntax.specs.Arguments.{argument_name, arguments}
 use Rattle.page_roff_syntax.specs.declared.quotes.Argument.{Argument}

@@ -2,13 +2,13 @@
 use Rattle.std.proofs.Common.{◌≡◌, ℕ, ◌==◌, nat_le, is_some, Bool, true, false, List, [], ◌∷◌, ◌++◌, length, take, drop, map, if◌then◌else◌, Option, Some, None, unwrap_or, refl, sym, subst, arith}
 use Rattle.std.specs.Prelude.{IsUtf8}
 use Rattle.std.proofs.lemmas.Str.{IsCharBoundary-from_take}
-use Rattle.page_core_limits.specs.declared.TheConstants.{BODY}
+use Rattle.page_core_base.specs.declared.limits.TheConstants.{BODY}
 use Rattle.page_core_base.specs.Messages.{Message}
 use Rattle.page_core_base.specs.Texts.{IsLine}
-use Rattle.page_roff_regions.specs.OpenRegions.{Opened, within_limit}
-use Rattle.page_roff_regions.specs.Regions.{macro_name}
+use Rattle.page_roff_syntax.specs.OpenRegions.{Opened, within_limit}
+use Rattle.page_roff_syntax.specs.RegionHeads.{macro_name}
 use Rattle.page_roff_blocks.specs.Run.{At}
-use Rattle.page_roff_regions.specs.declared.regions.RegionHead.{RegionHead}
+use Rattle.page_roff_syntax.specs.declared.region_heads.RegionHead.{RegionHead}
 use Rattle.page_roff_syntax.specs.Arguments.{arguments}
 use Rattle.page_roff_heads.specs.declared.loops.LoopHead.{LoopHead}
 use Rattle.page_roff_syntax.specs.LineForms.{is_control, has_word, without_comment, control_line as control_form, uncommented_form, form_of}

@@ -1,14 +1,14 @@
 -- The forest of all lines of a page gives what its lines give one after another: helpers of proofs.
 use Rattle.std.proofs.Common.{◌≡◌, ℕ, ◌+◌, Bool, true, false, List, [], ◌∷◌, ◌++◌, length, map, Option, Some, None, refl, sym, ap, ◌∙◌, append_assoc, append-nil, arith}
-use Rattle.page_roff_regions.specs.Regions.{is_ending}
+use Rattle.page_roff_syntax.specs.RegionHeads.{is_ending}
 use Rattle.page_roff_blocks.specs.Levels.{Levels, Place}
-use Rattle.page_roff_regions.specs.OpenRegions.{Opened}
+use Rattle.page_roff_syntax.specs.OpenRegions.{Opened}
 use Rattle.page_roff_blocks.specs.Run.{Meaning, At, after_head, each_line}
 use Rattle.page_roff_blocks.specs.machine.Steps as steps
 use Rattle.page_roff_blocks.specs.machine.Steps.{step_inside, step_from, step, step_lines}
 use Rattle.page_roff_blocks.proofs.FoldLemmas.{run_is_steps}
 use Rattle.page_roff_blocks.proofs.HeadLemmas.{forest_is_each}
-use Rattle.page_core_limits.specs.declared.TheConstants.{CALLS, REREAD}
+use Rattle.page_core_base.specs.declared.limits.TheConstants.{CALLS, REREAD}
 use Rattle.page_roff_values.specs.Values.{units_of}
 use Rattle.page_roff_language.specs.Budgets.{Budgeted, Effects, language, meaning, begin_line, read_line, end_line}
 use Rattle.page_roff_language.specs.Languages.{page, meaning_by, meaning_at, run_page, run_page_lines}

@@ -1,7 +1,7 @@
 -- The machine that runs a page's lines stands at the page's edge: helpers of proofs.
 use Rattle.std.proofs.Common.{◌≡◌, ℕ, ◌+◌, ◌*◌, ◌≤◌, ◌<◌, ◌^◌, Bool, true, false, List, [], ◌∷◌, length, Option, Some, None, refl, sym, ap, subst, ◌∙◌, arith}
 use Rattle.page_core_base.specs.Texts.{IsLine}
-use Rattle.page_core_limits.specs.declared.TheConstants.{LINE, REREAD}
+use Rattle.page_core_base.specs.declared.limits.TheConstants.{LINE, REREAD}
 use Rattle.page_core_base.specs.LinesTaken.{Line}
 use Rattle.page_core_base.specs.Messages.{Message}
 use Rattle.page_core_base.specs.declared.page_settings.Output.{Output}

@@ -1,16 +1,16 @@
 -- How many skipped blocks a line begins: helpers of proofs.
 use Rattle.std.proofs.Common.{ℕ, ◌+◌, ◌*◌, ◌≤◌, Bool, true, false, List, [], ◌∷◌, length, Option, Some, None, sym, subst, arith}
 use Rattle.page_roff_blocks.specs.LineParts.{line_parts}
-use Rattle.page_roff_regions.specs.Regions.{is_ending}
+use Rattle.page_roff_syntax.specs.RegionHeads.{is_ending}
 use Rattle.page_roff_blocks.specs.Levels.{Levels, at_line}
-use Rattle.page_roff_regions.specs.OpenRegions.{Opened}
+use Rattle.page_roff_syntax.specs.OpenRegions.{Opened}
 use Rattle.page_roff_blocks.specs.Run.{Meaning, At, run_lines}
 use Rattle.page_roff_blocks.specs.machine.Steps.{begin_line, step_inside, step_from, step, step_lines}
 use Rattle.page_roff_blocks.proofs.FoldLemmas.{run_is_steps}
 use Rattle.page_roff_blocks.proofs.RoomLemmas.{line_parts_room, step_room}
 use Rattle.page_roff_values.specs.Values.{units_of}
 use Rattle.page_roff_language.specs.Languages.{page, meaning_at, run_page}
-use Rattle.page_core_limits.specs.declared.TheConstants.{CALLS}
+use Rattle.page_core_base.specs.declared.limits.TheConstants.{CALLS}
 use Rattle.page_roff_language.specs.Budgets.{language}
 use Rattle.page_roff_effects.specs.Effects.{effects}
 use Rattle.page_roff_source.specs.Edges.{Edge, SourceLine}

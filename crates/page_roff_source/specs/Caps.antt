@@ -1,6 +1,6 @@
 -- How much roff holds, between two lines of a page and in a line. Source: roff(7), "ds", "de", "if"; mandoc(1), "DIAGNOSTICS".
 use Rattle.std.specs.Prelude.{ℕ, ◌+◌, ◌*◌, ◌≤◌, List, length, sum_by}
-use Rattle.page_core_limits.specs.Limits.{ARGS, BODY, CALLS}
+use Rattle.page_core_base.specs.Limits.{ARGS, BODY, CALLS}
 use Rattle.page_roff_blocks.specs.Caps.{PlaceFits}
 use Rattle.page_roff_effects.specs.Caps.{MemoryFits}
 use Rattle.page_roff_source.specs.Edges.{Edge}

@@ -1,7 +1,7 @@
 -- Roff's part of what is held of a page between two of its lines, and the edge that it is under settings. Source: roff(7), "LANGUAGE SYNTAX".
 use Rattle.std.specs.Prelude.{◌≡◌, ℕ, ◌+◌, ◌*◌, ◌≤◌, ◌^◌, true, None}
 use Rattle.page_core_base.specs.declared.page_settings.Output.{Output}
-use Rattle.page_core_limits.specs.Limits.{LINE, REREAD}
+use Rattle.page_core_base.specs.Limits.{LINE, REREAD}
 use Rattle.page_roff_blocks.specs.Levels.{Place}
 use Rattle.page_roff_effects.specs.States.{Memory}
 use Rattle.page_roff_machine.specs.machine.Moving.{IsPassed}

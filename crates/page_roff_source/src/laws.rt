@@ -1,7 +1,7 @@
 //! Laws of what roff gives of a page's lines.
 
 ghost use Rattle.std.specs.Prelude.{◌≡◌, ◌≤◌, ◌+◌, ◌*◌, List, ◌++◌, length, None};
-ghost use Rattle.page_core_limits.specs.declared.TheConstants.{EXPAND, REREAD};
+ghost use Rattle.page_core_base.specs.declared.limits.TheConstants.{EXPAND, REREAD};
 ghost use Rattle.page_roff_source.specs.Edges.{Edge, SourceLine, line_count};
 ghost use Rattle.page_roff_source.specs.machine.Taking.{line_given, line_done};
 ghost use Rattle.page_roff_source.specs.Given.{given, done};

@@ -1,6 +1,6 @@
 //! Definitions, removals and new names in any order, beside a table that holds the same.
 
-use page_core_limits::DEFS;
+use page_core_base::DEFS;
 use page_roff_names::Names;
 use std::alloc::{AllocError, Global};
 use std::process::Abort;

@@ -4,7 +4,7 @@ use crate::steps::{Step, act, text_of};
 use page_core_base::{Form, Note, NoteKind, NoteLatch, Output};
 use page_core_streams::KeptNotes;
 use page_roff_effects::{Actions, ProductKind};
-use page_roff_regions::OpenRegion;
+use page_roff_syntax::OpenRegion;
 use std::alloc::{AllocError, Global};
 use std::process::Abort;
 

@@ -3,7 +3,7 @@
 use page_core_base::NoteOut;
 use page_roff_blocks::{LinePart, LinePlace, Opening};
 use page_roff_effects::{Actions, ProductKind};
-use page_roff_regions::OpenRegion;
+use page_roff_syntax::OpenRegion;
 use std::process::Abort;
 
 /// What is done.

@@ -2,14 +2,14 @@
 use Rattle.std.proofs.Common.{◌≡◌, ℕ, ◌+◌, ◌-◌, ◌*◌, ◌<◌, ◌≤◌, Bool, true, false, not, ◌&&◌, ◌==◌, nat_lt, is_none, is_some, List, [], ◌∷◌, length, take, drop, Option, Some, None, refl, sym, ap, ◌∙◌, arith, length-drop}
 use Rattle.std.proofs.lemmas.Bool.Decides.{nat_tests}
 use Rattle.std.specs.Borrow.{Bor}
-use Rattle.page_core_limits.specs.declared.TheConstants.{LINE}
+use Rattle.page_core_base.specs.declared.limits.TheConstants.{LINE}
 use Rattle.page_roff_blocks.specs.declared.line_parts.LinePart.{LinePart}
 use Rattle.page_roff_blocks.specs.declared.line_places.LinePlace.{LinePlace}
 use Rattle.page_roff_blocks.specs.LineParts.{line_parts, ReadsNext}
 use Rattle.page_roff_blocks.specs.declared.block_cursors.Pass.{Pass}
 use Rattle.page_roff_blocks.specs.declared.block_cursors.Pass.TheVariants as passes
 use Rattle.page_roff_blocks.specs.Levels.{BlockCursor, at_line, after_part, way_of, open_loop, skip, passed}
-use Rattle.page_roff_regions.specs.OpenRegions.{Opened}
+use Rattle.page_roff_syntax.specs.OpenRegions.{Opened}
 use Rattle.page_roff_blocks.specs.machine.LinePlaces.{parts_at, line_end, is_at_end, IsPlaceIn}
 use Rattle.page_roff_blocks.proofs.LinePartLemmas.{line_parts_cons}
 use Rattle.page_roff_blocks.proofs.RoomLemmas.{line_parts_room, enter_room, leave_room}

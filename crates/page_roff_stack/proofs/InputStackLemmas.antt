@@ -8,7 +8,7 @@ use Rattle.std.proofs.lemmas.Bool.Decides.{nat_tests}
 use Rattle.std.proofs.lemmas.List.{length-reverse, reverse-append, length-take-le, length-drop}
 use Rattle.std.proofs.lemmas.List.Elements.{All-nil, All-cons}
 use Rattle.std.proofs.lemmas.List.Sums.{sum_by-le}
-use Rattle.page_core_limits.specs.declared.TheConstants.{ARGS, BODY, CALLS, LINE}
+use Rattle.page_core_base.specs.declared.limits.TheConstants.{ARGS, BODY, CALLS, LINE}
 use Rattle.page_roff_language.specs.Languages.{body, is_some}
 use Rattle.page_roff_language.specs.machine.Machine.{Frame, Turning, at_part, depth, entered, looped, turned}
 use Rattle.page_roff_values.specs.Arguments.{arguments_in, lines_in}

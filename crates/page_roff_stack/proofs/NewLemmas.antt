@@ -2,9 +2,9 @@
 use Rattle.std.proofs.Common.{◌≡◌, ℕ, false, suc, ◌-◌, ◌<◌, ◌≤◌, ◌^◌, List, [], ◌∷◌, ◌++◌, length, take, drop, Option, Some, None, refl, sym, ap, ◌∙◌, append_assoc, arith, length-append}
 use Rattle.std.proofs.Math.Seq.{take-append_seam, drop-append_seam}
 use Rattle.page_core_base.specs.Texts.{IsLine}
-use Rattle.page_core_limits.specs.declared.TheConstants.{BODY, LINE}
+use Rattle.page_core_base.specs.declared.limits.TheConstants.{BODY, LINE}
 use Rattle.page_roff_blocks.specs.Levels.{BlockCursor, at_line, outside}
-use Rattle.page_roff_regions.specs.OpenRegions.{Opened}
+use Rattle.page_roff_syntax.specs.OpenRegions.{Opened}
 use Rattle.page_roff_blocks.specs.machine.LinePlaces.{line_end}
 use Rattle.page_roff_language.specs.Languages.{Kind, page, body, inner, TURNS}
 use Rattle.page_roff_language.specs.machine.Machine.{Frame, Turning, entered, looped}

@@ -3,7 +3,7 @@ use Rattle.std.proofs.Common.{◌≡◌, ℕ, ◌-◌, ◌≤◌, ◌==◌, true
 use Rattle.std.proofs.Math.Seq.{take-append_seam, drop-append_seam}
 use Rattle.std.proofs.lemmas.Bool.{cases_Bool}
 use Rattle.std.proofs.lemmas.Bool.Decides.{nat_tests}
-use Rattle.page_core_limits.specs.declared.TheConstants.{BODY}
+use Rattle.page_core_base.specs.declared.limits.TheConstants.{BODY}
 use Rattle.page_roff_blocks.specs.declared.line_places.LinePlace.{LinePlace}
 use Rattle.page_roff_blocks.specs.Levels.{BlockCursor, at_line, outside}
 use Rattle.page_roff_blocks.specs.machine.LinePlaces.{line_end}

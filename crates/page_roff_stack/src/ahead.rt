@@ -1,7 +1,7 @@
 //! The part of a line that comes next, read once: so that it is not read again to go past it.
 
 ghost use Rattle.std.specs.Prelude.{◌≡◌, ◌≤◌, length, take, IfSome};
-ghost use Rattle.page_core_limits.specs.declared.TheConstants.{LINE};
+ghost use Rattle.page_core_base.specs.declared.limits.TheConstants.{LINE};
 ghost use Rattle.page_roff_blocks.specs.LineParts.{line_part_view, FitsLinePart};
 ghost use Rattle.page_roff_blocks.specs.machine.LinePlaces.{parts_at, IsPlaceIn};
 ghost use Rattle.page_roff_stack.specs.machine.Ahead.{IsAfter, IsAfterIn};

@@ -3,14 +3,14 @@
 ghost use Rattle.std.specs.Prelude.{◌≡◌, ℕ, List, [], ◌∷◌, ◌+◌, ◌≤◌, ◌<◌, ◌^◌, ◌++◌, true, length, take, drop, IfSome, None};
 ghost use Rattle.std.specs.Vec.{vec_len, vec_capacity};
 ghost use Rattle.page_core_base.specs.Texts.{IsLine};
-ghost use Rattle.page_core_limits.specs.declared.TheConstants.{ARGS, BODY, LINE};
+ghost use Rattle.page_core_base.specs.declared.limits.TheConstants.{ARGS, BODY, LINE};
 ghost use Rattle.page_roff_blocks.specs.declared.line_parts.LinePart.TheVariants.{Leaf};
 ghost use Rattle.page_roff_blocks.specs.LineParts.{line_part_view, FitsLinePart};
 ghost use Rattle.page_roff_blocks.specs.Caps.{PlaceFits};
 ghost use Rattle.page_roff_blocks.specs.machine.LinePlaces.{opens_block};
 ghost use Rattle.page_roff_blocks.specs.Levels.{passed};
-ghost use Rattle.page_roff_regions.specs.OpenRegions.{opened_view};
-ghost use Rattle.page_roff_regions.specs.Regions.{text_view};
+ghost use Rattle.page_roff_syntax.specs.OpenRegions.{opened_view};
+ghost use Rattle.page_roff_syntax.specs.RegionHeads.{text_view};
 ghost use Rattle.page_roff_language.specs.Languages.{arguments_of, page, body};
 ghost use Rattle.page_roff_language.specs.machine.Machine.{entered, looped};
 ghost use Rattle.page_roff_values.specs.Arguments.{arguments_in, lines_in};
@@ -26,9 +26,9 @@ use crate::source_kinds::SourceKind;
 use crate::spans::{NOWHERE, Span};
 use crate::turns::Turns;
 use memchr::memchr;
-use page_core_limits::{ARGS, BODY, LINE, REREAD};
+use page_core_base::{ARGS, BODY, LINE, REREAD};
 use page_roff_blocks::{BlockCursor, LinePart, LinePlace, Pass, Standing};
-use page_roff_regions::OpenRegion;
+use page_roff_syntax::OpenRegion;
 
 // The turns that a loop has at most, and one more: each takes a line, or is given up.
 const TURNS: usize = REREAD + 2;

@@ -4,13 +4,13 @@ ghost use Rattle.std.specs.Prelude.{◌≡◌, ⊤, [], ◌∷◌, ◌+◌, ◌*
 ghost use mathlib.Core.Option.{none};
 ghost use Rattle.std.specs.Borrow.{sem, follows_so};
 ghost use Rattle.page_core_base.specs.Texts.{IsLine};
-ghost use Rattle.page_core_limits.specs.declared.TheConstants.{ARGS, BODY, CALLS};
+ghost use Rattle.page_core_base.specs.declared.limits.TheConstants.{ARGS, BODY, CALLS};
 ghost use Rattle.page_roff_blocks.specs.declared.line_parts.LinePart.TheVariants.{Leaf};
 ghost use Rattle.page_roff_blocks.specs.LineParts.{line_part_view, FitsLinePart};
 ghost use Rattle.page_roff_blocks.specs.Caps.{PlaceFits};
 ghost use Rattle.page_roff_blocks.specs.Levels.{reached};
-ghost use Rattle.page_roff_regions.specs.OpenRegions.{opened_view};
-ghost use Rattle.page_roff_regions.specs.Regions.{text_view};
+ghost use Rattle.page_roff_syntax.specs.OpenRegions.{opened_view};
+ghost use Rattle.page_roff_syntax.specs.RegionHeads.{text_view};
 ghost use Rattle.page_roff_language.specs.Languages.{arguments_of, is_some};
 ghost use Rattle.page_roff_language.specs.machine.Machine.{depth};
 ghost use Rattle.page_roff_stack.specs.machine.Changes.{page_line, is_page, went};
@@ -20,9 +20,9 @@ ghost use Rattle.page_roff_stack.specs.machine.Views.{packed_text, unpacked, nex
 use crate::input_frames::InputFrame;
 use crate::movements::Movement;
 use crate::next::Next;
-use page_core_limits::{ARGS, BODY, CALLS, LINE};
+use page_core_base::{ARGS, BODY, CALLS, LINE};
 use page_roff_blocks::{Levels, LinePart, Reached, Standing};
-use page_roff_regions::OpenRegion;
+use page_roff_syntax::OpenRegion;
 use std::alloc::{AllocError, Global};
 use std::marker::Model;
 use std::mem;

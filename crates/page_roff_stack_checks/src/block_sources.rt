@@ -6,7 +6,7 @@ use page_roff_blocks::{
     loop_text,
 };
 use page_roff_heads::{Condition, LoopHead, Test};
-use page_roff_regions::OpenRegion;
+use page_roff_syntax::OpenRegion;
 use std::process::Abort;
 
 // A source that is run line by line.

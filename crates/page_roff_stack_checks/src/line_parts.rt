@@ -3,7 +3,7 @@
 use arrayvec::ArrayVec;
 use page_roff_blocks::{Branch, Head, LinePart, LinePlace, Opening, loop_text};
 use page_roff_heads::LoopHead;
-use page_roff_regions::RegionHead;
+use page_roff_syntax::RegionHead;
 use std::process::Abort;
 
 type Shown = ArrayVec<u8, 200>;

@@ -2,8 +2,7 @@
 //! loop has as many turns as its condition, a digit, says.
 
 use arrayvec::ArrayVec;
-use page_core_base::is_line;
-use page_core_limits::{ARGS, BODY};
+use page_core_base::{ARGS, BODY, is_line};
 use page_roff_blocks::{Branch, Ended, Head, LinePart, Opening, Pass, Reached, loop_text};
 use page_roff_heads::{Condition, LoopHead, Test};
 use page_roff_stack::{InputStack, Movement, Next};

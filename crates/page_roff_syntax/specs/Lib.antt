@@ -4,3 +4,5 @@ pub mod Ends
 pub mod LineForms
 pub mod Arguments
 pub mod machine
+pub mod RegionHeads
+pub mod OpenRegions

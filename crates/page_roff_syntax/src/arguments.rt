@@ -5,7 +5,7 @@ ghost use Rattle.std.specs.List.{prefix_len};
 ghost use Rattle.page_roff_syntax.specs.Arguments.{is_blank, arguments, has_arguments, ReadsFirst, ReadsNext};
 
 use crate::quotes::{Argument, first_argument};
-use page_core_limits::LINE;
+use page_core_base::LINE;
 use std::marker::Model;
 
 /// Reads the arguments of a control line, one after another. Contracts see the list of those still to be read.
@@ -22,7 +22,7 @@ impl<'a> Model for Arguments<'a> {
     ghost Value = { List (Argument (List ℕ)) };
 
     ghost use Rattle.std.specs.Prelude.{◌≤◌, ◌+◌, length};
-    ghost use Rattle.page_core_limits.specs.declared.TheConstants.{LINE};
+    ghost use Rattle.page_core_base.specs.declared.limits.TheConstants.{LINE};
     ghost use Rattle.page_roff_syntax.specs.Arguments.{arguments};
 
     ghost view = { λ a. arguments a.column a.rest.now };

@@ -6,7 +6,7 @@ ghost use Rattle.page_roff_syntax.specs.LineForms.{is_white, is_name, has_word, 
 ghost use Rattle.page_roff_syntax.specs.LineForms.{form_view, name_of, name_view};
 
 use crate::comments::uncommented_len;
-use page_core_limits::LINE;
+use page_core_base::LINE;
 use std::alloc::AllocError;
 
 /// The form of a raw line; `W` is a text.

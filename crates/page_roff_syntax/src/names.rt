@@ -5,7 +5,7 @@ ghost use Rattle.page_roff_syntax.specs.Arguments.{argument_view, unpaired, argu
 
 use crate::quotes::Argument;
 use arrayvec::ArrayVec;
-use page_core_limits::NAME;
+use page_core_base::NAME;
 
 /// As many bytes of a name as make a difference: one more than names may have.
 pub const NAME_ROOM: usize = NAME + 1;

@@ -4,7 +4,7 @@ ghost use Rattle.std.specs.Prelude.{◌≡◌};
 ghost use Rattle.page_roff_syntax.specs.Requests as requests;
 
 use crate::regions::RegionKind;
-use page_core_names::{list_for, row_named};
+use page_core_base::{list_for, row_named};
 
 /// A request that defines strings or number registers, or takes definitions away.
 #[derive(Clone, Copy)]

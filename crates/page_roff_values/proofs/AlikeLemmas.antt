@@ -1,7 +1,7 @@
 -- Texts have the same values by two widths that are the same for each text: helpers of proofs.
 use Rattle.std.specs.Fmt.{decimal}
 use Rattle.std.proofs.Common.{◌≡◌, ℕ, zero, suc, nat_lt, List, [], ◌∷◌, codes, if◌then◌else◌, Option, Some, None, refl, ap, ◌∙◌}
-use Rattle.page_core_limits.specs.declared.TheConstants.{EXPAND}
+use Rattle.page_core_base.specs.declared.limits.TheConstants.{EXPAND}
 use Rattle.page_core_base.specs.declared.note_kinds.NoteKind.{NoteKind}
 use Rattle.page_core_base.specs.declared.note_kinds.NoteKind.TheVariants.{UndefString, ArgOutside, Loop}
 use Rattle.page_roff_names.specs.Names.{string_of}

@@ -1,7 +1,7 @@
 -- The arguments of a macro in their bytes: helpers of proofs.
 use Rattle.std.proofs.Common.{◌≡◌, ℕ, zero, suc, ◌+◌, ◌<◌, ◌≤◌, Bool, true, false, ◌==◌, List, [], ◌∷◌, ◌++◌, length, get_or, take, drop, if◌then◌else◌, refl, ap, ◌∙◌, sym, append_assoc, append-nil, arith, ◌*◌}
 use Rattle.std.proofs.lemmas.Bool.{eqb-true}
-use Rattle.page_core_limits.specs.declared.TheConstants.{ARGS}
+use Rattle.page_core_base.specs.declared.limits.TheConstants.{ARGS}
 use Rattle.page_roff_values.specs.Arguments.{begin_first, arguments_in, argument_at, spaced, spaced_quoted}
 use Rattle.page_roff_values.specs.machine.Held.{AreHeld}
 

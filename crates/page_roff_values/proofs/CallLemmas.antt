@@ -5,7 +5,7 @@ use Rattle.std.proofs.Math.Nat.{mul-suc, mul-le-mul_left}
 use Rattle.std.proofs.lemmas.Bool.{ltb-true}
 use Rattle.page_core_base.specs.declared.note_kinds.NoteKind.TheVariants.{Loop, UndefString, ArgOutside}
 use Rattle.page_roff_names.specs.Names.{string_of}
-use Rattle.page_core_limits.specs.declared.TheConstants.{EXPAND}
+use Rattle.page_core_base.specs.declared.limits.TheConstants.{EXPAND}
 use Rattle.page_roff_values.specs.declared.parts.Call.{Call}
 use Rattle.page_roff_values.specs.declared.parts.Call.TheVariants.{String, Register, Argument, Width}
 use Rattle.page_roff_values.specs.Arguments.{argument_of}

@@ -1,7 +1,7 @@
 -- What a line keeps, whatever is laid: where it stands, and that its count does not fall. Helpers of proofs.
 use Rattle.std.specs.Fmt.{decimal, signed_decimal}
 use Rattle.std.proofs.Common.{◌≡◌, ℕ, zero, suc, ◌-◌, ◌≤◌, Bool, true, false, nat_lt, List, [], ◌∷◌, length, take, codes, if◌then◌else◌, Option, None, Some, refl, ◌∙◌, arith}
-use Rattle.page_core_limits.specs.declared.TheConstants.{EXPAND, LINE}
+use Rattle.page_core_base.specs.declared.limits.TheConstants.{EXPAND, LINE}
 use Rattle.page_core_base.specs.declared.note_kinds.NoteKind.{NoteKind}
 use Rattle.page_core_base.specs.declared.note_kinds.NoteKind.TheVariants.{UndefString, ArgOutside, Loop, Limit}
 use Rattle.page_roff_names.specs.Names.{string_of}

@@ -4,7 +4,7 @@ use Rattle.std.proofs.Math.Seq.{take-add}
 use Rattle.std.proofs.lemmas.Bool.{lt-ltb, ltb-true, eqb-true}
 use Rattle.std.proofs.lemmas.List.{drop-drop}
 use Rattle.memchr.specs.Find.{IsFirstByte, is_byte}
-use Rattle.page_core_limits.specs.declared.TheConstants.{LINE}
+use Rattle.page_core_base.specs.declared.limits.TheConstants.{LINE}
 use Rattle.page_roff_values.specs.Environments.{Surroundings}
 use Rattle.page_roff_values.specs.machine.Fronts.{IsFront}
 use Rattle.page_roff_values.specs.Parts.{begins_escape, call_cut, character_len, copies, is_doubled, parts, seen}

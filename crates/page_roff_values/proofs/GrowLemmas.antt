@@ -2,9 +2,9 @@
 use Rattle.std.specs.Fmt.{decimal, signed_decimal}
 use Rattle.std.proofs.Common.{◌≡◌, ℕ, zero, suc, ◌-◌, ◌<◌, ◌≤◌, ◌==◌, Bool, true, false, nat_lt, List, [], ◌∷◌, ◌++◌, length, take, get_or, codes, if◌then◌else◌, Option, Some, None, refl, sym, ap, ◌∙◌, arith, append_assoc, append-nil}
 use Rattle.std.proofs.lemmas.List.{take-append-le, length-append}
-use Rattle.page_core_limits.specs.declared.TheConstants.{EXPAND, LINE}
-use Rattle.page_core_limits.specs.Limits.{name_of}
-use Rattle.page_core_limits.specs.declared.Limit.TheVariants as limits
+use Rattle.page_core_base.specs.declared.limits.TheConstants.{EXPAND, LINE}
+use Rattle.page_core_base.specs.Limits.{name_of}
+use Rattle.page_core_base.specs.declared.limits.Limit.TheVariants as limits
 use Rattle.page_core_base.specs.declared.note_kinds.NoteKind.{NoteKind}
 use Rattle.page_core_base.specs.declared.note_kinds.NoteKind.TheVariants.{UndefString, ArgOutside, Loop, Limit}
 use Rattle.page_roff_names.specs.Names.{string_of}

@@ -9,7 +9,7 @@ ghost use Rattle.page_roff_names.specs.Names.{Lends};
 use crate::endings::after;
 use crate::parts::Cut;
 use memchr::memchr;
-use page_core_limits::ARGS;
+use page_core_base::ARGS;
 use std::alloc::{AllocError, Global};
 use std::marker::Model;
 

@@ -2,7 +2,7 @@
 
 ghost use Rattle.std.specs.Prelude.{◌≡◌, ◌+◌, ◌-◌, ◌*◌, ◌^◌, ◌<◌, ◌≤◌, length, not, false, nat_lt, IfOk, if◌then◌else◌};
 ghost use Rattle.std.specs.Fmt.{decimal, signed_decimal};
-ghost use Rattle.page_core_limits.specs.declared.TheConstants.{LINE};
+ghost use Rattle.page_core_base.specs.declared.limits.TheConstants.{LINE};
 ghost use Rattle.page_roff_values.specs.Latches.{Goes};
 ghost use Rattle.page_roff_values.specs.machine.Rest.{calling, going_on, steps, texts_of};
 ghost use Rattle.page_roff_values.specs.Values as laying;
@@ -17,8 +17,7 @@ use crate::sources::Sources;
 use crate::verbatim::is_verbatim;
 use itoa::Buffer;
 use memchr::memchr;
-use page_core_base::{Note, NoteKind, NoteOut, Output, Place};
-use page_core_limits::{EXPAND, LINE, Limit, NEST};
+use page_core_base::{EXPAND, LINE, Limit, NEST, Note, NoteKind, NoteOut, Output, Place};
 use page_core_numbers::columns;
 use std::alloc::{AllocError, Global};
 use std::marker::Model;

@@ -6,7 +6,7 @@ ghost use Rattle.page_roff_values.specs.machine.Rest.{texts_of, size, Reads};
 use crate::parts::Part;
 use crate::unread::Unread;
 use arrayvec::ArrayVec;
-use page_core_limits::NEST;
+use page_core_base::NEST;
 
 /// What is left of the innermost text, and of those around it, the outermost first.
 #[derive(Drop)]

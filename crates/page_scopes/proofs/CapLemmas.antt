@@ -1,8 +1,8 @@
 -- What is kept of a text or a list is within its limit, and so is what open scopes keep: helpers of proofs.
 use Rattle.std.proofs.Common.{◌≤◌, List, [], ◌∷◌, length, Option, None, Some}
 use Rattle.std.specs.Prelude.{IfSome}
-use Rattle.page_core_limits.specs.declared.TheConstants.{COLUMNS, FIELD}
-use Rattle.page_scopes_laws.specs.declared.Scope.{Scope}
+use Rattle.page_core_base.specs.declared.limits.TheConstants.{COLUMNS, FIELD}
+use Rattle.page_scopes_tree.specs.declared.nestings.Scope.{Scope}
 use Rattle.page_scopes_labels.specs.declared.labels.Label.{Label}
 use Rattle.page_scopes_layout.specs.declared.lists.OpenList.{OpenList}
 use Rattle.page_scopes_phrases.specs.declared.kept_texts.KeptText.{KeptText}

@@ -1,7 +1,7 @@
 -- How much is held of the open scopes between two lines. Source: man(7), UR, MT; mdoc(7), Bl, Nm; mandoc(1), "DIAGNOSTICS".
 use Rattle.std.specs.Prelude.{◌≤◌, List, [], ◌∷◌, length, IfSome}
-use Rattle.page_core_limits.specs.Limits.{COLUMNS, FIELD, SCOPES}
-use Rattle.page_scopes_laws.specs.declared.Scope.{Scope}
+use Rattle.page_core_base.specs.Limits.{COLUMNS, FIELD, SCOPES}
+use Rattle.page_scopes_tree.specs.declared.nestings.Scope.{Scope}
 use Rattle.page_scopes_labels.specs.declared.labels.Label.{Label}
 use Rattle.page_scopes_layout.specs.declared.contexts.Context.{Context}
 use Rattle.page_scopes.specs.Edges.{PageEdge}

@@ -7,7 +7,7 @@ ghost use Rattle.page_scopes_tree.specs.Edges.{page_items};
 ghost use Rattle.page_sets_lines.specs.declared.events.Event.{Event};
 
 use crate::LayoutState;
-use page_core_limits::SCOPES;
+use page_core_base::SCOPES;
 use page_scopes_tree::events_law;
 
 /// A page cut anywhere between two events: what all events give is what those before the cut give, and then what those after it give from the edge at

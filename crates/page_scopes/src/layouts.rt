@@ -10,11 +10,10 @@ use crate::bodies::{give_coming, give_standing};
 use page_core_base::{PieceOut, Place};
 use page_roff_syntax::Argument;
 use page_scopes_labels::Label;
-use page_scopes_laws::Scope;
 use page_scopes_layout::Context;
 use page_scopes_nodes::{PageLayout, give_begun, give_ended};
 use page_scopes_phrases::{KeptText, Running};
-use page_scopes_tree::{Act, Renderer};
+use page_scopes_tree::{Act, Renderer, Scope};
 use page_sets_lines::{Event, EventKind, Opener};
 
 /// What scopes and other events are laid out by.

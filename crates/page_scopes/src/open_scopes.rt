@@ -9,8 +9,7 @@ ghost use Rattle.page_sets_lines.specs.Events.{kind_view, event_view};
 
 use crate::LayoutState;
 use crate::bodies::begins;
-use page_core_base::PieceOut;
-use page_core_limits::SCOPES;
+use page_core_base::{PieceOut, SCOPES};
 use page_scopes_nodes::PageLayout;
 use page_scopes_tree::ScopeStack;
 use page_sets_lines::Event;

@@ -8,8 +8,7 @@ ghost use Rattle.page_sets_lines.specs.Fits.{KindFits};
 ghost use Rattle.page_sets_lines.specs.Events.{kind_view, event_view};
 
 use crate::OpenScopes;
-use page_core_base::{Fault, PieceLatch, PieceSink, Settings};
-use page_core_limits::SCOPES;
+use page_core_base::{Fault, PieceLatch, PieceSink, SCOPES, Settings};
 use page_scopes_nodes::PageLayout;
 use page_sets_lines::{Event, MacroSet};
 use std::alloc::Global;

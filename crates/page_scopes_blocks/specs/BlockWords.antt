@@ -2,7 +2,7 @@
 use Rattle.std.specs.Prelude.{ℕ, min, false, List, Option, None, Some, codes}
 use Rattle.page_core_base.specs.declared.cells.Font.TheVariants.{B}
 use Rattle.page_core_base.specs.declared.places.Place.{Place}
-use Rattle.page_core_limits.specs.Limits.{LINE}
+use Rattle.page_core_base.specs.Limits.{LINE}
 use Rattle.page_roff_syntax.specs.declared.quotes.Argument.{Argument}
 use Rattle.page_scopes_layout.specs.declared.contexts.Context.{Context}
 use Rattle.page_scopes_layout.specs.declared.contexts.SeriesSoFar.{SeriesSoFar}

@@ -1,7 +1,7 @@
 -- Items of lists: their marks and numbers. Source: mdoc(7), `Bl` and `It`.
 use Rattle.std.specs.Prelude.{ℕ, min, false, List, ◌++◌, Option, None, Some, codes, decimal, pos}
 use Rattle.page_core_base.specs.declared.places.Place.{Place}
-use Rattle.page_core_limits.specs.Limits.{LINE}
+use Rattle.page_core_base.specs.Limits.{LINE}
 use Rattle.page_scopes_layout.specs.Begins.{entered_context}
 use Rattle.page_scopes_layout.specs.Lists.{item_begun}
 use Rattle.page_scopes_layout.specs.Margins.{hold}

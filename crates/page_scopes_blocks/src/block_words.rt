@@ -8,8 +8,7 @@ ghost use Rattle.page_scopes_phrases.specs.Outcomes.{GivesOutcome};
 ghost use Rattle.page_scopes_phrases.specs.Phrases.{phrase_view};
 ghost use Rattle.page_sets_lines.specs.Events.{block_opener_view, given_view, word_view};
 
-use page_core_base::{Font, PieceOut, Place};
-use page_core_limits::LINE;
+use page_core_base::{Font, LINE, PieceOut, Place};
 use page_roff_syntax::Argument;
 use page_scopes_labels::{Explicit, Label};
 use page_scopes_layout::{Context, SeriesSoFar};

@@ -8,8 +8,7 @@ ghost use Rattle.page_scopes_blocks.specs.Items as items;
 
 use arrayvec::ArrayVec;
 use itoa::Buffer;
-use page_core_base::{PieceOut, Place};
-use page_core_limits::LINE;
+use page_core_base::{LINE, PieceOut, Place};
 use page_scopes_labels::Label;
 use page_scopes_layout::{Context, OpenList, give_begin, give_margins, hold};
 use page_scopes_phrases::{Phrase, Running, TagPlace, give_phrase_tag};

@@ -1,7 +1,7 @@
 //! The columns of the words of `Nm` that begin a row of the SYNOPSIS: later rows stand as many further in (mdoc(7), `Nm`).
 
 ghost use Rattle.std.specs.Prelude.{◌≡◌, ◌≤◌, ◌*◌};
-ghost use Rattle.page_core_limits.specs.declared.TheConstants.{LINE};
+ghost use Rattle.page_core_base.specs.declared.limits.TheConstants.{LINE};
 ghost use Rattle.page_scopes_blocks.specs.NameHangs as hangs;
 ghost use Rattle.page_sets_lines.specs.Fits.{KindFits, FitsAt};
 ghost use Rattle.page_sets_lines.specs.Events.{kind_view, word_view};
@@ -9,7 +9,7 @@ ghost use Rattle.page_sets_lines.specs.Events.{kind_view, word_view};
 use page_core_base::Output;
 use page_scopes_layout::MARGIN;
 use page_scopes_phrases::{KeptText, Running};
-use page_scopes_widths::name_columns;
+use page_scopes_text::name_columns;
 use page_sets_lines::{EventKind, Leaf, LineStep, Role, Word};
 
 // The columns with those of a word more, and the blank after it.

@@ -9,8 +9,7 @@ ghost use Rattle.page_scopes_blocks.specs.OpenLists as lists;
 ghost use Rattle.page_sets_lines.specs.Lists.{options_view};
 
 use crate::widths::{give_columns, give_given, hang_of};
-use page_core_base::{Output, Piece, PieceOut, Place};
-use page_core_limits::LINE;
+use page_core_base::{LINE, Output, Piece, PieceOut, Place};
 use page_scopes_layout::{ColumnWidths, Context, OpenList, give_margins};
 use page_scopes_phrases::Running;
 use page_sets_lines::{ListKind, ListOptions, read_list_options};

@@ -7,11 +7,10 @@ ghost use Rattle.page_scopes_blocks.specs.ListWidths as widths;
 ghost use Rattle.page_scopes_blocks.specs.ListWidths.{LengthFits};
 ghost use Rattle.page_sets_lines.specs.Events.{given_view};
 
-use page_core_base::{NoteKind, Output, PieceOut, Place};
-use page_core_limits::{LINE, Limit};
+use page_core_base::{LINE, Limit, NoteKind, Output, PieceOut, Place};
 use page_roff_syntax::{Argument, Arguments};
 use page_scopes_layout::{ColumnWidths, hold};
-use page_scopes_widths::{give_width, name_columns};
+use page_scopes_text::{give_width, name_columns};
 use page_scopes_words::report;
 use page_sets_lines::{ListKind, ListOptions};
 

@@ -3,11 +3,11 @@
 use page_core_base::{Font, Note, Piece};
 use page_scopes_labels::{Explicit, Label};
 use page_scopes_layout::{Context, give_begin, give_end, margins_of};
-use page_scopes_shown::{Notation, ShownBy};
 use page_scopes_words::Setting;
 use page_sets_lines::{
     Block, FontMacro, HeadingName, LineOpener, Link, ListKind, Marks, OneLineName, TagName,
 };
+use page_test_streams::{Notation, ShownBy};
 use std::alloc::Global;
 use std::process::Abort;
 use std::test::Fail;

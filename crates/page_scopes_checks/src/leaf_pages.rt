@@ -5,9 +5,9 @@ use page_roff_syntax::{LineForm, form_of};
 use page_scopes_layout::Context;
 use page_scopes_leaves::give_kind;
 use page_scopes_phrases::Running;
-use page_scopes_shown::Shown;
 use page_sets::{Event, EventKind, Leaf, Man};
 use page_sets_checks::events_of;
+use page_test_streams::Shown;
 use std::alloc::Global;
 use std::process::Abort;
 

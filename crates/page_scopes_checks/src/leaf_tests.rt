@@ -1,7 +1,7 @@
 //! What lines give whose macros open and close nothing.
 
 use crate::leaf_pages::{Page, check_shown, give_script};
-use page_scopes_shown::Shown;
+use page_test_streams::Shown;
 use std::alloc::Global;
 use std::process::Abort;
 

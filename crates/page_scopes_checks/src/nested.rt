@@ -2,8 +2,7 @@
 
 use page_core_base::{Font, Piece, PieceOut, Place};
 use page_scopes_labels::Label;
-use page_scopes_laws::Scope;
-use page_scopes_tree::{Act, Renderer};
+use page_scopes_tree::{Act, Renderer, Scope};
 use page_sets_lines::{Event, EventKind, Leaf};
 
 /// The margin, in columns.

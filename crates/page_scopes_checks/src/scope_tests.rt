@@ -1,16 +1,15 @@
 //! What events open and end, and what is reported.
 
 use crate::nested::Nested;
-use page_core_base::{Font, Note, Piece, Place};
-use page_core_limits::SCOPES;
+use page_core_base::{Font, Note, Piece, Place, SCOPES};
 use page_roff_syntax::{Argument, Quoting};
-use page_scopes_shown::{Brief, Notation, ShownBy};
 use page_scopes_tree::ScopeStack;
 use page_sets_lines::{
     BlockCloser, BlockOpener, Closer, Event, EventKind, FontMacro, HeadingName, Join, Leaf,
     LineOpener, Link, Marks, OneLineName, Opener, ParagraphName, Quotation, Request, Role, TagName,
     Word,
 };
+use page_test_streams::{Brief, Notation, ShownBy};
 use std::alloc::{AllocError, Global};
 use std::process::Abort;
 use std::test::Fail;

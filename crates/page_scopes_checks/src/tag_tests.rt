@@ -9,8 +9,8 @@ use page_core_base::{Font, Place};
 use page_roff_syntax::{Argument, Quoting};
 use page_scopes_leaves::{end_line, give_leaf, give_raw_line};
 use page_scopes_phrases::{TagPlace, give_generated_word, give_line_word, give_tag};
-use page_scopes_shown::Shown;
 use page_sets::{GeneratedText, GeneratedWord, Join, Leaf, Role, Word};
+use page_test_streams::Shown;
 use std::alloc::Global;
 use std::process::Abort;
 

@@ -8,8 +8,8 @@ ghost use Rattle.page_core_tables.specs.Glyphs.{glyph_of};
 ghost use Rattle.page_scopes_layout.specs.Headings as headings;
 
 use crate::contexts::{Context, PagePart, PageSection};
+use page_core_base::LINE;
 use page_core_escapes::{Escape, Token, read_token};
-use page_core_limits::LINE;
 use page_core_numbers::{Scale, evaluate};
 use page_core_tables::{glyph, spelling};
 

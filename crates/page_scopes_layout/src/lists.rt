@@ -1,12 +1,11 @@
 //! Lists: what is known of an open one, and the contexts of its items (mdoc(7), `Bl`).
 
 ghost use Rattle.std.specs.Prelude.{◌≡◌, ◌≤◌};
-ghost use Rattle.page_core_limits.specs.declared.TheConstants.{COLUMNS};
+ghost use Rattle.page_core_base.specs.declared.limits.TheConstants.{COLUMNS};
 
 use crate::margins::further_in;
 use crate::{COLUMN_GAP, COLUMN_WIDTH, Context, MARGIN, PagePart, hold};
-use page_core_base::Font;
-use page_core_limits::COLUMNS;
+use page_core_base::{COLUMNS, Font};
 use page_sets_lines::ListKind;
 
 /// The widths of a list's columns, in columns of the page; only the first [`count`](ColumnWidths::count) are given.

@@ -31,7 +31,7 @@ use Rattle.page_sets_lines.specs.declared.events.Join.TheVariants.{Apart}
 use Rattle.page_sets_names.specs.declared.macro_names.ParagraphName.{ParagraphName}
 use Rattle.page_sets_lines.specs.declared.openers.Opener.{Opener}
 use Rattle.page_sets_lines.specs.declared.openers.Opener.TheVariants as openers
-use Rattle.page_scopes_widths.specs.Names.{name_columns}
+use Rattle.page_scopes_text.specs.Names.{name_columns}
 use Rattle.page_scopes_nodes.specs.Targets.{target_notes}
 use Rattle.page_scopes_nodes.specs.declared.page_layouts.PageLayout.{PageLayout}
 

@@ -16,8 +16,7 @@ use page_scopes_blocks::{give_block, give_item, give_list};
 use page_scopes_labels::{Explicit, Label};
 use page_scopes_layout::{Context, give_begin, hold};
 use page_scopes_phrases::{Running, TagPlace, argument_word, give_tag};
-use page_scopes_text::give_columns;
-use page_scopes_widths::name_columns;
+use page_scopes_text::{give_columns, name_columns};
 use page_scopes_words::report;
 use page_sets_lines::{BlockOpener, Join, Opener, ParagraphName};
 

@@ -7,9 +7,8 @@ ghost use Rattle.page_roff_syntax.specs.Arguments.{argument_view};
 ghost use Rattle.page_scopes_phrases.specs.Outcomes.{GivesOutcome};
 ghost use Rattle.page_scopes_nodes.specs.Targets as targets;
 
-use page_core_base::{Font, Piece, PieceOut, Place};
+use page_core_base::{Font, LINE, Piece, PieceOut, Place};
 use page_core_escapes::read_token;
-use page_core_limits::LINE;
 use page_roff_syntax::Argument;
 use page_scopes_layout::{Context, PagePart};
 use page_scopes_phrases::{KeptText, Running, give_kept, give_kept_gap, report_cut};

@@ -4,7 +4,7 @@ use Rattle.page_core_base.specs.Pieces.{Item}
 use Rattle.page_core_base.specs.declared.cells.Font.{Font}
 use Rattle.page_core_base.specs.declared.note_kinds.NoteKind.TheVariants.{Unterminated}
 use Rattle.page_core_base.specs.declared.places.Place.{Place}
-use Rattle.page_core_limits.specs.Limits.{LINE}
+use Rattle.page_core_base.specs.Limits.{LINE}
 use Rattle.page_roff_syntax.specs.Arguments.{is_quoted}
 use Rattle.page_roff_syntax.specs.declared.quotes.Argument.{Argument}
 use Rattle.page_roff_syntax.specs.declared.quotes.Quoting.{Quoting}

@@ -11,9 +11,8 @@ ghost use Rattle.page_scopes_phrases.specs.Phrases.{phrase_view};
 
 use crate::phrases::is_text;
 use crate::{Phrase, Running, give_phrase};
-use page_core_base::{NoteKind, Piece, PieceOut, Place};
+use page_core_base::{LINE, NoteKind, Piece, PieceOut, Place};
 use page_core_escapes::{Escape, Token, read_token};
-use page_core_limits::LINE;
 use page_scopes_layout::Context;
 use page_scopes_words::report;
 use page_sets_lines::Join;

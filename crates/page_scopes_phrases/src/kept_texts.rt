@@ -2,11 +2,10 @@
 //! mdoc(7), `Nm`).
 
 ghost use Rattle.std.specs.Prelude.{◌≡◌, ◌≤◌, length};
-ghost use Rattle.page_core_limits.specs.declared.TheConstants.{FIELD};
+ghost use Rattle.page_core_base.specs.declared.limits.TheConstants.{FIELD};
 
 use arrayvec::ArrayVec;
-use page_core_base::text_front;
-use page_core_limits::FIELD;
+use page_core_base::{FIELD, text_front};
 use page_roff_syntax::Argument;
 use std::marker::Model;
 

@@ -3,13 +3,12 @@
 ghost use Rattle.std.specs.Prelude.{◌≡◌, ◌≤◌, ◌<◌, length, false};
 ghost use Rattle.page_core_base.specs.Latches.{Came};
 ghost use Rattle.page_core_escapes.specs.Tokens.{token_view, tokens_of};
-ghost use Rattle.page_core_limits.specs.declared.TheConstants.{FIELD};
+ghost use Rattle.page_core_base.specs.declared.limits.TheConstants.{FIELD};
 ghost use Rattle.page_scopes_phrases.specs.KeptTexts as kept;
 
 use crate::{KeptText, Running};
-use page_core_base::{Font, NoteKind, Piece, PieceOut, Place};
+use page_core_base::{FIELD, Font, LINE, Limit, NoteKind, Piece, PieceOut, Place};
 use page_core_escapes::{Token, read_token};
-use page_core_limits::{FIELD, LINE, Limit};
 use page_scopes_text::{fonts_after, give_blank_cells, give_token, token_prints};
 use page_scopes_words::{Fonts, Setting, give_white_cells, has_tab, report};
 

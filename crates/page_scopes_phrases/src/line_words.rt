@@ -12,8 +12,7 @@ ghost use Rattle.page_sets_lines.specs.Events.{word_view};
 
 use crate::cells::{give_cells, in_columns};
 use crate::{Phrase, Running, give_phrase};
-use page_core_base::{Font, NoteKind, PieceOut, Place};
-use page_core_limits::LINE;
+use page_core_base::{Font, LINE, NoteKind, PieceOut, Place};
 use page_roff_syntax::{Argument, Quoting};
 use page_scopes_layout::Context;
 use page_scopes_words::{ends_sentence, report};

@@ -7,8 +7,7 @@ ghost use Rattle.page_sets_lines.specs.Events.{event_view, kind_view};
 ghost use Rattle.page_sets_lines.specs.PlainLines.{event_at};
 ghost use Rattle.page_scopes_sets_checks.specs.Marked as marked;
 
-use page_core_base::{Font, NoteKind, Place, Taken};
-use page_core_limits::LINE;
+use page_core_base::{Font, LINE, NoteKind, Place, Taken};
 use page_roff_syntax::{Argument, has_arguments};
 use page_sets::{
     BlockCloser, BlockOpener, Closer, Event, EventKind, Join, MacroSet, Opener, Quotation, Role,

@@ -3,7 +3,7 @@
 ghost use Rattle.std.proofs.Common.{refl};
 
 use page_core_base::{Fault, Note, NoteSink, Piece, PieceSink};
-use page_scopes_shown::{Brief, Notation};
+use page_test_streams::{Brief, Notation};
 use std::alloc::Global;
 
 /// Shows what it is given, and never fails.

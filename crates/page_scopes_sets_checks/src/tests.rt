@@ -3,8 +3,7 @@
 ghost use Rattle.std.specs.Prelude.{◌≤◌, length};
 
 use crate::{Marked, Pieces};
-use page_core_base::{Fault, Form, Settings, Taken};
-use page_core_limits::LINE;
+use page_core_base::{Fault, Form, LINE, Settings, Taken};
 use page_roff_syntax::{LineForm, form_of};
 use page_scopes::Scopes;
 use page_sets::{Either, MacroSet, Man, Mdoc};

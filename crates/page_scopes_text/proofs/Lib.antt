@@ -6,3 +6,4 @@ pub mod RunEndLemmas
 pub mod RunWordLemmas
 pub mod FontWordLemmas
 mod PartLemmas
+pub mod TokenLemmas

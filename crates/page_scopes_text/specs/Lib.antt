@@ -3,3 +3,5 @@ pub mod Parted
 pub mod Words
 pub mod Texts
 pub mod machine
+pub mod Names
+pub mod Widths

@@ -7,9 +7,9 @@ use Rattle.page_core_numbers.specs.declared.scales.Scale.{Scale}
 use Rattle.page_core_numbers.specs.declared.scales.Scale.TheVariants.{En, Vertical}
 use Rattle.page_core_numbers.specs.Expressions.{expression_of, messages_at}
 use Rattle.page_scopes_words.specs.Words.{says}
-use Rattle.page_core_limits.specs.Limits.{BLANKS}
-use Rattle.page_core_limits.specs.Limits.{name_of}
-use Rattle.page_core_limits.specs.declared.Limit.TheVariants as limits
+use Rattle.page_core_base.specs.Limits.{BLANKS}
+use Rattle.page_core_base.specs.Limits.{name_of}
+use Rattle.page_core_base.specs.declared.limits.Limit.TheVariants as limits
 
 -- the expression at a text's front; a number without a unit is in this one
 abbrev pub number_value : Scale → List ℕ → ℤ

@@ -6,8 +6,7 @@ ghost use Rattle.page_core_base.specs.Latches.{Came};
 ghost use Rattle.page_scopes_text.specs.Numbers as numbers;
 ghost use Rattle.page_scopes_text.specs.Numbers.{number_notes, number_value};
 
-use page_core_base::{NoteKind, PieceOut, Place};
-use page_core_limits::{BLANKS, Limit};
+use page_core_base::{BLANKS, Limit, NoteKind, PieceOut, Place};
 use page_core_numbers::{Scale, evaluate};
 use page_scopes_words::report;
 

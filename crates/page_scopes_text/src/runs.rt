@@ -11,8 +11,7 @@ ghost use Rattle.page_scopes_text.specs.Words as words;
 
 use crate::parts::give_parts;
 use crate::run_ends::going_len;
-use page_core_base::{Font, Piece, PieceOut, Place};
-use page_core_limits::LINE;
+use page_core_base::{Font, LINE, Piece, PieceOut, Place};
 
 // The last blank up to a place, or the text's front.
 #[inline(always)]

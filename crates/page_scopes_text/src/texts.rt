@@ -14,9 +14,8 @@ use crate::runs::{give_run, run_len};
 use crate::tokens::give_blank_cells;
 use crate::words::{give_body, give_font_word, give_word, report_word};
 use crate::{Pen, TextStyle};
-use page_core_base::{Font, Piece, PieceOut, Place};
+use page_core_base::{Font, LINE, Piece, PieceOut, Place};
 use page_core_escapes::{begins_word, read_token};
-use page_core_limits::LINE;
 use page_scopes_words::{give_white_cells, has_tab};
 
 // Gives white space, and goes on after it.

@@ -12,9 +12,8 @@ use crate::font_words::{FontWord, give_font_tokens, read_font_word};
 use crate::parts::{give_plain_token, give_printed};
 use crate::tokens::{give_blank_cells, give_letters, report_token};
 use crate::{Pen, TextStyle};
-use page_core_base::{Font, Piece, PieceOut, Place};
+use page_core_base::{Font, LINE, Piece, PieceOut, Place};
 use page_core_escapes::{begins_word, plain_len, read_token};
-use page_core_limits::LINE;
 
 /// Gives the messages of the word at a text's front.
 pub(crate) fn report_word<O: PieceOut>(out: &mut O, quoted: bool, place: Place, text: &[u8])

@@ -1,14 +1,14 @@
 -- Events that are cut between two of them.
 use Rattle.std.proofs.Common.{◌≡◌, ℕ, ◌≤◌, List, [], ◌∷◌, ◌++◌, length, refl, sym, ap, ◌∙◌, append_assoc}
-use Rattle.page_scopes_laws.proofs.CutLemmas.{settled-append, edge-append, edge-fits}
-use Rattle.page_scopes_laws.specs.Layouts.{settled, edge}
+use Rattle.page_scopes_tree.proofs.CutLemmas.{settled-append, edge-append, edge-fits}
+use Rattle.page_scopes_tree.specs.Layouts.{settled, edge}
 use Rattle.page_sets_lines.specs.declared.events.Event.{Event}
 use Rattle.page_scopes_tree.proofs.FitLemmas.{scopes-sound}
 use Rattle.page_scopes_tree.specs.Acts.{does, steps_of}
 use Rattle.page_scopes_tree.specs.Edges.{ScopesEdge, steps_of_all, events_items, events_edge, page_items, page_end_items}
 use Rattle.page_scopes_tree.specs.Frames.{Tables, framed}
 use Rattle.page_scopes_tree.specs.Nests.{scopes_nesting}
-use Rattle.page_core_limits.specs.declared.TheConstants.{SCOPES}
+use Rattle.page_core_base.specs.declared.limits.TheConstants.{SCOPES}
 use Rattle.page_scopes_tree.specs.declared.acts.Act.TheVariants as acts
 
 pub steps_of_all-append : (events more : List (Event (List ℕ))) → steps_of_all (events ++ more) ≡ steps_of_all events ++ steps_of_all more

@@ -5,7 +5,7 @@ use Rattle.std.proofs.lemmas.Bool.Decides.{nat_tests}
 use Rattle.std.proofs.lemmas.List.Sums.{prefix_len-le-length}
 use Rattle.page_core_numbers.specs.Expressions.{expression_of}
 use Rattle.page_core_numbers.specs.declared.scales.Scale.TheVariants.{Basic}
-use Rattle.page_scopes_laws.specs.Nestings.{as_node, as_nothing, IsSound}
+use Rattle.page_scopes_tree.specs.Nestings.{as_node, as_nothing, IsSound}
 use Rattle.page_sets_lines.specs.Blocks.{closed_block}
 use Rattle.page_sets_lines.specs.declared.events.Event.{Event}
 use Rattle.page_sets_lines.specs.declared.events.EventKind.{EventKind}
@@ -24,7 +24,7 @@ use Rattle.page_scopes_tree.specs.Ends.{inside, up_to, line_scopes, up_to_explic
 use Rattle.page_scopes_labels.specs.Labels.{is_line, is_enclosure, is_section, is_paragraph, is_item, is_list, is_explicit, is_level}
 use Rattle.page_scopes_tree.specs.Nests.{standing_by, step_ends, step_standing, scopes_nesting}
 use Rattle.page_scopes_tree.specs.Placements.{has_room, in_list, in_headed_list, opened, item_placement, opener_placement, head_placement, line_placement, closed, closer_placement, in_line_scope, is_dropped, request_placement, leaf_placement, kind_placement, act_placement, opener_label, is_passed_over}
-use Rattle.page_core_limits.specs.declared.TheConstants.{SCOPES}
+use Rattle.page_core_base.specs.declared.limits.TheConstants.{SCOPES}
 use Rattle.page_scopes_tree.specs.declared.acts.Act.{Act}
 use Rattle.page_scopes_tree.specs.declared.acts.Act.TheVariants as acts
 use Rattle.page_scopes_labels.specs.declared.labels.Explicit.{Explicit}

@@ -4,9 +4,9 @@ use Rattle.std.proofs.lemmas.List.{drop_more, drop_all, map-append, reverse-reve
 use Rattle.std.proofs.lemmas.Grind.{reverse_onto}
 use Rattle.std.specs.Prelude.{ℤ, pos, int_lt, nat_abs}
 use Rattle.std.specs.Option.{option_map}
-use Rattle.page_scopes_laws.specs.declared.Scope.{Scope}
-use Rattle.page_scopes_laws.specs.Layouts.{labels}
-use Rattle.page_scopes_laws.proofs.RunLemmas.{length-labels}
+use Rattle.page_scopes_tree.specs.declared.nestings.Scope.{Scope}
+use Rattle.page_scopes_tree.specs.Layouts.{labels}
+use Rattle.page_scopes_tree.proofs.RunLemmas.{length-labels}
 use Rattle.page_scopes_tree.specs.Ends.{place_of_margin, but_outside, up_to_margin}
 use Rattle.page_scopes_labels.specs.Labels.{is_margin}
 use Rattle.page_scopes_labels.specs.declared.labels.Label.{Label}

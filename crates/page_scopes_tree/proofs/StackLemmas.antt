@@ -2,19 +2,19 @@
 use Rattle.std.proofs.Common.{◌≡◌, ℕ, ◌+◌, ◌-◌, ◌<◌, ◌≤◌, Bool, vec_len, length, reverse, List, [], ◌∷◌, ◌++◌, drop, sym, ap, ◌∙◌, arith}
 use Rattle.std.specs.Global.{Vec}
 use Rattle.std.proofs.lemmas.List.{drop-drop, append-nil, length-reverse}
-use Rattle.page_scopes_laws.proofs.CutLemmas.{ended_items-add, ended_state-add, settled-one, edge-one, step_fits}
-use Rattle.page_scopes_laws.proofs.EdgeLemmas.{edge-run}
-use Rattle.page_scopes_laws.proofs.RunLemmas.{settled-run}
-use Rattle.page_scopes_laws.specs.Layouts.{Layout, Edge, settled, edge}
-use Rattle.page_scopes_laws.specs.Nestings.{Nesting, IsSound}
-use Rattle.page_scopes_laws.specs.machine.Machines.{ended_items, ended_state, step_items, step}
-use Rattle.page_scopes_laws.specs.declared.Scope.{Scope}
+use Rattle.page_scopes_tree.proofs.CutLemmas.{ended_items-add, ended_state-add, settled-one, edge-one, step_fits}
+use Rattle.page_scopes_tree.proofs.EdgeLemmas.{edge-run}
+use Rattle.page_scopes_tree.proofs.RunLemmas.{settled-run}
+use Rattle.page_scopes_tree.specs.Layouts.{Layout, Edge, settled, edge}
+use Rattle.page_scopes_tree.specs.Nestings.{Nesting, IsSound}
+use Rattle.page_scopes_tree.specs.machine.Machines.{ended_items, ended_state, step_items, step}
+use Rattle.page_scopes_tree.specs.declared.nestings.Scope.{Scope}
 use Rattle.page_core_base.specs.Pieces.{Item}
 use Rattle.page_scopes_tree.proofs.FitLemmas.{scopes-sound}
 use Rattle.page_scopes_tree.specs.Acts.{Step}
 use Rattle.page_scopes_tree.specs.Nests.{Fact, scopes_nesting}
 use Rattle.page_scopes_tree.specs.machine.Stacks.{stack_edge}
-use Rattle.page_core_limits.specs.declared.TheConstants.{SCOPES}
+use Rattle.page_core_base.specs.declared.limits.TheConstants.{SCOPES}
 use Rattle.page_scopes_labels.specs.declared.labels.Label.{Label}
 
 one_and_rest : (count i : ℕ) → i < count → count - i ≡ 1 + (count - (i + 1))

@@ -26,8 +26,8 @@ use Rattle.page_scopes_labels.specs.declared.labels.ScopeEnd.{ScopeEnd}
 use Rattle.page_scopes_labels.specs.declared.labels.ScopeEnd.TheVariants as ends
 use Rattle.page_scopes_tree.specs.declared.placements.Obstacle.{Obstacle}
 use Rattle.page_scopes_tree.specs.declared.placements.Obstacle.TheVariants.{OutsideList, Scopes, NotOpen, FewerMargins}
-use Rattle.page_core_limits.specs.Limits.{name_of}
-use Rattle.page_core_limits.specs.declared.Limit.TheVariants as limits
+use Rattle.page_core_base.specs.Limits.{name_of}
+use Rattle.page_core_base.specs.declared.limits.Limit.TheVariants as limits
 
 -- ---- the names of closers
 

@@ -3,7 +3,7 @@
 use Rattle.std.specs.Prelude.{ℕ, List, ◌++◌, false}
 use Rattle.page_core_base.specs.Pieces.{Item}
 use Rattle.page_core_base.specs.declared.places.Place.{Place}
-use Rattle.page_scopes_laws.specs.Layouts.{Layout}
+use Rattle.page_scopes_tree.specs.Layouts.{Layout}
 use Rattle.page_sets_lines.specs.declared.events.Event.{Event}
 use Rattle.page_sets_lines.specs.declared.events.EventKind.TheVariants.{End}
 use Rattle.page_scopes_tree.specs.Acts.{Step, comes, does, act_place}

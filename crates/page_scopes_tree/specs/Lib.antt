@@ -6,3 +6,7 @@ pub mod Nests
 pub mod Frames
 pub mod Edges
 pub mod machine
+pub mod Nestings
+pub mod Forests
+pub mod Layouts
+pub mod Asides

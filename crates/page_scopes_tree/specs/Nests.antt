@@ -1,6 +1,6 @@
 -- The nesting of scopes: the tables of events as those of the block tree. Source: man(7), "MACRO OVERVIEW".
 use Rattle.std.specs.Prelude.{ℕ, Bool, List, if◌then◌else◌}
-use Rattle.page_scopes_laws.specs.Nestings.{Nesting, Standing, as_node, as_leaf, as_nothing}
+use Rattle.page_scopes_tree.specs.Nestings.{Nesting, Standing, as_node, as_leaf, as_nothing}
 use Rattle.page_scopes_tree.specs.Acts.{Step, comes, does}
 use Rattle.page_scopes_tree.specs.Ends.{act_ends}
 use Rattle.page_scopes_tree.specs.Placements.{act_placement, act_skips, is_passed_over}

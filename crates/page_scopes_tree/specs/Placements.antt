@@ -17,7 +17,7 @@ use Rattle.page_sets_lines.specs.declared.openers.LineOpener.TheVariants.{Head, 
 use Rattle.page_sets_lines.specs.declared.blocks.BlockOpener.TheVariants as block_openers
 use Rattle.page_scopes_tree.specs.Ends.{inside}
 use Rattle.page_scopes_labels.specs.Labels.{is_line, is_enclosure, is_list, is_headed_list}
-use Rattle.page_core_limits.specs.Limits.{SCOPES}
+use Rattle.page_core_base.specs.Limits.{SCOPES}
 use Rattle.page_scopes_tree.specs.declared.acts.Act.{Act}
 use Rattle.page_scopes_tree.specs.declared.acts.Act.TheVariants as acts
 use Rattle.page_scopes_labels.specs.declared.labels.Explicit.TheVariants.{RelativeMargin, Target, Syntax, Block}

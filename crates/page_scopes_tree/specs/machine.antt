@@ -1,3 +1,5 @@
 -- The code's own steps and fast ways. Trust needs no reading of them.
 pub mod Runs
 pub mod Stacks
+pub mod Machines
+pub mod Parts

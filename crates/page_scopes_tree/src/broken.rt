@@ -9,8 +9,7 @@ ghost use Rattle.page_sets_lines.specs.Events.{closer_view, kind_view, opener_vi
 
 use crate::Act;
 use crate::placements::Obstacle;
-use page_core_base::{Note, NoteKind, PieceOut, Place};
-use page_core_limits::Limit;
+use page_core_base::{Limit, Note, NoteKind, PieceOut, Place};
 use page_scopes_labels::{Label, ScopeEnd};
 use page_sets_lines::{Closer, Event, EventKind, Leaf, Opener};
 

@@ -3,17 +3,16 @@
 ghost use Rattle.std.specs.Prelude.{◌≡◌, ◌≤◌, ◌<◌, length, reverse};
 ghost use Rattle.page_core_numbers.specs.Expressions.{expression_of};
 ghost use Rattle.page_core_numbers.specs.declared.scales.Scale.TheVariants.{Basic};
-ghost use Rattle.page_scopes_laws.specs.Layouts.{labels};
+ghost use Rattle.page_scopes_tree.specs.Layouts.{labels};
 ghost use Rattle.page_scopes_tree.specs.Acts.{act_view};
 ghost use Rattle.page_scopes_tree.specs.Ends as ends;
 ghost use Rattle.page_sets_lines.specs.Events.{closer_view, kind_view, opener_view, text_view};
 
-use crate::Act;
 use crate::numbers::basic_number;
 use crate::runs::{Run, run_len};
-use page_core_limits::SCOPES;
+use crate::{Act, Scope};
+use page_core_base::SCOPES;
 use page_scopes_labels::{Explicit, Label};
-use page_scopes_laws::Scope;
 use page_sets_lines::{Closer, Event, EventKind, Leaf, Opener};
 
 // All scopes up to one that was found and with it, and none where it does not come before an end.

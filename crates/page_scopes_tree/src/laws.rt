@@ -1,8 +1,8 @@
 //! Laws of scopes, whatever the layout is (man(7)).
 
 ghost use Rattle.std.specs.Prelude.{◌≡◌, ℕ, ◌+◌, ◌*◌, ◌≤◌, Bool, List, ◌++◌, length};
-ghost use Rattle.page_scopes_laws.specs.Forests.{tree};
-ghost use Rattle.page_scopes_laws.specs.machine.Parts.{on, rest_by};
+ghost use Rattle.page_scopes_tree.specs.Forests.{tree};
+ghost use Rattle.page_scopes_tree.specs.machine.Parts.{on, rest_by};
 ghost use Rattle.page_sets_lines.specs.declared.events.Event.{Event};
 ghost use Rattle.page_scopes_tree.specs.Acts.{Step};
 ghost use Rattle.page_scopes_tree.specs.Edges.{ScopesEdge, events_edge, events_items, page_end_items, page_items};
@@ -10,7 +10,7 @@ ghost use Rattle.page_scopes_tree.specs.Nests.{scopes_nesting};
 ghost use Rattle.page_scopes_labels.specs.declared.labels.Label.{Label};
 
 use crate::Renderer;
-use page_core_limits::SCOPES;
+use page_core_base::SCOPES;
 
 /// Events cut anywhere between two of them give what those before the cut give, and then what those after it give from the edge at the cut, the page's
 /// end too; and they leave the same.

@@ -1,17 +1,16 @@
 //! What becomes of an event itself, once it ended what it ends (man(7)). Open scopes stand in a list with the outermost first.
 
 ghost use Rattle.std.specs.Prelude.{◌≡◌, ◌≤◌, length, reverse};
-ghost use Rattle.page_scopes_laws.specs.Layouts.{labels};
+ghost use Rattle.page_scopes_tree.specs.Layouts.{labels};
 ghost use Rattle.page_scopes_tree.specs.Acts.{act_view};
 ghost use Rattle.page_scopes_tree.specs.machine.Stacks as stacks;
 ghost use Rattle.page_scopes_tree.specs.Placements as placements;
 ghost use Rattle.page_sets_lines.specs.Events.{closer_view, kind_view, leaf_view, opener_view, request_view, text_view};
 
-use crate::Act;
 use crate::runs::{Run, run_len};
-use page_core_limits::SCOPES;
+use crate::{Act, Scope};
+use page_core_base::SCOPES;
 use page_scopes_labels::{Explicit, Label};
-use page_scopes_laws::Scope;
 use page_sets_lines::{BlockOpener, Closer, Event, EventKind, Leaf, LineOpener, Opener, Request};
 
 /// Why an event is refused.

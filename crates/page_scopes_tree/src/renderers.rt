@@ -8,10 +8,9 @@ ghost use Rattle.page_scopes_tree.specs.machine.Stacks.{Keeps};
 ghost use Rattle.page_sets_lines.specs.Events.{event_view};
 ghost use Rattle.page_sets_lines.specs.declared.events.Event.{Event};
 
-use crate::Act;
+use crate::{Act, Scope};
 use page_core_base::{PieceOut, Place};
 use page_scopes_labels::Label;
-use page_scopes_laws::Scope;
 use page_sets_lines::Event;
 
 /// The state of a layout, which says what scopes and leaves give.

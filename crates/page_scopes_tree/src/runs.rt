@@ -2,11 +2,11 @@
 
 ghost use Rattle.std.specs.Prelude.{◌≡◌, ◌≤◌, length, reverse};
 ghost use Rattle.std.specs.List.{prefix_len};
-ghost use Rattle.page_scopes_laws.specs.Layouts.{labels};
+ghost use Rattle.page_scopes_tree.specs.Layouts.{labels};
 ghost use Rattle.page_scopes_tree.specs.machine.Runs.{run_takes};
 
+use crate::Scope;
 use page_scopes_labels::{Explicit, Label};
-use page_scopes_laws::Scope;
 
 /// Which of the innermost scopes are counted.
 #[derive(Clone, Copy)]

@@ -6,11 +6,9 @@ ghost use Rattle.page_scopes_tree.specs.Edges.{events_edge, events_items, page_e
 ghost use Rattle.page_sets_lines.specs.Events.{event_view};
 
 use crate::stacks::{take_act, take_coming};
-use crate::{Act, Renderer};
-use page_core_base::PieceOut;
-use page_core_limits::SCOPES;
+use crate::{Act, Renderer, Scope};
+use page_core_base::{PieceOut, SCOPES};
 use page_scopes_labels::Label;
-use page_scopes_laws::Scope;
 use page_sets_lines::Event;
 use std::alloc::{AllocError, Global};
 use std::marker::Model;
@@ -27,7 +25,7 @@ impl<Y: Renderer> Model for ScopeStack<Y> {
     ghost use Rattle.std.specs.Prelude.{◌≤◌, vec_capacity, vec_len};
     ghost use Rattle.page_scopes_tree.specs.Edges.{ScopesEdge};
     ghost use Rattle.page_scopes_tree.specs.machine.Stacks.{stack_edge};
-    ghost use Rattle.page_core_limits.specs.declared.TheConstants.{SCOPES};
+    ghost use Rattle.page_core_base.specs.declared.limits.TheConstants.{SCOPES};
 
     ghost Value = { ScopesEdge Y Y.Kept };
 

@@ -2,8 +2,8 @@
 
 ghost use Rattle.std.specs.Prelude.{◌≡◌, ◌≤◌, ◌<◌, ◌+◌, Bool, true, List, [], ◌∷◌, length, drop, reverse, vec_capacity, vec_len};
 ghost use Rattle.page_core_base.specs.Latches.{Came};
-ghost use Rattle.page_scopes_laws.specs.Layouts.{Edge, labels};
-ghost use Rattle.page_scopes_laws.specs.machine.Machines.{ended_items, ended_state, placed_items, placed_scopes, placed_state, step, step_items};
+ghost use Rattle.page_scopes_tree.specs.Layouts.{Edge, labels};
+ghost use Rattle.page_scopes_tree.specs.machine.Machines.{ended_items, ended_state, placed_items, placed_scopes, placed_state, step, step_items};
 ghost use Rattle.page_scopes_tree.specs.Acts.{TakesAct, act_view, comes, does};
 ghost use Rattle.page_scopes_tree.specs.Frames.{framed};
 ghost use Rattle.page_scopes_tree.specs.Nests.{scopes_nesting};
@@ -15,11 +15,9 @@ use crate::ends::count_ended;
 use crate::placements::{
     Placement, is_idle, is_passed_over, placement_of, skips_after, stands_alone,
 };
-use crate::{Act, Renderer};
-use page_core_base::PieceOut;
-use page_core_limits::SCOPES;
+use crate::{Act, Renderer, Scope};
+use page_core_base::{PieceOut, SCOPES};
 use page_scopes_labels::Label;
-use page_scopes_laws::Scope;
 use page_sets_lines::Event;
 
 // Gives the end of the innermost scope, which an act ends.

@@ -4,8 +4,7 @@ ghost use Rattle.std.specs.Prelude.{◌≡◌, ◌≤◌, length, map, IfOk};
 ghost use Rattle.page_core_base.specs.LinesTaken.{line_view};
 ghost use Rattle.page_sets_lines.specs.Events.{event_view};
 
-use page_core_base::Taken;
-use page_core_limits::LINE;
+use page_core_base::{LINE, Taken};
 use page_sets::{Event, MacroSet};
 use std::alloc::{AllocError, Global};
 

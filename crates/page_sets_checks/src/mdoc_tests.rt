@@ -2,8 +2,7 @@
 
 use crate::spelling::{Spelling, spelled};
 use arrayvec::ArrayVec;
-use page_core_base::{Form, Taken};
-use page_core_limits::LINE;
+use page_core_base::{Form, LINE, Taken};
 use page_roff_syntax::{LineForm, form_of};
 use page_sets::{Event, MacroSet, Mdoc};
 use page_sets_lines::EventOut;

@@ -1,6 +1,6 @@
 -- The arguments of a line stand in it: helpers of proofs.
 use Rattle.std.proofs.Common.{◌≡◌, ℕ, ◌+◌, ◌≤◌, List, [], ◌∷◌, length}
-use Rattle.page_core_limits.specs.declared.TheConstants.{LINE}
+use Rattle.page_core_base.specs.declared.limits.TheConstants.{LINE}
 use Rattle.page_roff_syntax.specs.declared.quotes.Argument.{Argument}
 use Rattle.page_sets_lines.specs.ControlLines.{arguments_after, first_of}
 use Rattle.page_sets_lines.specs.Fits.{ArgumentFits, GivenFits}

@@ -8,8 +8,7 @@ ghost use Rattle.page_sets_lines.specs.Events.{given_view};
 ghost use Rattle.page_sets_lines.specs.Fits.{ArgumentFits, GivenFits};
 ghost use Rattle.page_sets_lines.specs.ControlLines.{before_name, name_end, arguments_after, first_of, is_quote, open_quote, ReadsAfter};
 
-use page_core_base::Taken;
-use page_core_limits::LINE;
+use page_core_base::{LINE, Taken};
 use page_roff_syntax::{Argument, Arguments, Quoting, read_argument, white_len};
 
 /// Where the name of a control line begins and ends, in bytes.

@@ -6,7 +6,7 @@ ghost use Rattle.page_sets_lines.specs.ControlLines.{arguments_after};
 ghost use Rattle.page_sets_lines.specs.Lists as lists;
 ghost use Rattle.page_sets_lines.specs.Lists.{options_view};
 
-use page_core_limits::LINE;
+use page_core_base::LINE;
 use page_roff_syntax::{Argument, Arguments};
 
 /// The type of a list.

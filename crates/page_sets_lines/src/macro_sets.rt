@@ -9,8 +9,7 @@ ghost use Rattle.page_sets_lines.specs.Laws.{AreSlices, AreInOrder};
 
 use crate::event_outs::EventOut;
 use crate::events::Event;
-use page_core_base::Taken;
-use page_core_limits::LINE;
+use page_core_base::{LINE, Taken};
 
 /// A set of macros: what events a line has. They are given one by one, from [`MacroSet::start`] on, by
 /// [`MacroSet::next`], and their texts are lent by the line.

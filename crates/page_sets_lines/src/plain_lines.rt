@@ -8,8 +8,7 @@ ghost use Rattle.page_sets_lines.specs.PlainLines.{line_word, plain_line, plain_
 
 use crate::events::{EventKind, Join, Role, Word};
 use crate::leaves::Leaf;
-use page_core_base::{Form, Taken};
-use page_core_limits::LINE;
+use page_core_base::{Form, LINE, Taken};
 use page_roff_syntax::{Argument, Quoting, has_word};
 
 /// What a line is that is no control line.

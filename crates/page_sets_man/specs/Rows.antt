@@ -3,7 +3,7 @@ use Prim.Native.String.{String}
 use Rattle.std.specs.Prelude.{ℕ, Bool, true, false, List, [], ◌∷◌, Option, option_map, codes}
 use Rattle.std.specs.Option.{option_or}
 use Rattle.page_core_base.specs.declared.cells.Font.TheVariants as fonts
-use Rattle.page_core_names.specs.Rows.{row_in}
+use Rattle.page_core_base.specs.TableRows.{row_in}
 use Rattle.page_sets_names.specs.declared.generated_texts.GeneratedText.TheVariants as texts
 use Rattle.page_sets_names.specs.declared.macro_names.FontMacro.TheVariants as names
 use Rattle.page_sets_names.specs.declared.macro_names.Link.TheVariants as links

@@ -9,7 +9,7 @@ ghost use Rattle.page_sets_lines.specs.declared.openers.Opener.TheVariants as op
 ghost use Rattle.page_sets_man.specs.Man as man;
 
 use crate::rows::{Closes, Effect, Opens, Sets};
-use page_core_limits::LINE;
+use page_core_base::LINE;
 use page_sets_lines::{
     Closer, EventKind, GeneratedWord, HeadingName, Join, Leaf, LineOpener, Opener, Prologue,
     TagName, first_of, read_after, with_argument,

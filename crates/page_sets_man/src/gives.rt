@@ -13,8 +13,7 @@ ghost use Rattle.page_sets_man.specs.Man as man;
 
 use crate::effects::{effect_kind, line_scope};
 use crate::rows::{Alone, Last, Quotes, Row, Words, row_of};
-use page_core_base::{Font, NoteKind, Taken};
-use page_core_limits::LINE;
+use page_core_base::{Font, LINE, NoteKind, Taken};
 use page_roff_syntax::{Argument, has_arguments};
 use page_sets_lines::{
     Closer, Event, EventKind, EventTaker, GeneratedText, Join, Leaf, LineOpener, PlainLine, Role,

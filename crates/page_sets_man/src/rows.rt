@@ -3,8 +3,7 @@
 ghost use Rattle.std.specs.Prelude.{◌≡◌};
 ghost use Rattle.page_sets_man.specs.Rows as rows;
 
-use page_core_base::Font;
-use page_core_names::{list_for, row_named};
+use page_core_base::{Font, list_for, row_named};
 use page_roff_syntax::LayoutRequest;
 use page_sets_lines::{FontMacro, GeneratedText, LineOpener, Link, ParagraphName, layout_request};
 

@@ -17,8 +17,7 @@ ghost use Rattle.page_sets_mdoc_blocks.specs.Fronts.{name_column, has_real_word,
 ghost use Rattle.page_sets_mdoc.specs.machine.Calls.{FindsCall};
 ghost use Rattle.page_sets_mdoc.specs.Mdoc as mdoc;
 
-use page_core_base::{Font, Taken};
-use page_core_limits::LINE;
+use page_core_base::{Font, LINE, Taken};
 use page_roff_syntax::Argument;
 use page_sets_lines::{Closer, EventKind, EventTaker, LineStep, SynopsisStep, event_at, find_name};
 use page_sets_mdoc_blocks::{has_real_word, is_standard};

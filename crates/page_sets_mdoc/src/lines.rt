@@ -7,8 +7,7 @@ ghost use Rattle.page_sets_lines.specs.PlainLines.{layout_request, line_end};
 ghost use Rattle.page_sets_mdoc.specs.Mdoc as mdoc;
 
 use crate::line_words::give_words;
-use page_core_base::{NoteKind, Taken};
-use page_core_limits::LINE;
+use page_core_base::{LINE, NoteKind, Taken};
 use page_roff_syntax::{LayoutRequest, has_arguments};
 use page_sets_lines::{EventKind, EventTaker, PlainLine, event_at, find_name, layout_request};
 use page_sets_mdoc_blocks::{give_front, give_refusal, give_request, has_phrase};

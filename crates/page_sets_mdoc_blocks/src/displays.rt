@@ -10,8 +10,7 @@ ghost use Rattle.page_sets_mdoc_blocks.specs.Displays.{options_view};
 ghost use Rattle.page_sets_mdoc_blocks.specs.Fronts.{line_arguments, first_text};
 
 use crate::line_arguments::{arguments_of, first_text};
-use page_core_base::{Font, Taken};
-use page_core_limits::LINE;
+use page_core_base::{Font, LINE, Taken};
 use page_roff_syntax::Argument;
 use page_sets_lines::BlockOpener;
 

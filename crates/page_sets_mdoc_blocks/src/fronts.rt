@@ -11,8 +11,7 @@ use crate::displays::{display_of, first_font};
 use crate::line_arguments::{first_text, has_real_word, is_first_quoted, missing_quote};
 use crate::lists::{list_note, list_of};
 use crate::sentences::{option_quote, spacing_of};
-use page_core_base::{NoteKind, Place, Taken};
-use page_core_limits::LINE;
+use page_core_base::{LINE, NoteKind, Place, Taken};
 use page_roff_syntax::LayoutRequest;
 use page_sets_lines::{
     BlockCloser, BlockOpener, Closer, Event, EventKind, EventTaker, HeadingName, Leaf, LineOpener,

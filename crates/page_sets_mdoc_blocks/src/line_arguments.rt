@@ -6,8 +6,7 @@ ghost use Rattle.page_sets_lines.specs.Events.{text_view};
 ghost use Rattle.page_sets_lines.specs.ControlLines.{first_of, open_quote, text_of};
 ghost use Rattle.page_sets_mdoc_blocks.specs.Fronts as fronts;
 
-use page_core_base::Taken;
-use page_core_limits::LINE;
+use page_core_base::{LINE, Taken};
 use page_roff_syntax::Arguments;
 use page_sets_lines::{find_name, first_of, open_quote};
 use page_sets_mdoc_lines::is_real;

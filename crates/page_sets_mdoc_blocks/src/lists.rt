@@ -8,8 +8,7 @@ ghost use Rattle.page_sets_lines.specs.Lists.{list_options, options_view};
 ghost use Rattle.page_sets_mdoc_blocks.specs.Fronts.{line_arguments};
 ghost use Rattle.page_sets_mdoc_blocks.specs.Lists as lists;
 
-use page_core_base::{NoteKind, Taken};
-use page_core_limits::LINE;
+use page_core_base::{LINE, NoteKind, Taken};
 use page_sets_lines::{BlockOpener, ListKind, ListOptions, find_name, read_list_options};
 
 // What the arguments of a line say of a list.

@@ -4,8 +4,7 @@
 ghost use Rattle.std.specs.Prelude.{◌≤◌, length};
 
 use arrayvec::ArrayVec;
-use page_core_base::{Font, NoteKind, Taken};
-use page_core_limits::LINE;
+use page_core_base::{Font, LINE, NoteKind, Taken};
 use page_roff_syntax::Argument;
 use page_sets_lines::{
     Block, BlockCloser, BlockOpener, Closer, Event, EventKind, EventTaker, GeneratedWord, Join,

@@ -4,7 +4,7 @@ use Prim.Native.String.{String}
 use Rattle.std.specs.Prelude.{ℕ, Bool, true, false, List, [], ◌∷◌, Option, None, Some, option_map, option_and_then, if◌then◌else◌, codes}
 use Rattle.std.specs.Option.{option_map_or}
 use Rattle.page_core_base.specs.declared.cells.Font.TheVariants as fonts
-use Rattle.page_core_names.specs.Rows.{row_in}
+use Rattle.page_core_base.specs.TableRows.{row_in}
 use Rattle.page_sets_names.specs.declared.macro_names.BodyParagraphName.TheVariants as paragraphs
 use Rattle.page_sets_names.specs.declared.macro_names.HeadingName.TheVariants as headings
 use Rattle.page_sets_names.specs.declared.macro_names.OneLineName.TheVariants as one_lines

@@ -8,7 +8,7 @@ ghost use Rattle.page_sets_mdoc_lines.specs.LineWords.{arguments_after, is_closi
 ghost use Rattle.page_sets_mdoc_lines.specs.machine.Cursors.{IsCursorOf};
 
 use crate::line_words::is_closing;
-use page_core_limits::LINE;
+use page_core_base::LINE;
 use page_roff_syntax::{Argument, Arguments};
 use page_sets_lines::read_after;
 

@@ -6,8 +6,7 @@ ghost use Rattle.page_sets_mdoc_lines.specs.Rows as rows;
 
 use crate::blocks::{Block, LineMacro, Sentence};
 use crate::macros::{Defaulted, Inline, Pair, System};
-use page_core_base::Font;
-use page_core_names::{list_for, row_named};
+use page_core_base::{Font, list_for, row_named};
 use page_sets_lines::{BodyParagraphName, HeadingName, Marks, OneLineName, Prologue, Quotation};
 
 /// A row of the table: what a macro does where it begins a line, and how it is to the macros that words call. The flags are columns of the

@@ -8,7 +8,7 @@ ghost use Rattle.page_sets_mdoc_lines.specs.machine.Cursors.{IsCursorOf};
 
 use crate::cursors::Cursor;
 use crate::line_words::{is_closing, is_real, word_call};
-use page_core_limits::LINE;
+use page_core_base::LINE;
 use page_roff_syntax::Argument;
 
 /// What is known of a macro's own words before they are read.

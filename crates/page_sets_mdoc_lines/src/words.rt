@@ -13,7 +13,7 @@ use crate::Inline;
 use crate::cursors::Cursor;
 use crate::line_words::{may_take, takes_next};
 use crate::word_spans::find_span;
-use page_core_limits::LINE;
+use page_core_base::LINE;
 use page_roff_syntax::Argument;
 
 /// Words in a row in a line: how many, and where they begin.

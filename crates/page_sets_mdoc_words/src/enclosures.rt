@@ -16,7 +16,7 @@ ghost use Rattle.page_sets_mdoc_words.specs.Printed.{printed};
 
 use crate::functions::give_function_opened;
 use crate::plain::{MacroName, give_printed, give_refused};
-use page_core_limits::LINE;
+use page_core_base::LINE;
 use page_roff_syntax::Argument;
 use page_sets_lines::{BlockCloser, BlockOpener, Closer, EventKind, EventTaker, Opener, event_at};
 use page_sets_mdoc_lines::{MacroWords, Pair, Words};

@@ -8,8 +8,7 @@ ghost use Rattle.page_sets_mdoc_words.specs.Inlines as inlines;
 
 use crate::plain::give_printed;
 use crate::printed::{printed_word, step_event};
-use page_core_base::Font;
-use page_core_limits::LINE;
+use page_core_base::{Font, LINE};
 use page_sets_lines::{
     BlockOpener, EventKind, EventTaker, GeneratedText, Join, LineStep, Opener, event_at,
     generated_word,

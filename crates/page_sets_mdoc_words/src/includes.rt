@@ -8,7 +8,7 @@ ghost use Rattle.page_sets_mdoc_words.specs.Sentences.{include_events};
 
 use crate::plain::give_printed;
 use crate::printed::{printed_word, step_event};
-use page_core_limits::LINE;
+use page_core_base::LINE;
 use page_sets_lines::{EventTaker, GeneratedText, Join, LineStep, SynopsisStep, generated_word};
 use page_sets_mdoc_lines::{Words, is_real};
 

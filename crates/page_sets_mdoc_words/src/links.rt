@@ -11,8 +11,7 @@ ghost use Rattle.page_sets_mdoc_words.specs.Printed.{printed};
 
 use crate::plain::give_printed;
 use crate::printed::{printed_word, step_event};
-use page_core_base::Font;
-use page_core_limits::LINE;
+use page_core_base::{Font, LINE};
 use page_roff_syntax::Argument;
 use page_sets_lines::{EventTaker, GeneratedText, Join, LineStep, generated_word};
 use page_sets_mdoc_lines::{MacroWords, Words, is_real};

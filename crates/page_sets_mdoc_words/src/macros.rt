@@ -26,8 +26,7 @@ use crate::references::give_reference;
 use crate::synopses::{after_words, before_words};
 use crate::systems::{give_bsd, system_word};
 use crate::taken_words::{give_author, give_prefix};
-use page_core_base::Font;
-use page_core_limits::LINE;
+use page_core_base::{Font, LINE};
 use page_sets_lines::{
     Event, EventKind, EventTaker, GeneratedText, Join, LineOpener, LineStep, Marks, SynopsisStep,
     event_at, generated_word,

@@ -11,8 +11,7 @@ ghost use Rattle.page_sets_mdoc_words.specs.machine.Lone.{lone_event};
 
 use crate::plain::give_printed;
 use crate::printed::{is_opening, printed_word, step_event};
-use page_core_base::Font;
-use page_core_limits::LINE;
+use page_core_base::{Font, LINE};
 use page_sets_lines::{
     Event, EventTaker, GeneratedText, Join, LineStep, Role, generated_word, word_event,
 };

@@ -8,8 +8,7 @@ ghost use Rattle.page_sets_mdoc_words.specs.Inlines.{refused};
 ghost use Rattle.page_sets_mdoc_words.specs.Printed as printed;
 
 use crate::printed::printed_word;
-use page_core_base::{Font, NoteKind};
-use page_core_limits::LINE;
+use page_core_base::{Font, LINE, NoteKind};
 use page_sets_lines::{EventKind, EventTaker, event_at};
 use page_sets_mdoc_lines::Words;
 

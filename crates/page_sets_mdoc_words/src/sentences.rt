@@ -10,8 +10,7 @@ ghost use Rattle.page_sets_mdoc_words.specs.Printed.{step_event};
 ghost use Rattle.page_sets_mdoc_words.specs.Sentences as sentences;
 
 use crate::printed::{real_word, step_event};
-use page_core_base::Font;
-use page_core_limits::LINE;
+use page_core_base::{Font, LINE};
 use page_sets_lines::{Event, EventTaker, GeneratedText, Join, LineStep, generated_word};
 use page_sets_mdoc_lines::{Sentence, Words};
 

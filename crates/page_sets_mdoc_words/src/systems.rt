@@ -9,7 +9,7 @@ ghost use Rattle.page_sets_mdoc_words.specs.Inlines as inlines;
 
 use crate::plain::give_printed;
 use crate::printed::{is_opening, printed_word};
-use page_core_limits::LINE;
+use page_core_base::LINE;
 use page_sets_lines::{Event, EventTaker, GeneratedText, Join, generated_word};
 use page_sets_mdoc_lines::{System, Words, is_real};
 

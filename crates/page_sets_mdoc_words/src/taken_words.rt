@@ -12,8 +12,7 @@ ghost use Rattle.page_sets_mdoc_lines.specs.Words.{words_view};
 ghost use Rattle.page_sets_mdoc_words.specs.Inlines as inlines;
 
 use crate::plain::{MacroName, give_printed, give_refused};
-use page_core_base::{Font, NoteKind};
-use page_core_limits::LINE;
+use page_core_base::{Font, LINE, NoteKind};
 use page_roff_syntax::{Argument, Quoting};
 use page_sets_lines::{EventKind, EventTaker, Join, Role, event_at, word_event};
 use page_sets_mdoc_lines::Words;

@@ -22,7 +22,7 @@ use Rattle.page_sets_lines.specs.declared.events.EventKind.{EventKind}
 use Rattle.page_sets_lines.specs.declared.events.EventKind.TheVariants as kinds
 use Rattle.page_sets_man.specs.Man.{man_events}
 use Rattle.page_fill.specs.Filling.{filled, row_end}
-use Rattle.page_fill_steps.specs.Edges.{start}
+use Rattle.page_fill.specs.Edges.{start}
 use Rattle.page_core_base.specs.Laid.{seq}
 use Rattle.page_roff_blocks.specs.Forest.{Forest, Source, source_of, ends, empty, line, leaf, guard, block}
 use Rattle.page_core_streams.specs.RowBytes.{row_bytes}
@@ -58,8 +58,8 @@ use Rattle.page_roff_heads.specs.Conditions.{kind_of as u81, read_test as u82, c
 use Rattle.page_roff_heads.specs.Heads.{guarded_of as u85, conditional_of as u86, block_end_of as u87}
 use Rattle.page_roff_heads.specs.Loops.{first_of as u88, loop_of as u89}
 use Rattle.page_roff_heads.specs.Texts.{remainder_of as u90}
-use Rattle.page_roff_regions.specs.OpenRegions.{within_limit as u91, opened as u92}
-use Rattle.page_roff_regions.specs.Regions.{region_head as u93, is_ending as u94}
+use Rattle.page_roff_syntax.specs.OpenRegions.{within_limit as u91, opened as u92}
+use Rattle.page_roff_syntax.specs.RegionHeads.{region_head as u93, is_ending as u94}
 use Rattle.page_roff_blocks.specs.Forest.{before as u95, enclose as u96, enregion as u97, keep as u98, line_of as u99, region_line as u100, source_of as u101, inside_of as u102}
 use Rattle.page_roff_blocks.specs.Levels.{outside as u103, bit_after as u104, way_in as u105, way_of as u106, enter as u107, skip as u108, open_loop as u109, leave_level as u110, leave_loop as u111, leave_from as u112, leave as u113, level_ends as u114, loop_ends as u115, ends_from as u116, what_ends as u117, at_line as u118, after_part as u119, guarded_by as u120, reached_if as u121, reached_from as u122, reached_in as u123, reached as u124, first_place as u125}
 use Rattle.page_roff_blocks.specs.LineParts.{part_of as u126, line_parts as u127}
@@ -71,7 +71,7 @@ use Rattle.page_roff_language.specs.Languages.{inner as u190, is_some as u191, r
 use Rattle.page_roff_values.specs.Arguments.{arguments_in as u202}
 use Rattle.page_roff_values.specs.Parts.{content_len as u203, seen as u204, parts_up_to as u205, parts as u206, without_lone as u207}
 use Rattle.page_roff_values.specs.Values.{NEST as u208, seq as u209, put as u210, lay as u211, charge as u212, width as u213, interpolated as u214, call_at as u215, value as u216}
-use Rattle.page_roff_conditions.specs.Answers.{condition_answer as u217}
+use Rattle.page_roff_effects.specs.Answers.{condition_answer as u217}
 use Rattle.page_roff_definitions.specs.Definitions.{outcome_of as u218}
 use Rattle.page_roff_effects.specs.Commands.{command_of as u219}
 use Rattle.page_roff_effects.specs.Effects.{answer_of as u220, budget_outcome as u221, block_outcome as u222, end_of_block_outcome as u223, done_by as u224, done_after as u225, tested_after as u226, effects as u227}
@@ -90,9 +90,9 @@ use Rattle.page_sets_mdoc_lines.specs.Rows.{row_of as u252}
 use Rattle.page_sets_mdoc_words.specs.Printed.{is_opening as u253}
 use Rattle.page_sets_mdoc_blocks.specs.Displays.{display_type as u254, font_named as u255}
 use Rattle.page_sets_mdoc.specs.Mdoc.{mdoc_events as u256}
-use Rattle.page_scopes_laws.specs.Layouts.{settled as u257, edge as u258}
+use Rattle.page_scopes_tree.specs.Layouts.{settled as u257, edge as u258}
 use Rattle.page_scopes_tree.specs.Placements.{opener_placement as u259, line_placement as u260, opener_skips as u261}
-use Rattle.page_scopes_widths.specs.Widths.{named_width as u262, is_expression as u263}
+use Rattle.page_scopes_text.specs.Widths.{named_width as u262, is_expression as u263}
 use Rattle.page_scopes_phrases.specs.Cells.{cells_within as u264}
 use Rattle.page_scopes_phrases.specs.FunctionEnds.{function_end as u265}
 use Rattle.page_scopes_phrases.specs.LineWords.{line_word as u266, generated_word as u267}

@@ -7,8 +7,8 @@ use Rattle.page_engine_lines.specs.Edges.{footer_items}
 use Rattle.page_engine_lines.specs.machine.Lines.{source_items, source_after, end_items}
 use Rattle.page_fill.specs.machine.ByPiece.{laid_items}
 use Rattle.page_fill.specs.Filling.{row_end}
-use Rattle.page_fill_steps.specs.Edges as fill
-use Rattle.page_fill_steps.specs.declared.edges.Edge.{Edge as FillEdge}
+use Rattle.page_fill.specs.Edges as fill
+use Rattle.page_fill.specs.declared.edges.Edge.{Edge as FillEdge}
 use Rattle.page_roff_lines.specs.Decoding.{Line}
 use Rattle.page_engine.specs.Page.{Edge, last_line, lines_at, moved, of_page}
 

@@ -6,7 +6,7 @@ use Rattle.page_engine.specs.declared.layers.Layers.{Layers}
 use Rattle.page_engine.specs.declared.pages.Phase.{Phase}
 use Rattle.page_engine.specs.declared.pages.Phase.TheVariants.{Open, Failed, Ended}
 use Rattle.page_engine.specs.Edges.{Edge, IsReached, lines_at, roff_part, body_part}
-use Rattle.page_fill_steps.specs.declared.edges.Edge.{Edge as FillEdge}
+use Rattle.page_fill.specs.declared.edges.Edge.{Edge as FillEdge}
 
 -- the layers are at an edge
 pub record IsAt (here : Layers) (e : Edge) : Type 0 where

@@ -10,7 +10,7 @@ use Rattle.page_core_base.specs.Sinks.{IsSink}
 use Rattle.page_core_base.specs.Fails.{IsPieceFault, IsSinkFault, Rose}
 use Rattle.page_core_base.specs.Laid.{Laid, Gave}
 use Rattle.page_core_base.specs.Pieces.{Item, all_noted, noted}
-use Rattle.page_fill_steps.specs.declared.edges.Edge.{Edge as FillEdge}
+use Rattle.page_fill.specs.declared.edges.Edge.{Edge as FillEdge}
 use Rattle.page_fill.specs.machine.ByPiece.{laid_items, laid_items-append}
 
 -- the rows and messages of these items came, and the filler's row is the one after them

@@ -4,7 +4,7 @@ use Rattle.std.specs.Borrow.{Bor}
 use Rattle.page_core_base.specs.Fails.{Rose}
 use Rattle.page_core_base.specs.declared.faults.Fault.{Fault}
 use Rattle.page_core_base.specs.declared.faults.Fault.TheVariants.{WriteText, BadIndex}
-use Rattle.page_core_limits.specs.Limits.{LINE}
+use Rattle.page_core_base.specs.Limits.{LINE}
 use Rattle.page_engine_index.specs.Entries.{Line, Entry, entry_in, Index, with_entries, bad_at, whole_lines, index_from, index}
 use Rattle.page_engine_index.specs.Matches.{ends_name}
 use Rattle.page_engine_index.specs.Whatis.{Asked, rows}

@@ -4,7 +4,7 @@ use Rattle.std.specs.Prelude.{◌≡◌, List, [], ◌∷◌, ◌++◌, refl}
 use Rattle.std.proofs.Common.{◌∙◌, ap, sym}
 use Rattle.page_core_base.specs.Laid.{Laid, nothing, join, seq, join_assoc}
 use Rattle.page_core_base.specs.Pieces.{Item, shown, noted}
-use Rattle.page_fill_steps.specs.declared.edges.Edge.{Edge}
+use Rattle.page_fill.specs.declared.edges.Edge.{Edge}
 use Rattle.page_fill.specs.Filling.{filled}
 
 -- a message passes filling by

@@ -2,7 +2,7 @@
 
 use super::names::Roff;
 use super::texts::{show_bytes, show_word};
-use page_core_limits::Limit;
+use page_core_base::Limit;
 use page_roff_names::Names;
 
 /// Changes the names, where this is such a call, and shows the limit that is exceeded, if one is: a string or a macro NAME=VALUE that is defined or

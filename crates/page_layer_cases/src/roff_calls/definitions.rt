@@ -2,8 +2,7 @@
 
 use super::names::Roff;
 use crate::bytes::show_messages;
-use page_core_base::{NoteLatch, Place};
-use page_core_limits::LINE;
+use page_core_base::{LINE, NoteLatch, Place};
 use page_core_streams::TextNotes;
 use page_roff_definitions::{RequestLine, define, is_in_copy_mode};
 use page_roff_syntax::Request;

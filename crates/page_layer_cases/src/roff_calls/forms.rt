@@ -1,7 +1,7 @@
 //! The forms of lines, and their arguments.
 
 use crate::bytes::shown;
-use page_core_limits::LINE;
+use page_core_base::LINE;
 use page_roff_syntax::{
     Argument, Arguments, LineForm, Quoting, form_of, has_arguments, is_white, kept_len,
     read_argument,

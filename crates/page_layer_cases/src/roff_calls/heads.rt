@@ -1,7 +1,7 @@
 //! The heads of conditionals, and the ends of blocks.
 
 use crate::bytes::shown;
-use page_core_limits::LINE;
+use page_core_base::LINE;
 use page_roff_heads::{Guarded, Placed, Test, block_end, read_conditional, read_guarded};
 
 /// The column of what follows the name in `.if`.

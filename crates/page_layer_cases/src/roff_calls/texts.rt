@@ -2,10 +2,9 @@
 
 use super::names::Roff;
 use crate::bytes::{show_messages, shown};
-use page_core_base::NoteLatch;
-use page_core_limits::LINE;
+use page_core_base::{LINE, NoteLatch};
 use page_core_streams::TextNotes;
-use page_roff_conditions::holds;
+use page_roff_effects::holds;
 use page_roff_heads::read_conditional;
 use page_roff_values::{Environment, Expansion};
 

@@ -5,8 +5,7 @@ ghost use Rattle.page_sets_lines.specs.Fits.{KindFits};
 ghost use Rattle.page_sets_lines.specs.Events.{kind_view};
 
 use super::shown::{Shown, nothing};
-use page_core_base::{Form, Output, Place, Taken};
-use page_core_limits::LINE;
+use page_core_base::{Form, LINE, Output, Place, Taken};
 use page_roff_syntax::{LineForm, form_of};
 use page_scopes::OpenScopes;
 use page_scopes_nodes::PageLayout;

@@ -3,7 +3,7 @@
 
 use crate::bytes::shown;
 use page_core_base::{Font, Note, Piece};
-use page_scopes_shown::{Notation, ShownBy};
+use page_test_streams::{Notation, ShownBy};
 use std::alloc::Global;
 
 /// The notation of a line.

@@ -1,7 +1,7 @@
 -- What the code's buffers hold before anything was taken, and what their calls do within their limits. Trust needs no reading of it.
 -- Source: roff(7), "MACRO SYNTAX" and "de".
 use Rattle.std.specs.Prelude.{◌≡◌, ℕ, Bool, true, false, nat_le, List, [], length, Option, Some, None}
-use Rattle.page_core_limits.specs.Limits.{ARGS, BODY}
+use Rattle.page_core_base.specs.Limits.{ARGS, BODY}
 use Rattle.page_core_base.specs.LinesTaken.{Line}
 use Rattle.page_core_base.specs.declared.lines_taken.Form.TheVariants.{Text}
 use Rattle.page_roff_definitions.specs.Calls.{Call, with_line}

@@ -1,7 +1,7 @@
 -- What the code's object holds, and what its calls do, in terms of the effects of parts. Trust needs no reading of it.
 -- Source: roff(7), "LANGUAGE SYNTAX".
 use Rattle.std.specs.Prelude.{◌≡◌, ℕ, ◌≤◌, Bool, true, false, List, [], ◌∷◌, length, Option, Some, None, if◌then◌else◌}
-use Rattle.page_core_limits.specs.Limits.{ARGS, BODY}
+use Rattle.page_core_base.specs.Limits.{ARGS, BODY}
 use Rattle.page_core_base.specs.Messages.{Message}
 use Rattle.page_core_base.specs.LinesTaken.{Line}
 use Rattle.page_core_base.specs.declared.lines_taken.Form.{Form}
@@ -15,7 +15,7 @@ use Rattle.page_roff_values.specs.Values.{Spot, Laid, expanded}
 use Rattle.page_roff_values.specs.machine.Views.{units_of_bytes}
 use Rattle.page_roff_language.specs.Budgets.{Effects}
 use Rattle.page_roff_language.specs.Languages.{Kind, arguments_of}
-use Rattle.page_roff_conditions.specs.Answers.{Answer}
+use Rattle.page_roff_effects.specs.Answers.{Answer}
 use Rattle.page_roff_names.specs.Names.{Definitions}
 use Rattle.page_roff_definitions.specs.Calls.{Call}
 use Rattle.page_roff_effects.specs.declared.commands.Command.TheVariants.{Pass}

@@ -1,6 +1,6 @@
 -- The budget of a source line by itself, as the code counts it. Source: mandoc(1), "input stack limit exceeded, infinite loop?".
 use Rattle.std.specs.Prelude.{ℕ, zero, suc, ◌+◌, ◌≤◌, ◌^◌, Bool, true, false}
-use Rattle.page_core_limits.specs.Limits.{REREAD}
+use Rattle.page_core_base.specs.Limits.{REREAD}
 use Rattle.page_roff_language.specs.Budgets.{Budgeted}
 
 -- How many re-read lines of the source line are left, whether one beyond them came, and how many lines were taken.

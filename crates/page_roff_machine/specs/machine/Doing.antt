@@ -4,9 +4,9 @@ use Rattle.page_core_base.specs.Messages.{Message}
 use Rattle.page_core_base.specs.declared.page_settings.Output.{Output}
 use Rattle.page_roff_heads.specs.declared.loops.LoopHead.{LoopHead}
 use Rattle.page_roff_blocks.specs.declared.line_parts.Branch.{Branch}
-use Rattle.page_roff_regions.specs.declared.regions.RegionHead.{RegionHead}
+use Rattle.page_roff_syntax.specs.declared.region_heads.RegionHead.{RegionHead}
 use Rattle.page_roff_blocks.specs.declared.block_cursors.Reached.{Reached}
-use Rattle.page_roff_regions.specs.OpenRegions.{Opened}
+use Rattle.page_roff_syntax.specs.OpenRegions.{Opened}
 use Rattle.page_roff_blocks.specs.Run.{Meaning, meet_as, value, keep_if}
 use Rattle.page_roff_values.specs.Arguments.{arguments_in, lines_in}
 use Rattle.page_core_base.specs.Latches.{Came}

@@ -7,7 +7,7 @@ use Rattle.page_core_base.specs.declared.page_settings.Output.{Output}
 use Rattle.page_roff_blocks.specs.Levels.{Place}
 use Rattle.page_roff_blocks.specs.Run.{At}
 use Rattle.page_core_base.specs.Latches.{Came}
-use Rattle.page_core_limits.specs.Limits.{REREAD}
+use Rattle.page_core_base.specs.Limits.{REREAD}
 use Rattle.page_roff_language.specs.Languages.{Language, run_page}
 use Rattle.page_roff_language.specs.machine.Machine.{Running, rest_of}
 use Rattle.page_roff_language.specs.Budgets.{Budgeted, language}

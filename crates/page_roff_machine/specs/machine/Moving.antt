@@ -10,7 +10,7 @@ use Rattle.page_roff_blocks.specs.declared.block_cursors.Pass.TheVariants as pas
 use Rattle.page_roff_blocks.specs.declared.block_cursors.Reached.{Reached}
 use Rattle.page_roff_blocks.specs.declared.block_cursors.Reached.TheVariants.{PassedOver, First, Remainder}
 use Rattle.page_roff_blocks.specs.Levels.{BlockCursor, way_of, what_ends}
-use Rattle.page_roff_regions.specs.OpenRegions.{Opened}
+use Rattle.page_roff_syntax.specs.OpenRegions.{Opened}
 use Rattle.page_roff_blocks.specs.Run.{refuse_if}
 use Rattle.page_roff_blocks.specs.machine.Steps.{collect_if}
 use Rattle.page_roff_values.specs.Arguments.{arguments_in}

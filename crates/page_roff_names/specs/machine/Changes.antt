@@ -7,8 +7,8 @@ use Rattle.std.specs.declared.result.Result.{Result}
 use Rattle.std.specs.declared.result.Result.TheVariants.{Ok}
 use Rattle.std.specs.declared.cmp.Ordering.TheVariants.{Less, Equal, Greater}
 use Rattle.std.specs.FinMap.{is_sorted}
-use Rattle.page_core_limits.specs.Limits.{DEFS, NAMES}
-use Rattle.page_core_limits.specs.declared.Limit.{Limit}
+use Rattle.page_core_base.specs.Limits.{DEFS, NAMES}
+use Rattle.page_core_base.specs.declared.limits.Limit.{Limit}
 use Rattle.page_roff_names.specs.declared.changes.OtherSet.{OtherSet}
 use Rattle.page_roff_names.specs.Caps.{EntriesFit, DefinitionsFit}
 use Rattle.page_roff_names.specs.Entries.{Entries, size, name_at, definition_at}

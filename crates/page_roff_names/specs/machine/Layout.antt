@@ -1,6 +1,6 @@
 -- How the entries lie in one text: the code's own form of them. Trust needs no reading of it.
 use Rattle.std.specs.Prelude.{◌≡◌, ℕ, zero, suc, ◌+◌, ◌≤◌, List, [], ◌∷◌, ◌++◌, length, take, drop}
-use Rattle.page_core_limits.specs.Limits.{DEFS, NAMES}
+use Rattle.page_core_base.specs.Limits.{DEFS, NAMES}
 use Rattle.page_roff_names.specs.declared.rows.Span.{Span}
 use Rattle.page_roff_names.specs.declared.rows.Meaning.{Meaning}
 use Rattle.page_roff_names.specs.Entries.{Entries, definition}

@@ -2,7 +2,7 @@
 use Rattle.std.specs.Prelude.{◌≡◌, ℕ, ◌+◌, ◌*◌, ◌≤◌, ◌^◌, Bool, true, false, List, [], ◌∷◌, Option, Some, None}
 use Rattle.page_core_base.specs.Messages.{Message}
 use Rattle.page_core_base.specs.Texts.{IsLine}
-use Rattle.page_core_limits.specs.Limits.{LINE, REREAD}
+use Rattle.page_core_base.specs.Limits.{LINE, REREAD}
 use Rattle.page_core_base.specs.Latches.{Came}
 use Rattle.page_roff_machine.specs.Giving.{notes_before, next_line}
 use Rattle.page_roff_effects.specs.States.{Given, takes}

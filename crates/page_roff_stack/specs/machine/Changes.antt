@@ -1,14 +1,14 @@
 -- What becomes of a source that is being run as its parts and lines are passed, as the steps of the code have it. Trust needs no reading of it.
 -- Source: roff(7), "Macros".
 use Rattle.std.specs.Prelude.{ℕ, ◌+◌, ◌-◌, ◌≤◌, ◌<◌, ◌≡◌, ◌^◌, Bool, true, false, List, [], ◌∷◌, length, drop, Option, Some, None}
-use Rattle.page_core_limits.specs.Limits.{LINE}
+use Rattle.page_core_base.specs.Limits.{LINE}
 use Rattle.page_roff_blocks.specs.declared.line_parts.LinePart.{LinePart}
 use Rattle.page_roff_blocks.specs.declared.line_parts.LinePart.TheVariants.{Leaf, Guard, Block, Loop, End, Region}
 use Rattle.page_roff_blocks.specs.declared.block_cursors.Pass.{Pass}
 use Rattle.page_roff_blocks.specs.declared.block_cursors.Pass.TheVariants as passes
 use Rattle.page_roff_blocks.specs.LineParts.{line_parts}
 use Rattle.page_roff_blocks.specs.Levels.{Place, BlockCursor, at_line, outside, passed}
-use Rattle.page_roff_regions.specs.OpenRegions.{Opened, opened}
+use Rattle.page_roff_syntax.specs.OpenRegions.{Opened, opened}
 use Rattle.page_roff_language.specs.Languages.{Kind, page, body}
 use Rattle.page_roff_language.specs.machine.Machine.{Frame, Turning, turned, at_part}
 use Rattle.page_roff_language.specs.machine.Measures.{work_in}

@@ -1,6 +1,6 @@
 -- How the code holds a source: places in its text. Trust needs no reading of it.
 use Rattle.std.specs.Prelude.{◌≡◌, ℕ, ◌+◌, ◌-◌, ◌≤◌, List, [], ◌∷◌, length, take, drop, Option, Some, None}
-use Rattle.page_core_limits.specs.Limits.{ARGS, BODY}
+use Rattle.page_core_base.specs.Limits.{ARGS, BODY}
 use Rattle.page_roff_values.specs.Arguments.{arguments_in, lines_in}
 use Rattle.page_roff_language.specs.Languages.{Kind, page, body}
 use Rattle.page_roff_language.specs.machine.Machine.{Turning}

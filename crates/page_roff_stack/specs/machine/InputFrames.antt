@@ -1,7 +1,7 @@
 -- A source that is being run, as the code holds it: places in a text that holds its lines, each with a line feed at its end, and after them the
 -- arguments of a macro. Trust needs no reading of it.
 use Rattle.std.specs.Prelude.{ℕ, ◌+◌, ◌≤◌, List}
-use Rattle.page_core_limits.specs.Limits.{LINE}
+use Rattle.page_core_base.specs.Limits.{LINE}
 use Rattle.page_roff_blocks.specs.machine.LinePlaces.{parts_at, IsPlaceIn}
 use Rattle.page_roff_language.specs.machine.Machine.{Frame}
 use Rattle.page_roff_stack.specs.declared.input_frames.InputFrame.{InputFrame}

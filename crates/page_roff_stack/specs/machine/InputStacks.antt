@@ -1,7 +1,7 @@
 -- The input stack, as the code holds it: the code's own form of it. Trust needs no reading of it.
 use Rattle.std.specs.Prelude.{ℕ, ◌+◌, ◌*◌, ◌≤◌, List, [], ◌∷◌, length, take, drop, reverse}
 use Rattle.std.specs.Vec.{vec_capacity}
-use Rattle.page_core_limits.specs.Limits.{ARGS, BODY, CALLS, LINE}
+use Rattle.page_core_base.specs.Limits.{ARGS, BODY, CALLS, LINE}
 use Rattle.page_roff_language.specs.machine.Machine.{Frame}
 use Rattle.page_roff_stack.specs.declared.input_stacks.Caller.{Caller}
 use Rattle.page_roff_stack.specs.declared.input_stacks.InputStack.TheInside.{Inside}

@@ -3,9 +3,9 @@
 use Rattle.std.specs.Prelude.{◌≡◌, ℕ, zero, suc, Bool, true, false, List, [], ◌∷◌, ◌++◌, drop, Option, Some, None}
 use Rattle.page_roff_blocks.specs.declared.line_parts.LinePart.{LinePart}
 use Rattle.page_roff_blocks.specs.Levels.{Place}
-use Rattle.page_roff_regions.specs.OpenRegions.{Opened}
+use Rattle.page_roff_syntax.specs.OpenRegions.{Opened}
 use Rattle.page_roff_blocks.specs.machine.LinePlaces.{is_block}
-use Rattle.page_roff_regions.specs.Regions.{is_ending}
+use Rattle.page_roff_syntax.specs.RegionHeads.{is_ending}
 use Rattle.page_roff_blocks.specs.Run.{Meaning, At}
 use Rattle.page_roff_language.specs.Languages.{Kind, body, Language, meaning_at}
 use Rattle.page_roff_language.specs.machine.Machine.{Frame, Running, Turning, depth, entered, looped, finish_if, part_next, line_next, region_next}

@@ -1,6 +1,6 @@
 -- A fast way of the code, which no public clause cites: the bytes at a text's front that are copied as they are. Trust needs no reading of it.
 use Rattle.std.specs.Prelude.{◌≡◌, ℕ, ◌-◌, ◌≤◌, Bool, false, List, take, drop}
-use Rattle.page_core_limits.specs.Limits.{LINE}
+use Rattle.page_core_base.specs.Limits.{LINE}
 use Rattle.page_roff_values.specs.declared.parts.Call.{Call}
 use Rattle.page_roff_values.specs.Parts.{parts}
 use Rattle.page_roff_values.specs.Values.{Spot, Laid, adds, lay, finished_len}

@@ -1,7 +1,7 @@
 -- What is still to be laid of the texts that are being read: the code's own steps. Trust needs no reading of it.
 use Rattle.std.specs.Prelude.{◌≡◌, ℕ, suc, ◌+◌, ◌-◌, ◌*◌, ◌^◌, ◌≤◌, false, List, [], ◌∷◌, length, map, reverse, Bool, Option, MatchOption}
 use Rattle.std.specs.Borrow.{Bor}
-use Rattle.page_core_limits.specs.Limits.{EXPAND, LINE}
+use Rattle.page_core_base.specs.Limits.{EXPAND, LINE}
 use Rattle.page_roff_values.specs.declared.parts.Call.{Call}
 use Rattle.page_roff_values.specs.declared.parts.Part.{Part}
 use Rattle.page_roff_values.specs.declared.parts.Part.TheVariants.{Copied, Called}

@@ -2,7 +2,7 @@
 use Rattle.std.specs.Prelude.{◌≡◌, ℕ, ◌≤◌, ◌<◌, ◌+◌, ◌^◌, Bool, true, false, List, [], ◌∷◌, length, drop}
 use Rattle.page_core_base.specs.Words.{is_word}
 use Rattle.page_core_escapes.specs.Tokens.{begins_word, plain, token_len}
-use Rattle.page_core_limits.specs.Limits.{LINE}
+use Rattle.page_core_base.specs.Limits.{LINE}
 use Rattle.page_scopes_text.specs.Parted.{words_of}
 use Rattle.page_scopes_words.specs.declared.settings.Setting.{Setting}
 use Rattle.page_scopes_words.specs.declared.fonts.Fonts.{Fonts}

@@ -3,10 +3,10 @@ use Rattle.std.specs.Prelude.{◌≡◌, ℕ, Bool, true, false, not, List, reve
 use Rattle.std.specs.Global.{Vec}
 use Rattle.page_core_base.specs.Latches.{Came}
 use Rattle.page_core_base.specs.Pieces.{Item}
-use Rattle.page_scopes_laws.specs.Layouts.{Edge, labels}
-use Rattle.page_scopes_laws.specs.machine.Machines.{step, step_items}
-use Rattle.page_scopes_laws.specs.Nestings.{Standing}
-use Rattle.page_scopes_laws.specs.declared.Scope.{Scope}
+use Rattle.page_scopes_tree.specs.Layouts.{Edge, labels}
+use Rattle.page_scopes_tree.specs.machine.Machines.{step, step_items}
+use Rattle.page_scopes_tree.specs.Nestings.{Standing}
+use Rattle.page_scopes_tree.specs.declared.nestings.Scope.{Scope}
 use Rattle.page_sets_lines.specs.declared.events.EventKind.{EventKind}
 use Rattle.page_sets_lines.specs.declared.events.EventKind.TheVariants as kinds
 use Rattle.page_sets_lines.specs.declared.events.Event.{Event}

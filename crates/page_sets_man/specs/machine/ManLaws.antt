@@ -42,7 +42,7 @@ use Rattle.page_sets_man.specs.declared.rows.Last.{Last}
 use Rattle.page_sets_man.specs.declared.rows.Last.TheVariants as lasts
 use Rattle.page_sets_man.specs.declared.rows.Row.{Row}
 use Rattle.page_sets_man.specs.declared.gives.Quote.{Quote}
-use Rattle.page_core_names.specs.Rows.{row_in}
+use Rattle.page_core_base.specs.TableRows.{row_in}
 use Rattle.page_sets_man.specs.Rows.{quiet, table, macro_row, request_row, row_of}
 use Rattle.page_sets_man.specs.Man.{opener, closer, leaf, effect_kind, line_scope, one_word, plain_words, alternating_words, option_words, section_words, reference_words, words_events, has_words, break_events, quote_at, missing_quote, quote_events, kind_events, scope_events, last_events, macro_events, lone_events, row_events, named_events, control_events, line_events, man_events}
 

@@ -1,5 +1,5 @@
 use Rattle.std.proofs.Common.{◌++◌, ◌≤◌, ◌∙◌, subst, sym, arith, length, length-append}
-use Rattle.page_core_limits.specs.declared.TheConstants.{DEFS, NAMES}
+use Rattle.page_core_base.specs.declared.limits.TheConstants.{DEFS, NAMES}
 use Rattle.page_roff_names.specs.Entries.{definition, size}
 use Rattle.page_roff_names.specs.Names.{put}
 use Rattle.page_roff_names.proofs.Refused.{within}

@@ -1,6 +1,6 @@
 use Rattle.std.proofs.Common.{◌≡◌, ◌≤◌, length}
 use Rattle.page_core_escapes.specs.Tokens.{tokens_of}
-use Rattle.page_core_limits.specs.declared.TheConstants.{LINE}
+use Rattle.page_core_base.specs.declared.limits.TheConstants.{LINE}
 use Rattle.page_scopes_layout.specs.Headings as headings
 use Rattle.page_scopes_layout.proofs.headings.tokens_further.Given as goal
 

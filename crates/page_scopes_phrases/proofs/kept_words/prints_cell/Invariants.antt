@@ -1,6 +1,6 @@
 use Rattle.std.proofs.Common.{◌≡◌, ◌≤◌, length}
 use Rattle.page_core_escapes.specs.Tokens.{tokens_of}
-use Rattle.page_core_limits.specs.declared.TheConstants.{LINE}
+use Rattle.page_core_base.specs.declared.limits.TheConstants.{LINE}
 use Rattle.page_scopes_phrases.specs.KeptTexts.{prints_cell}
 use Rattle.page_scopes_phrases.proofs.kept_words.prints_cell.Given as goal
 

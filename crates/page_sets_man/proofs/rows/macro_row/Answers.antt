@@ -1,6 +1,6 @@
 use Rattle.std.proofs.Common.{◌≡◌, refl, ap, map, ◌∙◌}
-use Rattle.page_core_names.proofs.RowLemmas.{joined, row_of_rows, seen}
-use Rattle.page_core_names.specs.Rows.{row_in}
+use Rattle.page_core_base.proofs.RowLemmas.{joined, row_of_rows, seen}
+use Rattle.page_core_base.specs.TableRows.{row_in}
 use Rattle.page_sets_man.specs.declared.rows.TheConstants.{MACROS}
 use Rattle.page_sets_man.specs.Rows.{table, macro_row}
 use Rattle.page_sets_man.proofs.rows.macro_row.Goals as goal

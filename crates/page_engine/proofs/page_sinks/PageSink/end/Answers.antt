@@ -3,7 +3,7 @@ use Rattle.page_engine_lines.specs.Edges.{footer_items}
 use Rattle.page_engine_lines.specs.machine.Lines.{end_items}
 use Rattle.page_fill.specs.machine.ByPiece.{laid_items}
 use Rattle.page_fill.specs.Filling.{row_end}
-use Rattle.page_fill_steps.specs.Edges as fill
+use Rattle.page_fill.specs.Edges as fill
 use Rattle.page_engine.specs.Levels.{filter-sink}
 use Rattle.page_engine.specs.Shown.{shown-sink}
 use Rattle.page_engine.specs.machine.ByLine.{footer_laid}

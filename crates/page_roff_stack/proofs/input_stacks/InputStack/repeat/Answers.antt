@@ -1,5 +1,5 @@
 use Rattle.std.proofs.Common.{◌≡◌, ◌++◌, drop, ap, ◌∙◌, arith, length-append}
-use Rattle.page_roff_regions.specs.Regions.{text_view}
+use Rattle.page_roff_syntax.specs.RegionHeads.{text_view}
 use Rattle.page_roff_language.specs.Languages.{body, is_some}
 use Rattle.page_roff_language.specs.machine.Machine.{depth, looped}
 use Rattle.page_roff_values.specs.Arguments.{lines_in}

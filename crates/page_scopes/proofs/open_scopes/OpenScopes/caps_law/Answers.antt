@@ -1,5 +1,5 @@
 use Rattle.std.proofs.Common.{◌≤◌, subst}
-use Rattle.page_core_limits.specs.declared.TheConstants.{SCOPES}
+use Rattle.page_core_base.specs.declared.limits.TheConstants.{SCOPES}
 use Rattle.page_scopes.proofs.CapLemmas.{list_fits, lists_fit, targets_fit, text_fits}
 use Rattle.page_scopes.proofs.open_scopes.OpenScopes.caps_law.Goals as goal
 

@@ -6,7 +6,7 @@ use Rattle.page_scopes_tree.specs.Acts.{comes, does}
 use Rattle.page_scopes_tree.specs.Frames.{framed}
 use Rattle.page_scopes_tree.specs.Nests.{scopes_nesting}
 use Rattle.page_scopes_tree.specs.machine.Stacks.{stack_edge}
-use Rattle.page_core_limits.specs.declared.TheConstants.{SCOPES}
+use Rattle.page_core_base.specs.declared.limits.TheConstants.{SCOPES}
 use Rattle.page_scopes_tree.specs.declared.acts.Act.TheVariants.{Event}
 use Rattle.page_scopes_tree.proofs.scope_stacks.ScopeStack.apply.Goals as goal
 

@@ -1,7 +1,0 @@
-use Rattle.std.proofs.Common.{◌≡◌, drop}
-use Rattle.page_core_names.specs.Rows.{row_in}
-use Rattle.page_core_names.proofs.RowLemmas.{seen}
-use Rattle.page_core_names.proofs.tables.row_named.Given as goal
-
-abbrev pub invariant-loop-row : goal.invariant-loop-row
-invariant-loop-row g l = row_in (seen l.rows) l.name ≡ row_in (seen (drop l.row-index l.rows)) l.name

@@ -1,0 +1,150 @@
+-- Words of a text, each after one blank.
+use Rattle.std.proofs.Common.{◌≡◌, ℕ, zero, suc, ◌+◌, ◌-◌, ◌<◌, ◌≤◌, Bool, true, false, not, ◌==◌, nat_le, List, [], ◌∷◌, ◌++◌, length, take, drop, append-nil, append_assoc, length-append, refl, sym, ap, ◌∙◌, arith, inl, inr}
+use Rattle.std.specs.List.{list_all}
+use Rattle.std.proofs.Math.Seq.{take-append_seam, take-append-add}
+use Rattle.std.proofs.lemmas.List.{take-append-le, take_all}
+use Rattle.std.proofs.lemmas.Bool.{cases_Bool, cases_lt}
+use Rattle.std.proofs.lemmas.Bool.Decides.{nat_tests}
+use Rattle.page_core_base.specs.Words.{is_word, blank_words}
+use Rattle.page_fill_rows.specs.machine.Plain.{word_start}
+use Rattle.page_fill_rows.proofs.WordStartLemmas.{start-append}
+use Rattle.page_fill.specs.machine.PlainWords.{whole_words}
+
+-- no byte of these is a blank
+abbrev pub is_letters : List ℕ → Bool
+is_letters bytes = list_all (λ b. not (b == 32)) bytes
+
+pub word-some : (word : List ℕ) → is_word word ≡ true → (length word == 0) ≡ false
+word-some word is = grind (arith, nat_tests, is)
+
+pub word-letters : (word : List ℕ) → is_word word ≡ true → is_letters word ≡ true
+word-letters word is = grind (arith, is)
+
+pub words-first : (word : List ℕ) (words : List (List ℕ)) → list_all is_word (word ∷ words) ≡ true → is_word word ≡ true
+words-first word words all = grind (arith, all)
+
+pub words-rest : (word : List ℕ) (words : List (List ℕ)) → list_all is_word (word ∷ words) ≡ true → list_all is_word words ≡ true
+words-rest word words all = grind (arith, all)
+
+pub words-front : (words : List (List ℕ)) (count : ℕ) → list_all is_word words ≡ true → list_all is_word (take count words) ≡ true
+words-front [] zero all = refl
+words-front [] (suc count) all = refl
+words-front (word ∷ words) zero all = refl
+words-front (word ∷ words) (suc count) all =
+    let others = words-front words count (words-rest word words all) in
+    rw (words-first word words all) others
+
+-- ---- where the last word begins
+
+pub start-letters : (bytes : List ℕ) → is_letters bytes ≡ true → word_start bytes ≡ 0
+unfolding word_start
+start-letters [] all = refl
+start-letters (b ∷ bytes) all =
+    let other : (b == 32) ≡ false = grind (arith, all) in
+    let others : is_letters bytes ≡ true = grind (arith, all) in
+    rw (start-letters bytes others, other) refl
+
+pub start-word : (bytes : List ℕ) → is_letters bytes ≡ true → word_start (32 ∷ bytes) ≡ 1
+unfolding word_start
+start-word bytes all = rw (start-letters bytes all) refl
+
+pub start-some : (bytes : List ℕ) → (word_start (32 ∷ bytes) == 0) ≡ false
+unfolding word_start
+start-some bytes = elim (cases_Bool (word_start bytes == 0)) [
+  | inl none ↦ rw none refl
+  | inr some ↦ rw some (grind (arith, nat_tests))
+]
+
+letters-front : (bytes : List ℕ) (count : ℕ) → is_letters bytes ≡ true → is_letters (take count bytes) ≡ true
+letters-front [] zero all = refl
+letters-front [] (suc count) all = refl
+letters-front (b ∷ bytes) zero all = refl
+letters-front (b ∷ bytes) (suc count) all =
+    let other : (b == 32) ≡ false = grind (arith, all) in
+    let others : is_letters bytes ≡ true = grind (arith, all) in
+    rw other (letters-front bytes count others)
+
+-- ---- a front of whole words
+
+words-split : (words : List (List ℕ)) (count : ℕ) → blank_words words ≡ blank_words (take count words) ++ blank_words (drop count words)
+unfolding blank_words
+words-split [] zero = refl
+words-split [] (suc count) = refl
+words-split (word ∷ words) zero = refl
+words-split (word ∷ words) (suc count) =
+    ap (λ (bytes : List ℕ). 32 ∷ (word ++ bytes)) (words-split words count)
+    ∙ ap (λ (bytes : List ℕ). 32 ∷ bytes) (sym (append_assoc word (blank_words (take count words)) (blank_words (drop count words))))
+
+-- as many bytes as the first words have are these words
+pub front-words : (words : List (List ℕ)) (count : ℕ) → take (length (blank_words (take count words))) (blank_words words) ≡ blank_words (take count words)
+front-words words count =
+    let front = blank_words (take count words) in
+    ap (take (length front)) (words-split words count) ∙ take-append_seam front (blank_words (drop count words))
+
+-- the first bytes, up to the last blank among them, are whole words
+abbrev Cut : List (List ℕ) → ℕ → Type 0
+Cut words room = (count : ℕ) × (word_start (take room (blank_words words)) - 1 ≡ length (blank_words (take count words)))
+
+cut-none : (room : ℕ) → word_start (take room []) - 1 ≡ 0
+unfolding word_start
+cut-none zero = refl
+cut-none (suc room) = refl
+
+-- not a whole word
+cut-short : (word : List ℕ) (room : ℕ) → is_letters word ≡ true → word_start (take room (32 ∷ word)) - 1 ≡ 0
+unfolding word_start
+cut-short word zero all = refl
+cut-short word (suc room) all = let one = start-word (take room word) (letters-front word room all) in omega (arith, one)
+
+-- a word, and whole words after it
+cut-more : (word next : List ℕ) (words : List (List ℕ)) (more : ℕ) → is_letters word ≡ true → Cut (next ∷ words) (suc more)
+    → Cut (word ∷ next ∷ words) (length (32 ∷ word) + suc more)
+unfolding blank_words
+cut-more word next words more letters others =
+    let back = take (suc more) (blank_words (next ∷ words)) in
+    let some : (word_start back == 0) ≡ false = start-some (take more (next ++ blank_words words)) in
+    let sum = start-append (32 ∷ word) back some in
+    let front = take-append-add (32 ∷ word) (blank_words (next ∷ words)) (suc more) in
+    let len = length-append word (blank_words (take others.0 (next ∷ words))) in
+    let above : 0 < word_start back = grind (arith, nat_tests, some) in
+    (suc others.0, ap (λ (bytes : List ℕ). word_start bytes - 1) front ∙ omega (arith, sum, len, above, others.1))
+
+-- the last word
+cut-last : (word : List ℕ) (room : ℕ) → is_letters word ≡ true → length (32 ∷ word) ≤ room → Cut (word ∷ []) room
+unfolding blank_words
+cut-last word room letters long =
+    let one = start-word word letters in
+    let front : take room (32 ∷ (word ++ [])) ≡ 32 ∷ word = rw (append-nil word) (take_all room (32 ∷ word) long) in
+    (0, ap (λ (bytes : List ℕ). word_start bytes - 1) front ∙ omega (arith, one))
+
+-- not the whole first word
+cut-first : (word : List ℕ) (words : List (List ℕ)) (room : ℕ) → is_letters word ≡ true → room ≤ length (32 ∷ word) → Cut (word ∷ words) room
+unfolding blank_words
+cut-first word words room letters short =
+    (0, ap (λ (bytes : List ℕ). word_start bytes - 1) (take-append-le room (32 ∷ word) (blank_words words) short) ∙ cut-short word room letters)
+
+cut-words : (words : List (List ℕ)) (room : ℕ) → list_all is_word words ≡ true → Cut words room
+unfolding blank_words
+cut-words [] room all = (0, cut-none room)
+cut-words (word ∷ []) room all =
+    let letters = word-letters word (words-first word [] all) in
+    elim (cases_lt (length (32 ∷ word)) room) [
+      | inl long ↦ cut-last word room letters (omega (arith, long))
+      | inr short ↦ cut-first word [] room letters short
+    ]
+cut-words (word ∷ next ∷ words) room all =
+    let letters = word-letters word (words-first word (next ∷ words) all) in
+    elim (cases_lt (length (32 ∷ word)) room) [
+      | inl long ↦
+          let more = room - length (32 ∷ word) - 1 in
+          let is : length (32 ∷ word) + suc more ≡ room = omega (arith, long) in
+          rw is at (cut-more word next words more letters (cut-words (next ∷ words) (suc more) (words-rest word (next ∷ words) all)))
+      | inr short ↦ cut-first word (next ∷ words) room letters short
+    ]
+
+pub whole-words : (words : List (List ℕ)) (room : ℕ) → list_all is_word words ≡ true
+    → (count : ℕ) × (whole_words (blank_words words) room ≡ length (blank_words (take count words)))
+whole-words words room all = elim (cases_Bool (nat_le (length (blank_words words)) room)) [
+  | inl fits ↦ (length words, rw (fits, take_all (length words) words (omega arith)) refl)
+  | inr more ↦ let cut = cut-words words (room + 1) all in (cut.0, rw more cut.1)
+]

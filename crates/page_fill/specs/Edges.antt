@@ -1,0 +1,78 @@
+-- What is held between two pieces: the open row, the open tag, and what waits before the next word. Source: roff(7), "Filling and
+-- adjusting".
+use Rattle.std.specs.Prelude.{ℕ, Bool, true, false, List, [], ◌∷◌, None, if◌then◌else◌}
+use Rattle.page_core_base.specs.declared.cells.Cell.{Cell}
+use Rattle.page_core_base.specs.declared.note_kinds.NoteKind.TheVariants as notes
+use Rattle.page_core_base.specs.declared.page_settings.Output.{Output}
+use Rattle.page_core_base.specs.declared.page_settings.Settings.{Settings}
+use Rattle.page_core_base.specs.declared.pieces.TagForm.{TagForm}
+use Rattle.page_core_base.specs.declared.pieces.TagForm.TheVariants.{Inset}
+use Rattle.page_core_base.specs.declared.places.Place.{Place}
+use Rattle.page_core_base.specs.Messages.{Message, message_about}
+use Rattle.page_fill_rows.specs.OpenRows.{fresh}
+pub use Rattle.page_fill.specs.declared.edges.Edge.{Edge}
+pub use Rattle.page_fill.specs.declared.edges.OpenWord.{OpenWord}
+
+-- ---- what waits before the next word
+
+-- nothing waits, and no word is open
+abbrev pub no_word : OpenWord
+no_word = record { is_joined = false; is_open = false; is_placed = false; blanks = 0; has_tab = false; is_told = false }
+
+-- the open word has a cell, and goes on; the field says whether its tab was reported
+abbrev pub begun_word : Bool → OpenWord
+begun_word told = record { is_joined = true; is_open = true; is_placed = false; blanks = 0; has_tab = false; is_told = told }
+
+-- blanks wait before the next word; those that a tag or a column placed stay
+abbrev pub blanks_wait : OpenWord → ℕ → Bool → OpenWord
+blanks_wait w count tab =
+    if w.is_placed then record w { has_tab = tab }
+    else record { is_joined = false; is_open = false; is_placed = false; blanks = count; has_tab = tab; is_told = w.is_told }
+
+-- a word was begun, perhaps without a cell
+abbrev pub opened_word : OpenWord → OpenWord
+opened_word w = record w { is_open = true }
+
+-- the next text goes on with the open word
+abbrev pub glued_word : OpenWord → OpenWord
+glued_word w =
+    if w.is_open then w
+    else record { is_joined = true; is_open = true; is_placed = false; blanks = 0; has_tab = false; is_told = w.is_told }
+
+-- a new word is placed after a count of blanks
+abbrev pub placed_word : ℕ → OpenWord
+placed_word count = record { is_joined = false; is_open = true; is_placed = true; blanks = count; has_tab = false; is_told = false }
+
+-- ---- tags
+
+-- a tag that is set in its text's row
+abbrev pub is_set_in : TagForm → Bool
+is_set_in (Inset blanks) = true
+is_set_in _ = false
+
+-- ---- tabs of words
+
+-- a tab is reported as a blank, once a word
+abbrev pub tab_note : Place → Message
+tab_note place = message_about notes.TabFill place []
+
+abbrev pub tab_notes : Bool → Place → List Message
+tab_notes told place = if told then tab_note place ∷ [] else []
+
+-- ---- the start of a page, and the rows at its end
+
+-- a page begins below the blank row of its header
+abbrev pub start : Settings → Edge
+start settings = record { sheet = fresh settings.width; word = no_word; tag = None; output = settings.output }
+
+-- the same on a page of this width, of an output
+abbrev pub under : ℕ → Output → Edge → Edge
+under width output e = record e { sheet = record e.sheet { width = width }; output = output }
+
+-- how many blank rows stand at the end of the rows that were given
+abbrev pub blank_rows_at_end : Edge → ℕ
+blank_rows_at_end e = e.sheet.blank_rows
+
+-- the open row's cells
+abbrev pub open_cells : Edge → List Cell
+open_cells e = e.sheet.cells

@@ -1,0 +1,157 @@
+-- The steps of filling: how pieces become rows, with the messages between them. Trust needs no reading of them: page_fill says in words
+-- what they lay. A start is what is held between two pieces; from it and a list of pieces follow the rows and messages that are settled,
+-- and what is held then. Source: roff(7), "Filling and adjusting"; mandoc(1).
+use Rattle.std.specs.Prelude.{ℕ, ◌+◌, ◌-◌, ◌%◌, Bool, true, false, not, ◌&&◌, ◌||◌, ◌==◌, nat_lt, nat_le, min, List, [], ◌∷◌, length, Option, None, Some, if◌then◌else◌}
+use Rattle.page_core_base.specs.declared.cells.Cell.{Cell}
+use Rattle.page_core_base.specs.declared.cells.Font.{Font}
+use Rattle.page_core_base.specs.declared.pieces.Piece.{Piece}
+use Rattle.page_core_base.specs.declared.pieces.Piece.TheVariants.{Text, Glyph, Char, Tab, Blank, Glue, Split, Break, RowEnd, Para, Space, Indent, Literal, Tag, TagEnd, Heading, Column}
+use Rattle.page_core_base.specs.declared.places.Place.{Place}
+use Rattle.page_core_base.specs.declared.pieces.TagForm.{TagForm}
+use Rattle.page_core_base.specs.declared.pieces.TagForm.TheVariants as forms
+use Rattle.page_core_base.specs.Laid.{Laid, nothing, seq}
+use Rattle.page_fill_rows.specs.machine.Sheets.{Sheet, over, columns, letter, fixed_blanks, new_word, opens, broken, empty_rows}
+use Rattle.page_fill_rows.specs.Characters.{with_notes, cell_of, characters_of, characters, character, glyph}
+use Rattle.page_fill.specs.declared.edges.OpenTag.{OpenTag}
+use Rattle.page_fill.specs.declared.stops.TheConstants.{HANG_MAX, TAB_STOP}
+pub use Rattle.page_fill.specs.Edges.{Edge, OpenWord, no_word, begun_word, blanks_wait, opened_word, glued_word, placed_word, is_set_in, tab_note, tab_notes, start, blank_rows_at_end, open_cells}
+
+-- where rows are filled, the row's last word is parted after its cells: what follows is one that goes on without a blank
+abbrev pub parted : Edge → Edge
+parted e = if e.word.is_joined && not e.sheet.literal then record e { sheet = opens e.sheet } else e
+
+-- ---- parts of words
+
+-- tabs are reported in filled text alone
+abbrev pub tells_tab : Edge → Bool
+tells_tab e = e.word.has_tab && not e.sheet.literal
+
+-- blanks before a word are cells of it in a row that is kept as it is, and where they place a row's first word
+abbrev pub stands : Edge → Bool
+stands e = e.sheet.literal || (e.word.is_placed && length e.sheet.cells == 0)
+
+-- the same with another sheet
+abbrev pub on_sheet : Edge → Sheet → Edge
+on_sheet e s = record e { sheet = s }
+
+-- a word begins with the blanks that wait
+abbrev pub word_begun : Edge → Bool → Place → Laid Edge
+word_begun e told place = over (new_word e.sheet e.word.blanks (stands e) place) (λ s. record e { sheet = s; word = begun_word told })
+
+-- before a cell: where a word is not open with a cell, one begins, with the blanks that wait
+unfoldable pub opening : Edge → Place → Laid Edge
+opening e place =
+    if e.word.is_joined then nothing e
+    else with_notes (tab_notes (tells_tab e) place) (word_begun e (tells_tab e) place)
+
+-- characters of the open word; without any, the word is open all the same
+unfoldable pub text : Edge → List ℕ → Font → Place → Laid Edge
+text e cs font place =
+    if length cs == 0 then nothing (record e { word = opened_word e.word })
+    else seq (opening e place) (λ f. over (characters f.output f.sheet cs font place) (on_sheet f))
+
+unfoldable pub one_character : Edge → ℕ → Font → Place → Laid Edge
+one_character e c font place = seq (opening e place) (λ f. over (character f.output f.sheet c font place) (on_sheet f))
+
+unfoldable pub one_glyph : Edge → List ℕ → Font → Place → Laid Edge
+one_glyph e name font place = seq (opening e place) (λ f. over (glyph f.output f.sheet name font place) (on_sheet f))
+
+-- a tab: in a row that is kept as it is, blanks up to the next stop; else a blank of the word, which is reported once a word
+abbrev pub to_stop : List Cell → ℕ
+to_stop cells = TAB_STOP - columns cells % TAB_STOP
+
+abbrev pub fixed_tab : Edge → Place → Laid Edge
+fixed_tab e place = over (fixed_blanks e.sheet (to_stop e.sheet.cells) place) (on_sheet e)
+
+abbrev pub filled_tab : Edge → Font → Place → Laid Edge
+filled_tab e font place =
+    with_notes (tab_notes (not e.word.is_told) place)
+    (over (letter e.sheet (cell_of font 32) place) (λ s. record e { sheet = s; word = record e.word { is_told = true } }))
+
+unfoldable pub tab : Edge → Font → Place → Laid Edge
+tab e font place = seq (opening e place) (λ f. if f.sheet.literal then fixed_tab f place else filled_tab f font place)
+
+-- ---- breaks
+
+-- the open row ends, and nothing waits
+unfoldable pub ended : Edge → Laid Edge
+ended e = over (broken e.sheet) (λ s. record e { sheet = s; word = no_word })
+
+-- blank rows are given until a count of them stands at the end, but none after a heading's row
+abbrev pub missing_rows : Sheet → ℕ → ℕ
+missing_rows s n = if s.heading then 0 else n - s.blank_rows
+
+unfoldable pub paragraph : Edge → ℕ → Laid Edge
+paragraph e n = seq (ended e) (λ f. over (empty_rows f.sheet (missing_rows f.sheet n)) (on_sheet f))
+
+unfoldable pub spaced : Edge → ℕ → Laid Edge
+spaced e n = seq (ended e) (λ f. over (empty_rows f.sheet n) (on_sheet f))
+
+-- the row of a line that is kept as it is ends: a blank row where it has no cell
+unfoldable pub row_ended : Edge → Laid Edge
+row_ended e = if length e.sheet.cells == 0 then spaced e 1 else ended e
+
+-- the row ends as a heading's, if there is one
+abbrev pub headed : Sheet → Sheet
+headed s = record s { heading = true }
+
+unfoldable pub heading : Edge → Laid Edge
+heading e = over (ended e) (λ f. if length e.sheet.cells == 0 then f else on_sheet f (headed f.sheet))
+
+-- ---- tags and columns
+
+-- the columns that a hang is padded to
+abbrev pub held_hang : ℕ → ℕ
+held_hang hang = min hang HANG_MAX
+
+-- what follows a tag with a cell stands at the hang, if a blank fits before it
+abbrev pub fits_hang : Sheet → ℕ → Bool
+fits_hang s hang = nat_le (s.tag_columns + 1) (held_hang hang)
+
+abbrev pub placed : Edge → ℕ → Laid Edge
+placed e count = nothing (record e { word = placed_word count })
+
+abbrev pub after_tag : Edge → ℕ → TagForm → Laid Edge
+after_tag e hang forms.Row = if fits_hang e.sheet hang then placed e (held_hang hang - e.sheet.tag_columns) else ended e
+after_tag e hang forms.Hang = if fits_hang e.sheet hang then placed e (held_hang hang - e.sheet.tag_columns) else placed e 1
+after_tag e hang (forms.Inset n) = placed e (if length e.sheet.cells == 0 then 0 else n)
+
+abbrev pub tag_ended : Edge → Option OpenTag → Laid Edge
+tag_ended e None = ended e
+tag_ended e (Some t) = if e.sheet.tag_begun || is_set_in t.form then after_tag e t.hang t.form else nothing (record e { word = no_word })
+
+abbrev pub without_tag : Edge → Edge
+without_tag e = record e { tag = None }
+
+abbrev pub with_tag : Edge → ℕ → TagForm → Edge
+with_tag e hang form = record e { sheet = record e.sheet { tag_columns = 0; tag_begun = false }; tag = Some (record { hang = hang; form = form }) }
+
+-- the blanks up to a column
+abbrev pub to_column : List Cell → ℕ → ℕ
+to_column cells n = if length cells == 0 then n else if nat_lt (columns cells) n then n - columns cells else 1
+
+-- ---- pieces
+
+unfoldable pub laid_piece : Edge → Piece (List ℕ) → Laid Edge
+laid_piece e (Text bytes font place) = text e (characters_of bytes) font place
+laid_piece e (Glyph name font place) = one_glyph e name font place
+laid_piece e (Char c font place) = one_character e c font place
+laid_piece e (Tab font place) = tab e font place
+laid_piece e (Blank count has_tab) = nothing (record e { word = blanks_wait e.word count has_tab })
+laid_piece e Glue = nothing (record e { word = glued_word e.word })
+laid_piece e Split = nothing (parted e)
+laid_piece e Break = ended e
+laid_piece e RowEnd = row_ended e
+laid_piece e (Para n) = paragraph e n
+laid_piece e (Space n) = spaced e n
+laid_piece e (Indent first rest) = nothing (on_sheet e (record e.sheet { first = first; rest = rest }))
+laid_piece e (Literal literal) = nothing (on_sheet e (record e.sheet { literal = literal }))
+laid_piece e (Tag hang form) = nothing (with_tag e hang form)
+laid_piece e TagEnd = tag_ended (without_tag e) e.tag
+laid_piece e Heading = heading e
+laid_piece e (Column n) = placed e (to_column e.sheet.cells n)
+
+-- what is settled after pieces
+unfoldable pub laid : Edge → List (Piece (List ℕ)) → Laid Edge
+laid e [] = nothing e
+laid e (p ∷ ps) = seq (laid_piece e p) (λ f. laid f ps)

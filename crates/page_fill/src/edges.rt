@@ -1,0 +1,492 @@
+//! Words, breaks and tags: what is held between two pieces.
+
+ghost use Rattle.std.specs.Prelude.{◌≡◌, ◌≤◌, ◌==◌, length, true, false, []};
+ghost use Rattle.std.specs.Str.{chars};
+ghost use Rattle.page_core_base.specs.Laid.{nothing};
+ghost use Rattle.page_core_base.specs.Latches.{CameRows, LaysOut};
+ghost use Rattle.page_core_base.specs.declared.cells.Font.TheVariants.{R};
+ghost use Rattle.page_core_base.specs.declared.places.Place.{Place};
+ghost use Rattle.page_fill_rows.specs.Characters.{characters_of};
+ghost use Rattle.page_fill_rows.specs.machine.Plain as plain;
+ghost use Rattle.page_fill.specs.Caps.{is_sound};
+ghost use Rattle.page_fill.specs.machine.Fill as fill;
+ghost use Rattle.page_fill.specs.machine.PlainWords as plain_words;
+ghost use Rattle.page_fill.specs.machine.TakenWords.{TakesFirstWords};
+
+use crate::taken_words::whole_words;
+use crate::{HANG_MAX, TAB_STOP};
+use page_core_base::{Cell, Font, Note, NoteKind, Output, Place, RowOut, TagForm, last_part_start};
+use page_fill_rows::{
+    OpenRow, is_printable_ascii, printable_len, put_character, put_characters, put_glyph,
+    put_plain, word_start,
+};
+
+/// The open word, and what waits before the next one.
+#[derive(Clone, Copy)]
+pub(crate) struct OpenWord {
+    /// The next cell goes on with the row's last word; else it begins a word, with the blanks that wait.
+    pub(crate) is_joined: bool,
+    /// A part has come since the last word ended, perhaps without a cell.
+    pub(crate) is_open: bool,
+    /// The blanks place the next word, after a tag or for a column: no other blanks take their place.
+    pub(crate) is_placed: bool,
+    /// The blanks that wait.
+    pub(crate) blanks: u32,
+    /// A tab stands for one of them.
+    pub(crate) has_tab: bool,
+    /// A tab of the row's last word was reported.
+    pub(crate) is_told: bool,
+}
+
+/// The open tag.
+#[derive(Clone, Copy)]
+pub(crate) struct OpenTag {
+    /// The columns that it may take with a blank after it.
+    pub(crate) hang: u32,
+    /// What follows it.
+    pub(crate) form: TagForm,
+}
+
+/// What is held between two pieces.
+#[derive(Drop)]
+pub struct Edge {
+    /// The open row with its margin and its last word; the margins of the rows after it, how they are filled, and what stands above them.
+    pub(crate) sheet: OpenRow,
+    /// The open word, and the blanks that wait before the next one.
+    pub(crate) word: OpenWord,
+    /// The open tag.
+    pub(crate) tag: Option<OpenTag>,
+    /// What characters and glyphs print.
+    pub(crate) output: Output,
+}
+
+/// No word is open, and nothing waits.
+pub(crate) const NO_WORD: OpenWord = OpenWord {
+    is_joined: false,
+    is_open: false,
+    is_placed: false,
+    blanks: 0,
+    has_tab: false,
+    is_told: false,
+};
+
+// Whether a tag is set in its text's row.
+fn is_set_in(form: TagForm) -> bool
+    ensures { result ≡ fill.is_set_in form }
+{
+    matches!(form, TagForm::Inset(_))
+}
+
+impl OpenWord {
+    /// The word has a cell, and goes on.
+    fn begun(is_told: bool) -> OpenWord
+        ensures { result ≡ fill.begun_word is_told }
+    {
+        OpenWord {
+            is_joined: true,
+            is_open: true,
+            is_told,
+            ..NO_WORD
+        }
+    }
+
+    /// A new word is placed after a count of blanks.
+    fn placed(blanks: u32) -> OpenWord
+        ensures { result ≡ fill.placed_word blanks }
+    {
+        OpenWord {
+            is_open: true,
+            is_placed: true,
+            blanks,
+            ..NO_WORD
+        }
+    }
+
+    /// The word ends, and blanks wait before the next one.
+    pub(crate) fn end(&mut self, blanks: u32, has_tab: bool)
+        ensures { self.new ≡ fill.blanks_wait self.old blanks has_tab }
+    {
+        self.has_tab = has_tab;
+        if !self.is_placed {
+            self.is_joined = false;
+            self.is_open = false;
+            self.blanks = blanks;
+        }
+    }
+
+    /// The next text goes on with the word.
+    pub(crate) fn glued(self) -> OpenWord
+        ensures { result ≡ fill.glued_word self }
+    {
+        if self.is_open {
+            self
+        } else {
+            OpenWord::begun(self.is_told)
+        }
+    }
+}
+
+// Reports a tab, or not.
+fn report_tab<O: RowOut>(has_tab: bool, place: Place, out: &mut O)
+    ensures { CameRows O.left out.old [] (fill.tab_notes has_tab place) out.new }
+{
+    if has_tab {
+        out.report(&Note::about(NoteKind::TabFill, place, &[]));
+    }
+}
+
+impl Edge {
+    // Whether the next word's tab is reported: in filled text alone.
+    fn tells_tab(&self) -> bool
+        ensures { result ≡ fill.tells_tab self.now }
+    {
+        self.word.has_tab && !self.sheet.is_literal()
+    }
+
+    // Whether the blanks that wait are cells of the next word.
+    fn blanks_stand(&self) -> bool
+        ensures { result ≡ fill.stands self.now }
+    {
+        self.sheet.is_literal() || self.word.is_placed && self.sheet.cells().is_empty()
+    }
+
+    // A word begins, with the blanks that wait.
+    fn begin_word<O: RowOut>(&mut self, is_told: bool, place: Place, out: &mut O)
+        ensures { LaysOut O.left out.old (fill.word_begun self.old is_told place) out.new self.new }
+    {
+        let stands = self.blanks_stand();
+        self.sheet.begin_word(self.word.blanks, stands, place, out);
+        self.word = OpenWord::begun(is_told);
+    }
+
+    // Before a cell: a word begins where none is open with a cell.
+    #[tactic(auto, unfolding(crate::specs::machine::Fill::opening))]
+    fn open_word<O: RowOut>(&mut self, place: Place, out: &mut O)
+        ensures { LaysOut O.left out.old (fill.opening self.old place) out.new self.new }
+    {
+        if self.word.is_joined {
+            return;
+        }
+        let is_told = self.tells_tab();
+        report_tab(is_told, place, out);
+        self.begin_word(is_told, place, out);
+    }
+
+    /// Takes a text.
+    #[tactic(auto, unfolding(crate::specs::machine::Fill::text))]
+    pub(crate) fn text<O: RowOut>(&mut self, text: &str, font: Font, place: Place, out: &mut O)
+        ensures { LaysOut O.left out.old (fill.text self.old (chars text.now) font place) out.new self.new }
+    {
+        if text.is_empty() {
+            self.word.is_open = true;
+            return;
+        }
+        self.open_word(place, out);
+        put_characters(&mut self.sheet, self.output, text, font, place, out);
+    }
+
+    // Whether the next word, with this count of cells of a column each, goes into the row after its blanks.
+    fn takes_word(&self, count: usize) -> bool
+        ensures { result ≡ plain_words.takes_word self.now count }
+    {
+        let word = &self.word;
+        !word.is_joined
+            && !word.has_tab
+            && 0 < word.blanks
+            && self.sheet.has_word_room(word.blanks, count)
+    }
+
+    // Whether the next word, with this count of cells of a column each, begins the next row after one blank.
+    fn wraps_word(&self, count: usize) -> bool
+        ensures { result ≡ plain_words.wraps_word self.now count }
+    {
+        let word = &self.word;
+        !word.is_joined && !word.has_tab && word.blanks == 1 && self.sheet.ends_before(count)
+    }
+
+    // Takes a word that the open row has room for after its blanks, if it is plain; says whether it did.
+    #[inline(always)]
+    fn takes_new_word(&mut self, bytes: &[u8], font: Font) -> bool
+        requires { (length bytes.now == 0) ≡ false }
+        ensures taken { result ≡ true → (place : Place)
+            → fill.text self.old (characters_of bytes.now) font place ≡ nothing self.new }
+        ensures same { result ≡ false → self.new ≡ self.old }
+    {
+        let blanks = self.word.blanks;
+        if !self.takes_word(bytes.len()) {
+            return false;
+        }
+        if !self.sheet.add_word(blanks, bytes, font) {
+            return false;
+        }
+        self.word = OpenWord::begun(false);
+        true
+    }
+
+    // Takes a text that goes on with the row's last word, if it is plain and the row has room for it; says whether it did. It is a call, so that
+    // what gives pieces stays small.
+    #[inline(never)]
+    fn takes_part(&mut self, bytes: &[u8], font: Font) -> bool
+        requires some { (length bytes.now == 0) ≡ false }
+        requires joined { self.old.word.is_joined ≡ true }
+        ensures taken { result ≡ true → (place : Place)
+            → fill.text self.old (characters_of bytes.now) font place ≡ nothing self.new }
+        ensures same { result ≡ false → self.new ≡ self.old }
+    {
+        self.sheet.has_part_room(bytes.len()) && self.sheet.add_part(bytes, font)
+    }
+
+    /// Takes a text that is a word or goes on with one, if it is plain and the open row has room for it; says whether it did.
+    #[inline(always)]
+    pub(crate) fn takes_at_once(&mut self, bytes: &[u8], font: Font) -> bool
+        ensures taken { result ≡ true → (place : Place)
+            → fill.text self.old (characters_of bytes.now) font place ≡ nothing self.new }
+        ensures same { result ≡ false → self.new ≡ self.old }
+    {
+        if bytes.is_empty() {
+            return false;
+        }
+        if self.word.is_joined {
+            self.takes_part(bytes, font)
+        } else {
+            self.takes_new_word(bytes, font)
+        }
+    }
+
+    /// The same of a character.
+    #[inline(never)]
+    pub(crate) fn takes_character(&mut self, c: char, font: Font) -> bool
+        ensures taken { result ≡ true → (place : Place)
+            → fill.one_character self.old c font place ≡ nothing self.new }
+        ensures same { result ≡ false → self.new ≡ self.old }
+    {
+        c.is_ascii() && self.takes_at_once(&[c as u8], font)
+    }
+
+    // Takes the first words of a roman text, in which one blank stands before each, as far as the row has room for them; answers how many
+    // bytes of the text these are.
+    fn take_roman(&mut self, text: &[u8]) -> usize
+        ensures takes { TakesFirstWords text.now R result self.old self.new }
+        ensures within { result ≤ length text.now }
+        ensures sound { is_sound self.old.word ≡ true → is_sound self.new.word ≡ true }
+    {
+        let room = self.sheet.free_cells().min(text.len());
+        let end = whole_words(text, printable_len(&text[..room]));
+        let words = &text[..end];
+        let start = word_start(words);
+        if self.word.is_placed || start == 0 {
+            return 0;
+        }
+        self.sheet.add_words(words, start);
+        self.sheet.part_word(last_part_start(words, start));
+        self.word = OpenWord::begun(false);
+        end
+    }
+
+    /// Takes the first words of a text, in which one blank stands before each, as far as the row has room for them; answers how many bytes
+    /// of the text these are. They are roman, as the blanks are.
+    pub fn take_words(&mut self, text: &[u8], font: Font) -> usize
+        ensures takes { TakesFirstWords text.now font result self.old self.new }
+        ensures within { result ≤ length text.now }
+        ensures sound { is_sound self.old.word ≡ true → is_sound self.new.word ≡ true }
+    {
+        match font {
+            Font::R => self.take_roman(text),
+            _ => 0,
+        }
+    }
+
+    // Takes a plain text.
+    #[tactic(auto, unfolding(crate::specs::machine::Fill::text))]
+    fn plain<O: RowOut>(&mut self, bytes: &[u8], font: Font, place: Place, out: &mut O)
+        requires { plain.is_printable_ascii bytes.now ≡ true }
+        ensures { LaysOut O.left out.old (fill.text self.old bytes.now font place) out.new self.new }
+    {
+        if bytes.is_empty() {
+            self.word.is_open = true;
+            return;
+        }
+        if self.wraps_word(bytes.len()) {
+            self.sheet.wrap_plain(bytes, font, out);
+            self.word = OpenWord::begun(false);
+            return;
+        }
+        self.open_word(place, out);
+        put_plain(&mut self.sheet, bytes, font, place, out);
+    }
+
+    /// Takes bytes that are a text.
+    pub(crate) fn bytes<O: RowOut>(&mut self, bytes: &[u8], font: Font, place: Place, out: &mut O)
+        ensures { LaysOut O.left out.old (fill.text self.old
+            (characters_of bytes.now) font place) out.new self.new }
+    {
+        if is_printable_ascii(bytes) {
+            return self.plain(bytes, font, place, out);
+        }
+        match str::from_utf8(bytes) {
+            Ok(text) => self.text(text, font, place, out),
+            Err(_) => self.text("", font, place, out),
+        }
+    }
+
+    /// Takes a character.
+    #[tactic(auto, unfolding(crate::specs::machine::Fill::one_character))]
+    pub(crate) fn character<O: RowOut>(&mut self, c: char, font: Font, place: Place, out: &mut O)
+        ensures { LaysOut O.left out.old (fill.one_character self.old c font place) out.new self.new }
+    {
+        self.open_word(place, out);
+        put_character(&mut self.sheet, self.output, c, font, place, out);
+    }
+
+    /// Takes the glyph of a name.
+    #[tactic(auto, unfolding(crate::specs::machine::Fill::one_glyph))]
+    pub(crate) fn glyph<O: RowOut>(&mut self, name: &[u8], font: Font, place: Place, out: &mut O)
+        ensures { LaysOut O.left out.old (fill.one_glyph self.old name.now font place) out.new self.new }
+    {
+        self.open_word(place, out);
+        put_glyph(&mut self.sheet, self.output, name, font, place, out);
+    }
+
+    // A tab in a row that is kept as it is.
+    fn fixed_tab<O: RowOut>(&mut self, place: Place, out: &mut O)
+        ensures { LaysOut O.left out.old (fill.fixed_tab self.old place) out.new self.new }
+    {
+        let blanks = TAB_STOP - self.sheet.columns() % TAB_STOP;
+        self.sheet.put_blanks(blanks, place, out);
+    }
+
+    // A tab in a filled row.
+    fn filled_tab<O: RowOut>(&mut self, font: Font, place: Place, out: &mut O)
+        ensures { LaysOut O.left out.old (fill.filled_tab self.old font place) out.new self.new }
+    {
+        report_tab(!self.word.is_told, place, out);
+        self.word.is_told = true;
+        self.sheet.put_letter(Cell { c: ' ', font }, place, out);
+    }
+
+    /// Takes a tab.
+    #[tactic(auto, unfolding(crate::specs::machine::Fill::tab))]
+    pub(crate) fn tab<O: RowOut>(&mut self, font: Font, place: Place, out: &mut O)
+        ensures { LaysOut O.left out.old (fill.tab self.old font place) out.new self.new }
+    {
+        self.open_word(place, out);
+        if self.sheet.is_literal() {
+            self.fixed_tab(place, out);
+        } else {
+            self.filled_tab(font, place, out);
+        }
+    }
+
+    /// The open row ends, and nothing waits.
+    #[tactic(auto, unfolding(crate::specs::machine::Fill::ended))]
+    pub(crate) fn end_row<O: RowOut>(&mut self, out: &mut O)
+        ensures { LaysOut O.left out.old (fill.ended self.old) out.new self.new }
+    {
+        self.sheet.end_row(out);
+        self.word = NO_WORD;
+    }
+
+    /// Ends the row, and gives blank rows until a count of them stands there; none after a heading's row.
+    #[tactic(auto, unfolding(crate::specs::machine::Fill::paragraph))]
+    pub(crate) fn paragraph<O: RowOut>(&mut self, count: u32, out: &mut O)
+        ensures { LaysOut O.left out.old (fill.paragraph self.old count) out.new self.new }
+    {
+        self.end_row(out);
+        let missing = self.sheet.missing_rows(count);
+        self.sheet.give_empty_rows(missing, out);
+    }
+
+    /// Ends the row, and gives a count of blank rows.
+    #[tactic(auto, unfolding(crate::specs::machine::Fill::spaced))]
+    pub(crate) fn space<O: RowOut>(&mut self, count: u32, out: &mut O)
+        ensures { LaysOut O.left out.old (fill.spaced self.old count) out.new self.new }
+    {
+        self.end_row(out);
+        self.sheet.give_empty_rows(count, out);
+    }
+
+    /// Ends the row of a line that is kept as it is, and gives a blank row where it has no cell.
+    #[tactic(auto, unfolding(crate::specs::machine::Fill::row_ended))]
+    pub(crate) fn end_line<O: RowOut>(&mut self, out: &mut O)
+        ensures { LaysOut O.left out.old (fill.row_ended self.old) out.new self.new }
+    {
+        if self.sheet.cells().is_empty() {
+            self.space(1, out);
+        } else {
+            self.end_row(out);
+        }
+    }
+
+    /// The row ends as a heading's row, if it has a cell.
+    #[tactic(auto, unfolding(crate::specs::machine::Fill::heading))]
+    pub(crate) fn heading<O: RowOut>(&mut self, out: &mut O)
+        ensures { LaysOut O.left out.old (fill.heading self.old) out.new self.new }
+    {
+        let is_empty = self.sheet.cells().is_empty();
+        self.end_row(out);
+        if !is_empty {
+            self.sheet.set_heading();
+        }
+    }
+
+    /// A tag begins.
+    pub(crate) fn begin_tag(&mut self, hang: u32, form: TagForm)
+        ensures { self.new ≡ fill.with_tag self.old hang form }
+    {
+        self.sheet.count_anew();
+        self.tag = Some(OpenTag { hang, form });
+    }
+
+    // What follows a tag with a cell.
+    fn after_tag<O: RowOut>(&mut self, tag: OpenTag, out: &mut O)
+        ensures { LaysOut O.left out.old (fill.after_tag self.old tag.hang tag.form) out.new self.new }
+    {
+        let hang = tag.hang.min(HANG_MAX);
+        let taken = self.sheet.tag_columns();
+        let fits = taken < hang;
+        match tag.form {
+            TagForm::Inset(_) if self.sheet.cells().is_empty() => self.word = OpenWord::placed(0),
+            TagForm::Inset(blanks) => self.word = OpenWord::placed(blanks),
+            TagForm::Row | TagForm::Hang if fits => self.word = OpenWord::placed(hang - taken),
+            TagForm::Row => return self.end_row(out),
+            TagForm::Hang => self.word = OpenWord::placed(1),
+        }
+    }
+
+    /// The row's last word is parted after its cells.
+    pub(crate) fn part_word(&mut self)
+        ensures { self.new ≡ fill.parted self.old }
+    {
+        if self.word.is_joined && !self.sheet.is_literal() {
+            self.sheet.open_word();
+        }
+    }
+
+    /// The tag ends.
+    pub(crate) fn end_tag<O: RowOut>(&mut self, out: &mut O)
+        ensures { LaysOut O.left out.old (fill.tag_ended
+            (fill.without_tag self.old) self.old.tag) out.new self.new }
+    {
+        let tag = self.tag;
+        self.tag = None;
+        match tag {
+            None => self.end_row(out),
+            Some(tag) if self.sheet.has_tag_cell() || is_set_in(tag.form) => self.after_tag(
+                tag, out,
+            ),
+            Some(_) => self.word = NO_WORD,
+        }
+    }
+
+    /// The next word stands at a column, or a blank after the last cell.
+    pub(crate) fn column(&mut self, column: u32)
+        ensures { self.new ≡ (fill.placed self.old (fill.to_column self.old.sheet.cells column)).edge }
+    {
+        let blanks = if self.sheet.cells().is_empty() {
+            column
+        } else {
+            column.saturating_sub(self.sheet.columns()).max(1)
+        };
+        self.word = OpenWord::placed(blanks);
+    }
+}

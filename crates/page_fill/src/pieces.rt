@@ -1,0 +1,193 @@
+//! Pieces, one by one, over two sinks.
+
+ghost use Rattle.std.specs.Prelude.{◌≡◌, ◌≤◌, length, IfOk, true, false};
+ghost use Rattle.page_core_base.specs.Fails.{FailsBySink};
+ghost use Rattle.page_core_base.specs.Laid.{Gets, nothing};
+ghost use Rattle.page_core_base.specs.Latches.{LaysOut};
+ghost use Rattle.page_core_base.specs.Pieces.{piece_of};
+ghost use Rattle.page_core_base.specs.declared.limits.TheConstants.{CELLS};
+ghost use Rattle.page_fill.specs.Caps.{FillFits, IsHeld};
+ghost use Rattle.page_fill.specs.Edges.{under};
+ghost use Rattle.page_fill.specs.machine.Fill as fill;
+
+use crate::edges::{Edge, NO_WORD};
+use page_core_base::{Cell, Fault, NoteSink, Output, Piece, RowLatch, RowOut, RowSink, Settings};
+use page_fill_rows::OpenRow;
+use std::alloc::{AllocError, Global};
+
+// Takes a piece, and gives the rows and messages that it settles.
+#[inline(always)]
+#[tactic(auto, unfolding(crate::specs::machine::Fill::laid_piece))]
+fn take_piece<O: RowOut>(edge: &mut Edge, piece: Piece<&[u8]>, out: &mut O)
+    ensures { LaysOut O.left out.old (fill.laid_piece edge.old (piece_of piece.entry)) out.new edge.new }
+{
+    match piece {
+        Piece::Text { text, font, place } => edge.bytes(text, font, place, out),
+        Piece::Glyph { name, font, place } => edge.glyph(name, font, place, out),
+        Piece::Char { c, font, place } => edge.character(c, font, place, out),
+        Piece::Tab { font, place } => edge.tab(font, place, out),
+        Piece::Split => edge.part_word(),
+        Piece::Break => edge.end_row(out),
+        Piece::RowEnd => edge.end_line(out),
+        Piece::Para(count) => edge.paragraph(count, out),
+        Piece::Space(count) => edge.space(count, out),
+        Piece::TagEnd => edge.end_tag(out),
+        Piece::Heading => edge.heading(out),
+        Piece::Blank { count, has_tab } => edge.word.end(count, has_tab),
+        Piece::Glue => edge.word = edge.word.glued(),
+        Piece::Indent { first, rest } => edge.sheet.set_margins(first, rest),
+        Piece::Literal(is_literal) => edge.sheet.set_literal(is_literal),
+        Piece::Tag { hang, form } => edge.begin_tag(hang, form),
+        Piece::Column(column) => edge.column(column),
+    }
+}
+
+// Takes a blank, or a plain text that the open row has room for, and says whether it was one of these, which settle nothing. Most of a page
+// is made of them.
+#[inline(always)]
+#[tactic(auto, unfolding(crate::specs::machine::Fill::laid_piece))]
+fn takes_at_once(edge: &mut Edge, piece: Piece<&[u8]>) -> bool
+    ensures taken { result ≡ true → fill.laid_piece edge.old (piece_of piece.entry) ≡ nothing edge.new }
+    ensures same { result ≡ false → edge.new ≡ edge.old }
+{
+    match piece {
+        Piece::Blank { count, has_tab } => {
+            edge.word.end(count, has_tab);
+            true
+        }
+        Piece::Text { text, font, .. } => edge.takes_at_once(text, font),
+        Piece::Char { c, font, .. } => edge.takes_character(c, font),
+        _ => false,
+    }
+}
+
+// Takes a piece over two sinks.
+#[inline(always)]
+fn fill_piece<R: RowSink, N: NoteSink>(
+    edge: &mut Edge,
+    piece: Piece<&[u8]>,
+    rows: &mut R,
+    notes: &mut N,
+) -> Result<(), Fault>
+    ensures gets { Gets result R.gave R.within N.gave N.within rows.old rows.new notes.old notes.new
+        (fill.laid_piece edge.old (piece_of piece.entry)) }
+    ensures edge { edge.new ≡ (fill.laid_piece edge.old (piece_of piece.entry)).edge }
+    ensures faults { FailsBySink result (R.failed rows.old) (R.failed rows.new) (N.failed notes.old)
+        (N.failed notes.new) }
+    ensures rows_same { R.loans rows.new ≡ R.loans rows.old }
+    ensures notes_same { N.loans notes.new ≡ N.loans notes.old }
+{
+    let mut latch = RowLatch::new(rows, notes);
+    take_piece(edge, piece, &mut latch);
+    latch.done()
+}
+
+impl Edge {
+    /// Below the header of a page of these settings: one blank row stands there. It reserves all memory that is ever held.
+    pub fn new(alloc: Global, settings: &Settings) -> Result<Edge, AllocError>
+        ensures { IfOk result (λ e. e ≡ fill.start settings.now) }
+    {
+        let sheet = OpenRow::new(alloc, settings.width)?;
+        Ok(Edge {
+            sheet,
+            word: NO_WORD,
+            tag: None,
+            output: settings.output,
+        })
+    }
+
+    /// The same on a page of this width in columns, of an output. It reserves all memory that is ever held.
+    pub fn copy(&self, alloc: Global, width: u32, output: Output) -> Result<Edge, AllocError>
+        ensures { IfOk result (λ e. e ≡ under width output self.now) }
+    {
+        let sheet = self.sheet.copy(alloc, width)?;
+        Ok(Edge {
+            sheet,
+            word: self.word,
+            tag: self.tag,
+            output,
+        })
+    }
+
+    /// The columns of a row with its margin.
+    pub fn width(&self) -> u32
+        ensures { result ≡ self.now.sheet.width }
+    {
+        self.sheet.width()
+    }
+
+    /// What characters and glyphs print.
+    pub fn output(&self) -> Output
+        ensures { result ≡ self.now.output }
+    {
+        self.output
+    }
+
+    /// The open row's cells.
+    pub fn cells(&self) -> &[Cell]
+        ensures cells { result.now ≡ fill.open_cells self.now }
+        ensures bound { length result.now ≤ CELLS }
+    {
+        self.sheet.cells()
+    }
+
+    /// How many blank rows stand at the end of the rows that were given, the open row left aside.
+    pub fn blank_rows(&self) -> u32
+        ensures { result ≡ fill.blank_rows_at_end self.now }
+    {
+        self.sheet.blank_rows()
+    }
+
+    /// What is held is within its limits. Nothing is done: the open row shows it.
+    pub fn caps_law(&self)
+        ensures { FillFits self.now }
+    {
+        self.sheet.cells();
+        self.sheet.tag_columns();
+        self.sheet.blank_rows();
+    }
+
+    /// The places of the row's last word lie within the row. Nothing is done: the open row shows it.
+    #[inline(always)]
+    pub fn held_law(&self)
+        ensures { IsHeld self.now.sheet }
+    {
+        self.sheet.held_law();
+    }
+
+    /// Takes a piece, and gives the rows and messages that it settles. Its faults are those of the sinks.
+    #[inline(always)]
+    pub fn piece<R: RowSink, N: NoteSink>(
+        &mut self,
+        piece: Piece<&[u8]>,
+        rows: &mut R,
+        notes: &mut N,
+    ) -> Result<(), Fault>
+        ensures gets { Gets result R.gave R.within N.gave N.within rows.old rows.new notes.old notes.new
+            (fill.laid_piece self.old (piece_of piece.entry)) }
+        ensures edge { self.new ≡ (fill.laid_piece self.old (piece_of piece.entry)).edge }
+        ensures faults { FailsBySink result (R.failed rows.old) (R.failed rows.new) (N.failed notes.old)
+            (N.failed notes.new) }
+        ensures rows_same { R.loans rows.new ≡ R.loans rows.old }
+        ensures notes_same { N.loans notes.new ≡ N.loans notes.old }
+    {
+        if takes_at_once(self, piece) {
+            return Ok(());
+        }
+        fill_piece(self, piece, rows, notes)
+    }
+
+    /// Ends the open row. Its faults are those of the sinks.
+    pub fn end<R: RowSink, N: NoteSink>(&mut self, rows: &mut R, notes: &mut N) -> Result<(), Fault>
+        ensures gets { Gets result R.gave R.within N.gave N.within rows.old rows.new notes.old notes.new
+            (fill.ended self.old) }
+        ensures faults { FailsBySink result (R.failed rows.old) (R.failed rows.new) (N.failed notes.old)
+            (N.failed notes.new) }
+        ensures rows_same { R.loans rows.new ≡ R.loans rows.old }
+        ensures notes_same { N.loans notes.new ≡ N.loans notes.old }
+    {
+        let mut latch = RowLatch::new(rows, notes);
+        self.end_row(&mut latch);
+        latch.done()
+    }
+}

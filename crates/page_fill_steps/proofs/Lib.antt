@@ -1,4 +1,0 @@
-pub mod WordLemmas
-pub mod PlainWordLemmas
-pub mod WordRunLemmas
-pub mod TakenWordLemmas

@@ -1,3 +1,0 @@
-pub mod Edges
-pub mod Caps
-pub mod machine

@@ -1,5 +1,0 @@
--- The code's own steps and fast ways. Trust needs no reading of them.
-pub mod Fill
-pub mod Items
-pub mod PlainWords
-pub mod TakenWords

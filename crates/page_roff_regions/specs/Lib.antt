@@ -1,2 +1,0 @@
-pub mod Regions
-pub mod OpenRegions

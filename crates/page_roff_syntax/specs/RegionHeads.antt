@@ -1,0 +1,111 @@
+-- Regions: their heads, and the lines that end them. Source: roff(7), "de", "am", "ig", "TS", "EQ", "PS".
+use Rattle.std.specs.Prelude.{◌≡◌, ℕ, ◌==◌, ◌||◌, Bool, false, not, nat_le, List, [], ◌∷◌, length, codes, if◌then◌else◌, Option, Some, None, option_map}
+use Rattle.std.specs.Str.{bytes_eq}
+use Rattle.std.specs.Borrow.{Bor}
+use Rattle.page_core_base.specs.Limits.{NAME}
+use Rattle.page_roff_syntax.specs.Arguments.{arguments, argument_name, argument_view}
+use Rattle.page_roff_syntax.specs.LineForms.{form_of}
+use Rattle.page_roff_syntax.specs.declared.line_forms.LineForm.{LineForm}
+use Rattle.page_roff_syntax.specs.declared.line_forms.LineForm.TheVariants.{Comment, BlankLine, Text, Control}
+use Rattle.page_roff_syntax.specs.declared.quotes.Argument.{Argument}
+use Rattle.page_roff_syntax.specs.Regions.{fixed_ending}
+pub use Rattle.page_roff_syntax.specs.Regions.{text_view}
+use Rattle.page_roff_syntax.specs.declared.regions.RegionKind.{RegionKind}
+use Rattle.page_roff_syntax.specs.declared.regions.RegionKind.TheVariants.{Define, Append, Ignore, Table, Equation, Picture}
+use Rattle.page_roff_syntax.specs.declared.region_heads.RegionHead.{RegionHead}
+
+-- an argument without a byte is no name
+abbrev pub as_named : Argument (List ℕ) → Option (Argument (List ℕ))
+as_named a = if length a.text == 0 then None else Some a
+
+-- the first argument, if it is a name
+abbrev pub first_named : List (Argument (List ℕ)) → Option (Argument (List ℕ))
+first_named [] = None
+first_named (a ∷ more) = as_named a
+
+abbrev pub second_named : List (Argument (List ℕ)) → Option (Argument (List ℕ))
+second_named [] = None
+second_named (a ∷ more) = first_named more
+
+-- the first of the arguments that are still to be read, and then the others
+abbrev pub NameOfNext : List (Argument (List ℕ)) → Option (Argument (List ℕ)) → List (Argument (List ℕ)) → Type 0
+NameOfNext old name new = (name ≡ first_named old) × (first_named new ≡ second_named old)
+
+-- the macro that a region defines is its head's first argument
+abbrev pub name_in : RegionKind → List (Argument (List ℕ)) → Option (Argument (List ℕ))
+name_in Define args = first_named args
+name_in Append args = first_named args
+name_in Ignore args = None
+name_in Table args = None
+name_in Equation args = None
+name_in Picture args = None
+
+-- the end name is the argument after it, or the first one of `ig`; that of a table, an equation or a
+-- picture is fixed
+abbrev pub ending_in : RegionKind → List (Argument (List ℕ)) → Option (Argument (List ℕ))
+ending_in Define args = second_named args
+ending_in Append args = second_named args
+ending_in Ignore args = first_named args
+ending_in Table args = None
+ending_in Equation args = None
+ending_in Picture args = None
+
+abbrev pub head_with : RegionKind → ℕ → List (Argument (List ℕ)) → RegionHead (List ℕ)
+head_with kind column args =
+    record { kind = kind; column = column; name = name_in kind args; ending = ending_in kind args }
+
+-- the head of a region: the column of its name, and its rest, of which the first byte stands at a column
+unfoldable pub region_head : RegionKind → ℕ → ℕ → List ℕ → RegionHead (List ℕ)
+region_head kind column rest_column rest = head_with kind column (arguments rest_column rest)
+
+-- ---- what its names are
+
+abbrev pub macro_name : RegionHead (List ℕ) → Option (List ℕ)
+macro_name head = option_map argument_name head.name
+
+-- the end name that it asks for
+abbrev pub asked_ending : RegionHead (List ℕ) → Option (List ℕ)
+asked_ending head = option_map argument_name head.ending
+
+-- a full stop where there is none, or one beyond the limit of names
+abbrev pub ending_of : Option (List ℕ) → List ℕ
+ending_of None = codes "."
+ending_of (Some name) = if nat_le (length name) NAME then name else codes "."
+
+abbrev pub end_name_or : Option (List ℕ) → Option (List ℕ) → List ℕ
+end_name_or None asked = ending_of asked
+end_name_or (Some name) asked = ending_of (Some name)
+
+-- the name of its end line
+abbrev pub end_name : RegionHead (List ℕ) → List ℕ
+end_name head = end_name_or (fixed_ending head.kind) (asked_ending head)
+
+abbrev pub is_too_long : Option (List ℕ) → Bool
+is_too_long None = false
+is_too_long (Some name) = not (nat_le (length name) NAME)
+
+-- its name, or its end name, is beyond the limit
+abbrev pub has_long_name : RegionHead (List ℕ) → Bool
+has_long_name head = is_too_long (macro_name head) || is_too_long (asked_ending head)
+
+-- a control line of this name
+abbrev pub is_called : List ℕ → LineForm (List ℕ) → Bool
+is_called ending Comment = false
+is_called ending BlankLine = false
+is_called ending (Text text) = false
+is_called ending (Control name column rest rest_column) = bytes_eq name ending
+
+-- whether a line ends a region of that end name
+unfoldable pub is_ending : List ℕ → List ℕ → Bool
+is_ending ending line = is_called ending (form_of line)
+
+-- ---- of the program, with what its texts hold
+
+abbrev pub region_view : RegionHead (Bor (List ℕ)) → RegionHead (List ℕ)
+region_view head =
+    record {
+      kind = head.kind;
+      column = head.column;
+      name = option_map argument_view head.name;
+      ending = option_map argument_view head.ending;
+    }

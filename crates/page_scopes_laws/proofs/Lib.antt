@@ -1,5 +1,0 @@
-pub mod RunLemmas
-pub mod EdgeLemmas
-pub mod AsideLemmas
-pub mod CutLemmas
-pub mod PartLemmas

@@ -1,5 +1,0 @@
-use Rattle.page_scopes_laws.proofs.PartLemmas.{tree-part}
-use Rattle.page_scopes_laws.proofs.part_law.Goals as goal
-
-pub returns : goal.returns
-returns g c = λ nests most sound m nodes acts. tree-part nests sound m nodes acts

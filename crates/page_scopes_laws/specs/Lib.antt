@@ -1,5 +1,0 @@
-pub mod Nestings
-pub mod Forests
-pub mod Layouts
-pub mod Asides
-pub mod machine
