@@ -21,7 +21,7 @@ lint = record plain { output = Lint; least = Some levels.Warning }
 abbrev pub text : List (List ℕ) → List ℕ
 text lines = flat_map (λ line. line ++ 10 ∷ []) lines
 
--- bold over itself, italic over a low line
+-- bold over itself, italic over an underscore
 abbrev pub bold : List ℕ → List ℕ
 bold bytes = flat_map (λ byte. byte ∷ 8 ∷ byte ∷ []) bytes
 
@@ -32,5 +32,5 @@ italic bytes = flat_map (λ byte. 95 ∷ 8 ∷ byte ∷ []) bytes
 abbrev pub printed : Settings → List (List ℕ) → List ℕ
 printed settings lines = flat_map row_bytes (whole_page settings (text lines)).rows
 
-abbrev pub told : Settings → List ℕ → List (List ℕ) → List ℕ
-told settings file lines = flat_map (message_bytes file) (whole_page settings (text lines)).notes
+abbrev pub reported : Settings → List ℕ → List (List ℕ) → List ℕ
+reported settings file lines = flat_map (message_bytes file) (whole_page settings (text lines)).notes

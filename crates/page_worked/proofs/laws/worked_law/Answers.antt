@@ -34,11 +34,11 @@ returns-clause-row_13 c = all_rows.9
 pub returns-clause-row_22 : goal.returns-clause-row_22
 returns-clause-row_22 c = all_rows.10
 
-pub returns-clause-row_2_told : goal.returns-clause-row_2_told
-returns-clause-row_2_told c = all_rows.11
+pub returns-clause-row_2_messages : goal.returns-clause-row_2_messages
+returns-clause-row_2_messages c = all_rows.11
 
-pub returns-clause-row_12_told : goal.returns-clause-row_12_told
-returns-clause-row_12_told c = all_rows.12
+pub returns-clause-row_12_messages : goal.returns-clause-row_12_messages
+returns-clause-row_12_messages c = all_rows.12
 
-pub returns-clause-row_13_told : goal.returns-clause-row_13_told
-returns-clause-row_13_told c = all_rows.13
+pub returns-clause-row_13_messages : goal.returns-clause-row_13_messages
+returns-clause-row_13_messages c = all_rows.13
