@@ -99,7 +99,7 @@ impl<'a> RegionHead<&'a [u8]> {
 
 /// The head of a region of a kind: the column of its name and, without its comment, the rest of its line,
 /// of which the first byte stands at another.
-#[tactic(auto, unfolding(crate::specs::Regions::region_head))]
+#[tactic(auto, unfolding(crate::specs::RegionHeads::region_head))]
 pub fn region_head(
     kind: RegionKind,
     column: u32,
@@ -127,7 +127,7 @@ pub fn region_head(
 }
 
 /// Whether a raw line ends a region of that end name.
-#[tactic(auto, unfolding(crate::specs::Regions::is_ending))]
+#[tactic(auto, unfolding(crate::specs::RegionHeads::is_ending))]
 pub fn is_ending(ending: &[u8], line: &[u8]) -> bool
     requires { length line.now ≤ LINE }
     ensures { result ≡ is_ending ending.now line.now }
