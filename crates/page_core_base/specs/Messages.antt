@@ -1,4 +1,5 @@
 -- Messages: what a message says, its level and its text. Source: mandoc(1), "DIAGNOSTICS" and -W.
+use Prim.Native.String.{String}
 use Rattle.std.specs.Prelude.{ℕ, Bool, nat_lt, List, take, codes}
 use Rattle.std.specs.Str.Lossy.{utf8_valid_len}
 use Rattle.page_core_base.specs.declared.notes.Note.{Note}
@@ -45,82 +46,57 @@ level_name Warning = codes "WARNING"
 level_name Error = codes "ERROR"
 level_name Unsupp = codes "UNSUPP"
 
+-- a kind of message: its level and its text
+pub record KindRow : Type 0 where
+  pub level : Level
+  pub text : List ℕ
+
+abbrev pub kind_row : Level → String → KindRow
+kind_row level text = record { level = level; text = codes text }
+
+-- the table of the kinds
+abbrev pub row_of_kind : NoteKind → KindRow
+row_of_kind TrailingBlank = kind_row Style "whitespace at end of input line"
+row_of_kind MissingTitle = kind_row Warning "missing manual title, using \"\""
+row_of_kind UnknownSection = kind_row Warning "unknown manual section"
+row_of_kind MissingDate = kind_row Warning "missing date, using \"\""
+row_of_kind MissingOs = kind_row Warning "missing Os macro, using \"\""
+row_of_kind LateMacro = kind_row Warning "skipping late prologue macro"
+row_of_kind NoBody = kind_row Warning "no document body"
+row_of_kind BeforeSection = kind_row Warning "content before first section header"
+row_of_kind SkipPara = kind_row Warning "skipping paragraph macro"
+row_of_kind LineScope = kind_row Warning "line scope broken"
+row_of_kind EmptyMacro = kind_row Warning "skipping empty macro"
+row_of_kind BadNest = kind_row Warning "blocks badly nested"
+row_of_kind BlankFill = kind_row Warning "blank line in fill mode, using .sp"
+row_of_kind TabFill = kind_row Warning "tab in filled text"
+row_of_kind UndefString = kind_row Warning "undefined string, using \"\""
+row_of_kind UndefEscape = kind_row Warning "undefined escape, printing literally"
+row_of_kind BadEscape = kind_row Warning "invalid escape sequence"
+row_of_kind NoGlyph = kind_row Warning "unknown character, using <?>"
+row_of_kind UnknownFont = kind_row Warning "unknown font, skipping request"
+row_of_kind Unterminated = kind_row Warning "unterminated quoted argument"
+row_of_kind MissingWidth = kind_row Warning "missing -width in -tag list, using 6n"
+row_of_kind BadChar = kind_row Error "skipping bad character"
+row_of_kind UnknownMacro = kind_row Error "skipping unknown macro"
+row_of_kind ItemOutside = kind_row Error "skipping item outside list"
+row_of_kind NotOpen = kind_row Error "skipping end of block that is not open"
+row_of_kind FewerRs = kind_row Error "fewer RS blocks open, skipping"
+row_of_kind MissingEnd = kind_row Error "appending missing end of block"
+row_of_kind ArgOutside = kind_row Error "using macro argument outside macro"
+row_of_kind NotNumeric = kind_row Error "argument is not numeric, using 0"
+row_of_kind DivZero = kind_row Error "divide by zero"
+row_of_kind NoListType = kind_row Error "missing list type, using -item"
+row_of_kind MissingName = kind_row Error "missing manual name, using \"\""
+row_of_kind BadCondition = kind_row Error "unknown condition, using false"
+row_of_kind Loop = kind_row Error "input stack limit exceeded, infinite loop?"
+row_of_kind Limit = kind_row Error "limit exceeded, skipping"
+row_of_kind UnsuppRequest = kind_row Unsupp "unsupported roff request"
+row_of_kind UnsuppEscape = kind_row Unsupp "unsupported escape sequence"
+row_of_kind Table = kind_row Unsupp "unsupported table, equation or picture"
+
 abbrev pub level_of : NoteKind → Level
-level_of TrailingBlank = Style
-level_of MissingTitle = Warning
-level_of UnknownSection = Warning
-level_of MissingDate = Warning
-level_of MissingOs = Warning
-level_of LateMacro = Warning
-level_of NoBody = Warning
-level_of BeforeSection = Warning
-level_of SkipPara = Warning
-level_of LineScope = Warning
-level_of EmptyMacro = Warning
-level_of BadNest = Warning
-level_of BlankFill = Warning
-level_of TabFill = Warning
-level_of UndefString = Warning
-level_of UndefEscape = Warning
-level_of BadEscape = Warning
-level_of NoGlyph = Warning
-level_of UnknownFont = Warning
-level_of Unterminated = Warning
-level_of MissingWidth = Warning
-level_of BadChar = Error
-level_of UnknownMacro = Error
-level_of ItemOutside = Error
-level_of NotOpen = Error
-level_of FewerRs = Error
-level_of MissingEnd = Error
-level_of ArgOutside = Error
-level_of NotNumeric = Error
-level_of DivZero = Error
-level_of NoListType = Error
-level_of MissingName = Error
-level_of BadCondition = Error
-level_of Loop = Error
-level_of Limit = Error
-level_of UnsuppRequest = Unsupp
-level_of UnsuppEscape = Unsupp
-level_of Table = Unsupp
+level_of kind = (row_of_kind kind).level
 
 abbrev pub text_of : NoteKind → List ℕ
-text_of TrailingBlank = codes "whitespace at end of input line"
-text_of MissingTitle = codes "missing manual title, using \"\""
-text_of UnknownSection = codes "unknown manual section"
-text_of MissingDate = codes "missing date, using \"\""
-text_of MissingOs = codes "missing Os macro, using \"\""
-text_of LateMacro = codes "skipping late prologue macro"
-text_of NoBody = codes "no document body"
-text_of BeforeSection = codes "content before first section header"
-text_of SkipPara = codes "skipping paragraph macro"
-text_of LineScope = codes "line scope broken"
-text_of EmptyMacro = codes "skipping empty macro"
-text_of BadNest = codes "blocks badly nested"
-text_of BlankFill = codes "blank line in fill mode, using .sp"
-text_of TabFill = codes "tab in filled text"
-text_of UndefString = codes "undefined string, using \"\""
-text_of UndefEscape = codes "undefined escape, printing literally"
-text_of BadEscape = codes "invalid escape sequence"
-text_of NoGlyph = codes "unknown character, using <?>"
-text_of UnknownFont = codes "unknown font, skipping request"
-text_of Unterminated = codes "unterminated quoted argument"
-text_of MissingWidth = codes "missing -width in -tag list, using 6n"
-text_of BadChar = codes "skipping bad character"
-text_of UnknownMacro = codes "skipping unknown macro"
-text_of ItemOutside = codes "skipping item outside list"
-text_of NotOpen = codes "skipping end of block that is not open"
-text_of FewerRs = codes "fewer RS blocks open, skipping"
-text_of MissingEnd = codes "appending missing end of block"
-text_of ArgOutside = codes "using macro argument outside macro"
-text_of NotNumeric = codes "argument is not numeric, using 0"
-text_of DivZero = codes "divide by zero"
-text_of NoListType = codes "missing list type, using -item"
-text_of MissingName = codes "missing manual name, using \"\""
-text_of BadCondition = codes "unknown condition, using false"
-text_of Loop = codes "input stack limit exceeded, infinite loop?"
-text_of Limit = codes "limit exceeded, skipping"
-text_of UnsuppRequest = codes "unsupported roff request"
-text_of UnsuppEscape = codes "unsupported escape sequence"
-text_of Table = codes "unsupported table, equation or picture"
+text_of kind = (row_of_kind kind).text

@@ -121,89 +121,55 @@ impl NoteKind {
     pub fn level(self) -> Level
         ensures { result ≡ level_of self }
     {
-        match self {
-            NoteKind::TrailingBlank => Level::Style,
-            NoteKind::MissingTitle
-            | NoteKind::UnknownSection
-            | NoteKind::MissingDate
-            | NoteKind::MissingOs
-            | NoteKind::LateMacro
-            | NoteKind::NoBody
-            | NoteKind::BeforeSection
-            | NoteKind::SkipPara
-            | NoteKind::LineScope
-            | NoteKind::EmptyMacro
-            | NoteKind::BadNest
-            | NoteKind::BlankFill
-            | NoteKind::TabFill
-            | NoteKind::UndefString
-            | NoteKind::UndefEscape
-            | NoteKind::BadEscape
-            | NoteKind::NoGlyph
-            | NoteKind::UnknownFont
-            | NoteKind::Unterminated
-            | NoteKind::MissingWidth => Level::Warning,
-            NoteKind::BadChar
-            | NoteKind::UnknownMacro
-            | NoteKind::ItemOutside
-            | NoteKind::NotOpen
-            | NoteKind::FewerRs
-            | NoteKind::MissingEnd
-            | NoteKind::ArgOutside
-            | NoteKind::NotNumeric
-            | NoteKind::DivZero
-            | NoteKind::NoListType
-            | NoteKind::MissingName
-            | NoteKind::BadCondition
-            | NoteKind::Loop
-            | NoteKind::Limit => Level::Error,
-            NoteKind::UnsuppRequest | NoteKind::UnsuppEscape | NoteKind::Table => Level::Unsupp,
-        }
+        NOTE_KINDS[self as usize].0
     }
 
     /// The text of messages of this kind.
     pub fn text(self) -> &'static str
         ensures { result.now ≡ text_of self }
     {
-        match self {
-            NoteKind::TrailingBlank => "whitespace at end of input line",
-            NoteKind::MissingTitle => "missing manual title, using \"\"",
-            NoteKind::UnknownSection => "unknown manual section",
-            NoteKind::MissingDate => "missing date, using \"\"",
-            NoteKind::MissingOs => "missing Os macro, using \"\"",
-            NoteKind::LateMacro => "skipping late prologue macro",
-            NoteKind::NoBody => "no document body",
-            NoteKind::BeforeSection => "content before first section header",
-            NoteKind::SkipPara => "skipping paragraph macro",
-            NoteKind::LineScope => "line scope broken",
-            NoteKind::EmptyMacro => "skipping empty macro",
-            NoteKind::BadNest => "blocks badly nested",
-            NoteKind::BlankFill => "blank line in fill mode, using .sp",
-            NoteKind::TabFill => "tab in filled text",
-            NoteKind::UndefString => "undefined string, using \"\"",
-            NoteKind::UndefEscape => "undefined escape, printing literally",
-            NoteKind::BadEscape => "invalid escape sequence",
-            NoteKind::NoGlyph => "unknown character, using <?>",
-            NoteKind::UnknownFont => "unknown font, skipping request",
-            NoteKind::Unterminated => "unterminated quoted argument",
-            NoteKind::MissingWidth => "missing -width in -tag list, using 6n",
-            NoteKind::BadChar => "skipping bad character",
-            NoteKind::UnknownMacro => "skipping unknown macro",
-            NoteKind::ItemOutside => "skipping item outside list",
-            NoteKind::NotOpen => "skipping end of block that is not open",
-            NoteKind::FewerRs => "fewer RS blocks open, skipping",
-            NoteKind::MissingEnd => "appending missing end of block",
-            NoteKind::ArgOutside => "using macro argument outside macro",
-            NoteKind::NotNumeric => "argument is not numeric, using 0",
-            NoteKind::DivZero => "divide by zero",
-            NoteKind::NoListType => "missing list type, using -item",
-            NoteKind::MissingName => "missing manual name, using \"\"",
-            NoteKind::BadCondition => "unknown condition, using false",
-            NoteKind::Loop => "input stack limit exceeded, infinite loop?",
-            NoteKind::Limit => "limit exceeded, skipping",
-            NoteKind::UnsuppRequest => "unsupported roff request",
-            NoteKind::UnsuppEscape => "unsupported escape sequence",
-            NoteKind::Table => "unsupported table, equation or picture",
-        }
+        NOTE_KINDS[self as usize].1
     }
 }
+
+// The level and the text of each kind, in the order of `NoteKind`.
+static NOTE_KINDS: [(Level, &str); 38] = [
+    (Level::Style, "whitespace at end of input line"),
+    (Level::Warning, "missing manual title, using \"\""),
+    (Level::Warning, "unknown manual section"),
+    (Level::Warning, "missing date, using \"\""),
+    (Level::Warning, "missing Os macro, using \"\""),
+    (Level::Warning, "skipping late prologue macro"),
+    (Level::Warning, "no document body"),
+    (Level::Warning, "content before first section header"),
+    (Level::Warning, "skipping paragraph macro"),
+    (Level::Warning, "line scope broken"),
+    (Level::Warning, "skipping empty macro"),
+    (Level::Warning, "blocks badly nested"),
+    (Level::Warning, "blank line in fill mode, using .sp"),
+    (Level::Warning, "tab in filled text"),
+    (Level::Warning, "undefined string, using \"\""),
+    (Level::Warning, "undefined escape, printing literally"),
+    (Level::Warning, "invalid escape sequence"),
+    (Level::Warning, "unknown character, using <?>"),
+    (Level::Warning, "unknown font, skipping request"),
+    (Level::Warning, "unterminated quoted argument"),
+    (Level::Warning, "missing -width in -tag list, using 6n"),
+    (Level::Error, "skipping bad character"),
+    (Level::Error, "skipping unknown macro"),
+    (Level::Error, "skipping item outside list"),
+    (Level::Error, "skipping end of block that is not open"),
+    (Level::Error, "fewer RS blocks open, skipping"),
+    (Level::Error, "appending missing end of block"),
+    (Level::Error, "using macro argument outside macro"),
+    (Level::Error, "argument is not numeric, using 0"),
+    (Level::Error, "divide by zero"),
+    (Level::Error, "missing list type, using -item"),
+    (Level::Error, "missing manual name, using \"\""),
+    (Level::Error, "unknown condition, using false"),
+    (Level::Error, "input stack limit exceeded, infinite loop?"),
+    (Level::Error, "limit exceeded, skipping"),
+    (Level::Unsupp, "unsupported roff request"),
+    (Level::Unsupp, "unsupported escape sequence"),
+    (Level::Unsupp, "unsupported table, equation or picture"),
+];
