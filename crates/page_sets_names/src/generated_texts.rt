@@ -104,14 +104,14 @@ impl GeneratedText {
     pub fn text(self) -> &'static str
         ensures { result.now ≡ texts.generated_text self }
     {
-        GENERATED_TEXTS[self as usize].1
+        GENERATED_TEXTS[self as usize].0
     }
 
     /// Whether it is a word, which a sentence can go on after; the others are marks.
     pub fn is_word(self) -> bool
         ensures { result ≡ texts.generated_is_word self }
     {
-        !matches!(GENERATED_TEXTS[self as usize].2, Role::Mark)
+        !matches!(GENERATED_TEXTS[self as usize].1, Role::Mark)
     }
 
     /// Whether it is glued to what comes after it in its line.
@@ -135,65 +135,61 @@ impl GeneratedText {
     pub fn ends_sentence(self) -> bool
         ensures { result ≡ texts.generated_ends_sentence self }
     {
-        matches!(GENERATED_TEXTS[self as usize].2, Role::Sentence)
+        matches!(GENERATED_TEXTS[self as usize].1, Role::Sentence)
     }
 }
 
 // The texts, in the order of `GeneratedText`.
-static GENERATED_TEXTS: [(GeneratedText, &str, Role); 40] = [
-    (GeneratedText::OpenParenthesis, "(", Role::Mark),
-    (GeneratedText::CloseParenthesis, ")", Role::Mark),
-    (GeneratedText::OpenBracket, "[", Role::Mark),
-    (GeneratedText::CloseBracket, "]", Role::Mark),
-    (GeneratedText::OpenAngle, "<", Role::Mark),
-    (GeneratedText::CloseAngle, ">", Role::Mark),
-    (GeneratedText::OpenBrace, "{", Role::Mark),
-    (GeneratedText::CloseBrace, "}", Role::Mark),
-    (GeneratedText::OpenDouble, "\\(lq", Role::Mark),
-    (GeneratedText::CloseDouble, "\\(rq", Role::Mark),
-    (GeneratedText::OpenSingle, "\\(oq", Role::Mark),
-    (GeneratedText::CloseSingle, "\\(cq", Role::Mark),
-    (GeneratedText::Straight, "\"", Role::Mark),
-    (GeneratedText::Comma, ",", Role::Mark),
-    (GeneratedText::FullStop, ".", Role::Mark),
-    (GeneratedText::Colon, ":", Role::Mark),
-    (GeneratedText::Apostrophe, "'", Role::Mark),
-    (GeneratedText::Dash, "-", Role::Mark),
-    (GeneratedText::Flag, "-", Role::Word),
-    (GeneratedText::JoinedFlag, "-", Role::Word),
-    (GeneratedText::Files, "file ...", Role::Word),
-    (GeneratedText::JoinedFiles, "file...", Role::Word),
-    (GeneratedText::Home, "~", Role::Word),
-    (GeneratedText::Bsd, "BSD", Role::Word),
-    (GeneratedText::BsdOs, "BSD/OS", Role::Word),
-    (GeneratedText::DragonFly, "DragonFly", Role::Word),
-    (GeneratedText::FreeBsd, "FreeBSD", Role::Word),
-    (GeneratedText::NetBsd, "NetBSD", Role::Word),
-    (GeneratedText::OpenBsd, "OpenBSD", Role::Word),
-    (GeneratedText::Unix, "UNIX", Role::Word),
-    (GeneratedText::Call, "()", Role::Mark),
-    (GeneratedText::CallComma, "(),", Role::Mark),
-    (GeneratedText::Semicolon, ";", Role::Mark),
-    (GeneratedText::Include, "#include", Role::Word),
-    (GeneratedText::The, "The", Role::Word),
-    (GeneratedText::And, "and", Role::Word),
+static GENERATED_TEXTS: [(&str, Role); 40] = [
+    ("(", Role::Mark),
+    (")", Role::Mark),
+    ("[", Role::Mark),
+    ("]", Role::Mark),
+    ("<", Role::Mark),
+    (">", Role::Mark),
+    ("{", Role::Mark),
+    ("}", Role::Mark),
+    ("\\(lq", Role::Mark),
+    ("\\(rq", Role::Mark),
+    ("\\(oq", Role::Mark),
+    ("\\(cq", Role::Mark),
+    ("\"", Role::Mark),
+    (",", Role::Mark),
+    (".", Role::Mark),
+    (":", Role::Mark),
+    ("'", Role::Mark),
+    ("-", Role::Mark),
+    ("-", Role::Word),
+    ("-", Role::Word),
+    ("file ...", Role::Word),
+    ("file...", Role::Word),
+    ("~", Role::Word),
+    ("BSD", Role::Word),
+    ("BSD/OS", Role::Word),
+    ("DragonFly", Role::Word),
+    ("FreeBSD", Role::Word),
+    ("NetBSD", Role::Word),
+    ("OpenBSD", Role::Word),
+    ("UNIX", Role::Word),
+    ("()", Role::Mark),
+    ("(),", Role::Mark),
+    (";", Role::Mark),
+    ("#include", Role::Word),
+    ("The", Role::Word),
+    ("and", Role::Word),
     (
-        GeneratedText::UtilityExits,
         "utility exits 0 on success, and >0 if an error occurs.",
         Role::Sentence,
     ),
     (
-        GeneratedText::UtilitiesExit,
         "utilities exit 0 on success, and >0 if an error occurs.",
         Role::Sentence,
     ),
     (
-        GeneratedText::FunctionReturns,
         "function returns the value 0 if successful; otherwise the value -1 is returned and the global variable errno is set to indicate the error.",
         Role::Sentence,
     ),
     (
-        GeneratedText::FunctionsReturn,
         "functions return the value 0 if successful; otherwise the value -1 is returned and the global variable errno is set to indicate the error.",
         Role::Sentence,
     ),

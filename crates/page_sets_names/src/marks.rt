@@ -50,21 +50,21 @@ impl Marks {
     pub fn opening(self) -> GeneratedText
         ensures { result ≡ marks.opening self }
     {
-        MARKS[self as usize].1
+        MARKS[self as usize].0
     }
 
     /// The mark after the words.
     pub fn closing(self) -> GeneratedText
         ensures { result ≡ marks.closing self }
     {
-        MARKS[self as usize].2
+        MARKS[self as usize].1
     }
 
     /// The name of the first macro that has these marks.
     pub fn name(self) -> &'static str
         ensures { result.now ≡ marks.marks_name self }
     {
-        MARKS[self as usize].3
+        MARKS[self as usize].2
     }
 }
 
@@ -73,78 +73,51 @@ impl Quotation {
     pub fn marks(self) -> Marks
         ensures { result ≡ marks.quotation_marks self }
     {
-        QUOTATIONS[self as usize].1
+        QUOTATIONS[self as usize].0
     }
 
     /// The name of the macro that opens it.
     pub fn name(self) -> &'static str
         ensures { result.now ≡ marks.quotation_name self }
     {
-        QUOTATIONS[self as usize].2
+        QUOTATIONS[self as usize].1
     }
 
     /// The name of the macro that closes it.
     pub fn closer_name(self) -> &'static str
         ensures { result.now ≡ marks.quotation_closer_name self }
     {
-        QUOTATIONS[self as usize].3
+        QUOTATIONS[self as usize].2
     }
 }
 
 // The marks, in the order of `Marks`: the one before the words, the one after them, and the first macro that has them.
-static MARKS: [(Marks, GeneratedText, GeneratedText, &str); 7] = [
+static MARKS: [(GeneratedText, GeneratedText, &str); 7] = [
+    (GeneratedText::OpenAngle, GeneratedText::CloseAngle, "Aq"),
     (
-        Marks::Angle,
-        GeneratedText::OpenAngle,
-        GeneratedText::CloseAngle,
-        "Aq",
-    ),
-    (
-        Marks::Square,
         GeneratedText::OpenBracket,
         GeneratedText::CloseBracket,
         "Bq",
     ),
+    (GeneratedText::OpenBrace, GeneratedText::CloseBrace, "Brq"),
     (
-        Marks::Curly,
-        GeneratedText::OpenBrace,
-        GeneratedText::CloseBrace,
-        "Brq",
-    ),
-    (
-        Marks::Round,
         GeneratedText::OpenParenthesis,
         GeneratedText::CloseParenthesis,
         "Pq",
     ),
-    (
-        Marks::Double,
-        GeneratedText::OpenDouble,
-        GeneratedText::CloseDouble,
-        "Dq",
-    ),
-    (
-        Marks::Single,
-        GeneratedText::OpenSingle,
-        GeneratedText::CloseSingle,
-        "Sq",
-    ),
-    (
-        Marks::Straight,
-        GeneratedText::Straight,
-        GeneratedText::Straight,
-        "Qq",
-    ),
+    (GeneratedText::OpenDouble, GeneratedText::CloseDouble, "Dq"),
+    (GeneratedText::OpenSingle, GeneratedText::CloseSingle, "Sq"),
+    (GeneratedText::Straight, GeneratedText::Straight, "Qq"),
 ];
 
 // The enclosures, in the order of `Quotation`: their marks, the macro that opens each, and the one that closes it.
-static QUOTATIONS: [(Quotation, Marks, &str, &str); 8] = [
-    (Quotation::Ao, Marks::Angle, "Ao", "Ac"),
-    (Quotation::Bo, Marks::Square, "Bo", "Bc"),
-    (Quotation::Bro, Marks::Curly, "Bro", "Brc"),
-    (Quotation::Do, Marks::Double, "Do", "Dc"),
-    (Quotation::Oo, Marks::Square, "Oo", "Oc"),
-    (Quotation::Po, Marks::Round, "Po", "Pc"),
-    (Quotation::Qo, Marks::Straight, "Qo", "Qc"),
-    (Quotation::So, Marks::Single, "So", "Sc"),
+static QUOTATIONS: [(Marks, &str, &str); 8] = [
+    (Marks::Angle, "Ao", "Ac"),
+    (Marks::Square, "Bo", "Bc"),
+    (Marks::Curly, "Bro", "Brc"),
+    (Marks::Double, "Do", "Dc"),
+    (Marks::Square, "Oo", "Oc"),
+    (Marks::Round, "Po", "Pc"),
+    (Marks::Straight, "Qo", "Qc"),
+    (Marks::Single, "So", "Sc"),
 ];
