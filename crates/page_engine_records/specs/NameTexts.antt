@@ -11,9 +11,12 @@ use Rattle.page_engine_header.specs.Printing.{characters_of, plain_printed}
 use Rattle.page_engine_records.specs.declared.name_readers.NameReader.{NameReader}
 use Rattle.page_engine_records.specs.declared.name_readers.Side.{Side}
 use Rattle.page_engine_records.specs.declared.name_readers.Side.TheVariants.{Before, Inside, After}
-use Rattle.page_engine_records.specs.declared.texts.TheConstants.{TEXT}
 
 -- ---- characters
+
+-- the bytes of a section's text at most
+abbrev pub TEXT : ℕ
+TEXT = 4_096
 
 -- a text with a byte more, where there is room for it
 abbrev pub with_byte : List ℕ → ℕ → List ℕ

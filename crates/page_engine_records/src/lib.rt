@@ -8,7 +8,8 @@
 //!
 //! Proved: `read_record`, over any source, and `name_record`, over a reader: the record of the page of all bytes, or none where it has none:
 //! `page_record` (`specs/PageRecords.antt`), read off the pieces of the whole page (`NameTexts.antt`, `Records.antt`). Each fault of `read_record`
-//! has its cause; refused settings and want of memory come before anything is read (`specs/Runs.antt`).
+//! has its cause; refused settings and want of memory come before anything is read (`specs/Runs.antt`). `text_law`: the
+//! bytes of a text at most are those of the definition.
 #![tactic(auto)]
 
 mod fronts;
@@ -18,4 +19,4 @@ mod runs;
 mod texts;
 
 pub use runs::{name_record, read_record};
-pub use texts::TEXT;
+pub use texts::{TEXT, text_law};

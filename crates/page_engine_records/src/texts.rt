@@ -1,7 +1,7 @@
 //! What is kept of the texts of a record, in reserved memory.
 
 ghost use Rattle.std.specs.Prelude.{◌≡◌, ◌≤◌, ◌+◌, length};
-ghost use Rattle.page_engine_records.specs.NameTexts.{with_byte};
+ghost use Rattle.page_engine_records.specs.NameTexts as texts;
 ghost use Rattle.page_engine_records.specs.Records.{with_name};
 
 use page_core_base::BoundedText;
@@ -12,9 +12,14 @@ pub const TEXT: usize = 4_096;
 /// The bytes of names at most, with a comma and a blank between them: twice those of a text, and two.
 pub(crate) const NAMES: usize = 8_194;
 
+/// The bytes of a text at most are those of the definition.
+pub fn text_law()
+    ensures { TEXT ≡ texts.TEXT }
+{}
+
 /// Adds a byte to a text, where there is room for it.
 pub(crate) fn add_byte(text: &mut BoundedText<TEXT>, byte: u8)
-    ensures { text.new ≡ with_byte text.old byte }
+    ensures { text.new ≡ texts.with_byte text.old byte }
 {
     let _has_room = text.add_byte(byte);
 }

@@ -1,7 +1,7 @@
 -- How much a filler holds between two pieces, and what each edge that a page comes to keeps. Source: mandoc(1), "DIAGNOSTICS".
 use Rattle.std.specs.Prelude.{◌≤◌, Bool, not, ◌&&◌, length}
 use Rattle.page_core_base.specs.Limits.{CELLS}
-use Rattle.page_fill_rows.specs.declared.TheConstants.{TAG_COLUMNS, BLANK_ROWS}
+use Rattle.page_fill_rows.specs.OpenRows.{TAG_COLUMNS, BLANK_ROWS}
 pub use Rattle.page_fill_rows.specs.OpenRows.{IsHeld}
 use Rattle.page_fill.specs.Edges.{Edge, OpenWord}
 

@@ -12,8 +12,7 @@ use Rattle.page_core_base.specs.Messages.{Message}
 use Rattle.page_core_base.specs.Rows.{row_of}
 use Rattle.page_core_base.specs.Laid.{Laid, nothing, seq}
 use Rattle.page_core_base.specs.Limits.{CELLS}
-use Rattle.page_fill_rows.specs.declared.TheConstants.{TAG_COLUMNS}
-use Rattle.page_fill_rows.specs.OpenRows.{columns, cell_columns, blank, cells_note}
+use Rattle.page_fill_rows.specs.OpenRows.{TAG_COLUMNS, columns, cell_columns, blank, cells_note}
 use Rattle.page_fill_rows.specs.Characters.{with_notes}
 
 -- ---- words

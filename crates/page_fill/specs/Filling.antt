@@ -11,7 +11,6 @@ use Rattle.page_core_base.specs.Laid.{Laid, nothing, seq}
 use Rattle.page_core_base.specs.Pieces.{Item, shown, noted}
 use Rattle.page_fill.specs.declared.edges.OpenTag.{OpenTag}
 use Rattle.page_fill.specs.declared.edges.Edge.{Edge}
-use Rattle.page_fill.specs.declared.stops.TheConstants.{HANG_MAX, TAB_STOP}
 use Rattle.page_fill.specs.Edges.{is_set_in, no_word, placed_word}
 use Rattle.page_fill_rows.specs.OpenRows.{over, blank, columns, more_blank_rows}
 use Rattle.page_fill.specs.Filled.{CellOrNote, at_break}
@@ -67,6 +66,10 @@ blank_rows_up_to e n = blank_rows e (if e.sheet.heading then 0 else n - e.sheet.
 abbrev pub placed : Edge → ℕ → Laid Edge
 placed e n = nothing (record e { word = placed_word n })
 
+-- the greatest hang of a tag, in columns
+abbrev pub HANG_MAX : ℕ
+HANG_MAX = 1000
+
 -- after a tag with this hang: where a blank fits before the hang, the next word stands there; else by the tag's form; a tag set in needs an open row
 abbrev pub after_tag : Edge → OpenTag → Laid Edge
 after_tag e tag =
@@ -82,6 +85,10 @@ after_tag e tag =
 abbrev pub tag_ended : Edge → Option OpenTag → Laid Edge
 tag_ended e None = row_end e
 tag_ended e (Some tag) = if e.sheet.tag_begun || is_set_in tag.form then after_tag e tag else nothing (record e { word = no_word })
+
+-- the columns from one tab stop to the next
+abbrev pub TAB_STOP : ℕ
+TAB_STOP = 8
 
 -- the blanks from the end of cells up to a column, one at least after a cell; and up to the next tab stop
 abbrev pub to_column : List Cell → ℕ → ℕ

@@ -10,7 +10,8 @@
 //! Proved: `Filler` (`new`, `piece`, `take_words`, `finish`): what a piece settles is `filled` (`specs/Filling.antt`), and the end is `row_end`:
 //! groups of words fill rows by recursion on words, each row up to its first offending cell. `Filler::part`, `Filler::from_part`: what is held
 //! between two pieces. `caps_law`: it is within its limits. `words_law`: piece by piece is `filled` of the whole list, cut anywhere. `word_law`,
-//! `part_law`, `glue_law`: where a row ends; no row is wider unless its first part is; glued texts are one word.
+//! `part_law`, `glue_law`: where a row ends; no row is wider unless its first part is; glued texts are one word. `stops_law`: the
+//! constants are those that the definitions cite.
 #![tactic(auto)]
 
 mod edges;
@@ -24,4 +25,4 @@ pub use edges::Edge;
 pub use fillers::{Filler, FillerPart};
 pub use laws::{glue_law, part_law, word_law, words_law};
 pub use page_core_base::{Piece, PieceSink, TagForm};
-pub use stops::{HANG_MAX, TAB_STOP};
+pub use stops::{HANG_MAX, TAB_STOP, stops_law};

@@ -10,7 +10,14 @@ use Rattle.page_core_tables.specs.Printed.{char_columns}
 use Rattle.page_core_base.specs.Limits.{name_of}
 use Rattle.page_core_base.specs.Limits.{CELLS}
 use Rattle.page_core_base.specs.declared.limits.Limit.TheVariants.{Cells}
-use Rattle.page_fill_rows.specs.declared.TheConstants.{BLANK_ROWS}
+
+-- the columns up to which those of a tag are counted: no hang is as great, so more of them make no difference
+abbrev pub TAG_COLUMNS : ℕ
+TAG_COLUMNS = 1002
+
+-- the count up to which blank rows are counted: no macro asks for more, so more of them make no difference
+abbrev pub BLANK_ROWS : ℕ
+BLANK_ROWS = 100
 
 -- the columns of a cell, and of cells
 abbrev pub cell_columns : Cell → ℕ

@@ -6,8 +6,12 @@
 //!
 //! Proved: `OpenRow`, `put_character`, `put_characters`, `put_glyph`, `put_plain`, `printable_len`, `word_start`: what the open row is after each
 //! call, and the rows and messages that the call settles (`specs/Characters.antt`, `specs/machine/Sheets.antt` and `Plain.antt`). `plain_law`:
-//! printable ASCII that is put into the row as a whole settles what its cells settle one by one.
+//! printable ASCII that is put into the row as a whole settles what its cells settle one by one. `constants_law`: the constants are those
+//! that the definitions cite.
 #![tactic(auto)]
+
+ghost use Rattle.std.specs.Prelude.{◌≡◌};
+ghost use Rattle.page_fill_rows.specs.OpenRows as rows;
 
 mod cell_widths;
 mod characters;
@@ -21,6 +25,11 @@ pub const TAG_COLUMNS: u32 = 1002;
 
 /// The count up to which blank rows at the end are counted. No macro asks for more, so more of them make no difference.
 pub const BLANK_ROWS: u32 = 100;
+
+/// The constants are those of the definitions.
+pub fn constants_law()
+    ensures { (TAG_COLUMNS ≡ rows.TAG_COLUMNS) × (BLANK_ROWS ≡ rows.BLANK_ROWS) }
+{}
 
 pub use cell_widths::columns;
 pub use characters::{is_printable_ascii, put_character, put_characters, put_glyph, put_plain};

@@ -2,9 +2,9 @@
 use Rattle.std.specs.Prelude.{◌≡◌, ◌≤◌, ℕ, zero, suc, ◌+◌, Bool, true, false, ◌==◌, ◌&&◌, nat_lt, min, List, [], ◌∷◌, length, take, drop, if◌then◌else◌, Option, MatchOption}
 use Rattle.std.specs.List.{prefix_len}
 use Rattle.std.specs.Borrow.{Bor}
+use Rattle.page_core_base.specs.Limits.{NAME}
 use Rattle.page_roff_syntax.specs.declared.quotes.Argument.{Argument}
 use Rattle.page_roff_syntax.specs.declared.quotes.Quoting.{Quoting}
-use Rattle.page_roff_syntax.specs.declared.names.TheConstants.{NAME_ROOM}
 use Rattle.page_roff_syntax.specs.declared.quotes.Quoting.TheVariants.{Bare, Closed, Unclosed}
 
 -- blanks (32) part arguments, tabs do not
@@ -56,7 +56,11 @@ unpaired (byte ∷ next ∷ bytes) =
 abbrev pub argument_value : Argument (List ℕ) → List ℕ
 argument_value argument = if is_quoted argument.quoting then unpaired argument.text else argument.text
 
--- the name that an argument is, up to one byte beyond the limit of names: a longer one is refused, whatever its other bytes are
+-- one byte beyond the limit of names
+abbrev pub NAME_ROOM : ℕ
+NAME_ROOM = NAME + 1
+
+-- the name that an argument is, up to so many bytes: a longer one is refused, whatever its other bytes are
 abbrev pub argument_name : Argument (List ℕ) → List ℕ
 argument_name argument = take NAME_ROOM (argument_value argument)
 

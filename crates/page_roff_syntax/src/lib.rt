@@ -10,7 +10,7 @@
 //! arguments one after another, are those of `specs/LineForms.antt` and `Arguments.antt`. `Request::of`, `RegionKind::name`, `fixed_ending`: which names
 //! are requests, and what each is, by one table (`specs/Requests.antt`, `Regions.antt`), with which the rows of the program are compared.
 //! `region_head`, `is_ending`: what the head of a region names and which raw line ends it (`specs/RegionHeads.antt`). `OpenRegion`: what of the head
-//! decides the rest, its names within their limit (`specs/OpenRegions.antt`).
+//! decides the rest, its names within their limit (`specs/OpenRegions.antt`). `name_room_law`: the room of a name is that of the definition.
 #![tactic(auto)]
 
 mod arguments;
@@ -31,7 +31,7 @@ pub use ends::kept_len;
 pub use line_forms::{
     LineForm, begins_control, control_name, form_of, has_word, is_white, white_len,
 };
-pub use names::{NAME_ROOM, Name, after_byte};
+pub use names::{NAME_ROOM, Name, after_byte, name_room_law};
 pub use open_regions::OpenRegion;
 pub use pairs::lacks_pair;
 pub use quotes::{Argument, Quoting};

@@ -2,6 +2,7 @@
 
 ghost use Rattle.std.specs.Prelude.{◌≡◌, ◌≤◌, ◌∷◌, length, take};
 ghost use Rattle.page_roff_syntax.specs.Arguments.{argument_view, unpaired, argument_name};
+ghost use Rattle.page_roff_syntax.specs.Arguments as arguments;
 
 use crate::quotes::Argument;
 use arrayvec::ArrayVec;
@@ -9,6 +10,11 @@ use page_core_base::NAME;
 
 /// As many bytes of a name as make a difference: one more than names may have.
 pub const NAME_ROOM: usize = NAME + 1;
+
+/// They are those of the definition.
+pub fn name_room_law()
+    ensures { NAME_ROOM ≡ arguments.NAME_ROOM }
+{}
 
 /// The front of a name.
 pub type Name = ArrayVec<u8, NAME_ROOM>;

@@ -2,7 +2,7 @@
 use Rattle.std.specs.Prelude.{ℕ, ◌+◌, min, List, Option, None, Some}
 use Rattle.page_core_base.specs.declared.page_settings.Output.{Output}
 use Rattle.page_roff_syntax.specs.Arguments.{is_quoted}
-use Rattle.page_scopes_layout.specs.declared.TheConstants.{MARGIN}
+use Rattle.page_scopes_layout.specs.Margins.{MARGIN}
 use Rattle.page_scopes_phrases.specs.Runnings.{counting}
 use Rattle.page_scopes_phrases.specs.declared.kept_texts.KeptText.{KeptText}
 use Rattle.page_scopes_phrases.specs.declared.runnings.Running.{Running}
@@ -17,7 +17,7 @@ use Rattle.page_sets_lines.specs.declared.leaves.Leaf.TheVariants as leaves
 use Rattle.page_sets_lines.specs.declared.line_steps.LineStep.{LineStep}
 use Rattle.page_sets_lines.specs.declared.line_steps.LineStep.TheVariants as steps
 
--- a word more, and the blank after it; like a margin they are held to 1000 columns
+-- a word more, and the blank after it; they are held to as many as a margin
 abbrev pub columns_after : ℕ → ℕ → ℕ
 columns_after so_far columns = min (so_far + columns + 1) MARGIN
 

@@ -5,7 +5,7 @@ use Rattle.page_core_base.specs.declared.cells.Font.TheVariants.{R, B}
 use Rattle.page_scopes_words.specs.Fonts.{roman_fonts, with_font}
 use Rattle.page_scopes_layout.specs.Margins.{hold, further_in}
 use Rattle.page_scopes_words.specs.Settings.{entered, set_to}
-use Rattle.page_scopes_layout.specs.declared.TheConstants.{PREVAILING}
+use Rattle.page_scopes_layout.specs.Contexts.{PREVAILING}
 use Rattle.page_scopes_layout.specs.declared.contexts.Context.{Context}
 use Rattle.page_scopes_layout.specs.declared.contexts.SeriesSoFar.TheVariants.{Empty}
 use Rattle.page_scopes_layout.specs.declared.contexts.PageSection.TheVariants.{Other}

@@ -1,9 +1,8 @@
 -- The context of a text, and what stays of it after a scope. Source: man(7), "MACRO OVERVIEW"; mdoc(7), `Bl`, `Rs`, `Fo`, `Sm`.
-use Rattle.std.specs.Prelude.{ℕ, Option, Some, None, pos, Bool, true, false, ◌||◌, if◌then◌else◌}
+use Rattle.std.specs.Prelude.{ℕ, Option, Some, None, ℤ, pos, Bool, true, false, ◌||◌, if◌then◌else◌}
 use Rattle.page_scopes_labels.specs.Labels.{label_row}
 use Rattle.page_scopes_labels.specs.declared.labels.Label.{Label}
 use Rattle.page_scopes_words.specs.Settings.{after_scope, at_first}
-use Rattle.page_scopes_layout.specs.declared.TheConstants.{PREVAILING}
 use Rattle.page_scopes_layout.specs.declared.contexts.Context.{Context}
 use Rattle.page_scopes_layout.specs.declared.lists.OpenList.{OpenList}
 use Rattle.page_sets_lines.specs.declared.lists.ListKind.{ListKind}
@@ -16,6 +15,10 @@ use Rattle.page_scopes_labels.specs.declared.labels.Label.TheVariants as labels
 use Rattle.page_sets_lines.specs.declared.blocks.Block.TheVariants as blocks
 use Rattle.page_scopes_layout.specs.declared.contexts.PagePart.TheVariants.{Text}
 use Rattle.page_scopes_words.specs.Fonts.{roman_fonts}
+
+-- the prevailing indent, in columns, of a section, a relative margin and a plain paragraph
+abbrev pub PREVAILING : ℤ
+PREVAILING = pos 7
 
 -- before the first line of a page: at its indent, filled, in R
 abbrev pub start : ℕ → Context

@@ -7,8 +7,7 @@ use Rattle.page_core_base.specs.declared.cells.Font.TheVariants.{B}
 use Rattle.page_sets_lines.specs.declared.lists.ListKind.{ListKind}
 use Rattle.page_sets_lines.specs.declared.lists.ListKind.TheVariants as kinds
 use Rattle.page_scopes_layout.specs.Begins.{flat, font_begun}
-use Rattle.page_scopes_layout.specs.Margins.{hold, further_in}
-use Rattle.page_scopes_layout.specs.declared.TheConstants.{COLUMN_GAP, COLUMN_WIDTH, MARGIN}
+use Rattle.page_scopes_layout.specs.Margins.{MARGIN, hold, further_in}
 use Rattle.page_scopes_layout.specs.declared.contexts.Context.{Context}
 use Rattle.page_scopes_layout.specs.declared.contexts.PagePart.TheVariants as parts
 use Rattle.page_scopes_layout.specs.declared.lists.ColumnWidths.{ColumnWidths}
@@ -26,7 +25,10 @@ has_room w = nat_lt w.count COLUMNS
 abbrev pub with_width : ColumnWidths → ℕ → ColumnWidths
 with_width w width = if has_room w then record { widths = slice_set w.widths w.count width; count = min (w.count + 1) COLUMNS; fits = min-le_right _ _ } else w
 
--- a column that is given none has 6
+-- the width of a column that is given none
+abbrev pub COLUMN_WIDTH : ℕ
+COLUMN_WIDTH = 6
+
 abbrev pub width_of : ColumnWidths → ℕ → ℕ
 width_of w column = if nat_lt column w.count then get_or w.widths column 0 else COLUMN_WIDTH
 
@@ -50,7 +52,11 @@ one_more count = min (count + 1) (2 ^ 32 - 1)
 abbrev pub next_item : OpenList → ℕ → OpenList
 next_item list head = record list { head = head; items = one_more list.items; cells = 0; column = 0 }
 
--- a column stands after the width of the one before it and 4 columns, up to 1000 from the margin
+-- the columns between two columns of a list
+abbrev pub COLUMN_GAP : ℕ
+COLUMN_GAP = 4
+
+-- a column stands after the width of the one before it and the gap, no further from the margin than a margin can be
 abbrev pub next_cell : OpenList → OpenList
 next_cell list = record list {
   cells = one_more list.cells;

@@ -1,12 +1,15 @@
 -- The margins of rows. Source: man(7), "MACRO OVERVIEW"; roff(7), `in`.
 use Rattle.std.specs.Prelude.{ℕ, Bool, true, false, if◌then◌else◌, Option, None, Some, ℤ, pos, ◌+ℤ◌, int_lt, nat_abs}
-use Rattle.page_scopes_layout.specs.declared.TheConstants.{MARGIN}
 use Rattle.page_scopes_layout.specs.declared.contexts.Context.{Context}
 use Rattle.page_scopes_layout.specs.declared.contexts.PagePart.{PagePart}
 use Rattle.page_scopes_layout.specs.declared.contexts.PagePart.TheVariants as parts
 use Rattle.page_scopes_layout.specs.declared.margins.Margins.{Margins}
 
--- a margin is held to 0 to 1000 columns
+-- the columns at most of a margin
+abbrev pub MARGIN : ℕ
+MARGIN = 1_000
+
+-- a margin is held to 0 to so many columns
 abbrev pub hold : ℤ → ℕ
 hold columns = if int_lt columns (pos 0) then 0 else if int_lt (pos MARGIN) columns then MARGIN else nat_abs columns
 

@@ -6,8 +6,13 @@
 //!
 //! Proved: `give_begin`, `give_end`, `margins_of`, the beginnings of `Context`, and `restore`: what each scope of man(7) and mdoc(7) begins with and
 //! gives besides its words, and what stays after it (`specs/Contexts.antt`, `Nodes.antt`). `HeadingSoFar`: the section that a heading begins, by the
-//! characters that it prints (`specs/Headings.antt`).
+//! characters that it prints (`specs/Headings.antt`). `constants_law`: the constants below are those that the definitions cite.
 #![tactic(auto)]
+
+ghost use Rattle.std.specs.Prelude.{◌≡◌};
+ghost use Rattle.page_scopes_layout.specs.Contexts as contexts;
+ghost use Rattle.page_scopes_layout.specs.Lists as lists;
+ghost use Rattle.page_scopes_layout.specs.Margins as margins;
 
 mod begins;
 mod contexts;
@@ -33,3 +38,9 @@ pub const COLUMN_WIDTH: u32 = 6;
 
 /// The prevailing indent, in columns, of a section, a relative margin and a plain paragraph.
 pub const PREVAILING: i32 = 7;
+
+/// The constants are those of the definitions.
+pub fn constants_law()
+    ensures { (MARGIN ≡ margins.MARGIN) × (COLUMN_GAP ≡ lists.COLUMN_GAP) × (COLUMN_WIDTH ≡ lists.COLUMN_WIDTH)
+        × (PREVAILING ≡ contexts.PREVAILING) }
+{}

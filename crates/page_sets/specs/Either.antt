@@ -3,18 +3,16 @@ use Rattle.std.specs.Prelude.{ℕ, ◌+◌, ◌*◌, ◌≤◌, List, length}
 use Rattle.page_core_base.specs.LinesTaken.{Line}
 use Rattle.page_sets_lines.specs.declared.events.Event.{Event}
 use Rattle.page_sets_lines.specs.Laws.{AreSlices, AreInOrder}
-use Rattle.page_sets_man.specs.declared.man_set.TheConstants as man
-use Rattle.page_sets_man.specs.Man.{man_events}
+use Rattle.page_sets_man.specs.Man.{man_indent, man_events}
 use Rattle.page_sets_man.specs.machine.ManLaws.{man_slices, man_in_order, man_few}
-use Rattle.page_sets_mdoc.specs.declared.mdoc_set.TheConstants as mdoc
-use Rattle.page_sets_mdoc.specs.Mdoc.{mdoc_events}
+use Rattle.page_sets_mdoc.specs.Mdoc.{mdoc_indent, mdoc_events}
 use Rattle.page_sets_mdoc.specs.machine.MdocLaws as mdoc_laws
 use Rattle.page_sets.specs.declared.either.Either.{Either}
 use Rattle.page_sets.specs.declared.either.Either.TheVariants.{Man, Mdoc}
 
 abbrev pub either_indent : Either → ℕ
-either_indent Man = man.PAGE_INDENT
-either_indent Mdoc = mdoc.PAGE_INDENT
+either_indent Man = man_indent
+either_indent Mdoc = mdoc_indent
 
 -- the events of a line in the set of the page
 abbrev pub either_events : Either → Line → List (Event (List ℕ))

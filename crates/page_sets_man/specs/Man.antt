@@ -49,6 +49,10 @@ use Rattle.page_sets_man.specs.declared.rows.Row.{Row}
 use Rattle.page_sets_man.specs.declared.gives.Quote.{Quote}
 use Rattle.page_sets_man.specs.Rows.{row_of}
 
+-- the columns by which the text of a page is indented
+abbrev pub man_indent : ℕ
+man_indent = 7
+
 -- ---- what a macro does
 
 -- what it opens (`SH SS PP LP P TP IP HP RS UR MT SY`)

@@ -12,4 +12,4 @@ mod gives;
 mod man_set;
 mod rows;
 
-pub use man_set::{Man, PAGE_INDENT};
+pub use man_set::Man;

@@ -4,8 +4,8 @@ use crate::gives::give_events;
 use page_core_base::Taken;
 use page_sets_lines::{Event, EventOut, Handed, MacroSet, Nth};
 
-/// The columns by which the text of a page is indented (man(7)).
-pub const PAGE_INDENT: u32 = 7;
+// The columns by which the text of a page is indented (man(7)).
+const PAGE_INDENT: u32 = 7;
 
 /// The macros of man(7). The place in a line's events is their number so far.
 #[derive(Clone, Copy)]
@@ -13,14 +13,13 @@ pub struct Man;
 
 impl MacroSet for Man {
     ghost use Rattle.std.specs.Prelude.{◌≤◌, length, drop};
-    ghost use Rattle.page_sets_man.specs.declared.man_set.TheConstants.{PAGE_INDENT};
-    ghost use Rattle.page_sets_man.specs.Man.{man_events};
+    ghost use Rattle.page_sets_man.specs.Man.{man_indent, man_events};
     ghost use Rattle.page_sets_man.specs.machine.ManLaws.{man_slices, man_in_order, man_few};
     ghost use Rattle.page_sets_lines.proofs.NthLemmas.{slices_after};
 
     type Place = usize;
 
-    ghost page_indent = { λ set. PAGE_INDENT };
+    ghost page_indent = { λ set. man_indent };
 
     ghost table = { λ set line. man_events line };
 

@@ -26,6 +26,10 @@ use Rattle.page_sets_mdoc_words.specs.Sentences.{include_events, sentence_events
 use Rattle.page_sets_mdoc_blocks.specs.Macros.{has_phrase}
 use Rattle.page_sets_mdoc_blocks.specs.Fronts.{name_column, line_arguments, refusal, request_front, has_real_word, given_names, block_front}
 
+-- the columns by which the text of a page is indented
+abbrev pub mdoc_indent : ℕ
+mdoc_indent = 5
+
 -- ---- the words of a line, with the macros among them
 
 -- a macro that a word calls stands at that word

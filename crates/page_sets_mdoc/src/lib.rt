@@ -9,4 +9,4 @@ mod line_words;
 mod lines;
 mod mdoc_set;
 
-pub use mdoc_set::{Mdoc, PAGE_INDENT};
+pub use mdoc_set::Mdoc;

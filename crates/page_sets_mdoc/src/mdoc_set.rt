@@ -4,8 +4,8 @@ use crate::lines::give_events;
 use page_core_base::Taken;
 use page_sets_lines::{Event, EventOut, Handed, MacroSet, Nth};
 
-/// The columns by which the text of a page is indented (mdoc(7)).
-pub const PAGE_INDENT: u32 = 5;
+// The columns by which the text of a page is indented (mdoc(7)).
+const PAGE_INDENT: u32 = 5;
 
 /// The macros of mdoc(7). The place in a line's events is their number so far.
 #[derive(Clone, Copy)]
@@ -13,14 +13,13 @@ pub struct Mdoc;
 
 impl MacroSet for Mdoc {
     ghost use Rattle.std.specs.Prelude.{◌≤◌, length, drop};
-    ghost use Rattle.page_sets_mdoc.specs.declared.mdoc_set.TheConstants.{PAGE_INDENT};
-    ghost use Rattle.page_sets_mdoc.specs.Mdoc.{mdoc_events};
+    ghost use Rattle.page_sets_mdoc.specs.Mdoc.{mdoc_indent, mdoc_events};
     ghost use Rattle.page_sets_mdoc.specs.machine.MdocLaws.{mdoc_slices, mdoc_in_order, mdoc_few};
     ghost use Rattle.page_sets_lines.proofs.NthLemmas.{slices_after};
 
     type Place = usize;
 
-    ghost page_indent = { λ set. PAGE_INDENT };
+    ghost page_indent = { λ set. mdoc_indent };
 
     ghost table = { λ set line. mdoc_events line };
 

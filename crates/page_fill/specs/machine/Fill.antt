@@ -13,7 +13,7 @@ use Rattle.page_core_base.specs.Laid.{Laid, nothing, seq}
 use Rattle.page_fill_rows.specs.machine.Sheets.{Sheet, over, columns, letter, fixed_blanks, new_word, opens, broken, empty_rows}
 use Rattle.page_fill_rows.specs.Characters.{with_notes, cell_of, characters_of, characters, character, glyph}
 use Rattle.page_fill.specs.declared.edges.OpenTag.{OpenTag}
-use Rattle.page_fill.specs.declared.stops.TheConstants.{HANG_MAX, TAB_STOP}
+use Rattle.page_fill.specs.Filling.{HANG_MAX, TAB_STOP}
 pub use Rattle.page_fill.specs.Edges.{Edge, OpenWord, no_word, begun_word, blanks_wait, opened_word, glued_word, placed_word, is_set_in, tab_note, tab_notes, start, blank_rows_at_end, open_cells}
 
 -- where rows are filled, the row's last word is parted after its cells: what follows is one that goes on without a blank

@@ -6,8 +6,7 @@ use Rattle.page_core_base.specs.declared.cells.Cell.{Cell}
 use Rattle.page_core_base.specs.declared.places.Place.{Place}
 use Rattle.page_core_base.specs.Laid.{Laid}
 use Rattle.page_core_base.specs.Rows.{row_of}
-use Rattle.page_fill_rows.specs.declared.TheConstants.{TAG_COLUMNS}
-use Rattle.page_fill_rows.specs.OpenRows.{columns, cell_columns, blank}
+use Rattle.page_fill_rows.specs.OpenRows.{TAG_COLUMNS, columns, cell_columns, blank}
 use Rattle.page_fill.specs.Filled.{Word, Frame, Row, row_begun}
 use Rattle.page_fill.specs.PieceWords.{cell_content}
 

@@ -10,7 +10,7 @@ use Rattle.page_core_base.specs.Words.{last_start, parts_of}
 use Rattle.page_fill_rows.specs.Characters.{cells_of}
 use Rattle.page_fill_rows.specs.machine.Sheets.{Sheet, begins, columns, blank, counted, emptied, gives, opens, over, passes}
 use Rattle.page_core_base.specs.Limits.{CELLS}
-use Rattle.page_fill_rows.specs.declared.TheConstants.{TAG_COLUMNS}
+use Rattle.page_fill_rows.specs.OpenRows.{TAG_COLUMNS}
 
 -- a byte from ' ' to '~'
 abbrev pub is_printable : ℕ → Bool

@@ -3,7 +3,7 @@ use Rattle.std.specs.Prelude.{◌≡◌, ℕ, ◌*◌, ◌≤◌, List, length}
 use Rattle.page_core_base.specs.declared.cells.Cell.{Cell}
 use Rattle.page_fill_rows.specs.machine.Sheets.{columns}
 use Rattle.page_core_base.specs.Limits.{CELLS}
-use Rattle.page_fill_rows.specs.declared.TheConstants.{TAG_COLUMNS, BLANK_ROWS}
+use Rattle.page_fill_rows.specs.OpenRows.{TAG_COLUMNS, BLANK_ROWS}
 
 pub record IsSound (cells : List Cell) (count gap word tag blanks : ℕ) : Type 0 where
   pub bounded : length cells ≤ CELLS

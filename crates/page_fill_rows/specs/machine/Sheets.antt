@@ -6,7 +6,7 @@ use Rattle.page_core_base.specs.declared.places.Place.{Place}
 use Rattle.page_core_base.specs.Rows.{row_of, is_blank_row}
 use Rattle.page_core_base.specs.Laid.{Laid, nothing, seq}
 use Rattle.page_core_base.specs.Limits.{CELLS}
-use Rattle.page_fill_rows.specs.declared.TheConstants.{TAG_COLUMNS}
+use Rattle.page_fill_rows.specs.OpenRows.{TAG_COLUMNS}
 pub use Rattle.page_fill_rows.specs.OpenRows.{cell_columns, columns, blank, Sheet, over, cells_note, more_blank_rows, fresh}
 
 -- ---- rows
