@@ -2,4 +2,4 @@ pub mod GivenLemmas
 pub mod GrowsLemmas
 pub mod PlainLemmas
 pub mod RowLemmas
-mod FailureLemmas
+pub mod FailureLemmas

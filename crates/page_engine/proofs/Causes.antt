@@ -7,8 +7,6 @@ use Rattle.page_core_base.specs.Rows.{LaidRow}
 use Rattle.page_core_base.specs.declared.faults.Fault.{Fault}
 use Rattle.page_core_base.specs.declared.faults.Fault.TheVariants.{Memory, Read, WriteText, WriteNotes, TooLong, Settings, Failed, Ended, BadIndex}
 use Rattle.page_core_base.specs.declared.page_settings.Settings.{Settings as PageSettings}
-use Rattle.page_core_streams.specs.Failures.{count_of}
-use Rattle.page_core_streams.specs.Inputs.{state_of}
 use Rattle.page_core_streams.specs.Sources.{SourceState}
 use Rattle.page_roff_lines.specs.Cutting.{Point, point_after, last_line}
 use Rattle.page_engine.specs.declared.runs.Outcome.{Outcome}
@@ -16,15 +14,6 @@ use Rattle.page_engine.specs.Page.{Edge, page, start}
 use Rattle.page_engine.specs.Runs.{Runs, RunsOver, Whole, Stopped, Broken, BrokeIn, HasCause, Untouched, Quiet, whole_page, settled_page, settled_from}
 use Rattle.page_core_base.specs.Laid.{nothing}
 use Rattle.page_engine.specs.Streams.{Sinks, AllCame, FrontCame}
-
--- what counts is what is counted below
-pub count_true : (counts : Bool) (below own : ℕ) → counts ≡ true → count_of counts below own ≡ below
-count_true true below own e = refl
-count_true false below own e = cc
-
-pub state_true : (counts : Bool) (below : SourceState) (f c g e : ℕ) → counts ≡ true → state_of counts below f c g e ≡ below
-state_true true below f c g e h = refl
-state_true false below f c g e h = cc
 
 -- sinks over what lies below them: what comes to the sinks comes there, where a fact of the sink of messages stays, and they fail as it does
 pub record LieOver {R N W V : Type 0} (k : Sinks R N) (i : Sinks W V) (f : R → W) (g : N → V) (P : N → Type 0) : Type 0 where

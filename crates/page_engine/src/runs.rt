@@ -1,8 +1,9 @@
 //! A run: the bytes of a source become the rows and messages of a page.
 
-ghost use Rattle.std.specs.Prelude.{◌≡◌, ◌<◌, ◌≤◌, ◌^◌, ℕ, List, length, IfOk, IfErr, true};
+ghost use Rattle.std.specs.Prelude.{◌≡◌, ◌<◌, ◌≤◌, ◌^◌, ℕ, List, length, IfOk, IfErr, Some, true};
 ghost use Rattle.std.specs.Io.KnownBytes.{Consumes};
 ghost use Rattle.page_core_base.specs.Checks.{IsGood};
+ghost use Rattle.page_core_streams.specs.Sources.{SourceState, source_state};
 ghost use Rattle.page_engine.specs.Page.{Edge};
 ghost use Rattle.page_engine.specs.States.{IsOpenAt, CannotStart};
 ghost use Rattle.page_engine.specs.Streams.{streams, sinks};
@@ -206,7 +207,7 @@ pub fn run_page<I: Input, W: Target, V: Target>(
 }
 
 /// Formats a page that is in memory, as [`run_page`] does one that is read. Its faults are those of [`run_page`], but never [`Fault::Read`], and
-/// [`Fault::TooLong`] only for more than [`crate::BYTES`] bytes.
+/// [`Fault::TooLong`] only for more than [`crate::BYTES`] bytes. Where the writers count their failures, each fault has its cause.
 pub fn run_bytes<W: Target, V: Target>(
     alloc: Global,
     bytes: &[u8],
@@ -215,10 +216,15 @@ pub fn run_bytes<W: Target, V: Target>(
     file: &str,
     settings: &Settings,
 ) -> Result<Outcome, Fault>
-    ensures { RunsIn result (streams
+    ensures runs { RunsIn result (streams
         (WritesRows W.contents) (WritesRowsInto W.contents)
         (WritesNotes V.contents file.now) (WritesNotesInto V.contents file.now))
         out.old out.new notes.old notes.new settings.now bytes.now }
+    ensures causes { W.counts ≡ true → V.counts ≡ true → (after : SourceState) × (taken : List ℕ)
+        × RunsOver result (sinks
+        (WritesRows W.contents) (WritesRowsInto W.contents) W.failures
+        (WritesNotes V.contents file.now) (WritesNotesInto V.contents file.now) V.failures)
+        (source_state (Some bytes.now) 0 0 0 0) after out.old out.new notes.old notes.new settings.now taken }
 {
     let mut source = SliceSource::new(bytes);
     let mut rows = TextRows::new(out);

@@ -4,3 +4,4 @@ pub mod RowLemmas
 pub mod LineLemmas
 pub mod SearchLemmas
 pub mod LawLemmas
+pub mod CauseLemmas

@@ -18,6 +18,10 @@ pub record RowsTo (L : Type 0) : Type 1 where
   pub to : Rows L
   pub failed : L → ℕ
 
+-- rows that come, with a count of the failures
+abbrev pub counting : {L : Type 0} → Rows L → (L → ℕ) → RowsTo L
+counting to failed = record { to = to; failed = failed }
+
 abbrev pub rows_to : {L : Type 0} → (L → List (List ℕ) → L → Type 0) → (L → List (List ℕ) → L → Type 0) → (L → ℕ) → RowsTo L
 rows_to gave within failed = record { to = record { gave = gave; within = within }; failed = failed }
 

@@ -1,8 +1,8 @@
 //! A search of an index: its lines are read one after another, in the memory of one line (whatis(1)).
 
-ghost use Rattle.std.specs.Prelude.{◌≡◌, ◌+◌, ◌<◌, ◌≤◌, ◌^◌, ℕ, List, [], length, IfOk, IfErr};
+ghost use Rattle.std.specs.Prelude.{◌≡◌, ◌+◌, ◌<◌, ◌≤◌, ◌^◌, ℕ, List, [], length, IfOk, IfErr, true};
 ghost use Rattle.std.specs.Io.KnownBytes.{Consumes};
-ghost use Rattle.page_engine_index.specs.Searches.{Searches, SearchesOver, rows_to};
+ghost use Rattle.page_engine_index.specs.Searches.{Searches, SearchesOver, counting, rows_to};
 ghost use Rattle.page_engine_index.specs.machine.Steps.{IsFresh, TakesLine, TakesOpen, TakesPart, TakesChunk, Finishes};
 ghost use Rattle.page_engine_index.specs.Whatis.{asked, asked_of};
 ghost use Rattle.page_engine_index.specs.Written.{written};
@@ -12,9 +12,8 @@ use crate::line_sinks::{LineSink, TextLines};
 use crate::queries::{Query, Show};
 use memchr::memchr;
 use page_core_base::{BoundedText, Fault, LINE};
-use page_core_streams::{Chunks, Counted, Source};
+use page_core_streams::{Chunks, Input, Over, Source, Target};
 use std::alloc::Global;
-use std::io::{Read, Write};
 
 // A search: how far the index was read, the line that is open, and the rows that were given.
 #[derive(Drop)]
@@ -187,8 +186,9 @@ pub fn search_index<S: Source, L: LineSink>(
     search.read_all(source, query, out)
 }
 
-/// Looks for words in an index as [`search_index`] does: reads a reader, and writes the rows to a writer.
-pub fn whatis<I: Read, W: Write>(
+/// Looks for words in an index as [`search_index`] does: reads a reader, and writes the rows to a writer. Where these count their failures, each
+/// fault has its cause.
+pub fn whatis<I: Input, W: Target>(
     alloc: Global,
     index: &mut I,
     out: &mut W,
@@ -196,11 +196,14 @@ pub fn whatis<I: Read, W: Write>(
     section: Option<&str>,
     show: Show,
 ) -> Result<u64, Fault>
-    ensures { (bytes : List ℕ) × Consumes (I.remaining index.old) (I.remaining index.new) bytes
+    ensures searches { (bytes : List ℕ) × Consumes (I.state index.old).remaining (I.state index.new).remaining bytes
         × Searches result (written W.contents) out.old out.new
-        (asked words.now section.entry show) bytes (I.remaining index.new) }
+        (asked words.now section.entry show) bytes (I.state index.new).remaining }
+    ensures causes { I.counts ≡ true → W.counts ≡ true → (bytes : List ℕ)
+        × SearchesOver result (counting (written W.contents) W.failures) (I.state index.old) (I.state index.new)
+        out.old out.new (asked words.now section.entry show) bytes }
 {
-    let mut source = Counted::new(index);
+    let mut source = Over::new(index);
     let mut lines = TextLines::new(out);
     let query = Query {
         words,

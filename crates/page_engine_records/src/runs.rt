@@ -1,6 +1,6 @@
 //! A run over a page that reads its record.
 
-ghost use Rattle.std.specs.Prelude.{◌≡◌, ◌<◌, ◌≤◌, ℕ, List, None, false, length, IfOk, IfErr};
+ghost use Rattle.std.specs.Prelude.{◌≡◌, ◌<◌, ◌≤◌, ℕ, List, None, false, true, length, IfOk, IfErr};
 ghost use Rattle.std.specs.Io.KnownBytes.{Consumes};
 ghost use Rattle.page_core_base.specs.Latches.{Emits};
 ghost use Rattle.page_core_escapes.specs.Tokens.{tokens_of};
@@ -17,12 +17,11 @@ use crate::name_readers::{NameReader, Side};
 use crate::names::record_of;
 use crate::texts::NAMES;
 use page_core_base::{BoundedText, Fault, Output, PieceLatch, PieceSink, Place, Settings};
-use page_core_streams::{Chunks, Counted, Source};
+use page_core_streams::{Chunks, Input, Over, Source};
 use page_engine_header::Part;
 use page_engine_index::Record;
 use page_roff_lines::Cutter;
 use std::alloc::{AllocError, Global};
-use std::io::Read;
 
 /// A page whose record is read, and the cutter of its bytes.
 #[derive(Drop)]
@@ -200,15 +199,17 @@ pub fn read_record<S: Source>(
     Ok(run.into_record(room))
 }
 
-/// Reads the record of a page as [`read_record`] does, of a reader.
-pub fn name_record<I: Read>(
+/// Reads the record of a page as [`read_record`] does, of a reader. Where this counts its failures, each fault has its cause.
+pub fn name_record<I: Input>(
     alloc: Global,
     reader: &mut I,
     settings: &Settings,
 ) -> Result<Option<Record>, Fault>
-    ensures { (bytes : List ℕ) × Consumes (I.remaining reader.old) (I.remaining reader.new) bytes
-        × ReadsRecord result settings.now bytes (I.remaining reader.new) }
+    ensures reads { (bytes : List ℕ) × Consumes (I.state reader.old).remaining (I.state reader.new).remaining bytes
+        × ReadsRecord result settings.now bytes (I.state reader.new).remaining }
+    ensures causes { I.counts ≡ true → (bytes : List ℕ)
+        × ReadsRecordOver result (I.state reader.old) (I.state reader.new) settings.now bytes }
 {
-    let mut source = Counted::new(reader);
+    let mut source = Over::new(reader);
     read_record(alloc, &mut source, settings)
 }

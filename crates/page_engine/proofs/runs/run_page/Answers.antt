@@ -11,7 +11,8 @@ use Rattle.page_core_streams.specs.declared.text_notes.TextNotes.{TextNotes}
 use Rattle.page_engine.specs.Runs.{RunsOver}
 use Rattle.page_engine.specs.Streams.{Sinks, sinks}
 use Rattle.page_engine.specs.Written.{WritesRows, WritesRowsInto, WritesNotes, WritesNotesInto}
-use Rattle.page_engine.proofs.Causes.{count_true, state_true, caused_on}
+use Rattle.page_core_streams.proofs.FailureLemmas.{count_true, state_true}
+use Rattle.page_engine.proofs.Causes.{caused_on}
 use Rattle.page_engine.proofs.runs.run_page.Goals as goal
 
 pub returns-clause-causes : goal.returns-clause-causes
