@@ -20,5 +20,6 @@ mod words;
 
 pub use commands::{refuse, run_command};
 pub use faults::{Done, report_unopened};
+pub use formatting::format_all;
 pub use standard_numbers::{NULL_DEVICE, hold_standard_numbers};
 pub use words::words_given;

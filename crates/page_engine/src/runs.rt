@@ -226,8 +226,8 @@ pub fn run_bytes<W: Target, V: Target>(
         (WritesNotes V.contents file.now) (WritesNotesInto V.contents file.now) V.failures)
         (source_state (Some bytes.now) 0 0 0 0) after out.old out.new notes.old notes.new settings.now taken }
 {
-    let mut source = SliceSource::new(bytes);
+    let mut slice = SliceSource::new(bytes);
     let mut rows = TextRows::new(out);
     let mut messages = TextNotes::new(notes, file);
-    run_sinks(alloc, &mut source, &mut rows, &mut messages, settings)
+    run_sinks(alloc, &mut slice, &mut rows, &mut messages, settings)
 }

@@ -1,6 +1,7 @@
 //! Records of pages, as an index has them and as they are printed (makewhatis(8)).
 
 ghost use Rattle.std.specs.Prelude.{◌≡◌, MatchResult, IfErr, true};
+ghost use Rattle.std.specs.List.{flat_map};
 ghost use Rattle.page_core_streams.specs.Failures.{ErrsBy};
 ghost use Rattle.page_core_streams.specs.Grows.{Grows, GrowsInto};
 ghost use Rattle.page_engine_index.specs.Fields.{is_field};
@@ -73,11 +74,7 @@ pub fn write_record<W: Target>(out: &mut W, page: &Record, file: &str) -> Result
         file.as_bytes(),
         b"\n",
     ];
-    if put_all(out, &texts) {
-        Ok(())
-    } else {
-        Err(Fault::WriteText)
-    }
+    write_texts(out, &texts)
 }
 
 /// Prints a record as `names(section) - description` and a line feed. Its fault is [`Fault::WriteText`], where the writer failed; then a
@@ -97,7 +94,18 @@ pub fn print_record<W: Target>(out: &mut W, page: &Record) -> Result<(), Fault>
         page.description.bytes(),
         b"\n",
     ];
-    if put_all(out, &texts) {
+    write_texts(out, &texts)
+}
+
+// Writes texts, one after another.
+fn write_texts<W: Target>(out: &mut W, texts: &[&[u8]]) -> Result<(), Fault>
+    ensures gives { MatchResult result
+        (λ _. Grows (W.contents out.old) (W.contents out.new) (flat_map (λ text. text.now) texts.now))
+        (λ _. GrowsInto (W.contents out.old) (W.contents out.new) (flat_map (λ text. text.now) texts.now)) }
+    ensures cause { ErrsBy W.counts result (W.failures out.old) (W.failures out.new) }
+    ensures fault { IfErr result (λ fault. fault ≡ Fault.WriteText) }
+{
+    if put_all(out, texts) {
         Ok(())
     } else {
         Err(Fault::WriteText)

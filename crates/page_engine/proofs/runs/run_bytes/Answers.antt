@@ -16,7 +16,7 @@ use Rattle.page_engine.proofs.runs.run_bytes.Goals as goal
 pub returns-clause-runs : goal.returns-clause-runs
 returns-clause-runs g c =
     let h = c.run_sinks.ensures.runs in
-    let source = c.new-source.ensures in
+    let source = c.new-slice.ensures in
     let rows = c.new-rows.ensures in
     let notes = c.new-messages.ensures in
     let file = c.args.file.now in
@@ -34,7 +34,7 @@ returns-clause-runs g c =
 pub returns-clause-causes : goal.returns-clause-causes
 returns-clause-causes g c = λ w v.
     let h = c.run_sinks.ensures.runs in
-    let source = c.new-source.ensures in
+    let source = c.new-slice.ensures in
     let rows = c.new-rows.ensures in
     let notes = c.new-messages.ensures in
     let file = c.args.file.now in
