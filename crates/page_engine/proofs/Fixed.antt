@@ -1,18 +1,16 @@
 -- What filling leaves as it was: the output and the width of rows.
 use Rattle.std.proofs.Common.{◌≡◌, ℕ, ◌==◌, Bool, true, false, List, [], ◌∷◌, length, Option, None, Some, refl, ◌∙◌}
-use Rattle.std.specs.Prelude.{◌||◌, if◌then◌else◌}
+use Rattle.std.specs.Prelude.{if◌then◌else◌}
 use Rattle.page_core_base.specs.declared.page_settings.Output.{Output}
 use Rattle.page_core_base.specs.declared.pieces.Piece.{Piece}
 use Rattle.page_core_base.specs.declared.pieces.Piece.TheVariants.{Text, Glyph, Char, Tab, Blank, Glue, Split, Break, RowEnd, Para, Space, Indent, Literal, Tag, TagEnd, Heading, Column}
-use Rattle.page_core_base.specs.declared.pieces.TagForm.{TagForm}
 use Rattle.page_core_base.specs.declared.pieces.TagForm.TheVariants as forms
 use Rattle.page_core_base.specs.Laid.{Laid}
 use Rattle.page_core_base.specs.Pieces.{Item, shown, noted}
 use Rattle.page_fill.specs.declared.edges.OpenTag.{OpenTag}
 use Rattle.page_fill.specs.declared.edges.Edge.{Edge}
-use Rattle.page_fill.specs.Edges.{is_set_in}
 use Rattle.page_fill.specs.machine.ByPiece.{laid_item, laid_items}
-use Rattle.page_fill.specs.Filling.{Group, words, other, groups, after_tag, tag_ended, other_laid, group_laid, groups_laid, filled}
+use Rattle.page_fill.specs.Filling.{Group, words, other, groups, row_end, placed, after_tag, tag_ended, tag_end, other_laid, group_laid, groups_laid, filled}
 use Rattle.page_fill.specs.PieceWords.{words_laid, content_laid}
 
 abbrev pub fixed : Edge → Output × ℕ
@@ -26,14 +24,16 @@ heading_fixed : (b : Bool) (e : Edge) → fixed (if b then e else record e { she
 heading_fixed true e = refl
 heading_fixed false e = refl
 
-after_tag_fixed : (e : Edge) (hang : ℕ) (form : TagForm) → fixed (after_tag e (record { hang = hang; form = form })).edge ≡ fixed e
-after_tag_fixed e hang forms.Row = either_fixed _ _ _ (fixed e) refl refl
-after_tag_fixed e hang forms.Hang = refl
-after_tag_fixed e hang (forms.Inset n) = refl
+after_tag_fixed : (e : Edge) (tag : OpenTag) → fixed (after_tag e tag).edge ≡ fixed e
+after_tag_fixed e tag = either_fixed _ _ _ (fixed e) refl (either_fixed tag.ends_row (row_end e) (placed e 1) (fixed e) refl refl)
 
 tag_fixed : (e : Edge) (tag : Option OpenTag) → fixed (tag_ended e tag).edge ≡ fixed e
 tag_fixed e None = refl
-tag_fixed e (Some tag) = either_fixed (e.sheet.tag_begun || is_set_in tag.form) _ _ (fixed e) (after_tag_fixed e tag.hang tag.form) refl
+tag_fixed e (Some tag) = either_fixed e.sheet.tag_begun _ _ (fixed e) (after_tag_fixed e tag) refl
+
+tag_end_fixed : (e : Edge) (set_in : Option ℕ) → fixed (tag_end e set_in).edge ≡ fixed e
+tag_end_fixed e None = tag_fixed (record e { tag = None }) e.tag
+tag_end_fixed e (Some blanks) = refl
 
 words_fixed : (e : Edge) (items : List Item) → fixed (words_laid e items).edge ≡ fixed e
 unfolding words_laid
@@ -54,8 +54,10 @@ other_fixed e (Para n) = refl
 other_fixed e (Space n) = refl
 other_fixed e (Indent first rest) = refl
 other_fixed e (Literal literal) = refl
-other_fixed e (Tag hang form) = refl
-other_fixed e TagEnd = tag_fixed (record e { tag = None }) e.tag
+other_fixed e (Tag hang forms.Row) = refl
+other_fixed e (Tag hang forms.Hang) = refl
+other_fixed e (Tag hang (forms.Inset n)) = refl
+other_fixed e TagEnd = tag_end_fixed e e.set_in
 other_fixed e Heading = heading_fixed (length e.sheet.cells == 0) _
 other_fixed e (Column n) = refl
 

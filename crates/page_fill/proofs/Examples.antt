@@ -21,7 +21,7 @@ use Rattle.page_fill.specs.Edges.{no_word}
 
 -- the start of a page of so many columns
 abbrev at_start : ℕ → Edge
-at_start width = record { sheet = fresh width; word = no_word; tag = None; output = Ascii }
+at_start width = record { sheet = fresh width; word = no_word; tag = None; set_in = None; output = Ascii }
 
 abbrev one : ℕ → Piece (List ℕ)
 one c = Char c R (record { line = 1; column = 1 })

@@ -1,20 +1,18 @@
 -- The steps of filling lay what its definition says: of groups of words, and of what stands between them.
 use Rattle.std.proofs.Common.{◌≡◌, ℕ, ◌-◌, ◌==◌, Bool, true, false, List, [], ◌∷◌, ◌++◌, length, replicate, Option, None, Some, inl, inr, refl, subst, sym, ap, ◌∙◌, append-nil}
-use Rattle.std.specs.Prelude.{◌||◌, if◌then◌else◌}
+use Rattle.std.specs.Prelude.{if◌then◌else◌}
 use Rattle.std.proofs.lemmas.Bool.{cases_Bool}
 use Rattle.page_core_base.specs.declared.cells.Font.{Font}
 use Rattle.page_core_base.specs.declared.pieces.Piece.{Piece}
 use Rattle.page_core_base.specs.declared.pieces.Piece.TheVariants.{Text, Glyph, Char, Tab, Blank, Glue, Split, Break, RowEnd, Para, Space, Indent, Literal, Tag, TagEnd, Heading, Column}
 use Rattle.page_core_base.specs.declared.places.Place.{Place}
-use Rattle.page_core_base.specs.declared.pieces.TagForm.{TagForm}
-use Rattle.page_core_base.specs.declared.pieces.TagForm.TheVariants as forms
 use Rattle.page_core_base.specs.Messages.{Message}
 use Rattle.page_core_base.specs.Laid.{Laid, nothing, join, seq}
 use Rattle.page_core_base.specs.Pieces.{Item, shown, noted}
 use Rattle.page_fill.specs.declared.edges.OpenTag.{OpenTag}
 use Rattle.page_fill.specs.declared.edges.Edge.{Edge}
 use Rattle.page_fill.specs.machine.Fill.{laid_piece, on_sheet, opening, tab, fixed_tab, filled_tab, to_stop, ended, paragraph, spaced, row_ended, heading, headed, without_tag, fits_hang}
-use Rattle.page_fill.specs.Edges.{is_set_in, no_word}
+use Rattle.page_fill.specs.Edges.{no_word}
 use Rattle.page_fill.specs.machine.Fill as fill
 use Rattle.page_fill_rows.specs.machine.Sheets.{over, blank, broken, empty_rows}
 use Rattle.page_fill.proofs.Marks.{Mark, letters_of, opening_marks}
@@ -23,7 +21,7 @@ use Rattle.page_fill.specs.Filled.{CellOrNote}
 use Rattle.page_fill.specs.Caps.{IsHeld, is_sound}
 use Rattle.page_fill.specs.PieceWords.{cell_content, and_then, no_more, words_laid, content_laid, after_cell}
 use Rattle.page_fill.specs.machine.Items.{laid_items, laid_items-append}
-use Rattle.page_fill.specs.Filling.{Group, words, other, is_of_words, in_front, groups, row_end, blank_rows, after_tag, tag_ended, stop_content, other_laid, groups_laid, filled}
+use Rattle.page_fill.specs.Filling.{Group, words, other, is_of_words, in_front, groups, row_end, blank_rows, after_tag, tag_ended, tag_end, stop_content, other_laid, groups_laid, filled}
 use Rattle.page_fill.proofs.MarkRuns.{run}
 use Rattle.page_fill.proofs.MarkedPieces.{letters-run, opening-run, run-literal, with_word}
 use Rattle.page_fill.proofs.SoundWords.{piece-sound}
@@ -67,15 +65,20 @@ heading-law e = ap (λ (l : Laid Edge). over l (λ f. if length e.sheet.cells ==
 
 -- ---- tags
 
-after_tag-law : (e : Edge) (hang : ℕ) (form : TagForm) → fill.after_tag e hang form ≡ after_tag e (record { hang = hang; form = form })
-after_tag-law e hang forms.Row = elim (cases_Bool (fits_hang e.sheet hang)) [ inl f ↦ rw f refl | inr f ↦ rw f (row-end e) ]
-after_tag-law e hang forms.Hang = elim (cases_Bool (fits_hang e.sheet hang)) [ inl f ↦ rw f refl | inr f ↦ rw f refl ]
-after_tag-law e hang (forms.Inset n) = refl
+after_tag-law : (e : Edge) (t : OpenTag) → fill.after_tag e t ≡ after_tag e t
+after_tag-law e t = elim (cases_Bool (fits_hang e.sheet t.hang)) [
+  | inl f ↦ rw f refl
+  | inr f ↦ rw f (elim (cases_Bool t.ends_row) [ inl r ↦ rw r (row-end e) | inr r ↦ rw r refl ])
+]
 
 tag-law : (e : Edge) (tag : Option OpenTag) → fill.tag_ended e tag ≡ tag_ended e tag
 tag-law e None = row-end e
 tag-law e (Some t) =
-    ap (λ (l : Laid Edge). if e.sheet.tag_begun || is_set_in t.form then l else nothing (record e { word = no_word })) (after_tag-law e t.hang t.form)
+    ap (λ (l : Laid Edge). if e.sheet.tag_begun then l else nothing (record e { word = no_word })) (after_tag-law e t)
+
+tag_end-law : (e : Edge) (set_in : Option ℕ) → fill.tag_end e set_in ≡ tag_end e set_in
+tag_end-law e None = tag-law (without_tag e) e.tag
+tag_end-law e (Some blanks) = refl
 
 -- ---- tabs
 
@@ -153,7 +156,7 @@ other-law e (Space n) h s = spaced-law e n
 other-law e (Indent first rest) h s = refl
 other-law e (Literal b) h s = refl
 other-law e (Tag hang form) h s = refl
-other-law e TagEnd h s = tag-law (without_tag e) e.tag
+other-law e TagEnd h s = tag_end-law e e.set_in
 other-law e Heading h s = heading-law e
 other-law e (Column n) h s = refl
 

@@ -1,6 +1,6 @@
 -- The places of the open row's last word lie within the row, at each edge that a page comes to.
 use Rattle.std.proofs.Common.{◌≡◌, ℕ, zero, suc, ◌+◌, ◌-◌, ◌<◌, ◌==◌, nat_lt, Bool, true, false, not, ◌&&◌, List, [], ◌∷◌, ◌++◌, length, drop, replicate, Option, None, Some, inl, inr, refl, arith, length-append, length-drop, lit≤}
-use Rattle.std.specs.Prelude.{◌||◌, if◌then◌else◌}
+use Rattle.std.specs.Prelude.{if◌then◌else◌}
 use Rattle.std.proofs.lemmas.Bool.{cases_Bool}
 use Rattle.std.proofs.lemmas.Bool.Decides.{nat_tests}
 use Rattle.page_core_base.specs.declared.cells.Cell.{Cell}
@@ -8,7 +8,6 @@ use Rattle.page_core_base.specs.declared.cells.Font.{Font}
 use Rattle.page_core_base.specs.declared.page_settings.Output.{Output}
 use Rattle.page_core_base.specs.declared.pieces.Piece.{Piece}
 use Rattle.page_core_base.specs.declared.pieces.Piece.TheVariants.{Text, Glyph, Char, Tab, Blank, Glue, Split, Break, RowEnd, Para, Space, Indent, Literal, Tag, TagEnd, Heading, Column}
-use Rattle.page_core_base.specs.declared.pieces.TagForm.{TagForm}
 use Rattle.page_core_base.specs.declared.pieces.TagForm.TheVariants as forms
 use Rattle.page_core_base.specs.declared.places.Place.{Place}
 use Rattle.page_core_base.specs.Laid.{nothing}
@@ -18,8 +17,8 @@ use Rattle.page_fill.specs.declared.edges.OpenTag.{OpenTag}
 use Rattle.page_fill.specs.declared.edges.Edge.{Edge}
 use Rattle.page_fill_rows.specs.machine.Sheets.{Sheet, blank, passes, letter, letters, space, spaces, new_word, opens, broken, empty_rows, fresh}
 use Rattle.page_fill_rows.specs.Characters.{cells_of, cell_of, characters_of, character, characters, glyph}
-use Rattle.page_fill.specs.machine.Fill.{laid_piece, text, one_character, one_glyph, tab, opening, ended, paragraph, spaced, row_ended, heading, tag_ended, after_tag, fits_hang, without_tag, stands, to_stop, missing_rows}
-use Rattle.page_fill.specs.Edges.{is_set_in, no_word}
+use Rattle.page_fill.specs.machine.Fill.{laid_piece, text, one_character, one_glyph, tab, opening, ended, paragraph, spaced, row_ended, heading, tag_ended, tag_end, after_tag, fits_hang, without_tag, stands, to_stop, missing_rows}
+use Rattle.page_fill.specs.Edges.{no_word}
 use Rattle.page_fill.specs.Caps.{IsHeld}
 
 pub letter-held : (s : Sheet) (cell : Cell) (place : Place) → IsHeld s → IsHeld (letter s cell place).edge
@@ -131,16 +130,21 @@ heading-held e h =
       | inr z ↦ rw z (record { gap_within = k.gap_within; word_within = k.word_within; bounded = k.bounded })
     ]
 
-after_tag-held : (e : Edge) (hang : ℕ) (form : TagForm) → IsHeld e.sheet → IsHeld (after_tag e hang form).edge.sheet
-after_tag-held e hang forms.Row h = elim (cases_Bool (fits_hang e.sheet hang)) [ inl f ↦ rw f h | inr f ↦ rw f (ended-held e h) ]
-after_tag-held e hang forms.Hang h = elim (cases_Bool (fits_hang e.sheet hang)) [ inl f ↦ rw f h | inr f ↦ rw f h ]
-after_tag-held e hang (forms.Inset n) h = h
+after_tag-held : (e : Edge) (t : OpenTag) → IsHeld e.sheet → IsHeld (after_tag e t).edge.sheet
+after_tag-held e t h = elim (cases_Bool (fits_hang e.sheet t.hang)) [
+  | inl f ↦ rw f h
+  | inr f ↦ rw f (elim (cases_Bool t.ends_row) [ inl r ↦ rw r (ended-held e h) | inr r ↦ rw r h ])
+]
 
 tag-held : (e : Edge) (tag : Option OpenTag) → IsHeld e.sheet → IsHeld (tag_ended e tag).edge.sheet
 tag-held e None h = ended-held e h
 tag-held e (Some t) h =
-    elim (e.sheet.tag_begun || is_set_in t.form) as (λ b. IsHeld (if b then after_tag e t.hang t.form else nothing (record e { word = no_word })).edge.sheet)
-    [ true ↦ after_tag-held e t.hang t.form h | false ↦ h ]
+    elim e.sheet.tag_begun as (λ b. IsHeld (if b then after_tag e t else nothing (record e { word = no_word })).edge.sheet)
+    [ true ↦ after_tag-held e t h | false ↦ h ]
+
+tag_end-held : (e : Edge) (set_in : Option ℕ) → IsHeld e.sheet → IsHeld (tag_end e set_in).edge.sheet
+tag_end-held e None h = tag-held (without_tag e) e.tag h
+tag_end-held e (Some blanks) h = h
 
 empty-held : (s : Sheet) (n : ℕ) → IsHeld s → IsHeld (empty_rows s n).edge
 unfolding empty_rows
@@ -168,8 +172,10 @@ piece-held e (Para n) h = empty-held (ended e).edge.sheet (missing_rows (ended e
 piece-held e (Space n) h = empty-held (ended e).edge.sheet n (ended-held e h)
 piece-held e (Indent first rest) h = record { gap_within = h.gap_within; word_within = h.word_within; bounded = h.bounded }
 piece-held e (Literal b) h = record { gap_within = h.gap_within; word_within = h.word_within; bounded = h.bounded }
-piece-held e (Tag hang form) h = record { gap_within = h.gap_within; word_within = h.word_within; bounded = h.bounded }
-piece-held e TagEnd h = tag-held (without_tag e) e.tag h
+piece-held e (Tag hang forms.Row) h = record { gap_within = h.gap_within; word_within = h.word_within; bounded = h.bounded }
+piece-held e (Tag hang forms.Hang) h = record { gap_within = h.gap_within; word_within = h.word_within; bounded = h.bounded }
+piece-held e (Tag hang (forms.Inset n)) h = h
+piece-held e TagEnd h = tag_end-held e e.set_in h
 piece-held e Heading h = heading-held e h
 piece-held e (Column n) h = h
 

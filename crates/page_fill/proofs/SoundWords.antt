@@ -1,19 +1,18 @@
 -- A word that goes on is never one that is placed.
 use Rattle.std.proofs.Common.{◌≡◌, ℕ, ◌==◌, true, false, not, ◌&&◌, List, length, Option, None, Some, inl, inr, refl}
-use Rattle.std.specs.Prelude.{◌||◌, if◌then◌else◌}
+use Rattle.std.specs.Prelude.{if◌then◌else◌}
 use Rattle.std.proofs.lemmas.Bool.{cases_Bool}
 use Rattle.page_core_base.specs.declared.cells.Font.{Font}
 use Rattle.page_core_base.specs.declared.pieces.Piece.{Piece}
 use Rattle.page_core_base.specs.declared.pieces.Piece.TheVariants.{Text, Glyph, Char, Tab, Blank, Glue, Split, Break, RowEnd, Para, Space, Indent, Literal, Tag, TagEnd, Heading, Column}
 use Rattle.page_core_base.specs.declared.places.Place.{Place}
-use Rattle.page_core_base.specs.declared.pieces.TagForm.{TagForm}
 use Rattle.page_core_base.specs.declared.pieces.TagForm.TheVariants as forms
 use Rattle.page_core_base.specs.Laid.{nothing}
 use Rattle.page_fill.specs.declared.edges.OpenTag.{OpenTag}
 use Rattle.page_fill_rows.specs.Characters.{characters_of}
 use Rattle.page_fill.specs.declared.edges.Edge.{Edge}
-use Rattle.page_fill.specs.machine.Fill.{laid_piece, text, one_character, one_glyph, tab, opening, ended, paragraph, spaced, row_ended, heading, tag_ended, after_tag, fits_hang, without_tag}
-use Rattle.page_fill.specs.Edges.{is_set_in, no_word}
+use Rattle.page_fill.specs.machine.Fill.{laid_piece, text, one_character, one_glyph, tab, opening, ended, paragraph, spaced, row_ended, heading, tag_ended, tag_end, after_tag, fits_hang, without_tag}
+use Rattle.page_fill.specs.Edges.{no_word}
 use Rattle.page_fill.specs.Caps.{is_sound}
 use Rattle.page_fill.proofs.MarkedPieces.{sound-after}
 
@@ -45,18 +44,23 @@ heading-sound : (e : Edge) → is_sound (heading e).edge.word ≡ true
 unfolding heading ended
 heading-sound e = elim (cases_Bool (length e.sheet.cells == 0)) [ inl z ↦ rw z refl | inr z ↦ rw z refl ]
 
-after_tag-sound : (e : Edge) (hang : ℕ) (form : TagForm) → is_sound (after_tag e hang form).edge.word ≡ true
+after_tag-sound : (e : Edge) (t : OpenTag) → is_sound (after_tag e t).edge.word ≡ true
 unfolding ended
-after_tag-sound e hang forms.Row = elim (cases_Bool (fits_hang e.sheet hang)) [ inl f ↦ rw f refl | inr f ↦ rw f refl ]
-after_tag-sound e hang forms.Hang = elim (cases_Bool (fits_hang e.sheet hang)) [ inl f ↦ rw f refl | inr f ↦ rw f refl ]
-after_tag-sound e hang (forms.Inset n) = refl
+after_tag-sound e t = elim (cases_Bool (fits_hang e.sheet t.hang)) [
+  | inl f ↦ rw f refl
+  | inr f ↦ rw f (elim (cases_Bool t.ends_row) [ inl r ↦ rw r refl | inr r ↦ rw r refl ])
+]
 
 tag-sound : (e : Edge) (tag : Option OpenTag) → is_sound e.word ≡ true → is_sound (tag_ended e tag).edge.word ≡ true
 unfolding ended
 tag-sound e None h = refl
 tag-sound e (Some t) h =
-    elim (e.sheet.tag_begun || is_set_in t.form) as (λ b. is_sound (if b then after_tag e t.hang t.form else nothing (record e { word = no_word })).edge.word ≡ true)
-    [ true ↦ after_tag-sound e t.hang t.form | false ↦ refl ]
+    elim e.sheet.tag_begun as (λ b. is_sound (if b then after_tag e t else nothing (record e { word = no_word })).edge.word ≡ true)
+    [ true ↦ after_tag-sound e t | false ↦ refl ]
+
+tag_end-sound : (e : Edge) (set_in : Option ℕ) → is_sound e.word ≡ true → is_sound (tag_end e set_in).edge.word ≡ true
+tag_end-sound e None h = tag-sound (without_tag e) e.tag h
+tag_end-sound e (Some blanks) h = refl
 
 pub piece-sound : (e : Edge) (p : Piece (List ℕ)) → is_sound e.word ≡ true → is_sound (laid_piece e p).edge.word ≡ true
 unfolding laid_piece ended paragraph spaced
@@ -73,7 +77,9 @@ piece-sound e (Para n) h = refl
 piece-sound e (Space n) h = refl
 piece-sound e (Indent first rest) h = h
 piece-sound e (Literal b) h = h
-piece-sound e (Tag hang form) h = h
-piece-sound e TagEnd h = tag-sound (without_tag e) e.tag h
+piece-sound e (Tag hang forms.Row) h = h
+piece-sound e (Tag hang forms.Hang) h = h
+piece-sound e (Tag hang (forms.Inset n)) h = h
+piece-sound e TagEnd h = tag_end-sound e e.set_in h
 piece-sound e Heading h = heading-sound e
 piece-sound e (Column n) h = refl

@@ -1,16 +1,17 @@
 -- What is held between two pieces: the open row, the open tag, and what waits before the next word. Source: roff(7), "Filling and
 -- adjusting".
-use Rattle.std.specs.Prelude.{ℕ, Bool, true, false, List, [], ◌∷◌, None, if◌then◌else◌}
+use Rattle.std.specs.Prelude.{ℕ, Bool, true, false, List, [], ◌∷◌, None, Some, if◌then◌else◌}
 use Rattle.page_core_base.specs.declared.cells.Cell.{Cell}
 use Rattle.page_core_base.specs.declared.note_kinds.NoteKind.TheVariants as notes
 use Rattle.page_core_base.specs.declared.page_settings.Output.{Output}
 use Rattle.page_core_base.specs.declared.page_settings.Settings.{Settings}
 use Rattle.page_core_base.specs.declared.pieces.TagForm.{TagForm}
-use Rattle.page_core_base.specs.declared.pieces.TagForm.TheVariants.{Inset}
+use Rattle.page_core_base.specs.declared.pieces.TagForm.TheVariants as forms
 use Rattle.page_core_base.specs.declared.places.Place.{Place}
 use Rattle.page_core_base.specs.Messages.{Message, message_about}
 use Rattle.page_fill_rows.specs.OpenRows.{fresh}
 pub use Rattle.page_fill.specs.declared.edges.Edge.{Edge}
+use Rattle.page_fill.specs.declared.edges.OpenTag.{OpenTag}
 pub use Rattle.page_fill.specs.declared.edges.OpenWord.{OpenWord}
 
 -- ---- what waits before the next word
@@ -45,10 +46,15 @@ placed_word count = record { is_joined = false; is_open = true; is_placed = true
 
 -- ---- tags
 
--- a tag that is set in its text's row
-abbrev pub is_set_in : TagForm → Bool
-is_set_in (Inset blanks) = true
-is_set_in _ = false
+-- a tag takes the place of the one that is open, and its cells are counted
+abbrev pub counted_tag : Edge → OpenTag → Edge
+counted_tag e tag = record e { sheet = record e.sheet { tag_columns = 0; tag_begun = false }; tag = Some tag; set_in = None }
+
+-- the words of a tag that is set in are words of the row: they go on with the tag that is open
+abbrev pub with_tag : Edge → ℕ → TagForm → Edge
+with_tag e hang forms.Row = counted_tag e (record { hang = hang; ends_row = true })
+with_tag e hang forms.Hang = counted_tag e (record { hang = hang; ends_row = false })
+with_tag e hang (forms.Inset n) = record e { set_in = Some n }
 
 -- ---- tabs of words
 
@@ -63,7 +69,7 @@ tab_notes told place = if told then tab_note place ∷ [] else []
 
 -- a page begins below the blank row of its header
 abbrev pub start : Settings → Edge
-start settings = record { sheet = fresh settings.width; word = no_word; tag = None; output = settings.output }
+start settings = record { sheet = fresh settings.width; word = no_word; tag = None; set_in = None; output = settings.output }
 
 -- the same on a page of this width, of an output
 abbrev pub under : ℕ → Output → Edge → Edge

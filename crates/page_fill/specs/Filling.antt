@@ -1,17 +1,16 @@
 -- What filling is: pieces and the messages among them are groups of words, which fill rows, and what stands between such groups.
 -- Source: roff(7), "Filling and adjusting"; mandoc(1).
-use Rattle.std.specs.Prelude.{ℕ, ◌+◌, ◌-◌, ◌%◌, Bool, true, false, ◌&&◌, ◌||◌, ◌==◌, nat_lt, nat_le, min, List, [], ◌∷◌, length, replicate, Option, None, Some, if◌then◌else◌}
+use Rattle.std.specs.Prelude.{ℕ, ◌+◌, ◌-◌, ◌%◌, Bool, true, false, ◌&&◌, ◌==◌, nat_lt, nat_le, min, List, [], ◌∷◌, length, replicate, Option, None, Some, if◌then◌else◌}
 use Rattle.page_core_base.specs.declared.cells.Cell.{Cell}
 use Rattle.page_core_base.specs.declared.pieces.Piece.{Piece}
 use Rattle.page_core_base.specs.declared.pieces.Piece.TheVariants.{Text, Glyph, Char, Tab, Blank, Glue, Split, Break, RowEnd, Para, Space, Indent, Literal, Tag, TagEnd, Heading, Column}
 use Rattle.page_core_base.specs.declared.places.Place.{Place}
-use Rattle.page_core_base.specs.declared.pieces.TagForm.TheVariants as forms
 use Rattle.page_core_base.specs.Rows.{row_of}
 use Rattle.page_core_base.specs.Laid.{Laid, nothing, seq}
 use Rattle.page_core_base.specs.Pieces.{Item, shown, noted}
 use Rattle.page_fill.specs.declared.edges.OpenTag.{OpenTag}
 use Rattle.page_fill.specs.declared.edges.Edge.{Edge}
-use Rattle.page_fill.specs.Edges.{is_set_in, no_word, placed_word}
+use Rattle.page_fill.specs.Edges.{no_word, placed_word, with_tag}
 use Rattle.page_fill_rows.specs.OpenRows.{over, blank, columns, more_blank_rows}
 use Rattle.page_fill.specs.Filled.{CellOrNote, at_break}
 use Rattle.page_fill.specs.PieceWords.{cell_content, open_row_of, next_edge, words_laid, content_laid}
@@ -70,21 +69,23 @@ placed e n = nothing (record e { word = placed_word n })
 abbrev pub HANG_MAX : ℕ
 HANG_MAX = 1000
 
--- after a tag with this hang: where a blank fits before the hang, the next word stands there; else by the tag's form; a tag set in needs an open row
+-- after a tag with this hang: where a blank fits before the hang, the next word stands there; else the row ends, or one blank stands
 abbrev pub after_tag : Edge → OpenTag → Laid Edge
 after_tag e tag =
     let hang = min tag.hang HANG_MAX in
-    let fits = nat_le (e.sheet.tag_columns + 1) hang in
-    elim tag.form [
-      | forms.Row ↦ if fits then placed e (hang - e.sheet.tag_columns) else row_end e
-      | forms.Hang ↦ placed e (if fits then hang - e.sheet.tag_columns else 1)
-      | forms.Inset n ↦ placed e (if length e.sheet.cells == 0 then 0 else n)
-    ]
+    if nat_le (e.sheet.tag_columns + 1) hang then placed e (hang - e.sheet.tag_columns)
+    else if tag.ends_row then row_end e
+    else placed e 1
 
--- a tag without a cell is none, and nothing of it waits, but that one set in needs no cell of its own; where another tag came between, the row ends
+-- a tag without a cell is none, and nothing of it waits; where another tag came between, the row ends
 abbrev pub tag_ended : Edge → Option OpenTag → Laid Edge
 tag_ended e None = row_end e
-tag_ended e (Some tag) = if e.sheet.tag_begun || is_set_in tag.form then after_tag e tag else nothing (record e { word = no_word })
+tag_ended e (Some tag) = if e.sheet.tag_begun then after_tag e tag else nothing (record e { word = no_word })
+
+-- a tag that is set in ends first, and its blanks stand, where a row is open
+abbrev pub tag_end : Edge → Option ℕ → Laid Edge
+tag_end e None = tag_ended (record e { tag = None }) e.tag
+tag_end e (Some blanks) = placed (record e { set_in = None }) (if length e.sheet.cells == 0 then 0 else blanks)
 
 -- the columns from one tab stop to the next
 abbrev pub TAB_STOP : ℕ
@@ -109,9 +110,9 @@ other_laid e Heading = over (row_end e) (λ f. if length e.sheet.cells == 0 then
 -- from here on: the margins of the next row and of those after it, also while a row or a word is open; how rows are filled; the open tag
 other_laid e (Indent first rest) = nothing (record e { sheet = record e.sheet { first = first; rest = rest } })
 other_laid e (Literal literal) = nothing (record e { sheet = record e.sheet { literal = literal } })
-other_laid e (Tag hang form) = nothing (record e { sheet = record e.sheet { tag_columns = 0; tag_begun = false }; tag = Some (record { hang = hang; form = form }) })
+other_laid e (Tag hang form) = nothing (with_tag e hang form)
 -- by the columns of the tag's cells the next word is placed, or the row ends
-other_laid e TagEnd = tag_ended (record e { tag = None }) e.tag
+other_laid e TagEnd = tag_end e e.set_in
 -- the next word is placed at a column
 other_laid e (Column n) = placed e (to_column e.sheet.cells n)
 -- the word goes on: in a row that is kept as it is by blanks up to the next stop, else as words_of has it

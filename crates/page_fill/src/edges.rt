@@ -1,6 +1,6 @@
 //! Words, breaks and tags: what is held between two pieces.
 
-ghost use Rattle.std.specs.Prelude.{◌≡◌, ◌≤◌, ◌==◌, length, true, false, []};
+ghost use Rattle.std.specs.Prelude.{◌≡◌, ◌≤◌, ◌==◌, length, Some, true, false, []};
 ghost use Rattle.std.specs.Str.{chars};
 ghost use Rattle.page_core_base.specs.Laid.{nothing};
 ghost use Rattle.page_core_base.specs.Latches.{CameRows, LaysOut};
@@ -9,6 +9,7 @@ ghost use Rattle.page_core_base.specs.declared.places.Place.{Place};
 ghost use Rattle.page_fill_rows.specs.Characters.{characters_of};
 ghost use Rattle.page_fill_rows.specs.machine.Plain as plain;
 ghost use Rattle.page_fill.specs.Caps.{is_sound};
+ghost use Rattle.page_fill.specs.Edges.{counted_tag};
 ghost use Rattle.page_fill.specs.machine.Fill as fill;
 ghost use Rattle.page_fill.specs.machine.PlainWords as plain_words;
 ghost use Rattle.page_fill.specs.machine.TakenWords.{TakesFirstWords};
@@ -43,8 +44,8 @@ pub(crate) struct OpenWord {
 pub(crate) struct OpenTag {
     /// The columns that it may take with a blank after it.
     pub(crate) hang: u32,
-    /// What follows it.
-    pub(crate) form: TagForm,
+    /// Its row ends after it where it takes more; else one blank stands.
+    pub(crate) ends_row: bool,
 }
 
 /// What is held between two pieces.
@@ -56,6 +57,8 @@ pub struct Edge {
     pub(crate) word: OpenWord,
     /// The open tag.
     pub(crate) tag: Option<OpenTag>,
+    /// The blanks after a tag that is set in, where one is open: it may stand in another one.
+    pub(crate) set_in: Option<u32>,
     /// What characters and glyphs print.
     pub(crate) output: Output,
 }
@@ -69,13 +72,6 @@ pub(crate) const NO_WORD: OpenWord = OpenWord {
     has_tab: false,
     is_told: false,
 };
-
-// Whether a tag is set in its text's row.
-fn is_set_in(form: TagForm) -> bool
-    ensures { result ≡ fill.is_set_in form }
-{
-    matches!(form, TagForm::Inset(_))
-}
 
 impl OpenWord {
     /// The word has a cell, and goes on.
@@ -429,27 +425,64 @@ impl Edge {
         }
     }
 
+    // A tag takes the place of the open one.
+    fn open_tag(&mut self, hang: u32, ends_row: bool)
+        ensures { self.new ≡ counted_tag self.old (record { hang = hang; ends_row = ends_row }) }
+    {
+        self.sheet.count_anew();
+        self.tag = Some(OpenTag { hang, ends_row });
+        self.set_in = None;
+    }
+
     /// A tag begins.
     pub(crate) fn begin_tag(&mut self, hang: u32, form: TagForm)
         ensures { self.new ≡ fill.with_tag self.old hang form }
     {
-        self.sheet.count_anew();
-        self.tag = Some(OpenTag { hang, form });
+        match form {
+            TagForm::Row => self.open_tag(hang, true),
+            TagForm::Hang => self.open_tag(hang, false),
+            TagForm::Inset(blanks) => self.set_in = Some(blanks),
+        }
     }
 
     // What follows a tag with a cell.
     fn after_tag<O: RowOut>(&mut self, tag: OpenTag, out: &mut O)
-        ensures { LaysOut O.left out.old (fill.after_tag self.old tag.hang tag.form) out.new self.new }
+        ensures { LaysOut O.left out.old (fill.after_tag self.old tag) out.new self.new }
     {
         let hang = tag.hang.min(HANG_MAX);
         let taken = self.sheet.tag_columns();
         let fits = taken < hang;
-        match tag.form {
-            TagForm::Inset(_) if self.sheet.cells().is_empty() => self.word = OpenWord::placed(0),
-            TagForm::Inset(blanks) => self.word = OpenWord::placed(blanks),
-            TagForm::Row | TagForm::Hang if fits => self.word = OpenWord::placed(hang - taken),
-            TagForm::Row => return self.end_row(out),
-            TagForm::Hang => self.word = OpenWord::placed(1),
+        if fits {
+            self.word = OpenWord::placed(hang - taken);
+        } else if tag.ends_row {
+            self.end_row(out);
+        } else {
+            self.word = OpenWord::placed(1);
+        }
+    }
+
+    // A tag that is set in ends, with this count of blanks after it, where a row is open.
+    fn end_inset(&mut self, blanks: u32)
+        ensures { self.new ≡ (fill.tag_end self.old (Some blanks)).edge }
+    {
+        self.set_in = None;
+        self.word = if self.sheet.cells().is_empty() {
+            OpenWord::placed(0)
+        } else {
+            OpenWord::placed(blanks)
+        };
+    }
+
+    // The tag ends that its cells are counted for.
+    fn end_counted<O: RowOut>(&mut self, out: &mut O)
+        ensures { LaysOut O.left out.old (fill.tag_ended (fill.without_tag self.old) self.old.tag) out.new self.new }
+    {
+        let tag = self.tag;
+        self.tag = None;
+        match tag {
+            None => self.end_row(out),
+            Some(tag) if self.sheet.has_tag_cell() => self.after_tag(tag, out),
+            Some(_) => self.word = NO_WORD,
         }
     }
 
@@ -462,19 +495,13 @@ impl Edge {
         }
     }
 
-    /// The tag ends.
+    /// The tag ends that was opened last.
     pub(crate) fn end_tag<O: RowOut>(&mut self, out: &mut O)
-        ensures { LaysOut O.left out.old (fill.tag_ended
-            (fill.without_tag self.old) self.old.tag) out.new self.new }
+        ensures { LaysOut O.left out.old (fill.tag_end self.old self.old.set_in) out.new self.new }
     {
-        let tag = self.tag;
-        self.tag = None;
-        match tag {
-            None => self.end_row(out),
-            Some(tag) if self.sheet.has_tag_cell() || is_set_in(tag.form) => self.after_tag(
-                tag, out,
-            ),
-            Some(_) => self.word = NO_WORD,
+        match self.set_in {
+            Some(blanks) => self.end_inset(blanks),
+            None => self.end_counted(out),
         }
     }
 

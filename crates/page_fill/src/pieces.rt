@@ -92,6 +92,7 @@ impl Edge {
             sheet,
             word: NO_WORD,
             tag: None,
+            set_in: None,
             output: settings.output,
         })
     }
@@ -105,6 +106,7 @@ impl Edge {
             sheet,
             word: self.word,
             tag: self.tag,
+            set_in: self.set_in,
             output,
         })
     }

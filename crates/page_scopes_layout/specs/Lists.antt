@@ -69,9 +69,22 @@ next_cell list = record list {
 abbrev pub list_begun : OpenList → ℤ → Context → Context
 list_begun list offset c = record (flat c) { margin = further_in c.margin c.hang offset; list = Some list }
 
--- the text of an item hangs from its head or its mark, which stands at the margin; the hang of a name (`Nm`) before it goes on
+-- the text of an item hangs from its head or its mark, which stands at the margin
+abbrev pub item_margin : OpenList → Context → ℕ
+item_margin list c = hold (pos c.margin +ℤ pos list.hang)
+
+-- a row that is still to come after a name (`Nm`) without a cell is the item's first, and its hang is of later rows
+abbrev pub item_first : Option ℕ → (has_row : Bool) → ℕ → Option ℕ
+item_first (Some first) false margin = Some margin
+item_first _ has_row margin = None
+
+-- the hang of a name before it goes on in an item
 abbrev pub item_begun : Option OpenList → Context → Context
-item_begun (Some list) c = record c { margin = hold (pos c.margin +ℤ pos list.hang); first = None; list = Some (next_item list c.margin) }
+item_begun (Some list) c = record c {
+  margin = item_margin list c;
+  first = item_first c.first c.has_row (item_margin list c);
+  list = Some (next_item list c.margin);
+}
 item_begun None c = c
 
 abbrev pub tag_at : ℕ → Context → Context

@@ -136,17 +136,30 @@ impl Context {
         }
     }
 
+    // The margin of the first row of an item, where a name (`Nm`) before it has left that row to come.
+    fn item_first(&self, margin: u32) -> Option<u32>
+        ensures { result ≡ lists.item_first self.now.first self.now.has_row margin }
+    {
+        match self.first {
+            Some(_) if !self.has_row => Some(margin),
+            _ => None,
+        }
+    }
+
     /// An item (`It`) of the open list begins: its text hangs from its head or its mark.
     pub fn item_begun(self) -> Context
         ensures { result ≡ lists.item_begun self.list self }
     {
         match self.list {
-            Some(list) => Context {
-                margin: hold(i64::from(self.margin) + i64::from(list.hang)),
-                first: None,
-                list: Some(list.next_item(self.margin)),
-                ..self
-            },
+            Some(list) => {
+                let margin = hold(i64::from(self.margin) + i64::from(list.hang));
+                Context {
+                    margin,
+                    first: self.item_first(margin),
+                    list: Some(list.next_item(self.margin)),
+                    ..self
+                }
+            }
             None => self,
         }
     }

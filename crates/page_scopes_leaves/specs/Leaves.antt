@@ -1,5 +1,5 @@
 -- What opens and closes nothing: what each leaf gives, and what it leaves. Source: man(7), mdoc(7); roff(7).
-use Rattle.std.specs.Prelude.{ℕ, nat_lt, Bool, true, false, ◌||◌, List, [], ◌∷◌, length, Option, None, Some, unwrap_or}
+use Rattle.std.specs.Prelude.{ℕ, nat_lt, Bool, true, false, ◌||◌, ◌&&◌, if◌then◌else◌, List, [], ◌∷◌, length, Option, None, Some, unwrap_or}
 use Rattle.page_core_base.specs.Pieces.{Item, shown}
 use Rattle.page_core_base.specs.declared.cells.Font.{Font}
 use Rattle.page_core_base.specs.declared.note_kinds.NoteKind.TheVariants.{BlankFill}
@@ -8,6 +8,7 @@ use Rattle.page_core_base.specs.declared.places.Place.{Place}
 use Rattle.page_scopes_layout.specs.Begins.{font_begun}
 use Rattle.page_scopes_words.specs.Settings.{set_to}
 use Rattle.page_scopes_layout.specs.declared.contexts.Context.{Context}
+use Rattle.page_scopes_phrases.specs.Cells.{in_columns, white_columns}
 use Rattle.page_scopes_phrases.specs.LineWords.{generated_word}
 use Rattle.page_scopes_phrases.specs.Outcomes.{Outcome, nothing, row_margin_items}
 use Rattle.page_scopes_leaves.specs.Requests.{given_rows, given_rows_notes, literal, request}
@@ -15,7 +16,7 @@ use Rattle.page_scopes_phrases.specs.Runnings.{row_ended, with_content}
 use Rattle.page_scopes_leaves.specs.Steps.{step_outcome}
 use Rattle.page_scopes_phrases.specs.declared.kept_texts.KeptText.{KeptText}
 use Rattle.page_scopes_phrases.specs.declared.runnings.Running.{Running}
-use Rattle.page_scopes_words.specs.Words.{says, white_cells}
+use Rattle.page_scopes_words.specs.Words.{has_tab, says, white_cells}
 use Rattle.page_sets_lines.specs.declared.leaves.Leaf.{Leaf}
 use Rattle.page_sets_lines.specs.declared.leaves.Leaf.TheVariants as leaves
 
@@ -33,16 +34,19 @@ blank_line place c r = record {
   running = row_ended (with_content r);
 }
 
--- blanks and tabs are a row, where rows are kept
+-- blanks and tabs are a row, where rows are kept; in columns each tab begins the next one
 abbrev pub with_row_words : Running → Running
 with_row_words r = record r { line = record r.line { has_row_words = true } }
 
-abbrev pub kept_line : Place → List ℕ → Context → Running → Outcome
-kept_line place text c r = record {
+abbrev pub white_row : Place → List ℕ → Context → Running → Outcome
+white_row place text c r = record {
   items = white_cells place text;
   context = record c { has_row = c.has_row || nat_lt 0 (length text) };
   running = with_row_words r;
 }
+
+abbrev pub kept_line : Place → List ℕ → Context → Running → Outcome
+kept_line place text c r = if in_columns c && has_tab text then white_columns text c r else white_row place text c r
 
 -- else they end the row; a line of nothing does nothing
 abbrev pub filled_line : List ℕ → Context → Running → Outcome

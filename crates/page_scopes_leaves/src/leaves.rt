@@ -12,8 +12,8 @@ use crate::requests::{give_given_rows, give_literal, give_request};
 use crate::steps::give_step;
 use page_core_base::{Font, NoteKind, Piece, PieceOut, Place};
 use page_scopes_layout::Context;
-use page_scopes_phrases::{KeptText, Running, give_generated_word};
-use page_scopes_words::{Setting, give_white_cells, report};
+use page_scopes_phrases::{KeptText, Running, give_generated_word, give_white_columns, in_columns};
+use page_scopes_words::{Setting, give_white_cells, has_tab, report};
 use page_sets_lines::Leaf;
 
 // Gives a blank line.
@@ -31,6 +31,26 @@ fn give_blank_line<O: PieceOut>(out: &mut O, place: Place, context: &Context, ru
     running.end_row();
 }
 
+// Gives a line of blanks and tabs where rows are kept.
+fn give_kept_line<O: PieceOut>(
+    out: &mut O,
+    place: Place,
+    text: &[u8],
+    context: &mut Context,
+    running: &mut Running,
+)
+    ensures { GivesOutcome O.left out.old (leaves.kept_line place text.now context.old running.old)
+        out.new context.new running.new }
+{
+    if in_columns(context) && has_tab(text) {
+        give_white_columns(out, text, context, running);
+    } else {
+        give_white_cells(out, place, text);
+        context.has_row = context.has_row || !text.is_empty();
+        running.line.has_row_words = true;
+    }
+}
+
 // Gives a line of blanks and tabs, or of nothing.
 fn give_wordless_line<O: PieceOut>(
     out: &mut O,
@@ -45,9 +65,7 @@ fn give_wordless_line<O: PieceOut>(
         out.new context.new running.new }
 {
     if context.is_literal.value {
-        give_white_cells(out, place, text);
-        context.has_row = context.has_row || !text.is_empty();
-        running.line.has_row_words = true;
+        give_kept_line(out, place, text, context, running);
     } else if !text.is_empty() {
         out.give(Piece::Break);
         running.end_row();

@@ -108,9 +108,12 @@ cell line p c r = if length p.text == 0 then nothing c r else phrase_outcome lin
 abbrev pub after_cell : Context → Running → Running
 after_cell c r = record r { line = record r.line { has_row_words = r.line.has_row_words || is_text c.part } }
 
+abbrev pub tab_step : Context → Running → Outcome
+tab_step c r = next_column c.list c (after_cell c r)
+
 -- the first cell, and the next column
 abbrev pub first_part : CellSpan → ℕ → Phrase (List ℕ) → Context → Running → Outcome
-first_part span line p c r = followed_by (cell line (first_cell span p) c r) (λ d s. next_column d.list d (after_cell d s))
+first_part span line p c r = followed_by (cell line (first_cell span p) c r) tab_step
 
 abbrev pub span : Phrase (List ℕ) → CellSpan
 span p = span_of p.is_quoted p.text
@@ -134,3 +137,13 @@ is_parted p c = in_columns c && not (length p.text == 0)
 
 abbrev pub text_outcome : ℕ → Phrase (List ℕ) → Context → Running → Outcome
 text_outcome line p c r = if is_parted p c then cells line p c r else phrase_outcome line p c r
+
+-- ---- white space without a word
+
+-- each of its tabs begins the next column, and its blanks are nothing
+abbrev pub white_byte : ℕ → Context → Running → Outcome
+white_byte byte c r = if byte == 9 then tab_step c r else nothing c r
+
+abbrev pub white_columns : List ℕ → Context → Running → Outcome
+white_columns [] c r = nothing c r
+white_columns (byte ∷ bytes) c r = followed_by (white_byte byte c r) (white_columns bytes)

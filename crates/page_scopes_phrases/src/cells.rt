@@ -1,9 +1,9 @@
 //! Texts in the columns of a list (mdoc(7), `Bl -column`, `Ta`).
 
-ghost use Rattle.std.specs.Prelude.{◌≡◌, ◌≤◌, ◌<◌, ◌==◌, if◌then◌else◌, length, position, IfSome};
+ghost use Rattle.std.specs.Prelude.{◌≡◌, ◌≤◌, ◌<◌, ◌==◌, if◌then◌else◌, Bool, Some, length, position, IfSome};
 ghost use Rattle.std.specs.List.{prefix_len};
 ghost use Rattle.page_core_base.specs.Latches.{Came};
-ghost use Rattle.page_core_escapes.specs.Tokens.{is_space, token_bytes, token_view};
+ghost use Rattle.page_core_escapes.specs.Tokens.{is_space, token_at, token_bytes, token_view};
 ghost use Rattle.page_scopes_phrases.specs.Cells as cells;
 ghost use Rattle.page_sets_lines.specs.Fits.{FitsAt};
 ghost use Rattle.page_scopes_phrases.specs.Outcomes.{GivesOutcome};
@@ -27,7 +27,7 @@ pub(crate) struct CellSpan {
 
 /// Whether the innermost list has columns.
 #[inline(always)]
-pub(crate) fn in_columns(context: &Context) -> bool
+pub fn in_columns(context: &Context) -> bool
     ensures { result ≡ cells.in_columns context.now }
 {
     match &context.list {
@@ -104,6 +104,18 @@ fn end_after(token: &Token<'_>, before: usize, after: usize) -> usize
     }
 }
 
+// The blanks before a tab, where a text begins with one behind blanks alone. Nothing of what follows is read: a run of tabs is parted tab by tab.
+fn blanks_before_tab(text: &[u8]) -> Option<usize>
+    ensures value { IfSome result (λ blanks. (quoted : Bool) → cells.tab_in (token_at quoted text.now) ≡ Some blanks) }
+    ensures within { IfSome result (λ blanks. blanks < length text.now) }
+{
+    let blanks = count_blanks(text);
+    match &text[blanks..] {
+        [b'\t', ..] => Some(blanks),
+        _ => None,
+    }
+}
+
 // The first cell of a text, which is quoted or not.
 fn find_cell(quoted: bool, text: &[u8]) -> CellSpan
     requires { length text.now ≤ LINE }
@@ -113,8 +125,14 @@ fn find_cell(quoted: bool, text: &[u8]) -> CellSpan
     let mut rest = text;
     let mut end = 0;
     while !rest.is_empty() {
-        let token = read_token(quoted, rest);
         let start = text.len() - rest.len();
+        if let Some(blanks) = blanks_before_tab(rest) {
+            return CellSpan {
+                end,
+                tab: start + blanks,
+            };
+        }
+        let token = read_token(quoted, rest);
         match tab_in(&token) {
             Some(before) => {
                 return CellSpan {
@@ -207,6 +225,15 @@ fn give_cell<O: PieceOut>(
     }
 }
 
+// A tab begins the next column.
+fn give_tab<O: PieceOut>(out: &mut O, context: &mut Context, running: &mut Running)
+    ensures { GivesOutcome O.left out.old (cells.tab_step context.old running.old)
+        out.new context.new running.new }
+{
+    running.line.has_row_words = running.line.has_row_words || is_text(context.part);
+    give_next_column(out, context, running);
+}
+
 // Gives the words of the first cell on a line, and begins the next column.
 fn give_first_cell<O: PieceOut>(
     out: &mut O,
@@ -222,8 +249,7 @@ fn give_first_cell<O: PieceOut>(
         out.new context.new running.new }
 {
     give_cell(out, line, &first_cell(span, phrase), context, running);
-    running.line.has_row_words = running.line.has_row_words || is_text(context.part);
-    give_next_column(out, context, running);
+    give_tab(out, context, running);
 }
 
 /// Gives the words of a phrase on a line cell by cell, each in its column.
@@ -247,4 +273,34 @@ pub(crate) fn give_cells<O: PieceOut>(
         span = find_cell(left.is_quoted, left.text);
     }
     give_cell(out, line, &left, context, running);
+}
+
+// Gives a byte of white space in columns: a tab begins the next one.
+fn give_white_byte<O: PieceOut>(
+    out: &mut O,
+    byte: u8,
+    context: &mut Context,
+    running: &mut Running,
+)
+    ensures { GivesOutcome O.left out.old (cells.white_byte byte context.old running.old)
+        out.new context.new running.new }
+{
+    if byte == b'\t' {
+        give_tab(out, context, running);
+    }
+}
+
+/// Gives white space in columns: each tab begins the next one.
+pub fn give_white_columns<O: PieceOut>(
+    out: &mut O,
+    white: &[u8],
+    context: &mut Context,
+    running: &mut Running,
+)
+    ensures { GivesOutcome O.left out.old (cells.white_columns white.now context.old running.old)
+        out.new context.new running.new }
+{
+    for byte in white {
+        give_white_byte(out, *byte, context, running);
+    }
 }

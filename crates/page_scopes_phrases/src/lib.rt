@@ -5,7 +5,7 @@
 //! with what stands round them. Read `src/runnings.rt` first, then `specs/Outcomes.antt`, `Phrases.antt` (one text) and `LineWords.antt` (a word of a
 //! line).
 //!
-//! Proved: `give_line_word`, `give_generated_word`, `give_phrase`, `give_column_step`: a word of a line and a word of a macro's own, in rows and in
+//! Proved: `give_line_word`, `give_generated_word`, `give_phrase`, `give_column_step`, `give_white_columns`: a word of a line and a word of a macro's own, in rows and in
 //! columns: its pieces and messages, the context after it, and what is then known along the page (`specs/LineWords.antt`, `Phrases.antt`,
 //! `Cells.antt`). `give_manual_name`, `keep_name`, `KeptText::of`, `give_kept`: what is kept of a name, and what it gives (`specs/ManualNames.antt`,
 //! `KeptTexts.antt`). `give_tag`, `give_phrase_tag`, `give_function_end`: a tag and the text that hangs after it, and what closes the arguments of a
@@ -22,7 +22,7 @@ mod phrases;
 mod runnings;
 mod tags;
 
-pub use cells::give_column_step;
+pub use cells::{give_column_step, give_white_columns, in_columns};
 pub use function_ends::give_function_end;
 pub use kept_texts::{FieldText, KeptText};
 pub use kept_words::{give_kept, give_kept_gap, report_cut};

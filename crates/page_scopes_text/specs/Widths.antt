@@ -1,11 +1,15 @@
 -- The columns that a width or an offset asks for, and its messages. Source: mdoc(7), `Bl` and `Bd`.
-use Rattle.std.specs.Prelude.{ℕ, ◌==◌, nat_lt, Bool, true, false, ◌&&◌, List, [], ◌∷◌, length, Option, None, Some, option_map, find, codes, ℤ, pos}
+use Rattle.std.specs.Prelude.{ℕ, ◌==◌, Bool, true, false, not, ◌&&◌, List, [], ◌∷◌, length, Option, None, Some, option_map, find, codes, ℤ, pos}
+use Rattle.std.specs.List.{list_any}
 use Rattle.std.specs.Str.{bytes_eq}
 use Rattle.page_core_base.specs.Pieces.{Item}
+use Rattle.page_core_base.specs.declared.note_kinds.NoteKind.{NoteKind}
+use Rattle.page_core_base.specs.declared.note_kinds.NoteKind.TheVariants.{NotNumeric}
 use Rattle.page_core_base.specs.declared.page_settings.Output.{Output}
 use Rattle.page_core_base.specs.declared.places.Place.{Place}
-use Rattle.page_core_numbers.specs.Expressions.{expression_of}
+use Rattle.page_core_numbers.specs.Expressions.{expression_of, kind_of}
 use Rattle.page_core_numbers.specs.declared.scales.Scale.TheVariants.{Basic}
+use Rattle.page_core_numbers.specs.declared.troubles.Trouble.{Trouble}
 use Rattle.page_roff_syntax.specs.Arguments.{is_quoted}
 use Rattle.page_roff_syntax.specs.declared.quotes.Argument.{Argument}
 use Rattle.page_scopes_text.specs.Numbers.{columns_in, number_notes, number_value}
@@ -25,9 +29,17 @@ names =
 unfoldable pub named_width : List ℕ → Option ℤ
 named_width text = option_map (λ row. row.1) (find (λ row. bytes_eq text row.0) names)
 
--- an expression, up to the text's end; a number without a unit is in basic units
+-- what is reported of an expression where an operand is missing
+abbrev pub is_missing : NoteKind → Bool
+is_missing NotNumeric = true
+is_missing _ = false
+
+abbrev pub lacks_operand : List Trouble → Bool
+lacks_operand troubles = list_any (λ trouble. is_missing (kind_of trouble)) troubles
+
+-- an expression, up to the text's end, that lacks no operand; a number without a unit is in basic units
 unfoldable pub is_expression : List ℕ → Bool
-is_expression text = nat_lt 0 (length text) && (length (expression_of Basic text).rest == 0)
+is_expression text = length (expression_of Basic text).rest == 0 && not (lacks_operand (expression_of Basic text).troubles)
 
 -- any other text is as wide as what it prints
 abbrev pub measured : Bool → Output → Argument (List ℕ) → ℤ

@@ -1,14 +1,15 @@
 //! The columns that a width or an offset asks for (mdoc(7), `Bl` and `Bd`).
 
 ghost use Rattle.std.specs.Prelude.{◌≡◌, ◌≤◌, length};
+ghost use Rattle.std.specs.List.{list_any};
 ghost use Rattle.page_core_base.specs.Latches.{Came};
 ghost use Rattle.page_roff_syntax.specs.Arguments.{argument_view};
 ghost use Rattle.page_scopes_text.specs.Widths as widths;
 
 use crate::give_number;
 use crate::names::name_columns;
-use page_core_base::{LINE, Output, PieceOut, Place};
-use page_core_numbers::{Scale, evaluate};
+use page_core_base::{LINE, NoteKind, Output, PieceOut, Place};
+use page_core_numbers::{EvaluationNotes, Scale, evaluate};
 use page_roff_syntax::Argument;
 
 // The basic units of a column.
@@ -33,12 +34,25 @@ fn named_width(text: &[u8]) -> Option<i32>
     }
 }
 
-// Whether a text is an expression, up to its end.
+// Whether an operand is missing in an expression, by its messages.
+fn lacks_operand(mut notes: EvaluationNotes) -> bool
+    ensures { result ≡ list_any (λ message. widths.is_missing message.kind) notes }
+{
+    while let Some(note) = notes.next_note() {
+        if matches!(note.kind, NoteKind::NotNumeric) {
+            return true;
+        }
+    }
+    false
+}
+
+// Whether a text is an expression, up to its end. Its messages would stand at a place.
 #[tactic(auto, unfolding(crate::specs::Widths::is_expression))]
-fn is_expression(text: &[u8]) -> bool
+fn is_expression(place: Place, text: &[u8]) -> bool
     ensures { result ≡ widths.is_expression text.now }
 {
-    !text.is_empty() && evaluate(text, Scale::Basic).len == text.len()
+    let found = evaluate(text, Scale::Basic);
+    found.len == text.len() && !lacks_operand(found.notes(place))
 }
 
 // Gives the columns of a width that has no name.
@@ -52,7 +66,7 @@ fn give_measured<O: PieceOut>(
     ensures columns { result ≡ widths.measured (widths.is_expression width.entry.text.now) output (argument_view width.entry) }
     ensures came { Came O.left out.old (widths.measured_notes (widths.is_expression width.entry.text.now) place width.entry.text.now) out.new }
 {
-    if is_expression(width.text) {
+    if is_expression(place, width.text) {
         give_number(out, Scale::Basic, place, width.text) / COLUMN
     } else {
         name_columns(output, width.is_quoted(), width.text) as i32

@@ -7,14 +7,12 @@ use Rattle.page_core_base.specs.declared.cells.Font.{Font}
 use Rattle.page_core_base.specs.declared.pieces.Piece.{Piece}
 use Rattle.page_core_base.specs.declared.pieces.Piece.TheVariants.{Text, Glyph, Char, Tab, Blank, Glue, Split, Break, RowEnd, Para, Space, Indent, Literal, Tag, TagEnd, Heading, Column}
 use Rattle.page_core_base.specs.declared.places.Place.{Place}
-use Rattle.page_core_base.specs.declared.pieces.TagForm.{TagForm}
-use Rattle.page_core_base.specs.declared.pieces.TagForm.TheVariants as forms
 use Rattle.page_core_base.specs.Laid.{Laid, nothing, seq}
 use Rattle.page_fill_rows.specs.machine.Sheets.{Sheet, over, columns, letter, fixed_blanks, new_word, opens, broken, empty_rows}
 use Rattle.page_fill_rows.specs.Characters.{with_notes, cell_of, characters_of, characters, character, glyph}
 use Rattle.page_fill.specs.declared.edges.OpenTag.{OpenTag}
 use Rattle.page_fill.specs.Filling.{HANG_MAX, TAB_STOP}
-pub use Rattle.page_fill.specs.Edges.{Edge, OpenWord, no_word, begun_word, blanks_wait, opened_word, glued_word, placed_word, is_set_in, tab_note, tab_notes, start, blank_rows_at_end, open_cells}
+pub use Rattle.page_fill.specs.Edges.{Edge, OpenWord, no_word, begun_word, blanks_wait, opened_word, glued_word, placed_word, with_tag, tab_note, tab_notes, start, blank_rows_at_end, open_cells}
 
 -- where rows are filled, the row's last word is parted after its cells: what follows is one that goes on without a blank
 abbrev pub parted : Edge → Edge
@@ -111,20 +109,23 @@ fits_hang s hang = nat_le (s.tag_columns + 1) (held_hang hang)
 abbrev pub placed : Edge → ℕ → Laid Edge
 placed e count = nothing (record e { word = placed_word count })
 
-abbrev pub after_tag : Edge → ℕ → TagForm → Laid Edge
-after_tag e hang forms.Row = if fits_hang e.sheet hang then placed e (held_hang hang - e.sheet.tag_columns) else ended e
-after_tag e hang forms.Hang = if fits_hang e.sheet hang then placed e (held_hang hang - e.sheet.tag_columns) else placed e 1
-after_tag e hang (forms.Inset n) = placed e (if length e.sheet.cells == 0 then 0 else n)
+abbrev pub after_tag : Edge → OpenTag → Laid Edge
+after_tag e t =
+    if fits_hang e.sheet t.hang then placed e (held_hang t.hang - e.sheet.tag_columns)
+    else if t.ends_row then ended e
+    else placed e 1
 
 abbrev pub tag_ended : Edge → Option OpenTag → Laid Edge
 tag_ended e None = ended e
-tag_ended e (Some t) = if e.sheet.tag_begun || is_set_in t.form then after_tag e t.hang t.form else nothing (record e { word = no_word })
+tag_ended e (Some t) = if e.sheet.tag_begun then after_tag e t else nothing (record e { word = no_word })
 
 abbrev pub without_tag : Edge → Edge
 without_tag e = record e { tag = None }
 
-abbrev pub with_tag : Edge → ℕ → TagForm → Edge
-with_tag e hang form = record e { sheet = record e.sheet { tag_columns = 0; tag_begun = false }; tag = Some (record { hang = hang; form = form }) }
+-- a tag that is set in ends first
+abbrev pub tag_end : Edge → Option ℕ → Laid Edge
+tag_end e None = tag_ended (without_tag e) e.tag
+tag_end e (Some blanks) = placed (record e { set_in = None }) (if length e.sheet.cells == 0 then 0 else blanks)
 
 -- the blanks up to a column
 abbrev pub to_column : List Cell → ℕ → ℕ
@@ -147,7 +148,7 @@ laid_piece e (Space n) = spaced e n
 laid_piece e (Indent first rest) = nothing (on_sheet e (record e.sheet { first = first; rest = rest }))
 laid_piece e (Literal literal) = nothing (on_sheet e (record e.sheet { literal = literal }))
 laid_piece e (Tag hang form) = nothing (with_tag e hang form)
-laid_piece e TagEnd = tag_ended (without_tag e) e.tag
+laid_piece e TagEnd = tag_end e e.set_in
 laid_piece e Heading = heading e
 laid_piece e (Column n) = placed e (to_column e.sheet.cells n)
 
