@@ -90,14 +90,7 @@ fn give_parts<O: PieceOut>(
     let mut gap = front;
     while !rest.is_empty() {
         let token = read_token(false, rest);
-        give_part(
-            out,
-            is_literal,
-            gap,
-            place,
-            fonts.value.font,
-            &token,
-        );
+        give_part(out, is_literal, gap, place, fonts.value.font, &token);
         fonts = fonts_after(&token, fonts);
         gap = 1;
         rest = &rest[token.len()..];
@@ -152,14 +145,7 @@ pub fn give_kept<O: PieceOut>(
         (kept.kept_items is_literal front place start text.now) out.new }
     ensures fonts { result ≡ kept.fonts_through start (kept.kept_tokens text.now) }
 {
-    give_parts(
-        out,
-        is_literal,
-        front,
-        place,
-        start,
-        text.text.text(),
-    )
+    give_parts(out, is_literal, front, place, start, text.text.text())
 }
 
 impl Running {
