@@ -227,11 +227,11 @@ content_len_within-ends zero d t = λ k e. cc
 content_len_within-ends (suc n) d [] = λ k e. cc
 content_len_within-ends (suc n) d (b ∷ bs) =
     let t = b ∷ bs in
-    cond_both (starts_with nat_eq t d) (Some 0) _ (EndsAtDelimiter d t)
-    (λ is k e. let same : 0 ≡ k = cc in ap (λ k. starts_with nat_eq (drop k t) d) (sym same) ∙ is)
-    (λ _.
-    cond_both (eqb b 0x5C) (option_and_then (λ n'. option_map (λ k. n' + k) (content_len_within false n d (drop n' t))) (escape_len_by false (content_len_within false n) t)) (option_map (λ k. 1 + k) (content_len_within false n d bs)) (EndsAtDelimiter d t)
+    cond_both (eqb b 0x5C) (option_and_then (λ n'. option_map (λ k. n' + k) (content_len_within false n d (drop n' t))) (escape_len_by false (content_len_within false n) t)) _ (EndsAtDelimiter d t)
     (λ _. ends_after d t (λ m. content_len_within false n d (drop m t)) (escape_len_by false (content_len_within false n) t) (λ m. content_len_within-ends n d (drop m t)))
+    (λ _.
+    cond_both (starts_with nat_eq t d) (Some 0) (option_map (λ k. 1 + k) (content_len_within false n d bs)) (EndsAtDelimiter d t)
+    (λ is k e. let same : 0 ≡ k = cc in ap (λ k. starts_with nat_eq (drop k t) d) (sym same) ∙ is)
     (λ _. ends_later d t 1 (content_len_within false n d bs) (content_len_within-ends n d bs)))
 
 content_len-ends : (d t : List ℕ) → EndsAtDelimiter d t (content_len false d t)

@@ -119,7 +119,7 @@ module _ (pairs : Bool) where
   abbrev pub next_content : (f : List ℕ → List ℕ → Option ℕ) → List ℕ → List ℕ → Option ℕ
   next_content f d [] = None
   next_content f d (b ∷ bs) =
-      cond (starts_with nat_eq (b ∷ bs) d) (Some 0) (cond (eqb b 0x5C) (option_and_then (λ n. option_map (λ k. n + k) (f d (drop n (b ∷ bs)))) (escape_len_by pairs f (b ∷ bs))) (option_map (λ k. 1 + k) (f d bs)))
+      cond (eqb b 0x5C) (option_and_then (λ n. option_map (λ k. n + k) (f d (drop n (b ∷ bs)))) (escape_len_by pairs f (b ∷ bs))) (cond (starts_with nat_eq (b ∷ bs) d) (Some 0) (option_map (λ k. 1 + k) (f d bs)))
 
   next_content-same : (f g : List ℕ → List ℕ → Option ℕ) (d t : List ℕ) → ((e u : List ℕ) → length u < length t → f e u ≡ g e u) → next_content f d t ≡ next_content g d t
   next_content-same f g d [] same = refl
@@ -130,7 +130,7 @@ module _ (pairs : Bool) where
       ap (option_map (λ k. n + k)) (same d (drop n (b ∷ bs)) (omega (arith, length-drop n (b ∷ bs))))) in
       let past_escape = after ∙ ap (option_and_then (λ n. option_map (λ k. n + k) (g d (drop n (b ∷ bs))))) escapes in
       let past_byte = ap (option_map (λ k. 1 + k)) (same d bs (omega arith)) in
-      ap (cond (starts_with nat_eq (b ∷ bs) d) (Some 0)) (ap₂ (cond (eqb b 0x5C)) past_escape past_byte)
+      ap₂ (cond (eqb b 0x5C)) past_escape (ap (cond (starts_with nat_eq (b ∷ bs) d) (Some 0)) past_byte)
 
   -- ---- enough steps are as good as more
 

@@ -144,8 +144,8 @@ module _ (pairs : Bool) where
       go [] = refl
       go (b ∷ bs) =
           let t = b ∷ bs in
-          cond_sides (starts_with nat_eq t d) (option_and_then (left_of d ds t)) (option_and_then (after_step d ds t)) _ _ _ _ (step-closes d ds t)
-          (cond_sides (eqb b 0x5C) (option_and_then (left_of d ds t)) (option_and_then (after_step d ds t)) _ _ _ _ (step-escape d ds t) (rest_len-passes d ds t 1))
+          cond_sides (eqb b 0x5C) (option_and_then (left_of d ds t)) (option_and_then (after_step d ds t)) _ _ _ _ (step-escape d ds t)
+          (cond_sides (starts_with nat_eq t d) (option_and_then (left_of d ds t)) (option_and_then (after_step d ds t)) _ _ _ _ (step-closes d ds t) (rest_len-passes d ds t 1))
 
   -- ---- the whole argument, seen from a place in it
 

@@ -8,8 +8,8 @@ use Rattle.page_core_escapes.specs.Extents.{written_len, extent_of}
 
 -- in a text in which a pair of quotes is one character, or is not
 module _ (pairs : Bool) where
-  -- A quoted argument with its delimiters: it begins with any character and ends at its next occurrence. `content_len` says how
-  -- many bytes of a text stand before a delimiter.
+  -- A quoted argument with its delimiters: it begins with any character and ends at its next occurrence outside escapes. `content_len`
+  -- says how many bytes of a text stand before a delimiter.
   unfoldable pub quoted_len : (content_len : List ℕ → List ℕ → Option ℕ) → List ℕ → Option ℕ
   quoted_len content_len text =
       option_and_then (λ mark. option_map (λ k. mark + (k + mark)) (content_len (take mark text) (drop mark text))) (written_len pairs text)
@@ -21,13 +21,14 @@ module _ (pairs : Bool) where
   unfoldable pub escape_len_by : (content_len : List ℕ → List ℕ → Option ℕ) → List ℕ → Option ℕ
   escape_len_by content_len text = option_and_then (extent_len content_len text) (extent_of pairs text)
 
-  -- The bytes before the delimiter's next occurrence outside escapes. `steps` is above the number of bytes.
+  -- The bytes before the delimiter's next occurrence outside escapes. A backslash begins an escape wherever it comes, so that an argument
+  -- with a backslash as its delimiter never ends. `steps` is above the number of bytes.
   unfoldable pub content_len_within : (steps : ℕ) → (delimiter : List ℕ) → List ℕ → Option ℕ
   content_len_within zero delimiter text = None
   content_len_within (suc steps) delimiter [] = None
   content_len_within (suc steps) delimiter (b ∷ bs) =
-      if starts_with nat_eq (b ∷ bs) delimiter then Some 0
-      else (if b == backslash then option_and_then (λ n. option_map (λ k. n + k) (content_len_within steps delimiter (drop n (b ∷ bs)))) (escape_len_by (content_len_within steps) (b ∷ bs))
+      if b == backslash then option_and_then (λ n. option_map (λ k. n + k) (content_len_within steps delimiter (drop n (b ∷ bs)))) (escape_len_by (content_len_within steps) (b ∷ bs))
+      else (if starts_with nat_eq (b ∷ bs) delimiter then Some 0
       else option_map (λ k. 1 + k) (content_len_within steps delimiter bs))
 
   unfoldable pub content_len : (delimiter : List ℕ) → List ℕ → Option ℕ

@@ -1,8 +1,8 @@
 //! How many bytes a quoted argument takes.
-ghost use Rattle.std.specs.Prelude.{◌≡◌, ◌+◌, ◌<◌, ◌≤◌, length, IfSome};
-ghost use Rattle.page_core_escapes.specs.Extents.{written_len};
+ghost use Rattle.std.specs.Prelude.{◌≡◌, ◌+◌, ◌<◌, ◌≤◌, length, IfSome, option_and_then};
+ghost use Rattle.page_core_escapes.specs.Extents.{written_len, extent_of};
 ghost use Rattle.page_core_escapes.specs.Lengths.{quoted_len, content_len};
-ghost use Rattle.page_core_escapes.specs.machine.Steps.{first_character, opening_of, step_of, StepFits};
+ghost use Rattle.page_core_escapes.specs.machine.Steps.{first_character, opening_of, step_of, step_over, StepFits};
 
 use crate::extents::{Extent, read_extent, written_len};
 use arrayvec::ArrayVec;
@@ -29,18 +29,27 @@ fn first_character(pairs: bool, text: &[u8]) -> &[u8]
     &text[..written_len(pairs, text).unwrap_or(0)]
 }
 
-// What is read next in an argument with this delimiter, none where an escape there has no end.
+// What is read next in an argument with this delimiter, none where an escape there has no end. A backslash begins an escape, also where it
+// is the delimiter.
 fn next_step(pairs: bool, delimiter: &[u8], text: &[u8]) -> Option<Step>
     ensures value { result ≡ step_of pairs delimiter.now text.now }
     ensures bound { IfSome result (StepFits (length text.now)) }
 {
-    let first = *text.first()?;
+    if *text.first()? == b'\\' {
+        return escape_step(pairs, text);
+    }
     if text.starts_with(delimiter) {
         return Some(Step::Closes(delimiter.len()));
     }
-    if first != b'\\' {
-        return Some(Step::Passes(1));
-    }
+    Some(Step::Passes(1))
+}
+
+// The step over an escape, or into its argument.
+fn escape_step(pairs: bool, text: &[u8]) -> Option<Step>
+    requires { 0 < length text.now }
+    ensures value { result ≡ option_and_then (step_over pairs text.now) (extent_of pairs text.now) }
+    ensures bound { IfSome result (StepFits (length text.now)) }
+{
     match read_extent(pairs, text)? {
         Extent::Whole(len) => Some(Step::Passes(len)),
         Extent::QuotedFrom(from) => opening(pairs, text, from),

@@ -5,31 +5,27 @@ use Rattle.page_core_base.specs.Messages.{text_front}
 use Rattle.page_core_base.specs.Pieces.{Item}
 use Rattle.page_core_base.specs.declared.note_kinds.NoteKind.TheVariants.{Limit}
 use Rattle.page_core_base.specs.declared.places.Place.{Place}
-use Rattle.page_core_escapes.specs.Tokens.{unpaired}
 use Rattle.page_core_base.specs.Limits.{FIELD}
 use Rattle.page_roff_syntax.specs.declared.quotes.Argument.{Argument}
-use Rattle.page_roff_syntax.specs.Arguments.{is_quoted}
+use Rattle.page_roff_syntax.specs.Arguments.{argument_value}
 use Rattle.page_scopes_words.specs.Words.{says}
 use Rattle.page_sets_names.specs.declared.macro_names.Prologue.{Prologue}
 use Rattle.page_sets_names.specs.declared.macro_names.Prologue.TheVariants.{TH, Dd, Dt, Os}
 use Rattle.page_engine_header.specs.declared.fields.Fields.{Fields}
 
--- a pair of quotes (34) in a quoted argument is one quote
-abbrev pub quote_len : List ℕ → ℕ
-quote_len [] = 1
-quote_len (byte ∷ []) = 1
-quote_len (byte ∷ next ∷ bytes) = if byte == 34 && next == 34 then 2 else 1
-
 -- ---- one field
 
--- the front of an argument that there is room for as it is written, up to a character's end
-abbrev pub written : ℕ → Argument (List ℕ) → List ℕ
-written room argument =
-    if is_quoted argument.quoting then unpaired (text_front room argument.text) else text_front room argument.text
+-- The front of what an argument says that there is room for, up to a character's end. Its escapes count as they are written, and a pair of
+-- quotes in a quoted argument is one byte.
+abbrev pub said : ℕ → Argument (List ℕ) → List ℕ
+said room argument = text_front room (argument_value argument)
 
--- an argument as a field: at most FIELD bytes as it is written
+abbrev pub said_len : Argument (List ℕ) → ℕ
+said_len argument = length (argument_value argument)
+
+-- an argument as a field: at most FIELD bytes
 abbrev pub field : Argument (List ℕ) → List ℕ
-field argument = written FIELD argument
+field argument = said FIELD argument
 
 abbrev pub first_field : List (Argument (List ℕ)) → List ℕ
 first_field [] = []
@@ -44,21 +40,21 @@ or_else text other = if length text == 0 then other else text
 
 -- ---- words that are one field
 
--- arguments with a blank (32) before each, as far as there is room for them as they are written
+-- arguments with a blank (32) before each, as far as there is room for them
 abbrev pub words_text : ℕ → List (Argument (List ℕ)) → List ℕ
 words_text room [] = []
 words_text room (argument ∷ others) =
-    take room (32 ∷ []) ++ (written (room - 1) argument ++ words_text (room - 1 - length argument.text) others)
+    take room (32 ∷ []) ++ (said (room - 1) argument ++ words_text (room - 1 - said_len argument) others)
 
--- arguments joined by one blank: at most FIELD bytes as they are written
+-- arguments joined by one blank: at most FIELD bytes
 abbrev pub joined : List (Argument (List ℕ)) → List ℕ
 joined [] = []
-joined (argument ∷ others) = written FIELD argument ++ words_text (FIELD - length argument.text) others
+joined (argument ∷ others) = said FIELD argument ++ words_text (FIELD - said_len argument) others
 
--- their bytes as they are written
+-- their bytes
 abbrev pub joined_len : List (Argument (List ℕ)) → ℕ
 joined_len [] = 0
-joined_len (argument ∷ others) = length argument.text + sum_by (λ a. 1 + length a.text) others
+joined_len (argument ∷ others) = said_len argument + sum_by (λ a. 1 + said_len a) others
 
 -- the bytes of a date's keyword at a text's front, and where a text ends without the keyword's end
 abbrev pub keyword_len : List ℕ → ℕ
@@ -71,10 +67,10 @@ keyword_end text = if ends_with nat_eq text (codes " $") then length text - 2 el
 abbrev pub without_keyword : List ℕ → List ℕ
 without_keyword text = take (keyword_end text - keyword_len text) (drop (keyword_len text) text)
 
--- an argument in brackets after a blank, as far as there is room for it as it is written; there is room for the first bracket
+-- an argument in brackets after a blank, as far as there is room for it; there is room for the first bracket
 abbrev pub in_brackets : ℕ → Argument (List ℕ) → List ℕ
 in_brackets room argument =
-    codes " (" ++ (written (room - 2) argument ++ take (room - 2 - length argument.text) (codes ")"))
+    codes " (" ++ (said (room - 2) argument ++ take (room - 2 - said_len argument) (codes ")"))
 
 -- ---- the volume
 
@@ -136,12 +132,12 @@ no_fields os = record { title = []; section = []; date = []; source = os; volume
 
 -- ---- fields that are cut
 
--- a field that is longer as it is written is reported at its macro
+-- a field that is longer is reported at its macro
 abbrev pub cut_item : Place → ℕ → List Item
 cut_item place len = if nat_lt FIELD len then says Limit place (codes "FIELD") ∷ [] else []
 
 abbrev pub argument_cut : Place → Argument (List ℕ) → List Item
-argument_cut place argument = cut_item place (length argument.text)
+argument_cut place argument = cut_item place (said_len argument)
 
 -- the fields of TH
 abbrev pub FIELDS : ℕ
@@ -150,7 +146,7 @@ FIELDS = 5
 -- the volume with the architecture in brackets
 abbrev pub arch_cut : Place → (volume : List ℕ) → List (Argument (List ℕ)) → List Item
 arch_cut place volume [] = []
-arch_cut place volume (arch ∷ others) = cut_item place (length volume + 3 + length arch.text)
+arch_cut place volume (arch ∷ others) = cut_item place (length volume + 3 + said_len arch)
 
 abbrev pub dt_cuts : Place → List (Argument (List ℕ)) → List Item
 dt_cuts place arguments =

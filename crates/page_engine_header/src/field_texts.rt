@@ -1,14 +1,13 @@
 //! A field of a header or a footer as text (man(7), `TH`; mdoc(7), `Dd`, `Dt`, `Os`).
 
 ghost use Rattle.std.specs.Prelude.{◌≡◌, ◌≤◌, ◌<◌, ◌+◌, ◌-◌, [], ◌∷◌, ◌++◌, ◌==◌, length, drop, take, if◌then◌else◌};
-ghost use Rattle.page_core_escapes.specs.Tokens.{unpaired};
 ghost use Rattle.page_core_base.specs.declared.limits.TheConstants.{FIELD};
 ghost use Rattle.page_roff_syntax.specs.Arguments.{argument_view};
 ghost use Rattle.page_engine_header.specs.Fields as fields;
-ghost use Rattle.page_engine_header.specs.Fields.{first_field, or_else, quote_len, written};
+ghost use Rattle.page_engine_header.specs.Fields.{first_field, or_else, said, said_len};
 
 use arrayvec::ArrayVec;
-use page_core_base::{FIELD, text_front};
+use page_core_base::FIELD;
 use page_roff_syntax::{Argument, Arguments};
 use std::marker::Model;
 
@@ -26,36 +25,6 @@ impl Model for Field {
     ghost view = { λ f. f.text.items };
 }
 
-// The bytes of the byte at a text's front, or of a pair of quotes there.
-fn quote_len(text: &[u8]) -> usize
-    ensures value { result ≡ quote_len text.now }
-    ensures within { 0 < length text.now → result ≤ length text.now }
-{
-    match text {
-        [first, next, ..] => {
-            if *first == b'"' && *next == b'"' {
-                2
-            } else {
-                1
-            }
-        }
-        _ => 1,
-    }
-}
-
-// Adds a text of at most as many bytes as there is room for, in which a pair of quotes is one quote.
-fn add_quoted(kept: &mut ArrayVec<u8, 256>, text: &[u8])
-    requires { length kept.old.items + length text.now ≤ 256 }
-    ensures items { kept.new.items ≡ kept.old.items ++ unpaired text.now }
-    ensures fits { length kept.new.items ≤ length kept.old.items + length text.now }
-{
-    let mut rest = text;
-    while !rest.is_empty() {
-        kept.push(rest[0]);
-        rest = &rest[quote_len(rest)..];
-    }
-}
-
 // Adds a byte, if there is room; the room that is left.
 fn add_byte(kept: &mut ArrayVec<u8, 256>, room: usize, byte: u8) -> usize
     requires { length kept.old.items + room ≤ 256 }
@@ -70,31 +39,17 @@ fn add_byte(kept: &mut ArrayVec<u8, 256>, room: usize, byte: u8) -> usize
     room - 1
 }
 
-// Adds a text that there is room for; in a quoted one a pair of quotes is one quote.
-fn add_front(kept: &mut ArrayVec<u8, 256>, text: &[u8], is_quoted: bool)
-    requires { length kept.old.items + length text.now ≤ 256 }
-    ensures items { kept.new.items
-        ≡ kept.old.items ++ (if is_quoted then unpaired text.now else text.now) }
-    ensures fits { length kept.new.items ≤ length kept.old.items + length text.now }
-{
-    if is_quoted {
-        add_quoted(kept, text);
-        return;
-    }
-    let _ = kept.try_extend_from_slice(text);
-}
-
-// Adds an argument, as far as there is room for it as it is written, up to a character's end; the room that is left.
+// Adds what an argument says, as far as there is room for it, up to a character's end; the room that is left.
 #[tactic(auto, using(crate::proofs::FieldLemmas::front_within))]
 fn add_argument(kept: &mut ArrayVec<u8, 256>, room: usize, argument: Argument<&[u8]>) -> usize
     requires { length kept.old.items + room ≤ 256 }
-    ensures items { kept.new.items ≡ kept.old.items ++ written room (argument_view argument.entry) }
-    ensures room { result ≡ room - length argument.entry.text.now }
+    ensures items { kept.new.items ≡ kept.old.items ++ said room (argument_view argument.entry) }
+    ensures room { result ≡ room - said_len (argument_view argument.entry) }
     ensures fits { length kept.new.items + result ≤ 256 }
 {
-    let front = text_front(argument.text, room).as_bytes();
-    add_front(kept, front, argument.is_quoted());
-    room.saturating_sub(argument.text.len())
+    let front = argument.value_front(room);
+    let _ = kept.try_extend_from_slice(front.as_slice());
+    room.saturating_sub(argument.value_len())
 }
 
 // Adds arguments, a blank before each, as far as there is room for them.
@@ -127,7 +82,7 @@ impl Field {
         Field { text: kept }
     }
 
-    /// A field of an argument, of which the first 256 bytes are kept, up to a character's end.
+    /// A field of what an argument says, of which the first 256 bytes are kept, up to a character's end.
     pub(crate) fn of(argument: Argument<&[u8]>) -> Field
         ensures { result ≡ fields.field (argument_view argument.entry) }
     {

@@ -148,7 +148,7 @@ fn report_title<O: PieceOut>(out: &mut O, place: Place, arguments: Arguments<'_>
     while left > 0 {
         match arguments.next_argument() {
             None => return,
-            Some(argument) => report_cut(out, place, argument.text.len()),
+            Some(argument) => report_cut(out, place, argument.value_len()),
         }
         left -= 1;
     }
@@ -162,14 +162,14 @@ fn report_page_title<O: PieceOut>(out: &mut O, place: Place, arguments: Argument
     let Some(title) = arguments.next_argument() else {
         return;
     };
-    report_cut(out, place, title.text.len());
+    report_cut(out, place, title.value_len());
     let Some(section) = arguments.next_argument() else {
         return;
     };
-    report_cut(out, place, section.text.len());
+    report_cut(out, place, section.value_len());
     let volume = volume_of(Field::of(section).text());
     if let Some(arch) = arguments.next_argument() {
-        report_cut(out, place, volume.len() + 3 + arch.text.len());
+        report_cut(out, place, volume.len() + 3 + arch.value_len());
     }
 }
 
@@ -181,10 +181,11 @@ fn is_long(arguments: Arguments<'_>) -> bool
     // the first has no blank before it
     let mut room = FIELD + 1;
     while let Some(argument) = arguments.next_argument() {
-        if argument.text.len() >= room {
+        let len = argument.value_len();
+        if len >= room {
             return true;
         }
-        room -= argument.text.len() + 1;
+        room -= len + 1;
     }
     false
 }

@@ -4,3 +4,4 @@ pub mod EndLemmas
 pub mod FormLemmas
 pub mod PairLemmas
 pub mod NameLemmas
+pub mod ValueLemmas

@@ -24,6 +24,7 @@ mod quotes;
 mod region_heads;
 mod regions;
 mod requests;
+mod values;
 
 pub use arguments::{Arguments, has_arguments, read_argument};
 pub use comments::{begins_comment, plain_len, uncommented_len};

@@ -32,7 +32,7 @@ word_columns output word = name_columns output (is_quoted word.arg.quoting) word
 -- a manual may have no name
 abbrev pub manual_columns : Output → Option KeptText → ℕ
 manual_columns output None = 0
-manual_columns output (Some name) = name_columns output name.is_quoted name.text
+manual_columns output (Some name) = name_columns output false name.text
 
 -- the columns of an event: of a word that is no delimiter, and of the name of the manual
 abbrev pub role_columns : Output → Role → Word (List ℕ) → Option ℕ

@@ -48,7 +48,7 @@ fn count_manual_name(output: Output, name: &Option<KeptText>, so_far: u16, runni
 {
     match name {
         Some(name) => count(
-            name_columns(output, name.is_quoted, name.text.text()),
+            name_columns(output, false, name.text.text()),
             so_far,
             running,
         ),

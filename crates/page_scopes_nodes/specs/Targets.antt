@@ -29,7 +29,7 @@ notes_of quoted place (token ∷ tokens) = token_notes quoted place token ++ not
 abbrev pub target_notes : Place → Argument (List ℕ) → List Item
 target_notes place argument =
     notes_of (is_quoted argument.quoting) (at place.line argument.column) (tokens_of (is_quoted argument.quoting) argument.text)
-    ++ cut_notes place argument.text
+    ++ cut_notes place argument
 
 -- ---- where it ends
 

@@ -37,7 +37,7 @@ pub(crate) fn report_target<O: PieceOut>(out: &mut O, place: Place, argument: Ar
         column: argument.column,
     };
     report_escapes(out, argument.is_quoted(), at, argument.text);
-    report_cut(out, place, argument.text);
+    report_cut(out, place, argument);
 }
 
 // Gives a mark.

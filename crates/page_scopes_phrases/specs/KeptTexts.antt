@@ -13,7 +13,7 @@ use Rattle.page_core_base.specs.declared.pieces.Piece.TheVariants.{Blank}
 use Rattle.page_core_base.specs.declared.places.Place.{Place}
 use Rattle.page_core_escapes.specs.Tokens.{TextToken, white, tokens_of}
 use Rattle.page_core_base.specs.Limits.{FIELD}
-use Rattle.page_roff_syntax.specs.Arguments.{is_quoted}
+use Rattle.page_roff_syntax.specs.Arguments.{argument_value}
 use Rattle.page_roff_syntax.specs.declared.quotes.Argument.{Argument}
 use Rattle.page_scopes_words.specs.declared.settings.Setting.{Setting}
 use Rattle.page_scopes_phrases.specs.Runnings.{next_gap}
@@ -30,15 +30,16 @@ front_fits text =
     let b = length-take (utf8_valid_len (take FIELD text)) (take FIELD text) in
     omega (arith, a, b)
 
--- the first FIELD bytes are kept, up to a character's end, and so no more, as `fits` says of each that there is
+-- The first FIELD bytes of what an argument says are kept, up to a character's end, and so no more, as `fits` says of each that there is. A
+-- pair of quotes in a quoted argument is one byte.
 abbrev pub kept_of : Argument (List ℕ) → KeptText
-kept_of argument = record { text = text_front FIELD argument.text; is_quoted = is_quoted argument.quoting; fits = front_fits argument.text }
+kept_of argument = record { text = text_front FIELD (argument_value argument); fits = front_fits (argument_value argument) }
 
-abbrev pub cut_notes : Place → List ℕ → List Item
-cut_notes place text = if nat_lt FIELD (length text) then says Limit place (codes "FIELD") ∷ [] else []
+abbrev pub cut_notes : Place → Argument (List ℕ) → List Item
+cut_notes place argument = if nat_lt FIELD (length (argument_value argument)) then says Limit place (codes "FIELD") ∷ [] else []
 
 abbrev pub kept_tokens : KeptText → List TextToken
-kept_tokens kept = tokens_of kept.is_quoted kept.text
+kept_tokens kept = tokens_of false kept.text
 
 -- ---- where it is printed
 
@@ -56,18 +57,18 @@ gap_items literal r place = if literal then kept_gap r place else filled_gap (ne
 abbrev pub white_items : Bool → ℕ → Place → List ℕ → List Item
 white_items literal gap place bytes = if literal then white_cells place bytes else shown (Blank gap (has_tab bytes)) ∷ []
 
-abbrev pub part_items : (literal quoted : Bool) → ℕ → Place → Font → TextToken → List Item
-part_items literal quoted gap place font (white bytes) = white_items literal gap place bytes
-part_items literal quoted gap place font token = token_items quoted font place token
+abbrev pub part_items : (literal : Bool) → ℕ → Place → Font → TextToken → List Item
+part_items literal gap place font (white bytes) = white_items literal gap place bytes
+part_items literal gap place font token = token_items false font place token
 
 -- without the messages of its escapes, all at one place; white space at its front is this many blanks, and any other one
-abbrev pub parts_items : (literal quoted : Bool) → ℕ → Place → Setting Fonts → List TextToken → List Item
-parts_items literal quoted gap place fonts [] = []
-parts_items literal quoted gap place fonts (token ∷ tokens) =
-    part_items literal quoted gap place fonts.value.font token ++ parts_items literal quoted 1 place (fonts_after token fonts) tokens
+abbrev pub parts_items : (literal : Bool) → ℕ → Place → Setting Fonts → List TextToken → List Item
+parts_items literal gap place fonts [] = []
+parts_items literal gap place fonts (token ∷ tokens) =
+    part_items literal gap place fonts.value.font token ++ parts_items literal 1 place (fonts_after token fonts) tokens
 
 abbrev pub kept_items : Bool → ℕ → Place → Setting Fonts → KeptText → List Item
-kept_items literal gap place fonts kept = parts_items literal kept.is_quoted gap place fonts (kept_tokens kept)
+kept_items literal gap place fonts kept = parts_items literal gap place fonts (kept_tokens kept)
 
 abbrev pub fonts_through : Setting Fonts → List TextToken → Setting Fonts
 fonts_through fonts [] = fonts

@@ -34,7 +34,7 @@ named _ argument name = name
 
 -- that it is cut is reported at its macro
 abbrev pub first_notes : Place → Argument (List ℕ) → Option KeptText → List Item
-first_notes place argument None = cut_notes place argument.text
+first_notes place argument None = cut_notes place argument
 first_notes place argument (Some name) = []
 
 abbrev pub name_notes : ℕ → Role → Argument (List ℕ) → Option KeptText → List Item
@@ -69,7 +69,7 @@ empty_items place name = if length name.text == 0 then shown (Text [] B place) �
 
 -- it may be of a heading
 abbrev pub name_in_heading : KeptText → Context → Running → Running
-name_in_heading name c r = record r { heading = heading_further c.part name.is_quoted (next_gap r) name.text r.heading }
+name_in_heading name c r = record r { heading = heading_further c.part false (next_gap r) name.text r.heading }
 
 -- where rows are kept the blanks before it are cells
 abbrev pub has_gap_cells : Bool → Running → Bool

@@ -5,7 +5,7 @@ ghost use Rattle.std.specs.Prelude.{◌≡◌, ◌≤◌, length};
 ghost use Rattle.page_core_base.specs.declared.limits.TheConstants.{FIELD};
 
 use arrayvec::ArrayVec;
-use page_core_base::{FIELD, text_front};
+use page_core_base::FIELD;
 use page_roff_syntax::Argument;
 use std::marker::Model;
 
@@ -50,12 +50,10 @@ impl FieldText {
     }
 }
 
-/// A text that is kept of an argument, up to [`FIELD`] bytes.
+/// What is kept of what an argument says, up to [`FIELD`] bytes: a pair of quotes in a quoted argument is one quote of it.
 #[derive(Drop)]
 pub struct KeptText {
     pub text: FieldText,
-    /// A pair of quotes in it is one quote.
-    pub is_quoted: bool,
     pub ghost fits: { length text ≤ FIELD },
 }
 
@@ -69,7 +67,6 @@ impl KeptText {
     {
         KeptText {
             text: self.text.copy(),
-            is_quoted: self.is_quoted,
         }
     }
 
@@ -78,8 +75,9 @@ impl KeptText {
         ensures { result ≡ kept_of (argument_view argument.entry) }
     {
         KeptText {
-            text: FieldText::of(text_front(argument.text, FIELD).as_bytes()),
-            is_quoted: argument.is_quoted(),
+            text: FieldText {
+                bytes: argument.value_front(FIELD),
+            },
         }
     }
 }

@@ -4,19 +4,21 @@ ghost use Rattle.std.specs.Prelude.{◌≡◌, ◌≤◌, ◌<◌, length, false
 ghost use Rattle.page_core_base.specs.Latches.{Came};
 ghost use Rattle.page_core_escapes.specs.Tokens.{token_view, tokens_of};
 ghost use Rattle.page_core_base.specs.declared.limits.TheConstants.{FIELD};
+ghost use Rattle.page_roff_syntax.specs.Arguments.{argument_view};
 ghost use Rattle.page_scopes_phrases.specs.KeptTexts as kept;
 
 use crate::{KeptText, Running};
 use page_core_base::{FIELD, Font, LINE, Limit, NoteKind, Piece, PieceOut, Place};
 use page_core_escapes::{Token, read_token};
+use page_roff_syntax::Argument;
 use page_scopes_text::{fonts_after, give_blank_cells, give_token, token_prints};
 use page_scopes_words::{Fonts, Setting, give_white_cells, has_tab, report};
 
-/// Reports at a place that a text is not kept whole.
-pub fn report_cut<O: PieceOut>(out: &mut O, place: Place, text: &[u8])
-    ensures { Came O.left out.old (kept.cut_notes place text.now) out.new }
+/// Reports at a place that what an argument says is not kept whole.
+pub fn report_cut<O: PieceOut>(out: &mut O, place: Place, argument: Argument<&[u8]>)
+    ensures { Came O.left out.old (kept.cut_notes place (argument_view argument.entry)) out.new }
 {
-    if text.len() > FIELD {
+    if argument.value_len() > FIELD {
         report(out, NoteKind::Limit, place, Limit::Field.name().as_bytes());
     }
 }
@@ -55,18 +57,17 @@ fn give_white<O: PieceOut>(out: &mut O, is_literal: bool, gap: u32, place: Place
 fn give_part<O: PieceOut>(
     out: &mut O,
     is_literal: bool,
-    quoted: bool,
     gap: u32,
     place: Place,
     font: Font,
     token: &Token<'_>,
 )
     ensures { Came O.left out.old
-        (kept.part_items is_literal quoted gap place font (token_view token.now)) out.new }
+        (kept.part_items is_literal gap place font (token_view token.now)) out.new }
 {
     match *token {
         Token::White(white) => give_white(out, is_literal, gap, place, white),
-        _ => give_token(out, quoted, font, place, token),
+        _ => give_token(out, false, font, place, token),
     }
 }
 
@@ -74,7 +75,6 @@ fn give_part<O: PieceOut>(
 fn give_parts<O: PieceOut>(
     out: &mut O,
     is_literal: bool,
-    quoted: bool,
     front: u32,
     place: Place,
     start: Setting<Fonts>,
@@ -82,23 +82,15 @@ fn give_parts<O: PieceOut>(
 ) -> Setting<Fonts>
     requires { length text.now ≤ LINE }
     ensures came { Came O.left out.old
-        (kept.parts_items is_literal quoted front place start (tokens_of quoted text.now)) out.new }
-    ensures fonts { result ≡ kept.fonts_through start (tokens_of quoted text.now) }
+        (kept.parts_items is_literal front place start (tokens_of false text.now)) out.new }
+    ensures fonts { result ≡ kept.fonts_through start (tokens_of false text.now) }
 {
     let mut rest = text;
     let mut fonts = start;
     let mut gap = front;
     while !rest.is_empty() {
-        let token = read_token(quoted, rest);
-        give_part(
-            out,
-            is_literal,
-            quoted,
-            gap,
-            place,
-            fonts.value.font,
-            &token,
-        );
+        let token = read_token(false, rest);
+        give_part(out, is_literal, gap, place, fonts.value.font, &token);
         fonts = fonts_after(&token, fonts);
         gap = 1;
         rest = &rest[token.len()..];
@@ -117,13 +109,13 @@ fn part_prints(is_literal: bool, token: &Token<'_>) -> bool
 }
 
 // Whether a text prints a cell.
-fn prints_cell(is_literal: bool, quoted: bool, text: &[u8]) -> bool
+fn prints_cell(is_literal: bool, text: &[u8]) -> bool
     requires { length text.now ≤ LINE }
-    ensures { result ≡ kept.prints_cell is_literal (tokens_of quoted text.now) }
+    ensures { result ≡ kept.prints_cell is_literal (tokens_of false text.now) }
 {
     let mut rest = text;
     while !rest.is_empty() {
-        let token = read_token(quoted, rest);
+        let token = read_token(false, rest);
         if part_prints(is_literal, &token) {
             return true;
         }
@@ -136,7 +128,7 @@ fn prints_cell(is_literal: bool, quoted: bool, text: &[u8]) -> bool
 pub(crate) fn kept_prints_cell(is_literal: bool, text: &KeptText) -> bool
     ensures { result ≡ kept.prints_cell is_literal (kept.kept_tokens text.now) }
 {
-    prints_cell(is_literal, text.is_quoted, text.text.text())
+    prints_cell(is_literal, text.text.text())
 }
 
 /// Gives what a kept text prints without its messages, all at one place; white space at its front is this many blanks. The fonts
@@ -153,15 +145,7 @@ pub fn give_kept<O: PieceOut>(
         (kept.kept_items is_literal front place start text.now) out.new }
     ensures fonts { result ≡ kept.fonts_through start (kept.kept_tokens text.now) }
 {
-    give_parts(
-        out,
-        is_literal,
-        text.is_quoted,
-        front,
-        place,
-        start,
-        text.text.text(),
-    )
+    give_parts(out, is_literal, front, place, start, text.text.text())
 }
 
 impl Running {

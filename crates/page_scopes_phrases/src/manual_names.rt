@@ -29,7 +29,7 @@ fn keep_word<O: PieceOut>(
     ensures name { name.new ≡ names.first_name (argument_view argument.entry) name.old }
 {
     if name.is_none() {
-        report_cut(out, place, argument.text);
+        report_cut(out, place, argument);
         *name = Some(KeptText::of(argument));
     }
 }
@@ -128,7 +128,7 @@ fn give_name_word<O: PieceOut>(
         || (has_gap_cells(is_literal, running) || kept_prints_cell(is_literal, name));
     running
         .heading
-        .pass_text(context.part, name.is_quoted, gap, name.text.text());
+        .pass_text(context.part, false, gap, name.text.text());
     running.pass_kept(is_text(context.part), context.has_spacing.value);
     running.line.is_sentence = ends_sentence(false, name.text.text());
 }

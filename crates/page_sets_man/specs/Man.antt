@@ -159,12 +159,18 @@ abbrev pub reference_words : ℕ → ℕ → List (Argument (List ℕ)) → List
 reference_words number column [] = []
 reference_words number column (name ∷ arguments) = argument_word number (Some fonts.I) Apart name ∷ section_words number column arguments
 
+-- the arguments after the first, which the macro's effect takes: words of the text, in the font around them (`UE ME SY`)
+abbrev pub further_words : ℕ → List (Argument (List ℕ)) → List (Event (List ℕ))
+further_words number [] = []
+further_words number (first ∷ arguments) = plain_words number arguments
+
 abbrev pub words_events : ℕ → ℕ → Words → List (Argument (List ℕ)) → List (Event (List ℕ))
 words_events number column words.Nothing arguments = []
 words_events number column words.Plain arguments = plain_words number arguments
 words_events number column (words.Alternating font other) arguments = alternating_words number font other Apart arguments
 words_events number column words.Option arguments = option_words number arguments
 words_events number column words.Reference arguments = reference_words number column arguments
+words_events number column words.Further arguments = further_words number arguments
 
 abbrev pub has_words : Words → Bool
 has_words words.Nothing = false
@@ -172,6 +178,7 @@ has_words words.Plain = true
 has_words (words.Alternating font other) = true
 has_words words.Option = true
 has_words words.Reference = true
+has_words words.Further = true
 
 -- ---- the events of a line
 

@@ -49,7 +49,7 @@ table =
     row "IB" Empty false Printed effects.Nothing (words.Alternating fonts.I fonts.B) lasts.Nothing ∷
     row "LP" Same true (BodyAfter 0) (effects.Opens (opens.Paragraph paragraphs.LP)) words.Nothing lasts.Nothing ∷
     row "MT" Empty true (BodyAfter 0) (effects.Opens (opens.Target links.MT)) words.Nothing lasts.Nothing ∷
-    row "ME" Same true (After 1) (effects.Closes (closes.Target links.MT)) words.Nothing lasts.Nothing ∷
+    row "ME" Same true Printed (effects.Closes (closes.Target links.MT)) words.Further lasts.Nothing ∷
     row "MR" Empty false (BodyAfter 3) effects.Nothing words.Reference lasts.Nothing ∷
     row "OP" Empty false (BodyAfter 2) (effects.Sets (sets.Mark texts.OpenBracket)) words.Option (lasts.Mark texts.CloseBracket) ∷
     row "PP" Same true (BodyAfter 0) (effects.Opens (opens.Paragraph paragraphs.PP)) words.Nothing lasts.Nothing ∷
@@ -63,12 +63,12 @@ table =
     row "SS" Same true Printed (effects.Opens opens.Subsection) words.Plain lasts.Nothing ∷
     row "SM" (Scope (scopes.FontWords names.SM)) false Printed (effects.Sets (sets.FontBegins fonts.R)) words.Plain lasts.FontEnds ∷
     row "SB" (Scope (scopes.FontWords names.SB)) false Printed (effects.Sets (sets.FontBegins fonts.B)) words.Plain lasts.FontEnds ∷
-    row "SY" Empty true (BodyAfter 1) (effects.Opens opens.Syntax) words.Nothing lasts.Nothing ∷
+    row "SY" Empty true Printed (effects.Opens opens.Syntax) words.Further lasts.Nothing ∷
     row "TP" Same true (BodyAfter 0) (effects.Opens opens.Tagged) words.Nothing lasts.Nothing ∷
     row "TQ" Same true (BodyAfter 0) (effects.Sets sets.FurtherTag) words.Nothing lasts.Nothing ∷
     row "TH" Same false (After 0) (effects.Sets sets.Title) words.Nothing lasts.Nothing ∷
     row "UR" Empty true (BodyAfter 0) (effects.Opens (opens.Target links.UR)) words.Nothing lasts.Nothing ∷
-    row "UE" Same true (After 1) (effects.Closes (closes.Target links.UR)) words.Nothing lasts.Nothing ∷
+    row "UE" Same true Printed (effects.Closes (closes.Target links.UR)) words.Further lasts.Nothing ∷
     row "UC" Same true (After 0) effects.Nothing words.Nothing lasts.Nothing ∷
     row "YS" Same true (After 0) (effects.Closes closes.Syntax) words.Nothing lasts.Nothing ∷
     []

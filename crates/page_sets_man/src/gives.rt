@@ -112,6 +112,17 @@ fn give_plain_words<'a, O: EventTaker<'a>>(out: &mut O, number: u32, text: &'a [
     }
 }
 
+// The arguments after the first, in the font around them.
+fn give_further_words<'a, O: EventTaker<'a>>(out: &mut O, number: u32, text: &'a [u8], start: usize)
+    requires short { length text.now ≤ LINE }
+    requires within { start ≤ length text.now }
+    ensures { Came O.left out.old (man.further_words number (arguments_after start text.now)) out.new }
+{
+    if let Some((_, rest)) = read_after(text, start) {
+        give_plain_words(out, number, text, rest);
+    }
+}
+
 // All arguments, in two fonts in turn, glued.
 fn give_alternating<'a, O: EventTaker<'a>>(
     out: &mut O,
@@ -242,6 +253,7 @@ fn give_words<'a, O: EventTaker<'a>>(
         }
         Words::Option => give_option(out, number, text, start),
         Words::Reference => give_reference(out, number, column, text, start),
+        Words::Further => give_further_words(out, number, text, start),
     }
 }
 

@@ -85,6 +85,8 @@ pub(crate) enum Words {
     Option,
     /// The name, the section and the suffix of `MR`.
     Reference,
+    /// All after the first, which is the macro's own: `UE`, `ME` and `SY`.
+    Further,
 }
 
 /// What comes after a macro's words.
@@ -146,25 +148,31 @@ macro_rules! opening {
     };
 }
 
-// A macro that opens a scope only if it has an argument.
+// A macro that opens a scope only if it has an argument, which is printed later.
 macro_rules! opening_with_argument {
-    ($printed:literal, $opens:expr) => {
-        block!(
-            Alone::Empty,
-            Quotes::BodyAfter($printed),
-            Effect::Opens($opens)
-        )
+    ($opens:expr) => {
+        block!(Alone::Empty, Quotes::BodyAfter(0), Effect::Opens($opens))
     };
 }
 
-// A macro that closes a scope, of which this many arguments are printed.
+// A macro that closes a scope.
 macro_rules! closing {
-    ($printed:literal, $closes:expr) => {
-        block!(
-            Alone::Same,
-            Quotes::After($printed),
-            Effect::Closes($closes)
-        )
+    ($closes:expr) => {
+        block!(Alone::Same, Quotes::After(0), Effect::Closes($closes))
+    };
+}
+
+// A macro that opens or closes a scope and prints its first argument there; the others are words.
+macro_rules! with_further_words {
+    ($alone:expr, $effect:expr) => {
+        Row {
+            alone: $alone,
+            breaks: true,
+            quotes: Quotes::Printed,
+            effect: $effect,
+            words: Words::Further,
+            last: Last::Nothing,
+        }
     };
 }
 
@@ -285,8 +293,11 @@ static MACROS: [&[(&[u8], Row)]; 26] = [
     &[],
     &[(b"LP", opening!(0, Opens::Paragraph(ParagraphName::LP)))],
     &[
-        (b"MT", opening_with_argument!(0, Opens::Target(Link::MT))),
-        (b"ME", closing!(1, Closes::Target(Link::MT))),
+        (b"MT", opening_with_argument!(Opens::Target(Link::MT))),
+        (
+            b"ME",
+            with_further_words!(Alone::Same, Effect::Closes(Closes::Target(Link::MT))),
+        ),
         (
             b"MR",
             needs_words!(
@@ -317,14 +328,17 @@ static MACROS: [&[(&[u8], Row)]; 26] = [
         (b"RB", alternating!(Font::R, Font::B)),
         (b"RI", alternating!(Font::R, Font::I)),
         (b"RS", opening!(0, Opens::RelativeMargin)),
-        (b"RE", closing!(0, Closes::RelativeMargin)),
+        (b"RE", closing!(Closes::RelativeMargin)),
     ],
     &[
         (b"SH", heading!(Opens::Section)),
         (b"SS", heading!(Opens::Subsection)),
         (b"SM", font_words!(FontMacro::SM, Font::R)),
         (b"SB", font_words!(FontMacro::SB, Font::B)),
-        (b"SY", opening_with_argument!(1, Opens::Syntax)),
+        (
+            b"SY",
+            with_further_words!(Alone::Empty, Effect::Opens(Opens::Syntax)),
+        ),
     ],
     &[
         (b"TP", opening!(0, Opens::Tagged)),
@@ -339,12 +353,15 @@ static MACROS: [&[(&[u8], Row)]; 26] = [
         (b"TH", quiet!(Sets::Title)),
     ],
     &[
-        (b"UR", opening_with_argument!(0, Opens::Target(Link::UR))),
-        (b"UE", closing!(1, Closes::Target(Link::UR))),
+        (b"UR", opening_with_argument!(Opens::Target(Link::UR))),
+        (
+            b"UE",
+            with_further_words!(Alone::Same, Effect::Closes(Closes::Target(Link::UR))),
+        ),
         (b"UC", ignored!()),
     ],
     &[],
     &[],
     &[],
-    &[(b"YS", closing!(0, Closes::Syntax))],
+    &[(b"YS", closing!(Closes::Syntax))],
 ];

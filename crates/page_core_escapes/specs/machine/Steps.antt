@@ -25,8 +25,8 @@ module _ (pairs : Bool) where
   abbrev pub step_of : (delimiter : List ℕ) → List ℕ → Option Step
   step_of delimiter [] = None
   step_of delimiter (b ∷ bs) =
-      if starts_with nat_eq (b ∷ bs) delimiter then Some (Closes (length delimiter))
-      else (if b == backslash then option_and_then (step_over (b ∷ bs)) (extent_of pairs (b ∷ bs))
+      if b == backslash then option_and_then (step_over (b ∷ bs)) (extent_of pairs (b ∷ bs))
+      else (if starts_with nat_eq (b ∷ bs) delimiter then Some (Closes (length delimiter))
       else Some (Passes 1))
 
 -- the step stays in a text of this many bytes

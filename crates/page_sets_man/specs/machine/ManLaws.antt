@@ -44,7 +44,7 @@ use Rattle.page_sets_man.specs.declared.rows.Row.{Row}
 use Rattle.page_sets_man.specs.declared.gives.Quote.{Quote}
 use Rattle.page_core_base.specs.TableRows.{row_in}
 use Rattle.page_sets_man.specs.Rows.{quiet, table, macro_row, request_row, row_of}
-use Rattle.page_sets_man.specs.Man.{opener, closer, leaf, effect_kind, line_scope, one_word, plain_words, alternating_words, option_words, section_words, reference_words, words_events, has_words, break_events, quote_at, missing_quote, quote_events, kind_events, scope_events, last_events, macro_events, lone_events, row_events, named_events, control_events, line_events, man_events}
+use Rattle.page_sets_man.specs.Man.{opener, closer, leaf, effect_kind, line_scope, one_word, plain_words, alternating_words, option_words, section_words, reference_words, further_words, words_events, has_words, break_events, quote_at, missing_quote, quote_events, kind_events, scope_events, last_events, macro_events, lone_events, row_events, named_events, control_events, line_events, man_events}
 
 -- ---- slices
 
@@ -146,6 +146,11 @@ reference_slices : (line : List ℕ) (number column from : ℕ) (arguments : Lis
 reference_slices line number column from [] h = tt
 reference_slices line number column from (name ∷ arguments) h = (h.1, section_slices line number column _ arguments h.2)
 
+further_slices : (line : List ℕ) (number from : ℕ) (arguments : List (Argument (List ℕ)))
+    → ArgumentsFrom line from arguments → AreSlices line (further_words number arguments)
+further_slices line number from [] h = tt
+further_slices line number from (first ∷ arguments) h = plain_slices line number (first.column + length first.text) arguments h.2
+
 words_slices : (line : List ℕ) (number column : ℕ) (these : Words) (from : ℕ) (arguments : List (Argument (List ℕ)))
     → ArgumentsFrom line from arguments → AreSlices line (words_events number column these arguments)
 words_slices line number column words.Nothing from arguments h = tt
@@ -153,6 +158,7 @@ words_slices line number column words.Plain from arguments h = plain_slices line
 words_slices line number column (words.Alternating font other) from arguments h = alternating_slices line number font other Apart from arguments h
 words_slices line number column words.Option from arguments h = option_slices line number from arguments h
 words_slices line number column words.Reference from arguments h = reference_slices line number column from arguments h
+words_slices line number column words.Further from arguments h = further_slices line number from arguments h
 
 macro_slices : (line : List ℕ) (number column start : ℕ) (row : Row) → start ≤ length line
     → AreSlices line (macro_events number column row (drop start line) (arguments_after start line))
@@ -259,6 +265,12 @@ reference_order : (line : List ℕ) (number column from : ℕ) (arguments : List
 reference_order line number column from [] h = tt
 reference_order line number column from (name ∷ arguments) h = (h.0, section_order line number column _ arguments h.2)
 
+further_order : (line : List ℕ) (number from : ℕ) (arguments : List (Argument (List ℕ)))
+    → ArgumentsFrom line from arguments → AreInOrder from (further_words number arguments)
+further_order line number from [] h = tt
+further_order line number from (first ∷ arguments) h =
+    plain_order line number from arguments (earlier line from (first.column + length first.text) arguments (omega (arith, h.0)) h.2)
+
 words_order : (line : List ℕ) (number column : ℕ) (these : Words) (from : ℕ) (arguments : List (Argument (List ℕ)))
     → ArgumentsFrom line from arguments → AreInOrder from (words_events number column these arguments)
 words_order line number column words.Nothing from arguments h = tt
@@ -266,6 +278,7 @@ words_order line number column words.Plain from arguments h = plain_order line n
 words_order line number column (words.Alternating font other) from arguments h = alternating_order line number font other Apart from arguments h
 words_order line number column words.Option from arguments h = option_order line number from arguments h
 words_order line number column words.Reference from arguments h = reference_order line number column from arguments h
+words_order line number column words.Further from arguments h = further_order line number from arguments h
 
 macro_order : (line : List ℕ) (number column start : ℕ) (row : Row) → AreInOrder 0 (macro_events number column row (drop start line) (arguments_after start line))
 macro_order line number column start row =
@@ -338,6 +351,7 @@ marks_weight words.Plain = 0
 marks_weight (words.Alternating font other) = 0
 marks_weight words.Option = 0
 marks_weight words.Reference = 2
+marks_weight words.Further = 0
 
 last_weight : Last → ℕ
 last_weight lasts.Nothing = 0
@@ -412,6 +426,10 @@ few_reference : (number column : ℕ) (arguments : List (Argument (List ℕ))) �
 few_reference number column [] = omega arith
 few_reference number column (name ∷ arguments) = let f = few_section number column arguments in omega (arith, f)
 
+few_further : (number : ℕ) (arguments : List (Argument (List ℕ))) → length (further_words number arguments) ≤ length arguments
+few_further number [] = omega arith
+few_further number (first ∷ arguments) = let f = few_plain number arguments in omega (arith, f)
+
 few_words : (number column : ℕ) (these : Words) (arguments : List (Argument (List ℕ)))
     → length (words_events number column these arguments) ≤ marks_weight these + length arguments
 unfolding marks_weight
@@ -420,6 +438,7 @@ few_words number column words.Plain arguments = let f = few_plain number argumen
 few_words number column (words.Alternating font other) arguments = let f = few_alternating number font other Apart arguments in omega (arith, f)
 few_words number column words.Option arguments = let f = few_option number arguments in omega (arith, f)
 few_words number column words.Reference arguments = let f = few_reference number column arguments in omega (arith, f)
+few_words number column words.Further arguments = let f = few_further number arguments in omega (arith, f)
 
 few_macro : (number column : ℕ) (row : Row) (rest : List ℕ) (arguments : List (Argument (List ℕ)))
     → length (macro_events number column row rest arguments) ≤ weight row + length arguments + 1

@@ -13,8 +13,8 @@ loop-rest-preserved g c =
     let n = c.len.result in
     let less : 0 < n = rw c.len.ensures (v.some some) in
     let is = c.len.ensures ∙ ap (λ u. length (token_bytes u)) v.value in
-    let more = parts_more c.args.is_literal c.args.quoted l.gap c.args.place l.fonts l.rest.now n less is in
-    let fonts = fonts_more c.args.quoted l.fonts l.rest.now n less is in
+    let more = parts_more c.args.is_literal l.gap c.args.place l.fonts l.rest.now n less is in
+    let fonts = fonts_more l.fonts l.rest.now n less is in
     rw (take_rest l.rest.now n, c.fonts_after-fonts.ensures, v.value) (
       (λ plan rest h. (rw v.value at c.give_part.ensures) plan _ (rw (more, append_assoc) at (l.invariant.0 plan rest h))),
       l.invariant.1 ∙ fonts,
@@ -25,10 +25,10 @@ pub returns-clause-came : goal.returns-clause-came
 returns-clause-came g c = λ plan rest h.
     let l = c.loop-rest in
     let none : length l.rest.now ≤ 0 = grind (arith, nat_tests) in
-    rw (parts_none c.args.is_literal c.args.quoted l.gap c.args.place l.fonts l.rest.now none) at (l.invariant.0 plan rest h)
+    rw (parts_none c.args.is_literal l.gap c.args.place l.fonts l.rest.now none) at (l.invariant.0 plan rest h)
 
 pub returns-clause-fonts : goal.returns-clause-fonts
 returns-clause-fonts g c =
     let l = c.loop-rest in
     let none : length l.rest.now ≤ 0 = grind (arith, nat_tests) in
-    sym (l.invariant.1 ∙ fonts_none c.args.quoted l.fonts l.rest.now none)
+    sym (l.invariant.1 ∙ fonts_none l.fonts l.rest.now none)

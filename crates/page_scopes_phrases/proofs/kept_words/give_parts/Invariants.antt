@@ -7,9 +7,9 @@ use Rattle.page_scopes_phrases.proofs.kept_words.give_parts.Given as goal
 
 abbrev pub invariant-loop-rest : goal.invariant-loop-rest
 invariant-loop-rest g l =
-    CameUpTo g.O.PieceOut.left l.fn.out (parts_items l.is_literal l.quoted l.front l.place l.fn.start (tokens_of l.quoted l.text))
-    (parts_items l.is_literal l.quoted l.gap l.place l.fonts (tokens_of l.quoted l.rest)) l.out
-    × (fonts_through l.fn.start (tokens_of l.quoted l.text) ≡ fonts_through l.fonts (tokens_of l.quoted l.rest))
+    CameUpTo g.O.PieceOut.left l.fn.out (parts_items l.is_literal l.front l.place l.fn.start (tokens_of false l.text))
+    (parts_items l.is_literal l.gap l.place l.fonts (tokens_of false l.rest)) l.out
+    × (fonts_through l.fn.start (tokens_of false l.text) ≡ fonts_through l.fonts (tokens_of false l.rest))
     × (length l.rest ≤ LINE)
 
 abbrev pub decreases-loop-rest : goal.decreases-loop-rest

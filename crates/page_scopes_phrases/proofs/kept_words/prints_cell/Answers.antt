@@ -12,8 +12,8 @@ returns-then-part_prints c =
     let some : 0 < length l.rest.now = grind (arith, nat_tests) in
     let v = c.read_token-token.ensures in
     let n = length (token_bytes (token_view c.read_token-token.result)) in
-    let more = prints_more c.args.is_literal c.args.quoted l.rest.now n (v.some some) (ap (λ u. length (token_bytes u)) v.value) in
-    let yes : part_prints c.args.is_literal (token_at c.args.quoted l.rest.now) ≡ true =
+    let more = prints_more c.args.is_literal l.rest.now n (v.some some) (ap (λ u. length (token_bytes u)) v.value) in
+    let yes : part_prints c.args.is_literal (token_at false l.rest.now) ≡ true =
     ap (part_prints c.args.is_literal) (sym v.value) ∙ sym c.part_prints.ensures ∙ c.if-part_prints.true in
     sym (l.invariant.0 ∙ more ∙ rw yes refl)
 
@@ -25,8 +25,8 @@ loop-rest-preserved c =
     let n = c.len.result in
     let less : 0 < n = rw c.len.ensures (v.some some) in
     let is = c.len.ensures ∙ ap (λ u. length (token_bytes u)) v.value in
-    let more = prints_more c.args.is_literal c.args.quoted l.rest.now n less is in
-    let no : part_prints c.args.is_literal (token_at c.args.quoted l.rest.now) ≡ false =
+    let more = prints_more c.args.is_literal l.rest.now n less is in
+    let no : part_prints c.args.is_literal (token_at false l.rest.now) ≡ false =
     ap (part_prints c.args.is_literal) (sym v.value) ∙ sym c.part_prints.ensures ∙ c.if-part_prints.false in
     rw (take_rest l.rest.now n) (
       l.invariant.0 ∙ (rw no at more),
@@ -37,4 +37,4 @@ pub returns : goal.returns
 returns c =
     let l = c.loop-rest in
     let none : length l.rest.now ≤ 0 = grind (arith, nat_tests) in
-    sym (l.invariant.0 ∙ prints_none c.args.is_literal c.args.quoted l.rest.now none)
+    sym (l.invariant.0 ∙ prints_none c.args.is_literal l.rest.now none)

@@ -6,7 +6,7 @@ use Rattle.page_scopes_phrases.proofs.kept_words.prints_cell.Given as goal
 
 abbrev pub invariant-loop-rest : goal.invariant-loop-rest
 invariant-loop-rest l =
-    (prints_cell l.is_literal (tokens_of l.quoted l.text) ≡ prints_cell l.is_literal (tokens_of l.quoted l.rest)) × (length l.rest ≤ LINE)
+    (prints_cell l.is_literal (tokens_of false l.text) ≡ prints_cell l.is_literal (tokens_of false l.rest)) × (length l.rest ≤ LINE)
 
 abbrev pub decreases-loop-rest : goal.decreases-loop-rest
 decreases-loop-rest l = length l.rest
