@@ -1,5 +1,5 @@
 #!/usr/bin/env python3
-"""Times ./mandoc on hostile pages of mdoc(7) (usage: bench/run hostile [COUNT]), each with COUNT macros or columns (default 100,000).
+"""Times ./mandoc on hostile pages (usage: bench/run hostile [COUNT]), each with COUNT macros or columns (default 100,000).
 
 Each page is formatted once at a quarter, a half and the whole of its size: where the time is linear, each column is about twice the one
 before. Beside them stand the peak of our memory at the whole size, and the time of the `mandoc` on the PATH, if there is one: a run that takes
@@ -24,12 +24,28 @@ def columns(count):
     return ".Bl -column" + " 1" * count + "\n.It" + " a Ta" * count + "\n.El\n"
 
 
+# The lines of a page whose lines, of at most 65,536 bytes, are what grows.
+LINES = 20
+
+
+def tabs(count):
+    """Lines of a list of columns, each of many tabs."""
+    return ".Bl -column a b\n.It a\n" + ("\t" * (count * 64 // 100) + "x\n") * LINES + ".El\n"
+
+
+def heads(count):
+    """Lines of many conditionals that don't hold, one inside another."""
+    return ("." + "if 0 ." * (count * 109 // 1000) + "x\n") * LINES
+
+
 HOSTILE = [
     ("Bl in Bl, no El", lambda count: ".Bl -tag -width 2n\n.It a\n" * count),
     ("Oo on one line, no Oc", lambda count: "." + "Oo " * count + "a\n"),
     ("Oo on lines, no Oc", lambda count: ".Oo\n" * count),
     ("Bo Ao Bc Ac on lines", lambda count: ".Bo Ao Bc Ac\n" * count),
     ("columns of a list", columns),
+    ("tabs on a line of columns", tabs),
+    ("heads on one line", heads),
     ("Fl a Ar b on one line, ten each", lambda count: "." + "Fl a Ar b " * (10 * count) + "\n"),
 ]
 
