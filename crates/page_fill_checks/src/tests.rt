@@ -115,6 +115,10 @@ const SCRIPTS: &[(&str, &str)] = &[
     ("aIEb", "a  b\n"),
     // A tag that another one has taken the place of ends the row.
     ("R/RbEcEd", "b   c\nd\n"),
+    // One that is set in leaves the open one as it is.
+    ("RIEaEb", "a   b\n"),
+    ("RaIEEb", "a   b\n"),
+    ("RaIEbEc", "a  b\nc\n"),
     // Columns are padded.
     ("aCb", "a   b\n"),
     ("abcdCe", "abcd e\n"),

@@ -1,19 +1,22 @@
 -- Texts in columns, cell by cell: helpers of proofs.
-use Rattle.std.proofs.Common.{◌≡◌, ℕ, zero, suc, ◌+◌, ◌<◌, ◌≤◌, ◌==◌, nat_lt, ◌&&◌, Bool, true, false, List, [], ◌∷◌, ◌++◌, length, drop, refl, sym, ap, subst, ◌∙◌, append_assoc, arith, inl, inr, length-drop, None, Some, if◌then◌else◌}
+use Rattle.std.proofs.Common.{◌≡◌, ℕ, zero, suc, ◌+◌, ◌<◌, ◌≤◌, ◌==◌, nat_lt, ◌&&◌, Bool, true, false, not, List, [], ◌∷◌, ◌++◌, length, take, drop, get_or, refl, sym, ap, subst, ◌∙◌, append_assoc, arith, inl, inr, length-drop, None, Some, if◌then◌else◌}
 use Rattle.std.specs.List.{prefix_len}
 use Rattle.std.proofs.lemmas.Bool.{cases_Bool}
 use Rattle.std.proofs.lemmas.Bool.Decides.{nat_tests}
 use Rattle.page_core_base.specs.Latches.{CameUpTo}
 use Rattle.page_core_base.specs.Pieces.{Item}
-use Rattle.page_core_escapes.specs.Tokens.{is_space, token_at, token_len, tokens_of}
+use Rattle.page_core_escapes.specs.Tokens.{begins_white, is_space, is_white, token_at, token_len, tokens_of}
 use Rattle.page_core_escapes.proofs.TokenLemmas.{tokens_more, tokens_none}
 use Rattle.page_scopes_layout.specs.declared.contexts.Context.{Context}
-use Rattle.page_scopes_phrases.specs.Cells.{after_tab, before_blanks, before_tab, cell, cells, cells_within, first_part, has_tab, other_cells, other_cells_text, span, span_of, tab_in, with_more}
+use Rattle.page_scopes_phrases.specs.Cells.{after_tab, before_blanks, before_tab, cell, cells, cells_within, first_part, has_tab, other_cells, other_cells_text, span, span_of, tab_in, white_byte, white_columns, with_more}
 use Rattle.page_sets_lines.specs.Fits.{FitsAt}
 use Rattle.page_scopes_phrases.specs.Outcomes.{GivesOutcome, Outcome, followed_by}
 use Rattle.page_scopes_phrases.specs.declared.cells.CellSpan.{CellSpan}
 use Rattle.page_scopes_phrases.specs.declared.phrases.Phrase.{Phrase}
 use Rattle.page_scopes_phrases.specs.declared.runnings.Running.{Running}
+
+pub is_before : (m n : ℕ) → m < n → nat_lt m n ≡ true
+is_before m n h = grind (arith, nat_tests, h)
 
 -- ---- the first cell, token by token
 
@@ -39,6 +42,33 @@ blanks_none quoted text h = ap before_blanks (tokens_none quoted text h)
 blanks_more : (quoted : Bool) (text : List ℕ) (n : ℕ) → 0 < n → n ≡ token_len quoted text → tab_in (token_at quoted text) ≡ None
     → before_blanks (tokens_of quoted text) ≡ with_more (token_at quoted text) (before_blanks (tokens_of quoted (drop n text)))
 blanks_more quoted text n some e h = ap before_blanks (tokens_more quoted text n some e) ∙ (rw h refl)
+
+-- blanks up to a tab at a text's front: they are the front of its white space
+ahead : (text rest : List ℕ) → drop (prefix_len (λ byte. byte == 32) text) text ≡ 9 ∷ rest
+    → (prefix_len (λ byte. not (byte == 9)) (take (prefix_len is_white text) text) ≡ prefix_len (λ byte. byte == 32) text)
+    × (prefix_len (λ byte. byte == 32) text < length (take (prefix_len is_white text) text))
+    × (begins_white text ≡ true)
+ahead [] rest h = absurd (grind (arith, ap length h))
+ahead (b ∷ bs) rest h = elim (cases_Bool (b == 32)) [
+  | inl e ↦
+        let no : (b == 9) ≡ false = grind (arith, nat_tests, e) in
+        let more = ahead bs rest (rw e at h) in
+        let len = more.0 in
+        let less = more.1 in
+        rw (e, no) (omega (arith, len), omega (arith, less), refl)
+  | inr e ↦
+        let first : b ≡ 9 = ap (λ l. get_or l 0 0) (rw e at h) in
+        let tab : (b == 9) ≡ true = grind (arith, nat_tests, first) in
+        rw (e, tab) (refl, omega arith, refl)
+]
+
+pub tab_ahead : (quoted : Bool) (text rest : List ℕ) → drop (prefix_len (λ byte. byte == 32) text) text ≡ 9 ∷ rest
+    → tab_in (token_at quoted text) ≡ Some (prefix_len (λ byte. byte == 32) text)
+unfolding token_at
+tab_ahead quoted text rest h =
+    let a = ahead text rest h in
+    let before = is_before (prefix_len (λ byte. byte == 32) text) (length (take (prefix_len is_white text) text)) a.1 in
+    rw (a.2, a.0, before) refl
 
 -- where the first cell ends, by what is found of it and what is left
 abbrev pub end_by : ℕ → ℕ → ℕ → ℕ
@@ -105,9 +135,6 @@ others-fit p h fits =
     let room = fits.room in
     record { short = omega (arith, a, short); room = omega (arith, a, room) }
 
-pub is_before : (m n : ℕ) → m < n → nat_lt m n ≡ true
-is_before m n h = grind (arith, nat_tests, h)
-
 pub is_not_before : (m n : ℕ) → n ≤ m → nat_lt m n ≡ false
 is_not_before m n h = grind (arith, nat_tests, h)
 
@@ -162,3 +189,24 @@ cells-end left start all line p c d r s out last h before given =
       context = given.context ∙ sym (before.context ∙ ap (λ (o : Outcome). o.context) same);
       running = given.running ∙ sym (before.running ∙ ap (λ (o : Outcome). o.running) same);
     }
+
+-- ---- white space, byte by byte
+
+-- what is still to come of an outcome, which is given to a latch part by part
+pub record OutcomeLeft {P O : Type 0} (left : P → O → List Item → Type 0) (start : O) (all next : Outcome) (out : O) : Type 0 where
+  pub came : CameUpTo left start all.items next.items out
+  pub context : all.context ≡ next.context
+  pub running : all.running ≡ next.running
+
+pub white-goes-on : {P O : Type 0} (left : P → O → List Item → Type 0) (start : O) (all : Outcome) (byte : ℕ) (bytes : List ℕ) (c d : Context) (r s : Running)
+    (out next : O) → OutcomeLeft left start all (white_columns (byte ∷ bytes) c r) out → GivesOutcome left out (white_byte byte c r) next d s
+    → OutcomeLeft left start all (white_columns bytes d s) next
+white-goes-on left start all byte bytes c d r s out next before given =
+    let first = white_byte byte c r in
+    let others = white_columns bytes first.context first.running in
+    rw (given.context, given.running) (record {
+      came = λ plan rest x.
+          given.came plan (others.items ++ rest) (subst (λ items. left plan out items) (append_assoc first.items others.items rest) (before.came plan rest x));
+      context = before.context;
+      running = before.running;
+    })

@@ -276,12 +276,7 @@ pub(crate) fn give_cells<O: PieceOut>(
 }
 
 // Gives a byte of white space in columns: a tab begins the next one.
-fn give_white_byte<O: PieceOut>(
-    out: &mut O,
-    byte: u8,
-    context: &mut Context,
-    running: &mut Running,
-)
+fn give_white_byte<O: PieceOut>(out: &mut O, byte: u8, context: &mut Context, running: &mut Running)
     ensures { GivesOutcome O.left out.old (cells.white_byte byte context.old running.old)
         out.new context.new running.new }
 {
