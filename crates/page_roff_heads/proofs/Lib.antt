@@ -1,4 +1,4 @@
-pub mod Letters
+pub mod Ahead
 pub mod Reading
 pub mod Searches
 pub mod Within

@@ -121,21 +121,6 @@ condition_of column text =
 unfoldable pub condition_len : ℕ → List ℕ → ℕ
 condition_len column text = turn_len text + (read_test (column + turn_len text) (drop (turn_len text) text)).len
 
--- ---- of the program: a letter that is always true or always false
-
-abbrev pub is_always : Kind → Bool
-is_always True = true
-is_always False = true
-is_always Defined = false
-is_always Register = false
-is_always Expression = false
-is_always Letter = false
-is_always Delimiter = false
-
-abbrev pub starts_with_letter : List ℕ → Bool
-starts_with_letter [] = false
-starts_with_letter (byte ∷ bytes) = is_always (kind_of byte)
-
 -- ---- of the program, with what its texts hold
 
 abbrev pub test_view : Test (Bor (List ℕ)) → Test (List ℕ)

@@ -1,6 +1,6 @@
 //! Conditions as they are written (roff(7), "Conditional expressions").
 
-ghost use Rattle.std.specs.Prelude.{◌≡◌, ◌≤◌, ◌<◌, ◌+◌, ◌^◌, length};
+ghost use Rattle.std.specs.Prelude.{◌≡◌, ◌≤◌, ◌<◌, ◌+◌, ◌^◌, length, IsTrue};
 ghost use Rattle.std.specs.List.{prefix_len};
 ghost use Rattle.page_roff_syntax.specs.LineForms.{is_name, without_comment};
 ghost use Rattle.page_roff_heads.specs.Conditions as written;
@@ -272,16 +272,6 @@ fn read_test(text: &[u8], column: u32) -> TestRead<&[u8]>
     }
 }
 
-// Whether a text begins with a letter that is always true or always false: what follows decides nothing.
-fn starts_with_letter(text: &[u8]) -> bool
-    ensures { result ≡ written.starts_with_letter text.now }
-{
-    match text {
-        [] => false,
-        [first, ..] => matches!(kind_of(*first), Kind::True | Kind::False),
-    }
-}
-
 /// The condition at a text's front, and how many bytes it takes. Its first byte stands at a column.
 #[tactic(auto, unfolding(crate::specs::Conditions::condition_of, crate::specs::Conditions::condition_len))]
 pub fn read_condition(text: &[u8], column: u32) -> (Condition<&[u8]>, usize)
@@ -302,9 +292,21 @@ pub fn read_condition(text: &[u8], column: u32) -> (Condition<&[u8]>, usize)
     (condition, turns + read.len)
 }
 
+// The bytes that are looked at beyond a condition: what follows them decides nothing of it.
+const AHEAD: usize = 3;
+
+// Whether a text has no comment in its first bytes, this many and some more.
+fn is_uncommented(text: &[u8], len: usize) -> bool
+    requires { len ≤ length text.now }
+    ensures { IsTrue result → len + 1 < length (without_comment text.now) }
+{
+    let end = len + AHEAD;
+    end <= text.len() && uncommented_len(&text[..end]) == end
+}
+
 /// The condition at the front of a text that may have a comment, before which it ends, and how many bytes
-/// it takes. Its first byte stands at a column. After a letter that is always true or false, no comment is
-/// looked for.
+/// it takes. Its first byte stands at a column. Only where it may reach to the comment it is read once more, up to
+/// the comment: a line of many heads is looked through once.
 pub(crate) fn read_before_comment(text: &[u8], column: u32) -> (Condition<&[u8]>, usize)
     requires short { length text.now ≤ LINE }
     requires room { column + length text.now ≤ LINE + 1 }
@@ -313,8 +315,9 @@ pub(crate) fn read_before_comment(text: &[u8], column: u32) -> (Condition<&[u8]>
     ensures within { result.1 ≤ length text.now }
     ensures fits { FitsTest (test_view result.0.test) }
 {
-    if starts_with_letter(text) {
-        return read_condition(&text[..1], column);
+    let (condition, len) = read_condition(text, column);
+    if is_uncommented(text, len) {
+        return (condition, len);
     }
     read_condition(&text[..uncommented_len(text)], column)
 }

@@ -7,7 +7,8 @@
 //! and `RegionHeads.antt` for regions.
 //!
 //! Proved: `form_of`, `control_name`, `Arguments::next_argument`, `read_argument`: the form of a raw line, the name of a control line, and its
-//! arguments one after another, are those of `specs/LineForms.antt` and `Arguments.antt`. `Request::of`, `RegionKind::name`, `fixed_ending`: which names
+//! arguments one after another, are those of `specs/LineForms.antt` and `Arguments.antt`. `Argument::value_len`, `value_front`: what an argument says, as
+//! far as a field has room for it. `Request::of`, `RegionKind::name`, `fixed_ending`: which names
 //! are requests, and what each is, by one table (`specs/Requests.antt`, `Regions.antt`), with which the rows of the program are compared.
 //! `region_head`, `is_ending`: what the head of a region names and which raw line ends it (`specs/RegionHeads.antt`). `OpenRegion`: what of the head
 //! decides the rest, its names within their limit (`specs/OpenRegions.antt`). `name_room_law`: the room of a name is that of the definition.
