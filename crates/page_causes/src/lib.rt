@@ -66,14 +66,7 @@ pub fn quiet_search(alloc: Global, index: &[u8], words: &[&str]) -> Result<u64, 
 {
     let mut source = SliceSource::new(index);
     let mut out = Nowhere;
-    whatis(
-        alloc,
-        &mut source,
-        &mut out,
-        words,
-        None,
-        Show::Entry,
-    )
+    whatis(alloc, &mut source, &mut out, words, None, Show::Entry)
 }
 
 /// A message to a writer that never fails is written.

@@ -51,15 +51,15 @@ ahead : (text rest : List ℕ) → drop (prefix_len (λ byte. byte == 32) text) 
 ahead [] rest h = absurd (grind (arith, ap length h))
 ahead (b ∷ bs) rest h = elim (cases_Bool (b == 32)) [
   | inl e ↦
-        let no : (b == 9) ≡ false = grind (arith, nat_tests, e) in
-        let more = ahead bs rest (rw e at h) in
-        let len = more.0 in
-        let less = more.1 in
-        rw (e, no) (omega (arith, len), omega (arith, less), refl)
+      let no : (b == 9) ≡ false = grind (arith, nat_tests, e) in
+      let more = ahead bs rest (rw e at h) in
+      let len = more.0 in
+      let less = more.1 in
+      rw (e, no) (omega (arith, len), omega (arith, less), refl)
   | inr e ↦
-        let first : b ≡ 9 = ap (λ l. get_or l 0 0) (rw e at h) in
-        let tab : (b == 9) ≡ true = grind (arith, nat_tests, first) in
-        rw (e, tab) (refl, omega arith, refl)
+      let first : b ≡ 9 = ap (λ l. get_or l 0 0) (rw e at h) in
+      let tab : (b == 9) ≡ true = grind (arith, nat_tests, first) in
+      rw (e, tab) (refl, omega arith, refl)
 ]
 
 pub tab_ahead : (quoted : Bool) (text rest : List ℕ) → drop (prefix_len (λ byte. byte == 32) text) text ≡ 9 ∷ rest

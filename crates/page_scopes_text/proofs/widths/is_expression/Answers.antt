@@ -22,6 +22,6 @@ returns-then-found-text c =
     let lens = v.len in
     let whole : (length (expression_of Basic text).rest == 0) ≡ true = grind (arith, nat_tests, lens, c.if-found-text.true) in
     let missing = c.lacks_operand.ensures
-        ∙ ap (λ l. list_any (λ (m : Message). is_missing m.kind) l) (c.notes.ensures ∙ ap (messages_at place.line place.column) v.troubles)
-        ∙ says_missing place.line place.column (expression_of Basic text).troubles in
+    ∙ ap (λ l. list_any (λ (m : Message). is_missing m.kind) l) (c.notes.ensures ∙ ap (messages_at place.line place.column) v.troubles)
+    ∙ says_missing place.line place.column (expression_of Basic text).troubles in
     rw whole (ap not missing)
