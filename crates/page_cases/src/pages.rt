@@ -7,22 +7,33 @@ use crate::words::Words;
 use page_core_base::Level;
 use page_engine::Outcome;
 use page_test_streams::{repeated, shortened};
+use std::alloc::{AllocError, Global};
 use std::io;
 
-/// Shows what a page gives, which may be written in short.
-pub(crate) fn show_page(rt: &HostRuntime, page: &str, words: &Words) -> io::Result<()> {
+// The bytes of a page as a case writes it.
+fn page_bytes(alloc: Global, text: &str, words: &Words) -> Result<Vec<u8>, AllocError> {
+    let mut page = Vec::new(alloc);
     if words.is_repeated {
-        let page = repeated(rt.alloc(), page)?;
-        show_whole(rt, page.as_str(), words)
+        let text = repeated(alloc, text)?;
+        page.extend_from_slice(text.as_bytes())?;
+    } else if words.is_bytes {
+        for char in text.chars() {
+            page.push(u8::try_from(char).unwrap_or(b'?'))?;
+        }
     } else {
-        show_whole(rt, page, words)
+        page.extend_from_slice(text.as_bytes())?;
     }
+    if words.is_unended {
+        page.pop();
+    }
+    Ok(page)
 }
 
-// Shows what a page gives that is written out.
-fn show_whole(rt: &HostRuntime, page: &str, words: &Words) -> io::Result<()> {
+/// Shows what a page gives.
+pub(crate) fn show_page(rt: &HostRuntime, text: &str, words: &Words) -> io::Result<()> {
+    let page = page_bytes(rt.alloc(), text, words)?;
     let case = Case {
-        page: page.as_bytes(),
+        page: page.as_slice(),
         settings: &words.settings,
     };
     let given = run_whole(rt.alloc(), case);

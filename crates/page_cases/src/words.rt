@@ -44,7 +44,11 @@ pub(crate) struct Words {
     pub(crate) is_once: bool,
     /// It is written with `~N*TEXT~` for a text that comes N times.
     pub(crate) is_repeated: bool,
-    /// What it gives is shown in that way.
+    /// Each of its characters, up to U+00FF, is the byte of its number.
+    pub(crate) is_bytes: bool,
+    /// Its last line has no line feed.
+    pub(crate) is_unended: bool,
+    /// What it gives is shown as `is_repeated` writes it.
     pub(crate) is_shortened: bool,
     /// It is also run with memory refused.
     pub(crate) is_scarce: bool,
@@ -59,13 +63,15 @@ impl Words {
             settings,
             is_once: false,
             is_repeated: false,
+            is_bytes: false,
+            is_unended: false,
             is_shortened: false,
             is_scarce: false,
         }
     }
 
-    /// The words of a title `WORDS: what it shows`: `once`, `times`, `short`, `scarce`, and of its settings `utf8`, `lint`, `man`, `mdoc`,
-    /// `ascii-bytes`, `latin1-bytes`, `os=NAME`, `width=N`, `indent=N`, a level in capitals below which no message is given, or NONE for no
+    /// The words of a title `WORDS: what it shows`: `once`, `times`, `bytes`, `unended`, `short`, `scarce`, and of its settings `utf8`, `lint`, `man`,
+    /// `mdoc`, `ascii-bytes`, `latin1-bytes`, `utf8-bytes`, `os=NAME`, `width=N`, `indent=N`, a level in capitals below which no message is given, or NONE for no
     /// message at all. With none of these words the output is ASCII, the page decides its encoding and its language, and all messages are given.
     pub(crate) fn of_title(title: &str) -> Words {
         let mut words = Words::new();
@@ -73,6 +79,8 @@ impl Words {
             match word {
                 "once" => words.is_once = true,
                 "times" => words.is_repeated = true,
+                "bytes" => words.is_bytes = true,
+                "unended" => words.is_unended = true,
                 "short" => words.is_shortened = true,
                 "scarce" => words.is_scarce = true,
                 _ => set_from(&mut words.settings, word),
@@ -102,6 +110,7 @@ fn set(settings: &mut Settings, word: &str) {
         "mdoc" => settings.language = Language::Mdoc,
         "ascii-bytes" => settings.encoding = Encoding::Ascii,
         "latin1-bytes" => settings.encoding = Encoding::Latin1,
+        "utf8-bytes" => settings.encoding = Encoding::Utf8,
         "NONE" => settings.least = None,
         "STYLE" => settings.least = Some(Level::Style),
         "WARNING" => settings.least = Some(Level::Warning),

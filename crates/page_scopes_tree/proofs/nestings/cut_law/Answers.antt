@@ -1,5 +1,5 @@
 use Rattle.page_scopes_tree.proofs.CutLemmas.{settled-append, edge-append}
-use Rattle.page_scopes_tree.proofs.cut_law.Goals as goal
+use Rattle.page_scopes_tree.proofs.nestings.cut_law.Goals as goal
 
 pub returns : goal.returns
 returns g c = record {

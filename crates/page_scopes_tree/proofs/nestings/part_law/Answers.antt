@@ -1,5 +1,5 @@
 use Rattle.page_scopes_tree.proofs.PartLemmas.{tree-part}
-use Rattle.page_scopes_tree.proofs.part_law.Goals as goal
+use Rattle.page_scopes_tree.proofs.nestings.part_law.Goals as goal
 
 pub returns : goal.returns
 returns g c = λ nests most sound m nodes acts. tree-part nests sound m nodes acts

@@ -1,7 +1,7 @@
 use Rattle.page_scopes_tree.proofs.CutLemmas.{edge-fits}
 use Rattle.page_scopes_tree.proofs.EdgeLemmas.{edge-run}
 use Rattle.page_scopes_tree.proofs.RunLemmas.{settled-run}
-use Rattle.page_scopes_tree.proofs.stack_law.Goals as goal
+use Rattle.page_scopes_tree.proofs.nestings.stack_law.Goals as goal
 
 pub returns : goal.returns
 returns g c = record {
