@@ -4,16 +4,16 @@ use crate::faults::SYSTEM_FAILURE;
 use crate::formatting::format_all;
 use crate::indexing::make_indexes;
 use crate::searching::search;
+use crate::unfinished::LockedFiles;
 use mandoc_command::{Command, Refusal};
 use std::alloc::Global;
-use std::fs::Files;
 use std::io::{Read, Write};
 
 /// The status at a bad command line (mandoc(1), EXIT STATUS).
 const BAD_COMMAND: u8 = 5;
 
 /// Does what a command asks for, and answers its status (mandoc(1), EXIT STATUS).
-pub fn run_command<R: Files, I: Read, W: Write, V: Write>(
+pub fn run_command<R: LockedFiles, I: Read, W: Write, V: Write>(
     rt: &R,
     alloc: Global,
     command: &Command,

@@ -2,18 +2,19 @@
 
 use crate::faults::{Done, report_fault, report_index_fault};
 use crate::page_records::{Form, Pages};
+use crate::unfinished::{LockedFiles, create_locked, is_name_of, keep_mode, remove_own};
 use mandoc_command::Makewhatis;
 use page_core_base::Fault;
 use std::alloc::Global;
 use std::fs::{self, Files};
-use std::io::{self, BufWriter, Write};
+use std::io::{BufWriter, Write};
 
 /// Makes the indexes of directories in their order, or prints the records of their pages, and answers the worst status (makewhatis(8),
 /// EXIT STATUS).
 ///
 /// A page or a folder that can't be read is reported on `err`, and the others go on, also where that line can't be printed. An index, or
 /// records, that can't be written end it.
-pub fn make_indexes<R: Files, W: Write, V: Write>(
+pub fn make_indexes<R: LockedFiles, W: Write, V: Write>(
     rt: &R,
     alloc: Global,
     asked: &Makewhatis,
@@ -50,7 +51,7 @@ fn print_records<R: Files, W: Write, V: Write>(
 }
 
 // Makes the index of a directory, which takes the place of the one that is there once it is whole.
-fn make_index<R: Files, V: Write>(rt: &R, alloc: Global, dir: &str, err: &mut V) -> Done {
+fn make_index<R: LockedFiles, V: Write>(rt: &R, alloc: Global, dir: &str, err: &mut V) -> Done {
     let (Ok(unfinished), Ok(name)) = (
         format!(in alloc; "{dir}/whatis.tmp"),
         format!(in alloc; "{dir}/whatis.idx"),
@@ -63,8 +64,9 @@ fn make_index<R: Files, V: Write>(rt: &R, alloc: Global, dir: &str, err: &mut V)
     }
 }
 
-// Writes an index under a name of its own, and gives it the one that it is for. An index that can't be finished is removed.
-fn replace_index<R: Files, V: Write>(
+// Writes an index under a name of its own, and gives it the one that it is for. An index that can't be finished is removed. Its file is closed,
+// and so no longer locked, once that is done.
+fn replace_index<R: LockedFiles, V: Write>(
     rt: &R,
     alloc: Global,
     dir: &str,
@@ -72,38 +74,45 @@ fn replace_index<R: Files, V: Write>(
     name: &str,
     err: &mut V,
 ) -> Result<u8, Fault> {
-    let Ok(file) = create_anew(rt, unfinished) else {
+    let Ok(mut file) = create_locked(rt, unfinished) else {
         return Err(Fault::WriteText);
     };
-    let finished = match write_index(rt, alloc, dir, file, err) {
-        Ok(status) => renamed(rt, unfinished, name, status),
+    let finished = match write_index(rt, alloc, dir, name, &mut file, err) {
+        Ok(status) => renamed(rt, &file, unfinished, name, status),
         Err(fault) => Err(fault),
     };
     if finished.is_err() {
-        let _ = fs::remove_file(rt, unfinished);
+        remove_own(rt, &file, unfinished);
     }
     finished
 }
 
-// Makes a file that is not there yet. What has its name, as the file of a run that was killed or a link, is removed, and never written to.
-fn create_anew<R: Files>(rt: &R, name: &str) -> io::Result<R::File> {
-    let _ = fs::remove_file(rt, name);
-    fs::File::create_new(rt, name)
-}
-
-// Writes an index, and closes its file.
+// Writes an index into a file, with the mode of the one that is there.
 fn write_index<R: Files, V: Write>(
     rt: &R,
     alloc: Global,
     dir: &str,
-    mut file: R::File,
+    name: &str,
+    file: &mut R::File,
     err: &mut V,
 ) -> Result<u8, Fault> {
-    give_buffered(rt, alloc, dir, Form::Index, &mut file, err)
+    match keep_mode(rt, file, name) {
+        Ok(()) => give_buffered(rt, alloc, dir, Form::Index, file, err),
+        Err(_) => Err(Fault::WriteText),
+    }
 }
 
-// Gives an index that is whole its name, and answers the status that its pages left.
-fn renamed<R: Files>(rt: &R, unfinished: &str, name: &str, status: u8) -> Result<u8, Fault> {
+// Gives an index that is whole its name, and answers the status that its pages left. Another file in its place is not renamed.
+fn renamed<R: Files>(
+    rt: &R,
+    file: &R::File,
+    unfinished: &str,
+    name: &str,
+    status: u8,
+) -> Result<u8, Fault> {
+    if !is_name_of(rt, file, unfinished) {
+        return Err(Fault::WriteText);
+    }
     match fs::rename(rt, unfinished, name) {
         Ok(()) => Ok(status),
         Err(_) => Err(Fault::WriteText),

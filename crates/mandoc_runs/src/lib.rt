@@ -16,10 +16,12 @@ mod searching;
 mod shown_names;
 mod standard_numbers;
 mod streams;
+mod unfinished;
 mod words;
 
 pub use commands::{refuse, run_command};
 pub use faults::{Done, report_unopened};
 pub use formatting::format_all;
 pub use standard_numbers::{NULL_DEVICE, hold_standard_numbers};
+pub use unfinished::LockedFiles;
 pub use words::words_given;

@@ -1,8 +1,9 @@
 //! The files of a folder, of which one call fails.
 
+use mandoc_runs::LockedFiles;
 use std::alloc::Allocator;
 use std::cell::Cell;
-use std::fs::{Files, Metadata, OpenFile, OpenOptions};
+use std::fs::{Files, Metadata, OpenFile, OpenOptions, Permissions, TryLockError};
 use std::io::{self, ErrorKind, Read, Seek, SeekFrom, Write};
 
 /// A call that can fail.
@@ -18,6 +19,10 @@ pub enum Call {
     Names,
     /// A file is made.
     Create,
+    /// A file is locked.
+    Lock,
+    /// A file is given a mode.
+    Mode,
     /// A file is written.
     Write,
     /// What was written is put out.
@@ -142,6 +147,20 @@ impl<F: OpenFile> OpenFile for FailingFile<'_, F> {
     fn sync_data(&self) -> io::Result<()> {
         self.file.sync_data()
     }
+
+    fn set_permissions(&self, permissions: Permissions) -> io::Result<()> {
+        self.failure.at(Call::Mode)?;
+        self.file.set_permissions(permissions)
+    }
+}
+
+impl<'a, R: LockedFiles + AllocGlobal> LockedFiles for FailingFiles<'a, R> {
+    fn try_lock(&self, file: &FailingFile<'a, R::File>) -> Result<(), TryLockError> {
+        match self.failure.at(Call::Lock) {
+            Ok(()) => self.rt.try_lock(&file.file),
+            Err(error) => Err(TryLockError::Error(error)),
+        }
+    }
 }
 
 // What the program does not call is not supported.
@@ -194,8 +213,9 @@ impl<'a, R: Files + AllocGlobal> Files for FailingFiles<'a, R> {
         self.rt.create_dir(path.as_str())
     }
 
-    fn symlink_metadata(&self, _path: &str) -> io::Result<Metadata> {
-        Err(io::Error::from(ErrorKind::Unsupported))
+    fn symlink_metadata(&self, path: &str) -> io::Result<Metadata> {
+        let path = self.path(path)?;
+        self.rt.symlink_metadata(path.as_str())
     }
 
     fn copy(&self, _from: &str, _to: &str) -> io::Result<u64> {

@@ -4,6 +4,7 @@ use crate::failing_files::{Call, FailingFiles, Failure};
 use crate::runs::{
     INDEX, Index, NEVER, Run, Test, check, in_folder, is_alone, run_failing, set_index,
 };
+use mandoc_runs::LockedFiles;
 use std::alloc::Global;
 use std::fs;
 use std::process::{self, Abort};
@@ -69,7 +70,7 @@ const WORDS: &[&str] = &["makewhatis", "."];
 struct Halves;
 
 impl Test for Halves {
-    fn run<R: Files + AllocGlobal + Abort>(&self, rt: &R, files: &FailingFiles<'_, R>) {
+    fn run<R: LockedFiles + AllocGlobal + Abort>(&self, rt: &R, files: &FailingFiles<'_, R>) {
         let mut calls = 0;
         'calls: for before in 0..200 {
             if !makes_failing(rt, files, before) {
@@ -82,7 +83,7 @@ impl Test for Halves {
 }
 
 // Makes an index while the call after this number of them fails, and answers whether it came.
-fn makes_failing<R: Files + AllocGlobal + Abort>(
+fn makes_failing<R: LockedFiles + AllocGlobal + Abort>(
     rt: &R,
     files: &FailingFiles<'_, R>,
     before: u32,

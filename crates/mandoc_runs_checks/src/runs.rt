@@ -2,7 +2,7 @@
 
 use crate::failing_files::{Call, FailingFiles, Failure};
 use mandoc_command::command;
-use mandoc_runs::run_command;
+use mandoc_runs::{LockedFiles, run_command};
 use std::alloc::Global;
 use std::cell::RefCell;
 use std::io::{self, ErrorKind, Write};
@@ -164,7 +164,7 @@ impl Write for Journaled<'_> {
 }
 
 // Runs words over files, where flushes fail so, and answers the status. A refused command line has the status 5.
-fn run_over<F: Files>(
+fn run_over<F: LockedFiles>(
     files: &F,
     alloc: Global,
     words: &[&str],
@@ -195,7 +195,7 @@ pub struct Ran {
 }
 
 /// Runs words over the files of a folder, of which a call fails.
-pub fn run_failing<R: Files + AllocGlobal>(
+pub fn run_failing<R: LockedFiles + AllocGlobal>(
     good: &FailingFiles<'_, R>,
     failure: &Failure,
     words: &[&str],
@@ -256,7 +256,7 @@ fn is_index<F: Files>(files: &F, alloc: Global, want: Option<&str>) -> bool {
 }
 
 // Makes a run over the files of a folder, and checks what comes of it.
-fn check_run<R: Files + AllocGlobal + Abort>(rt: &R, files: &FailingFiles<'_, R>, run: &Run) {
+fn check_run<R: LockedFiles + AllocGlobal + Abort>(rt: &R, files: &FailingFiles<'_, R>, run: &Run) {
     let index = &run.index;
     let is_set = set_index(files, index.before).is_ok();
     check(rt, is_set, run.words, "the index of before");
@@ -282,11 +282,11 @@ fn fill<F: Files>(files: &F) -> io::Result<()> {
 
 /// What a test does with the files of its folder.
 pub trait Test {
-    fn run<R: Files + AllocGlobal + Abort>(&self, rt: &R, files: &FailingFiles<'_, R>);
+    fn run<R: LockedFiles + AllocGlobal + Abort>(&self, rt: &R, files: &FailingFiles<'_, R>);
 }
 
 impl Test for &[Run] {
-    fn run<R: Files + AllocGlobal + Abort>(&self, rt: &R, files: &FailingFiles<'_, R>) {
+    fn run<R: LockedFiles + AllocGlobal + Abort>(&self, rt: &R, files: &FailingFiles<'_, R>) {
         for run in *self {
             check_run(rt, files, run);
         }
@@ -294,7 +294,7 @@ impl Test for &[Run] {
 }
 
 /// Makes a folder of a test's own with the files above, by the number of its process and a name, gives it to the test, and removes it.
-pub fn in_folder<R: Files + Env + AllocGlobal + Abort, T: Test>(
+pub fn in_folder<R: LockedFiles + Env + AllocGlobal + Abort, T: Test>(
     rt: &R,
     id: u32,
     name: &str,

@@ -1,0 +1,88 @@
+//! The unfinished index of a directory, which one run at a time has for itself (makewhatis(8), FILES).
+//!
+//! Its file is made anew and locked, and stays locked until it has the name of the index or is removed. Only a run that holds the lock of the
+//! file that has the name may take that name from it, so runs of this program never take it from one another.
+
+use std::fs::{self, File, Files, OpenFile, TryLockError};
+use std::io::{self, ErrorKind};
+use std::os::unix::fs::MetadataExt;
+
+/// Files that a run can lock for itself.
+pub trait LockedFiles: Files {
+    /// Locks a file until it is closed, and fails at once where it is locked already (flock(2)).
+    fn try_lock(&self, file: &Self::File) -> Result<(), TryLockError>;
+}
+
+impl LockedFiles for HostRuntime {
+    fn try_lock(&self, file: &File) -> Result<(), TryLockError> {
+        file.try_lock()
+    }
+}
+
+/// Makes a file that is not there yet, and locks it. What has its name, as the file of a run that was killed or a link, is removed, and never
+/// written to.
+///
+/// It fails at once where another run has locked what has the name, or takes the name meanwhile.
+pub fn create_locked<R: LockedFiles>(rt: &R, name: &str) -> io::Result<R::File> {
+    remove_stale(rt, name)?;
+    let file = File::create_new(rt, name)?;
+    match lock(rt, &file, name) {
+        Ok(()) => Ok(file),
+        // (it has the name as one that nobody holds: a run that came meanwhile removes it)
+        Err(TryLockError::WouldBlock) => Err(io::Error::from(ErrorKind::WouldBlock)),
+        Err(TryLockError::Error(error)) => {
+            remove_own(rt, &file, name);
+            Err(error)
+        }
+    }
+}
+
+/// Whether a name is that of a file that is open.
+pub fn is_name_of<R: Files>(rt: &R, file: &R::File, name: &str) -> bool {
+    match (file.metadata(), fs::symlink_metadata(rt, name)) {
+        (Ok(opened), Ok(named)) => opened.dev() == named.dev() && opened.ino() == named.ino(),
+        _ => false,
+    }
+}
+
+/// Removes a file that is open, unless its name is another one's by now.
+pub fn remove_own<R: Files>(rt: &R, file: &R::File, name: &str) {
+    if is_name_of(rt, file, name) {
+        let _ = fs::remove_file(rt, name);
+    }
+}
+
+/// Gives an open file the mode of the one whose place it is to take, if there is one.
+pub fn keep_mode<R: Files>(rt: &R, file: &R::File, name: &str) -> io::Result<()> {
+    match fs::symlink_metadata(rt, name) {
+        Ok(old) if old.is_file() => file.set_permissions(old.permissions()),
+        _ => Ok(()),
+    }
+}
+
+// Removes what has a name, if it is no file that another run has locked.
+fn remove_stale<R: LockedFiles>(rt: &R, name: &str) -> io::Result<()> {
+    match fs::symlink_metadata(rt, name) {
+        Ok(found) if found.is_file() => remove_stale_file(rt, name),
+        Ok(_) => fs::remove_file(rt, name),
+        Err(error) if error.kind() == ErrorKind::NotFound => Ok(()),
+        Err(error) => Err(error),
+    }
+}
+
+// Removes a file that no run has locked. It is locked meanwhile, so that only one run removes it.
+fn remove_stale_file<R: LockedFiles>(rt: &R, name: &str) -> io::Result<()> {
+    let file = fs::open(rt, name)?;
+    lock(rt, &file, name)?;
+    fs::remove_file(rt, name)
+}
+
+// Locks an open file. Where its name is another one's by now, the file is no longer of use, as if it were locked.
+fn lock<R: LockedFiles>(rt: &R, file: &R::File, name: &str) -> Result<(), TryLockError> {
+    rt.try_lock(file)?;
+    if is_name_of(rt, file, name) {
+        Ok(())
+    } else {
+        Err(TryLockError::WouldBlock)
+    }
+}
