@@ -1,0 +1,85 @@
+//! An editor's preview: a page is formatted, and after each change only what follows the last edge before it. `docs/LIBRARY.md` walks through it.
+//!
+//! The standard input has the lines of a page, and below them changes: a line `== N TEXT` says that the physical line of number N is now TEXT. What is
+//! shown are the rows and messages of the page, and after each change those that came anew, with the number of bytes in front that were kept. Where
+//! these are not what the changed page gives as a whole, a line `-- not` says so.
+#![tactic(auto)]
+
+mod preview;
+mod text;
+
+use page_core::{Fault, Level, Output, Settings};
+use preview::Preview;
+use std::io;
+use text::{change_of, line_at};
+
+fn main(rt: HostRuntime) -> io::Result<()> {
+    let mut text = Vec::new(rt.alloc());
+    let mut preview = new_preview(&rt);
+    let mut is_shown = false;
+    for line in rt.lines(rt.alloc()) {
+        let line = line?;
+        let Some((number, new)) = change_of(line.as_str()) else {
+            text.extend_from_slice(line.as_bytes())?;
+            text.push(b'\n')?;
+            continue;
+        };
+        if !is_shown {
+            show(&rt, &mut preview, text.as_slice(), 0)?;
+            is_shown = true;
+        }
+        let (begin, end) = line_at(text.as_slice(), number);
+        text = changed(&rt, text.as_slice(), (begin, end), new)?;
+        println!(rt; "{line}")?;
+        show(&rt, &mut preview, text.as_slice(), begin)?;
+    }
+    if is_shown {
+        return Ok(());
+    }
+    show(&rt, &mut preview, text.as_slice(), 0)
+}
+
+// A preview with no page yet, in UTF-8 and with all messages.
+fn new_preview(rt: &HostRuntime) -> Preview {
+    let settings = Settings {
+        output: Output::Utf8,
+        least: Some(Level::Base),
+        ..Settings::new()
+    };
+    Preview::new(rt.alloc(), settings)
+}
+
+// The text with other bytes in a place.
+fn changed(rt: &HostRuntime, text: &[u8], place: (usize, usize), new: &str) -> io::Result<Vec<u8>> {
+    let mut whole = Vec::new(rt.alloc());
+    whole.extend_from_slice(text.get(..place.0).unwrap_or(b""))?;
+    whole.extend_from_slice(new.as_bytes())?;
+    whole.extend_from_slice(text.get(place.1..).unwrap_or(b""))?;
+    Ok(whole)
+}
+
+// Shows what comes anew of a text that is as it was up to a place.
+fn show(rt: &HostRuntime, preview: &mut Preview, text: &[u8], same: usize) -> io::Result<()> {
+    match preview.format(text, same) {
+        Ok(kept) => {
+            println!(rt; "-- {kept} of {} bytes are kept", text.len())?;
+            print!(rt; "{}{}", preview.new_rows(), preview.new_messages())?;
+            show_difference(rt, preview, text)
+        }
+        Err(fault) => println!(rt; "-- {fault}"),
+    }
+}
+
+// Shows whether the text as a whole gives something else.
+fn show_difference(rt: &HostRuntime, preview: &Preview, text: &[u8]) -> io::Result<()> {
+    let mut whole = new_preview(rt);
+    match whole.format(text, 0) {
+        Ok(_) if whole.is_same(preview) => Ok(()),
+        Ok(_) => println!(rt; "-- not what the whole page gives"),
+        Err(fault) => report(rt, fault),
+    }
+}
+
+fn report(rt: &HostRuntime, fault: Fault) -> io::Result<()> {
+    println!(rt; "-- not whole: {fault}")
+}
