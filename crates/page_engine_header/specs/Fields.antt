@@ -1,5 +1,5 @@
 -- The fields of a page's header and footer. Source: man(7), TH; mdoc(7), Dd, Dt and Os; roff(7), "Macro syntax".
-use Rattle.std.specs.Prelude.{ℕ, ◌+◌, ◌-◌, ◌==◌, ◌&&◌, nat_eq, nat_lt, Bool, true, false, List, [], ◌∷◌, ◌++◌, length, take, drop, codes, if◌then◌else◌}
+use Rattle.std.specs.Prelude.{ℕ, ◌+◌, ◌-◌, ◌==◌, nat_eq, nat_lt, true, false, List, [], ◌∷◌, ◌++◌, length, take, drop, codes, if◌then◌else◌}
 use Rattle.std.specs.List.{flat_map, sum_by, starts_with, ends_with}
 use Rattle.page_core_base.specs.Messages.{text_front}
 use Rattle.page_core_base.specs.Pieces.{Item}

@@ -1,4 +1,4 @@
-use Rattle.std.proofs.Common.{◌≡◌, ◌≤◌, length}
+use Rattle.std.proofs.Common.{◌≡◌, ◌≤◌, false, length}
 use Rattle.page_core_base.specs.Latches.{CameUpTo}
 use Rattle.page_core_escapes.specs.Tokens.{tokens_of}
 use Rattle.page_core_base.specs.declared.limits.TheConstants.{LINE}
