@@ -311,28 +311,6 @@ fn takes_256_bytes_of_a_system(rt: HostRuntime) -> Result<(), Fail> {
     Ok(())
 }
 
-// With each allocation refused in turn: want of memory is answered, or the same answer.
-#[test]
-fn answers_want_of_memory(rt: HostRuntime) {
-    let words = ["-Tlint", "-Owidth=60", "-K", "utf-8", "a.1", "b.1"];
-    match command(rt.alloc(), &words) {
-        Ok(Command::Format(format)) => {
-            let is_lint = format.settings.output == Output::Lint;
-            assert!(rt;
-                is_lint && format.settings.width == 60 && format.files.as_slice().len() == 2
-            );
-        }
-        Ok(_other) => assert!(rt; false, "no pages to format"),
-        Err(refusal) => assert!(rt; refusal == Refusal::Memory),
-    }
-    assert!(rt; command(rt.alloc(), &["-Tlint", "-Wall", "-Wall"]).is_err());
-    for words in [["makewhatis", "-n", "d"], ["whatis", "-Md", "ls"]] {
-        if let Err(refusal) = command(rt.alloc(), &words) {
-            assert!(rt; refusal == Refusal::Memory);
-        }
-    }
-}
-
 #[test]
 fn has_statuses(rt: HostRuntime) {
     let statuses = [

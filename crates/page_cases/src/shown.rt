@@ -16,11 +16,11 @@ pub(crate) fn show_way(rt: &HostRuntime, way: Option<&str>) -> io::Result<()> {
     }
 }
 
-/// Whether memory is refused at little cost; where it is not, that is reported.
+/// Whether memory is refused at little cost; where it is not, the case shows that, and so fails.
 pub(crate) fn can_refuse(rt: &HostRuntime) -> bool {
     let can = is_cheap(rt, rt.alloc());
     if !can {
-        let _ = eprintln!(rt; "memory can't be refused here at little cost, and is not");
+        let _ = println!(rt; "-- not with memory refused, which costs much on this host");
     }
     can
 }

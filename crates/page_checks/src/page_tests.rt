@@ -172,25 +172,20 @@ fn refuses_bad_settings(rt: HostRuntime) -> Result<(), Fail> {
     Ok(())
 }
 
-// For runs in which an allocation is refused: then nothing was read, and else all is well.
+// The writers are those of the standard library that keep nothing.
 #[test]
-fn wants_memory_before_it_reads(rt: HostRuntime) {
+fn runs_into_writers_that_keep_nothing(rt: HostRuntime) {
     let mut reader = Chunks::new(TWO_MESSAGES, 3, None);
     let (mut out, mut messages) = (io::sink(), io::sink());
-    match run_page(
+    let answer = run_page(
         rt.alloc(),
         &mut reader,
         &mut out,
         &mut messages,
         "x.1",
         &all_messages(),
-    ) {
-        Ok(done) => check_outcome(&rt, Ok(done), outcome(Some(Level::Error), 6)),
-        Err(fault) => {
-            check_outcome(&rt, Err(fault), Err(Fault::Memory));
-            check_count(&rt, reader.calls as u64, 0);
-        }
-    }
+    );
+    check_outcome(&rt, answer, outcome(Some(Level::Error), 6));
 }
 
 // Each call fails in turn: what was written is the front of the page, and no less than at an earlier call.

@@ -325,21 +325,18 @@ fn a_note_to_a_bad_writer(rt: HostRuntime) {
     }
 }
 
-// Gives a message, which is kept; or where memory is refused, the fault is answered, a failure counted and no message kept.
+// Gives a message, which is kept as the last one.
 fn check_kept(rt: &impl Abort, kept: &mut KeptNotes, note: &Note) {
     let (before, failures) = (kept.notes.len(), kept.failures());
-    match kept.note(note) {
-        Ok(()) => {
-            check(rt, kept.notes.last() == Some(note), "the last");
-            check(rt, kept.notes.len() > before, "a message more");
-            check_failures(rt, kept.failures(), failures);
-        }
-        Err(fault) => {
-            check_answer(rt, Err(fault), Err(Fault::WriteNotes));
-            check_count(rt, kept.notes.len(), before, "no message more");
-            check_failures(rt, kept.failures(), failures.saturating_add(1));
-        }
-    }
+    check_answer(rt, kept.note(note), Ok(()));
+    check(rt, kept.notes.last() == Some(note), "the last");
+    check_count(
+        rt,
+        kept.notes.len(),
+        before.saturating_add(1),
+        "a message more",
+    );
+    check_failures(rt, kept.failures(), failures);
 }
 
 #[test]

@@ -97,25 +97,17 @@ fn a_row_to_a_bad_writer(rt: HostRuntime) -> Result<(), Fail> {
     Ok(())
 }
 
-// Gives a row, which is kept; or where memory is refused, the fault is answered, a failure counted and no row kept.
+// Gives a row, which is kept as the last one.
 fn check_kept(rt: &impl Abort, kept: &mut KeptRows, margin: u32, cells: &[Cell]) {
     let (before, failures) = (kept.rows.len(), kept.failures());
-    match kept.row(margin, cells) {
-        Ok(()) => {
-            let is_last = kept
-                .rows
-                .last()
-                .is_some_and(|row| is_row(row, margin, cells));
-            check(rt, is_last, "the last");
-            check(rt, kept.rows.len() > before, "a row more");
-            check_failures(rt, kept.failures(), failures);
-        }
-        Err(fault) => {
-            check_answer(rt, Err(fault), Err(Fault::WriteText));
-            check_count(rt, kept.rows.len(), before, "no row more");
-            check_failures(rt, kept.failures(), failures.saturating_add(1));
-        }
-    }
+    check_answer(rt, kept.row(margin, cells), Ok(()));
+    let is_last = kept
+        .rows
+        .last()
+        .is_some_and(|row| is_row(row, margin, cells));
+    check(rt, is_last, "the last");
+    check_count(rt, kept.rows.len(), before.saturating_add(1), "a row more");
+    check_failures(rt, kept.failures(), failures);
 }
 
 #[test]

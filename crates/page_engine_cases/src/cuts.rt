@@ -8,12 +8,15 @@ use page_engine::Outcome;
 use page_test_streams::Scarcity;
 use std::alloc::Global;
 
+/// More steps of memory than there are.
+const STEPS: usize = 10_000;
+
 /// After which lines it goes on from what is held.
 #[derive(Clone, Copy)]
 pub(crate) enum Cuts {
     Never,
     Always,
-    /// After the line of a number. Where memory lacks for that, it goes on as it is.
+    /// After the first line of this number or a greater one. Where memory lacks for that, it goes on as it is.
     After(u32),
 }
 
@@ -42,9 +45,11 @@ pub(crate) struct CutFeed<F> {
     pub(crate) feed: F,
     pub(crate) alloc: Global,
     pub(crate) cuts: Cuts,
+    /// Whether it went on from what is held after a line of `Cuts::After`, or was to.
+    pub(crate) is_cut: bool,
     /// What memory lacked for, if for anything.
     pub(crate) lack: Option<Lack>,
-    /// What takes all memory before each line and before the end, if it is to, and gives it back for a cut.
+    /// What takes all memory before each line, each cut and the end, if it is to, and at a cut gives back a step more each time that memory lacks.
     pub(crate) memory: Option<Scarcity>,
 }
 
@@ -56,10 +61,58 @@ fn go_on<F: PutDown>(alloc: Global, feed: &mut F, held: F::Held) -> Result<(), F
     }
 }
 
-// It goes on from what is held of it.
-fn cut<F: PutDown>(alloc: Global, feed: &mut F) -> Result<(), Fault> {
+// It goes on from what is held of it, and then from what is held of what goes on: the second has to be what the first one was.
+fn cut_twice<F: PutDown>(alloc: Global, feed: &mut F) -> Result<(), Fault> {
+    let held = feed.put_down(alloc)?;
+    go_on(alloc, feed, held)?;
     let held = feed.put_down(alloc)?;
     go_on(alloc, feed, held)
+}
+
+// Gives a step of memory back, or all of it where there is no step left.
+fn give_more(memory: &mut Scarcity) {
+    if !memory.give_step() {
+        memory.give_all();
+    }
+}
+
+// Puts it down with no memory, and then with a step more each time. It answers what is held, and whether memory lacked.
+fn put_down_by_steps<F: PutDown>(
+    alloc: Global,
+    memory: &mut Scarcity,
+    feed: &F,
+) -> Result<(F::Held, bool), Fault> {
+    memory.take_all();
+    for lacks in 0..STEPS {
+        match feed.put_down(alloc) {
+            Ok(held) => return Ok((held, lacks > 0)),
+            Err(Fault::Memory) => give_more(memory),
+            Err(fault) => return Err(fault),
+        }
+    }
+    Err(Fault::Memory)
+}
+
+// It goes on from this with no memory, and then with a step more each time, always from what was handed back. It answers whether memory lacked.
+fn go_on_by_steps<F: PutDown>(
+    alloc: Global,
+    memory: &mut Scarcity,
+    feed: &mut F,
+    held: F::Held,
+) -> Result<bool, Fault> {
+    let mut held = held;
+    memory.take_all();
+    for lacks in 0..STEPS {
+        match feed.go_on(alloc, held) {
+            Ok(()) => return Ok(lacks > 0),
+            Err((back, Fault::Memory)) => {
+                held = back;
+                give_more(memory);
+            }
+            Err((_, fault)) => return Err(fault),
+        }
+    }
+    Err(Fault::Memory)
 }
 
 impl<F: PutDown + Drop> CutFeed<F> {
@@ -69,15 +122,21 @@ impl<F: PutDown + Drop> CutFeed<F> {
         }
     }
 
-    fn give_memory(&mut self) {
-        if let Some(memory) = &mut self.memory {
-            memory.give_all();
+    // It goes on from what is held of it, by steps of memory where it is to.
+    fn cut(&mut self) -> Result<(), Fault> {
+        self.is_cut = true;
+        let Some(memory) = &mut self.memory else {
+            return self.cut_or_stay();
+        };
+        let (held, lacked) = put_down_by_steps(self.alloc, memory, &self.feed)?;
+        if go_on_by_steps(self.alloc, memory, &mut self.feed, held)? && lacked {
+            self.lack = Some(Lack::GoingOn);
         }
+        Ok(())
     }
 
     // It goes on from what is held of it, or as it is where memory lacks for that.
     fn cut_or_stay(&mut self) -> Result<(), Fault> {
-        self.give_memory();
         match self.feed.put_down(self.alloc) {
             Ok(held) => self.go_on_or_stay(held),
             Err(Fault::Memory) => {
@@ -109,8 +168,8 @@ impl<F: PutDown + Drop> Feed for CutFeed<F> {
         self.take_memory();
         self.feed.line(text, number)?;
         match self.cuts {
-            Cuts::Always => cut(self.alloc, &mut self.feed),
-            Cuts::After(line) if line == number => self.cut_or_stay(),
+            Cuts::Always => cut_twice(self.alloc, &mut self.feed),
+            Cuts::After(line) if line <= number && !self.is_cut => self.cut(),
             _ => Ok(()),
         }
     }

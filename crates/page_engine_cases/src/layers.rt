@@ -1,17 +1,20 @@
-//! Layers of a page that are refused memory, each alone: where one is made, where it is put down, and where it goes on from what is held of it.
+//! Layers of a page that are refused memory, each alone: where one is made, where it is put down, and where it goes on from what is held of it. What
+//! cuts lines is made alone, and never put down.
 
 use crate::cuts::Lack;
 use crate::refused::Refusals;
 use page_core::{Fault, Settings};
 use page_fill::Filler;
+use page_roff::Cutter;
 use page_scopes::Scopes;
 use page_sets::Man;
 use page_test_streams::{Ended, Scarce, scarce_difference};
 use std::alloc::Global;
 
-/// A layer below roff, which is run alone elsewhere.
+/// A layer beside roff, which is run alone elsewhere.
 #[derive(Clone, Copy)]
 enum Layer {
+    Cutter,
     Scopes,
     Filler,
 }
@@ -19,6 +22,14 @@ enum Layer {
 // How the calls of a layer ended that ask for memory, each after the other: with all of it, or at which call with which fault. That is a `Lack`, or none where
 // the layer was made.
 type Called = Result<(), (Option<Lack>, Fault)>;
+
+// Makes what cuts lines.
+fn call_cutter(alloc: Global, settings: &Settings) -> Called {
+    match Cutter::new(alloc, settings.encoding) {
+        Ok(_) => Ok(()),
+        Err(fault) => Err((None, fault)),
+    }
+}
 
 // Makes scopes, puts them down and goes on.
 fn call_scopes(alloc: Global, settings: &Settings) -> Called {
@@ -60,9 +71,20 @@ struct Calls<'a> {
     refusals: Refusals,
 }
 
+impl Calls<'_> {
+    // Whether each call was refused memory.
+    fn are_all_refused(&self) -> bool {
+        match self.layer {
+            Layer::Cutter => true,
+            _ => self.refusals.are_all(),
+        }
+    }
+}
+
 impl Scarce for Calls<'_> {
     fn once(&mut self, alloc: Global) -> Ended {
         let called = match self.layer {
+            Layer::Cutter => call_cutter(alloc, self.settings),
             Layer::Scopes => call_scopes(alloc, self.settings),
             Layer::Filler => call_filler(alloc, self.settings),
         };
@@ -79,7 +101,7 @@ impl Scarce for Calls<'_> {
 
 /// In which way a layer is not right where memory is refused to it, if one is not.
 pub(crate) fn layer_difference(alloc: Global, settings: &Settings) -> Option<&'static str> {
-    for layer in [Layer::Scopes, Layer::Filler] {
+    for layer in [Layer::Cutter, Layer::Scopes, Layer::Filler] {
         let mut calls = Calls {
             layer,
             settings,
@@ -89,7 +111,7 @@ pub(crate) fn layer_difference(alloc: Global, settings: &Settings) -> Option<&'s
         if way.is_some() {
             return way;
         }
-        if !calls.refusals.are_all() {
+        if !calls.are_all_refused() {
             return Some("refused memory at each call of a layer");
         }
     }

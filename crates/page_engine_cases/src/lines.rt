@@ -1,6 +1,6 @@
 //! The logical lines of a page, one by one, and what takes them.
 
-ghost use Rattle.std.specs.Prelude.{◌≡◌, ◌+◌, ◌^◌, ◌<◌, length, false, true, OnOk, IfSome};
+ghost use Rattle.std.specs.Prelude.{◌≡◌, ◌+◌, ◌^◌, ◌<◌, length, false, true, OnOk, IfOk};
 ghost use Rattle.page_core_base.specs.Texts.{IsLine};
 
 use crate::cuts::Lack;
@@ -46,14 +46,17 @@ pub(crate) struct Lines {
 
 impl Lines {
     /// Before the first byte.
-    pub(crate) fn new(alloc: Global, encoding: Encoding) -> Option<Lines>
-        ensures ready { IfSome result (λ lines. lines.cutter.ready ≡ false) }
-        ensures consumed { IfSome result (λ lines. lines.cutter.point.line.consumed ≡ 0) }
+    pub(crate) fn new(alloc: Global, encoding: Encoding) -> Result<Lines, Fault>
+        ensures ready { IfOk result (λ lines. lines.cutter.ready ≡ false) }
+        ensures consumed { IfOk result (λ lines. lines.cutter.point.line.consumed ≡ 0) }
     {
-        let cutter = Cutter::new(alloc, encoding).ok()?;
+        let cutter = Cutter::new(alloc, encoding)?;
         let mut cuts = KeptNotes::new(alloc);
-        cuts.notes = Vec::with_capacity(alloc, NOTES).ok()?;
-        Some(Lines { cutter, cuts })
+        match Vec::with_capacity(alloc, NOTES) {
+            Ok(notes) => cuts.notes = notes,
+            Err(_) => return Err(Fault::Memory),
+        }
+        Ok(Lines { cutter, cuts })
     }
 
     /// Whether nothing is reported of how the lines are cut.

@@ -4,8 +4,9 @@
 //! Each page is also run at once, with each write failing in turn, by roff alone, which counts the same, and, page and roff, so that they go on after
 //! each line from what is held of them. Where it then gives something else, a line `-- not` says so. Where an allocation is refused, either there is no
 //! page, or it is the one after the page; and the same of roff. A page with a cut, by its words, is run so alone: where memory lacks for that, it is reported.
-//! One that is scarce, by its words, is also run with memory refused, each growth in turn, where it is made, put down and goes on, with none at all
-//! in between; and so are its scopes and its filler alone.
+//! Each other page is run with no memory at all but where it is made and where it is put down after a line in its middle; it goes on with a step more each
+//! time, always from what was handed back. One that is scarce, by its words, is also run with memory refused, each growth in turn, where it is made,
+//! put down and goes on; and so are roff and the other layers alone.
 #![tactic(auto)]
 
 mod cuts;
@@ -25,7 +26,7 @@ use failing::Whole;
 use page_engine::Outcome;
 use page_test_streams::is_cheap;
 use pages::run_lines;
-use refused::{Case, refusal_difference};
+use refused::{Case, bare_difference, refusal_difference};
 use roffs::run_roff;
 use std::io;
 use streams::{Shows, Streams};
@@ -77,8 +78,9 @@ fn show(rt: &HostRuntime, page: &[u8], words: Words) {
         Shows::Text(rt)
     };
     let fails = (words.rows, words.messages);
-    if let Some(mut streams) = Streams::new(rt.alloc(), ROOM, fails, shows) {
-        show_page(rt, page, &words, &mut streams);
+    match Streams::new(rt.alloc(), ROOM, fails, shows) {
+        Some(mut streams) => show_page(rt, page, &words, &mut streams),
+        None => show_way(rt, "with memory for what it gives"),
     }
 }
 
@@ -88,7 +90,9 @@ fn show_page(rt: &HostRuntime, page: &[u8], words: &Words, streams: &mut Streams
         Some(number) => Cuts::After(number),
         None => Cuts::Never,
     };
-    let Some(ending) = run_lines(rt.alloc(), page, &words.settings, streams, cuts, None) else {
+    let ending = run_lines(rt.alloc(), page, &words.settings, streams, cuts, None);
+    let Some(ending) = ending else {
+        show_way(rt, "as long as a page may be");
         return;
     };
     streams.show();
@@ -99,15 +103,31 @@ fn show_page(rt: &HostRuntime, page: &[u8], words: &Words, streams: &mut Streams
     if words.cut.is_none() {
         show_differences(rt, page, words, streams, ending);
     }
-    if let Some(line) = words.scarce {
+    if words.cut.is_none() && words.are_well() && ending.result.is_ok() {
         let case = Case {
             page,
             settings: &words.settings,
-            line,
+            line: words.scarce.unwrap_or(middle_of(page)),
             ending,
         };
-        show_refusals(rt, case, streams);
+        show_refusals(rt, case, words.scarce.is_some(), streams);
     }
+}
+
+// The number of a line in the middle of a page.
+fn middle_of(page: &[u8]) -> u32 {
+    let mut lines = 0u32;
+    for byte in page {
+        if *byte == b'\n' {
+            lines = lines.saturating_add(1);
+        }
+    }
+    lines / 2 + 1
+}
+
+// Shows in which way a page gives something else.
+fn show_way(rt: &HostRuntime, way: &str) {
+    let _ = println!(rt; "-- not {way}");
 }
 
 fn show_ending(rt: &HostRuntime, ending: Ending) -> io::Result<()> {
@@ -148,7 +168,7 @@ fn show_outcome(rt: &HostRuntime, outcome: Outcome) -> io::Result<()> {
 
 // Shows where roff alone counts something else of the page, or lacks memory.
 fn show_roff(rt: &HostRuntime, page: &[u8], words: &Words, ending: Ending, cuts: Cuts) {
-    let roff = run_roff(rt.alloc(), page, &words.settings, ROOM, cuts);
+    let roff = run_roff(rt.alloc(), page, &words.settings, ROOM, cuts, None);
     let _ = match roff {
         Some(roff) => compare_roff(rt, roff, ending),
         None => println!(rt; "-- not by roff alone"),
@@ -193,6 +213,7 @@ fn show_differences(
 fn show_cuts(rt: &HostRuntime, page: &[u8], words: &Words, streams: &Streams, ending: Ending) {
     let fails = (words.rows, words.messages);
     let Some(mut cut) = Streams::new(rt.alloc(), 0, fails, Shows::Nothing) else {
+        show_way(rt, "with memory for what it gives where it is cut");
         return;
     };
     let by_cuts = run_lines(
@@ -206,7 +227,7 @@ fn show_cuts(rt: &HostRuntime, page: &[u8], words: &Words, streams: &Streams, en
     let is_same = by_cuts.is_some_and(|other| other.result == ending.result
         && other.later == ending.later);
     if !is_same || !cut.are(streams) {
-        let _ = println!(rt; "-- not where it is cut");
+        show_way(rt, "where it is cut");
     }
 }
 
@@ -214,20 +235,23 @@ fn show_cuts(rt: &HostRuntime, page: &[u8], words: &Words, streams: &Streams, en
 fn show_whole(rt: &HostRuntime, page: &[u8], words: &Words, streams: &Streams, ending: Ending) {
     let whole = Whole::new(rt.alloc(), page, &words.settings);
     if !whole.is(streams, ending.result) {
-        let _ = println!(rt; "-- not at once");
+        show_way(rt, "at once");
     }
     if !whole.stands_failures(rt.alloc(), page, &words.settings) {
-        let _ = println!(rt; "-- not where a write fails");
+        show_way(rt, "where a write fails");
     }
 }
 
-// Shows in which way the page is not right where memory is refused to it.
-fn show_refusals(rt: &HostRuntime, case: Case, streams: &Streams) {
+// Shows in which way the page is not right where memory is refused to it, each growth in turn where it is scarce.
+fn show_refusals(rt: &HostRuntime, case: Case, is_scarce: bool, streams: &Streams) {
     if !is_cheap(rt, rt.alloc()) {
-        let _ = eprintln!(rt; "memory can't be refused here at little cost, and is not");
+        show_way(rt, "with memory refused, which costs much on this host");
         return;
     }
-    if let Some(way) = refusal_difference(rt.alloc(), case, streams) {
-        let _ = println!(rt; "-- not {way}");
+    if let Some(way) = bare_difference(rt.alloc(), case, streams) {
+        show_way(rt, way);
+    }
+    if is_scarce && let Some(way) = refusal_difference(rt.alloc(), case, streams) {
+        show_way(rt, way);
     }
 }

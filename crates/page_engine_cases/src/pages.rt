@@ -109,7 +109,7 @@ impl PutDown for PageFeed<'_, '_> {
     }
 }
 
-/// Feeds a page line by line. What is not the page's has its memory before the page is made. Nothing, where that memory is refused. Where it is given
+/// Feeds a page line by line. What is not the page's has its memory before the page is made. Nothing, where the page is too long. Where it is given
 /// memory to take, none is left between its cuts.
 pub(crate) fn run_lines(
     alloc: Global,
@@ -122,7 +122,10 @@ pub(crate) fn run_lines(
     if bytes.len() > BYTES {
         return None;
     }
-    let lines = Lines::new(alloc, settings.encoding)?;
+    let lines = match Lines::new(alloc, settings.encoding) {
+        Ok(lines) => lines,
+        Err(fault) => return Some(Ending::without_lines(fault)),
+    };
     let ending = match new_page(alloc, settings) {
         Ok(page) => {
             let feed = PageFeed {
@@ -134,6 +137,7 @@ pub(crate) fn run_lines(
                 feed,
                 alloc,
                 cuts,
+                is_cut: false,
                 lack: None,
                 memory,
             };

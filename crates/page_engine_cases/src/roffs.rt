@@ -8,7 +8,7 @@ use crate::lines::{BYTES, FILE, Feed, Lines};
 use page_core::{Fault, Settings, TextNotes};
 use page_engine::Outcome;
 use page_roff::{Roff, RoffPart};
-use page_test_streams::{Fails, Store};
+use page_test_streams::{Fails, Scarcity, Store};
 use std::alloc::Global;
 
 /// What a source line may give at most: its finished lines, and that there are no more.
@@ -133,19 +133,25 @@ impl PutDown for RoffFeed {
 }
 
 /// Runs roff alone over the lines of a page, and keeps its messages in memory for a count of bytes. What is not roff's has its memory before
-/// roff is made. Nothing, where that memory is refused.
+/// roff is made. Nothing, where the page is too long.
 pub(crate) fn run_roff(
     alloc: Global,
     bytes: &[u8],
     settings: &Settings,
     room: usize,
     cuts: Cuts,
+    memory: Option<Scarcity>,
 ) -> Option<Ending> {
     if bytes.len() > BYTES {
         return None;
     }
-    let messages = Store::with_room(alloc, room, Fails::Never).ok()?;
-    let lines = Lines::new(alloc, settings.encoding)?;
+    let Ok(messages) = Store::with_room(alloc, room, Fails::Never) else {
+        return Some(Ending::without_lines(Fault::Memory));
+    };
+    let lines = match Lines::new(alloc, settings.encoding) {
+        Ok(lines) => lines,
+        Err(fault) => return Some(Ending::without_lines(fault)),
+    };
     let ending = match new_roff(alloc, settings) {
         Ok(roff) => {
             let feed = RoffFeed {
@@ -157,8 +163,9 @@ pub(crate) fn run_roff(
                 feed,
                 alloc,
                 cuts,
+                is_cut: false,
                 lack: None,
-                memory: None,
+                memory,
             };
             run(alloc, bytes, lines, feed)
         }

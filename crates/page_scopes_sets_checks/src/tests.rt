@@ -107,6 +107,7 @@ where
     for (script, wanted) in rows {
         let mut out = Pieces::new(alloc);
         let Ok(mut scopes) = Scopes::new(alloc, &Settings::new(), set) else {
+            assert!(rt; false, "no scopes for {script}");
             return;
         };
         give_script(rt, set, script, &mut scopes, &mut out);
@@ -129,6 +130,7 @@ where
 {
     let mut out = Pieces::new(alloc);
     let Ok(mut scopes) = Scopes::new(alloc, &Settings::new(), first) else {
+        assert!(rt; false, "no scopes for {script}");
         return;
     };
     scopes.choose(chosen);
@@ -226,6 +228,7 @@ fn settings_before_a_set(rt: HostRuntime) -> Result<(), Fail> {
     };
     let mut out = Pieces::new(alloc);
     let Ok(mut scopes) = Scopes::new(alloc, &settings, &Man) else {
+        assert!(rt; false, "no scopes");
         return Ok(());
     };
     scopes.choose(&Marked);

@@ -64,7 +64,7 @@ fn refused_difference<S: Scarce>(
     }
 }
 
-// Whether a call stands each step of memory: first it is refused, at last it is whole.
+// Whether a call stands each step of memory: first it is refused, at last it is whole. Where the steps lie in pieces, it is given all at last.
 fn stands_refusals<S: Scarce>(alloc: Global, memory: &mut Scarcity, call: &mut S) -> bool {
     let mut refused = 0usize;
     let mut whole = 0usize;
@@ -74,8 +74,11 @@ fn stands_refusals<S: Scarce>(alloc: Global, memory: &mut Scarcity, call: &mut S
             Ended::Whole => whole = whole.saturating_add(1),
             Ended::Otherwise => return false,
         }
-        if whole >= WHOLE || !memory.give_step() {
-            return refused > 0 && whole >= WHOLE;
+        if whole >= WHOLE {
+            return refused > 0;
+        }
+        if !memory.give_step() {
+            memory.give_all();
         }
     }
     false
