@@ -1,10 +1,10 @@
-# Proves and builds the program, installs it, and checks the whole repository. `make quick` builds it with no proof.
+# Proves and builds the program, installs it, and checks the whole repository. `make quick` builds it with no proof, and `make test` runs all cases with none.
 PREFIX ?= /usr/local
 
 # All that the program is made of; a folder changes with the names of its files.
 SOURCES := crates.txt $(shell find crates/*/src crates/*/specs crates/*/proofs 2> /dev/null)
 
-.PHONY: all quick check edits refusals install clean
+.PHONY: all quick test check edits refusals install clean
 
 all: mandoc
 
@@ -18,6 +18,10 @@ quick: mandoc-unproved
 
 mandoc-unproved: $(SOURCES) tools/quick
 	@tools/quick $@
+
+# All cases, in about five minutes: of pages, layers and the program, with no proof of anything. Its last line is 'N passed, M failed'.
+test:
+	@tools/test
 
 # The whole gate: what the documents say of the code, all proofs, edits, tests and runs, and the cases of the program that was proved. Its last
 # line is 'N passed, M failed'.
@@ -34,11 +38,15 @@ refusals:
 	@bench/run refusals
 	@bench/run refusals_program
 
+# The manual pages of the program's commands have its name in front, so that they hurt no other makewhatis and whatis.
 install: mandoc
 	install -D -m 755 mandoc $(DESTDIR)$(PREFIX)/bin/mandoc
 	install -D -m 644 man/mandoc.1 $(DESTDIR)$(PREFIX)/share/man/man1/mandoc.1
 	install -D -m 644 man/makewhatis.1 $(DESTDIR)$(PREFIX)/share/man/man1/mandoc-makewhatis.1
 	install -D -m 644 man/whatis.1 $(DESTDIR)$(PREFIX)/share/man/man1/mandoc-whatis.1
+	mkdir -p $(DESTDIR)$(PREFIX)/share/doc/mandoc
+	cp -R contrib $(DESTDIR)$(PREFIX)/share/doc/mandoc/
+	rm -f $(DESTDIR)$(PREFIX)/share/doc/mandoc/contrib/check
 
 clean:
 	rm -rf crates/*/out mandoc mandoc-unproved

@@ -14,8 +14,13 @@ use std::io;
 use text::{change_of, line_at};
 
 fn main(rt: HostRuntime) -> io::Result<()> {
-    let mut text = Vec::new(rt.alloc());
     let mut preview = new_preview(&rt);
+    run(&rt, &mut preview)
+}
+
+// Shows the page and each of its changes.
+fn run(rt: &HostRuntime, preview: &mut Preview) -> io::Result<()> {
+    let mut text = Vec::new(rt.alloc());
     let mut is_shown = false;
     for line in rt.lines(rt.alloc()) {
         let line = line?;
@@ -25,18 +30,18 @@ fn main(rt: HostRuntime) -> io::Result<()> {
             continue;
         };
         if !is_shown {
-            show(&rt, &mut preview, text.as_slice(), 0)?;
+            show(rt, preview, text.as_slice(), 0)?;
             is_shown = true;
         }
         let (begin, end) = line_at(text.as_slice(), number);
-        text = changed(&rt, text.as_slice(), (begin, end), new)?;
+        text = changed(rt, text.as_slice(), (begin, end), new)?;
         println!(rt; "{line}")?;
-        show(&rt, &mut preview, text.as_slice(), begin)?;
+        show(rt, preview, text.as_slice(), begin)?;
     }
     if is_shown {
         return Ok(());
     }
-    show(&rt, &mut preview, text.as_slice(), 0)
+    show(rt, preview, text.as_slice(), 0)
 }
 
 // A preview with no page yet, in UTF-8 and with all messages.

@@ -1,6 +1,6 @@
 //! What is kept of a page, so that a change lets only what follows it be formatted anew.
 
-ghost use Rattle.std.specs.Prelude.{◌≡◌, ◌≤◌, length, true, false, OnOk};
+ghost use Rattle.std.specs.Prelude.{◌≡◌, ◌+◌, ◌^◌, ◌<◌, length, true, false, OnOk};
 
 use page_core::{Fault, Settings, TextNotes, TextRows};
 use page_engine::{Edge, Page};
@@ -58,9 +58,14 @@ impl Preview {
         if text.len() > BYTES {
             return Err(Fault::TooLong);
         }
-        let (mut page, place) = self.start(same)?;
-        self.feed(&mut page, text, place)?;
-        Ok(place)
+        let mut cutter = Cutter::new(self.alloc, self.settings.encoding)?;
+        match self.start(same) {
+            Ok((mut page, place)) => {
+                let fed = self.feed(&mut page, &mut cutter, text, place);
+                fed.map(|()| place)
+            }
+            Err(fault) => Err(fault),
+        }
     }
 
     /// The rows that came anew.
@@ -86,8 +91,10 @@ impl Preview {
             }
         }
         self.keep(0, 0);
-        let page = Page::new(self.alloc, self.settings)?;
-        Ok((page, 0))
+        match Page::new(self.alloc, self.settings) {
+            Ok(page) => Ok((page, 0)),
+            Err(fault) => Err(fault),
+        }
     }
 
     // The page at an edge. `Page::resume` takes the edge, and so it is asked for once more; where memory lacks, it comes back.
@@ -95,10 +102,10 @@ impl Preview {
         let place = mark.place;
         self.keep(mark.rows, mark.messages);
         match Page::resume(self.alloc, mark.edge) {
-            Ok(page) => {
-                self.push_edge(&page, place)?;
-                Ok((page, place))
-            }
+            Ok(page) => match self.push_edge(&page, place) {
+                Ok(()) => Ok((page, place)),
+                Err(fault) => Err(fault),
+            },
             Err((edge, fault)) => {
                 let _ = self.push_mark(edge, place);
                 Err(fault)
@@ -134,22 +141,28 @@ impl Preview {
 
     // Feeds the lines below a place to a page, and its end. The text is cut from its first byte on, so that lines have their numbers, and their bytes
     // the encoding that is chosen in front of them; those of the front are passed over.
-    fn feed(&mut self, page: &mut Page, text: &[u8], start: usize) -> Result<(), Fault>
-        requires { length text.now ≤ BYTES }
+    fn feed(
+        &mut self,
+        page: &mut Page,
+        cutter: &mut Cutter,
+        text: &[u8],
+        start: usize,
+    ) -> Result<(), Fault>
+        requires ready { cutter.old.ready ≡ false }
+        requires consumed { cutter.old.point.line.consumed + length text.now < 2 ^ 31 }
     {
-        let mut cutter = Cutter::new(self.alloc, self.settings.encoding)?;
         let mut place = 0;
         'parts: for _ in 0..text.len() {
             if place < text.len() {
                 let (count, is_whole) = cutter.feed(&text[place..]);
                 place += count;
                 if is_whole {
-                    self.give_line(page, &mut cutter, place, start)?;
+                    self.give_line(page, cutter, place, start)?;
                 }
             }
         }
         if cutter.end() {
-            self.take_line(page, &mut cutter)?;
+            self.take_line(page, cutter)?;
         }
         self.end(page)
     }
