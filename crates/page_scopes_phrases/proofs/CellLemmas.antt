@@ -3,6 +3,7 @@ use Rattle.std.proofs.Common.{◌≡◌, ℕ, zero, suc, ◌+◌, ◌<◌, ◌�
 use Rattle.std.specs.List.{prefix_len}
 use Rattle.std.proofs.lemmas.Bool.{cases_Bool}
 use Rattle.std.proofs.lemmas.Bool.Decides.{nat_tests}
+use Rattle.std.proofs.lemmas.List.{drop_more}
 use Rattle.page_core_base.specs.Latches.{CameUpTo}
 use Rattle.page_core_base.specs.Pieces.{Item}
 use Rattle.page_core_escapes.specs.Tokens.{begins_white, is_space, is_white, token_at, token_len, tokens_of}
@@ -43,6 +44,12 @@ blanks_more : (quoted : Bool) (text : List ℕ) (n : ℕ) → 0 < n → n ≡ to
     → before_blanks (tokens_of quoted text) ≡ with_more (token_at quoted text) (before_blanks (tokens_of quoted (drop n text)))
 blanks_more quoted text n some e h = ap before_blanks (tokens_more quoted text n some e) ∙ (rw h refl)
 
+drop-first : (n b : ℕ) (bs : List ℕ) → drop (1 + n) (b ∷ bs) ≡ drop n bs
+drop-first n b bs = let s : 1 + n ≡ suc n = omega arith in ap (λ k. drop k (b ∷ bs)) s
+
+take-first : (n b : ℕ) (bs : List ℕ) → take (1 + n) (b ∷ bs) ≡ b ∷ take n bs
+take-first n b bs = let s : 1 + n ≡ suc n = omega arith in ap (λ k. take k (b ∷ bs)) s
+
 -- blanks up to a tab at a text's front: they are the front of its white space
 ahead : (text rest : List ℕ) → drop (prefix_len (λ byte. byte == 32) text) text ≡ 9 ∷ rest
     → (prefix_len (λ byte. not (byte == 9)) (take (prefix_len is_white text) text) ≡ prefix_len (λ byte. byte == 32) text)
@@ -52,6 +59,7 @@ ahead [] rest h = absurd (grind (arith, ap length h))
 ahead (b ∷ bs) rest h = elim (cases_Bool (b == 32)) [
   | inl e ↦
       let no : (b == 9) ≡ false = grind (arith, nat_tests, e) in
+<<<<<<< HEAD
       let more = ahead bs rest (rw e at h) in
       let len = more.0 in
       let less = more.1 in
@@ -60,15 +68,17 @@ ahead (b ∷ bs) rest h = elim (cases_Bool (b == 32)) [
       let first : b ≡ 9 = ap (λ l. get_or l 0 0) (rw e at h) in
       let tab : (b == 9) ≡ true = grind (arith, nat_tests, first) in
       rw (e, tab) (refl, omega arith, refl)
+=======
+      let more = ahead bs rest (sym (drop-first (prefix_len (λ byte. byte == 32) bs) b bs) ∙ (rw e at h)) in
+      let len = more.0 in
+      let less = more.1 in
+      rw (e, take-first (prefix_len is_white bs) b bs, no) (omega (arith, len), omega (arith, less), refl)
+  | inr e ↦
+      let first : b ≡ 9 = ap (λ l. get_or l 0 0) (rw e at h) in
+      let tab : (b == 9) ≡ true = grind (arith, nat_tests, first) in
+      rw (e, tab, take-first (prefix_len is_white bs) b bs, tab) (refl, omega arith, refl)
+>>>>>>> 8b26d726be386275c85504c26f4dd5c705878f64
 ]
-
-pub tab_ahead : (quoted : Bool) (text rest : List ℕ) → drop (prefix_len (λ byte. byte == 32) text) text ≡ 9 ∷ rest
-    → tab_in (token_at quoted text) ≡ Some (prefix_len (λ byte. byte == 32) text)
-unfolding token_at
-tab_ahead quoted text rest h =
-    let a = ahead text rest h in
-    let before = is_before (prefix_len (λ byte. byte == 32) text) (length (take (prefix_len is_white text) text)) a.1 in
-    rw (a.2, a.0, before) refl
 
 -- where the first cell ends, by what is found of it and what is left
 abbrev pub end_by : ℕ → ℕ → ℕ → ℕ
@@ -108,6 +118,26 @@ end_within space end start most found e h k = rw e (either_within space end star
 pub span_is : (quoted : Bool) (text : List ℕ) (end tab : ℕ) → end ≡ before_blanks (tokens_of quoted text) → tab ≡ before_tab (tokens_of quoted text)
     → (let found : CellSpan = record { end = end; tab = tab } in found ≡ span_of quoted text)
 span_is quoted text end tab h k = rw (h, k) refl
+
+-- the token there: white space, and its first tab
+token-ahead : (quoted : Bool) (text rest : List ℕ) → drop (prefix_len (λ byte. byte == 32) text) text ≡ 9 ∷ rest
+    → (0 < token_len quoted text) × (tab_in (token_at quoted text) ≡ Some (prefix_len (λ byte. byte == 32) text))
+unfolding token_at
+token-ahead quoted text rest h =
+    let a = ahead text rest h in
+    let some = a.1 in
+    let before = is_before (prefix_len (λ byte. byte == 32) text) (length (take (prefix_len is_white text) text)) a.1 in
+    (rw a.2 (omega (arith, some)), rw (a.2, a.0, before) refl)
+
+-- the first cell of such a text
+pub span-ahead : (quoted : Bool) (text : List ℕ) (blanks : ℕ) → blanks ≡ prefix_len (λ byte. byte == 32) text → blanks < length text → get_or text blanks 0 ≡ 9
+    → (let found : CellSpan = record { end = 0; tab = blanks } in span_of quoted text ≡ found)
+span-ahead quoted text blanks e less tab =
+    let rest = drop (blanks + 1) text in
+    let front : drop blanks text ≡ 9 ∷ rest = drop_more text blanks 0 less ∙ ap (λ byte. byte ∷ rest) tab in
+    let token = token-ahead quoted text rest (ap (λ n. drop n text) (sym e) ∙ front) in
+    let n = token_len quoted text in
+    sym (span_is quoted text 0 blanks (sym (blanks_found quoted text n _ token.0 refl token.1)) (e ∙ sym (tab_found quoted text n _ token.0 refl token.1)))
 
 -- ---- a text in cells
 

@@ -1,9 +1,9 @@
 //! Texts in the columns of a list (mdoc(7), `Bl -column`, `Ta`).
 
-ghost use Rattle.std.specs.Prelude.{◌≡◌, ◌≤◌, ◌<◌, ◌==◌, if◌then◌else◌, Bool, Some, length, position, IfSome};
+ghost use Rattle.std.specs.Prelude.{◌≡◌, ◌≤◌, ◌<◌, ◌==◌, if◌then◌else◌, Bool, length, position, IfSome};
 ghost use Rattle.std.specs.List.{prefix_len};
 ghost use Rattle.page_core_base.specs.Latches.{Came};
-ghost use Rattle.page_core_escapes.specs.Tokens.{is_space, token_at, token_bytes, token_view};
+ghost use Rattle.page_core_escapes.specs.Tokens.{is_space, token_bytes, token_view};
 ghost use Rattle.page_scopes_phrases.specs.Cells as cells;
 ghost use Rattle.page_sets_lines.specs.Fits.{FitsAt};
 ghost use Rattle.page_scopes_phrases.specs.Outcomes.{GivesOutcome};
@@ -104,15 +104,16 @@ fn end_after(token: &Token<'_>, before: usize, after: usize) -> usize
     }
 }
 
-// The blanks before a tab, where a text begins with one behind blanks alone. Nothing of what follows is read: a run of tabs is parted tab by tab.
+// The blanks before a tab that a text begins with: its first cell has no byte. What follows the tab is not read, so that each tab of a run is read once.
 fn blanks_before_tab(text: &[u8]) -> Option<usize>
-    ensures value { IfSome result (λ blanks. (quoted : Bool) → cells.tab_in (token_at quoted text.now) ≡ Some blanks) }
+    ensures value { IfSome result (λ blanks. (quoted : Bool) → cells.span_of quoted text.now ≡ record { end = 0; tab = blanks }) }
     ensures within { IfSome result (λ blanks. blanks < length text.now) }
 {
     let blanks = count_blanks(text);
-    match &text[blanks..] {
-        [b'\t', ..] => Some(blanks),
-        _ => None,
+    if blanks < text.len() && text[blanks] == b'\t' {
+        Some(blanks)
+    } else {
+        None
     }
 }
 

@@ -4,10 +4,23 @@ use Rattle.std.proofs.lemmas.List.{take_rest}
 use Rattle.page_core_escapes.specs.Tokens.{is_space, token_at, token_bytes, token_view, tokens_of}
 use Rattle.page_scopes_phrases.specs.Cells.{before_blanks, tab_in}
 use Rattle.page_scopes_phrases.proofs.CellLemmas.{blanks_found, blanks_none, end_by, end_more, end_within, span_is, tab_found, tab_more, tab_none}
+use Rattle.page_scopes_phrases.specs.declared.cells.CellSpan.{CellSpan}
 use Rattle.page_scopes_phrases.proofs.cells.find_cell.Goals as goal
 
 pub returns-in-Some-clause-value : goal.returns-in-Some-clause-value
 returns-in-Some-clause-value c =
+    let l = c.loop-rest in
+    let quoted = c.args.quoted in
+    let text = c.args.text.now in
+    let start = length text - length l.rest.now in
+    let found = c.in-Some.ensures.value quoted in
+    let blanks = ap (λ (s : CellSpan). s.end) found in
+    let tab = ap (λ (s : CellSpan). s.tab) found in
+    span_is quoted text l.end (start + c.in-Some.blanks) (sym (l.invariant.1 ∙ ap (end_by l.end start) blanks))
+    (ap (λ k. start + k) (sym tab) ∙ sym l.invariant.0)
+
+pub returns-in-Some-tab_in-clause-value : goal.returns-in-Some-tab_in-clause-value
+returns-in-Some-tab_in-clause-value c =
     let l = c.loop-rest in
     let quoted = c.args.quoted in
     let text = c.args.text.now in
@@ -17,11 +30,11 @@ returns-in-Some-clause-value c =
     let n = length (token_bytes (token_view c.read_token-token.result)) in
     let less : 0 < n = v.some some in
     let is = ap (λ u. length (token_bytes u)) v.value in
-    let tab = ap tab_in (sym v.value) ∙ sym c.tab_in.ensures.value ∙ c.in-Some.is in
-    let found = tab_found quoted rest n c.in-Some.before less is tab in
-    let blanks = blanks_found quoted rest n c.in-Some.before less is tab in
+    let tab = ap tab_in (sym v.value) ∙ sym c.tab_in.ensures.value ∙ c.in-Some-tab_in.is in
+    let found = tab_found quoted rest n c.in-Some-tab_in.before less is tab in
+    let blanks = blanks_found quoted rest n c.in-Some-tab_in.before less is tab in
     let start = length text - length rest in
-    span_is quoted text l.end (start + c.in-Some.before) (sym (l.invariant.1 ∙ ap (end_by l.end start) blanks))
+    span_is quoted text l.end (start + c.in-Some-tab_in.before) (sym (l.invariant.1 ∙ ap (end_by l.end start) blanks))
     (ap (λ k. start + k) (sym found) ∙ sym l.invariant.0)
 
 pub loop-rest-preserved : goal.loop-rest-preserved

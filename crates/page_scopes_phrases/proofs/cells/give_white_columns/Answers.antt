@@ -1,4 +1,4 @@
-use Rattle.std.proofs.Common.{◌≤◌, length, drop, get_or, sym, arith}
+use Rattle.std.proofs.Common.{◌+◌, ◌≤◌, length, drop, get_or, sym, arith}
 use Rattle.std.proofs.lemmas.List.{drop_all, drop_more}
 use Rattle.page_scopes_phrases.specs.Cells.{white_columns}
 use Rattle.page_scopes_phrases.proofs.CellLemmas.{OutcomeLeft, white-goes-on}
