@@ -59,16 +59,6 @@ ahead [] rest h = absurd (grind (arith, ap length h))
 ahead (b ∷ bs) rest h = elim (cases_Bool (b == 32)) [
   | inl e ↦
       let no : (b == 9) ≡ false = grind (arith, nat_tests, e) in
-<<<<<<< HEAD
-      let more = ahead bs rest (rw e at h) in
-      let len = more.0 in
-      let less = more.1 in
-      rw (e, no) (omega (arith, len), omega (arith, less), refl)
-  | inr e ↦
-      let first : b ≡ 9 = ap (λ l. get_or l 0 0) (rw e at h) in
-      let tab : (b == 9) ≡ true = grind (arith, nat_tests, first) in
-      rw (e, tab) (refl, omega arith, refl)
-=======
       let more = ahead bs rest (sym (drop-first (prefix_len (λ byte. byte == 32) bs) b bs) ∙ (rw e at h)) in
       let len = more.0 in
       let less = more.1 in
@@ -77,7 +67,6 @@ ahead (b ∷ bs) rest h = elim (cases_Bool (b == 32)) [
       let first : b ≡ 9 = ap (λ l. get_or l 0 0) (rw e at h) in
       let tab : (b == 9) ≡ true = grind (arith, nat_tests, first) in
       rw (e, tab, take-first (prefix_len is_white bs) b bs, tab) (refl, omega arith, refl)
->>>>>>> 8b26d726be386275c85504c26f4dd5c705878f64
 ]
 
 -- where the first cell ends, by what is found of it and what is left
