@@ -15,6 +15,7 @@ const STEPS: usize = 10_000;
 #[derive(Clone, Copy)]
 pub(crate) enum Cuts {
     Never,
+    /// After each, twice.
     Always,
     /// After the first line of this number or a greater one. Where memory lacks for that, it goes on as it is.
     After(u32),
