@@ -15,9 +15,12 @@ const STEPS: usize = 10_000;
 #[derive(Clone, Copy)]
 pub(crate) enum Cuts {
     Never,
+    /// After each, twice.
     Always,
-    /// After the first line of this number or a greater one. Where memory lacks for that, it goes on as it is.
+    /// After the line of a number, where a line has it. Where memory lacks for that, it goes on as it is.
     After(u32),
+    /// The same after the first line of this number or a greater one.
+    From(u32),
 }
 
 /// What memory lacked for.
@@ -45,7 +48,7 @@ pub(crate) struct CutFeed<F> {
     pub(crate) feed: F,
     pub(crate) alloc: Global,
     pub(crate) cuts: Cuts,
-    /// Whether it went on from what is held after a line of `Cuts::After`, or was to.
+    /// Whether it went on from what is held after a line of `Cuts::After` or `Cuts::From`, or was to.
     pub(crate) is_cut: bool,
     /// What memory lacked for, if for anything.
     pub(crate) lack: Option<Lack>,
@@ -169,7 +172,8 @@ impl<F: PutDown + Drop> Feed for CutFeed<F> {
         self.feed.line(text, number)?;
         match self.cuts {
             Cuts::Always => cut_twice(self.alloc, &mut self.feed),
-            Cuts::After(line) if line <= number && !self.is_cut => self.cut(),
+            Cuts::After(line) if line == number => self.cut(),
+            Cuts::From(line) if line <= number && !self.is_cut => self.cut(),
             _ => Ok(()),
         }
     }

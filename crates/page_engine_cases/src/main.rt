@@ -2,11 +2,11 @@
 //! The standard input has the pages, each after a line `== WORDS: what it shows`, where the words are those of `words` or none.
 //!
 //! Each page is also run at once, with each write failing in turn, by roff alone, which counts the same, and, page and roff, so that they go on after
-//! each line from what is held of them. Where it then gives something else, a line `-- not` says so. Where an allocation is refused, either there is no
-//! page, or it is the one after the page; and the same of roff. A page with a cut, by its words, is run so alone: where memory lacks for that, it is reported.
-//! Each other page is run with no memory at all but where it is made and where it is put down after a line in its middle; it goes on with a step more each
-//! time, always from what was handed back. One that is scarce, by its words, is also run with memory refused, each growth in turn, where it is made,
-//! put down and goes on; and so are roff and the other layers alone.
+//! each line from what is held of them, and once more from what is held then. Where it gives something else, a line `-- not` says so. Where an
+//! allocation is refused, either there is no page, or it is the one after the page; and the same of roff. A page with a cut, by its words, is run so
+//! alone: where memory lacks for that, it is reported. Each other page is also run with no memory at all but where it is made and where it is put down,
+//! after a line in its middle, and goes on: there with a step more each time, always from what was handed back. One that is scarce, by its words, is
+//! also run with memory refused, each growth in turn, where it is made, put down and goes on; and so are roff and the other layers alone.
 #![tactic(auto)]
 
 mod cuts;

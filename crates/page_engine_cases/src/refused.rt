@@ -87,7 +87,7 @@ impl<'a> Run<'a> {
             self.case.page,
             self.case.settings,
             &mut self.streams,
-            Cuts::After(self.case.line),
+            Cuts::From(self.case.line),
             memory,
         )
     }
@@ -158,7 +158,7 @@ struct RoffRun<'a> {
 impl RoffRun<'_> {
     // Runs roff over all lines, and it goes on after one from what is held of it.
     fn feed(&self, alloc: Global, memory: Option<Scarcity>) -> Option<Ending> {
-        let cuts = Cuts::After(self.case.line);
+        let cuts = Cuts::From(self.case.line);
         run_roff(
             alloc,
             self.case.page,
