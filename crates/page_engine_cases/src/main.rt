@@ -17,6 +17,7 @@ mod lines;
 mod pages;
 mod refused;
 mod roffs;
+mod stack_room;
 mod streams;
 mod words;
 
@@ -28,6 +29,7 @@ use page_test_streams::is_cheap;
 use pages::run_lines;
 use refused::{Case, bare_difference, refusal_difference};
 use roffs::run_roff;
+use stack_room::has_stack_room;
 use std::io;
 use streams::{Shows, Streams};
 use words::Words;
@@ -36,6 +38,9 @@ use words::Words;
 const ROOM: usize = 100_000;
 
 fn main(rt: HostRuntime) -> io::Result<()> {
+    if !has_stack_room(rt.alloc()) {
+        let _ = println!(rt; "-- no room on the stack");
+    }
     let mut page = Vec::new(rt.alloc());
     let mut words = Words::new();
     let mut is_first = true;
