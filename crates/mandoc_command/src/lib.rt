@@ -1,7 +1,7 @@
 //! The command lines of the formatter and of the programs on indexes of pages: what their words ask for, and the status that a run ends with
 //! (mandoc(1), makewhatis(8), whatis(1)).
 //!
-//! It stands beside the layers of a page: the program (`mandoc_cli`) asks it what to do, and runs pages by its settings.
+//! It is independent of the layers of a page: the program (`mandoc_cli`) asks it what to do, and runs pages by its settings.
 //!
 //! Read first: `command` in `line.rt`, with `specs/Line.antt` and `specs/Asked.antt`; then `status_of`.
 //!

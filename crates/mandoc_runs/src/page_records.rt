@@ -95,7 +95,7 @@ impl<R: Files, V: Write> Pages<'_, R, V> {
         Ok(worst)
     }
 
-    // Gives the record of the page in a file, if it has one, and answers the status. A file whose name can't stand in an index is passed over.
+    // Gives the record of the page in a file, if it has one, and answers the status. A file whose name can't be in an index is passed over.
     fn give_page<W: Write>(&mut self, out: &mut W, file: &str) -> Result<u8, Fault> {
         if !is_field(file) {
             return Ok(0);
@@ -128,7 +128,7 @@ impl<R: Files, V: Write> Pages<'_, R, V> {
     }
 }
 
-// The names of what lies in a folder, in the order of their bytes. A name that isn't text can't stand in an index, and is left out.
+// The names of what lies in a folder, in the order of their bytes. A name that isn't text can't be in an index, and is left out.
 fn names_in<R: Files>(rt: &R, alloc: Global, folder: &str) -> io::Result<Vec<String>> {
     let mut names = Vec::new(alloc);
     for entry in fs::read_dir(&(rt, alloc), folder)? {

@@ -12,7 +12,7 @@ use std::{env, fs};
 
 const FOLDERS: &[&str] = &["man1", "man1/sub.1", "man8", "man10"];
 
-// A page without a message to be formatted, and pages in folders: the name of one can't stand in an index, one has no record, and one isn't
+// A page without a message to be formatted, and pages in folders: the name of one can't be in an index, one has no record, and one isn't
 // where pages are.
 const FILES: &[(&str, &str)] = &[
     ("quiet.1", ".TH T 1 2020-01-01 S\n.SH NAME\nt \\- x\n"),
@@ -35,7 +35,7 @@ const FILES: &[(&str, &str)] = &[
 /// The index of the folder.
 pub const INDEX: &str = "whatis.idx";
 
-// What stands beside it before it is whole.
+// The temporary file beside it, before that is whole.
 const UNFINISHED: &str = "whatis.tmp";
 
 /// A command line in a folder; which flush of its rows and of its messages fails; what its writers get, and its status; and what becomes

@@ -2,9 +2,9 @@
 //! `== WORDS: what it shows`, where the words are those of `Words` or none, under headings `==== NAME`, in the order of `docs/PROFILE.md`. What
 //! cannot be written is missing from what is wanted.
 //!
-//! Behind them, after titles that begin with `record`, stand pages whose records are shown: `[names] (section) [description]`, or `none`. A title with
+//! Behind them, after titles that begin with `record`, are pages whose records are shown: `[names] (section) [description]`, or `none`. A title with
 //! `whatis` and the words of `Asked` has an index below it, in the notation of `index_of` and with `~N*TEXT~` for what comes N times: the rows are shown
-//! that are found there, and their number. Cases that are refused memory stand last.
+//! that are found there, and their number. Cases that are refused memory come last.
 //!
 //! Each case is also run by bytes or a few of them, cut, and with reads and writes that fail, unless it is a page that is to be run once, and one that
 //! says so with memory refused. Where it then gives something else, a line `-- not` says how.

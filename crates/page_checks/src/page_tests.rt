@@ -12,7 +12,7 @@ use std::io::{self, Read};
 use std::process::Abort;
 use std::test::Fail;
 
-// A page; what stands between its header and its footer; its messages and the worst level of these; how many lines it has.
+// A page; what is between its header and its footer; its messages and the worst level of these; how many lines it has.
 struct Case {
     page: &'static [u8],
     body: &'static str,

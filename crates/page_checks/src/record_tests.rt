@@ -53,7 +53,7 @@ fn writes_and_prints(rt: HostRuntime) -> Result<(), Fail> {
     check_bytes(&rt, out.kept.as_slice(), want)
 }
 
-// A front of the line, or of the row, stands before a failing write.
+// A front of the line, or of the row, was written before a failing write.
 #[test]
 fn tells_where_a_write_fails(rt: HostRuntime) -> Result<(), Fail> {
     let page = record(rt.alloc(), "t", "1", "x")?;

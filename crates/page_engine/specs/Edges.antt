@@ -1,4 +1,4 @@
--- What is held between two lines of a page: all of the past that decides the rest. No value stands twice in it: the layers share the output, the width of
+-- What is held between two lines of a page: all of the past that decides the rest. No value is in it twice: the layers share the output, the width of
 -- rows, the indent and the number of the last line, and `lines_at` puts these into the edge of each. Source: mandoc(1), "DIAGNOSTICS".
 use Rattle.std.specs.Prelude.{◌≡◌, ℕ, Bool, true, Option, None, List, unwrap_or}
 use Rattle.page_core_base.specs.declared.note_kinds.Level.{Level}
@@ -24,7 +24,7 @@ use Rattle.page_sets.specs.declared.either.Either.{Either}
 
 -- ---- the edge of a page
 
--- Where roff stands: in a region and in blocks; with what names stand for, and the body that the open region has so far, or the text of a loop that is
+-- Where roff is: in a region and in blocks; with what names stand for, and the body that the open region has so far, or the text of a loop that is
 -- collected; source lines, lines taken of them, and interpolations are counted.
 pub record RoffPart : Type 0 where
   pub place : Place
@@ -32,7 +32,7 @@ pub record RoffPart : Type 0 where
   pub body : Option (List ℕ)
   pub counts : Counts
 
--- Where the macros stand: their set, and whether a line or the settings decided it; the fields of the title; whether the rest of a line is passed over,
+-- Where the macros are: their set, and whether a line or the settings decided it; the fields of the title; whether the rest of a line is passed over,
 -- and the open scopes; the context, what is known along the page, whether its body has begun, and the manual's name.
 pub record BodyPart : Type 0 where
   pub set : Either

@@ -26,7 +26,7 @@ of_page e next l = record {
 
 -- ---- lines
 
--- a line as roff takes it: the messages of its cutting stand before what it gives
+-- a line as roff takes it: the messages of its cutting are before what it gives
 abbrev pub raw : Line → SourceLine
 raw line = raw_line line.number line.text line.notes
 
@@ -59,7 +59,7 @@ text_line text number = record { number = number; text = text; notes = [] }
 abbrev pub page_items : Edge → List Line → List Item
 page_items e lines = acts.page_items (lines_at e) (raw_lines lines) (last_line (after e lines))
 
--- the footer after a blank row, unless one stands there, and the end of the row
+-- the footer after a blank row, unless one is there, and the end of the row
 abbrev pub footer_laid : Edge → FillEdge → Laid FillEdge
 footer_laid e f = seq (filled f (footer_items (lines_at e) (last_line e) (fill.blank_rows_at_end f))) row_end
 

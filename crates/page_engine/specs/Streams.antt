@@ -46,7 +46,7 @@ pub record Front {R N E : Type 0} (k : Sinks R N) (r r' : R) (n n' : N) (l : Lai
   pub gave : FrontCame k.to r r' n n' l
   pub cause : IsSinkFault fault (k.rows_failed r) (k.rows_failed r') (k.notes_failed n) (k.notes_failed n')
 
--- no sink failed, and neither count of failures stands at its end
+-- no sink failed, and neither count of failures is at its end
 pub record AreWell {R N : Type 0} (k : Sinks R N) (r r' : R) (n n' : N) : Type 0 where
   pub rows : k.rows_failed r' ≡ k.rows_failed r
   pub rows_room : k.rows_failed r < 2 ^ 64 - 1

@@ -13,7 +13,7 @@ ghost use Rattle.page_engine.specs.Edges.{lines_at, roff_at};
 ghost use Rattle.page_engine.specs.Page.{Edge, IsReached, settled, edge, page, counts_at, start, raw_lines};
 ghost use Rattle.page_engine.specs.Within.{IsWithin, text_bytes};
 
-/// The edges that a page comes to: the one of its start, and from each such edge the one that lines leave. What the layers share stands once in it, and
+/// The edges that a page comes to: the one of its start, and from each such edge the one that lines leave. What the layers share is in it once, and
 /// nothing is lost by that: the edges that it makes for roff and the body are those that the lines leave there.
 pub fn reached_law()
     ensures start { (s : Settings) → IsReached (start s) }

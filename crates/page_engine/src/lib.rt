@@ -1,6 +1,6 @@
 //! A page from its bytes to its rows and messages, and the page itself, whose lines come one by one.
 //!
-//! It stands above all layers: each line goes through roff and the macros (`page_engine_lines`), and what they give is filled (`page_fill`). Below it
+//! It is above all layers: each line goes through roff and the macros (`page_engine_lines`), and what they give is filled (`page_fill`). Below it
 //! are the lines of the bytes (`page_roff_lines`), above it the program. It gives out the calls on records and indexes (`page_engine_records`,
 //! `page_engine_index`), too.
 //!

@@ -1,6 +1,6 @@
 //! How a page ends whose lines come one by one.
 //!
-//! What takes its lines is a parameter here, so that the state of a page, or of roff, which is large, stands in few proofs.
+//! What takes its lines is a parameter here, so that the state of a page, or of roff, which is large, is in few proofs.
 
 ghost use Rattle.std.specs.Prelude.{◌≡◌, ◌≤◌, length, false};
 

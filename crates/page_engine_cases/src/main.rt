@@ -236,7 +236,7 @@ fn show_cuts(rt: &HostRuntime, page: &[u8], words: &Words, streams: &Streams, en
     }
 }
 
-// Shows where the page gives something else at once, or does not stand a write that fails.
+// Shows where the page gives something else at once, or is not a write that fails.
 fn show_whole(rt: &HostRuntime, page: &[u8], words: &Words, streams: &Streams, ending: Ending) {
     let whole = Whole::new(rt.alloc(), page, &words.settings);
     if !whole.is(streams, ending.result) {

@@ -63,7 +63,7 @@ keyword_len text = if starts_with nat_eq text (codes "$Mdocdate: ") then 11 else
 abbrev pub keyword_end : List ℕ → ℕ
 keyword_end text = if ends_with nat_eq text (codes " $") then length text - 2 else length text
 
--- a date without the keyword of a revision that stands around it: `$Mdocdate: June 1 2020 $`
+-- a date without the keyword of a revision that is around it: `$Mdocdate: June 1 2020 $`
 abbrev pub without_keyword : List ℕ → List ℕ
 without_keyword text = take (keyword_end text - keyword_len text) (drop (keyword_len text) text)
 

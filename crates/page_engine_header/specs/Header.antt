@@ -35,7 +35,7 @@ IsShort (Text text) = length text.now ≤ 256
 
 -- ---- a row of three parts
 
--- where parts of these columns stand in a row of a width: the first at the left, the second in the middle, the third at the right, with a
+-- where parts of these columns are placed in a row of a width: the first at the left, the second in the middle, the third at the right, with a
 -- blank at least before the second and the third. This holds of empty parts, too
 abbrev pub second_start : (width first second : ℕ) → ℕ
 second_start width first second = max (first + 1) ((width - second) / 2)
@@ -95,7 +95,7 @@ footer_row m place f =
 abbrev pub if_empty : List ℕ → NoteKind → Place → List ℕ → List Item
 if_empty f kind place detail = if length f == 0 then says kind place detail ∷ [] else []
 
--- a page of mdoc(7) has its section's volume, whatever stands in brackets after it
+-- a page of mdoc(7) has its section's volume, whatever is in brackets after it
 abbrev pub missing_volume : (is_mdoc : Bool) → Fields → List ℕ
 missing_volume is_mdoc f = if is_mdoc then volume_of f.section else f.volume
 
@@ -109,7 +109,7 @@ missing_items is_mdoc place f =
     ++ (if_empty (missing_volume is_mdoc f) UnknownSection place f.section
     ++ (if_empty f.date MissingDate place [] ++ missing_os is_mdoc place f))
 
--- the header, a blank row and what is missing; then text stands at the indent
+-- the header, a blank row and what is missing; then text is at the indent
 abbrev pub header_items : (is_mdoc : Bool) → Measure → Place → Fields → List Item
 header_items is_mdoc m place f =
     header_row m place f ++ (shown (Space 1) ∷ (missing_items is_mdoc place f ++ shown (Indent m.indent m.indent) ∷ []))

@@ -150,7 +150,7 @@ impl Field {
         self
     }
 
-    /// This field without the keyword of a date that stands around it.
+    /// This field without the keyword of a date that is around it.
     pub(crate) fn without_keyword(&self) -> Field
         ensures { result ≡ fields.without_keyword self.now }
     {
@@ -178,7 +178,7 @@ impl Field {
     }
 }
 
-// The bytes of `$Mdocdate: ` at a text's front; none if it does not stand there.
+// The bytes of `$Mdocdate: ` at a text's front; none if it is not there.
 fn keyword_len(text: &[u8]) -> usize
     ensures { result ≡ fields.keyword_len text.now }
 {

@@ -199,7 +199,7 @@ fn report_joined<O: PieceOut>(out: &mut O, place: Place, arguments: Arguments<'_
     }
 }
 
-/// Reports what is cut of the fields that a macro of the prologue sets, which stands at a place.
+/// Reports what is cut of the fields that a macro of the prologue sets, which is at a place.
 pub fn report_cut_fields<O: PieceOut>(
     out: &mut O,
     place: Place,

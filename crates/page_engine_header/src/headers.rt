@@ -180,7 +180,7 @@ fn report_missing<O: PieceOut>(out: &mut O, is_mdoc: bool, place: Place, fields:
     }
 }
 
-/// Gives the header of a page of mdoc(7) or of man(7), a blank row and the messages of missing fields; then text stands at the indent.
+/// Gives the header of a page of mdoc(7) or of man(7), a blank row and the messages of missing fields; then text is at the indent.
 pub fn give_header<O: PieceOut>(
     out: &mut O,
     is_mdoc: bool,

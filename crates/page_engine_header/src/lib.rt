@@ -1,6 +1,6 @@
 //! The header and the footer of a page: the fields of its title, what they print, and where (man(7), `TH`; mdoc(7), `Dd`, `Dt`, `Os`).
 //!
-//! It stands below the body of a page (`page_engine_lines`), which gives the header before its first event and the footer at its end.
+//! It is below the body of a page (`page_engine_lines`), which gives the header before its first event and the footer at its end.
 //!
 //! Read first: `Fields` in `fields.rt` with `specs/Fields.antt`, and `give_header` in `headers.rt` with `specs/Header.antt`.
 //!

@@ -35,7 +35,7 @@ whole_lines (byte ∷ bytes) = if is_line_feed byte then [] ∷ whole_lines byte
 
 -- ---- entries
 
--- a page: its names parted by `, `, its section, its description, and its file, empty where that is unknown
+-- a page: its names separated by `, `, its section, its description, and its file, empty where that is unknown
 pub record Entry : Type 0 where
   pub names : List ℕ
   pub section : List ℕ
@@ -54,7 +54,7 @@ entry_in Two (names ∷ section ∷ description ∷ file ∷ []) =
     Some (record { names = names; section = section; description = description; file = file })
 entry_in _ _ = None
 
--- fields are parted by tabs; a line has at most LINE bytes
+-- fields are separated by tabs; a line has at most LINE bytes
 unfoldable pub entry_of : Version → Line → Option Entry
 entry_of version line = if nat_le (length line) LINE then entry_in version (slice_split is_tab line) else None
 

@@ -4,11 +4,11 @@ use Rattle.std.specs.Char.{is_ascii_alphanumeric, to_ascii_lowercase}
 use Rattle.std.specs.List.{list_any, onto_first}
 use Rattle.std.specs.Str.{bytes_eq}
 
--- a letter or a digit of ASCII, or a low line
+-- a letter or a digit of ASCII, or an underscore
 abbrev pub is_word_byte : ℕ → Bool
 is_word_byte byte = is_ascii_alphanumeric byte || byte == 95
 
--- such a byte stands at the front of a text; at its end, or before it where it is empty
+-- such a byte is at the front of a text; at its end, or before it where it is empty
 abbrev pub begins_word : List ℕ → Bool
 begins_word [] = false
 begins_word (byte ∷ bytes) = is_word_byte byte
@@ -21,7 +21,7 @@ ends_word before (byte ∷ bytes) = ends_word (is_word_byte byte) bytes
 abbrev pub folded : List ℕ → List ℕ
 folded text = map to_ascii_lowercase text
 
--- a word occurs in a name, but for the case of letters, and no letter, digit or low line stands on either side of it
+-- a word occurs in a name, but for the case of letters, and no letter, digit or underscore is on either side of it
 pub record IsMatch (word name : List ℕ) : Type 0 where
   pub before : List ℕ
   pub found : List ℕ
@@ -61,7 +61,7 @@ abbrev pub without_blank : List (List ℕ) → List (List ℕ)
 without_blank [] = []
 without_blank (name ∷ names) = drop 1 name ∷ names
 
--- names that are parted by a comma and a blank
+-- names that are separated by a comma and a blank
 unfoldable pub names_of : List ℕ → List (List ℕ)
 names_of [] = [] ∷ []
 names_of (byte ∷ bytes) =

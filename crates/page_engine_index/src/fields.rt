@@ -18,7 +18,7 @@ pub fn is_field(text: &str) -> bool
     text.len() <= FIELD && is_line(text.as_bytes()) && !has_tab(text.as_bytes())
 }
 
-// Whether a tab stands in a text.
+// Whether a tab is in a text.
 fn has_tab(text: &[u8]) -> bool
     ensures { result ≡ list_any is_tab text.now }
 {

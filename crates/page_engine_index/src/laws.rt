@@ -7,7 +7,7 @@ ghost use Rattle.page_engine_index.specs.Matches.{IsMatch, is_match};
 ghost use Rattle.page_engine_index.specs.Records.{AreKept, entry_line};
 
 /// A word matches a name where the test says so, and nowhere else: where it occurs in the name, but for the case of letters, with no
-/// letter, digit or low line on either side (whatis(1)).
+/// letter, digit or underscore on either side (whatis(1)).
 pub fn match_law()
     ensures sound { (word : List ℕ) → (name : List ℕ) → is_match word name ≡ true → IsMatch word name }
     ensures complete { (word : List ℕ) → (name : List ℕ) → IsMatch word name → is_match word name ≡ true }

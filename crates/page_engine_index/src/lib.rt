@@ -1,10 +1,10 @@
 //! An index of pages by their names: how a record of a page is written into it, and which of its entries match words (makewhatis(8), whatis(1)).
 //!
-//! It stands beside the pipeline of a page and knows nothing of pages. Read [`whatis`] first, then `entries` and `matches`.
+//! It is independent of the pipeline of a page, and knows nothing of pages. Read [`whatis`] first, then `entries` and `matches`.
 //!
 //! Proved: `search_index`, `whatis`: the rows of all entries of which a word matches a name, in the order of the index, and their number; at a fault
 //! the rows before it, and a bad line is the first one (`specs/Searches.antt`, `Entries.antt`, `Whatis.antt`). `match_law`: a word matches where it
-//! stands in the name but for the case of letters, with no letter, digit or low line on either side. `write_record`, `print_record`, `is_field`,
+//! is in the name but for the case of letters, with no letter, digit or underscore on either side. `write_record`, `print_record`, `is_field`,
 //! `read_back_law`: the bytes of a record, and that an index of such records has exactly these entries (`specs/Records.antt`).
 #![tactic(auto)]
 

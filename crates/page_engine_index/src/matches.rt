@@ -4,7 +4,7 @@ ghost use Rattle.std.specs.Prelude.{◌≡◌, ◌+◌, ◌<◌, ◌≤◌, leng
 ghost use Rattle.page_engine_index.specs.Matches.{begins_blank, begins_word, ends_name, has_match, is_match, is_word_byte, matches_here};
 ghost use Rattle.page_engine_index.specs.machine.Steps.{name_len};
 
-/// Whether a word matches one of the names, which are parted by `, ` (whatis(1)).
+/// Whether a word matches one of the names, which are separated by `, ` (whatis(1)).
 pub(crate) fn has_match(word: &[u8], names: &[u8]) -> bool
     ensures { result ≡ has_match word.now names.now }
 {
@@ -44,7 +44,7 @@ fn ends_name(byte: u8, after: &[u8]) -> bool
     byte == b',' && begins_blank(after)
 }
 
-// Whether a blank stands at the front of a text.
+// Whether a blank is at the front of a text.
 fn begins_blank(text: &[u8]) -> bool
     ensures { result ≡ begins_blank text.now }
 {
@@ -54,7 +54,7 @@ fn begins_blank(text: &[u8]) -> bool
     }
 }
 
-// Whether a word occurs in a name, but for the case of letters, with no letter, digit or low line on either side.
+// Whether a word occurs in a name, but for the case of letters, with no letter, digit or underscore on either side.
 fn is_match(word: &[u8], name: &[u8]) -> bool
     ensures { result ≡ is_match word.now name.now }
 {
@@ -81,7 +81,7 @@ fn matches_here(word: &[u8], before: bool, text: &[u8]) -> bool
     found.eq_ignore_ascii_case(word) && !begins_word(after)
 }
 
-// Whether a letter, a digit or a low line stands at the front of a text.
+// Whether a letter, a digit or an underscore is at the front of a text.
 fn begins_word(text: &[u8]) -> bool
     ensures { result ≡ begins_word text.now }
 {
@@ -91,7 +91,7 @@ fn begins_word(text: &[u8]) -> bool
     }
 }
 
-// Whether a byte is a letter or a digit of ASCII, or a low line.
+// Whether a byte is a letter or a digit of ASCII, or an underscore.
 fn is_word_byte(byte: u8) -> bool
     ensures { result ≡ is_word_byte byte }
 {

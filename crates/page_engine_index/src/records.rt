@@ -46,7 +46,7 @@ impl Text {
     }
 }
 
-/// What an index says of a page: its names, parted by `, `, its section, and its description.
+/// What an index says of a page: its names, separated by `, `, its section, and its description.
 #[derive(Drop)]
 pub struct Record {
     pub names: Text,
@@ -54,7 +54,7 @@ pub struct Record {
     pub description: Text,
 }
 
-/// Writes a record as a line of an index of version 2: its fields and the page's file below its directory, parted by tabs. Its fault is
+/// Writes a record as a line of an index of version 2: its fields and the page's file below its directory, separated by tabs. Its fault is
 /// [`Fault::WriteText`], where the writer failed; then a front of the line was written.
 pub fn write_record<W: Target>(out: &mut W, page: &Record, file: &str) -> Result<(), Fault>
     requires { is_field file.now ≡ true }

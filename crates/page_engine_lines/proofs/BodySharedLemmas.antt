@@ -52,7 +52,7 @@ module _ {L A F S B I : Type 0} (lays : Layout L A F S B I) (P : S → Type 0) (
 
 -- ---- the body of a page
 
--- what stands at several places of a body's edge, or is of the settings
+-- what is at several places of a body's edge, or is of the settings
 pub record Shared : Type 0 where
   pub measure : Measure
   pub indent : Option ℕ

@@ -72,7 +72,7 @@ before_comes : (mode : Bool) (event : Event (List ℕ)) (nodes : List Label) (h 
 before_comes true event nodes h s = refl
 before_comes false event nodes h s = refl
 
--- the header stands before no act that is done
+-- the header is before no act that is done
 before_done : (mode : Bool) (a : Act (Event (List ℕ))) (n : ℕ) (nodes : List Label) (h : HeaderEdge) (s : LayoutState)
     → before_leaf body_sides (step_standing mode (does a) n nodes) h s ≡ []
 before_done mode a n nodes h s =

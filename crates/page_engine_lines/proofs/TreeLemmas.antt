@@ -364,7 +364,7 @@ end_items_after e lines line =
 
 -- ---- the title
 
--- of a page whose title stands, lines leave the fields of the title
+-- where the title of a page is settled, lines leave the fields of the title
 title_stays : (b : BodyEdge) (all : List Given) → b.header.is_decided ≡ true → has_begun b ≡ true
     → (tree_after (reader b all) (rest_steps b all)).header.fields ≡ b.header.fields
 title_stays b all decided begun =

@@ -18,7 +18,7 @@ use Rattle.page_scopes_words.specs.Words.{at}
 use Rattle.page_sets.specs.Either.{either_events}
 use Rattle.page_sets.specs.declared.either.Either.{Either}
 
--- a message stands where it was given, a line is the events that the macros of a set make of it
+-- a message is at its place, a line is the events that the macros of a set make of it
 abbrev pub given_steps : Either → List Given → List (With Aside Step)
 given_steps set [] = []
 given_steps set (says m ∷ more) = aside (reports m) ∷ given_steps set more

@@ -48,7 +48,7 @@ pub record BodyEdge : Type 0 where
 abbrev pub has_begun : BodyEdge → Bool
 has_begun b = b.scopes.state.has_begun
 
--- Whether the title stands: the body began, and the language is decided. A macro of the title comes too late then.
+-- Whether the title is settled: the body began, and the language is decided. A macro of the title comes too late then.
 abbrev pub has_title : BodyEdge → Bool
 has_title b = b.header.is_decided && has_begun b
 
@@ -58,7 +58,7 @@ abbrev pub is_mdoc : Either → Bool
 is_mdoc sets.Man = false
 is_mdoc sets.Mdoc = true
 
--- the header stands before the event that begins the body
+-- the header is before the event that begins the body
 abbrev pub header_of : BodyEdge → ℕ → List Item
 header_of b line = header_items (is_mdoc b.header.set) b.header.measure (at line 1) b.header.fields
 
@@ -130,7 +130,7 @@ late_header b line =
 unfoldable pub end_items : BodyEdge → ℕ → List Item
 end_items b line = late_header b line ++ scopes.end_items b.scopes line
 
--- a blank row, unless one stands there, and the footer
+-- a blank row, unless one is there, and the footer
 unfoldable pub footer_items : HeaderEdge → ℕ → ℕ → List Item
 footer_items h line blank_rows =
     (if blank_rows == 0 then shown (pieces.Space 1) ∷ [] else []) ++ footer_row h.measure (at line 1) h.fields
@@ -141,7 +141,7 @@ footer_items h line blank_rows =
 abbrev pub indent_of : Option ℕ → Either → ℕ
 indent_of given set = unwrap_or given (either_indent set)
 
--- before a line of a set: text stands at its indent, and no scope is open
+-- before a line of a set: text is at its indent, and no scope is open
 abbrev pub chosen : BodyEdge → Either → BodyEdge
 chosen b set =
     let m = record b.header.measure { indent = indent_of b.header.indent set } in

@@ -16,6 +16,6 @@ pub record LinesEdge : Type 0 where
 abbrev pub start_of : Settings → LinesEdge
 start_of s = record { roff = roff.first_edge s.output; body = bodies.start_of s }
 
--- the footer after the line of a number, where so many blank rows stand
+-- the footer after the line of a number, where there are so many blank rows
 abbrev pub footer_items : LinesEdge → ℕ → ℕ → List Item
 footer_items e line blank_rows = bodies.footer_items e.body.header line blank_rows

@@ -1,4 +1,4 @@
--- The body of a page as one block tree: its messages, the macros of its prologue and its late header stand among the acts of its events.
+-- The body of a page as one block tree: its messages, the macros of its prologue and its late header are among the acts of its events.
 -- Source: man(7); mandoc(1), "ASCII Output" and "DIAGNOSTICS".
 use Rattle.std.specs.Prelude.{ℕ, Bool, false, List, [], ◌∷◌, ◌++◌, map, if◌then◌else◌}
 use Rattle.std.specs.List.{flat_map}
@@ -28,7 +28,7 @@ use Rattle.page_sets_names.specs.declared.macro_names.Prologue.{Prologue as Prol
 use Rattle.page_engine_lines.specs.Bodies.{BodyEdge, HeaderEdge, is_mdoc}
 use Rattle.page_engine_lines.specs.Titles.{title_items, title_fields}
 
--- what stands among the acts of events: a message; a macro of the prologue, with the rest of its line; the page's end, on a line, before its scopes end
+-- what is among the acts of events: a message; a macro of the prologue, with the rest of its line; the page's end, on a line, before its scopes end
 pub data Aside : Type 0 where
   reports : Message → Aside
   titles : Place → PrologueName → List ℕ → Aside
@@ -56,7 +56,7 @@ page_end_steps line = aside (closes line) ∷ act (does (acts.PageEnd line)) ∷
 abbrev pub header_at : ℕ → HeaderEdge → List Item
 header_at line h = header_items (is_mdoc h.set) h.measure (at line 1) h.fields
 
--- the header stands before the event that begins the body
+-- the header is before the event that begins the body
 abbrev pub before_fact : Fact → HeaderEdge → LayoutState → List Item
 before_fact (coming event) h s = if begins event.kind s.has_begun then header_at event.place.line h else []
 before_fact (standing a) h s = []

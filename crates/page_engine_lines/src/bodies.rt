@@ -132,7 +132,7 @@ impl Body {
         })
     }
 
-    /// Whether the title stands: the body of the page has begun, and its language is decided. A macro of the title comes too late then.
+    /// Whether the title is settled: the body of the page has begun, and its language is decided. A macro of the title comes too late then.
     pub fn has_title(&self) -> bool
         ensures { result ≡ bodies.has_title self.now }
     {
@@ -319,7 +319,7 @@ impl Body {
         self.scopes.give_end(line, out);
     }
 
-    /// Gives the footer, and before it a blank row, unless one stands there.
+    /// Gives the footer, and before it a blank row, unless one is there.
     #[tactic(auto, unfolding(crate::specs::Bodies::footer_items))]
     pub fn give_footer<O: PieceOut>(&self, line: u32, blank_rows: u32, out: &mut O)
         ensures { Came O.left out.old (bodies.footer_items self.now.header line blank_rows) out.new }

@@ -10,7 +10,7 @@ ghost use Rattle.page_engine_lines.specs.Bodies.{BodyEdge, end_items, events_aft
 ghost use Rattle.page_engine_lines.specs.Trees.{Aside, events_steps, page_end_steps, reports, tree_after, tree_items};
 
 /// The block tree of all events of a body, with the header before the event that begins it, gives what they give one after another, and leaves the
-/// same; messages are given where they stand; and at the page's end come a missing header and the end of all scopes.
+/// same; messages are given where they are; and at the page's end come a missing header and the end of all scopes.
 pub fn body_tree_law()
     ensures items { (b : BodyEdge) (events : List (Event (List ℕ))) → tree_items b (events_steps events) ≡ events_items b events }
     ensures after { (b : BodyEdge) (events : List (Event (List ℕ))) → tree_after b (events_steps events) ≡ events_after b events }

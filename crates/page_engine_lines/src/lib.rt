@@ -1,6 +1,6 @@
 //! The source lines of a page, through roff and the macros, as pieces and messages; the body of a page between its header and its footer (man(7)).
 //!
-//! It stands above roff (`page_roff_source`), the sets of macros and the scopes, and below the page (`page_engine`), which fills what it gives. A source
+//! It is above roff (`page_roff_source`), the sets of macros and the scopes, and below the page (`page_engine`), which fills what it gives. A source
 //! line goes to roff; the finished lines that it gives become events, and these pieces and messages, with the header before the first of them and the
 //! fields of the title kept for the footer.
 //!
@@ -10,7 +10,7 @@
 //! Proved: `Body` (`copy`, `give_line`, `give_plain`, `give_end`, `give_footer`): the pieces and messages of a line's events are `events_items`, with
 //! the header before the event that begins the body; those of the page's end are `end_items` and `footer_items` (`specs/Bodies.antt`).
 //! `Body::decide`: the language of a page is that of its first line that decides one (`specs/Languages.antt`). `body_tree_law`, `body_cut_law`: the block
-//! tree of all events, laid out, with messages, title and header where they stand in it, is what the events give one after another
+//! tree of all events, laid out, with messages, title and header where they are in it, is what the events give one after another
 //! (`specs/Trees.antt`), cut anywhere. `PageLines` (`line`, `end`, `footer`, `counts`): what a source line gives: the message of white space at its end,
 //! roff's messages, and the items of the lines that roff takes of it, in their order (`source_items` in `specs/machine/Lines.antt`). `tree_law`,
 //! `cut_law`: the forest of all lines gives the acts of one block tree (`lines_items` in `specs/Acts.antt`); these are what the lines give one after

@@ -86,7 +86,7 @@ impl PageLines {
         Ok(PageLines { roff, body })
     }
 
-    /// Whether the title stands, whatever lines come.
+    /// Whether the title is settled, whatever lines come.
     pub fn has_title(&self) -> bool
         ensures { result ≡ has_title self.now.body }
     {
@@ -155,7 +155,7 @@ impl PageLines {
         items.latch.done()
     }
 
-    /// Gives the footer, and before it a blank row, unless one stands there.
+    /// Gives the footer, and before it a blank row, unless one is there.
     pub fn footer<O: PieceSink>(
         &self,
         out: &mut O,

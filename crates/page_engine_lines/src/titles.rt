@@ -10,7 +10,7 @@ use page_roff_syntax::Arguments;
 use page_scopes_words::report;
 use page_sets::Prologue;
 
-/// Gives the messages of a macro of the prologue, which stands at a place, and keeps its fields where the body has not begun.
+/// Gives the messages of a macro of the prologue, which is at a place, and keeps its fields where the body has not begun.
 #[inline(never)]
 pub(crate) fn give_title<O: PieceOut>(
     out: &mut O,

@@ -22,7 +22,7 @@ TEXT = 4_096
 abbrev pub with_byte : List ℕ → ℕ → List ℕ
 with_byte text byte = take TEXT (text ++ (byte ∷ []))
 
--- a blank (32) that waits stands before the next character, but at no text's front
+-- a blank (32) that waits is before the next character, but at no text's front
 abbrev pub spaced : (is_apart : Bool) → List ℕ → List ℕ
 spaced is_apart [] = []
 spaced true (byte ∷ bytes) = with_byte (byte ∷ bytes) 32
@@ -38,7 +38,7 @@ with_characters r (c ∷ cs) = with_characters (with_character r c) cs
 
 -- ---- what is no character
 
--- before the next character one blank stands
+-- there is one blank before the next character
 abbrev pub apart : NameReader → NameReader
 apart r = record r { is_apart = true }
 
@@ -61,7 +61,7 @@ heading r = if r.margin == 0 then top_heading r.side r else apart r
 
 -- ---- pieces and messages
 
--- what a piece prints in ASCII is text, without its font; where it puts blanks or ends a row, one blank stands
+-- what a piece prints in ASCII is text, without its font; where it puts blanks or ends a row, there is one blank
 abbrev pub taken : NameReader → Piece (List ℕ) → NameReader
 taken r (Text bytes font place) = with_characters r (plain_printed Ascii (characters_of bytes))
 taken r (Glyph name font place) = with_characters r (glyph_printed Ascii name).characters

@@ -12,7 +12,7 @@ use Rattle.page_engine_records.specs.Records.{record_by}
 use Rattle.page_engine_records.specs.declared.name_readers.NameReader.{NameReader}
 use Rattle.page_engine_records.specs.declared.name_readers.Side.TheVariants.{Before}
 
--- a line as roff takes it: the messages of its cutting stand before what it gives
+-- a line as roff takes it: the messages of its cutting are before what it gives
 abbrev pub raw : Line → SourceLine
 raw line = raw_line line.number line.text line.notes
 

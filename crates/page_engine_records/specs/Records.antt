@@ -38,7 +38,7 @@ unfoldable pub with_names : List ℕ → List (List ℕ) → List ℕ
 with_names names [] = names
 with_names names (part ∷ parts) = with_names (with_name names (trimmed part)) parts
 
--- the names in a text, parted by commas, without the blanks around them and without the empty ones, joined by `, `
+-- the names in a text, separated by commas, without the blanks around them and without the empty ones, joined by `, `
 abbrev pub names_in : List ℕ → List ℕ
 names_in text = with_names [] (slice_split is_comma text)
 
@@ -52,7 +52,7 @@ unfoldable pub dash_place : List ℕ → ℕ
 dash_place [] = 0
 dash_place (byte ∷ bytes) = if begins_dash (byte ∷ bytes) then 0 else 1 + dash_place bytes
 
--- what stands before the first ` - ` are names, what stands after it is what the page is for
+-- what is before the first ` - ` are names, what is after it is what the page is for
 abbrev pub record_with : (names section description : List ℕ) → Option Record
 record_with [] section description = None
 record_with (byte ∷ names) section description =

@@ -14,7 +14,7 @@ use page_engine_lines::PageLines;
 use page_roff_lines::Cutter;
 use std::alloc::Global;
 
-/// What decides the record of a page: where its lines stand, and what was read of the section NAME.
+/// What decides the record of a page: where its lines are, and what was read of the section NAME.
 #[derive(Drop)]
 pub(crate) struct PageFront {
     pub(crate) lines: PageLines,

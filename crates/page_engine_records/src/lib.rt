@@ -1,6 +1,6 @@
 //! The record of a page: its names, its section and what it is for, read off its section NAME (mandoc(1), `makewhatis`).
 //!
-//! It stands above the source lines of a page (`page_engine_lines`), whose pieces it reads in place of filling them, and beside the page
+//! It is above the source lines of a page (`page_engine_lines`), whose pieces it reads in place of filling them, and beside the page
 //! (`page_engine`). An index is made of its records (`page_engine_index`).
 //!
 //! Read first: `name_record` in `runs.rt`, with `specs/Runs.antt`; then `names.rt` with `specs/Records.antt`, and `NameReader` with

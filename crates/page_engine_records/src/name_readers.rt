@@ -12,7 +12,7 @@ use page_core_base::{BoundedText, Fault, Note, NoteKind, NoteSink, Output, Piece
 use page_core_tables::{Printed, printed_char, printed_glyph};
 use std::alloc::{AllocError, Global};
 
-/// Where the pieces to come stand to the section NAME.
+/// Where the pieces to come are to the section NAME.
 #[derive(Clone, Copy)]
 pub enum Side {
     Before,
@@ -27,9 +27,9 @@ pub struct NameReader {
     /// Where a row begins, in columns.
     pub(crate) margin: u32,
     pub(crate) text: BoundedText<TEXT>,
-    /// A blank stands before the next character.
+    /// A blank is before the next character.
     pub(crate) is_apart: bool,
-    /// How much of the text stood before the last paragraph.
+    /// How much of the text came before the last paragraph.
     pub(crate) before: usize,
 }
 

@@ -11,10 +11,10 @@ use page_core_base::BoundedText;
 use page_engine_index::{Record, Text};
 use page_roff_syntax::kept_len;
 
-/// What stands between a page's names and what it is for.
+/// What is between a page's names and what it is for.
 const DASH: &[u8] = b" - ";
 
-// Whether a dash stands at the front of a text.
+// Whether a dash is at the front of a text.
 #[tactic(auto, unfolding(crate::specs::Records::begins_dash))]
 fn begins_dash(text: &[u8]) -> bool
     ensures value { result ≡ begins_dash text.now }

@@ -8,7 +8,7 @@ use page_fill::{Filler, Piece, TagForm};
 use std::alloc::Global;
 use std::process::Abort;
 
-/// Where each piece stands.
+/// Where each piece is.
 pub const HERE: Place = Place { line: 3, column: 7 };
 
 /// What is done.

@@ -6,7 +6,7 @@
 //! - Below `==== roff` it is that of a call of the crates of roff, written alike: `define a=b`. Such calls change names, arguments and a page, up to
 //!   a line `new`; after `long` each `~N*TEXT~` of a call's text stands for the text N times.
 //! - Below `==== scopes` it is a line of a page, for its scopes: text, a macro of man(7), or after `|`, `^` or `&` one of a table, of another set
-//!   of macros or of events of mdoc(7). The pieces and messages that it gives stand below it. `new` and `page` begin a page, `end` ends it, and
+//!   of macros or of events of mdoc(7). The pieces and messages that it gives are below it. `new` and `page` begin a page, `end` ends it, and
 //!   `times N` takes its line N times.
 //!
 //! The heads of `core_calls.rt`, `roff_calls.rt` and `scopes_calls.rt` say the rest.

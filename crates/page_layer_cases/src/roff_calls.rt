@@ -83,7 +83,7 @@ fn show_line(rt: &HostRuntime, roff: &mut Roff, page: &mut Page, line: &str) {
     let _ = println!(rt; "");
 }
 
-// What a call gives whose text has parts that stand several times.
+// What a call gives whose text has parts that occur several times.
 fn show_long(rt: &HostRuntime, roff: &mut Roff, line: &str) {
     let Ok(whole) = repeated(rt.alloc(), line) else {
         return;

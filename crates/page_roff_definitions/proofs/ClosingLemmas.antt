@@ -37,7 +37,7 @@ not_true : (b : Bool) → ¬ (b ≡ true) → b ≡ false
 not_true true h = absurd (h refl)
 not_true false h = refl
 
--- where no quote stands, no argument lacks its last one
+-- where there is no quote, no argument lacks its last one
 pub unquoted_closings : (line column : ℕ) (text : List ℕ) (r : Option ℕ) → is_none r ≡ true → IsFirstByte (is_byte 34) text r
     → closings_notes line (arguments column text) ≡ []
 unfolding arguments

@@ -35,7 +35,7 @@ closing_len Bare = 0
 closing_len Closed = 1
 closing_len Unclosed = 0
 
--- how many bytes of a text, of which the first stands at a column, an argument and what is before it take
+-- how many bytes of a text, of which the first is at a column, an argument and what is before it take
 abbrev pub end_of : ℕ → Argument (List ℕ) → ℕ
 end_of column argument = argument.column - column + length argument.text + closing_len argument.quoting
 

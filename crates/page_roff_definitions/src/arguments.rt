@@ -25,7 +25,7 @@ fn report_closing<O: NoteOut>(out: &mut O, line: u32, argument: Argument<&[u8]>)
     }
 }
 
-/// Reports the arguments without their closing quote. The first byte of `rest` stands at the place.
+/// Reports the arguments without their closing quote. The first byte of `rest` is at the place.
 pub fn report_closings<O: NoteOut>(out: &mut O, place: Place, rest: &[u8])
     requires short { length rest.now ≤ LINE }
     requires room { place.column + length rest.now ≤ LINE + 1 }
@@ -76,7 +76,7 @@ fn without_quote(text: &[u8]) -> &[u8]
     }
 }
 
-/// The value of a string: what follows its name and blanks in the rest of a line, of which the first byte stands at a
+/// The value of a string: what follows its name and blanks in the rest of a line, of which the first byte is at a
 /// column.
 pub(crate) fn value_after<'a>(rest: &'a [u8], column: u32, name: Argument<&[u8]>) -> &'a [u8]
     requires { length name.text.now ≤ LINE }

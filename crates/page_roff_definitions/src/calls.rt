@@ -131,7 +131,7 @@ impl CallBuffer {
         })
     }
 
-    /// Takes the arguments of a call from the rest of its line, of which the first byte stands at a column.
+    /// Takes the arguments of a call from the rest of its line, of which the first byte is at a column.
     pub fn pack(&mut self, rest: &[u8], column: u32) -> Packing
         requires short { length rest.now ≤ LINE }
         requires room { column + length rest.now ≤ LINE + 1 }

@@ -29,7 +29,7 @@ pub fn is_in_copy_mode(request: DefinitionRequest) -> bool
 pub struct RequestLine<'a> {
     /// The place of the name.
     pub place: Place,
-    /// What follows the name, of which the first byte stands at a column.
+    /// What follows the name, of which the first byte is at a column.
     pub rest: &'a [u8],
     pub rest_column: u32,
 }

@@ -37,7 +37,7 @@ is_defined name d = is_some (string_of name d) || is_some (body_of name d) || is
 abbrev pub is_register : List ℕ → Surroundings → Bool
 is_register name env = is_some (register_found name env)
 
--- a text is expanded after what is finished of its line, of which this many bytes stand before the text
+-- a text is expanded after what is finished of its line, of which this many bytes are before the text
 abbrev pub expands : Surroundings → ℕ → List ℕ → Spot → Laid
 expands env count text s = value env NEST text (after_bytes count s)
 
@@ -53,15 +53,15 @@ after laid f = unless_cut laid.edge.ended laid (f laid.edge)
 abbrev pub number_answer : Bool → Place → Spot → Answer
 number_answer is_turned place s = answers (turned is_turned (is_positive (value_of s.text))) (messages_of place s.text) s
 
--- the second text stands after the first, of which this many bytes were finished
+-- the second text is after the first, of which this many bytes were finished
 abbrev pub texts_answer : Bool → ℕ → Spot → Answer
 texts_answer is_turned len s = answers (turned is_turned (bytes_eq (take len s.text) (drop len s.text))) [] s
 
--- this many bytes of a line stand before a text
+-- this many bytes of a line are before a text
 abbrev pub bytes_before : Placed (List ℕ) → ℕ
 bytes_before text = text.column - 1
 
--- before the second text stand those before the first, without its own, and the delimiter
+-- before the second text are those before the first, without its own, and the delimiter
 abbrev pub bytes_between : Placed (List ℕ) → Placed (List ℕ) → ℕ
 bytes_between first second = second.column - 1 - length first.text
 
@@ -69,7 +69,7 @@ abbrev pub second_answer : Surroundings → Bool → Placed (List ℕ) → Place
 second_answer env is_turned first second s =
     after (expands env (bytes_between first second) second.text s) (texts_answer is_turned (length s.text))
 
--- A test at a place, in a line so far. All its messages but those of interpolations stand at the place.
+-- A test at a place, in a line so far. All its messages but those of interpolations are at the place.
 abbrev pub test_answer : Surroundings → Place → Bool → Test (List ℕ) → Spot → Answer
 test_answer env place is_turned (Always holds) s = answers (turned is_turned holds) [] s
 test_answer env place is_turned (Unknown letter) s =

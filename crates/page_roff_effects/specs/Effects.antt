@@ -22,7 +22,7 @@ setting_of units kind = record { units = units; arguments = arguments_of kind }
 unfoldable pub answer_of : Setting → Condition (List ℕ) → Memory → Answer
 answer_of setting condition m = condition_answer (surroundings false setting m) m.number condition
 
--- that of a turn of a loop is read from its own text, of which the first byte stands in column 1
+-- that of a turn of a loop is read from its own text, of which the first byte is in column 1
 abbrev pub turn_answer : Setting → List ℕ → Memory → Answer
 turn_answer setting condition m = answer_of setting (condition_of 1 condition) m
 
@@ -33,7 +33,7 @@ test_outcome answer m = reports answer.notes (counted answer.edge.count m)
 unfoldable pub budget_outcome : Memory → Outcome
 budget_outcome m = reports_at kinds.Loop 1 (name_of limits.Reread) m
 
--- a true block beyond the limit of open ones, whose head's name stands in a column
+-- a true block beyond the limit of open ones, whose head's name is in a column
 unfoldable pub block_outcome : ℕ → Memory → Outcome
 block_outcome column m = reports_at kinds.Limit column (name_of limits.Conds) m
 
@@ -79,7 +79,7 @@ effects units =
 abbrev pub expansions_of : State → ℕ
 expansions_of s = s.memory.expansions
 
--- what was given before stands in front
+-- what was given before is in front
 abbrev pub given_before : List Given → State → State
 given_before given s = record { memory = s.memory; out = given ++ s.out }
 

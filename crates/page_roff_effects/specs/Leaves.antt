@@ -38,7 +38,7 @@ abbrev pub call_if : Bool → List ℕ → List ℕ → Memory → states.Outcom
 call_if true body bytes m = record { notes = []; product = call_product (record { body = body; packed = bytes }); memory = m }
 call_if false body bytes m = nothing m
 
--- The call of a macro, whose name stands in a column. One beyond a limit is skipped, with a message for each limit.
+-- The call of a macro, whose name is in a column. One beyond a limit is skipped, with a message for each limit.
 abbrev pub calls_with : Bool → ℕ → List ℕ → List ℕ → Memory → states.Outcome
 calls_with may_call column body bytes m =
     let fits = nat_le (length bytes) ARGS in

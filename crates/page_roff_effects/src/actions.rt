@@ -227,7 +227,7 @@ impl Actions {
         false
     }
 
-    /// Expands a line, in copy mode or not. Answers whether the line itself is what it gives, since no backslash stands in it: then it is not
+    /// Expands a line, in copy mode or not. Answers whether the line itself is what it gives, since no backslash is in it: then it is not
     /// copied.
     pub(crate) fn expand_unless_plain<O: NoteOut>(
         &mut self,
@@ -264,7 +264,7 @@ impl Actions {
         answer
     }
 
-    /// Whether the condition of a turn of a loop holds, of which the first byte stands in column 1.
+    /// Whether the condition of a turn of a loop holds, of which the first byte is in column 1.
     pub fn turn<O: NoteOut>(&mut self, condition: &[u8], out: &mut O) -> bool
         requires { length condition.now ≤ LINE }
         ensures { Tests O.left self.old out.old
@@ -288,7 +288,7 @@ impl Actions {
         );
     }
 
-    /// A true block comes beyond the limit of open ones; the name of its head stands in a column.
+    /// A true block comes beyond the limit of open ones; the name of its head is in a column.
     #[tactic(auto, unfolding(crate::specs::Effects::block_outcome))]
     pub fn refuse<O: NoteOut>(&mut self, column: u32, out: &mut O)
         ensures { Does O.left self.old out.old (block_outcome column self.old.memory) self.new out.new }

@@ -30,7 +30,7 @@ fn turned(is_turned: bool, holds: bool) -> bool
     holds != is_turned
 }
 
-// Expands a text after what is finished of its line, of which `bytes_before` bytes stand before the text. Answers whether that was
+// Expands a text after what is finished of its line, of which `bytes_before` bytes are before the text. Answers whether that was
 // cut.
 fn expand_text<O: NoteOut>(
     text: &[u8],

@@ -109,7 +109,7 @@ page_kind (body args) e = absurd (cc)
 levels_are : (l : Levels) → l.in_loop ≡ false → l.skipped ≡ 0 → l ≡ level l.bit l.outer false 0
 levels_are l e s = ap₂ (λ (i : Bool) (k : ℕ). level l.bit l.outer i k) e s
 
--- where a stack stands, with a budget and what is remembered and given
+-- where a stack is, with a budget and what is remembered and given
 abbrev standing : Stack → Budget → Memory → List Given → At (Budgeted State)
 standing s b m given = at_levels s.top.region s.top.cursor.levels (budgeted b (record { memory = m; out = given }))
 

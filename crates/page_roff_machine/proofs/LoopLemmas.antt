@@ -37,7 +37,7 @@ same_first : (lines : List (List ℕ)) → first_line lines ≡ first_text lines
 same_first [] = refl
 same_first (line ∷ lines) = refl
 
--- it stands in its own source as in a body with the same arguments
+-- it is in its own source as in a body with the same arguments
 looped_in : (kind : Kind) (condition : List ℕ) (lines : List (List ℕ)) → looped kind condition lines ≡ looped (body (arguments_of kind)) condition lines
 unfolding looped inner
 looped_in page condition lines = refl

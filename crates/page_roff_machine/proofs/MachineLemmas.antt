@@ -48,7 +48,7 @@ rest_after (note ∷ notes) given = rest_after notes given
 
 -- ---- one step
 
--- what a step gives stands in front of what comes after it
+-- what a step gives is in front of what comes after it
 pub outcome_step : (old new : Machine) (given : List Given) → output_of new ≡ output_of old
     → next (language_of old) (running_of [] old) ≡ Some (running_of given new)
     → outcome_of old ≡ over (in_front given) (outcome_of new)
@@ -106,7 +106,7 @@ new_sound output r e h = record {
   way = inr (λ k. (ap (λ (s : Stack). s.top.lines) e, ap (λ (s : Stack). s.top.turning) e), rw e tt);
 }
 
--- a page that stands between two lines
+-- a page that is between two lines
 pub resumed_sound : (output : Output) (place : Place) (memory : Memory) (taken : ℕ) (r : Runner) → Resumes output place memory taken (machine_of r)
     → (place.levels.in_loop ≡ true → IsPassed place.region) → IsSound r
 unfolding HasMeasure AreOnLine IsOnLine at_line

@@ -56,7 +56,7 @@ impl Machine {
         })
     }
 
-    /// Between two lines of a page, where it stands so, with what is remembered and the number of lines that were taken.
+    /// Between two lines of a page, where it is so, with what is remembered and the number of lines that were taken.
     pub fn at(
         alloc: Global,
         output: Output,
@@ -82,7 +82,7 @@ impl Machine {
         })
     }
 
-    /// Where the innermost source stands.
+    /// Where the innermost source is.
     pub fn standing(&self) -> Standing
         ensures { result ≡ place_of self.now }
     {
@@ -174,7 +174,7 @@ impl Machine {
         self.runner.doing.actions.expansions()
     }
 
-    /// Where the innermost source stands, what is remembered, and what is held of the macros and loops that run are within their limits. Nothing
+    /// Where the innermost source is, what is remembered, and what is held of the macros and loops that run are within their limits. Nothing
     /// is done: the input stack and the actions show it.
     pub fn caps_law(&self)
         ensures place { PlaceFits (place_of self.now) }

@@ -207,7 +207,7 @@ impl Runner {
         self.take_arguments();
     }
 
-    // Runs the loop that came last, with the arguments of the source in which it stands.
+    // Runs the loop that came last, with the arguments of the source in which it is.
     #[inline(never)]
     fn repeat(&mut self)
         requires { CanBegin kinds.Loop self.old.stack self.old.doing }

@@ -34,7 +34,7 @@ bare_stop (b ∷ n ∷ bs) =
     stop_if (is_blank b) t 0 _ (λ e. stop_start t (λ lt. blank_low b e))
     (λ w. stop_if (b == 92) t _ _ (λ e. stop_two b n bs (bare_len bs) (bare_stop bs)) (λ e. stop_later b (n ∷ bs) (bare_len (n ∷ bs)) (bare_stop (n ∷ bs))))
 
--- a quote (34) stands at a place, if the text has one
+-- a quote (34) is at a place, if the text has one
 record IsQuoteAt (t : List ℕ) (n : ℕ) : Type 0 where
   pub within : n ≤ length t
   pub quote : n < length t → get_or t n 0 ≡ 34

@@ -25,7 +25,7 @@ use Rattle.page_roff_source.proofs.HeadCuts.{condition_cut}
 
 -- ---- comments
 
--- a backslash (92) stands at a place, if the text has one
+-- a backslash (92) is at a place, if the text has one
 IsSlashAt : List ℕ → ℕ → Type 0
 IsSlashAt t n = n < length t → get_or t n 0 ≡ 92
 
@@ -192,7 +192,7 @@ end_stops [] = λ lt. absurd (omega arith)
 end_stops (b ∷ []) = λ lt. absurd (omega arith)
 end_stops (b ∷ n ∷ bs) = ends_if (b == 92) (n == 125) (begins_comment n) b n bs (end_place bs) (end_place (n ∷ bs)) refl refl (end_stops bs) (end_stops (n ∷ bs))
 
--- what stands before it and after it, and where it stands
+-- what is before it and after it, and where it is
 abbrev pub AreLinesIfSome : List ℕ → Option (BlockEnd (List ℕ)) → Type 0
 AreLinesIfSome t None = Unit {0}
 AreLinesIfSome t (Some end) = IsLine end.before × IsLineIfSome end.remainder × CutsAt t (length end.before)
@@ -219,7 +219,7 @@ block_end_lines t h =
 
 -- ---- control lines
 
--- where the rest of a control line begins: no backslash stands before it
+-- where the rest of a control line begins: no backslash is before it
 pub record IsRestAt (t : List ℕ) (n : ℕ) : Type 0 where
   pub cut : CutsAt t n
   pub none : HasNoneBefore n t

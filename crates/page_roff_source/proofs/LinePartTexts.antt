@@ -41,7 +41,7 @@ IsLeaf (Loop head) = IsLoopHead IsLine head
 IsLeaf End = Unit {0}
 IsLeaf (Region head) = Unit {0}
 
--- a part of a line, what stands before the end of a block in it, and what is left after it
+-- a part of a line, what is before the end of a block in it, and what is left after it
 record IsPart (text : List ℕ) (line_part : LinePart (List ℕ)) (rest : Option (List ℕ)) : Type 0 where
   pub leaf : IsLeaf line_part
   pub before : CutsAt text (before_end line_part)

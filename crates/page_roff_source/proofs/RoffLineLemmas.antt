@@ -1,4 +1,4 @@
--- The machine that runs a page's lines stands at the page's edge: helpers of proofs.
+-- The machine that runs a page's lines is at the page's edge: helpers of proofs.
 use Rattle.std.proofs.Common.{◌≡◌, ℕ, ◌+◌, ◌*◌, ◌≤◌, ◌<◌, ◌^◌, Bool, true, false, List, [], ◌∷◌, length, Option, Some, None, refl, sym, ap, subst, ◌∙◌, arith}
 use Rattle.page_core_base.specs.Texts.{IsLine}
 use Rattle.page_core_base.specs.declared.limits.TheConstants.{LINE, REREAD}
@@ -61,7 +61,7 @@ at_stack output s memory taken = record {
   to_come = None;
 }
 
--- a line begins where the page stands
+-- a line begins where the page is
 abbrev begun_from : At (Budgeted State) → ℕ → At (Budgeted State)
 begun_from a number = record {
   place = a.place;
@@ -356,7 +356,7 @@ runs_on left old new source remaining.Run x s t result p e v a =
       edge = advanced left old new source s t result a;
     })
 
--- where all was given, the machine stands at the page's edge
+-- where all was given, the machine is at the page's edge
 pub counts_at : (m : Machine) (source : ℕ) (left : Remaining) → IsAtEdge m source left → (edge_of m source left).to_come ≡ None
     → counts source m.budget.taken m.actions.memory.expansions ≡ counts_of (edge_of m source left)
 counts_at m source remaining.Nothing p none =

@@ -13,7 +13,7 @@ pub record SourceLine : Type 0 where
   pub number : ℕ
   pub notes : List Message
 
--- What decides the rest: the output; where the page stands, in a region and in blocks; what is remembered; how many source lines came,
+-- What decides the rest: the output; where the page is, in a region and in blocks; what is remembered; how many source lines came,
 -- and how many lines were taken of them; what of the present source line is still to be given, where one has begun.
 pub record Edge : Type 0 where
   pub output : Output

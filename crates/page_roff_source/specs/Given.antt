@@ -14,7 +14,7 @@ abbrev pub head_of : SourceLine → Budgeted State → Budgeted State
 head_of line s =
     record s { rest = record { memory = numbered line.number s.rest.memory; out = s.rest.out ++ map says line.notes } }
 
--- where the page stands before its next line, which has a budget of its own
+-- where the page is before its next line, which has a budget of its own
 abbrev pub before_lines : Edge → At (Budgeted State)
 before_lines e = record {
   place = e.place;

@@ -8,7 +8,7 @@ use Rattle.page_roff_machine.specs.machine.Moving.{IsPassed}
 use Rattle.page_roff_source.specs.machine.Texts.{HoldsTexts}
 use Rattle.page_roff_source.specs.Edges.{Edge}
 
--- where the page stands, in a region and in blocks; what is remembered; how many source lines came, and how many lines were taken of them
+-- where the page is, in a region and in blocks; what is remembered; how many source lines came, and how many lines were taken of them
 pub record Part : Type 0 where
   pub place : Place
   pub memory : Memory

@@ -4,7 +4,7 @@ use page_roff_blocks::Standing;
 use page_roff_effects::Remembered;
 use std::marker::Model;
 
-/// What roff holds of a page between two of its lines, without the settings: where the page stands, in a region and in blocks, what is remembered,
+/// What roff holds of a page between two of its lines, without the settings: where the page is, in a region and in blocks, what is remembered,
 /// and the counts.
 #[derive(Drop)]
 pub struct RoffPart {

@@ -224,7 +224,7 @@ fn check_over(rt: &impl Abort, roff: &mut Roff, check: Check) -> Result<(), Faul
     Ok(())
 }
 
-// Makes roff, and checks this over it. It stands once, since what makes and drops a roff takes most of the proof.
+// Makes roff, and checks this over it. It is written once, since what makes and drops a roff takes most of the proof.
 fn run(rt: &(impl Abort + AllocGlobal), check: Check) -> Result<(), Fault> {
     let mut roff = Roff::new(rt.alloc(), &Settings::new())?;
     check_over(rt, &mut roff, check)

@@ -130,7 +130,7 @@ closed_held a all place region cursor e g h =
 
 -- ---- a line is passed
 
--- the first line stands here, and those after it there
+-- the first line is here, and those after it there
 pub record IsPassed (a : InputFrame) (all : List ℕ) (line lines : Span) : Type 0 where
   pub first : IsFirstLine (frame_of a all).lines (span_text line all)
   pub rest : lines_in (span_text lines all) ≡ drop 1 (frame_of a all).lines

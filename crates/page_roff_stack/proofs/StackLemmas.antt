@@ -134,7 +134,7 @@ pub end_around : (turning : Option Turning) (turn : Option (List ℕ)) (region :
 end_around turning turn region [] h e = absurd (omega arith)
 end_around turning turn region (f ∷ fs) h e = rw e refl
 
--- all macros and loops stand on the page
+-- all macros and loops are on the page
 pub page_alone : (kind : Kind) (under : List Frame) → under ≡ [] → AreStacked kind under → is_page kind ≡ true
 page_alone kind under e h = rw e at h
 
@@ -166,7 +166,7 @@ may_go moves.RegionLine s h = tt
 may_go moves.RegionEnd s h = tt
 may_go moves.Turn s h = tt
 
--- the arguments of a loop are those of the source in which it stands
+-- the arguments of a loop are those of the source in which it is
 pub looped_in : (kind : Kind) (packed : Option (List ℕ)) (condition : List ℕ) (lines : List (List ℕ)) → unpacked packed ≡ arguments_of kind
     → looped (body (unpacked packed)) condition lines ≡ looped kind condition lines
 unfolding looped inner

@@ -82,7 +82,7 @@ first_of_lines : (lines : List (List ℕ)) (text : List ℕ) → IsFirstLine lin
 first_of_lines [] text h e = empty_of text (e refl)
 first_of_lines (line ∷ lines) text h e = h
 
--- the text of a loop, which was cut after its first line, stands in the text of all
+-- the text of a loop, which was cut after its first line, is in the text of all
 pub record IsLoopCut (before more rest all : List ℕ) (lines first others : Span) : Type 0 where
   pub text : all ≡ (before ++ more) ++ rest
   pub start : lines.start ≡ length before

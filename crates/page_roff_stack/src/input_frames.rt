@@ -46,7 +46,7 @@ pub(crate) struct InputFrame {
     // The lines after it.
     lines: Span,
     region: Option<OpenRegion>,
-    /// Where it stands in its line.
+    /// Where it is in its line.
     pub(crate) cursor: BlockCursor,
     // The turns of a loop.
     turning: Option<Turns>,
@@ -64,7 +64,7 @@ fn append(text: &mut Vec<u8>, more: &[u8])
     }
 }
 
-// Puts the arguments of the macro in which a loop stands at the end, if it stands in one: where they begin.
+// Puts the arguments of the macro in which a loop is at the end, if it is in one: where they begin.
 fn append_arguments(text: &mut Vec<u8>, arguments: Option<&[u8]>) -> Option<usize>
     requires short { length (packed_text (text_view arguments)) ≤ ARGS }
     requires room { length text.old.items + ARGS ≤ vec_capacity text.old }
@@ -159,7 +159,7 @@ impl InputFrame {
         }
     }
 
-    /// The page between two lines, where it stands so.
+    /// The page between two lines, where it is so.
     pub(crate) fn at(standing: &Standing) -> InputFrame
         requires { standing.now.levels.skipped < 2 ^ 62 }
         ensures held { IsHeld result [] }
@@ -177,7 +177,7 @@ impl InputFrame {
         }
     }
 
-    /// Where it stands, outside of lines.
+    /// Where it is, outside of lines.
     pub(crate) fn standing(&self) -> Standing
         ensures { result ≡ record { region = self.now.region; levels = self.now.cursor.levels } }
     {
@@ -236,7 +236,7 @@ impl InputFrame {
     }
 
     /// A loop begins: its condition, which is the first line of the text that is given, and the lines of its body, which are the others, come to
-    /// the end of the text, and then the arguments of the macro in which it stands. No line of it is to come before its first turn.
+    /// the end of the text, and then the arguments of the macro in which it is. No line of it is to come before its first turn.
     pub(crate) fn repeat(text: &mut Vec<u8>, more: &[u8], arguments: Option<&[u8]>) -> InputFrame
         requires text { length more.now ≤ BODY }
         requires arguments { length (packed_text (text_view arguments)) ≤ ARGS }
@@ -375,7 +375,7 @@ impl InputFrame {
         matches!(self.kind, SourceKind::Page)
     }
 
-    /// The arguments of a macro, or of the one in which a loop stands, each with a line feed at its end.
+    /// The arguments of a macro, or of the one in which a loop is, each with a line feed at its end.
     pub(crate) fn arguments<'a>(&self, text: &'a [u8]) -> Option<&'a [u8]>
         requires { IsHeld self.now text.now }
         ensures value { unpacked (text_view result) ≡ arguments_of (kind_in self.now.kind text.now) }
@@ -507,7 +507,7 @@ impl InputFrame {
         }
     }
 
-    /// Where it stands is within its limits. Nothing is done: the region and the levels show it.
+    /// Its place is within its limits. Nothing is done: the region and the levels show it.
     pub(crate) fn caps_law(&self)
         ensures { PlaceFits (record { region = self.now.region; levels = self.now.cursor.levels }) }
     {

@@ -75,7 +75,7 @@ impl InputStack {
         })
     }
 
-    /// The page between two lines, where it stands so. All memory is reserved here.
+    /// The page between two lines, where it is so. All memory is reserved here.
     pub fn at(alloc: Global, standing: &Standing) -> Result<InputStack, AllocError>
         requires { standing.now.levels.skipped < 2 ^ 62 }
         ensures { IfOk result (λ stack. stack ≡ stack_at standing.now) }
@@ -89,7 +89,7 @@ impl InputStack {
         })
     }
 
-    /// Where the innermost source stands.
+    /// Where the innermost source is.
     pub fn standing(&self) -> Standing
         ensures { result ≡ standing_of self.now }
     {
@@ -296,7 +296,7 @@ impl InputStack {
     }
 
     /// Runs a loop: a copy of its text, which is its condition and the lines of its body, each with a line feed at its end, and of the arguments
-    /// of the macro in which it stands, if it stands in one. A turn of it comes next.
+    /// of the macro in which it is, if it is in one. A turn of it comes next.
     pub fn repeat(&mut self, text: &[u8], arguments: Option<&[u8]>)
         requires room { is_some (depth self.old.under) ≡ true }
         requires text { length text.now ≤ BODY }
@@ -320,7 +320,7 @@ impl InputStack {
         self.top = source;
     }
 
-    /// Where the innermost source stands, and what is held of the macros and loops that run, their bodies and arguments, is within its limits. Nothing
+    /// Where the innermost source is, and what is held of the macros and loops that run, their bodies and arguments, is within its limits. Nothing
     /// is done: the source and those around it show it.
     pub fn caps_law(&self)
         ensures place { PlaceFits (record { region = self.now.top.region; levels = self.now.top.cursor.levels }) }

@@ -5,6 +5,6 @@
 pub(crate) enum SourceKind {
     /// The page.
     Page,
-    /// The body of a macro or of a loop: where the arguments begin, of the macro or of the one in which the loop stands.
+    /// The body of a macro or of a loop: where the arguments begin, of the macro or of the one in which the loop is.
     Body(Option<usize>),
 }

@@ -436,7 +436,7 @@ enum Check<'a> {
     TurnsOfALoop,
 }
 
-// Makes a stack, and checks this over it. It stands once, since what makes and drops a stack takes most of the proof.
+// Makes a stack, and checks this over it. It is written once, since what makes and drops a stack takes most of the proof.
 fn run(rt: &(impl Abort + AllocGlobal), check: Check<'_>) -> Result<(), AllocError> {
     let mut stack = InputStack::new(rt.alloc())?;
     match check {

@@ -108,7 +108,7 @@ kind_notes place _ = []
 unfoldable pub coming : Place → EventKind (List ℕ) → Context → (has_begun : Bool) → List Item
 coming place kind c has_begun = body_items place kind c has_begun ++ kind_notes place kind
 
--- ---- an act stands that opens nothing: after a closer its suffix is glued to what its scope ended with
+-- ---- an act that opens nothing: after a closer its suffix is glued to what its scope ended with
 
 abbrev pub block_suffix : BlockCloser (List ℕ) → Option (Argument (List ℕ))
 block_suffix (block_closers.Custom mark) = mark

@@ -35,7 +35,7 @@ part_of sink = record { page = sink.page; line = sink.line }
 abbrev pub resumed : Settings → ℕ → Part → SinkEdge
 resumed settings indent part = record { page = under (layout_of settings indent) part.page; line = part.line; indent = settings.indent }
 
--- a set of macros is chosen before anything came: the page stands at its indent, unless the settings give another
+-- a set of macros is chosen before anything came: the page is at its indent, unless the settings give another
 abbrev pub chosen : ℕ → SinkEdge → SinkEdge
 chosen indent sink = record sink { page = start_edge (record sink.page.state.page { indent = unwrap_or sink.indent indent }) }
 

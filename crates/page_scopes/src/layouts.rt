@@ -84,7 +84,7 @@ impl LayoutState {
         }
     }
 
-    // Puts the scope of a link on the open ones. It stands apart, so that the others are put there without the room of a target.
+    // Puts the scope of a link on the open ones. It is apart, so that the others are put there without the room of a target.
     #[inline(never)]
     fn keep_link(&self, label: Label, target: Argument<&[u8]>, scopes: &mut Vec<Scope<Label, Kept>>)
         requires { vec_len scopes.old < vec_capacity scopes.old }

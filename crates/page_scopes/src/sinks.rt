@@ -122,7 +122,7 @@ impl Scopes {
         }
     }
 
-    /// The page is one of a set of macros from here on, and stands at its indent, unless the settings give another. Nothing
+    /// The page is one of a set of macros from here on, and is at its indent, unless the settings give another. Nothing
     /// has come of it yet.
     pub fn choose<S: MacroSet>(&mut self, set: &S)
         requires { IfSome self.old (λ sink. sink.page ≡ start_edge sink.page.state.page) }

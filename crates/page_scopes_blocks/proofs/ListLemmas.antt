@@ -1,4 +1,4 @@
--- The arguments of `Bl` stand in its line, and so do the values of its options: helpers of proofs.
+-- The arguments of `Bl` are in its line, and so are the values of its options: helpers of proofs.
 use Rattle.std.proofs.Common.{ℕ, ◌≤◌, List, [], ◌∷◌, length, Option, None, Some, arith, inl, inr, ℤ, pos}
 use Rattle.std.specs.Prelude.{int_lt}
 use Rattle.std.proofs.lemmas.Bool.{cases_Bool}
@@ -31,7 +31,7 @@ hold_bound columns = elim (cases_Bool (int_lt columns (pos 0))) [
   | inr f ↦ rw f (elim (cases_Bool (int_lt (pos 1000) columns)) [ inl t ↦ rw t (omega arith) | inr g ↦ rw g (omega (arith, ints, f, g)) ])
 ]
 
--- both values stand in the line
+-- both values are in the line
 record ValuesStand (text : List ℕ) (options : ListOptions (List ℕ)) : Type 0 where
   width : IsArgumentIfGiven text options.width
   offset : IsArgumentIfGiven text options.offset

@@ -36,7 +36,7 @@ use Rattle.page_sets_lines.specs.declared.openers.LineOpener.TheVariants as line
 abbrev pub opening_word : Marks → GeneratedWord
 opening_word marks = record { text = opening marks; font = None; before = Apart; after = Glued }
 
--- a dash stands before a description (`Nd`)
+-- a dash is before a description (`Nd`)
 abbrev pub dash_phrase : Place → Phrase (List ℕ)
 dash_phrase place = record {
   text = codes "\\(en";

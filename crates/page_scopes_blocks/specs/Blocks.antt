@@ -19,7 +19,7 @@ use Rattle.page_scopes_blocks.specs.BlockWords.{block_words, function_name}
 
 -- ---- displays (`Bd`)
 
--- how far in it stands
+-- how far in it is
 abbrev pub offset_columns : Output → Option (Argument (List ℕ)) → ℤ
 offset_columns output None = pos 0
 offset_columns output (Some offset) = width_columns output offset

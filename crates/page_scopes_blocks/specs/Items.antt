@@ -29,7 +29,7 @@ mark_of kinds.Hyphen number = Some (codes "-")
 mark_of kinds.Enum number = Some (decimal number ++ codes ".")
 mark_of _ number = None
 
--- it stands at its macro
+-- it is at its macro
 abbrev pub mark_phrase : Place → List ℕ → Phrase (List ℕ)
 mark_phrase place mark = record {
   text = mark;
@@ -45,7 +45,7 @@ mark_phrase place mark = record {
 abbrev pub mark_place : OpenList → TagPlace
 mark_place list = record { margin = list.head; hang = hold (pos list.hang) }
 
--- a mark is a tag of its item's text; in other lists the text stands at its margin
+-- a mark is a tag of its item's text; in other lists the text is at its margin
 abbrev pub given_mark : Place → OpenList → Option (List ℕ) → Context → Running → Outcome
 given_mark place list (Some mark) c r = phrase_tag (mark_place list) place.line (mark_phrase place mark) c r
 given_mark place list None c r = record { items = margin_items c; context = c; running = r }

@@ -18,7 +18,7 @@ use Rattle.page_sets_lines.specs.declared.lists.ListKind.{ListKind}
 use Rattle.page_sets_lines.specs.declared.lists.ListKind.TheVariants as kinds
 use Rattle.page_scopes_blocks.specs.declared.widths.GivenWidths.{GivenWidths}
 
--- ---- how far the text of an item stands from its head or mark
+-- ---- how far the text of an item is from its head or mark
 
 -- the width of a list that is given none
 abbrev pub default_width : ListKind → ℕ

@@ -1,4 +1,4 @@
--- The columns of the words of `Nm` that begin a row of the SYNOPSIS: later rows stand as many further in. Source: mdoc(7), `Nm`.
+-- The columns of the words of `Nm` that begin a row of the SYNOPSIS: later rows are as many further in. Source: mdoc(7), `Nm`.
 use Rattle.std.specs.Prelude.{ℕ, ◌+◌, false, min, List, Option, None, Some}
 use Rattle.page_core_base.specs.declared.page_settings.Output.{Output}
 use Rattle.page_roff_syntax.specs.Arguments.{is_quoted}

@@ -18,7 +18,7 @@ use page_scopes_phrases::Running;
 use page_scopes_text::give_width;
 use page_sets_lines::BlockOpener;
 
-// Gives the columns that a display stands further in, with their messages.
+// Gives the columns that a display is further in, with their messages.
 fn give_offset<O: PieceOut>(
     out: &mut O,
     output: Output,

@@ -46,7 +46,7 @@ fn mark_phrase<'a>(place: Place, mark: &'a [u8]) -> Phrase<&'a [u8]>
     }
 }
 
-// Where the mark of the open item stands.
+// Where the mark of the open item is.
 fn mark_place(list: &OpenList) -> TagPlace
     ensures { result ≡ items.mark_place list.now }
 {

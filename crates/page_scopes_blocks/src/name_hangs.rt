@@ -1,4 +1,4 @@
-//! The columns of the words of `Nm` that begin a row of the SYNOPSIS: later rows stand as many further in (mdoc(7), `Nm`).
+//! The columns of the words of `Nm` that begin a row of the SYNOPSIS: later rows are as many further in (mdoc(7), `Nm`).
 
 ghost use Rattle.std.specs.Prelude.{◌≡◌, ◌≤◌, ◌*◌};
 ghost use Rattle.page_core_base.specs.declared.limits.TheConstants.{LINE};

@@ -19,7 +19,7 @@ use page_sets_lines::{ListKind, ListOptions, read_list_options};
 pub(crate) struct SaidList {
     /// The list before its first item.
     pub(crate) list: OpenList,
-    /// How much further in it stands than the text.
+    /// How much further in it is than the text.
     pub(crate) offset: Option<i32>,
 }
 
@@ -88,7 +88,7 @@ fn begin_list<O: PieceOut>(
     running.end_row();
 }
 
-/// Gives what a list begins with, compact or not, with its arguments as they stand.
+/// Gives what a list begins with, compact or not, with its arguments as they are.
 #[tactic(auto, unfolding(crate::specs::OpenLists::list_opened))]
 pub fn give_list<O: PieceOut>(
     out: &mut O,

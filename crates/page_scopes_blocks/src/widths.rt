@@ -60,7 +60,7 @@ fn width_of(kind: ListKind, width: Option<i32>) -> u32
     }
 }
 
-/// How far the text of an item stands from its head or its mark, by the width that the list is given.
+/// How far the text of an item is from its head or its mark, by the width that the list is given.
 pub(crate) fn hang_of(kind: ListKind, width: Option<i32>) -> u32
     ensures { result ≡ widths.hang_of kind width }
 {

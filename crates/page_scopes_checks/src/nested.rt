@@ -1,4 +1,4 @@
-//! A layout for tests: each scope stands four columns further in, and is shown by its name.
+//! A layout for tests: each scope is four columns further in, and is shown by its name.
 
 use page_core_base::{Font, Piece, PieceOut, Place};
 use page_scopes_labels::Label;

@@ -207,7 +207,7 @@ const CASES: [(&str, &str); 34] = [
     ("oaz", "!NotOpen Oc;!NotOpen Ac;!NotOpen Xc; "),
     ("Oqo", "OoBq)1)0 "),
     ("OHy", "Oo!MissingEnd Oo;)0SHXo !MissingEnd Xo;)1)0"),
-    // The 65th scope is refused; so is a paragraph, which passes over the rest of its line, as a description and a row that stands alone do. The
+    // The 65th scope is refused; so is a paragraph, which passes over the rest of its line, as a description and a row that is alone do. The
     // words of an enclosure stay.
     (
         "*#RewETtwEwErRnwElwEqwEr#/",

@@ -1,4 +1,4 @@
-//! Tags of arguments, which stand in front of the text of their paragraph.
+//! Tags of arguments, which are in front of the text of their paragraph.
 
 ghost use Rattle.std.specs.Prelude.{◌≤◌, length};
 ghost use Rattle.page_sets_lines.specs.Fits.{ArgumentFits};
@@ -82,7 +82,7 @@ const TAGS: &[Row] = &[
     (false, "", None, "{7 11}<4;1[]>{11 11}[text]"),
 ];
 
-// A mark keeps the sentence that ended before it, and stands in the page's font.
+// A mark keeps the sentence that ended before it, and is in the page's font.
 fn marked(alloc: Global) -> Shown {
     let mut out = Shown::new(alloc, false);
     let mut page = Page::new();

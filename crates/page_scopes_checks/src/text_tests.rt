@@ -127,7 +127,7 @@ fn texts(rt: HostRuntime) -> Result<(), Fail> {
     Ok(())
 }
 
-// At the front of a line that is kept no blank stands before the first word.
+// At the front of a line that is kept no blank is before the first word.
 #[test]
 fn a_kept_line(rt: HostRuntime) -> Result<(), Fail> {
     check_bytes(

@@ -25,11 +25,11 @@ entered_context c = record c {
 abbrev pub reset : Context → Context
 reset c = record c { fonts = set_to roman_fonts; shift = set_to (pos 0) }
 
--- no paragraph stands further in
+-- no paragraph is further in
 abbrev pub flat : Context → Context
 flat c = record c { hang = pos 0; first = None }
 
--- a section (`SH`, `SS`, `Sh`, `Ss`) stands at the page's indent, filled
+-- a section (`SH`, `SS`, `Sh`, `Ss`) is at the page's indent, filled
 abbrev pub subsection_begun : ℕ → Context → Context
 subsection_begun page_indent c = record (flat (reset c)) {
   margin = page_indent;
@@ -42,7 +42,7 @@ subsection_begun page_indent c = record (flat (reset c)) {
 abbrev pub section_begun : ℕ → Context → Context
 section_begun page_indent c = record (subsection_begun page_indent c) { section = Other }
 
--- a heading (of `SH`, `SS`, `Sh`, `Ss`) stands at its column, bold
+-- a heading (of `SH`, `SS`, `Sh`, `Ss`) is at its column, bold
 abbrev pub heading_begun : ℕ → Context → Context
 heading_begun column c = record c {
   part = parts.Heading column;
@@ -56,11 +56,11 @@ paragraph_begun c = record (flat (reset c)) { prevailing = PREVAILING }
 abbrev pub prevailing_from : Option ℤ → Context → Context
 prevailing_from columns c = record c { prevailing = unwrap_or columns c.prevailing }
 
--- the text stands the prevailing indent further in (`TP`, `IP`)
+-- the text is the prevailing indent further in (`TP`, `IP`)
 abbrev pub indented_begun : Option ℤ → Context → Context
 indented_begun columns c = record (flat (reset (prevailing_from columns c))) { hang = unwrap_or columns c.prevailing }
 
--- the first row stands at the margin
+-- the first row is at the margin
 abbrev pub first_at_margin : Context → Context
 first_at_margin c = record c { first = Some c.margin; has_row = false }
 
@@ -80,15 +80,15 @@ margin_begun columns c = record (flat c) {
   prevailing = PREVAILING;
 }
 
--- where the text of a paragraph stands, without the shift
+-- where the text of a paragraph is, without the shift
 abbrev pub text_margin : Context → ℕ
 text_margin c = hold (pos c.margin +ℤ c.hang)
 
--- the words of a synopsis (`SY`) stand after the command's name, which is its tag
+-- the words of a synopsis (`SY`) are after the command's name, which is its tag
 abbrev pub syntax_begun : (at hang : ℕ) → Context → Context
 syntax_begun at hang c = record (flat c) { margin = hold (pos at +ℤ pos hang) }
 
--- a display (`Bd`) stands this many columns further in than the text; its rows are kept as they are, or filled
+-- a display (`Bd`) is this many columns further in than the text; its rows are kept as they are, or filled
 abbrev pub display_begun : Bool → ℤ → Context → Context
 display_begun is_literal offset c = record (flat c) {
   margin = further_in c.margin c.hang offset;
@@ -112,10 +112,10 @@ function_begun c = record c { arguments = Empty }
 abbrev pub name_begun : Context → Context
 name_begun c = first_at_margin (flat c)
 
--- its words have ended: later rows stand further in by their columns
+-- its words have ended: later rows are further in by their columns
 abbrev pub name_ended : ℕ → Context → Context
 name_ended columns c = record c { hang = pos columns }
 
--- a row that stands alone (`D1`, `Dl`) stands 6 columns further in than the text
+-- a row that is alone (`D1`, `Dl`) is 6 columns further in than the text
 abbrev pub one_line_begun : Context → Context
 one_line_begun c = record (flat c) { margin = hold (pos c.margin +ℤ (c.hang +ℤ pos 6)) }

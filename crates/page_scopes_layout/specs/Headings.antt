@@ -43,7 +43,7 @@ abbrev pub is_front : Option ℕ → Bool
 is_front None = false
 is_front (Some n) = n == 0
 
--- what is printed in ASCII, after white space or not: a blank stands in neither word
+-- what is printed in ASCII, after white space or not: a blank is in neither word
 abbrev pub printed_further : List ℕ → HeadingSoFar → HeadingSoFar
 printed_further [] h = h
 printed_further (c ∷ cs) h =
@@ -114,7 +114,7 @@ is_heading _ = false
 abbrev pub heading_further : PagePart → (quoted : Bool) → ℕ → List ℕ → HeadingSoFar → HeadingSoFar
 heading_further part quoted gap text h = if is_top_heading part then text_further quoted gap text h else h
 
--- what stands in the heading is no text of one word
+-- what is in the heading is no text of one word
 abbrev pub heading_broken : PagePart → HeadingSoFar → HeadingSoFar
 heading_broken part h = if is_top_heading part then other_heading else h
 

@@ -56,7 +56,7 @@ next_item list head = record list { head = head; items = one_more list.items; ce
 abbrev pub COLUMN_GAP : ℕ
 COLUMN_GAP = 4
 
--- a column stands after the width of the one before it and the gap, no further from the margin than a margin can be
+-- a column is after the width of the one before it and the gap, no further from the margin than a margin can be
 abbrev pub next_cell : OpenList → OpenList
 next_cell list = record list {
   cells = one_more list.cells;
@@ -65,11 +65,11 @@ next_cell list = record list {
 
 -- ---- contexts
 
--- a list stands some columns further in than the text
+-- a list is some columns further in than the text
 abbrev pub list_begun : OpenList → ℤ → Context → Context
 list_begun list offset c = record (flat c) { margin = further_in c.margin c.hang offset; list = Some list }
 
--- the text of an item hangs from its head or its mark, which stands at the margin
+-- the text of an item hangs from its head or its mark, which is at the margin
 abbrev pub item_margin : OpenList → Context → ℕ
 item_margin list c = hold (pos c.margin +ℤ pos list.hang)
 

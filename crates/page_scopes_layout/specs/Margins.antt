@@ -13,11 +13,11 @@ MARGIN = 1_000
 abbrev pub hold : ℤ → ℕ
 hold columns = if int_lt columns (pos 0) then 0 else if int_lt (pos MARGIN) columns then MARGIN else nat_abs columns
 
--- a margin that stands a hang, and some columns more, further in
+-- a margin that is a hang, and some columns more, further in
 abbrev pub further_in : ℕ → ℤ → ℤ → ℕ
 further_in margin hang more = hold (pos margin +ℤ hang +ℤ more)
 
--- the text of a paragraph stands its hang further in, and the shift of `in`
+-- the text of a paragraph is its hang further in, and the shift of `in`
 abbrev pub rest_margin : Context → ℕ
 rest_margin c = further_in c.margin c.hang c.shift.value
 

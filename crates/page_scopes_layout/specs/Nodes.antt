@@ -30,7 +30,7 @@ abbrev pub item_begin_items : Option OpenList → Context → List Item
 item_begin_items (Some list) c = if is_close list then shown pieces.Break ∷ [] else shown (pieces.Para c.distance.value) ∷ []
 item_begin_items None c = []
 
--- a head that is a tag stands at its margin, with the list's hang
+-- a head that is a tag is at its margin, with the list's hang
 abbrev pub hanging_items : OpenList → TagForm → Context → List Item
 hanging_items list form c = shown (pieces.Indent (margins c).first (margins c).rest) ∷ shown (pieces.Tag (hold (pos list.hang)) form) ∷ []
 
@@ -52,7 +52,7 @@ abbrev pub is_row : Option OpenList → Bool
 is_row (Some list) = is_ohang list.kind
 is_row None = false
 
--- a head that is set in has blanks after it, whatever stands in it
+-- a head that is set in has blanks after it, whatever is in it
 abbrev pub inset_items : ℕ → List Item
 inset_items blanks = shown (pieces.Tag 0 (Inset blanks)) ∷ []
 
@@ -71,7 +71,7 @@ head_end_items false c = open_head_last_items c.list ++ (shown pieces.TagEnd ∷
 
 -- ---- where a scope begins
 
--- a tag stands in front of its text, which hangs
+-- a tag is in front of its text, which hangs
 abbrev pub line_begin_items : LineOpener → Context → List Item
 line_begin_items lines.Head c = head_begin_items c.list c
 line_begin_items (lines.Heading name) c = margin_items c

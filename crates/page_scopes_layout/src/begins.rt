@@ -8,7 +8,7 @@ use crate::{Context, PREVAILING, PagePart, PageSection, SeriesSoFar, hold};
 use page_core_base::Font;
 use page_scopes_words::{Fonts, ROMAN, Setting};
 
-// The columns that a row which stands alone (`D1`, `Dl`) stands further in.
+// The columns that a row which is alone (`D1`, `Dl`) is further in.
 const ONE_LINE: i64 = 6;
 
 impl Context {
@@ -39,7 +39,7 @@ impl Context {
         }
     }
 
-    /// No paragraph stands further in.
+    /// No paragraph is further in.
     #[inline(always)]
     pub fn flat(self) -> Context
         ensures { result ≡ begins.flat self }
@@ -116,7 +116,7 @@ impl Context {
         }
     }
 
-    /// A paragraph begins whose text stands this many columns, or the prevailing indent, further in (`TP`, `IP`).
+    /// A paragraph begins whose text is this many columns, or the prevailing indent, further in (`TP`, `IP`).
     #[inline(always)]
     pub fn indented_begun(self, columns: Option<i32>) -> Context
         ensures { result ≡ begins.indented_begun columns self }
@@ -128,7 +128,7 @@ impl Context {
         }
     }
 
-    // The first row stands at the margin.
+    // The first row is at the margin.
     #[inline(always)]
     fn first_at_margin(self) -> Context
         ensures { result ≡ begins.first_at_margin self }
@@ -140,7 +140,7 @@ impl Context {
         }
     }
 
-    /// The same, but the first row stands at the margin (`HP`).
+    /// The same, but the first row is at the margin (`HP`).
     #[inline(always)]
     pub fn hanging_begun(self, columns: Option<i32>) -> Context
         ensures { result ≡ begins.hanging_begun columns self }
@@ -248,7 +248,7 @@ impl Context {
         self.flat().first_at_margin()
     }
 
-    /// Its words have ended, and later rows stand this many columns further in.
+    /// Its words have ended, and later rows are this many columns further in.
     pub fn name_ended(self, columns: u16) -> Context
         ensures { result ≡ begins.name_ended columns self }
     {
@@ -258,7 +258,7 @@ impl Context {
         }
     }
 
-    /// A row that stands alone (`D1`, `Dl`) begins, 6 columns further in.
+    /// A row that is alone (`D1`, `Dl`) begins, 6 columns further in.
     #[inline(always)]
     pub fn one_line_begun(self) -> Context
         ensures { result ≡ begins.one_line_begun self }
@@ -270,7 +270,7 @@ impl Context {
         }
     }
 
-    /// A synopsis (`SY`) begins whose command's name stands at a margin, with a hang, in columns.
+    /// A synopsis (`SY`) begins whose command's name is at a margin, with a hang, in columns.
     #[inline(always)]
     pub fn syntax_begun(self, at: u32, hang: u32) -> Context
         ensures { result ≡ begins.syntax_begun at hang self }

@@ -32,7 +32,7 @@ pub enum SeriesSoFar {
     Begun,
 }
 
-/// The section that a text stands in, by its heading.
+/// The section that a text is in, by its heading.
 #[derive(Clone, Copy, PartialEq, Eq)]
 pub enum PageSection {
     Other,
@@ -49,7 +49,7 @@ pub struct Context {
     pub list: Option<OpenList>,
     /// The margin of the section, relative margin, list, item or display, up to [`MARGIN`](crate::MARGIN).
     pub margin: u32,
-    /// The columns that the open paragraph's text stands further in.
+    /// The columns that the open paragraph's text is further in.
     pub hang: i32,
     /// The margin of the paragraph's first row, where it has one of its own.
     pub first: Option<u32>,
@@ -68,7 +68,7 @@ pub struct Context {
     pub fields: SeriesSoFar,
     /// The arguments of the innermost function.
     pub arguments: SeriesSoFar,
-    /// Blanks stand between words: `Sm`.
+    /// Blanks are between words: `Sm`.
     pub has_spacing: Setting<bool>,
     pub section: PageSection,
 }

@@ -194,7 +194,7 @@ pub fn is_heading(part: PagePart) -> bool
     matches!(part, PagePart::Heading(_))
 }
 
-/// Whether a text stands in the SYNOPSIS, but not in a heading of it.
+/// Whether a text is in the SYNOPSIS, but not in a heading of it.
 pub fn in_synopsis(context: &Context) -> bool
     ensures { result ≡ headings.in_synopsis context.now }
 {

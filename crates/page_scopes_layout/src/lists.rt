@@ -20,15 +20,15 @@ pub struct ColumnWidths {
 #[derive(Clone, Copy)]
 pub struct OpenList {
     pub kind: ListKind,
-    /// No blank row stands before an item.
+    /// No blank row is before an item.
     pub is_compact: bool,
-    /// How far the text of an item stands from its head or its mark.
+    /// How far the text of an item is from its head or its mark.
     pub hang: u32,
     /// The margin of the open item's head or mark.
     pub head: u32,
     /// How many items it has had.
     pub items: u32,
-    /// How many cells of the open item stand before the one that is open.
+    /// How many cells of the open item are before the one that is open.
     pub cells: u32,
     /// The column of the open cell.
     pub column: u32,
@@ -164,7 +164,7 @@ impl Context {
         }
     }
 
-    // The first row stands at a margin, as that of a tag.
+    // The first row is at a margin, as that of a tag.
     fn tag_at(self, margin: u32) -> Context
         ensures { result ≡ lists.tag_at margin self }
     {
@@ -176,7 +176,7 @@ impl Context {
         }
     }
 
-    // Words of a head that stand in a row of their own or of the text.
+    // Words of a head that are in a row of their own or of the text.
     fn head_words_begun(self) -> Context
         ensures { result ≡ lists.head_words_begun self }
     {

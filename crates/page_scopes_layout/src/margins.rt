@@ -25,7 +25,7 @@ pub fn hold(columns: i64) -> u32
     }
 }
 
-/// A margin that stands a hang, and some columns more, further in.
+/// A margin that is a hang, and some columns more, further in.
 pub(crate) fn further_in(margin: u32, hang: i32, more: i32) -> u32
     ensures { result ≡ margins.further_in margin hang more }
 {

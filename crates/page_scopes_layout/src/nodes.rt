@@ -33,7 +33,7 @@ fn give_item_begin<O: PieceOut>(out: &mut O, context: &Context)
     }
 }
 
-// Gives a tag of words that stand in their text's row, whatever their columns are.
+// Gives a tag of words that are in their text's row, whatever their columns are.
 fn give_inset<O: PieceOut>(out: &mut O, blanks: u32)
     ensures { Came O.left out.old (nodes.inset_items blanks) out.new }
 {

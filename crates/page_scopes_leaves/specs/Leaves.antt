@@ -82,7 +82,7 @@ fonts None c r = record {
   running = record r { line = record r.line { fonts_before = None } };
 }
 
--- `TQ`: a further tag stands in front of text that hangs by the prevailing indent
+-- `TQ`: a further tag is in front of text that hangs by the prevailing indent
 abbrev pub hung : Context → Context
 hung c = record c { hang = c.prevailing; first = None }
 

@@ -36,7 +36,7 @@ use Rattle.page_sets_names.specs.declared.macro_names.BodyParagraphName.{BodyPar
 abbrev pub glued : Context → Running → Running
 glued c r = record r { gap = joined_gap Glued (blanks_part r.line.ends_blank c) r.gap }
 
--- `Pp`, `Lp`: fonts and the shift stay as they are; skipped where nothing stands before them since the heading
+-- `Pp`, `Lp`: fonts and the shift stay as they are; skipped where there is nothing before them since the heading
 abbrev pub body_paragraph : Place → BodyParagraphName → Context → Running → Outcome
 body_paragraph place name c r =
     if r.has_content then record {
@@ -63,7 +63,7 @@ next_argument series.Begun place c r = generated_word place comma c r
 
 -- ---- the section SYNOPSIS
 
--- `In`: this stands before its file
+-- `In`: this comes before its file
 abbrev pub include_word : GeneratedWord
 include_word = record { text = owns.Include; font = None; before = Apart; after = Apart }
 
@@ -94,7 +94,7 @@ abbrev pub spacing_after : Option Bool → Bool → Bool
 spacing_after None before = not before
 spacing_after (Some on) before = on
 
--- where blanks stand between words again, one stands here
+-- where there are blanks between words again, there is one here
 abbrev pub spaced : Bool → Context → Running → Outcome
 spaced on c r = record {
   items = [];

@@ -96,7 +96,7 @@ fn give_next_argument<O: PieceOut>(
     }
 }
 
-// What stands before the file of `In`.
+// What is before the file of `In`.
 fn include_word() -> GeneratedWord
     ensures { result ≡ steps.include_word }
 {
@@ -108,7 +108,7 @@ fn include_word() -> GeneratedWord
     }
 }
 
-// Later rows stand further in by the columns of a name that has begun a row.
+// Later rows are further in by the columns of a name that has begun a row.
 fn give_name_hang<O: PieceOut>(out: &mut O, context: &mut Context, running: &mut Running)
     ensures { GivesOutcome O.left out.old
         (steps.name_hung running.old.line.name_columns context.old running.old)
@@ -149,7 +149,7 @@ fn give_synopsis_step<O: PieceOut>(
     }
 }
 
-// Gives it where a text stands in the SYNOPSIS.
+// Gives it where a text is in the SYNOPSIS.
 fn give_if_synopsis<O: PieceOut>(
     out: &mut O,
     place: Place,
@@ -166,7 +166,7 @@ fn give_if_synopsis<O: PieceOut>(
     }
 }
 
-// Whether blanks stand between words from here on: `Sm`.
+// Whether blanks are between words from here on: `Sm`.
 fn set_spacing(on: Option<bool>, context: &mut Context, running: &mut Running)
     ensures context { context.new ≡ (steps.spaced (steps.spacing_after on context.old.has_spacing.value) context.old running.old).context }
     ensures running { running.new ≡ (steps.spaced (steps.spacing_after on context.old.has_spacing.value) context.old running.old).running }

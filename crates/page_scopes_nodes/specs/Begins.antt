@@ -29,7 +29,7 @@ use Rattle.page_scopes_nodes.specs.Openers.{opened}
 use Rattle.page_scopes_nodes.specs.declared.page_layouts.PageLayout.{PageLayout}
 
 -- ---- scopes that end with a line: heads of items (`It`), headings at the left edge (`SH`, `Sh`) or 3 columns in (`SS`, `Ss`), tags (`TP`, `TQ`), fonts (`B`, `I`, `SM`,
--- `SB`), rows that stand alone (`D1`, `Dl`), enclosures and descriptions (`Nd`)
+-- `SB`), rows that are alone (`D1`, `Dl`), enclosures and descriptions (`Nd`)
 
 abbrev pub heading_column : HeadingName → ℕ
 heading_column headings.SH = 0

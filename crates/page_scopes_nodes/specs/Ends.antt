@@ -34,7 +34,7 @@ abbrev pub head_running : Bool → Running → Running
 head_running true r = row_ended r
 head_running false r = record r { gap = 0 }
 
--- after `RE`, `YS`, `El`, `Ed`, a row that stands alone and a heading the row has ended; after a heading nothing stands yet; the padding of a tag stands in place of a blank
+-- after `RE`, `YS`, `El`, `Ed`, a row that is alone and a heading the row has ended; after a heading nothing is yet; the padding of a tag takes the place of a blank
 abbrev pub line_running : LineOpener → Context → Running → Running
 line_running lines.Head c r = head_running (is_row c.list) r
 line_running (lines.Heading name) c r = record (row_ended r) { has_content = false }

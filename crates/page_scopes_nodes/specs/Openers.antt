@@ -54,27 +54,27 @@ section page c r = begun labels.Section (section_begun page.indent (entered_cont
 abbrev pub subsection : PageLayout → Context → Running → Outcome
 subsection page c r = begun labels.Section (subsection_begun page.indent (entered_context c)) r
 
--- `PP`, `LP`, `P`: skipped where nothing stands before them since the heading
+-- `PP`, `LP`, `P`: skipped where there is nothing before them since the heading
 abbrev pub plain : Place → ParagraphName → Context → Running → Outcome
 plain place name c r =
     if r.has_content then begun labels.Paragraph (paragraph_begun (entered_context c)) r
     else record { items = says SkipPara place (paragraph_name name) ∷ []; context = entered_context c; running = r }
 
--- `TP`, `IP`: the text stands a number of columns, or the prevailing indent, further in
+-- `TP`, `IP`: the text is a number of columns, or the prevailing indent, further in
 abbrev pub indented : Place → Option (List ℕ) → Context → Running → Outcome
 indented place hang c r = after_notes (given_notes place hang) (begun labels.Paragraph (indented_begun (given_columns hang) (entered_context c)) r)
 
--- the tag of `IP` stands at the margin
+-- the tag of `IP` is at the margin
 abbrev pub given_tag : ℕ → Option (Argument (List ℕ)) → Context → Running → Outcome
 given_tag line None c r = nothing c r
 given_tag line (Some argument) c r =
     tag (record { margin = c.margin; hang = hold c.hang }) line (argument_word None Apart argument) c r
 
--- `HP`: the rows after the first stand further in
+-- `HP`: the rows after the first are further in
 abbrev pub hanging : Place → Option (List ℕ) → Context → Running → Outcome
 hanging place hang c r = after_notes (given_notes place hang) (begun labels.Paragraph (hanging_begun (given_columns hang) (entered_context c)) r)
 
--- `RS`: all stands further in
+-- `RS`: all is further in
 abbrev pub margin : Place → Option (List ℕ) → Context → Running → Outcome
 margin place columns c r =
     after_notes (given_notes place columns)

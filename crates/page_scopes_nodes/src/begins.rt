@@ -57,7 +57,7 @@ fn enter_line(opener: LineOpener, context: &mut Context)
     }
 }
 
-// What is known along the page at the front of a line scope: before the words of a heading one blank stands, and `D1` and `Dl` end the row.
+// What is known along the page at the front of a line scope: there is one blank before the words of a heading, and `D1` and `Dl` end the row.
 fn pass_begin(opener: LineOpener, running: &mut Running)
     ensures { running.new ≡ begins.line_running opener running.old }
 {

@@ -32,7 +32,7 @@ fn give_last_word<O: PieceOut>(
     }
 }
 
-// What is known along the page after the head of an item: a head that is a row of its own has ended it; after any other no blank stands.
+// What is known along the page after the head of an item: a head that is a row of its own has ended it; after any other there is no blank.
 fn pass_head(context: &Context, running: &mut Running)
     ensures { running.new ≡ ends.head_running (is_row context.now.list) running.old }
 {
@@ -44,7 +44,7 @@ fn pass_head(context: &Context, running: &mut Running)
 }
 
 // What is known along the page after a scope: `RS` up to `RE`, `SY` up to `YS`, `Bl` up to `El`, `Bd` up to `Ed`, `D1` and `Dl` end the row, the
-// headings of `SH`, `SS`, `Sh` and `Ss` too; after the tag of `TP` or `TQ` no blank stands.
+// headings of `SH`, `SS`, `Sh` and `Ss` too; there is no blank after the tag of `TP` or `TQ`.
 fn pass_end(label: Label, context: &Context, running: &mut Running)
     ensures { running.new ≡ ends.label_running label context.now running.old }
 {

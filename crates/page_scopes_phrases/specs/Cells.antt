@@ -28,7 +28,7 @@ has_open_columns None = false
 abbrev pub in_columns : Context → Bool
 in_columns c = has_open_columns c.list
 
--- what stands before the next word there stands in place of a blank
+-- what is before the next word there takes the place of a blank
 abbrev pub column_of : OpenList → Context → Running → Outcome
 column_of list c r = record {
   items = shown (pieces.Column (next_cell list).column) ∷ [];
@@ -131,7 +131,7 @@ cells_within (suc n) line p c r =
 abbrev pub cells : ℕ → Phrase (List ℕ) → Context → Running → Outcome
 cells line p c r = cells_within (length p.text) line p c r
 
--- a text is parted by tabs where columns are open; one without a byte is a word, as everywhere
+-- a text is separated by tabs where columns are open; one without a byte is a word, as everywhere
 abbrev pub is_parted : Phrase (List ℕ) → Context → Bool
 is_parted p c = in_columns c && not (length p.text == 0)
 

@@ -67,7 +67,7 @@ argument_word font before argument = record { arg = argument; role = roles.Argum
 
 -- ---- words of a macro's own
 
--- it stands at its macro, which stands in a line
+-- it is at its macro, which is in a line
 abbrev pub generated_phrase : Place → (spacing : Bool) → GeneratedWord → Phrase (List ℕ)
 generated_phrase place spacing word = record {
   text = generated_text (generated_spaced spacing word.text);

@@ -43,7 +43,7 @@ name_notes line _ argument name = []
 
 -- ---- where it is printed
 
--- where there is no name, a word of no bytes stands
+-- where there is no name, its place is taken by a word of no bytes
 abbrev pub nameless : Place → Phrase (List ℕ)
 nameless place = record {
   text = [];

@@ -1,4 +1,4 @@
--- A text that an event prints: its fonts, and how it stands beside the words around it. Source: man(7), `B`, `BR`; roff(7), `\f`, `\c`.
+-- A text that an event prints: its fonts, and how it is beside the words around it. Source: man(7), `B`, `BR`; roff(7), `\f`, `\c`.
 use Rattle.std.specs.Prelude.{ℕ, max, Bool, true, false, not, ◌||◌, ◌&&◌, List, Option, None, Some, is_some, if◌then◌else◌}
 use Rattle.std.specs.Borrow.{Bor}
 use Rattle.page_core_base.specs.Pieces.{Item}
@@ -88,7 +88,7 @@ kept_fonts None is_guarded before now = record { value = now.value; is_set = if 
 abbrev pub context_after : Phrase (List ℕ) → Bool → Pen → Context → Context
 context_after p is_guarded pen c = record c { fonts = kept_fonts p.font is_guarded c.fonts pen.fonts; has_row = c.has_row || pen.has_cell }
 
--- blanks at its end are at least one; after its last word none stands where none are to stand between words (`Sm off`)
+-- blanks at its end are at least one; there is none after its last word where there are to be none between words (`Sm off`)
 abbrev pub end_gap : (spacing : Bool) → Pen → ℕ
 end_gap spacing pen = if pen.ends_blank then max pen.gap 1 else if spacing then pen.gap else 0
 

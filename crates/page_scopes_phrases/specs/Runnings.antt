@@ -26,7 +26,7 @@ next_gap r = if r.line.joins_next then 0 else r.gap
 abbrev pub start : Running
 start = record { has_content = false; gap = 1; line = no_line; heading = no_heading }
 
--- after a line with words one blank stands, two after a sentence, none where it ends in `\c` or where no blanks stand between words; what is glued stays glued
+-- there is one blank after a line with words, two after a sentence, none where it ends in `\c` or where no blanks are between words; what is glued stays glued
 abbrev pub words_gap : (spacing : Bool) → LineSoFar → ℕ → ℕ
 words_gap spacing line gap = if line.is_cut || (gap == 0 || not spacing) then 0 else if line.is_sentence then 2 else 1
 
@@ -36,7 +36,7 @@ line_gap spacing line gap = if line.has_words then words_gap spacing line gap el
 abbrev pub line_ended : (spacing : Bool) → Running → Running
 line_ended spacing r = record r { gap = line_gap spacing r.line r.gap; line = no_line }
 
--- the row ends: no word stands in it yet
+-- the row ends: no word is in it yet
 abbrev pub row_ended : Running → Running
 row_ended r = record r { line = record r.line { has_row_words = false; is_after_word = false } }
 
@@ -44,6 +44,6 @@ row_ended r = record r { line = record r.line { has_row_words = false; is_after_
 abbrev pub with_content : Running → Running
 with_content r = record r { has_content = true }
 
--- `Nm`: the columns of its words are counted from here on, and later rows stand as many further in
+-- `Nm`: the columns of its words are counted from here on, and later rows are as many further in
 abbrev pub counting : Option ℕ → Running → Running
 counting columns r = record r { line = record r.line { name_columns = columns } }

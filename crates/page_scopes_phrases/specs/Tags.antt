@@ -22,11 +22,11 @@ tag_context tag c = record c { first = Some tag.margin; has_row = false; part = 
 abbrev pub after_tag : Context → Context → Context
 after_tag before c = record c { first = None; part = before.part }
 
--- what pads it stands in place of a blank
+-- what pads it takes the place of a blank
 abbrev pub padded : Running → Running
 padded r = record r { gap = 0 }
 
--- it stands in front of its text, which hangs
+-- it is in front of its text, which hangs
 abbrev pub tag_begun : TagPlace → Context → Running → Outcome
 tag_begun tag c r = record {
   items = margin_items (tag_context tag c) ++ shown (pieces.Tag tag.hang Row) ∷ [];

@@ -17,7 +17,7 @@ use page_scopes_layout::Context;
 use page_scopes_words::report;
 use page_sets_lines::Join;
 
-/// Where the first cell of a text ends, in bytes from its front, and where the tab after it stands; both at the text's end where no
+/// Where the first cell of a text ends, in bytes from its front, and where the tab after it is; both at the text's end where no
 /// tab is.
 #[derive(Clone, Copy)]
 pub(crate) struct CellSpan {
@@ -166,7 +166,7 @@ fn after_tab(text: &[u8]) -> &[u8]
     }
 }
 
-// How many blanks stand at a text's front.
+// How many blanks are at a text's front.
 fn count_blanks(text: &[u8]) -> usize
     ensures value { result ≡ prefix_len (λ byte. byte == 32) text.now }
     ensures within { result ≤ length text.now }

@@ -42,7 +42,7 @@ fn give_row_break<O: PieceOut>(out: &mut O, context: &Context, running: &mut Run
     running.end_row();
 }
 
-// Gives what ends a declaration of a function, which stands in the SYNOPSIS.
+// Gives what ends a declaration of a function, which is in the SYNOPSIS.
 fn give_declaration_end<O: PieceOut>(
     out: &mut O,
     place: Place,

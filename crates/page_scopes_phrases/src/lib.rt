@@ -2,7 +2,7 @@
 //!
 //! A word comes in, in the context of the open scopes; it gives an outcome: items, and the context and what is known after it. In columns a text
 //! is parted into cells first. What it says of a heading, and what is kept of a name, is followed beside. Tags, and the end of a function, are words
-//! with what stands round them. Read `src/runnings.rt` first, then `specs/Outcomes.antt`, `Phrases.antt` (one text) and `LineWords.antt` (a word of a
+//! with what is round them. Read `src/runnings.rt` first, then `specs/Outcomes.antt`, `Phrases.antt` (one text) and `LineWords.antt` (a word of a
 //! line).
 //!
 //! Proved: `give_line_word`, `give_generated_word`, `give_phrase`, `give_column_step`, `give_white_columns`: a word of a line and a word of a macro's own, in rows and in

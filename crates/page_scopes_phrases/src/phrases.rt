@@ -1,4 +1,4 @@
-//! Texts that events print: their fonts, and how they stand beside the words around them (man(7), `B`, `BR`).
+//! Texts that events print: their fonts, and how they are beside the words around them (man(7), `B`, `BR`).
 
 ghost use Rattle.std.specs.Prelude.{◌≡◌};
 ghost use Rattle.page_sets_lines.specs.Fits.{FitsAt};
@@ -23,13 +23,13 @@ pub struct Phrase<W> {
     pub is_quoted: bool,
     /// It is a whole line.
     pub is_line: bool,
-    /// It stands in the page, and is no word of a macro's own.
+    /// It is in the page, and is no word of a macro's own.
     pub is_written: bool,
     /// A font of its own.
     pub font: Option<Font>,
-    /// How it stands beside the word before it.
+    /// How it is beside the word before it.
     pub before: Join,
-    /// How it stands beside the word after it.
+    /// How it is beside the word after it.
     pub after: Join,
 }
 
@@ -148,7 +148,7 @@ fn pass_context(context: &mut Context, phrase: &Phrase<&[u8]>, is_guarded: bool,
     context.has_row = context.has_row || pen.has_cell;
 }
 
-// The count of blanks after a phrase; they stand between words, or do not.
+// The count of blanks after a phrase; there are some between words, or none.
 fn end_gap(has_spacing: bool, pen: &Pen) -> u32
     ensures { result ≡ phrases.end_gap has_spacing pen.now }
 {

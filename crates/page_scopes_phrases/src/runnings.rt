@@ -55,7 +55,7 @@ const NO_LINE: LineSoFar = LineSoFar {
 };
 
 impl LineSoFar {
-    // The count of blanks after the line, of its last word's; blanks stand between words, or do not.
+    // The count of blanks after the line, of its last word's; there are blanks between words, or none.
     fn gap(&self, has_spacing: bool, gap: u32) -> u32
         ensures { result ≡ runnings.line_gap has_spacing self.now gap }
     {
@@ -91,7 +91,7 @@ impl Running {
         if self.line.joins_next { 0 } else { self.gap }
     }
 
-    /// The row ends: no word stands in it yet.
+    /// The row ends: no word is in it yet.
     pub fn end_row(&mut self)
         ensures { self.new ≡ runnings.row_ended self.old }
     {
@@ -99,7 +99,7 @@ impl Running {
         self.line.is_after_word = false;
     }
 
-    /// The line ends; blanks stand between words, or do not.
+    /// The line ends; there are blanks between words, or none.
     pub fn end_line(&mut self, has_spacing: bool)
         ensures { self.new ≡ runnings.line_ended has_spacing self.old }
     {

@@ -13,12 +13,12 @@ use page_core_base::{Piece, PieceOut, TagForm};
 use page_scopes_layout::{Context, PagePart, give_margins};
 use page_sets_lines::Word;
 
-/// Where a tag stands, in columns.
+/// Where a tag is, in columns.
 #[derive(Clone, Copy)]
 pub struct TagPlace {
     /// Its margin.
     pub margin: u32,
-    /// How much further its text stands.
+    /// How much further its text is.
     pub hang: u32,
 }
 
@@ -45,7 +45,7 @@ fn after_tag(before: Context, context: Context) -> Context
     }
 }
 
-// What pads a tag stands in place of a blank.
+// What pads a tag takes the place of a blank.
 fn pad(running: &mut Running)
     ensures { running.new ≡ tags.padded running.old }
 {

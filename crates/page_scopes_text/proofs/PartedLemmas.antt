@@ -69,14 +69,14 @@ white_some quoted (b ∷ bs) t = rw (white_token quoted b bs t, length-prefix_le
 pub words_none : (quoted : Bool) (text : List ℕ) → length text ≤ 0 → words_of quoted text ≡ record { word = []; others = [] }
 words_none quoted text h = ap parted (tokens_none quoted text h)
 
--- where white space or nothing stands at the front, no word does
+-- where white space or nothing is at the front, no word is
 pub no_word : (quoted : Bool) (text : List ℕ) → begins_word text ≡ false → (words_of quoted text).word ≡ []
 no_word quoted [] h = ap (λ (t : Parted). t.word) (words_none quoted [] (omega arith))
 no_word quoted (b ∷ bs) h =
     let t = white_first b bs h in
     ap (λ (p : Parted). p.word) (spaced_more quoted (b ∷ bs) (token_len quoted (b ∷ bs)) t (white_some quoted (b ∷ bs) t) refl)
 
--- where a text goes on and no word stands at its front, white space does
+-- where a text goes on and no word is at its front, white space is
 pub white_front : (text : List ℕ) → 0 < length text → begins_word text ≡ false → begins_white text ≡ true
 white_front [] h w = absurd (omega arith)
 white_front (b ∷ bs) h w = white_first b bs w

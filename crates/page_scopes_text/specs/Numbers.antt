@@ -15,7 +15,7 @@ use Rattle.page_core_base.specs.declared.limits.Limit.TheVariants as limits
 abbrev pub number_value : Scale → List ℕ → ℤ
 number_value scale text = (expression_of scale text).value
 
--- its messages all stand at one place
+-- its messages are all at one place
 abbrev pub number_notes : Scale → Place → List ℕ → List Item
 number_notes scale place text = map noted (messages_at place.line place.column (expression_of scale text).troubles)
 

@@ -7,7 +7,7 @@ pub record Spaced : Type 0 where
   pub white : List ℕ
   pub word : List TextToken
 
--- A text: the word at its front, which is empty where white space stands there, and those after it. The last of them is empty where white space stands at
+-- A text: the word at its front, which is empty where white space is there, and those after it. The last of them is empty where white space is at
 -- the text's end.
 pub record Parted : Type 0 where
   pub word : List TextToken

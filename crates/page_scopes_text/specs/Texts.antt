@@ -13,7 +13,7 @@ use Rattle.page_scopes_text.specs.declared.pens.TextStyle.{TextStyle}
 
 -- ---- a word after white space, which parts it, or is kept
 
--- the place of what stands after white space
+-- the place of what is after white space
 abbrev pub place_after : ℕ → Pen → List ℕ → Place
 place_after line pen white = at line (pen.column + length white)
 

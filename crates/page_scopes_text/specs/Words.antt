@@ -128,7 +128,7 @@ abbrev pub body_items : (quoted : Bool) → Place → Pen → List TextToken →
 body_items quoted place pen word =
     tokens_items quoted place (word_begun pen) word ++ empty_items (pen_through (word_begun pen) word).has_cell place
 
--- after a word one blank stands
+-- there is one blank after a word
 abbrev pub word_ended : Pen → Pen → Pen
 word_ended before pen = record pen {
   gap = 1;
@@ -140,7 +140,7 @@ word_ended before pen = record pen {
 abbrev pub body_after : Pen → List TextToken → Pen
 body_after pen word = word_ended pen (pen_through (word_begun pen) word)
 
--- the blanks before a word part it, or are kept where a word stands before it
+-- the blanks before a word part it, or are kept where a word is before it
 abbrev pub has_gap_cells : TextStyle → Pen → Bool
 has_gap_cells style pen = style.is_literal && (pen.is_after_word && nat_lt 0 pen.gap)
 

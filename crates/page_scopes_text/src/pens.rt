@@ -29,7 +29,7 @@ pub struct Pen {
     pub column: u32,
     /// The count of blanks before the next word.
     pub gap: u32,
-    /// A word stands before, since the line's last break.
+    /// There is a word before, since the line's last break.
     pub is_after_word: bool,
     /// A cell was given.
     pub has_cell: bool,

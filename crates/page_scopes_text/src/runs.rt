@@ -77,7 +77,7 @@ fn split_word(text: &[u8]) -> Option<(&[u8], &[u8])>
     Some(words.split_at(word_len(words)))
 }
 
-/// Gives words that print themselves, with a blank before each, of which the first stands at a place: as many at once as the row takes, and
+/// Gives words that print themselves, with a blank before each, of which the first is at a place: as many at once as the row takes, and
 /// then one, after another.
 #[inline(always)]
 pub(crate) fn give_run<O: PieceOut>(out: &mut O, font: Font, place: Place, text: &[u8])

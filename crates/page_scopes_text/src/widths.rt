@@ -46,7 +46,7 @@ fn lacks_operand(mut notes: EvaluationNotes) -> bool
     false
 }
 
-// Whether a text is an expression, up to its end. Its messages would stand at a place.
+// Whether a text is an expression, up to its end. Its messages would be at a place.
 #[tactic(auto, unfolding(crate::specs::Widths::is_expression))]
 fn is_expression(place: Place, text: &[u8]) -> bool
     ensures { result ≡ widths.is_expression text.now }

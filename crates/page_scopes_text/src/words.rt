@@ -211,7 +211,7 @@ fn give_told_word<'a, O: PieceOut>(
     give_body(out, style.is_quoted, place, pen, text)
 }
 
-/// Gives the word at a text's front, which is empty where white space stands there; what is left of the text.
+/// Gives the word at a text's front, which is empty where white space is there; what is left of the text.
 #[inline(always)]
 pub(crate) fn give_word<'a, O: PieceOut>(
     out: &mut O,

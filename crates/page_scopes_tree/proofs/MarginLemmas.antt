@@ -1,4 +1,4 @@
--- Where the relative margin of a number stands, scope by scope.
+-- Where the relative margin of a number is, scope by scope.
 use Rattle.std.proofs.Common.{◌≡◌, ℕ, suc, ◌+◌, ◌-◌, ◌<◌, ◌≤◌, ◌==◌, true, false, List, [], ◌∷◌, ◌++◌, length, reverse, get_or, drop, refl, sym, ap, ◌∙◌, arith, Option, None, Some}
 use Rattle.std.proofs.lemmas.List.{drop_more, drop_all, map-append, reverse-reverse, length-reverse}
 use Rattle.std.proofs.lemmas.Grind.{reverse_onto}
@@ -11,7 +11,7 @@ use Rattle.page_scopes_tree.specs.Ends.{place_of_margin, but_outside, up_to_marg
 use Rattle.page_scopes_labels.specs.Labels.{is_margin}
 use Rattle.page_scopes_labels.specs.declared.labels.Label.{Label}
 
--- a place, where so many scopes stand before
+-- a place, where so many scopes are before
 abbrev pub after_outer : ℕ → Option ℕ → Option ℕ
 after_outer n None = None
 after_outer n (Some i) = Some (i + n)

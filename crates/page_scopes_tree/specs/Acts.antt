@@ -12,7 +12,7 @@ abbrev pub act_view : Act (Bor (Event (Bor (List ℕ)))) → Act (Event (List �
 act_view (acts.Event event) = acts.Event (event_view event.now)
 act_view (acts.PageEnd line) = acts.PageEnd line
 
--- the page's end stands at the first column of its line
+-- the page's end is at the first column of its line
 abbrev pub act_place : Act (Event (List ℕ)) → Place
 act_place (acts.Event event) = event.place
 act_place (acts.PageEnd line) = record { line = line; column = 1 }

@@ -1,4 +1,4 @@
--- Asides: what stands among a page's acts and is none of its language's, as a message. Each is a leaf where it comes, under every mode, and neither
+-- Asides: what is among a page's acts and is not of its language, as a message. Each is a leaf where it comes, under every mode, and neither
 -- ends nor opens anything.
 use Rattle.std.specs.Prelude.{ℕ, List, [], ◌∷◌, ◌++◌}
 use Rattle.page_scopes_tree.specs.Nestings.{Standing, as_node, as_leaf, as_nothing, Nesting}
@@ -52,7 +52,7 @@ abbrev pub act_in : {Y A F H S I : Type 0} → Sides Y A F H S I → With Y A �
 act_in sides (act a) = a
 act_in sides (aside y) = sides.in_place y
 
--- a leaf of the language gives what stands before it and then its own; an aside what the sides say
+-- a leaf of the language gives what is before it and then its own; an aside what the sides say
 abbrev pub leaf_items_with : {Y L A F H S B I : Type 0} → Layout L A F S B I → Sides Y A F H S I → With Y F → Beside H S → List I
 leaf_items_with lays sides (act f) s = sides.before f s.own s.rest ++ lays.leaf_items f s.rest
 leaf_items_with lays sides (aside y) s = sides.items y s.own s.rest

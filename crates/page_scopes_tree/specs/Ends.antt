@@ -53,7 +53,7 @@ up_to_paragraph nodes = up_to (inside is_paragraph nodes) (inside is_level nodes
 abbrev pub up_to_item : List Label → ℕ
 up_to_item nodes = up_to (inside is_item nodes) (inside is_list nodes)
 
--- where the relative margin of a number stands, counted from the outermost scope on
+-- where the relative margin of a number is, counted from the outermost scope on
 abbrev pub place_of_margin : ℕ → List Label → Option ℕ
 place_of_margin k [] = None
 place_of_margin k (label ∷ nodes) =

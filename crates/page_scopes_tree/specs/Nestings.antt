@@ -1,13 +1,13 @@
 -- When nodes open and end: what a language's tables say of each act of a page. Source: man(7), mdoc(7).
 use Rattle.std.specs.Prelude.{◌≡◌, ℕ, ◌≤◌, ◌<◌, List, ◌∷◌, length, drop}
 
--- what becomes of an act itself, once it ended what it ends: a node of a label opens, a leaf stands there, or nothing does
+-- what becomes of an act itself, once it ended what it ends: a node of a label opens, there is a leaf, or neither
 pub data Standing (L F : Type 0) : Type 0 where
   as_node : L → Standing L F
   as_leaf : F → Standing L F
   as_nothing : Standing L F
 
--- Of acts inside open nodes, whose labels stand the innermost first, under a mode: how many of the innermost nodes an act ends; what becomes of it
+-- Of acts inside open nodes, whose labels are the innermost first, under a mode: how many of the innermost nodes an act ends; what becomes of it
 -- where it ended this many and these are left; and the mode after it.
 pub record Nesting (M L A F : Type 0) : Type 0 where
   pub ends : M → A → List L → ℕ

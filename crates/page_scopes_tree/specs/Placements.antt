@@ -156,7 +156,7 @@ unfoldable pub opener_skips : Opener (List ℕ) → List Label → Bool
 opener_skips openers.Item remaining = item_skips (in_list remaining) remaining
 opener_skips opener remaining = refused_skips opener remaining
 
--- so does a description (`Nd`), or a row that stands alone (`D1`, `Dl`)
+-- so does a description (`Nd`), or a row that is alone (`D1`, `Dl`)
 abbrev pub opens_row : LineOpener → Bool
 opens_row Description = true
 opens_row (OneLine name) = true

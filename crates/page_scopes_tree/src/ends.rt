@@ -1,4 +1,4 @@
-//! How many of the open scopes an event ends (man(7)). Open scopes stand in a list with the outermost first.
+//! How many of the open scopes an event ends (man(7)). Open scopes are in a list with the outermost first.
 
 ghost use Rattle.std.specs.Prelude.{◌≡◌, ◌≤◌, ◌<◌, length, reverse};
 ghost use Rattle.page_core_numbers.specs.Expressions.{expression_of};
@@ -53,7 +53,7 @@ fn up_to_explicit<B>(explicit: Explicit, scopes: &[Scope<Label, B>]) -> usize
     up_to(run_len(Run::InsideExplicit(explicit), scopes), scopes.len())
 }
 
-// Where the relative margin of a number stands, from the outside.
+// Where the relative margin of a number is, from the outside.
 fn find_margin_of<B>(number: usize, scopes: &[Scope<Label, B>]) -> Option<usize>
     requires some { 0 < number }
     requires few { length scopes.now ≤ SCOPES }

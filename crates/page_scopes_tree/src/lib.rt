@@ -4,7 +4,7 @@
 //! tree) and `Layouts.antt` (what it gives), with laws for the tables of any language; what follows puts the scopes of man(7) and mdoc(7) in.
 //!
 //! Events of the set of macros come in; which scopes they end and open, with the messages of nesting, goes to a layout (`Renderer`), which
-//! `page_scopes` is. What an open scope is stands in `page_scopes_labels`. Then read `specs/Ends.antt` (how many scopes an event ends), then
+//! `page_scopes` is. `page_scopes_labels` says what an open scope is. Then read `specs/Ends.antt` (how many scopes an event ends), then
 //! `Placements.antt` (what it opens) and `Broken.antt` (messages).
 //!
 //! Proved: `ScopeStack` (`new`, `copy`, `restart`, `apply`, `finish`, `depth`, `state`, `skips`): events give the layout of their block tree, with

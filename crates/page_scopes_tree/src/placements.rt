@@ -1,4 +1,4 @@
-//! What becomes of an event itself, once it ended what it ends (man(7)). Open scopes stand in a list with the outermost first.
+//! What becomes of an event itself, once it ended what it ends (man(7)). Open scopes are in a list with the outermost first.
 
 ghost use Rattle.std.specs.Prelude.{◌≡◌, ◌≤◌, length, reverse};
 ghost use Rattle.page_scopes_tree.specs.Layouts.{labels};
@@ -238,7 +238,7 @@ pub(crate) fn placement_of<B>(
     }
 }
 
-// Whether an event ends no scope and opens none, and stands as a leaf: a word, and the end of a line where the innermost
+// Whether an event ends no scope and opens none, and is a leaf: a word, and the end of a line where the innermost
 // scope is no line scope.
 #[inline(always)]
 fn kind_stands_alone<B>(kind: &EventKind<&[u8]>, scopes: &[Scope<Label, B>]) -> bool
@@ -252,7 +252,7 @@ fn kind_stands_alone<B>(kind: &EventKind<&[u8]>, scopes: &[Scope<Label, B>]) -> 
     }
 }
 
-/// Whether an act ends no scope and opens none, and stands as a leaf, as most acts of a page do.
+/// Whether an act ends no scope and opens none, and is a leaf, as most acts of a page do.
 #[inline(always)]
 pub(crate) fn stands_alone<B>(act: &Act<&Event<&[u8]>>, scopes: &[Scope<Label, B>]) -> bool
     requires { length scopes.now ≤ SCOPES }
@@ -316,7 +316,7 @@ fn opener_skips<B>(opener: &Opener<&[u8]>, remaining: &[Scope<Label, B>]) -> boo
     }
 }
 
-// Whether an opener is of a description or of a row that stands alone.
+// Whether an opener is of a description or of a row that is alone.
 fn opens_row(opener: LineOpener) -> bool
     ensures { result ≡ placements.opens_row opener }
 {

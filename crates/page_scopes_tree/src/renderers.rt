@@ -47,7 +47,7 @@ pub trait Renderer: Drop {
         ensures came { Came O.left out.old (tables.coming_items (event_view event.now) self.old) out.new }
         ensures state { self.new ≡ tables.coming_state (event_view event.now) self.old };
 
-    /// An act stands that opens and closes nothing itself.
+    /// An act that opens and closes nothing itself.
     fn leaf<O: PieceOut>(&mut self, act: &Act<&Event<&[u8]>>, out: &mut O)
         requires { TakesAct Takes (act_view act.now) }
         ensures came { Came O.left out.old (tables.leaf_items (act_view act.now) self.old) out.new }

@@ -1,4 +1,4 @@
-//! A search among open scopes, from the inside (man(7), mdoc(7)). They stand in a list with the outermost first.
+//! A search among open scopes, from the inside (man(7), mdoc(7)). They are in a list with the outermost first.
 
 ghost use Rattle.std.specs.Prelude.{◌≡◌, ◌≤◌, length, reverse};
 ghost use Rattle.std.specs.List.{prefix_len};

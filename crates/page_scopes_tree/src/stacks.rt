@@ -1,4 +1,4 @@
-//! A stack of open scopes: each act ends the innermost of them, and opens one more or stands as a leaf (man(7)).
+//! A stack of open scopes: each act ends the innermost of them, and opens one more or is a leaf (man(7)).
 
 ghost use Rattle.std.specs.Prelude.{◌≡◌, ◌≤◌, ◌<◌, ◌+◌, Bool, true, List, [], ◌∷◌, length, drop, reverse, vec_capacity, vec_len};
 ghost use Rattle.page_core_base.specs.Latches.{Came};
@@ -159,7 +159,7 @@ fn place_act<Y: Renderer, O: PieceOut>(
     }
 }
 
-// An act ends what it ends, and then opens a scope or stands as a leaf.
+// An act ends what it ends, and then opens a scope or is a leaf.
 #[inline(never)]
 fn take_nesting<Y: Renderer, O: PieceOut>(
     scopes: &mut Vec<Scope<Label, Y::Kept>>,
@@ -185,7 +185,7 @@ fn take_nesting<Y: Renderer, O: PieceOut>(
     place_act(scopes, state, count, act, out);
 }
 
-// An act that stands alone, unless it is passed over.
+// An act that is alone, unless it is passed over.
 #[inline(always)]
 fn take_alone<Y: Renderer, O: PieceOut>(
     scopes: &[Scope<Label, Y::Kept>],
@@ -222,7 +222,7 @@ fn take_idle<Y: Renderer, O: PieceOut>(
         (record { mode = skips; scopes = reverse scopes.now; state = state.now }) out.now }
 {}
 
-/// An act ends what it ends, and then opens a scope or stands as a leaf.
+/// An act ends what it ends, and then opens a scope or is a leaf.
 #[inline(always)]
 pub(crate) fn take_act<Y: Renderer, O: PieceOut>(
     scopes: &mut Vec<Scope<Label, Y::Kept>>,

@@ -7,7 +7,7 @@ use Rattle.page_roff_syntax.specs.LineForms.{is_white}
 abbrev pub is_end : ℕ → Bool
 is_end byte = byte == 46 || (byte == 33 || byte == 63)
 
--- what may stand after it: ) ] ' "
+-- what may be after it: ) ] ' "
 abbrev pub is_closer : ℕ → Bool
 is_closer byte = (byte == 41 || byte == 93) || (byte == 39 || byte == 34)
 

@@ -31,7 +31,7 @@ abbrev pub face_notes : (quoted : Bool) → Place → Face → List Item
 face_notes quoted place (meanings.unknown name) = says UnknownFont place (shown_part quoted name) ∷ []
 face_notes quoted place _ = []
 
--- those of the number in `\h` stand in `page_scopes_text`, with its value
+-- those of the number in `\h` are in `page_scopes_text`, with its value
 abbrev pub meaning_notes : (quoted : Bool) → Place → List ℕ → Meaning → List Item
 meaning_notes quoted place bytes (meanings.undefined c) = says UndefEscape place (shown_part quoted bytes) ∷ []
 meaning_notes quoted place bytes meanings.bad = says BadEscape place (shown_part quoted bytes) ∷ []
@@ -53,7 +53,7 @@ glyph_name quoted name = if quoted && has_quote name then take 64 (unpaired name
 abbrev pub undefined_piece : Font → Place → ℕ → Piece (List ℕ)
 undefined_piece font place c = if c == 9 then Tab font place else Char c font place
 
--- a glyph, and the blanks of `\h`, stand in `page_scopes_text`
+-- a glyph, and the blanks of `\h`, are in `page_scopes_text`
 abbrev pub meaning_piece : Font → Place → Meaning → Option (Piece (List ℕ))
 meaning_piece font place (meanings.character c) = Some (Char c font place)
 meaning_piece font place meanings.tab = Some (Tab font place)

@@ -12,7 +12,7 @@ fn is_end(byte: u8) -> bool
     byte == b'.' || byte == b'!' || byte == b'?'
 }
 
-// Whether a byte may stand after a sentence's end.
+// Whether a byte may be after a sentence's end.
 fn is_closer(byte: u8) -> bool
     ensures { result ≡ is_closer byte }
 {

@@ -64,7 +64,7 @@ pub fn report_part<O: PieceOut>(
     }
 }
 
-/// Reports a name that no font has; `quoted` says whether it stands in a quoted argument.
+/// Reports a name that no font has; `quoted` says whether it is in a quoted argument.
 #[inline(always)]
 pub fn report_font<O: PieceOut>(out: &mut O, quoted: bool, place: Place, name: FontName<'_>)
     ensures { Came O.left out.old (words.face_notes quoted place (face_view name.entry)) out.new }
@@ -111,7 +111,7 @@ fn has_quote(bytes: &[u8]) -> bool
     bytes.iter().any(|byte| *byte == b'"')
 }
 
-/// Gives the glyph of a name; `quoted` says whether it stands in a quoted argument, where a pair of quotes is one quote.
+/// Gives the glyph of a name; `quoted` says whether it is in a quoted argument, where a pair of quotes is one quote.
 pub fn give_glyph<O: PieceOut>(out: &mut O, quoted: bool, font: Font, place: Place, name: &[u8])
     ensures { Came O.left out.old
         (shown (Piece.Glyph (words.glyph_name quoted name.now) font place) ∷ []) out.new }

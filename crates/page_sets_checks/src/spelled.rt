@@ -177,7 +177,7 @@ fn step_kind<'a>(name: &str) -> Option<EventKind<&'a [u8]>>
     Some(EventKind::Leaf(Leaf::Step(step)))
 }
 
-// A word as it is spelled: its role and font, and how it stands beside others.
+// A word as it is spelled: its role and font, and how it is beside others.
 fn word_of<'a>(name: &str, column: u32, argument: Argument<&'a [u8]>) -> Word<&'a [u8]>
     requires { ArgumentFits (argument_view argument) }
     ensures { ArgumentFits (word_view result).arg }

@@ -184,7 +184,7 @@ fn show_request<'a>(request: Request<&'a [u8]>) -> Shown<'a> {
     }
 }
 
-// Whether blanks stand between words.
+// Whether blanks are between words.
 fn spacing_name(on: Option<bool>) -> &'static str {
     match on {
         None => "",

@@ -1,5 +1,5 @@
 //! The events of a macro's words as short texts: column, kind, font and text, as in `5 word I a`. A `+` before or after
-//! the kind says that no blank stands there.
+//! the kind says that no blank is there.
 
 ghost use Rattle.std.specs.Prelude.{◌≤◌, length};
 
@@ -181,7 +181,7 @@ impl<'a> EventTaker<'a> for ShownEvents {
     }
 }
 
-// The macro that begins a line, if it is one that can stand among words; as it is there, or where a word calls it.
+// The macro that begins a line, if it is one that can be among words; as it is there, or where a word calls it.
 fn show(shown: &mut ShownEvents, first: bool, line: Taken<'_>)
     requires { length line.text.now ≤ LINE }
 {

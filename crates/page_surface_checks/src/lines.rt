@@ -12,7 +12,7 @@ const BYTES: usize = 1_000_000;
 
 /// A page that takes lines one by one, and then its end, and keeps what comes of them.
 ///
-/// The tests are written over this trait: so the states of the layers, which are large, stand in the proofs of these few methods alone.
+/// The tests are written over this trait: so the states of the layers, which are large, are in the proofs of these few methods alone.
 pub(crate) trait FedPage {
     /// A line comes, of a number.
     fn line(&mut self, text: &[u8], number: u32) -> Result<(), Fault>;

@@ -2,7 +2,7 @@
 
 use page_core_base::{Font, NoteKind};
 
-/// What stands before a text in a font.
+/// What is before a text in a font.
 pub(crate) fn font_mark(font: Font) -> &'static str {
     match font {
         Font::R => "",

@@ -64,7 +64,7 @@ fn refused_difference<S: Scarce>(
     }
 }
 
-// Whether a call stands each step of memory: first it is refused, at last it is whole. Where the steps lie in pieces, it is given all at last.
+// Whether a call is each step of memory: first it is refused, at last it is whole. Where the steps lie in pieces, it is given all at last.
 fn stands_refusals<S: Scarce>(alloc: Global, memory: &mut Scarcity, call: &mut S) -> bool {
     let mut refused = 0usize;
     let mut whole = 0usize;

@@ -7,10 +7,10 @@ use std::alloc::Global;
 
 /// The short notation of what scopes and their words give.
 ///
-/// A text stands in brackets, a tab is `T`, each with its font before it unless that is R, a glyph is its name and a
+/// A text is in brackets, a tab is `T`, each with its font before it unless that is R, a glyph is its name and a
 /// character `c`. Blanks are their count, with `t` for a tab. A break is `/`, the end of a kept row `=`, `p1` a paragraph,
 /// `s1` blank rows, `{7 11}` margins, `L` and `F` the literal and the fill mode, `<4;` a tag, `>` its end, `H` a heading and
-/// `C8` a column. A message stands between `!` and `;`, with its place where places are asked for, and its detail.
+/// `C8` a column. A message is between `!` and `;`, with its place where places are asked for, and its detail.
 #[derive(Drop)]
 pub struct Brief {
     text: Vec<u8>,
@@ -59,7 +59,7 @@ impl Brief {
         self.add(b"]");
     }
 
-    // Adds what a font stands before.
+    // Adds what is shown before a text in a font.
     fn add_in(&mut self, font: Font, name: &[u8]) {
         self.add(font_mark(font).as_bytes());
         self.add(name);

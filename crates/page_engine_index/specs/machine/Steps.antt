@@ -14,12 +14,12 @@ use Rattle.page_engine_index.specs.declared.entries.Version.{Version}
 use Rattle.page_engine_index.specs.declared.entries.Fields.{Fields}
 use Rattle.page_engine_index.specs.declared.searches.Search.{Search}
 
--- of bytes and of those after their first, what stands after the last line feed, by the lines that end in the bytes
+-- of bytes and of those after their first, what is after the last line feed, by the lines that end in the bytes
 abbrev pub after_lines : List Line → List ℕ → List ℕ → List ℕ
 after_lines [] bytes rest = bytes
 after_lines (line ∷ lines) bytes rest = rest
 
--- what stands after the last line feed
+-- what is after the last line feed
 unfoldable pub open_line : List ℕ → List ℕ
 open_line [] = []
 open_line (byte ∷ bytes) = after_lines (whole_lines (byte ∷ bytes)) (byte ∷ bytes) (open_line bytes)

@@ -13,7 +13,7 @@ use Rattle.page_engine_records.specs.Records.{record_by}
 use Rattle.page_engine_records.specs.declared.name_readers.NameReader.{NameReader}
 use Rattle.page_engine_records.specs.declared.name_readers.Side.TheVariants.{Before}
 
--- what decides the record: where the page's lines stand, with the fields of its title, and what was read of the section NAME
+-- what decides the record: where the page's lines are, with the fields of its title, and what was read of the section NAME
 pub record Front : Type 0 where
   pub lines : LinesEdge
   pub name : NameReader

@@ -66,7 +66,7 @@ fn show_word(rt: &HostRuntime, argument: Argument<&[u8]>) {
     );
 }
 
-/// Shows how many bytes of a text stand before white space at its end.
+/// Shows how many bytes of a text are before white space at its end.
 pub(crate) fn show_kept(rt: &HostRuntime, text: &str) {
     let len = kept_len(text.as_bytes(), |byte| is_white(byte));
     let _ = print!(rt; " -> {len}");

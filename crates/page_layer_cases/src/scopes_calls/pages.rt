@@ -163,7 +163,7 @@ impl Page {
         let _ = println!(rt; "   {}", out.notation.text());
     }
 
-    /// Takes a line a number of times, which stands before it, and shows the last.
+    /// Takes a line a number of times, which is before it, and shows the last.
     pub(crate) fn repeat(&mut self, rt: &HostRuntime, text: &str) {
         let (count, line) = text.split_once(' ').unwrap_or(("0", text));
         let count: u32 = count.parse().unwrap_or(0);

@@ -63,7 +63,7 @@ end_of m = hushed (outcome_of m)
 abbrev pub is_idle : Machine → Bool
 is_idle m = is_nothing (next_of m.stack)
 
--- where the page stands between two lines, and the state there
+-- where the page is between two lines, and the state there
 abbrev pub place_of : Machine → Place
 place_of m = record { region = m.stack.top.region; levels = m.stack.top.cursor.levels }
 
@@ -89,7 +89,7 @@ pub record Begins (line : List ℕ) (number : ℕ) (old new : Machine) : Type 0 
   pub output : output_of new ≡ output_of old
   pub outcome : outcome_of new ≡ run_page (language_of old) (line ∷ []) (begun_at number old)
 
--- where the machine stands, and what was given
+-- where the machine is, and what was given
 abbrev pub stands_after : List Given → Machine → At (Budgeted State)
 stands_after given m = record { place = place_of m; state = (running_of given m).state }
 
@@ -131,7 +131,7 @@ pub record IsNew (output : Output) (m : Machine) : Type 0 where
   pub actions : acting.IsNew output m.actions
   pub budget : m.budget ≡ first_budget
 
--- between two lines of a page, where it stands so, with what is remembered and the number of lines that were taken
+-- between two lines of a page, where it is so, with what is remembered and the number of lines that were taken
 pub record Resumes (output : Output) (place : Place) (memory : Memory) (taken : ℕ) (m : Machine) : Type 0 where
   pub stack : m.stack ≡ stack_at place
   pub actions : acting.Remembers output memory m.actions

@@ -94,7 +94,7 @@ called r = with_arguments_of (body (Some (arguments_in r.doing.actions.call.pack
 abbrev pub with_loop : Option (List ℕ) → Runner → Runner
 with_loop packed r = record { stack = loop_of r.doing.actions.call.body packed r.stack; doing = r.doing }
 
--- they are those of the source in which it stands
+-- they are those of the source in which it is
 pub record Repeats (old new : Runner) : Type 0 where
   pub packed : Option (List ℕ)
   pub arguments : unpacked packed ≡ arguments_of old.stack.top.kind

@@ -17,7 +17,7 @@ unfoldable pub lines_done : Edge → List SourceLine → Edge
 lines_done e [] = e
 lines_done e (line ∷ lines) = lines_done (line_done e line) lines
 
--- a run that stands where an edge does, whatever is left of a budget, and gave this
+-- a run that is where an edge does, whatever is left of a budget, and gave this
 pub record StandsAt (e : Edge) (given : List Given) (a : At (Budgeted State)) : Type 0 where
   pub place : a.place ≡ e.place
   pub memory : a.state.rest.memory ≡ e.memory

@@ -63,7 +63,7 @@ IsIdleAs remaining.Line m = machine.is_idle m ≡ true
 IsIdleAs remaining.End m = machine.is_idle m ≡ true
 IsIdleAs remaining.Run m = Unit {0}
 
--- the machine stands at the edge
+-- the machine is at the edge
 pub record IsAtEdge (m : Machine) (source : ℕ) (left : Remaining) : Type 0 where
   pub idle : IsIdleAs left m
   pub counted : IsCounted (edge_of m source left)

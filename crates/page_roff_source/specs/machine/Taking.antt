@@ -19,7 +19,7 @@ pub record LinesState : Type 0 where
   pub line : Line
   pub running : List (List ℕ)
 
--- the line begins where the page stands, with a budget of its own
+-- the line begins where the page is, with a budget of its own
 unfoldable pub before_line : Edge → SourceLine → At (Budgeted State)
 before_line e line = record {
   place = e.place;

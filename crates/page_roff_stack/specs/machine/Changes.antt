@@ -19,7 +19,7 @@ use Rattle.page_roff_stack.specs.declared.movements.Movement.TheVariants as move
 abbrev pub first_frame : Frame
 first_frame = record { kind = page; region = None; parts = []; cursor = at_line outside; lines = []; turning = None }
 
--- the page between two lines, where it stands so
+-- the page between two lines, where it is so
 abbrev pub page_at : Place → Frame
 page_at p = record { kind = page; region = p.region; parts = []; cursor = at_line p.levels; lines = []; turning = None }
 

@@ -15,7 +15,7 @@ span_text span text = take (span.end - span.start) (drop span.start text)
 abbrev pub IsSpanIn : Span → List ℕ → Type 0
 IsSpanIn span text = (span.start ≤ span.end) × (span.end ≤ length text)
 
--- the arguments of a macro stand at the end of the text, from here on
+-- the arguments of a macro are at the end of the text, from here on
 abbrev pub arguments_at : Option ℕ → List ℕ → Option (List (List ℕ))
 arguments_at None text = None
 arguments_at (Some start) text = Some (arguments_in (drop start text))

@@ -32,11 +32,11 @@ running s state = record { top = s.top; under = s.under; state = state }
 abbrev pub first_stack : Stack
 first_stack = record { top = first_frame; under = []; texts = [] }
 
--- the page between two lines, where it stands so
+-- the page between two lines, where it is so
 abbrev pub stack_at : Place → Stack
 stack_at p = record { top = page_at p; under = []; texts = [] }
 
--- where the innermost source stands
+-- where the innermost source is
 abbrev pub standing_of : Stack → Place
 standing_of s = record { region = s.top.region; levels = s.top.cursor.levels }
 
@@ -53,7 +53,7 @@ abbrev pub first_text : List (List ℕ) → List ℕ
 first_text [] = []
 first_text (text ∷ texts) = text
 
--- A loop begins, with this text and the packed arguments of the macro in which it stands, if it stands in one. The first line of the text is
+-- A loop begins, with this text and the packed arguments of the macro in which it is, if it is in one. The first line of the text is
 -- its condition, and the others are those of its body.
 abbrev pub loop_of : List ℕ → Option (List ℕ) → Stack → Stack
 loop_of text packed s =

@@ -13,7 +13,7 @@ pub record Fits (pen : Pen) (text : List ℕ) : Type 0 where
   pub short : length text ≤ LINE
   pub room : pen.column + length text < 2 ^ 32
 
--- of a text this much is left, where the pen stands
+-- of a text this much is left, where the pen is
 pub record Within (pen : Pen) (text : List ℕ) (next : Pen) (rest : List ℕ) : Type 0 where
   pub less : length rest ≤ length text
   pub column : next.column + length rest ≡ pen.column + length text

@@ -27,7 +27,7 @@ BeginsWith words word rest = (others : List (List ℕ)) × (words ≡ word ∷ o
 abbrev pub ends_run : Bool → ℕ → ℕ → Bool
 ends_run quoted byte next = (byte == 9 || (byte == 92 || (quoted && byte == 34))) || (byte == 32 && next == 32)
 
--- the same at a place of a text; after its end a blank is taken to stand
+-- the same at a place of a text; after its end there is taken to be a blank
 abbrev pub ends_run_at : Bool → List ℕ → ℕ → Bool
 ends_run_at quoted text place = ends_run quoted (get_or text place 32) (get_or text (suc place) 32)
 

@@ -32,7 +32,7 @@ stack_edge skips scopes state = record { mode = skips; scopes = reverse scopes.i
 abbrev pub stack_standing : {B : Type 0} → Act (Event (List ℕ)) → ℕ → Vec (Scope Label B) → Standing Label Fact
 stack_standing act count scopes = standing_by act (act_placement act count (labels (reverse scopes.items)))
 
--- A word, and the end of a line where the innermost scope is no line scope: they end no scope and open none, and stand as leaves.
+-- A word, and the end of a line where the innermost scope is no line scope: they end no scope and open none, and are leaves.
 abbrev pub kind_stands_alone : EventKind (List ℕ) → List Label → Bool
 kind_stands_alone (kinds.Word word) nodes = true
 kind_stands_alone (kinds.End fills) nodes = not (in_line_scope nodes)
