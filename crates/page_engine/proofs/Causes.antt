@@ -11,7 +11,7 @@ use Rattle.page_core_streams.specs.Sources.{SourceState}
 use Rattle.page_roff_lines.specs.Cutting.{Point, point_after, last_line}
 use Rattle.page_engine.specs.declared.runs.Outcome.{Outcome}
 use Rattle.page_engine.specs.Page.{Edge, page, start}
-use Rattle.page_engine.specs.Runs.{Runs, RunsOver, Whole, Stopped, Broken, BrokeIn, HasCause, Untouched, Quiet, whole_page, settled_page, settled_from}
+use Rattle.page_engine.specs.Runs.{Runs, RunsOver, Whole, Stopped, Broken, BrokeIn, Untouched, Quiet, whole_page, settled_page, settled_from}
 use Rattle.page_core_base.specs.Laid.{nothing}
 use Rattle.page_engine.specs.Streams.{Sinks, AllCame, FrontCame}
 

@@ -17,8 +17,8 @@ use Rattle.page_engine.specs.States.{IsOpenAt, CannotStart, Ends}
 use Rattle.page_engine.specs.Page.{Edge, counts_at, page, start, settled}
 use Rattle.page_core_streams.specs.Chunks.{Stops}
 use Rattle.page_core_streams.specs.Sources.{SourceState}
-use Rattle.page_engine.specs.Streams.{Streams, Sinks, AllCame}
-use Rattle.page_engine.specs.Runs.{RunsOver, Stopped, HasCause, Broken, whole_page, page_from, settled_from}
+use Rattle.page_engine.specs.Streams.{Streams, Sinks, AllCame, FrontCame}
+use Rattle.page_engine.specs.Runs.{RunsOver, Stopped, StoppedBy, Broken, whole_page, page_from, settled_from}
 use Rattle.page_engine.specs.machine.PageSinks.{cause_later}
 use Rattle.page_roff_source.specs.declared.counts.Counts.{Counts}
 use Rattle.page_engine.specs.machine.Steps.{source_lines, TookLast, Finished, Finishes, Through, EndedWell, StoppedFrom, ReadsAll}
@@ -133,7 +133,7 @@ stopped_reading (BadIndex l) k run' s t bytes w g e h = absurd w
 
 stopped_run : {R N : Type 0} (k : Sinks R N) → IsSink k.to.row_gave k.to.row_within → IsSink k.to.note_gave k.to.note_within
     → (a b : SourceState) (r r' : R) (n n' : N) (s : PageSettings) (asked : ℕ) (bytes : List ℕ) (fault : Fault) → IsGood s
-    → StoppedFrom k a b r r' n n' (start s) (first_point s.encoding) asked bytes fault → Stopped k.to r r' n n' s bytes fault
+    → StoppedFrom k a b r r' n n' (start s) (first_point s.encoding) asked bytes fault → Stopped (λ (l : Laid Edge). AllCame k.to r r' n n' l) (λ (l : Laid Edge). FrontCame k.to r r' n n' l) s bytes fault
 stopped_run k rows notes a b r r' n n' s asked bytes Memory g h = absurd h
 stopped_run k rows notes a b r r' n n' s asked bytes Read g h = (g, h.0)
 stopped_run k rows notes a b r r' n n' s asked bytes WriteText g h =
@@ -147,7 +147,7 @@ stopped_run k rows notes a b r r' n n' s asked bytes Ended g h = absurd h
 stopped_run k rows notes a b r r' n n' s asked bytes (BadIndex l) g h = absurd h
 
 cause_of : {R N : Type 0} (k : Sinks R N) (a b : SourceState) (r r' : R) (n n' : N) (s : PageSettings) (asked : ℕ) (bytes : List ℕ) (fault : Fault)
-    → StoppedFrom k a b r r' n n' (start s) (first_point s.encoding) asked bytes fault → HasCause k a b r r' n n' s asked bytes fault
+    → StoppedFrom k a b r r' n n' (start s) (first_point s.encoding) asked bytes fault → StoppedBy k a b r r' n n' s asked bytes fault
 cause_of k a b r r' n n' s asked bytes Memory h = absurd h
 cause_of k a b r r' n n' s asked bytes Read h = h.1
 cause_of k a b r r' n n' s asked bytes WriteText h = h

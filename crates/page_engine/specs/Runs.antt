@@ -16,61 +16,67 @@ use Rattle.page_engine.specs.Streams.{Streams, Sinks, AllCame, FrontCame}
 
 -- from an edge and a point between two bytes: the page of the bytes to come, and what their lines settle
 abbrev pub page_from : Edge → Point → List ℕ → Laid Edge
-page_from e p bytes = page e (lines_from p bytes)
+page_from edge point bytes = page edge (lines_from point bytes)
 
 abbrev pub settled_from : Edge → Point → List ℕ → Laid Edge
-settled_from e p bytes = settled e (lines_within p bytes)
+settled_from edge point bytes = settled edge (lines_within point bytes)
 
 -- ---- a whole run
 
 -- the page of all bytes, and what the whole lines of bytes settle
 abbrev pub whole_page : PageSettings → List ℕ → Laid Edge
-whole_page s bytes = page (start s) (lines s.encoding bytes)
+whole_page settings bytes = page (start settings) (lines settings.encoding bytes)
 
 abbrev pub settled_page : PageSettings → List ℕ → Laid Edge
-settled_page s bytes = settled (start s) (lines_within (first_point s.encoding) bytes)
+settled_page settings bytes = settled (start settings) (lines_within (first_point settings.encoding) bytes)
 
 -- to the sinks came all of the page that these bytes make, and with it its worst level and its counts
-pub record Whole {R N : Type 0} (j : Streams R N) (r r' : R) (n n' : N) (s : PageSettings) (bytes : List ℕ)
-    (after : Option (List ℕ)) (o : Outcome) : Type 0 where
-  pub gave : AllCame j r r' n n' (whole_page s bytes)
-  pub worst : o.worst ≡ (whole_page s bytes).edge.worst
-  pub source : o.counts.source ≡ length (lines s.encoding bytes)
-  pub counts : o.counts ≡ counts_at (whole_page s bytes).edge
-  pub good : IsGood s
+pub record Whole {R N : Type 0} (streams : Streams R N) (rows_before rows_after : R) (notes_before notes_after : N)
+    (settings : PageSettings) (bytes : List ℕ) (after : Option (List ℕ)) (outcome : Outcome) : Type 0 where
+  pub gave : AllCame streams rows_before rows_after notes_before notes_after (whole_page settings bytes)
+  pub worst : outcome.worst ≡ (whole_page settings bytes).edge.worst
+  pub source : outcome.counts.source ≡ length (lines settings.encoding bytes)
+  pub counts : outcome.counts ≡ counts_at (whole_page settings bytes).edge
+  pub good : IsGood settings
   pub all : IsAtEnd after
 
--- by its fault: nothing, what the whole lines that were read settle, or a front of the page of these bytes
-abbrev pub Stopped : {R N : Type 0} → Streams R N → R → R → N → N → PageSettings → List ℕ → Fault → Type 0
-Stopped j r r' n n' s bytes Memory = IsGood s × (bytes ≡ []) × AllCame j r r' n n' (nothing (start s))
-Stopped j r r' n n' s bytes Read = IsGood s × AllCame j r r' n n' (settled_page s bytes)
-Stopped j r r' n n' s bytes TooLong =
-    IsGood s × AllCame j r r' n n' (settled_page s (take (2 ^ 31 - 1) bytes))
-Stopped j r r' n n' s bytes WriteText = IsGood s × FrontCame j r r' n n' (whole_page s bytes)
-Stopped j r r' n n' s bytes WriteNotes = IsGood s × FrontCame j r r' n n' (whole_page s bytes)
-Stopped j r r' n n' s bytes (Settings fault) =
-    IsFirst s fault × (bytes ≡ []) × AllCame j r r' n n' (nothing (start s))
-Stopped j r r' n n' s bytes Failed = ⊥
-Stopped j r r' n n' s bytes Ended = ⊥
-Stopped j r r' n n' s bytes (BadIndex line) = ⊥
+-- By its fault: nothing came, what the whole lines that were read settle, or a front of the page of these bytes. `came_whole` says that all that is laid
+-- came to the sinks, `came_front` that a front of it did.
+abbrev pub Stopped : (came_whole came_front : Laid Edge → Type 0) → PageSettings → List ℕ → Fault → Type 0
+Stopped came_whole came_front settings bytes Memory = IsGood settings × (bytes ≡ []) × came_whole (nothing (start settings))
+Stopped came_whole came_front settings bytes Read = IsGood settings × came_whole (settled_page settings bytes)
+Stopped came_whole came_front settings bytes TooLong = IsGood settings × came_whole (settled_page settings (take (2 ^ 31 - 1) bytes))
+Stopped came_whole came_front settings bytes WriteText = IsGood settings × came_front (whole_page settings bytes)
+Stopped came_whole came_front settings bytes WriteNotes = IsGood settings × came_front (whole_page settings bytes)
+Stopped came_whole came_front settings bytes (Settings fault) =
+    IsFirst settings fault × (bytes ≡ []) × came_whole (nothing (start settings))
+Stopped came_whole came_front settings bytes Failed = ⊥
+Stopped came_whole came_front settings bytes Ended = ⊥
+Stopped came_whole came_front settings bytes (BadIndex line) = ⊥
 
 abbrev pub Runs : {R N : Type 0} → Result Outcome Fault → Streams R N → R → R → N → N
     → PageSettings → List ℕ → Option (List ℕ) → Type 0
-Runs res j r r' n n' s bytes after =
-    MatchResult res (Whole j r r' n n' s bytes after) (λ fault. Stopped j r r' n n' s bytes fault)
+Runs result streams rows_before rows_after notes_before notes_after settings bytes after = MatchResult result
+    (Whole streams rows_before rows_after notes_before notes_after settings bytes after)
+    (λ fault. Stopped
+      (λ (laid : Laid Edge). AllCame streams rows_before rows_after notes_before notes_after laid)
+      (λ (laid : Laid Edge). FrontCame streams rows_before rows_after notes_before notes_after laid)
+      settings bytes fault)
 
 -- ---- the causes of faults
 
 -- what a sink failed in: the next line; or, where no byte was left, the page's end
 abbrev pub BrokeIn : {R N : Type 0} → Streams R N → R → R → N → N → Edge → Point → List ℕ → List ℕ → Type 0
-BrokeIn j r r' n n' e p own left =
-    ((length (lines_within p own) ≤ 1) × FrontCame j r r' n n' (settled_from e p own))
-    ⊎ ((own ≡ []) × (left ≡ []) × FrontCame j r r' n n' (page e (last_line p)))
+BrokeIn streams rows_before rows_after notes_before notes_after from point own left =
+    ((length (lines_within point own) ≤ 1)
+      × FrontCame streams rows_before rows_after notes_before notes_after (settled_from from point own))
+    ⊎ ((own ≡ []) × (left ≡ [])
+      × FrontCame streams rows_before rows_after notes_before notes_after (page from (last_line point)))
 
 -- a sink failed: what the bytes before a line settle came whole, then came a front of that line, and nothing
 -- of the bytes that are left; no more was read than the chunk with the line's last byte, at most 2^14 bytes
-pub record Broken {R N : Type 0} (k : Sinks R N) (r r' : R) (n n' : N) (e : Edge) (p : Point)
-    (bytes : List ℕ) (fault : Fault) : Type 0 where
+pub record Broken {R N : Type 0} (sinks : Sinks R N) (rows_before rows_after : R) (notes_before notes_after : N)
+    (from : Edge) (point : Point) (bytes : List ℕ) (fault : Fault) : Type 0 where
   pub before : List ℕ
   pub own : List ℕ
   pub left : List ℕ
@@ -78,71 +84,90 @@ pub record Broken {R N : Type 0} (k : Sinks R N) (r r' : R) (n n' : N) (e : Edge
   pub recent : length (own ++ left) ≤ 2 ^ 14
   pub rows : R
   pub notes : N
-  pub whole : AllCame k.to r rows n notes (settled_from e p before)
-  pub front : BrokeIn k.to rows r' notes n' (settled_from e p before).edge (point_after p before) own left
-  pub cause : IsSinkFault fault (k.rows_failed r) (k.rows_failed r') (k.notes_failed n) (k.notes_failed n')
+  pub whole : AllCame sinks.to rows_before rows notes_before notes (settled_from from point before)
+  pub front : BrokeIn sinks.to rows rows_after notes notes_after
+      (settled_from from point before).edge (point_after point before) own left
+  pub cause : IsSinkFault fault (sinks.rows_failed rows_before) (sinks.rows_failed rows_after)
+      (sinks.notes_failed notes_before) (sinks.notes_failed notes_after)
 
 -- nothing was read and nothing was given
-pub record Untouched {R N : Type 0} (a b : SourceState) (r r' : R) (n n' : N) : Type 0 where
-  pub source : b ≡ a
-  pub rows : r' ≡ r
-  pub notes : n' ≡ n
+pub record Untouched {R N : Type 0} (source_before source_after : SourceState) (rows_before rows_after : R)
+    (notes_before notes_after : N) : Type 0 where
+  pub source : source_after ≡ source_before
+  pub rows : rows_after ≡ rows_before
+  pub notes : notes_after ≡ notes_before
 
--- why a run stopped
-abbrev pub HasCause : {R N : Type 0} → Sinks R N → SourceState → SourceState → R → R → N → N
+-- Why a run stopped, by its fault: whether nothing was touched, whether a read failed, and what broke.
+abbrev pub HasCause : (untouched read_failed : Type 0) → (breaks : Fault → Type 0) → ℕ → List ℕ → Fault → Type 0
+HasCause untouched read_failed breaks asked bytes Memory = untouched
+HasCause untouched read_failed breaks asked bytes Read = read_failed
+HasCause untouched read_failed breaks asked bytes TooLong = IsTooLong asked bytes
+HasCause untouched read_failed breaks asked bytes WriteText = breaks WriteText
+HasCause untouched read_failed breaks asked bytes WriteNotes = breaks WriteNotes
+HasCause untouched read_failed breaks asked bytes (Settings fault) = untouched
+HasCause untouched read_failed breaks asked bytes Failed = ⊥
+HasCause untouched read_failed breaks asked bytes Ended = ⊥
+HasCause untouched read_failed breaks asked bytes (BadIndex line) = ⊥
+
+-- why a run over a source stopped
+abbrev pub StoppedBy : {R N : Type 0} → Sinks R N → SourceState → SourceState → R → R → N → N
     → PageSettings → ℕ → List ℕ → Fault → Type 0
-HasCause k a b r r' n n' s asked bytes Memory = Untouched a b r r' n n'
-HasCause k a b r r' n n' s asked bytes Read = Rose a.failed b.failed
-HasCause k a b r r' n n' s asked bytes TooLong = IsTooLong asked bytes
-HasCause k a b r r' n n' s asked bytes WriteText =
-    Broken k r r' n n' (start s) (first_point s.encoding) bytes WriteText
-HasCause k a b r r' n n' s asked bytes WriteNotes =
-    Broken k r r' n n' (start s) (first_point s.encoding) bytes WriteNotes
-HasCause k a b r r' n n' s asked bytes (Settings fault) = Untouched a b r r' n n'
-HasCause k a b r r' n n' s asked bytes Failed = ⊥
-HasCause k a b r r' n n' s asked bytes Ended = ⊥
-HasCause k a b r r' n n' s asked bytes (BadIndex line) = ⊥
+StoppedBy sinks source_before source_after rows_before rows_after notes_before notes_after settings asked bytes fault =
+    HasCause
+      (Untouched source_before source_after rows_before rows_after notes_before notes_after)
+      (Rose source_before.failed source_after.failed)
+      (λ cause. Broken sinks rows_before rows_after notes_before notes_after
+        (start settings) (first_point settings.encoding) bytes cause)
+      asked bytes fault
 
 -- nothing failed
-pub record Quiet {R N : Type 0} (k : Sinks R N) (a b : SourceState) (r r' : R) (n n' : N) : Type 0 where
-  pub source : b.failed ≡ a.failed
-  pub rows : k.rows_failed r' ≡ k.rows_failed r
-  pub notes : k.notes_failed n' ≡ k.notes_failed n
+pub record Quiet {R N : Type 0} (sinks : Sinks R N) (source_before source_after : SourceState)
+    (rows_before rows_after : R) (notes_before notes_after : N) : Type 0 where
+  pub source : source_after.failed ≡ source_before.failed
+  pub rows : sinks.rows_failed rows_after ≡ sinks.rows_failed rows_before
+  pub notes : sinks.notes_failed notes_after ≡ sinks.notes_failed notes_before
 
 -- a run over a source: by this number of calls, at most 2^32 - 1, it gave these bytes; but for one of them, each gave a byte or was empty
-pub record RunsOver {R N : Type 0} (res : Result Outcome Fault) (k : Sinks R N) (a b : SourceState)
-    (r r' : R) (n n' : N) (s : PageSettings) (bytes : List ℕ) : Type 0 where
+pub record RunsOver {R N : Type 0} (result : Result Outcome Fault) (sinks : Sinks R N)
+    (source_before source_after : SourceState) (rows_before rows_after : R) (notes_before notes_after : N)
+    (settings : PageSettings) (bytes : List ℕ) : Type 0 where
   pub asked : ℕ
   pub few : asked ≤ 2 ^ 32 - 1
-  pub source : HasGiven a b asked bytes
-  pub lean : IsLean a b asked bytes
-  pub runs : Runs res k.to r r' n n' s bytes b.remaining
-  pub cause : MatchResult res
-      (λ _. Quiet k a b r r' n n')
-      (λ fault. HasCause k a b r r' n n' s asked bytes fault)
+  pub source : HasGiven source_before source_after asked bytes
+  pub lean : IsLean source_before source_after asked bytes
+  pub runs : Runs result sinks.to rows_before rows_after notes_before notes_after settings bytes source_after.remaining
+  pub cause : MatchResult result
+      (λ _. Quiet sinks source_before source_after rows_before rows_after notes_before notes_after)
+      (λ fault. StoppedBy sinks source_before source_after rows_before rows_after notes_before notes_after
+        settings asked bytes fault)
 
 -- ---- a run over bytes in memory
 
 -- a front of the page came that a front of the bytes makes
-pub record Began {R N : Type 0} (j : Streams R N) (r r' : R) (n n' : N) (s : PageSettings) (bytes : List ℕ) : Type 0 where
+pub record Began (came_front : Laid Edge → Type 0) (settings : PageSettings) (bytes : List ℕ) : Type 0 where
   pub read : List ℕ
   pub left : List ℕ
   pub parts : bytes ≡ read ++ left
-  pub front : FrontCame j r r' n n' (whole_page s read)
+  pub front : came_front (whole_page settings read)
 
 -- by its fault: no read fails, and a page is too long by its bytes alone
-abbrev pub StoppedIn : {R N : Type 0} → Streams R N → R → R → N → N → PageSettings → List ℕ → Fault → Type 0
-StoppedIn j r r' n n' s bytes Memory = IsGood s × AllCame j r r' n n' (nothing (start s))
-StoppedIn j r r' n n' s bytes Read = ⊥
-StoppedIn j r r' n n' s bytes TooLong =
-    IsGood s × (2 ^ 31 - 1 < length bytes) × AllCame j r r' n n' (settled_page s (take (2 ^ 31 - 1) bytes))
-StoppedIn j r r' n n' s bytes WriteText = IsGood s × Began j r r' n n' s bytes
-StoppedIn j r r' n n' s bytes WriteNotes = IsGood s × Began j r r' n n' s bytes
-StoppedIn j r r' n n' s bytes (Settings fault) = IsFirst s fault × AllCame j r r' n n' (nothing (start s))
-StoppedIn j r r' n n' s bytes Failed = ⊥
-StoppedIn j r r' n n' s bytes Ended = ⊥
-StoppedIn j r r' n n' s bytes (BadIndex line) = ⊥
+abbrev pub StoppedIn : (came_whole came_front : Laid Edge → Type 0) → PageSettings → List ℕ → Fault → Type 0
+StoppedIn came_whole came_front settings bytes Memory = IsGood settings × came_whole (nothing (start settings))
+StoppedIn came_whole came_front settings bytes Read = ⊥
+StoppedIn came_whole came_front settings bytes TooLong =
+    IsGood settings × (2 ^ 31 - 1 < length bytes) × came_whole (settled_page settings (take (2 ^ 31 - 1) bytes))
+StoppedIn came_whole came_front settings bytes WriteText = IsGood settings × Began came_front settings bytes
+StoppedIn came_whole came_front settings bytes WriteNotes = IsGood settings × Began came_front settings bytes
+StoppedIn came_whole came_front settings bytes (Settings fault) = IsFirst settings fault × came_whole (nothing (start settings))
+StoppedIn came_whole came_front settings bytes Failed = ⊥
+StoppedIn came_whole came_front settings bytes Ended = ⊥
+StoppedIn came_whole came_front settings bytes (BadIndex line) = ⊥
 
-abbrev pub RunsIn : {R N : Type 0} → Result Outcome Fault → Streams R N → R → R → N → N → PageSettings → List ℕ → Type 0
-RunsIn res j r r' n n' s bytes =
-    MatchResult res (Whole j r r' n n' s bytes (Some [])) (λ fault. StoppedIn j r r' n n' s bytes fault)
+abbrev pub RunsIn : {R N : Type 0} → Result Outcome Fault → Streams R N → R → R → N → N
+    → PageSettings → List ℕ → Type 0
+RunsIn result streams rows_before rows_after notes_before notes_after settings bytes = MatchResult result
+    (Whole streams rows_before rows_after notes_before notes_after settings bytes (Some []))
+    (λ fault. StoppedIn
+      (λ (laid : Laid Edge). AllCame streams rows_before rows_after notes_before notes_after laid)
+      (λ (laid : Laid Edge). FrontCame streams rows_before rows_after notes_before notes_after laid)
+      settings bytes fault)

@@ -15,14 +15,17 @@ pub record Streams (R N : Type 0) : Type 1 where
 
 abbrev pub streams : {R N : Type 0} → (R → List LaidRow → R → Type 0) → (R → List LaidRow → R → Type 0)
     → (N → List Message → N → Type 0) → (N → List Message → N → Type 0) → Streams R N
-streams rg rw_ ng nw = record { row_gave = rg; row_within = rw_; note_gave = ng; note_within = nw }
+streams row_gave row_within note_gave note_within =
+    record { row_gave = row_gave; row_within = row_within; note_gave = note_gave; note_within = note_within }
 
 -- all that is laid came; a front of it came to each
 abbrev pub AllCame : {R N E : Type 0} → Streams R N → R → R → N → N → Laid E → Type 0
-AllCame j r r' n n' l = Gave j.row_gave j.note_gave r r' n n' l
+AllCame streams rows_before rows_after notes_before notes_after laid =
+    Gave streams.row_gave streams.note_gave rows_before rows_after notes_before notes_after laid
 
 abbrev pub FrontCame : {R N E : Type 0} → Streams R N → R → R → N → N → Laid E → Type 0
-FrontCame j r r' n n' l = Gave j.row_within j.note_within r r' n n' l
+FrontCame streams rows_before rows_after notes_before notes_after laid =
+    Gave streams.row_within streams.note_within rows_before rows_after notes_before notes_after laid
 
 -- the same of sinks that count their failures
 pub record Sinks (R N : Type 0) : Type 1 where
@@ -32,23 +35,29 @@ pub record Sinks (R N : Type 0) : Type 1 where
 
 abbrev pub sinks : {R N : Type 0} → (R → List LaidRow → R → Type 0) → (R → List LaidRow → R → Type 0)
     → (R → ℕ) → (N → List Message → N → Type 0) → (N → List Message → N → Type 0) → (N → ℕ) → Sinks R N
-sinks rg rw_ rf ng nw nf = record { to = streams rg rw_ ng nw; rows_failed = rf; notes_failed = nf }
+sinks row_gave row_within rows_failed note_gave note_within notes_failed = record {
+  to = streams row_gave row_within note_gave note_within;
+  rows_failed = rows_failed;
+  notes_failed = notes_failed;
+}
 
 -- all that is laid came, and no sink failed
-pub record Came {R N E : Type 0} (k : Sinks R N) (r r' : R) (n n' : N) (l : Laid E) : Type 0 where
-  pub gave : AllCame k.to r r' n n' l
-  pub rows_quiet : k.rows_failed r' ≡ k.rows_failed r
-  pub notes_quiet : k.notes_failed n' ≡ k.notes_failed n
+pub record Came {R N E : Type 0} (sinks : Sinks R N) (rows_before rows_after : R) (notes_before notes_after : N)
+    (laid : Laid E) : Type 0 where
+  pub gave : AllCame sinks.to rows_before rows_after notes_before notes_after laid
+  pub rows_quiet : sinks.rows_failed rows_after ≡ sinks.rows_failed rows_before
+  pub notes_quiet : sinks.notes_failed notes_after ≡ sinks.notes_failed notes_before
 
 -- a front of it came, and a sink failed
-pub record Front {R N E : Type 0} (k : Sinks R N) (r r' : R) (n n' : N) (l : Laid E)
-    (fault : Fault) : Type 0 where
-  pub gave : FrontCame k.to r r' n n' l
-  pub cause : IsSinkFault fault (k.rows_failed r) (k.rows_failed r') (k.notes_failed n) (k.notes_failed n')
+pub record Front {R N E : Type 0} (sinks : Sinks R N) (rows_before rows_after : R) (notes_before notes_after : N)
+    (laid : Laid E) (fault : Fault) : Type 0 where
+  pub gave : FrontCame sinks.to rows_before rows_after notes_before notes_after laid
+  pub cause : IsSinkFault fault (sinks.rows_failed rows_before) (sinks.rows_failed rows_after)
+      (sinks.notes_failed notes_before) (sinks.notes_failed notes_after)
 
 -- no sink failed, and neither count of failures is at its end
-pub record AreWell {R N : Type 0} (k : Sinks R N) (r r' : R) (n n' : N) : Type 0 where
-  pub rows : k.rows_failed r' ≡ k.rows_failed r
-  pub rows_room : k.rows_failed r < 2 ^ 64 - 1
-  pub notes : k.notes_failed n' ≡ k.notes_failed n
-  pub notes_room : k.notes_failed n < 2 ^ 64 - 1
+pub record AreWell {R N : Type 0} (sinks : Sinks R N) (rows_before rows_after : R) (notes_before notes_after : N) : Type 0 where
+  pub rows : sinks.rows_failed rows_after ≡ sinks.rows_failed rows_before
+  pub rows_room : sinks.rows_failed rows_before < 2 ^ 64 - 1
+  pub notes : sinks.notes_failed notes_after ≡ sinks.notes_failed notes_before
+  pub notes_room : sinks.notes_failed notes_before < 2 ^ 64 - 1
