@@ -71,7 +71,7 @@ abbrev pub field_font : Bool → Font → Option Font
 field_font true font = own_font font
 field_font false font = None
 
--- the file of `In` stands on a row of its own in the SYNOPSIS; one without a word is refused, and its words stay
+-- the file of `In` is on a row of its own in the SYNOPSIS; one without a word is refused, and its words stay
 abbrev pub include_words : Bool → Line → List (Event (List ℕ))
 include_words true line =
     framed line.number (name_column line) (Some Break) (Some Break) (include_events line.number (name_column line) (line_arguments line))
@@ -86,7 +86,12 @@ words_events (lines.OneLine name) line = phrase_events line.number (line_parts N
 words_events (lines.Field font) line = printed line.number (field_font (has_real_word line) font) (line_arguments line)
 words_events (lines.Sentence sentence) line = sentence_events line.number (name_column line) sentence (given_names (line_arguments line))
 words_events lines.Include line = include_words (has_real_word line) line
-words_events _ line = []
+words_events (lines.Prologue name) line = []
+words_events (lines.Paragraph name) line = []
+words_events (lines.Begins block) line = []
+words_events (lines.Ends block) line = []
+words_events lines.Spacing line = []
+words_events lines.Target line = []
 
 -- ---- a line
 

@@ -221,6 +221,11 @@ pub(crate) fn give_words<'a, O: EventTaker<'a>>(out: &mut O, begins: LineMacro, 
         }
         LineMacro::Sentence(sentence) => give_line_sentence(out, sentence, line),
         LineMacro::Include => give_file(out, line),
-        _ => {}
+        LineMacro::Prologue(_)
+        | LineMacro::Paragraph(_)
+        | LineMacro::Begins(_)
+        | LineMacro::Ends(_)
+        | LineMacro::Spacing
+        | LineMacro::Target => {}
     }
 }
