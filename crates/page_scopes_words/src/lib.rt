@@ -1,6 +1,7 @@
 //! What layers that read texts share: what a token says, prints and does to the font, white space that is kept, where a sentence ends, and
-//! values that requests set (roff(7)). The words of a text are read by these in `page_scopes_text`, the fields of a title in `page_engine_header`. Read
-//! `specs/Words.antt` first.
+//! values that requests set (roff(7)).
+//!
+//! `page_scopes_text` reads the words of a text by these, and `page_engine_header` the fields of a title. Read `specs/Words.antt` first.
 //!
 //! Proved: `token_piece`, `give_glyph`, `report_escape`, `report_font`, `Fonts::after`, `give_white_cells`: what a token prints and reports, and the fonts after it
 //! (`specs/Words.antt`, `Fonts.antt`). `ends_sentence`: where a sentence ends (`specs/Sentences.antt`). `Setting`: a value that a request sets holds

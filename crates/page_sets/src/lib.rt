@@ -1,5 +1,6 @@
-//! The door to the macro sets: what events a line of a page has. It gives out what `page_sets_lines`, `page_sets_man` and
-//! `page_sets_mdoc` hold, and the lines that they take (`page_core_base`); read those. Of its own it has the set of a page, which is one of the two.
+//! The door to the macro sets, and the set of a page, which is one of the two.
+//!
+//! It gives out what `page_sets_lines`, `page_sets_man` and `page_sets_mdoc` hold, and the lines that they take (`page_core_base`); read those.
 //!
 //! Proved: `Either` (`give`, `start`, `next`, `indent`): the set of a page acts as the one of the two that it is (`specs/Either.antt`), with the laws
 //! of `MacroSet`.

@@ -1,5 +1,6 @@
-//! What a macro of mdoc(7) that begins a line does before its words, and the requests that change rows. The definition
-//! is `specs/Fronts.antt`; read `fronts.rt`.
+//! What a macro of mdoc(7) that begins a line does before its words, and the requests that change rows.
+//!
+//! The definition is `specs/Fronts.antt`; read `fronts.rt`.
 //!
 //! Proved: `give_front`, `give_request`: what a macro of mdoc(7) that begins its line gives before its words, block or not, is `block_front`
 //! (`specs/Fronts.antt`).

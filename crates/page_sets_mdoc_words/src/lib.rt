@@ -1,5 +1,6 @@
-//! The words of a control line of mdoc(7): the events of each macro that can stand among words, given one after another. The
-//! definition is `inline_events` in `specs/Inlines.antt`, one case for each macro; read it first, then `src/macros.rt`, where each
+//! The words of a control line of mdoc(7): the events of each macro that can occur among words, given one after another.
+//!
+//! The definition is `inline_events` in `specs/Inlines.antt`, one case for each macro; read it first, then `src/macros.rt`, where each
 //! case has its line, and `src/flags.rt`, the shortest of the macros.
 //!
 //! Proved: `give_macro`, `give_printed`, `give_sentence`, `give_include`: what each macro of mdoc(7) makes of its words is its case of
