@@ -1,6 +1,6 @@
 //! The door to what the layers of the formatter share: settings, messages, sinks, cells, glyphs, escapes, columns and numbers.
 //!
-//! It is for users of the layers; no crate of the program stands on it. There is nothing to read but these names.
+//! It is for users of the layers; no crate of the program uses it. There is nothing to read but these names.
 #![tactic(auto)]
 
 pub use page_core_base::{

@@ -64,7 +64,7 @@ or_none : {V : Type 0} (o : Option V) → option_or o None ≡ o
 or_none None = refl
 or_none (Some v) = refl
 
--- a name's row stands in the list of its letter
+-- a name's row is in the list of its letter
 row_by_letter : {V : Type 0} (letter : ℕ) (lists : List (List (List ℕ × V))) (name : List ℕ) (i : ℕ) → stand_by_letter letter lists ≡ true → letter_of name ≡ letter + i → row_in (joined lists) name ≡ row_in (get_or lists i []) name
 row_by_letter letter [] name zero stand place = refl
 row_by_letter letter [] name (suc i) stand place = refl

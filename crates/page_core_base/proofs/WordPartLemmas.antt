@@ -53,14 +53,14 @@ unfolding parts_after
 whole-start [] none = refl
 whole-start (b ∷ bytes) none = rw (whole-after hyphen b bytes none) refl
 
--- ---- what stands after a place
+-- ---- what is after a place
 
 free-drop : (n : ℕ) (text : List ℕ) → list_any (λ byte. byte == hyphen) text ≡ false → list_any (λ byte. byte == hyphen) (drop n text) ≡ false
 free-drop zero text none = none
 free-drop (suc n) [] none = none
 free-drop (suc n) (b ∷ bytes) none = free-drop n bytes (grind (arith, none))
 
--- where no hyphen stands after a place, none stands after a later one
+-- where there is no hyphen after a place, there is none after a later one
 pub free-after : (text : List ℕ) (place later : ℕ) → place ≤ later → list_any (λ byte. byte == hyphen) (drop place text) ≡ false
     → list_any (λ byte. byte == hyphen) (drop later text) ≡ false
 free-after text place later le none =
@@ -68,7 +68,7 @@ free-after text place later le none =
     subst (λ n. list_any (λ byte. byte == hyphen) (drop n text) ≡ false) same
     (subst (λ (l : List ℕ). list_any (λ byte. byte == hyphen) l ≡ false) (drop-drop (later - place) place text) (free-drop (later - place) (drop place text) none))
 
--- where none stands among the first bytes, nor among the last, which overlap them
+-- where there is none among the first bytes, nor among the last, which overlap them
 pub free-ends : (text : List ℕ) (group : ℕ) → group ≤ length text → length text ≤ group + group → list_any (λ byte. byte == hyphen) (take group text) ≡ false
     → list_any (λ byte. byte == hyphen) (drop (length text - group) text) ≡ false → list_any (λ byte. byte == hyphen) text ≡ false
 free-ends text group long short front back =
@@ -84,7 +84,7 @@ free-ends text group long short front back =
 
 -- ---- the first part, byte by byte
 
--- these bytes stand in front of the first of some parts
+-- these bytes are in front of the first of some parts
 abbrev pub put_before : List ℕ → List (List ℕ) → List (List ℕ)
 put_before [] parts = parts
 put_before (b ∷ bytes) parts = in_first b (put_before bytes parts)
@@ -191,7 +191,7 @@ start-goes : (before b : ℕ) (bytes : List ℕ) → ends_part before b bytes �
     → last_start (parts_after before (b ∷ bytes)) ≡ (if last_start (parts_after b bytes) == 0 then 0 else 1 + last_start (parts_after b bytes))
 start-goes before b bytes goes = rw (parts-go before b bytes goes) (front-start b (parts_after b bytes) (parts-first b bytes))
 
--- the last part begins in what stands after a place, or at a place before that
+-- the last part begins in what is after a place, or at a place before that
 abbrev pub begun : (start len later : ℕ) → ℕ
 begun start len later = if later == 0 then start else len + later
 

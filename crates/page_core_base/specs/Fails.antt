@@ -3,7 +3,7 @@ use Rattle.std.specs.Prelude.{◌≡◌, ℕ, ◌<◌, ◌-◌, ◌^◌, Result,
 use Rattle.page_core_base.specs.declared.faults.Fault.{Fault}
 use Rattle.page_core_base.specs.declared.faults.Fault.TheVariants.{Memory, Read, WriteText, WriteNotes, TooLong, Settings, Failed, Ended, BadIndex}
 
--- a count of failures rose, or stands at its end
+-- a count of failures rose, or is at its end
 abbrev pub Rose : ℕ → ℕ → Type 0
 Rose old new = old < 2 ^ 64 - 1 → old < new
 

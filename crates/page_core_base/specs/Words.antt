@@ -36,12 +36,12 @@ in_first b (part ∷ parts) = (b ∷ part) ∷ parts
 abbrev pub ends_part : ℕ → ℕ → List ℕ → Bool
 ends_part before b bytes = is_ascii_alphabetic before && (b == hyphen && starts_with_letter bytes)
 
--- the parts of bytes that stand after another one
+-- the parts of bytes that are after another one
 unfoldable pub parts_after : ℕ → List ℕ → List (List ℕ)
 parts_after before [] = []
 parts_after before (b ∷ bytes) = if ends_part before b bytes then (b ∷ []) ∷ parts_after b bytes else in_first b (parts_after b bytes)
 
--- the parts of a word, whose first byte stands after no letter
+-- the parts of a word, whose first byte does not follow a letter
 abbrev pub parts_of : List ℕ → List (List ℕ)
 parts_of word = parts_after hyphen word
 
@@ -61,7 +61,7 @@ part_pieces font place (part ∷ parts) = Text part font place ∷ later_pieces 
 
 -- ---- words
 
--- the pieces of words, where the blank before the first one stands at a place
+-- the pieces of words, where the blank before the first one is at a place
 unfoldable pub word_pieces : Font → Place → List (List ℕ) → List (Piece (List ℕ))
 word_pieces font place [] = []
 word_pieces font place (word ∷ words) =

@@ -8,7 +8,7 @@ pub enum Form {
     /// A line of blanks and tabs, or of nothing.
     Blank,
     /// A control line with the name of a macro, of a request that changes rows, or of neither. The name is not empty: it
-    /// stands after the control character and white space, up to where [`Taken::name_end`] says.
+    /// is after the control character and white space, up to where [`Taken::name_end`] says.
     Control,
     /// A line inside a table, an equation or a picture, as it is written.
     Raw,

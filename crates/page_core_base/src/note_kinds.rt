@@ -84,7 +84,7 @@ pub enum NoteKind {
     BadChar,
     /// No macro or request has the name; the name.
     UnknownMacro,
-    /// A list item stands outside a list.
+    /// A list item is outside a list.
     ItemOutside,
     /// An end has no open block; the end.
     NotOpen,

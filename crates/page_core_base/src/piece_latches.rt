@@ -22,8 +22,8 @@ pub trait PieceOut {
     fn give(&mut self, piece: Piece<&[u8]>)
         ensures { Came left self.old (shown (piece_of piece.entry) ∷ []) self.new };
 
-    /// Takes as many of the first words of a text, in which one blank stands before each, as it can take at once; answers how many bytes
-    /// these are, which may be none. The blank before the first word stands at a place. Of any other text nothing is promised.
+    /// Takes as many of the first words of a text, with one blank before each, as it can take at once; answers how many bytes
+    /// these are, which may be none. The blank before the first word is at a place. Of any other text nothing is promised.
     fn give_words(&mut self, text: &[u8], font: Font, place: Place) -> usize
         ensures takes { TakesWords text.now font place result (Came left) self.old self.new }
         ensures within { result ≤ length text.now };

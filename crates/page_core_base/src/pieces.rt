@@ -33,7 +33,7 @@ pub enum Piece<W> {
     Char { c: char, font: Font, place: Place },
     /// A tab in the open word.
     Tab { font: Font, place: Place },
-    /// The open word ends, and this count of blanks stands before the next one; for one of them a tab stands or not.
+    /// The open word ends, and this count of blanks comes before the next one; one of them may be a tab.
     Blank { count: u32, has_tab: bool },
     /// The next text goes on with the open word, without the blanks that wait.
     Glue,
@@ -43,7 +43,7 @@ pub enum Piece<W> {
     Break,
     /// The row of a line that is kept as it is ends; a blank row where it has no cell.
     RowEnd,
-    /// A paragraph: the row ends, and blank rows are written until this count of them stands there; none after a heading's row.
+    /// A paragraph: the row ends, and blank rows are written until there are so many of them; none after a heading's row.
     Para(u32),
     /// The row ends, and this count of blank rows is written.
     Space(u32),
@@ -57,7 +57,7 @@ pub enum Piece<W> {
     TagEnd,
     /// The row ends as a heading's row, if it has a cell.
     Heading,
-    /// The next text stands at this column from the margin, or one blank after what passes that.
+    /// The next text is at this column from the margin, or one blank after what passes that.
     Column(u32),
 }
 
@@ -91,8 +91,8 @@ pub trait PieceSink: NoteSink {
             (Self.failed self.old) (Self.failed self.new) }
         ensures same { Self.loans self.new ≡ Self.loans self.old };
 
-    /// Takes as many of the first words of a text, in which one blank stands before each, as it can take at once; answers how many bytes
-    /// these are, which may be none. The blank before the first word stands at a place. Of any other text nothing is promised. A sink
+    /// Takes as many of the first words of a text, with one blank before each, as it can take at once; answers how many bytes
+    /// these are, which may be none. The blank before the first word is at a place. Of any other text nothing is promised. A sink
     /// that says nothing of it takes none.
     fn take_words(&mut self, text: &[u8], font: Font, place: Place) -> usize
         ensures takes { TakesWords text.now font place result took self.old self.new }

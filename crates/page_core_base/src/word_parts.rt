@@ -9,7 +9,7 @@ const HYPHEN: u8 = b'-';
 // The bytes that are searched for a hyphen at a time.
 const GROUP: usize = 16;
 
-// Whether a letter stands at a text's front.
+// Whether a text begins with a letter.
 #[inline(always)]
 fn starts_with_letter(text: &[u8]) -> bool
     ensures { result ≡ starts_with_letter text.now }
@@ -25,7 +25,7 @@ fn ends_part(before: u8, byte: u8, after: &[u8]) -> bool
     byte == HYPHEN && before.is_ascii_alphabetic() && starts_with_letter(after)
 }
 
-// Whether a hyphen stands in a text. All of its bytes are read, so that the compiler can test many at once.
+// Whether there is a hyphen in a text. All of its bytes are read, so that the compiler can test many at once.
 #[inline(always)]
 fn holds_hyphen(text: &[u8]) -> bool
     ensures { result ≡ list_any (λ byte. byte == hyphen) text.now }
@@ -37,7 +37,7 @@ fn holds_hyphen(text: &[u8]) -> bool
     found
 }
 
-// Whether a hyphen stands among the first or among the last bytes of a word, as many as the compiler knows.
+// Whether there is a hyphen among the first or among the last bytes of a word, as many as the compiler knows.
 #[inline(always)]
 fn ends_hold_hyphen<const GROUP: usize>(word: &[u8]) -> bool
     requires long { GROUP ≤ length word.now }
@@ -47,7 +47,7 @@ fn ends_hold_hyphen<const GROUP: usize>(word: &[u8]) -> bool
     holds_hyphen(&word[..GROUP]) || holds_hyphen(&word[word.len() - GROUP..])
 }
 
-// Whether a hyphen stands in a text, byte by byte.
+// Whether there is a hyphen in a text, byte by byte.
 #[inline(always)]
 fn finds_hyphen(text: &[u8]) -> bool
     ensures { result ≡ list_any (λ byte. byte == hyphen) text.now }
@@ -55,7 +55,7 @@ fn finds_hyphen(text: &[u8]) -> bool
     text.iter().any(|byte| *byte == HYPHEN)
 }
 
-// Whether a hyphen stands in a word. Most words have none, and are one part.
+// Whether there is a hyphen in a word. Most words have none, and are one part.
 #[inline(always)]
 fn has_hyphen(word: &[u8]) -> bool
     ensures { result ≡ false → list_any (λ byte. byte == hyphen) word.now ≡ false }
@@ -122,7 +122,7 @@ fn hyphened_part_start(word: &[u8]) -> usize
     start
 }
 
-// Whether the last bytes of a text show that no hyphen stands after a place.
+// Whether the last bytes of a text show that there is no hyphen after a place.
 #[inline(always)]
 fn is_free_after(text: &[u8], start: usize) -> bool
     ensures { result ≡ true → list_any (λ byte. byte == hyphen) (drop start text.now) ≡ false }
@@ -133,7 +133,7 @@ fn is_free_after(text: &[u8], start: usize) -> bool
     !holds_hyphen(&text[text.len() - GROUP..])
 }
 
-/// Where the last part of a word begins, in bytes from the word's first. The word begins at a place of a text and goes on to its end; what stands
+/// Where the last part of a word begins, in bytes from the word's first. The word begins at a place of a text and goes on to its end; what is
 /// before it is looked at with it, since a vector of bytes is read at once.
 #[inline(always)]
 pub fn last_part_start(text: &[u8], start: usize) -> usize

@@ -207,7 +207,7 @@ module _ (b key : ℕ) (rest : List ℕ) (utf8 : IsUtf8 (b ∷ key ∷ rest)) (a
 
 -- ---- quoted arguments
 
--- the content ends where the delimiter stands
+-- the content ends where the delimiter is
 abbrev EndsAtDelimiter : List ℕ → List ℕ → Option ℕ → Type 0
 EndsAtDelimiter d t o = (k : ℕ) → o ≡ Some k → starts_with nat_eq (drop k t) d ≡ true
 
@@ -238,7 +238,7 @@ content_len-ends : (d t : List ℕ) → EndsAtDelimiter d t (content_len false d
 unfolding content_len
 content_len-ends d t = content_len_within-ends (suc (length t)) d t
 
--- where a character's bytes stand in a text, a character begins
+-- where a character's bytes are in a text, a character begins
 pub character_begins : (t : List ℕ) (k c : ℕ) → IsUtf8 t → starts_with nat_eq (drop k t) (encode c) ≡ true → CutsAt t k
 character_begins t k c utf8 e =
     let d = encode c in

@@ -1,4 +1,4 @@
--- What is left of arguments that stand inside one another: the content of the innermost, its delimiter, then the rest of the next.
+-- What is left of arguments that are inside one another: the content of the innermost, its delimiter, then the rest of the next.
 use Rattle.std.proofs.Common.{◌≡◌, ℕ, ◌+◌, ◌-◌, ◌<◌, ◌≤◌, Bool, true, false, cond, eqb, nat_eq, List, [], ◌∷◌, length, take, drop, Option, Some, None, option_map, refl, sym, ap, ap₂, ◌∙◌, arith, length-drop, unwrap_or, zero-add, add-zero, ◌++◌, map, reverse, slice_get, drop_of_length-le, subst, get_or}
 use Rattle.std.specs.Option.{option_and_then}
 use Rattle.std.specs.List.{starts_with}
@@ -123,7 +123,7 @@ module _ (pairs : Bool) where
           rest_len-opens d ds t n mark is
           ∙ ap (λ m. option_map (λ r. n + mark + r) (rest_len (take (unwrap_or m 0) (drop n t) ∷ d ∷ ds) (drop (n + mark) t))) (sym is)
 
-  -- what is left where k bytes stand before the delimiter
+  -- what is left where k bytes are before the delimiter
   abbrev left_of : List ℕ → List (List ℕ) → List ℕ → ℕ → Option ℕ
   left_of d ds t k = option_map (λ r. k + (length d + r)) (rest_len ds (drop (k + length d) t))
 

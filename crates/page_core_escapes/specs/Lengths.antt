@@ -9,7 +9,7 @@ use Rattle.page_core_escapes.specs.Extents.{written_len, extent_of}
 -- in a text in which a pair of quotes is one character, or is not
 module _ (pairs : Bool) where
   -- A quoted argument with its delimiters: it begins with any character and ends at its next occurrence outside escapes. `content_len`
-  -- says how many bytes of a text stand before a delimiter.
+  -- says how many bytes of a text are before a delimiter.
   unfoldable pub quoted_len : (content_len : List ℕ → List ℕ → Option ℕ) → List ℕ → Option ℕ
   quoted_len content_len text =
       option_and_then (λ mark. option_map (λ k. mark + (k + mark)) (content_len (take mark text) (drop mark text))) (written_len pairs text)

@@ -41,7 +41,7 @@ pub data Meaning : Type 0 where
   -- the text ends before the escape does
   bad : Meaning
 
--- ---- arguments without what stands round them
+-- ---- arguments without what is round them
 
 abbrev pub without_last : List ℕ → List ℕ
 without_last bs = take (length bs - 1) bs
@@ -104,7 +104,7 @@ is_known _ = true
 unfoldable pub first_char : List ℕ → ℕ
 first_char text = if is_utf8 text then slice_index (chars text) 0 else 0xFFFD
 
--- the argument of an escape, without what stands round it, by its shape and its text from its letter on
+-- the argument of an escape, without what is round it, by its shape and its text from its letter on
 abbrev pub argument_of : (pairs : Bool) → Shape → List ℕ → List ℕ
 argument_of pairs Alone text = []
 argument_of pairs Glyph text = bare_name text

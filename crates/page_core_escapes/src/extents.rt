@@ -56,7 +56,7 @@ fn bracketed_len(text: &[u8]) -> Option<usize>
     Some(bracket_place(text)? + 1)
 }
 
-// Where the first bracket that closes stands.
+// Where the first bracket that closes is.
 fn bracket_place(text: &[u8]) -> Option<usize>
     ensures value { result ≡ position (λ b. b == 0x5D) text.now }
     ensures bound { IfSome result (λ place. place < length text.now) }
@@ -110,7 +110,7 @@ fn begins_size(text: &[u8]) -> bool
     }
 }
 
-// What follows an escape's letter, where `rest` stands after that.
+// What follows an escape's letter, where `rest` is after that.
 fn shape_of(key: u8, rest: &[u8]) -> Shape
     ensures { result ≡ shape_of key rest.now }
 {

@@ -1,6 +1,6 @@
 //! The escapes of a finished line: roff(7), "Escape sequences", and mandoc_char(7).
 //!
-//! It stands below roff, which finds the escapes that it interpolates, and below the scopes, which read a text token by token.
+//! It is below roff, which finds the escapes that it interpolates, and below the scopes, which read a text token by token.
 //!
 //! Read first: `escape` below, with the table of letters in `specs/Letters.antt`; then `read_token` in `tokens.rt`.
 //!

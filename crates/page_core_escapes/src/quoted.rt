@@ -8,7 +8,7 @@ use crate::extents::{Extent, read_extent, written_len};
 use arrayvec::ArrayVec;
 use page_core_base::LINE;
 
-// One more than the arguments that can stand inside one another on a line: each takes three bytes at least.
+// One more than the arguments that can be inside one another on a line: each takes three bytes at least.
 const NESTING: usize = 21_846;
 
 /// What is read in a quoted argument.
@@ -16,7 +16,7 @@ const NESTING: usize = 21_846;
 pub(crate) enum Step {
     /// This many bytes that belong to it.
     Passes(usize),
-    /// An argument inside it: after the first number of bytes its delimiter stands, of as many bytes as the second says.
+    /// An argument inside it: after the first number of bytes comes its delimiter, of as many bytes as the second says.
     Opens(usize, usize),
     /// The delimiter at its end, of this many bytes.
     Closes(usize),
@@ -85,7 +85,7 @@ pub(crate) fn quoted_len(pairs: bool, text: &[u8]) -> Option<usize>
     }
 }
 
-// The same where arguments stand inside the argument: the places of the open ones' delimiters are kept, from the outside in.
+// The same where arguments are inside the argument: the places of the open ones' delimiters are kept, from the outside in.
 // No call but one that needs these places pays for them.
 #[inline(never)]
 fn nested_len(pairs: bool, text: &[u8]) -> Option<usize>

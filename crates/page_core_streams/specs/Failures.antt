@@ -3,7 +3,7 @@ use Rattle.std.specs.Prelude.{◌≡◌, ℕ, Bool, true, false, ⊤, Option, Ma
 use Rattle.std.specs.Bool.{MatchBool}
 use Rattle.page_core_base.specs.Fails.{Rose}
 
--- where it is counted, the count rose, or stands at its end
+-- where it is counted, the count rose, or is at its end
 abbrev pub RisesIf : (counts : Bool) → ℕ → ℕ → Type 0
 RisesIf true old new = Rose old new
 RisesIf false old new = ⊤

@@ -6,7 +6,7 @@ use Rattle.page_core_base.specs.declared.cells.Font.{Font}
 use Rattle.page_core_base.specs.declared.cells.Font.TheVariants.{R, B, I, BI}
 use Rattle.page_core_base.specs.declared.cells.Cell.{Cell}
 
--- a character in a font: bold is printed over itself, italic over a low line
+-- a character in a font: bold is printed over itself, italic over an underscore
 abbrev pub marked_bytes : ℕ → Font → List ℕ
 marked_bytes c R = encode_utf8 c
 marked_bytes c B = encode_utf8 c ++ 8 ∷ encode_utf8 c

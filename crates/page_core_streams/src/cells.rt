@@ -12,10 +12,10 @@ use page_core_base::{BLANK_GROUP, Cell, Font, LONG_ROW, are_blank};
 // The bytes of a cell at most.
 const CELL_BYTES: usize = 16;
 
-// What stands between a character and its mark.
+// What is between a character and its mark.
 const BACKSPACE: u8 = 8;
 
-/// The bytes that a cell is printed as: a backspace between a character and itself is bold, and between a low line and a character
+/// The bytes that a cell is printed as: a backspace between a character and itself is bold, and between an underscore and a character
 /// italic; a blank is never marked (mandoc(1), "ASCII Output").
 pub fn cell_bytes(cell: Cell) -> ArrayVec<u8, 16>
     ensures { result.items ≡ cell_bytes_of cell }
@@ -89,7 +89,7 @@ pub(crate) fn write_group(bytes: &mut [u8], start: usize, cells: &[Cell]) -> usi
     write_cells(bytes, start, cells)
 }
 
-// Writes the bytes of two halves of a group, each of which may be plain though the other is not: the letters of a word in a font stand together.
+// Writes the bytes of two halves of a group, each of which may be plain though the other is not: the letters of a word in a font come together.
 #[inline(always)]
 fn write_halves(bytes: &mut [u8], start: usize, cells: &[Cell]) -> usize
     requires { start + 16 * length cells.now ≤ length bytes.old }
@@ -174,7 +174,7 @@ fn write_wide(bytes: &mut [u8], start: usize, cell: Cell) -> usize
     }
 }
 
-// Writes a low line and a backspace.
+// Writes an underscore and a backspace.
 fn write_low_line(bytes: &mut [u8], start: usize) -> usize
     requires { start + 2 ≤ length bytes.old }
     ensures front { take result bytes.new ≡ take start bytes.old ++ 95 ∷ 8 ∷ [] }

@@ -57,7 +57,7 @@ struct ShownPlace<'a> {
     column: &'a [u8],
 }
 
-// Writes the parts of a message with what stands between them.
+// Writes the parts of a message with what is between them.
 fn put_parts<'a, W: Target>(
     out: &mut W,
     place: ShownPlace<'a>,

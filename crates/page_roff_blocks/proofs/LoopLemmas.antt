@@ -21,7 +21,7 @@ use Rattle.page_roff_blocks.specs.Parts.{head_line_part, loop_part_if, end_part,
 use Rattle.page_roff_blocks.proofs.LinePartLemmas.{IsShorter, room, room_left, written_shorter}
 use Rattle.page_roff_blocks.proofs.EndLemmas.{to_end, written_ends, end_further}
 
--- ---- what stands before the end of a block lies in the line
+-- ---- what is before the end of a block lies in the line
 
 head_before : (opens : Bool) (head : Head (List ℕ)) → before_end (head_line_part opens head) ≡ 0
 head_before true head = refl

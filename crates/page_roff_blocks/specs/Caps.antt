@@ -1,4 +1,4 @@
--- How much is held of where a source stands between two lines. Source: roff(7), "de", "if"; mandoc(1), "DIAGNOSTICS".
+-- How much is held of where a source is between two lines. Source: roff(7), "de", "if"; mandoc(1), "DIAGNOSTICS".
 use Rattle.std.specs.Prelude.{◌≤◌, length, IfSome}
 use Rattle.page_core_base.specs.Limits.{CONDS}
 use Rattle.page_roff_blocks.specs.Levels.{Place}

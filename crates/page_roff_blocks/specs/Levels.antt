@@ -1,4 +1,4 @@
--- Where a source stands: the levels of its blocks, and an open region between two lines. Source: roff(7), "if", "ie", "el", "while".
+-- Where a source is: the levels of its blocks, and an open region between two lines. Source: roff(7), "if", "ie", "el", "while".
 use Rattle.std.specs.Prelude.{ℕ, zero, suc, Bool, true, false, not, List, [], ◌∷◌, length, Option, Some, None, nat_lt}
 use Rattle.page_core_base.specs.Limits.{CONDS}
 use Rattle.page_roff_blocks.specs.declared.line_parts.Branch.{Branch}
@@ -93,7 +93,7 @@ ends_from (suc skipped) in_loop outer = endings.Block
 unfoldable pub what_ends : Levels → Ended
 what_ends l = ends_from l.skipped l.in_loop l.outer
 
--- Where a source stands in a line: its levels, whether a part of the line was reached, and whether the next
+-- Where a source is in a line: its levels, whether a part of the line was reached, and whether the next
 -- part is passed over, since a head guards it.
 pub record BlockCursor : Type 0 where
   pub levels : Levels
@@ -153,7 +153,7 @@ reached_in false skipped passing begun = reached_from skipped passing begun
 unfoldable pub reached : BlockCursor → Reached
 reached s = reached_in s.levels.in_loop s.levels.skipped s.passing s.begun
 
--- where a source stands between two lines
+-- where a source is between two lines
 pub record Place : Type 0 where
   pub region : Option Opened
   pub levels : Levels

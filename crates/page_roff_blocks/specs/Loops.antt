@@ -62,7 +62,7 @@ abbrev pub text_before : List ℕ → Option ℕ → Option (List ℕ)
 text_before line None = Some line
 text_before line (Some len) = some_text (take len line)
 
--- What of a line belongs to a loop in which this many blocks are open: what stands before the \} that ends it, if
+-- What of a line belongs to a loop in which this many blocks are open: what is before the \} that ends it, if
 -- that is more than nothing; else all of the line, be it empty.
 unfoldable pub loop_text : ℕ → List ℕ → Option (List ℕ)
 loop_text blocks line = text_before line (len_of blocks line)

@@ -81,7 +81,7 @@ loop_part_if false read =
 abbrev pub loop_part : LoopRead (List ℕ) → Part (List ℕ)
 loop_part read = loop_part_if read.guarded.opens_block read
 
--- A line that heads nothing is cut at its first end of a block. What stands before it is a leaf, unless
+-- A line that heads nothing is cut at its first end of a block. What is before it is a leaf, unless
 -- empty.
 abbrev pub end_part : List ℕ → Option (List ℕ) → Part (List ℕ)
 end_part [] rest = record { line_part = End; is_end = false; rest = rest }

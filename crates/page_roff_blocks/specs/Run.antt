@@ -53,7 +53,7 @@ pub record Flow (S : Type 0) : Type 0 where
   pub passing : Bool
   pub state : S
 
--- where a source stands between two lines, and the state
+-- where a source is between two lines, and the state
 pub record At (S : Type 0) : Type 0 where
   pub place : Place
   pub state : S
@@ -194,7 +194,7 @@ module _ {X S : Type 0} (m : Meaning X S) where
       let q = meet w in
       run n rest bit (past (loop_by q.0 h (λ s. (gather 0 inner (past s)).state) (λ s. (pass inner (past s)).state) q.1))
 
-  -- a forest at the innermost level of a source: it is run, or stands in a skipped block or in a loop
+  -- a forest at the innermost level of a source: it is run, or is in a skipped block or in a loop
   unfoldable pub here_at : Forest X → ℕ → Levels → Flow S → Levels × Flow S
   here_at f zero l w = let r = run (length l.outer) f l.bit w in (record l { bit = r.0 }, r.1)
   here_at f (suc k) l w = (l, pass f w)

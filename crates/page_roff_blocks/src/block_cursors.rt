@@ -1,4 +1,4 @@
-//! Where a source stands in a line (roff(7), "if", "ie", "el", "while").
+//! Where a source is in a line (roff(7), "if", "ie", "el", "while").
 
 ghost use Rattle.std.specs.Prelude.{◌≡◌, ◌<◌, ◌≤◌, ◌^◌, true, length};
 ghost use Rattle.page_core_base.specs.declared.limits.TheConstants.{CONDS};
@@ -33,7 +33,7 @@ pub enum Pass {
     End,
 }
 
-/// Where a source stands in a line, outside of regions: the levels of its blocks, whether a part of the
+/// Where a source is in a line, outside of regions: the levels of its blocks, whether a part of the
 /// line was reached, and whether a head passes over the next one.
 #[derive(Drop)]
 pub struct BlockCursor {

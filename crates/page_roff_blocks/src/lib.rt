@@ -1,7 +1,7 @@
 //! The raw lines of a source as a forest of leaves, regions and blocks: what heads and ends them is found
 //! from the raw text alone (roff(7), "if", "ie", "el", "while", "de", "am", "ig").
 //!
-//! It stands above the heads of conditionals and loops (`page_roff_heads`); `page_roff_language` runs such a forest. Read `specs/Forest.antt` first,
+//! It is above the heads of conditionals and loops (`page_roff_heads`); `page_roff_language` runs such a forest. Read `specs/Forest.antt` first,
 //! then `specs/Run.antt` (what a forest does), and `parts.rt` for the code.
 //!
 //! Proved: `LinePlace` (`next_line_part`, `pass_line_part`, `opens_block`), `is_leaf`, `loop_text`, `Levels`, `OpenRegion`, `BlockCursor`,

@@ -32,9 +32,9 @@ pub enum Opening<W> {
 }
 
 /// A part of a raw line; `W` is a text. What follows a part on its line is a remainder, a line of its own:
-/// columns are those of the remainder in which they stand.
+/// columns are those of the remainder in which they are.
 pub enum LinePart<W> {
-    /// A line that heads no conditional, no loop and no region, or what stands in such a line before the end of a
+    /// A line that heads no conditional, no loop and no region, or what is in such a line before the end of a
     /// block.
     Leaf(W),
     /// The head of a conditional without a block. It guards the next part of its line, if there is one.

@@ -71,7 +71,7 @@ fn some_text(text: &[u8]) -> Option<&[u8]>
     if text.is_empty() { None } else { Some(text) }
 }
 
-/// What of a line belongs to a loop in which this many blocks are open: what stands before the `\}` that ends it, if
+/// What of a line belongs to a loop in which this many blocks are open: what is before the `\}` that ends it, if
 /// that is more than nothing; else all of the line, be it empty.
 #[tactic(auto, unfolding(crate::specs::Loops::loop_text))]
 pub fn loop_text(line: &[u8], open_blocks: u64) -> Option<&[u8]>

@@ -134,7 +134,7 @@ fn loop_part<'a>(read: LoopRead<&'a [u8]>) -> Part<&'a [u8]>
     }
 }
 
-// What stands before the end of a block, and what is left after it.
+// What is before the end of a block, and what is left after it.
 fn end_part<'a>(before: &'a [u8], rest: Option<&'a [u8]>) -> Part<&'a [u8]>
     requires before { length before.now ≤ LINE }
     requires rest { FitsRest (text_view rest) }

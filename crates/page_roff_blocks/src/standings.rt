@@ -1,4 +1,4 @@
-//! Where a page stands between two lines (roff(7), "if", "while", "de").
+//! Where a page is between two lines (roff(7), "if", "while", "de").
 
 ghost use Rattle.std.specs.Prelude.{◌≡◌};
 ghost use Rattle.page_roff_syntax.specs.OpenRegions.{opened_view};
@@ -7,7 +7,7 @@ use crate::levels::Levels;
 use page_roff_syntax::OpenRegion;
 use std::marker::Model;
 
-/// Where a page stands between two lines: its open region, and the levels of its blocks.
+/// Where a page is between two lines: its open region, and the levels of its blocks.
 #[derive(Drop)]
 pub struct Standing {
     region: Option<OpenRegion>,

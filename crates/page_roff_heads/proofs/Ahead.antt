@@ -37,7 +37,7 @@ and_false : (a b c : Bool) → (a && b) ≡ false → (b ≡ false → c ≡ fal
 and_false true b c h k = k h
 and_false false b c h k = refl
 
--- where it does not stand in a text, it does not stand in the text's front
+-- where it is not in a text, it is not in the text's front
 absent_ahead : (w r d : List ℕ) → starts_with nat_eq (w ++ r) d ≡ false → starts_with nat_eq w d ≡ false
 absent_ahead w r [] h = h
 absent_ahead [] r (c ∷ d) h = refl
@@ -116,7 +116,7 @@ missing_ahead d (x ∷ y ∷ w) r h =
 no_more : (n : ℕ) → n ≤ 0 → n ≡ 0
 no_more n h = omega arith
 
--- where the first delimiter stands in the front
+-- where the first delimiter is in the front
 quoted_inside : (w r : List ℕ) (m : ℕ) → m ≡ delimiter_len (w ++ r) → m ≡ delimiter_len w → 0 < m → m ≤ length w → quoted_len (w ++ r) ≤ length w
     → quoted_len (w ++ r) ≡ quoted_len w
 quoted_inside w r m a b some fits h =
@@ -335,7 +335,7 @@ len_ahead column w r h =
 
 -- ---- comments
 
--- a text is what stands before its comment, and the rest
+-- a text is what is before its comment, and the rest
 uncommented : (t : List ℕ) → (r : List ℕ) × (t ≡ without_comment t ++ r)
 uncommented [] = ([], refl)
 uncommented (x ∷ []) = ([], refl)

@@ -99,7 +99,7 @@ passed_one : (x y : ℕ) (ys : List ℕ) (n m : ℕ) → n ≡ 1 + m → (x == 9
     → end_place (x ∷ y ∷ ys) ≡ n + end_place (drop n (x ∷ y ∷ ys))
 passed_one x y ys n m e t p = let s : n ≡ suc m = omega arith in rw (s, t) (omega (arith, p))
 
--- the bytes of a line that are no backslash stand before its first pair
+-- the bytes of a line that are no backslash are before its first pair
 plain_passed : (line : List ℕ) → end_place line ≡ prefix_len is_plain line + end_place (drop (prefix_len is_plain line) line)
 plain_passed [] = refl
 plain_passed (x ∷ []) = elim (cases_Bool (x == 92)) [ inl t ↦ rw t refl | inr t ↦ rw t refl ]

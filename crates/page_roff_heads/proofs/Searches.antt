@@ -9,7 +9,7 @@ use Rattle.memchr.specs.Find.{OccursAt, FindsNeedle}
 use Rattle.memchr.proofs.lemmas.MatchLemmas.{OccursAt-part, OccursAt-from_part}
 use Rattle.page_roff_heads.specs.Delimiters.{place_of}
 
--- a delimiter stands at none of the first n places
+-- a delimiter is at none of the first n places
 abbrev Absent : List ℕ → List ℕ → ℕ → Type 0
 Absent d text n = (k : ℕ) → k < n → starts_with nat_eq (drop k text) d ≡ false
 

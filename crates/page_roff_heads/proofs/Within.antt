@@ -50,7 +50,7 @@ conditional_within column rest =
     within_more (length (drop len text)) (length rest) (guarded_of (column + blank_len rest + len) (drop len text)).remainder (omega (arith, l, k))
     (guarded_within (column + blank_len rest + len) (drop len text))
 
--- what stands before the end of a block, and what follows it, is shorter than the line
+-- what is before the end of a block, and what follows it, is shorter than the line
 pub end_shorter : (line : List ℕ) → IfSome (block_end_of line) (λ end. (length end.before < length line) × IsWithin (length line - 2) end.remainder)
 unfolding block_end_of
 end_shorter line =

@@ -49,7 +49,7 @@ name_after text = take (name_len text) (after_blanks text)
 abbrev pub reads : Test (List ℕ) → ℕ → TestRead (List ℕ)
 reads test len = record { test = test; len = len }
 
--- what stands before a delimiter
+-- what is before a delimiter
 abbrev pub text_before : List ℕ → List ℕ → List ℕ
 text_before delimiter text = take (place_of delimiter text) text
 
@@ -97,12 +97,12 @@ read_kind Expression column text = reads (tests.Expression (placed column (take 
 read_kind Letter column text = reads (tests.Unknown (take 1 text)) 1
 read_kind Delimiter column text = texts_at column text
 
--- a text begins with a test; its first byte stands at a column
+-- a text begins with a test; its first byte is at a column
 unfoldable pub read_test : ℕ → List ℕ → TestRead (List ℕ)
 read_test column [] = reads tests.Missing 0
 read_test column (byte ∷ bytes) = read_kind (kind_of byte) column (byte ∷ bytes)
 
--- any number of ! (33) stands before the test, and each turns it
+-- any number of ! (33) may precede the test, and each negates it
 abbrev pub turn_len : List ℕ → ℕ
 turn_len text = prefix_len (λ byte. byte == 33) text
 

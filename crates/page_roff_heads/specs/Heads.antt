@@ -29,11 +29,11 @@ conditional_at column text =
       guarded = guarded_of (column + len) (drop len text);
     }
 
--- the rest of a control line `if` or `ie`, of which the first byte stands at a column
+-- the rest of a control line `if` or `ie`, of which the first byte is at a column
 unfoldable pub conditional_of : ℕ → List ℕ → Conditional (List ℕ)
 conditional_of column rest = conditional_at (column + blank_len rest) (after_blanks rest)
 
--- the bytes before the first pair \} (125) that stands before a comment; all of them where there is none
+-- the bytes before the first pair \} (125) that is before a comment; all of them where there is none
 abbrev pub end_place : List ℕ → ℕ
 end_place [] = 0
 end_place (byte ∷ []) = 1
@@ -42,7 +42,7 @@ end_place (byte ∷ next ∷ bytes) =
     then (if next == 125 then 0 else if begins_comment next then 2 + length bytes else 2 + end_place bytes)
     else 1 + end_place (next ∷ bytes)
 
--- what stands before it is a line, and what follows it a remainder
+-- what is before it is a line, and what follows it a remainder
 unfoldable pub block_end_of : List ℕ → Option (BlockEnd (List ℕ))
 block_end_of line =
     if nat_lt (end_place line) (length line)

@@ -23,7 +23,7 @@ loop_at column text =
       first = first_of (drop len text);
     }
 
--- the rest of a control line `while`, of which the first byte stands at a column
+-- the rest of a control line `while`, of which the first byte is at a column
 unfoldable pub loop_of : ℕ → List ℕ → LoopRead (List ℕ)
 loop_of column rest = loop_at (column + blank_len rest) (after_blanks rest)
 

@@ -18,7 +18,7 @@ placed_view text = placed text.column text.text.now
 abbrev pub FitsPlaced : Placed (List ℕ) → Type 0
 FitsPlaced text = (length text.text ≤ LINE) × (text.column + length text.text ≤ LINE + 1)
 
--- the blanks at a text's front, and what stands after them
+-- the blanks at a text's front, and what is after them
 abbrev pub blank_len : List ℕ → ℕ
 blank_len text = prefix_len is_blank text
 

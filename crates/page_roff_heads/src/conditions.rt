@@ -236,7 +236,7 @@ fn read_expression(text: &[u8], column: u32) -> TestRead<&[u8]>
     }
 }
 
-// A test of a kind, of which the first byte stands at a column.
+// A test of a kind, of which the first byte is at a column.
 fn read_kind(kind: Kind, text: &[u8], column: u32) -> TestRead<&[u8]>
     requires some { 0 < length text.now }
     requires short { length text.now ≤ LINE }
@@ -257,7 +257,7 @@ fn read_kind(kind: Kind, text: &[u8], column: u32) -> TestRead<&[u8]>
     }
 }
 
-// The test at a text's front, of which the first byte stands at a column.
+// The test at a text's front, of which the first byte is at a column.
 #[tactic(auto, unfolding(crate::specs::Conditions::read_test))]
 fn read_test(text: &[u8], column: u32) -> TestRead<&[u8]>
     requires short { length text.now ≤ LINE }
@@ -272,7 +272,7 @@ fn read_test(text: &[u8], column: u32) -> TestRead<&[u8]>
     }
 }
 
-/// The condition at a text's front, and how many bytes it takes. Its first byte stands at a column.
+/// The condition at a text's front, and how many bytes it takes. Its first byte is at a column.
 #[tactic(auto, unfolding(crate::specs::Conditions::condition_of, crate::specs::Conditions::condition_len))]
 pub fn read_condition(text: &[u8], column: u32) -> (Condition<&[u8]>, usize)
     requires short { length text.now ≤ LINE }
@@ -305,7 +305,7 @@ fn is_uncommented(text: &[u8], len: usize) -> bool
 }
 
 /// The condition at the front of a text that may have a comment, before which it ends, and how many bytes
-/// it takes. Its first byte stands at a column. Only where it may reach to the comment it is read once more, up to
+/// it takes. Its first byte is at a column. Only where it may reach to the comment it is read once more, up to
 /// the comment: a line of many heads is looked through once.
 pub(crate) fn read_before_comment(text: &[u8], column: u32) -> (Condition<&[u8]>, usize)
     requires short { length text.now ≤ LINE }

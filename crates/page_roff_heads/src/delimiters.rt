@@ -29,7 +29,7 @@ fn character_len(first: u8) -> usize
     }
 }
 
-// How many backslashes stand together before a place.
+// How many backslashes precede a place, one after another.
 fn backslashes_before(text: &[u8], place: usize) -> usize
     requires { place ≤ length text.now }
     ensures within { result ≤ place }

@@ -25,7 +25,7 @@ pub struct Conditional<W> {
 
 /// A line that ends a block; `W` is a text.
 pub struct BlockEnd<W> {
-    /// What stands before `\}`, which is a line unless it is empty.
+    /// What is before `\}`, which is a line unless it is empty.
     pub before: W,
     /// What follows it, if that is a line of its own.
     pub remainder: Option<Placed<W>>,
@@ -67,8 +67,8 @@ impl<W: Copy> Clone for BlockEnd<W> {
     }
 }
 
-/// Reads what stands after a condition, or after the name of `el`: an optional `\{` and a remainder. The first byte
-/// stands at a column.
+/// Reads what is after a condition, or after the name of `el`: an optional `\{` and a remainder. The first byte
+/// is at a column.
 #[tactic(auto, unfolding(crate::specs::Heads::guarded_of))]
 pub fn read_guarded(text: &[u8], column: u32) -> Guarded<&[u8]>
     requires short { length text.now ≤ LINE }
@@ -90,7 +90,7 @@ pub fn read_guarded(text: &[u8], column: u32) -> Guarded<&[u8]>
     }
 }
 
-// A condition, of which the first byte stands at a column, and what it guards.
+// A condition, of which the first byte is at a column, and what it guards.
 fn conditional_at(text: &[u8], column: u32) -> Conditional<&[u8]>
     requires short { length text.now ≤ LINE }
     requires room { column + length text.now ≤ LINE + 1 }
@@ -104,7 +104,7 @@ fn conditional_at(text: &[u8], column: u32) -> Conditional<&[u8]>
     }
 }
 
-/// Reads the rest of a control line `if` or `ie` with its comment: what follows its name. The first byte stands at a
+/// Reads the rest of a control line `if` or `ie` with its comment: what follows its name. The first byte is at a
 /// column.
 #[tactic(auto, unfolding(crate::specs::Heads::conditional_of))]
 pub fn read_conditional(rest: &[u8], column: u32) -> Conditional<&[u8]>

@@ -14,11 +14,11 @@ pub struct LoopHead<W> {
     /// The condition as it is written, from its first `!` on.
     pub condition: W,
     /// What of the head's line belongs to the loop: with a block, what follows `\{`, up to the `\}` that
-    /// ends the loop if it stands on the line; without one, the remainder.
+    /// ends the loop if it is on the line; without one, the remainder.
     pub body: Option<W>,
 }
 
-/// What stands after the name of a loop; `W` is a text.
+/// What is after the name of a loop; `W` is a text.
 pub struct LoopRead<W> {
     /// The condition as it is written, from its first `!` on.
     pub condition: W,
@@ -65,7 +65,7 @@ fn first_of(text: &[u8]) -> &[u8]
     &first[blank_len(first)..]
 }
 
-// A condition, of which the first byte stands at a column, and what it guards.
+// A condition, of which the first byte is at a column, and what it guards.
 fn loop_at(text: &[u8], column: u32) -> LoopRead<&[u8]>
     requires short { length text.now ≤ LINE }
     requires room { column + length text.now ≤ LINE + 1 }
@@ -81,7 +81,7 @@ fn loop_at(text: &[u8], column: u32) -> LoopRead<&[u8]>
     }
 }
 
-/// Reads the rest of a control line `while` with its comment: what follows its name. The first byte stands at a column.
+/// Reads the rest of a control line `while` with its comment: what follows its name. The first byte is at a column.
 #[tactic(auto, unfolding(crate::specs::Loops::loop_of))]
 pub fn read_loop(rest: &[u8], column: u32) -> LoopRead<&[u8]>
     requires short { length rest.now ≤ LINE }

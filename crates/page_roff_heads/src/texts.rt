@@ -6,7 +6,7 @@ ghost use Rattle.page_roff_heads.specs.Texts.{placed_view, FitsPlaced, blank_len
 use page_core_base::LINE;
 use std::alloc::AllocError;
 
-/// A text that stands at a column of its line; `W` is a text.
+/// A text that is at a column of its line; `W` is a text.
 pub struct Placed<W> {
     pub text: W,
     /// The column of the text's first byte.
@@ -66,7 +66,7 @@ fn remainder_at(text: &[u8], column: u32) -> Option<Placed<&[u8]>>
 }
 
 /// The remainder of a line, without the blanks before it: a line of its own, unless it is empty or a comment. The
-/// first byte stands at a column.
+/// first byte is at a column.
 #[tactic(auto, unfolding(crate::specs::Texts::remainder_of))]
 pub fn remainder(text: &[u8], column: u32) -> Option<Placed<&[u8]>>
     requires short { length text.now ≤ LINE }

@@ -85,7 +85,7 @@ module _ {S : Type 0} (l : Language S) where
         closes_loop = λ s. done kind (l.closes may_run s);
       }
 
-  -- What comes of a leaf or a loop where this many more sources may run. A macro runs the forest of its body as it stands at the call.
+  -- What comes of a leaf or a loop where this many more sources may run. A macro runs the forest of its body as it is at the call.
   unfoldable pub done_at : ℕ → Kind → Done S → S
   done_at zero kind done = state_of done
   done_at (suc depth) kind done = done_by (meaning_by (is_some depth) (done_at depth)) kind done

@@ -1,7 +1,7 @@
 //! How lines run with calls of macros and with loops (roff(7)): the definition, over any meaning of the parts of lines, with its laws,
 //! and the count of a budget.
 //!
-//! It stands between the forest of lines (`page_roff_blocks`) and what their parts do (`page_roff_effects`). It runs nothing:
+//! It is between the forest of lines (`page_roff_blocks`) and what their parts do (`page_roff_effects`). It runs nothing:
 //! `page_roff_machine` does. Read `specs/Languages.antt` first, then `Budgets.antt`, and the laws in `laws.rt`.
 //!
 //! Proved: `machine_law`, `page_cut_law`, `budget_law`, `spending_law`, `each_line_law`, `calls_law`, `measure_law`, `turns_law`, `front_law`: the

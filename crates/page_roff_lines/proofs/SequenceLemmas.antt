@@ -64,7 +64,7 @@ second-follows x y =
     (by_cond (Follows y) (x == 0xF0) (is_in_range 0x90 0xBF y) _ (range-follows 0x90 0xBF y (omega arith) (omega arith))
     (by_cond (Follows y) (x == 0xF4) (is_in_range 0x80 0x8F y) (is_later y) (range-follows 0x80 0x8F y (omega arith) (omega arith)) (later-follows y))))
 
--- a byte that is not 0 stands within the text
+-- a byte that is not 0 is within the text
 within : (text : List ℕ) (i : ℕ) → 0 < get_or text i 0 → i < length text
 within [] i h = absurd (omega arith)
 within (x ∷ xs) zero h = omega arith
@@ -73,7 +73,7 @@ within (x ∷ xs) (suc i) h = let g = within xs i h in omega arith
 at_lead : (x y : ℕ) → is_second x y ≡ true → (n : ℕ) → x ≡ n → is_second n y ≡ true
 at_lead x y h n e = subst (λ (x : ℕ). is_second x y ≡ true) e h
 
--- the bytes are characters of a line, whatever stands before them but the first byte of a control character
+-- the bytes are characters of a line, whatever precedes them except the first byte of a control character
 pub record Fine (bytes : List ℕ) : Type 0 where
   pub utf8 : IsUtf8 bytes
   pub plain : (before : ℕ) (rest : List ℕ) → before ≢ 194 → ((last : ℕ) → last ≢ 194 → has_no_control last rest ≡ true) → has_no_control before (bytes ++ rest) ≡ true
@@ -188,7 +188,7 @@ fine_by true false false true text f g h e = h refl refl
 fine_by true false false false text f g h e = cc
 fine_by false a b c text f g h e = cc
 
--- where a sequence stands, its bytes are characters of a line
+-- where there is a sequence, its bytes are characters of a line
 pub sequence-fine : (text : List ℕ) → (sequence_length text == 0) ≡ false → Fine (take (sequence_length text) text)
 unfolding sequence_length
 sequence-fine text =

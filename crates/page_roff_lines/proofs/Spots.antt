@@ -1,4 +1,4 @@
--- Where the reading of a physical line stands, with the bytes at its end that the next byte may take away.
+-- Where the reading of a physical line is, with the bytes at its end that the next byte may take away.
 use Rattle.std.proofs.Common.{◌≡◌, ℕ, zero, suc, ◌+◌, ◌-◌, Bool, true, false, List, [], ◌∷◌, ◌++◌, length, take, refl, sym, ap, subst, ◌∙◌, append_assoc, append-nil, length-append, arith}
 use Rattle.std.specs.Prelude.{◌==◌, if◌then◌else◌}
 use Rattle.std.proofs.Common.{inl, inr}

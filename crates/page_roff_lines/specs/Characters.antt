@@ -17,7 +17,7 @@ is_second x y =
     else (if x == 0xF0 then is_in_range 0x90 0xBF y
     else (if x == 0xF4 then is_in_range 0x80 0x8F y else is_later y)))
 
--- how many bytes the well-formed UTF-8 sequence of a character of U+00A0 or above takes that stands at the front;
+-- how many bytes the well-formed UTF-8 sequence of a character of U+00A0 or above takes at the front;
 -- 0 where none does
 unfoldable pub sequence_length : List ℕ → ℕ
 sequence_length text =

@@ -38,12 +38,12 @@ bad_character number column b =
       detail = codes "0x" ++ digit_char (b / 16) ∷ digit_char (b % 16) ∷ [];
     }
 
--- those about a character that stands at this column
+-- those about a character that is at this column
 abbrev pub notes_of : ℕ → ℕ → Character → List Message
 notes_of number column (good bytes) = []
 notes_of number column (bad b) = bad_character number column b ∷ []
 
--- those about a list of characters, of which the first stands at this column
+-- those about a list of characters, of which the first is at this column
 unfoldable pub bad_notes : ℕ → ℕ → List Character → List Message
 bad_notes number column [] = []
 bad_notes number column (c ∷ cs) =

@@ -49,7 +49,7 @@ unfoldable pub put : Open → ℕ → Mode → Open
 put o b m =
     record o { text = extend o.text (b ∷ []); mode = m; after_return = b == carriage_return; begun = true }
 
--- a byte that no backslash stands before
+-- a byte that follows no backslash
 unfoldable pub put_plain : Open → ℕ → Open
 put_plain o b = put o b (if b == backslash then Backslash else Plain)
 

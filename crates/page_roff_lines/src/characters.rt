@@ -46,7 +46,7 @@ fn is_second(first: u8, byte: u8) -> bool
     }
 }
 
-/// How many bytes the well-formed UTF-8 sequence of a character of U+00A0 or above takes that stands at the front of
+/// How many bytes the well-formed UTF-8 sequence of a character of U+00A0 or above takes at the front of
 /// `text`; 0 where none does.
 #[tactic(auto, unfolding(crate::specs::Characters::sequence_length))]
 pub fn sequence_len(text: &[u8]) -> usize

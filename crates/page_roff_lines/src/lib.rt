@@ -4,7 +4,7 @@
 //! `Logical.antt` first, then `cutter.rt`.
 //!
 //! Proved: `Cutter::new`, `feed`, `end`, `line`: in whatever chunks the bytes of a page come, the lines are those of `lines` (`specs/Decoding.antt`);
-//! those of the bytes so far stand first in the page, whatever follows (`IsFed` in `specs/Cutting.antt`). `one_by_one_law`, `cut_law`, `held_law`:
+//! those of the bytes so far come first in the page, whatever follows (`IsFed` in `specs/Cutting.antt`). `one_by_one_law`, `cut_law`, `held_law`:
 //! this definition agrees with the step from point to point, a page may be cut anywhere, and an open line holds at most its limit.
 #![tactic(auto)]
 
@@ -26,7 +26,7 @@ pub use open::OpenLine;
 pub enum Mode {
     /// It stands for itself.
     Plain,
-    /// A backslash stands before it, and perhaps a carriage return between them.
+    /// It follows a backslash, and perhaps a carriage return between them.
     Backslash,
     /// In a comment, where a backslash is a byte like any other.
     Comment,

@@ -157,7 +157,7 @@ impl OpenLine {
         self.begun = true;
     }
 
-    // Appends a byte that no backslash stands before.
+    // Appends a byte that follows no backslash.
     #[tactic(auto, unfolding(crate::specs::Open::put_plain))]
     fn put_plain(&mut self, byte: u8)
         requires { self.old.text.total < self.old.consumed }

@@ -114,7 +114,7 @@ fn stays(byte: u8) -> bool
     is_printable(byte) && byte != QUOTE && byte != HASH
 }
 
-// Whether a backslash and a byte that stays with it stand at the front of a chunk.
+// Whether a chunk begins with a backslash and a byte that stays with it.
 fn begins_pair(chunk: &[u8]) -> bool
     ensures { result ≡ true → BeginsPair chunk.now }
 {

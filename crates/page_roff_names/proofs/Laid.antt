@@ -102,7 +102,7 @@ pub empty : (xs : List ℕ) → length xs ≡ 0 → xs ≡ []
 empty [] e = refl
 empty (x ∷ xs) e = absurd (omega (arith, e))
 
--- an entry without a value is given another meaning where it stands
+-- an entry without a value gets another meaning in its place
 pub with_meaning-hit : (n : List ℕ) (i : ℕ) (m : Entries) (meaning : Meaning) → i < length m → n ≡ name_at m i → value_at m i ≡ [] → with_meaning m i meaning ≡ insert (remove m i) i (n, definition meaning [])
 with_meaning-hit n i [] meaning l e f = absurd (omega arith)
 with_meaning-hit n zero (x ∷ es) meaning l e f = ap (λ v. (x.0, definition meaning v) ∷ es) f ∙ ap (λ n. (n, definition meaning []) ∷ es) (sym e)

@@ -45,7 +45,7 @@ fn order(name: &[u8], other: &[u8]) -> Ordering
     }
 }
 
-/// Where a name stands, or where it would.
+/// Where a name is, or where it would be.
 fn search(row: &Row, name: &[u8]) -> Result<usize, usize>
     requires { T (is_sorted by_bytes row.now) }
     ensures range { MatchResult result (λ i. i < length row.now) (λ i. i ≤ length row.now) }
@@ -64,7 +64,7 @@ fn search(row: &Row, name: &[u8]) -> Result<usize, usize>
     Err(low)
 }
 
-/// Where a name stands.
+/// Where a name is.
 pub(crate) fn find(row: &Row, name: &[u8]) -> Option<usize>
     requires { T (is_sorted by_bytes row.now) }
     ensures { MatchOption result (look name.now row.now ≡ None) (λ i. StandsAt name.now row.now i) }
@@ -75,14 +75,14 @@ pub(crate) fn find(row: &Row, name: &[u8]) -> Option<usize>
     }
 }
 
-/// Whether a name stands at this place.
+/// Whether a name is at this place.
 fn stands_at(row: &Row, place: usize, name: &[u8]) -> bool
     ensures { IsTrue result → (place < length row.now) × FoundAt name.now row.now place }
 {
     place < row.len() && matches!(order(name, row.name(place)), Ordering::Equal)
 }
 
-/// Where a name stands. It is looked for at this place first.
+/// Where a name is. It is looked for at this place first.
 pub(crate) fn find_near(row: &Row, place: usize, name: &[u8]) -> Option<usize>
     requires { T (is_sorted by_bytes row.now) }
     ensures { MatchOption result (look name.now row.now ≡ None) (λ i. StandsAt name.now row.now i) }

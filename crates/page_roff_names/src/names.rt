@@ -21,7 +21,7 @@ pub struct Names {
     texts: Row,
     registers: Row,
     scratch: Vec<u8>,
-    // Where the macros stand that were called last.
+    // Where the macros are that were called last.
     called: Places,
 }
 

@@ -4,7 +4,7 @@ ghost use Rattle.std.specs.Prelude.{◌<◌};
 // How many places are kept.
 const PLACES: usize = 64;
 
-/// Where names were found last: each name has one of these places, which it shares with others. What stands there may have changed since, so
+/// Where names were found last: each name has one of these places, which it shares with others. What is there may have changed since, so
 /// whoever takes a place looks whether the name is there.
 #[derive(Drop)]
 pub(crate) struct Places {

@@ -212,7 +212,7 @@ one_argument column (b ∷ bs) h t =
     rw t (ap (λ l. first_argument column (b ∷ bs) ∷ l)
     (enough (length bs) (length (drop (argument_len (b ∷ bs)) (b ∷ bs))) (column + argument_len (b ∷ bs)) (drop (argument_len (b ∷ bs)) (b ∷ bs)) (omega (arith, e)) (omega (arith, e))))
 
--- after blanks stands no blank
+-- there is no blank after blanks
 pub no_blank : (text : List ℕ) → 0 < length (drop (prefix_len is_blank text) text) → is_blank (get_or (drop (prefix_len is_blank text) text) 0 0) ≡ false
 no_blank [] h = absurd (omega arith)
 no_blank (b ∷ bs) h =

@@ -1,4 +1,4 @@
--- Control lines, of which the comment stands after the name: helpers of proofs.
+-- Control lines, whose comment follows the name: helpers of proofs.
 use Rattle.std.proofs.Common.{◌≡◌, ℕ, zero, suc, ◌+◌, ◌≤◌, ◌==◌, Bool, true, false, nat_lt, List, [], ◌∷◌, length, take, drop, if◌then◌else◌, cond, Some, refl, ap, ◌∙◌, inl, inr, arith}
 use Rattle.std.specs.List.{prefix_len}
 use Rattle.std.proofs.lemmas.Bool.{cases_Bool, eqb-true}
@@ -7,7 +7,7 @@ use Rattle.page_roff_syntax.specs.LineForms.{is_white, is_name, is_plain, is_con
 use Rattle.page_roff_syntax.proofs.FormLemmas.{plain_false}
 use Rattle.page_roff_syntax.specs.declared.line_forms.LineForm.TheVariants.{Control}
 
--- ---- bytes before the first backslash stand before the comment
+-- ---- bytes before the first backslash are before the comment
 
 taken : (text : List ℕ) (n : ℕ) → n ≤ prefix_len is_plain text → take n (without_comment text) ≡ take n text
 taken text zero h = refl
@@ -44,7 +44,7 @@ counted p (x ∷ y ∷ ys) h =
       | inr t ↦ rw (t, counted p (y ∷ ys) h) refl
     ]
 
--- such a run stands before the first backslash
+-- such a run is before the first backslash
 shorter_step : (a b : Bool) (n m : ℕ) → (b ≡ false → a ≡ false) → n ≤ m → cond a (1 + n) 0 ≤ cond b (1 + m) 0
 shorter_step false b n m w h = omega arith
 shorter_step true true n m w h = omega arith

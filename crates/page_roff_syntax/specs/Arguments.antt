@@ -40,7 +40,7 @@ is_quoted Bare = false
 is_quoted Closed = true
 is_quoted Unclosed = true
 
--- the column is the text's, which a quote may stand before
+-- the column is that of the text, which may follow a quote
 abbrev pub quoted_argument : ℕ → List ℕ → Argument (List ℕ)
 quoted_argument column inner =
     record { text = take (quoted_len inner) inner; column = column + 1; quoting = quoting_of inner }
@@ -80,7 +80,7 @@ abbrev pub argument_len : List ℕ → ℕ
 argument_len text =
     if begins_quoted text then min (length text) (quoted_len (drop 1 text) + 2) else bare_len text
 
--- the arguments of a text, of which the first byte stands at a column; at most n parts of it are read
+-- the arguments of a text, of which the first byte is at a column; at most n parts of it are read
 abbrev pub first_arguments : ℕ → ℕ → List ℕ → List (Argument (List ℕ))
 first_arguments zero column text = []
 first_arguments (suc n) column [] = []

@@ -41,7 +41,7 @@ begins_control (byte ∷ bytes) = is_control byte
 abbrev pub is_name : ℕ → Bool
 is_name byte = not (is_white byte || byte == 92)
 
--- after the control character, which stands in column 1, come white space and the name
+-- after the control character, which is in column 1, come white space and the name
 abbrev pub name_start : List ℕ → ℕ
 name_start bytes = prefix_len is_white bytes
 

@@ -54,7 +54,7 @@ abbrev pub head_with : RegionKind → ℕ → List (Argument (List ℕ)) → Reg
 head_with kind column args =
     record { kind = kind; column = column; name = name_in kind args; ending = ending_in kind args }
 
--- the head of a region: the column of its name, and its rest, of which the first byte stands at a column
+-- the head of a region: the column of its name, and its rest, of which the first byte is at a column
 unfoldable pub region_head : RegionKind → ℕ → ℕ → List ℕ → RegionHead (List ℕ)
 region_head kind column rest_column rest = head_with kind column (arguments rest_column rest)
 

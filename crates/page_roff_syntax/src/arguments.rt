@@ -45,7 +45,7 @@ pub fn has_arguments(rest: &[u8]) -> bool
     blank_len(rest) < rest.len()
 }
 
-/// Reads the first argument of a text of which the first byte stands at a column, and says after how many bytes the
+/// Reads the first argument of a text of which the first byte is at a column, and says after how many bytes the
 /// others begin.
 pub fn read_argument(text: &[u8], column: u32) -> Option<(Argument<&[u8]>, usize)>
     requires { column + length text.now ≤ LINE + 1 }
@@ -63,7 +63,7 @@ pub fn read_argument(text: &[u8], column: u32) -> Option<(Argument<&[u8]>, usize
 }
 
 impl<'a> Arguments<'a> {
-    /// The arguments in the rest of a control line, of which the first byte stands at a column.
+    /// The arguments in the rest of a control line, of which the first byte is at a column.
     pub fn new(rest: &'a [u8], column: u32) -> Arguments<'a>
         requires short { length rest.now ≤ LINE }
         requires room { column + length rest.now ≤ LINE + 1 }

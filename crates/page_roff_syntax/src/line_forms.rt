@@ -70,7 +70,7 @@ pub fn begins_control(line: &[u8]) -> bool
     }
 }
 
-// Whether a byte may stand in a name.
+// Whether a byte may be in a name.
 fn is_name(byte: u8) -> bool
     ensures { result ≡ is_name byte }
 {

@@ -1,4 +1,4 @@
-//! Whether pairs of a backslash and another byte stand in a text.
+//! Whether there are pairs of a backslash and another byte in a text.
 
 ghost use Rattle.std.specs.Prelude.{◌≡◌, ◌↔◌, ◌<◌, ◌+◌, false, length, IsTrue};
 ghost use Rattle.page_roff_syntax.specs.machine.Pairs.{is_pair, LacksPair, LacksPairFrom};

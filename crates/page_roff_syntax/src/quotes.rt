@@ -113,7 +113,7 @@ fn begins_quoted(text: &[u8]) -> bool
     }
 }
 
-// The argument whose first quote stands at a column, and whose bytes after it are given; and the number of its bytes
+// The argument whose first quote is at a column, and whose bytes after it are given; and the number of its bytes
 // with its quotes.
 fn quoted_argument(inner: &[u8], column: u32) -> (Argument<&[u8]>, usize)
     requires { column + 1 + length inner.now < 2 ^ 32 }
@@ -134,7 +134,7 @@ fn quoted_argument(inner: &[u8], column: u32) -> (Argument<&[u8]>, usize)
     (argument, (inner.len() + 1).min(len + 2))
 }
 
-/// The argument that a text begins with, of which the first byte stands at a column, and the number of its bytes
+/// The argument that a text begins with, of which the first byte is at a column, and the number of its bytes
 /// with its quotes.
 pub(crate) fn first_argument(text: &[u8], column: u32) -> (Argument<&[u8]>, usize)
     requires { column + length text.now < 2 ^ 32 }

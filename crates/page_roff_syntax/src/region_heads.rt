@@ -98,7 +98,7 @@ impl<'a> RegionHead<&'a [u8]> {
 }
 
 /// The head of a region of a kind: the column of its name and, without its comment, the rest of its line,
-/// of which the first byte stands at another.
+/// of which the first byte is at another.
 #[tactic(auto, unfolding(crate::specs::RegionHeads::region_head))]
 pub fn region_head(
     kind: RegionKind,

@@ -1,4 +1,4 @@
--- The arguments of a line stand in it: helpers of proofs.
+-- The arguments of a line are in it: helpers of proofs.
 use Rattle.std.proofs.Common.{◌≡◌, ℕ, ◌+◌, ◌≤◌, List, [], ◌∷◌, length}
 use Rattle.page_core_base.specs.declared.limits.TheConstants.{LINE}
 use Rattle.page_roff_syntax.specs.declared.quotes.Argument.{Argument}

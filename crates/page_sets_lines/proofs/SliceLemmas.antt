@@ -1,4 +1,4 @@
--- What is a slice of a line stands in a line.
+-- What is a slice of a line is in a line.
 use Rattle.std.proofs.Common.{◌≡◌, ℕ, ◌≤◌, List, [], ◌∷◌, length, Option, None, Some, arith}
 use Rattle.page_core_base.specs.declared.limits.TheConstants.{LINE}
 use Rattle.page_roff_syntax.specs.declared.quotes.Argument.{Argument}
@@ -100,7 +100,7 @@ leaf_fits line (leaves.Fonts font) short slices = tt
 leaf_fits line leaves.FurtherTag short slices = tt
 leaf_fits line (leaves.Step step) short slices = step_fits line step short slices
 
--- the texts of an event of a line, which are slices of it, stand in a line
+-- the texts of an event of a line, which are slices of it, are in a line
 pub kind_fits : (line : List ℕ) (kind : EventKind (List ℕ)) → length line ≤ LINE → HasSlices line kind → KindFits kind
 kind_fits line (kinds.Word word) short slices = argument_fits line word.arg short slices
 kind_fits line (kinds.Open opener) short slices = opener_fits line opener short slices

@@ -23,7 +23,7 @@ name_of line = take (name_end line - before_name line.text) (drop (before_name l
 abbrev pub is_nameless : Line → Bool
 is_nameless line = before_name line.text == name_end line
 
--- what comes after the name: the arguments, with what stands between them
+-- what comes after the name: the arguments, with what is between them
 abbrev pub rest_of : Line → List ℕ
 rest_of line = drop (name_end line) line.text
 

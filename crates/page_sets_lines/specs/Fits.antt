@@ -1,4 +1,4 @@
--- Texts that stand in a line of a page. Source: roff(7), "LANGUAGE SYNTAX"; mdoc(7).
+-- Texts that are in a line of a page. Source: roff(7), "LANGUAGE SYNTAX"; mdoc(7).
 use Rattle.std.specs.Prelude.{ℕ, ◌≤◌, ◌<◌, ◌+◌, ◌^◌, List, length, Option, None, Some}
 use Rattle.page_core_base.specs.Limits.{LINE}
 use Rattle.page_roff_syntax.specs.declared.quotes.Argument.{Argument}
@@ -61,7 +61,7 @@ abbrev pub LeafFits : Leaf (List ℕ) → Type 0
 LeafFits (leaves.Step step) = StepFits step
 LeafFits _ = Unit {0}
 
--- the texts that an event prints stand in a line
+-- the texts that an event prints are in a line
 abbrev pub KindFits : EventKind (List ℕ) → Type 0
 KindFits (kinds.Word word) = ArgumentFits word.arg
 KindFits (kinds.Open opener) = OpenerFits opener
@@ -74,7 +74,7 @@ abbrev pub RestIsShort : EventKind (List ℕ) → Type 0
 RestIsShort (kinds.Leaf (leaves.Prologue name rest)) = length rest ≤ LINE
 RestIsShort _ = Unit {0}
 
--- the texts of a kind of event, or of an event, stand in a line
+-- the texts of a kind of event, or of an event, are in a line
 abbrev pub IsShortKind : EventKind (List ℕ) → Type 0
 IsShortKind kind = KindFits kind × RestIsShort kind
 

@@ -152,7 +152,7 @@ BeginsFrom from (kinds.Raw text) = Unit {0}
 BeginsFrom from (kinds.End fills) = Unit {0}
 BeginsFrom from (kinds.Note kind detail is_quoted begins_body) = Unit {0}
 
--- the words stand in order: none begins before the one in front of it has ended
+-- the words are in order: none begins before the one in front of it has ended
 abbrev pub AreInOrder : ℕ → List (Event (List ℕ)) → Type 0
 AreInOrder from [] = Unit {0}
 AreInOrder from (event ∷ events) = BeginsFrom from event.kind × AreInOrder (past from event.kind) events

@@ -79,7 +79,7 @@ with_word (Some words.Compact) so_far = record so_far { is_compact = true }
 with_word (Some words.Width) so_far = record so_far { awaited = Some Width }
 with_word (Some words.Offset) so_far = record so_far { awaited = Some Offset }
 
--- the value of an option is taken as it stands, and the last one counts
+-- the value of an option is taken as it is, and the last one counts
 abbrev pub with_argument : Option Awaited → ListOptions (List ℕ) → Argument (List ℕ) → ListOptions (List ℕ)
 with_argument None so_far word = with_word (list_word word.text) so_far
 with_argument (Some Width) so_far word = record so_far { width = Some word; awaited = None }

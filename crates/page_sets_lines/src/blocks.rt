@@ -22,7 +22,7 @@ pub enum Block {
     Custom,
     /// `Xo` and `Xc`: no marks.
     Extension,
-    /// `Bd` and `Ed`: rows that stand apart.
+    /// `Bd` and `Ed`: a display.
     Display,
     /// `Bf` and `Ef`: a font.
     Fonts,
@@ -36,7 +36,7 @@ pub enum Block {
 
 /// What opens a block; `W` is a text.
 pub enum BlockOpener<W> {
-    /// `Bl`: its type, whether no blank row stands before an item, and all its arguments as they stand.
+    /// `Bl`: its type, whether there is no blank row before an item, and all its arguments as they are.
     List {
         kind: ListKind,
         is_compact: bool,
@@ -48,7 +48,7 @@ pub enum BlockOpener<W> {
     Custom(Option<Argument<W>>),
     /// `Xo`.
     Extension,
-    /// `Bd`: whether its rows are kept as they are, whether no blank row stands before them, and how far in they stand.
+    /// `Bd`: whether its rows are kept as they are, whether there is no blank row before them, and how far in they are.
     Display {
         is_literal: bool,
         is_compact: bool,

@@ -61,7 +61,7 @@ fn arguments_after(text: &[u8], start: usize) -> Arguments<'_>
     Arguments::new(&text[start..], start as u32 + 1)
 }
 
-// Whether a quote stands in a text.
+// Whether there is a quote in a text.
 #[inline(always)]
 fn has_quote(text: &[u8]) -> bool
     ensures { result ≡ list_any is_quote text.now }
@@ -89,7 +89,7 @@ fn unclosed_quote(text: &[u8], start: usize, printed: usize) -> Option<u32>
 }
 
 /// The column of the quote of an argument that lacks its last one, unless the argument is one of the first, which are
-/// printed. The arguments are read only where a quote stands in them.
+/// printed. The arguments are read only where there is a quote in them.
 #[inline(always)]
 pub fn open_quote(text: &[u8], start: usize, printed: usize) -> Option<u32>
     requires short { length text.now ≤ LINE }

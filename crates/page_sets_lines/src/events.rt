@@ -12,7 +12,7 @@ use page_roff_syntax::Argument;
 use page_sets_names::GeneratedText;
 use std::alloc::AllocError;
 
-/// How a word stands beside another.
+/// How a word is beside another.
 #[derive(Clone, Copy, PartialEq, Eq)]
 pub enum Join {
     /// A blank parts them.
@@ -40,9 +40,9 @@ pub struct Word<W> {
     pub arg: Argument<W>,
     pub role: Role,
     pub font: Option<Font>,
-    /// How it stands beside the word before it.
+    /// How it is beside the word before it.
     pub before: Join,
-    /// How it stands beside the word after it.
+    /// How it is beside the word after it.
     pub after: Join,
 }
 

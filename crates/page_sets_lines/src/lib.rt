@@ -4,7 +4,7 @@
 //! A finished line of roff comes in, its events go out to the scopes. Read `src/events.rt` first (what an event is), then
 //! `src/macro_sets.rt` (what a set must keep to).
 //!
-//! Proved: `MacroSet`: the events of a line are those of the set's own table; each text is a slice of its line, words stand in order, and a line
+//! Proved: `MacroSet`: the events of a line are those of the set's own table; each text is a slice of its line, words are in order, and a line
 //! gives at most two events a byte and two (`specs/Laws.antt`). `MacroSet::give` gives them in this order to an `EventOut`; its default body pulls
 //! them by `start` and `next`.
 #![tactic(auto)]

@@ -15,7 +15,7 @@ pub enum SynopsisStep {
     Include,
     /// `Nm` begins a row.
     NameBegins,
-    /// The words of `Nm` have ended: later rows stand further in by their columns.
+    /// The words of `Nm` have ended: later rows are further in by their columns.
     NameEnds,
 }
 
@@ -37,7 +37,7 @@ pub enum LineStep<W> {
     NextArgument,
     /// The arguments of `Fn` have ended.
     FunctionEnd,
-    /// `Sm`: blanks stand between words (true) or not, or the other of these.
+    /// `Sm`: there are blanks between words (true) or not, or the other of these.
     Spacing(Option<bool>),
     /// What is done in the section SYNOPSIS alone.
     Synopsis(SynopsisStep),

@@ -69,7 +69,7 @@ pub struct ListOptions<W> {
     pub width: Option<Argument<W>>,
     /// What follows the last `-offset`.
     pub offset: Option<Argument<W>>,
-    /// The option that takes the next argument as it stands.
+    /// The option that takes the next argument as it is.
     pub awaited: Option<Awaited>,
 }
 

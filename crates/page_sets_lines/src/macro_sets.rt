@@ -66,7 +66,7 @@ pub trait MacroSet {
     ghost slices_from: { (set : Self) (line : Line) (place : Self.Place) →
         IsPlaceOf set line place → AreSlices line.text (events_from set line place) };
 
-    // the words stand in order
+    // the words are in order
     ghost in_order: { (set : Self) (line : Line) → AreInOrder 0 (table set line) };
 
     // at most two events a byte, and two

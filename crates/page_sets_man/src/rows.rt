@@ -211,7 +211,7 @@ macro_rules! font_words {
     };
 }
 
-// A macro that needs words, which stand in no font of its own, or in several.
+// A macro that needs words, which are in no font of its own, or in several.
 macro_rules! needs_words {
     ($quotes:expr, $effect:expr, $words:expr, $last:expr) => {
         Row {

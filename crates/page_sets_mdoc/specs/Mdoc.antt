@@ -32,7 +32,7 @@ mdoc_indent = 5
 
 -- ---- the words of a line, with the macros among them
 
--- a macro that a word calls stands at that word
+-- a macro that a word calls is at that word
 abbrev pub call_events : ℕ → Call → Bool → List (Event (List ℕ))
 call_events number call follows = placed_events false number call.name.column call.name.text call.inline call.taken call.words follows
 
@@ -40,7 +40,7 @@ abbrev pub calls_events : ℕ → List Call → List (Event (List ℕ))
 calls_events number [] = []
 calls_events number (call ∷ calls) = call_events number call (has_calls calls) ++ calls_events number calls
 
--- the closing delimiters at the line's end stand outside its enclosures
+-- the closing delimiters at the line's end are outside its enclosures
 abbrev pub tail_events : ℕ → List (Argument (List ℕ)) → List (Event (List ℕ))
 tail_events number [] = []
 tail_events number (first ∷ more) = event_at number first.column (kinds.Close closers.Enclosures) ∷ printed number None (first ∷ more)
@@ -49,7 +49,7 @@ tail_events number (first ∷ more) = event_at number first.column (kinds.Close 
 abbrev pub rest_events : ℕ → LineParts → List (Event (List ℕ))
 rest_events number parts = calls_events number parts.calls ++ tail_events number parts.tail
 
--- a macro that can stand among words, and begins the line
+-- a macro that can be among words, and begins the line
 abbrev pub head_events : Line → Inline → LineParts → List (Event (List ℕ))
 head_events line inline parts =
     placed_events true line.number (name_column line) (name_of line) inline parts.taken parts.words (has_calls parts.calls)

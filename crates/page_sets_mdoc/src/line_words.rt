@@ -114,7 +114,7 @@ fn give_rest<'a, O: EventTaker<'a>>(out: &mut O, number: u32, text: &'a [u8], cu
     give_tail(out, number, text, rest);
 }
 
-// A macro that can stand among words, and begins the line; then the rest of the line.
+// A macro that can be among words, and begins the line; then the rest of the line.
 fn give_head<'a, O: EventTaker<'a>>(out: &mut O, inline: Inline, line: Taken<'a>)
     requires { length line.text.now ≤ LINE }
     ensures { Came O.left out.old

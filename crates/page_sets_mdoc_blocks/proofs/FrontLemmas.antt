@@ -60,7 +60,7 @@ note_slices : (line : Line) (kind : Option NoteKind) → AreSlices line.text (no
 note_slices line None = tt
 note_slices line (Some kind) = (detail_part kind line, tt)
 
--- the last `-offset` of a display stands in its line
+-- the last `-offset` of a display is in its line
 option_slices : (line : List ℕ) (takes is_offset is_compact : Bool) (so_far : DisplayOptions (List ℕ)) (word : Argument (List ℕ)) (kind : Option Bool)
     → IsArgumentIfGiven line so_far.offset → IsArgument line word
     → IsArgumentIfGiven line
@@ -138,7 +138,7 @@ block_slices lines.Spacing line =
     AreSlices-append line.text _ _ (missing_slices false line) (at_name_slices line _ (spacing_slices line (spacing_of (first_text line))))
 block_slices lines.Target line = missing_slices false line
 
--- what a block of lines opens with stands in the line
+-- what a block of lines opens with is in the line
 pub opens_fit : (block : Block) (line : Line) → length line.text ≤ LINE → BlockOpenerFits (opener_of block line)
 opens_fit block line short = kind_fits line.text (kinds.Open (openers.Block (opener_of block line))) short (opens_slices block line)
 
@@ -239,7 +239,7 @@ field_few false line = omega arith
 pub request_few : (name : LayoutRequest) (line : Line) → length (request_front name line) ≤ 2
 request_few name line = quoted_few line _
 
--- how many events the words of a macro may add; a block of lines has none, and macros that can stand among words have no front
+-- how many events the words of a macro may add; a block of lines has none, and macros that can be among words have no front
 abbrev pub words_more : LineMacro → ℕ
 words_more (lines.Inline inline) = 5
 words_more (lines.Sentence sentence) = 4

@@ -34,7 +34,7 @@ first_type (Some kind) other = Some kind
 abbrev pub no_options : DisplayOptions (List ℕ)
 no_options = record { is_literal = None; is_compact = false; offset = None; takes_offset = false }
 
--- after one more: `-offset` takes the next one as it stands, and the last of them counts; of the types the first does; any other word is ignored
+-- after one more: `-offset` takes the next one as it is, and the last of them counts; of the types the first does; any other word is ignored
 abbrev pub option_read : DisplayOptions (List ℕ) → Argument (List ℕ) → DisplayOptions (List ℕ)
 option_read so_far word =
     if so_far.takes_offset then record so_far { offset = Some word; takes_offset = false }

@@ -186,7 +186,7 @@ spacing_front line = missing_quote false line ++ kind_at_name line (spacing_kind
 
 -- ---- all of them
 
--- what a macro does before its words; macros that can stand among words have no front of their own
+-- what a macro does before its words; macros that can be among words have no front of their own
 abbrev pub block_front : LineMacro → Line → List (Event (List ℕ))
 block_front (lines.Inline inline) line = []
 block_front (lines.Prologue name) line = missing_quote false line ++ (at_name line (kinds.Leaf (leaves.Prologue name (rest_of line))) ∷ [])

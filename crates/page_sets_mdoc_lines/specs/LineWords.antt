@@ -1,4 +1,4 @@
--- The words of a control line: which are delimiters, which call macros, which a macro takes as they stand.
+-- The words of a control line: which are delimiters, which call macros, which a macro takes as they are.
 -- Source: mdoc(7), "MACRO SYNTAX" and "Delimiters".
 use Rattle.std.specs.Prelude.{ℕ, ◌+◌, Bool, true, false, ◌||◌, List, drop, Option, None, Some, codes, if◌then◌else◌}
 use Rattle.std.specs.Str.{bytes_eq}
@@ -48,7 +48,7 @@ abbrev pub takes_mark : Pair → Argument (List ℕ) → Bool
 takes_mark Custom word = is_nothing (word_call word)
 takes_mark _ word = false
 
--- whether a macro takes the word after it as it stands, whatever it would be otherwise
+-- whether a macro takes the word after it as it is, whatever it would be otherwise
 unfoldable pub takes_next : Inline → Argument (List ℕ) → Bool
 takes_next Prefix word = true
 takes_next Author word = is_author_option word.text

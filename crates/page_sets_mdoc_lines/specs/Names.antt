@@ -1,4 +1,4 @@
--- Rows of a table by the name that stands in each.
+-- Rows of a table by the name in each.
 use Rattle.std.specs.Prelude.{ℕ, List, Option, option_map, find}
 use Rattle.std.specs.Str.{bytes_eq}
 

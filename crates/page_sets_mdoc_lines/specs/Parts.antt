@@ -7,7 +7,7 @@ use Rattle.page_sets_mdoc_lines.specs.declared.macros.Inline.{Inline}
 use Rattle.page_sets_mdoc_lines.specs.declared.word_spans.WordSpan.{WordSpan}
 use Rattle.page_sets_mdoc_lines.specs.LineWords.{word_call, is_closing, is_real, takes_next}
 
--- a macro that a word of the line calls: that word, the word that the macro takes as it stands, and its other words
+-- a macro that a word of the line calls: that word, the word that the macro takes as it is, and its other words
 pub record Call : Type 0 where
   pub inline : Inline
   pub name : Argument (List ℕ)

@@ -1,4 +1,4 @@
--- The table of mdoc(7): what each macro does, and how it stands to the macros among its words. Source: mdoc(7),
+-- The table of mdoc(7): what each macro does, and how it is to the macros among its words. Source: mdoc(7),
 -- "MACRO REFERENCE" and "MACRO SYNTAX", of which the summary has the columns "Callable" and "Parsed".
 use Prim.Native.String.{String}
 use Rattle.std.specs.Prelude.{ℕ, Bool, true, false, List, [], ◌∷◌, Option, None, Some, option_map, option_and_then, if◌then◌else◌, codes}

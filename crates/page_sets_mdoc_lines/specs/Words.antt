@@ -19,7 +19,7 @@ inside words = take (front_len is_closing words) words
 abbrev pub outside : List (Argument (List ℕ)) → List (Argument (List ℕ))
 outside words = drop (front_len is_closing words) words
 
--- they stand in the line
+-- they are in the line
 abbrev pub AreIn : List ℕ → MacroWords → Type 0
 AreIn text words =
     IsCursorOf text words.all.cursor × IsCursorOf text words.inside.cursor × IsCursorOf text words.outside.cursor × IsCursorOf text words.rest

@@ -55,7 +55,7 @@ pub enum LineMacro {
     Sentence(Sentence),
     /// `In`: a file of declarations.
     Include,
-    /// `Sm`: whether blanks stand between words.
+    /// `Sm`: whether there are blanks between words.
     Spacing,
     /// `Tg`: a place for links.
     Target,

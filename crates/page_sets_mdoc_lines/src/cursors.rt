@@ -44,7 +44,7 @@ impl Cursor {
         true
     }
 
-    /// Whether it stands at the end of the line's text. Then no argument is left; where blanks end the text, none may be left before
+    /// Whether it is at the end of the line's text. Then no argument is left; where blanks end the text, none may be left before
     /// its end either.
     #[tactic(auto, using(crate::proofs::CursorLemmas::none_at))]
     pub fn is_at_end(self, text: &[u8]) -> bool

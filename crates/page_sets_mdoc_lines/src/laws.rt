@@ -7,7 +7,7 @@ ghost use Rattle.page_sets_mdoc_lines.specs.declared.macros.Inline.{Inline};
 ghost use Rattle.page_sets_mdoc_lines.specs.LineWords.{arguments_after};
 ghost use Rattle.page_sets_mdoc_lines.specs.Parts.{parts, rest_parts, parts_arguments, front_len};
 
-/// The words of a macro stand at the front of what is left of its line, and after them the line goes on with the next
+/// The words of a macro are at the front of what is left of its line, and after them the line goes on with the next
 /// call or with its last delimiters. The parts hold each argument once, in the order of the line.
 pub fn parts_law()
     ensures words { (parsed : Bool) (arguments : List (Argument (List ℕ))) →

@@ -1,4 +1,4 @@
-//! A control line of mdoc(7) parted, before any macro means anything: which macros stand in it, and the words of each.
+//! A control line of mdoc(7) parted, before any macro means anything: which macros are in it, and the words of each.
 //!
 //! First of the crates of that set. Which macro a name names is one table: read `macros.rt`, then
 //! `specs/Rows.antt`. How a line is parted is `parts` in `specs/Parts.antt`; the code reads a line with a cursor, and finds the words of a macro, and where its
@@ -7,7 +7,7 @@
 //! Proved: `line_macro`, `called`, `is_parsed`, `delimiter_of`: what a macro of mdoc(7) does, which names a word can call, and in which lines words
 //! call, by one table (`specs/Rows.antt`), with which the rows of the program are compared; and which words are delimiters
 //! (`Delimiters.antt`). `Cursor`, `Words`, `find_words`, `parts_law`, `front_law`, `few_law`: a line of mdoc(7) is parted into its macros and the words
-//! of each by one fold over its arguments (`specs/Parts.antt`): each argument stands in one part, in order.
+//! of each by one fold over its arguments (`specs/Parts.antt`): each argument is in one part, in order.
 #![tactic(auto)]
 
 mod blocks;

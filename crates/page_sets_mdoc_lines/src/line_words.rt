@@ -1,4 +1,4 @@
-//! What a word of a line is: a delimiter, a call of a macro, or what a macro takes as it stands (mdoc(7), "MACRO
+//! What a word of a line is: a delimiter, a call of a macro, or what a macro takes as it is (mdoc(7), "MACRO
 //! SYNTAX").
 
 ghost use Rattle.std.specs.Prelude.{◌≡◌, ℕ, List, false, MatchBool};
@@ -60,7 +60,7 @@ fn takes_mark(pair: Pair, word: Argument<&[u8]>) -> bool
     }
 }
 
-/// Whether a macro is one of those that may take the word after it as it stands. Few are.
+/// Whether a macro is one of those that may take the word after it as it is. Few are.
 #[tactic(auto, unfolding(crate::specs::LineWords::takes_next))]
 pub fn may_take(inline: Inline) -> bool
     ensures { MatchBool result (Unit {0}) ((word : Argument (List ℕ)) → words.takes_next inline word ≡ false) }
@@ -71,7 +71,7 @@ pub fn may_take(inline: Inline) -> bool
     )
 }
 
-/// Whether a macro takes the word after it as it stands: `Pf` any word, `Eo` and `Ec` one that names no macro, `An`
+/// Whether a macro takes the word after it as it is: `Pf` any word, `Eo` and `Ec` one that names no macro, `An`
 /// how authors are parted.
 #[tactic(auto, unfolding(crate::specs::LineWords::takes_next))]
 pub fn takes_next(inline: Inline, word: Argument<&[u8]>) -> bool

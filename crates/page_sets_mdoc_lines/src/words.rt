@@ -26,7 +26,7 @@ pub struct Words {
 /// The words of a macro, and what is known of them before they are read.
 #[derive(Clone, Copy)]
 pub struct MacroWords<'a> {
-    /// The word that the macro takes as it stands.
+    /// The word that the macro takes as it is.
     pub taken: Option<Argument<&'a [u8]>>,
     /// Its other words.
     pub all: Words,
@@ -74,7 +74,7 @@ impl Words {
     }
 }
 
-// The word that the macro takes as it stands which has just begun, if it takes one, and how far its line is then read.
+// The word that the macro takes as it is which has just begun, if it takes one, and how far its line is then read.
 #[tactic(auto, using(crate::proofs::WordLemmas::no_macro, crate::proofs::WordLemmas::takes_none, crate::proofs::WordLemmas::takes_nothing, crate::proofs::WordLemmas::takes_no_word, crate::proofs::WordLemmas::takes_first))]
 fn take_word(
     text: &[u8],

@@ -1,4 +1,4 @@
--- The events of a macro that can stand among words are slices of its line, in its order, and few: helpers of proofs.
+-- The events of a macro that can be among words are slices of its line, in its order, and few: helpers of proofs.
 use Rattle.std.proofs.Common.{◌≡◌, ℕ, ◌+◌, ◌≤◌, Bool, true, false, List, [], ◌∷◌, ◌++◌, take, drop, refl, arith, Option, None, Some, if◌then◌else◌}
 use Rattle.std.specs.List.{list_any}
 use Rattle.page_core_base.specs.declared.cells.Font.TheVariants.{R, B, I}
@@ -92,7 +92,7 @@ prefix_prints line number column name (Some word) words n h =
     word_first line 2 word words _ (printed number None words) h.0 (first_taken word words)
     (more_events line 0 2 words _ (omega arith) (printed_prints line number None words h.1))
 
--- a mark that is taken stands in its line
+-- a mark that is taken is in its line
 mark_slice : (line : List ℕ) (taken : Option (Argument (List ℕ))) (words : List (Argument (List ℕ))) → AreArguments line (own_arguments taken words)
     → IsArgumentIfGiven line taken
 mark_slice line None words h = tt

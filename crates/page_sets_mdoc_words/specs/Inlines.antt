@@ -44,7 +44,7 @@ abbrev pub with_words : ℕ → ℕ → List ℕ → List (Argument (List ℕ)) 
 with_words number column name words events =
     if list_any is_real words then events else refused number column name words
 
--- what a macro prints where all its words are delimiters: it stands after the opening ones. It is made knowing whether no word comes after it.
+-- what a macro prints where all its words are delimiters: it is after the opening ones. It is made knowing whether no word comes after it.
 abbrev pub lone : ℕ → (Bool → Event (List ℕ)) → List (Argument (List ℕ)) → List (Event (List ℕ))
 lone number event [] = event true ∷ []
 lone number event (word ∷ words) =
@@ -102,7 +102,7 @@ reference number (word ∷ words) =
 
 -- ---- `Fn`
 
--- a comma stands before each argument but the first
+-- there is a comma before each argument but the first
 abbrev pub more_arguments : ℕ → ℕ → List (Argument (List ℕ)) → List (Event (List ℕ))
 more_arguments number column [] = []
 more_arguments number column (word ∷ words) =
@@ -163,7 +163,7 @@ system_text systems.Unix = owns.Unix
 abbrev pub system_word : ℕ → ℕ → System → Event (List ℕ)
 system_word number column system = generated_word number column (system_text system) None Apart Apart
 
--- a version stands before its name
+-- a version is before its name
 abbrev pub bsd : ℕ → ℕ → List (Argument (List ℕ)) → List (Event (List ℕ))
 bsd number column [] = generated_word number column owns.Bsd None Apart Apart ∷ []
 bsd number column (word ∷ words) =
@@ -194,7 +194,7 @@ link_words number column (word ∷ words) =
 abbrev pub link : ℕ → ℕ → List (Argument (List ℕ)) → List (Event (List ℕ))
 link number column words = link_words number column (inside words) ++ printed number None (outside words)
 
--- ---- words that are taken as they stand: `An Pf Eo Ec`
+-- ---- words that are taken as they are: `An Pf Eo Ec`
 
 -- an option that prints nothing may lack its last quote
 abbrev pub missing_quote : ℕ → Argument (List ℕ) → List (Event (List ℕ))
@@ -240,7 +240,7 @@ closed number column pairs.Function taken words =
 
 -- ---- all of them
 
--- a macro of a line: where it stands, its name, the word that it takes as it stands, its other words, and whether calls come after them
+-- a macro of a line: where it is, its name, the word that it takes as it is, its other words, and whether calls come after them
 abbrev pub inline_events : ℕ → ℕ → List ℕ → Inline → Option (Argument (List ℕ)) → List (Argument (List ℕ)) → Bool → List (Event (List ℕ))
 inline_events number column name (inlines.Words font) taken words follows = with_words number column name words (printed number (Some font) words)
 inline_events number column name inlines.Author taken words follows = author number column name taken words

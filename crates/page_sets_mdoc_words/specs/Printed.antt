@@ -21,7 +21,7 @@ use Rattle.page_sets_mdoc_lines.specs.LineWords.{word_delimiter}
 abbrev pub real_word : ℕ → Option Font → Argument (List ℕ) → Event (List ℕ)
 real_word number font word = word_event number roles.Argument font Apart Apart word
 
--- delimiters are roman; no blank stands after an opening one, and none before a closing one
+-- delimiters are roman; there is no blank after an opening one, and none before a closing one
 abbrev pub delimiter_word : ℕ → Delimiter → Argument (List ℕ) → Event (List ℕ)
 delimiter_word number Opening word = word_event number roles.Delimiter (Some R) Apart Glued word
 delimiter_word number Middle word = word_event number roles.Delimiter (Some R) Apart Apart word

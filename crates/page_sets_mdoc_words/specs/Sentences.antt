@@ -79,7 +79,7 @@ names_events number column sentence all (name ∷ names) =
     ∷ marked number column (name_mark sentence (has_comma all (name_count names)))
     (joined number column (name_count names) (names_events number column sentence all names))
 
--- where no name is given, the name of the manual stands
+-- where no name is given, it is the name of the manual
 abbrev pub given_names : ℕ → ℕ → Sentence → List (Argument (List ℕ)) → List (Event (List ℕ))
 given_names number column sentence [] =
     step_event number column steps.ManualName
@@ -92,7 +92,7 @@ sentence_events number column sentence names = sentence_word number column owns.
 
 -- ---- `In`
 
--- a file in angles; other words stand as they are, and delimiters in their place
+-- a file in angles; other words are as they are, and delimiters in their place
 abbrev pub file_events : ℕ → ℕ → List (Argument (List ℕ)) → List (Event (List ℕ))
 file_events number column [] = []
 file_events number column (file ∷ words) =

@@ -23,7 +23,7 @@ begins_row _ = false
 abbrev pub step_if : Bool → SynopsisStep → Option SynopsisStep
 step_if test step = if test then Some step else None
 
--- a declaration (`Cd`, `Fd`) stands on rows of its own, wherever it is; the name of the manual begins a row where it begins a line; a macro that is refused begins none
+-- a declaration (`Cd`, `Fd`) is on rows of its own, wherever it is; the name of the manual begins a row where it begins a line; a macro that is refused begins none
 abbrev pub before_words : Bool → Inline → Bool → Option SynopsisStep
 before_words first inlines.Declaration real = step_if real Break
 before_words first inlines.Name real = step_if first NameBegins
@@ -50,7 +50,7 @@ followed number column (Some step) events = events ++ (synopsis_event number col
 abbrev pub framed : ℕ → ℕ → (before after : Option SynopsisStep) → List (Event (List ℕ)) → List (Event (List ℕ))
 framed number column before after events = preceded number column before (followed number column after events)
 
--- all events of a macro, where it begins its line or not: where it stands, its name, the word that it takes as it stands, its other words, and whether calls come after them
+-- all events of a macro, where it begins its line or not: where it is, its name, the word that it takes as it is, its other words, and whether calls come after them
 abbrev pub placed_events : Bool → ℕ → ℕ → List ℕ → Inline → Option (Argument (List ℕ)) → List (Argument (List ℕ)) → Bool → List (Event (List ℕ))
 placed_events first number column name inline taken words follows =
     framed number column (before_words first inline (list_any is_real words)) (after_words first inline (list_any is_real words))

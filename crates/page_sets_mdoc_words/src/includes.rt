@@ -12,7 +12,7 @@ use page_core_base::LINE;
 use page_sets_lines::{EventTaker, GeneratedText, Join, LineStep, SynopsisStep, generated_word};
 use page_sets_mdoc_lines::{Words, is_real};
 
-/// Gives the words of `In`: the first that is no delimiter is a file, which stands in angles.
+/// Gives the words of `In`: the first that is no delimiter is a file, which is in angles.
 pub fn give_include<'a, O: EventTaker<'a>>(
     out: &mut O,
     number: u32,

@@ -1,4 +1,4 @@
-//! The macros that can stand among words, by their rows (mdoc(7), "MACRO REFERENCE").
+//! The macros that can be among words, by their rows (mdoc(7), "MACRO REFERENCE").
 
 ghost use Rattle.std.specs.Prelude.{◌≡◌, ◌≤◌, [], ◌∷◌, None, Some, length};
 ghost use Rattle.page_core_base.specs.Latches.{Came};

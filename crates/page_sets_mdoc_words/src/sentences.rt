@@ -50,7 +50,7 @@ fn is_plural(count: NameCount) -> bool
     matches!(count, NameCount::Two | NameCount::More)
 }
 
-// Whether a comma stands after a name of this many, of which some are left.
+// Whether there is a comma after a name of this many, of which some are left.
 fn has_comma(all: NameCount, left: NameCount) -> bool
     ensures { result ≡ sentences.has_comma all left }
 {

@@ -41,7 +41,7 @@ pub(crate) fn system_word<'a>(number: u32, column: u32, system: System) -> Event
     )
 }
 
-/// `Bx`: a version, after opening delimiters, and then the name; without a version the name stands alone.
+/// `Bx`: a version, after opening delimiters, and then the name; without a version the name is alone.
 pub(crate) fn give_bsd<'a, O: EventTaker<'a>>(
     out: &mut O,
     number: u32,

@@ -1,4 +1,4 @@
-//! Words that `An` and `Pf` take as they stand (mdoc(7), "An" and "Pf").
+//! Words that `An` and `Pf` take as they are (mdoc(7), "An" and "Pf").
 
 ghost use Rattle.std.specs.Prelude.{◌≡◌, ◌≤◌, length, true, false};
 ghost use Rattle.std.specs.List.{list_any};

@@ -81,7 +81,7 @@ abbrev pub generated_joins_next : GeneratedText → Bool
 generated_joins_next JoinedFlag = true
 generated_joins_next _ = false
 
--- where no blanks are to stand between words (`Sm off`) the two words of `Ar` are one
+-- where there are to be no blanks between words (`Sm off`) the two words of `Ar` are one
 abbrev pub generated_spaced : (spacing : Bool) → GeneratedText → GeneratedText
 generated_spaced false Files = JoinedFiles
 generated_spaced spacing text = text

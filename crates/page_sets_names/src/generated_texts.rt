@@ -48,7 +48,7 @@ pub enum GeneratedText {
     JoinedFlag,
     /// `file ...`
     Files,
-    /// `file...`, where no blanks stand between words.
+    /// `file...`, where there are no blanks between words.
     JoinedFiles,
     /// `~`
     Home,
@@ -121,7 +121,7 @@ impl GeneratedText {
         matches!(self, GeneratedText::JoinedFlag)
     }
 
-    /// The text that stands in its place where blanks stand between words, or where none do.
+    /// The text that is in its place where there are blanks between words, or where there are none.
     pub fn spaced(self, has_spacing: bool) -> GeneratedText
         ensures { result ≡ texts.generated_spaced has_spacing self }
     {

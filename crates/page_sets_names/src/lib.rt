@@ -1,7 +1,7 @@
 //! The names of macros, the marks around enclosed words, and the texts that macros print themselves (man(7), mdoc(7)).
 //!
-//! It stands below the sets of macros and the scopes: the events of a line carry these names and texts (`page_sets_lines`), the scopes put them
-//! into messages and rows. Read `specs/MacroNames.antt` first (names), then `Marks.antt` (which texts stand around words) and
+//! It is below the sets of macros and the scopes: the events of a line carry these names and texts (`page_sets_lines`), the scopes put them
+//! into messages and rows. Read `specs/MacroNames.antt` first (names), then `Marks.antt` (which texts are around words) and
 //! `GeneratedTexts.antt` (the texts).
 //!
 //! Proved: The names of macros, of marks and of the texts that macros print themselves are those of one table each (`specs/MacroNames.antt`,

@@ -34,7 +34,7 @@ pub enum BodyParagraphName {
     Lp,
 }
 
-/// A row that stands alone (mdoc(7)).
+/// A row that is alone (mdoc(7)).
 #[derive(Clone, Copy, PartialEq, Eq)]
 pub enum OneLineName {
     D1,

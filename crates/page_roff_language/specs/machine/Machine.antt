@@ -86,7 +86,7 @@ at_page line a =
 unfoldable pub depth : List Frame → ℕ
 depth under = CALLS - length under
 
--- where the innermost source stands between two lines
+-- where the innermost source is between two lines
 unfoldable pub stands_at : {S : Type 0} → Running S → At S
 stands_at r = record { place = record { region = r.top.region; levels = r.top.cursor.levels }; state = r.state }
 

@@ -20,7 +20,7 @@ unspent_at None (part ∷ more) begun gave_up most = unspent_if begun gave_up mo
 unfoldable pub unspent : {R : Type 0} → ℕ → Running (Budgeted R) → ℕ
 unspent most r = unspent_at r.top.region r.top.parts r.top.cursor.begun r.state.gave_up most
 
--- each source around the innermost one stands past a part, which called the next
+-- each source around the innermost one is past a part, which called the next
 unfoldable pub AreMet : List Frame → Type 0
 AreMet [] = Unit {0}
 AreMet (f ∷ fs) = (f.cursor.begun ≡ true) × AreMet fs

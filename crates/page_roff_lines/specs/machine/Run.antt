@@ -29,13 +29,13 @@ is_settled Present = true
 abbrev pub stays : ℕ → Bool
 stays b = is_printable b && (not (b == quote) && not (b == hash))
 
--- a backslash and a byte that stays with it stand at the front of some bytes
+-- some bytes begin with a backslash and a byte that stays with it
 pub record BeginsPair (bytes : List ℕ) : Type 0 where
   pub long : 2 ≤ length bytes
   pub escapes : slice_index bytes 0 ≡ backslash
   pub stays : stays (slice_index bytes 1) ≡ true
 
--- text and pairs are read here as they stand
+-- text and pairs are read here as they are
 pub record ReadsText (o : Open) : Type 0 where
   pub settled : is_settled o.mark ≡ true
   pub plain : o.mode ≡ Plain

@@ -57,7 +57,7 @@ parts_print line more p events h own =
     (both line.text more 1 (own_arguments p.taken p.words) others events _ (own (AreArguments-split line.text (own_arguments p.taken p.words) others all).0)
     (calls_print line p.calls p.tail (AreArguments-split line.text (own_arguments p.taken p.words) others all).1))
 
--- a macro that can stand among words, and begins the line
+-- a macro that can be among words, and begins the line
 pub head_prints : (line : Line) (inline : Inline) (arguments : List (Argument (List ℕ))) → AreArguments line.text arguments
     → Prints line.text 5 arguments (head_events line inline (parts (Some inline) (is_parsed (name_of line)) arguments))
 head_prints line inline arguments h =

@@ -9,7 +9,7 @@ use Rattle.page_sets_mdoc_lines.proofs.rows.row_of.Goals as goal
 same_rows : joined (map (λ rows. map (λ row. (row.0.now, row.1)) rows.now) MACROS) ≡ table
 same_rows = refl
 
--- the lists are tested whole: each name stands in the list of its letter
+-- the lists are tested whole: each name is in the list of its letter
 pub returns : goal.returns
 unfolding row_of
 returns c =
