@@ -10,7 +10,6 @@ ghost use Rattle.page_core_base.specs.Pieces.{Item, shown, all_noted, piece_of};
 ghost use Rattle.page_core_base.specs.Words.{TakesWords};
 
 use crate::{Fault, Font, NoteSink, Place};
-use std::alloc::AllocError;
 
 /// What follows a tag that is too long for its hang.
 #[derive(Clone, Copy)]
@@ -24,6 +23,7 @@ pub enum TagForm {
 }
 
 /// What is filled; `W` is a text. Columns are counted from the left edge of the page for margins, and from the margin else.
+#[derive(Clone, Copy)]
 pub enum Piece<W> {
     /// Characters of the open word, in a font. A blank among them is a cell where no row is broken.
     Text { text: W, font: Font, place: Place },
@@ -59,18 +59,6 @@ pub enum Piece<W> {
     Heading,
     /// The next text is at this column from the margin, or one blank after what passes that.
     Column(u32),
-}
-
-impl<W: Copy> Copy for Piece<W> {}
-
-impl<W: Copy> Clone for Piece<W> {
-    ghost is_clone = { λ x y. y ≡ x };
-
-    ghost is_infallible = { λ _. Unit {0} };
-
-    fn clone(&self) -> Result<Piece<W>, AllocError> {
-        Ok(*self)
-    }
 }
 
 /// Takes pieces, and the messages between them. Rows are made of pieces, so it fails as a sink of rows and one of messages do.

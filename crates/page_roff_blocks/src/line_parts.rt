@@ -4,9 +4,9 @@ ghost use Rattle.std.specs.Prelude.{◌≡◌};
 
 use page_roff_heads::{Condition, LoopHead};
 use page_roff_syntax::RegionHead;
-use std::alloc::AllocError;
 
 /// What the head of a conditional asks; `W` is a text.
+#[derive(Clone, Copy)]
 pub enum Branch<W> {
     /// `if`.
     If(Condition<W>),
@@ -17,6 +17,7 @@ pub enum Branch<W> {
 }
 
 /// The head of a conditional; `W` is a text.
+#[derive(Clone, Copy)]
 pub struct Head<W> {
     /// The column of its name.
     pub column: u32,
@@ -24,6 +25,7 @@ pub struct Head<W> {
 }
 
 /// A head that opens a block; `W` is a text.
+#[derive(Clone, Copy)]
 pub enum Opening<W> {
     /// That of a conditional.
     Conditional(Head<W>),
@@ -33,6 +35,7 @@ pub enum Opening<W> {
 
 /// A part of a raw line; `W` is a text. What follows a part on its line is a remainder, a line of its own:
 /// columns are those of the remainder in which they are.
+#[derive(Clone, Copy)]
 pub enum LinePart<W> {
     /// A line that heads no conditional, no loop and no region, or what is in such a line before the end of a
     /// block.
@@ -47,52 +50,4 @@ pub enum LinePart<W> {
     End,
     /// The head of a region. Nothing follows it on its line.
     Region(RegionHead<W>),
-}
-
-impl<W: Copy> Copy for Branch<W> {}
-
-impl<W: Copy> Clone for Branch<W> {
-    ghost is_clone = { λ x y. y ≡ x };
-
-    ghost is_infallible = { λ _. Unit {0} };
-
-    fn clone(&self) -> Result<Branch<W>, AllocError> {
-        Ok(*self)
-    }
-}
-
-impl<W: Copy> Copy for Head<W> {}
-
-impl<W: Copy> Clone for Head<W> {
-    ghost is_clone = { λ x y. y ≡ x };
-
-    ghost is_infallible = { λ _. Unit {0} };
-
-    fn clone(&self) -> Result<Head<W>, AllocError> {
-        Ok(*self)
-    }
-}
-
-impl<W: Copy> Copy for Opening<W> {}
-
-impl<W: Copy> Clone for Opening<W> {
-    ghost is_clone = { λ x y. y ≡ x };
-
-    ghost is_infallible = { λ _. Unit {0} };
-
-    fn clone(&self) -> Result<Opening<W>, AllocError> {
-        Ok(*self)
-    }
-}
-
-impl<W: Copy> Copy for LinePart<W> {}
-
-impl<W: Copy> Clone for LinePart<W> {
-    ghost is_clone = { λ x y. y ≡ x };
-
-    ghost is_infallible = { λ _. Unit {0} };
-
-    fn clone(&self) -> Result<LinePart<W>, AllocError> {
-        Ok(*self)
-    }
 }

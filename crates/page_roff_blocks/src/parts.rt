@@ -22,7 +22,6 @@ use page_roff_heads::{
 use page_roff_syntax::{
     LineForm, RegionKind, Request, control_name, form_of, region_head, white_len,
 };
-use std::alloc::AllocError;
 
 // What a control line heads.
 #[derive(Clone, Copy)]
@@ -43,24 +42,13 @@ pub(crate) struct Columns {
 }
 
 // The first part of a line; `W` is a text.
+#[derive(Clone, Copy)]
 pub(crate) struct Part<W> {
     pub(crate) line_part: LinePart<W>,
     // Whether the end of a block follows it.
     pub(crate) is_end: bool,
     // What is left of the line after both, if that is a line.
     pub(crate) rest: Option<W>,
-}
-
-impl<W: Copy> Copy for Part<W> {}
-
-impl<W: Copy> Clone for Part<W> {
-    ghost is_clone = { λ x y. y ≡ x };
-
-    ghost is_infallible = { λ _. Unit {0} };
-
-    fn clone(&self) -> Result<Part<W>, AllocError> {
-        Ok(*self)
-    }
 }
 
 // What a control line of a name heads.

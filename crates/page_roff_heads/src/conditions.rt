@@ -14,9 +14,9 @@ use crate::expressions::expression_len;
 use crate::texts::{Placed, blank_len};
 use page_core_base::LINE;
 use page_roff_syntax::{is_white, uncommented_len};
-use std::alloc::AllocError;
 
 /// What a condition asks; `W` is a text.
+#[derive(Clone, Copy)]
 pub enum Test<W> {
     /// A letter that is always true, `n` or `o`, or always false, `t`, `e` or `v`.
     Always(bool),
@@ -35,36 +35,13 @@ pub enum Test<W> {
 }
 
 /// A condition.
+#[derive(Clone, Copy)]
 pub struct Condition<W> {
     /// The column of its first byte.
     pub column: u32,
     /// Whether `!` turns its test.
     pub is_turned: bool,
     pub test: Test<W>,
-}
-
-impl<W: Copy> Copy for Test<W> {}
-
-impl<W: Copy> Clone for Test<W> {
-    ghost is_clone = { λ x y. y ≡ x };
-
-    ghost is_infallible = { λ _. Unit {0} };
-
-    fn clone(&self) -> Result<Test<W>, AllocError> {
-        Ok(*self)
-    }
-}
-
-impl<W: Copy> Copy for Condition<W> {}
-
-impl<W: Copy> Clone for Condition<W> {
-    ghost is_clone = { λ x y. y ≡ x };
-
-    ghost is_infallible = { λ _. Unit {0} };
-
-    fn clone(&self) -> Result<Condition<W>, AllocError> {
-        Ok(*self)
-    }
 }
 
 /// What a test is, by its first byte.
@@ -80,21 +57,10 @@ pub(crate) enum Kind {
 }
 
 /// A test, and the number of its bytes.
+#[derive(Clone, Copy)]
 pub(crate) struct TestRead<W> {
     pub(crate) test: Test<W>,
     pub(crate) len: usize,
-}
-
-impl<W: Copy> Copy for TestRead<W> {}
-
-impl<W: Copy> Clone for TestRead<W> {
-    ghost is_clone = { λ x y. y ≡ x };
-
-    ghost is_infallible = { λ _. Unit {0} };
-
-    fn clone(&self) -> Result<TestRead<W>, AllocError> {
-        Ok(*self)
-    }
 }
 
 #[tactic(auto, unfolding(crate::specs::Conditions::kind_of))]

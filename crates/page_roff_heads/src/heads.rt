@@ -7,9 +7,9 @@ use crate::conditions::{Condition, read_before_comment};
 use crate::texts::{Placed, begins_pair, blank_len, remainder};
 use page_core_base::LINE;
 use page_roff_syntax::{begins_comment, lacks_pair, plain_len};
-use std::alloc::AllocError;
 
 /// What the head of a conditional guards; `W` is a text.
+#[derive(Clone, Copy)]
 pub struct Guarded<W> {
     /// Whether `\{` opens a block.
     pub opens_block: bool,
@@ -18,53 +18,19 @@ pub struct Guarded<W> {
 }
 
 /// The head of a conditional with a condition.
+#[derive(Clone, Copy)]
 pub struct Conditional<W> {
     pub condition: Condition<W>,
     pub guarded: Guarded<W>,
 }
 
 /// A line that ends a block; `W` is a text.
+#[derive(Clone, Copy)]
 pub struct BlockEnd<W> {
     /// What is before `\}`, which is a line unless it is empty.
     pub before: W,
     /// What follows it, if that is a line of its own.
     pub remainder: Option<Placed<W>>,
-}
-
-impl<W: Copy> Copy for Guarded<W> {}
-
-impl<W: Copy> Clone for Guarded<W> {
-    ghost is_clone = { λ x y. y ≡ x };
-
-    ghost is_infallible = { λ _. Unit {0} };
-
-    fn clone(&self) -> Result<Guarded<W>, AllocError> {
-        Ok(*self)
-    }
-}
-
-impl<W: Copy> Copy for Conditional<W> {}
-
-impl<W: Copy> Clone for Conditional<W> {
-    ghost is_clone = { λ x y. y ≡ x };
-
-    ghost is_infallible = { λ _. Unit {0} };
-
-    fn clone(&self) -> Result<Conditional<W>, AllocError> {
-        Ok(*self)
-    }
-}
-
-impl<W: Copy> Copy for BlockEnd<W> {}
-
-impl<W: Copy> Clone for BlockEnd<W> {
-    ghost is_clone = { λ x y. y ≡ x };
-
-    ghost is_infallible = { λ _. Unit {0} };
-
-    fn clone(&self) -> Result<BlockEnd<W>, AllocError> {
-        Ok(*self)
-    }
 }
 
 /// Reads what is after a condition, or after the name of `el`: an optional `\{` and a remainder. The first byte

@@ -7,9 +7,9 @@ use crate::conditions::read_before_comment;
 use crate::heads::{Guarded, read_guarded};
 use crate::texts::{begins_pair, blank_len};
 use page_core_base::LINE;
-use std::alloc::AllocError;
 
 /// The head of a loop; `W` is a text.
+#[derive(Clone, Copy)]
 pub struct LoopHead<W> {
     /// The condition as it is written, from its first `!` on.
     pub condition: W,
@@ -19,36 +19,13 @@ pub struct LoopHead<W> {
 }
 
 /// What is after the name of a loop; `W` is a text.
+#[derive(Clone, Copy)]
 pub struct LoopRead<W> {
     /// The condition as it is written, from its first `!` on.
     pub condition: W,
     pub guarded: Guarded<W>,
     /// All that follows `\{`, without the blanks before it. Nothing where no block is opened.
     pub first: W,
-}
-
-impl<W: Copy> Copy for LoopHead<W> {}
-
-impl<W: Copy> Clone for LoopHead<W> {
-    ghost is_clone = { λ x y. y ≡ x };
-
-    ghost is_infallible = { λ _. Unit {0} };
-
-    fn clone(&self) -> Result<LoopHead<W>, AllocError> {
-        Ok(*self)
-    }
-}
-
-impl<W: Copy> Copy for LoopRead<W> {}
-
-impl<W: Copy> Clone for LoopRead<W> {
-    ghost is_clone = { λ x y. y ≡ x };
-
-    ghost is_infallible = { λ _. Unit {0} };
-
-    fn clone(&self) -> Result<LoopRead<W>, AllocError> {
-        Ok(*self)
-    }
 }
 
 // What follows the `\{` that opens a block, without the blanks before it.

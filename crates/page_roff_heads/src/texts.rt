@@ -4,25 +4,13 @@ ghost use Rattle.std.specs.Prelude.{◌≡◌, ◌≤◌, ◌+◌, length, drop,
 ghost use Rattle.page_roff_heads.specs.Texts.{placed_view, FitsPlaced, blank_len, begins_pair, is_some_line, remainder_at, remainder_of, remainder_view};
 
 use page_core_base::LINE;
-use std::alloc::AllocError;
 
 /// A text that is at a column of its line; `W` is a text.
+#[derive(Clone, Copy)]
 pub struct Placed<W> {
     pub text: W,
     /// The column of the text's first byte.
     pub column: u32,
-}
-
-impl<W: Copy> Copy for Placed<W> {}
-
-impl<W: Copy> Clone for Placed<W> {
-    ghost is_clone = { λ x y. y ≡ x };
-
-    ghost is_infallible = { λ _. Unit {0} };
-
-    fn clone(&self) -> Result<Placed<W>, AllocError> {
-        Ok(*self)
-    }
 }
 
 /// The number of blanks at a text's front.

@@ -3,9 +3,9 @@
 ghost use Rattle.std.specs.Prelude.{◌≡◌};
 
 use page_roff_blocks::LinePart;
-use std::alloc::AllocError;
 
 /// What comes next in the sources that run; `W` is a text, and `R` an open region.
+#[derive(Clone, Copy)]
 pub enum Next<W, R> {
     /// A part of the innermost source's present line.
     Part(LinePart<W>),
@@ -35,16 +35,4 @@ pub enum Next<W, R> {
     },
     /// The page's line is done.
     Nothing,
-}
-
-impl<W: Copy, R: Copy> Copy for Next<W, R> {}
-
-impl<W: Copy, R: Copy> Clone for Next<W, R> {
-    ghost is_clone = { λ x y. y ≡ x };
-
-    ghost is_infallible = { λ _. Unit {0} };
-
-    fn clone(&self) -> Result<Next<W, R>, AllocError> {
-        Ok(*self)
-    }
 }

@@ -7,9 +7,9 @@ ghost use Rattle.page_roff_syntax.specs.LineForms.{form_view, name_of, name_view
 
 use crate::comments::uncommented_len;
 use page_core_base::LINE;
-use std::alloc::AllocError;
 
 /// The form of a raw line; `W` is a text.
+#[derive(Clone, Copy)]
 pub enum LineForm<W> {
     /// A comment alone.
     Comment,
@@ -24,18 +24,6 @@ pub enum LineForm<W> {
         rest: W,
         rest_column: u32,
     },
-}
-
-impl<W: Copy> Copy for LineForm<W> {}
-
-impl<W: Copy> Clone for LineForm<W> {
-    ghost is_clone = { λ x y. y ≡ x };
-
-    ghost is_infallible = { λ _. Unit {0} };
-
-    fn clone(&self) -> Result<LineForm<W>, AllocError> {
-        Ok(*self)
-    }
 }
 
 /// Whether a byte is a blank or a tab.

@@ -4,7 +4,6 @@ ghost use Rattle.std.specs.Prelude.{◌≡◌, ◌≢◌, ◌≤◌, ◌<◌, �
 ghost use Rattle.page_roff_syntax.specs.Arguments.{argument_view, is_quoted, bare_len, quoted_len, quoted_argument, begins_quoted, first_argument, argument_len};
 
 use memchr::memchr2;
-use std::alloc::AllocError;
 
 /// How an argument is quoted.
 #[derive(Clone, Copy)]
@@ -18,24 +17,13 @@ pub enum Quoting {
 }
 
 /// An argument; `W` is a text.
+#[derive(Clone, Copy)]
 pub struct Argument<W> {
     /// The argument without the quotes around it.
     pub text: W,
     /// The column of the text's first byte.
     pub column: u32,
     pub quoting: Quoting,
-}
-
-impl<W: Copy> Copy for Argument<W> {}
-
-impl<W: Copy> Clone for Argument<W> {
-    ghost is_clone = { λ x y. y ≡ x };
-
-    ghost is_infallible = { λ _. Unit {0} };
-
-    fn clone(&self) -> Result<Argument<W>, AllocError> {
-        Ok(*self)
-    }
 }
 
 impl<W> Argument<W> {

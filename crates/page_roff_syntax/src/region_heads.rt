@@ -8,10 +8,10 @@ ghost use Rattle.page_roff_syntax.specs.RegionHeads.{ending_of, end_name, has_lo
 use crate::{Argument, Arguments, LineForm, RegionKind, form_of};
 use arrayvec::ArrayVec;
 use page_core_base::{LINE, NAME};
-use std::alloc::AllocError;
 
 /// The head of a region; `W` is a text. Its names are arguments as they are written, and nothing in them is
 /// expanded.
+#[derive(Clone, Copy)]
 pub struct RegionHead<W> {
     pub kind: RegionKind,
     /// The column of its own name.
@@ -20,18 +20,6 @@ pub struct RegionHead<W> {
     pub name: Option<Argument<W>>,
     /// The name of the control line that ends it, where it names one.
     pub ending: Option<Argument<W>>,
-}
-
-impl<W: Copy> Copy for RegionHead<W> {}
-
-impl<W: Copy> Clone for RegionHead<W> {
-    ghost is_clone = { λ x y. y ≡ x };
-
-    ghost is_infallible = { λ _. Unit {0} };
-
-    fn clone(&self) -> Result<RegionHead<W>, AllocError> {
-        Ok(*self)
-    }
 }
 
 // The next argument, if there is one more that has bytes: an empty name is none.

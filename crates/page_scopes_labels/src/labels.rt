@@ -4,7 +4,6 @@ ghost use Rattle.std.specs.Prelude.{◌≡◌};
 ghost use Rattle.page_scopes_labels.specs.Labels as labels;
 
 use page_sets_lines::{Block, LineOpener, Link, ListKind};
-use std::alloc::AllocError;
 
 /// A scope with a closer of its own.
 #[derive(Clone, Copy, PartialEq, Eq)]
@@ -37,6 +36,7 @@ pub enum Label {
 }
 
 /// How a scope ends; `W` is a text.
+#[derive(Clone, Copy)]
 pub enum ScopeEnd<W> {
     /// Where a macro opens the next scope of its kind, or one around it ends.
     Implied,
@@ -47,6 +47,7 @@ pub enum ScopeEnd<W> {
 }
 
 /// What is known of a scope by its label alone; `W` is a text.
+#[derive(Clone, Copy)]
 pub struct LabelRow<W> {
     /// The name of the macro that opens the scope, of a paragraph the first of them.
     pub name: W,
@@ -57,30 +58,6 @@ pub struct LabelRow<W> {
     pub owns_prevailing: bool,
     /// The scope leaves the fonts as they were before it.
     pub guards_fonts: bool,
-}
-
-impl<W: Copy> Copy for ScopeEnd<W> {}
-
-impl<W: Copy> Clone for ScopeEnd<W> {
-    ghost is_clone = { λ x y. y ≡ x };
-
-    ghost is_infallible = { λ _. Unit {0} };
-
-    fn clone(&self) -> Result<ScopeEnd<W>, AllocError> {
-        Ok(*self)
-    }
-}
-
-impl<W: Copy> Copy for LabelRow<W> {}
-
-impl<W: Copy> Clone for LabelRow<W> {
-    ghost is_clone = { λ x y. y ≡ x };
-
-    ghost is_infallible = { λ _. Unit {0} };
-
-    fn clone(&self) -> Result<LabelRow<W>, AllocError> {
-        Ok(*self)
-    }
 }
 
 // The row of a scope that keeps nothing apart.

@@ -12,9 +12,9 @@ use page_scopes_layout::{Context, PagePart};
 use page_scopes_text::{Pen, TextStyle, give_text};
 use page_scopes_words::{Fonts, Setting};
 use page_sets_lines::Join;
-use std::alloc::AllocError;
 
 /// A text that an event prints; `W` is a text.
+#[derive(Clone, Copy)]
 pub struct Phrase<W> {
     pub text: W,
     /// The column of its first byte.
@@ -31,18 +31,6 @@ pub struct Phrase<W> {
     pub before: Join,
     /// How it is beside the word after it.
     pub after: Join,
-}
-
-impl<W: Copy> Copy for Phrase<W> {}
-
-impl<W: Copy> Clone for Phrase<W> {
-    ghost is_clone = { λ x y. y ≡ x };
-
-    ghost is_infallible = { λ _. Unit {0} };
-
-    fn clone(&self) -> Result<Phrase<W>, AllocError> {
-        Ok(*self)
-    }
 }
 
 /// The fonts at a phrase's front.

@@ -5,26 +5,14 @@ ghost use Rattle.page_scopes_tree.specs.Acts.{act_view, act_place};
 
 use page_core_base::Place;
 use page_sets_lines::Event;
-use std::alloc::AllocError;
 
 /// What happens to the open scopes of a page; `E` is an event.
+#[derive(Clone, Copy)]
 pub enum Act<E> {
     /// An event of a line.
     Event(E),
     /// The end of the page, on the line of this number.
     PageEnd(u32),
-}
-
-impl<E: Copy> Copy for Act<E> {}
-
-impl<E: Copy> Clone for Act<E> {
-    ghost is_clone = { λ x y. y ≡ x };
-
-    ghost is_infallible = { λ _. Unit {0} };
-
-    fn clone(&self) -> Result<Act<E>, AllocError> {
-        Ok(*self)
-    }
 }
 
 impl Act<&Event<&[u8]>> {

@@ -3,24 +3,11 @@
 ghost use Rattle.std.specs.Prelude.{◌≡◌};
 ghost use Rattle.page_scopes_words.specs.Settings as settings;
 
-use std::alloc::AllocError;
-
 /// A value, and whether it was set inside the innermost scope.
+#[derive(Clone, Copy)]
 pub struct Setting<T> {
     pub value: T,
     pub is_set: bool,
-}
-
-impl<T: Copy> Copy for Setting<T> {}
-
-impl<T: Copy> Clone for Setting<T> {
-    ghost is_clone = { λ x y. y ≡ x };
-
-    ghost is_infallible = { λ _. Unit {0} };
-
-    fn clone(&self) -> Result<Setting<T>, AllocError> {
-        Ok(*self)
-    }
 }
 
 impl<T: Copy> Setting<T> {

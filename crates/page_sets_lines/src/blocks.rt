@@ -8,7 +8,6 @@ use crate::lists::ListKind;
 use page_core_base::Font;
 use page_roff_syntax::Argument;
 use page_sets_names::Quotation;
-use std::alloc::AllocError;
 
 /// A block, without its texts.
 #[derive(Clone, Copy, PartialEq, Eq)]
@@ -35,6 +34,7 @@ pub enum Block {
 }
 
 /// What opens a block; `W` is a text.
+#[derive(Clone, Copy)]
 pub enum BlockOpener<W> {
     /// `Bl`: its type, whether there is no blank row before an item, and all its arguments as they are.
     List {
@@ -65,6 +65,7 @@ pub enum BlockOpener<W> {
 }
 
 /// What closes a block; `W` is a text.
+#[derive(Clone, Copy)]
 pub enum BlockCloser<W> {
     /// `El`.
     List,
@@ -157,29 +158,5 @@ impl BlockCloser<&[u8]> {
             BlockCloser::Reference => Block::Reference,
             BlockCloser::Function => Block::Function,
         }
-    }
-}
-
-impl<W: Copy> Copy for BlockOpener<W> {}
-
-impl<W: Copy> Clone for BlockOpener<W> {
-    ghost is_clone = { λ x y. y ≡ x };
-
-    ghost is_infallible = { λ _. Unit {0} };
-
-    fn clone(&self) -> Result<BlockOpener<W>, AllocError> {
-        Ok(*self)
-    }
-}
-
-impl<W: Copy> Copy for BlockCloser<W> {}
-
-impl<W: Copy> Clone for BlockCloser<W> {
-    ghost is_clone = { λ x y. y ≡ x };
-
-    ghost is_infallible = { λ _. Unit {0} };
-
-    fn clone(&self) -> Result<BlockCloser<W>, AllocError> {
-        Ok(*self)
     }
 }

@@ -10,7 +10,6 @@ use crate::openers::{Closer, LineOpener, Opener};
 use page_core_base::{Font, NoteKind, Place};
 use page_roff_syntax::Argument;
 use page_sets_names::GeneratedText;
-use std::alloc::AllocError;
 
 /// How a word is beside another.
 #[derive(Clone, Copy, PartialEq, Eq)]
@@ -35,6 +34,7 @@ pub enum Role {
 }
 
 /// A word, in a font of its own if it has one; `W` is a text.
+#[derive(Clone, Copy)]
 pub struct Word<W> {
     /// Its text and column.
     pub arg: Argument<W>,
@@ -47,6 +47,7 @@ pub struct Word<W> {
 }
 
 /// What an event does; `W` is a text.
+#[derive(Clone, Copy)]
 pub enum EventKind<W> {
     Word(Word<W>),
     Open(Opener<W>),
@@ -70,45 +71,10 @@ pub enum EventKind<W> {
 }
 
 /// An event of a line, with the place that its messages name.
+#[derive(Clone, Copy)]
 pub struct Event<W> {
     pub place: Place,
     pub kind: EventKind<W>,
-}
-
-impl<W: Copy> Copy for Word<W> {}
-
-impl<W: Copy> Clone for Word<W> {
-    ghost is_clone = { λ x y. y ≡ x };
-
-    ghost is_infallible = { λ _. Unit {0} };
-
-    fn clone(&self) -> Result<Word<W>, AllocError> {
-        Ok(*self)
-    }
-}
-
-impl<W: Copy> Copy for EventKind<W> {}
-
-impl<W: Copy> Clone for EventKind<W> {
-    ghost is_clone = { λ x y. y ≡ x };
-
-    ghost is_infallible = { λ _. Unit {0} };
-
-    fn clone(&self) -> Result<EventKind<W>, AllocError> {
-        Ok(*self)
-    }
-}
-
-impl<W: Copy> Copy for Event<W> {}
-
-impl<W: Copy> Clone for Event<W> {
-    ghost is_clone = { λ x y. y ≡ x };
-
-    ghost is_infallible = { λ _. Unit {0} };
-
-    fn clone(&self) -> Result<Event<W>, AllocError> {
-        Ok(*self)
-    }
 }
 
 /// An event in a column of a line.

@@ -8,9 +8,9 @@ use crate::line_steps::LineStep;
 use page_core_base::Font;
 use page_roff_syntax::Argument;
 use page_sets_names::{GeneratedText, Prologue};
-use std::alloc::AllocError;
 
 /// A request that changes rows; `W` is a text, a number in it still an expression.
+#[derive(Clone, Copy)]
 pub enum Request<W> {
     /// `br`.
     Break,
@@ -34,6 +34,7 @@ pub struct GeneratedWord {
 }
 
 /// What is no scope; `W` is a text.
+#[derive(Clone, Copy)]
 pub enum Leaf<W> {
     /// A blank line.
     BlankLine,
@@ -54,28 +55,4 @@ pub enum Leaf<W> {
     FurtherTag,
     /// What a macro of mdoc(7) changes in its line, or prints there.
     Step(LineStep<W>),
-}
-
-impl<W: Copy> Copy for Request<W> {}
-
-impl<W: Copy> Clone for Request<W> {
-    ghost is_clone = { λ x y. y ≡ x };
-
-    ghost is_infallible = { λ _. Unit {0} };
-
-    fn clone(&self) -> Result<Request<W>, AllocError> {
-        Ok(*self)
-    }
-}
-
-impl<W: Copy> Copy for Leaf<W> {}
-
-impl<W: Copy> Clone for Leaf<W> {
-    ghost is_clone = { λ x y. y ≡ x };
-
-    ghost is_infallible = { λ _. Unit {0} };
-
-    fn clone(&self) -> Result<Leaf<W>, AllocError> {
-        Ok(*self)
-    }
 }

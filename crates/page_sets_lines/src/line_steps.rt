@@ -4,7 +4,6 @@ ghost use Rattle.std.specs.Prelude.{◌≡◌};
 
 use page_roff_syntax::Argument;
 use page_sets_names::BodyParagraphName;
-use std::alloc::AllocError;
 
 /// What a macro does in the section SYNOPSIS alone.
 #[derive(Clone, Copy, PartialEq, Eq)]
@@ -20,6 +19,7 @@ pub enum SynopsisStep {
 }
 
 /// What a macro changes in its line, or prints there; `W` is a text.
+#[derive(Clone, Copy)]
 pub enum LineStep<W> {
     /// `Ta`: the next column of a list.
     NextColumn,
@@ -41,16 +41,4 @@ pub enum LineStep<W> {
     Spacing(Option<bool>),
     /// What is done in the section SYNOPSIS alone.
     Synopsis(SynopsisStep),
-}
-
-impl<W: Copy> Copy for LineStep<W> {}
-
-impl<W: Copy> Clone for LineStep<W> {
-    ghost is_clone = { λ x y. y ≡ x };
-
-    ghost is_infallible = { λ _. Unit {0} };
-
-    fn clone(&self) -> Result<LineStep<W>, AllocError> {
-        Ok(*self)
-    }
 }

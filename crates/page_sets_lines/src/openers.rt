@@ -6,9 +6,9 @@ ghost use Rattle.page_sets_lines.specs.Openers as names;
 use crate::blocks::{BlockCloser, BlockOpener};
 use page_roff_syntax::Argument;
 use page_sets_names::{FontMacro, HeadingName, Link, Marks, OneLineName, ParagraphName, TagName};
-use std::alloc::AllocError;
 
 /// What opens a scope that goes on after its line; `W` is a text, a number in it still an expression.
+#[derive(Clone, Copy)]
 pub enum Opener<W> {
     /// `It`; its head is the line scope that follows.
     Item,
@@ -38,6 +38,7 @@ pub enum Opener<W> {
 }
 
 /// What closes a scope; `W` is a text.
+#[derive(Clone, Copy)]
 pub enum Closer<W> {
     /// What breaks the line scopes that are open: most macros of man(7).
     Line,
@@ -86,29 +87,5 @@ impl LineOpener {
             LineOpener::Description => "Nd",
             LineOpener::OneLine(one_line) => one_line.name(),
         }
-    }
-}
-
-impl<W: Copy> Copy for Opener<W> {}
-
-impl<W: Copy> Clone for Opener<W> {
-    ghost is_clone = { λ x y. y ≡ x };
-
-    ghost is_infallible = { λ _. Unit {0} };
-
-    fn clone(&self) -> Result<Opener<W>, AllocError> {
-        Ok(*self)
-    }
-}
-
-impl<W: Copy> Copy for Closer<W> {}
-
-impl<W: Copy> Clone for Closer<W> {
-    ghost is_clone = { λ x y. y ≡ x };
-
-    ghost is_infallible = { λ _. Unit {0} };
-
-    fn clone(&self) -> Result<Closer<W>, AllocError> {
-        Ok(*self)
     }
 }
