@@ -1,10 +1,21 @@
-//! Worked examples of whole pages, as theorems: the checker computes the definitions on them, from bytes to bytes.
+//! Worked pages, as theorems: the checker computes the definitions on them, from bytes to bytes.
 //!
-//! Read `specs/Plain.antt`, the words in which examples are written, and then any example.
+//! Read `specs/Pages.antt`, the words in which they are written, and then any chapter. Each clause has the sentence of the manual that its page
+//! shows. `tools/worked` writes the chapters from the cases of `page_cases`, and `docs/check` compares them;
+//! `layers.rt` is written by hand: single layers, from the bytes of lines to rows.
 //!
-//! Proved: `worked_law`: what the pages of the examples print, and the messages about them (`specs/Plain.antt`).
+//! Proved: `Shows`: what each page prints, and the messages about it (`specs/Pages.antt`).
 #![tactic(auto)]
 
-mod laws;
-
-pub use laws::worked_law;
+pub mod command_lines;
+pub mod layers;
+pub mod limits;
+pub mod lines;
+pub mod man;
+pub mod mdoc_lists;
+pub mod mdoc_titles;
+pub mod mdoc_words;
+pub mod messages;
+pub mod names;
+pub mod requests;
+pub mod texts;
