@@ -448,6 +448,11 @@ pub fn tp_pages()
         codes "           dd" ∷
         []))
         [] }
+    // LP and P are paragraphs as PP (man(7), LP and P)
+    ensures lp_and_p_are_paragraphs_as_pp { Shows plain
+        (man_page (codes "a" ∷ codes ".LP" ∷ codes "b" ∷ codes ".P" ∷ codes "c" ∷ []))
+        (man_rows (codes "       a" ∷ [] ∷ codes "       b" ∷ [] ∷ codes "       c" ∷ []))
+        [] }
 {}
 
 /// man(7), IP.
@@ -530,6 +535,11 @@ pub fn b_pages()
         (codes "mandoc: x.1:3:5: WARNING: unknown character, using <?>: foo\"bar" ∷
         codes "mandoc: x.1:4:3: WARNING: unknown character, using <?>: foo\"\"bar" ∷
         []) }
+    // words in italic (man(7), I)
+    ensures words_in_italic { Shows plain
+        (man_page (codes ".I a b" ∷ []))
+        (man_rows ((codes "       " ++ (italic (codes "a") ++ (codes " " ++ italic (codes "b")))) ∷ []))
+        [] }
 {}
 
 /// man(7), BR.
@@ -567,6 +577,12 @@ pub fn br_pages()
         [] ∷
         codes "       aaaaaaaaaaaaaaaaaaaaaaaaaaaaaaaaaaaaaaaaaaaaaaaaaaaaaaaaaaaaaaaaaa" ∷
         (codes "       " ++ (bold (codes "bb-") ++ italic (codes "ccc"))) ∷
+        []))
+        [] }
+    // arguments in italic and roman, italic and bold, roman and italic in turn (man(7), IR, IB and RI)
+    ensures arguments_in_italic_and_roman_italic_and_bold { Shows plain
+        (man_page (codes ".IR a b" ∷ codes ".IB a b" ∷ codes ".RI a b" ∷ []))
+        (man_rows ((codes "       " ++ (italic (codes "a") ++ (codes "b " ++ (italic (codes "a") ++ (bold (codes "b") ++ (codes " a" ++ italic (codes "b"))))))) ∷
         []))
         [] }
 {}
@@ -707,5 +723,10 @@ pub fn mr_pages()
     ensures a_reference_to_a_page { Shows plain
         (man_page (codes ".MR ls 1 ." ∷ []))
         (man_rows ((codes "       " ++ (italic (codes "ls") ++ codes "(1).")) ∷ []))
+        [] }
+    // macros that do nothing (man(7), AT, DT and UC)
+    ensures macros_that_do_nothing { Shows plain
+        (man_page (codes "a" ∷ codes ".AT" ∷ codes ".DT" ∷ codes ".UC" ∷ codes "b" ∷ []))
+        (man_rows (codes "       a b" ∷ []))
         [] }
 {}

@@ -1,7 +1,7 @@
 //! The title, sections and paragraphs of mdoc(7): worked pages. Written by tools/worked, from the cases of `page_cases`.
 
 ghost use Rattle.std.specs.Prelude.{[], ◌∷◌, ◌++◌, codes};
-ghost use Rattle.page_worked.specs.Pages.{Shows, plain, bold, italic};
+ghost use Rattle.page_worked.specs.Pages.{Shows, plain, bold, italic, mdoc_page, mdoc_rows};
 
 /// mdoc(7), Dd.
 pub fn dd_pages()
@@ -227,5 +227,10 @@ pub fn sh_pages()
         [] ∷
         codes "S                                 2020-01-01                              T(1)" ∷
         [])
+        [] }
+    // paragraphs (mdoc(7), Pp and Lp)
+    ensures paragraphs { Shows plain
+        (mdoc_page (codes "a" ∷ codes ".Pp" ∷ codes "b" ∷ codes ".Lp" ∷ codes "c" ∷ []))
+        (mdoc_rows (codes "     a" ∷ [] ∷ codes "     b" ∷ [] ∷ codes "     c" ∷ []))
         [] }
 {}

@@ -1,7 +1,7 @@
 //! Words and enclosures of mdoc(7): worked pages. Written by tools/worked, from the cases of `page_cases`.
 
 ghost use Rattle.std.specs.Prelude.{[], ◌∷◌, ◌++◌, codes};
-ghost use Rattle.page_worked.specs.Pages.{Shows, plain, bold, italic};
+ghost use Rattle.page_worked.specs.Pages.{Shows, plain, bold, italic, mdoc_page, mdoc_rows};
 
 /// mdoc(7), Cd.
 pub fn cd_pages()
@@ -30,6 +30,32 @@ pub fn cd_pages()
         [] ∷
         codes "S                                 2020-01-01                              T(1)" ∷
         [])
+        [] }
+    // words in bold (mdoc(7), Cm, Ic, Ms and Sy)
+    ensures words_in_bold { Shows plain
+        (mdoc_page (codes ".Cm a" ∷ codes ".Ic b" ∷ codes ".Ms c" ∷ codes ".Sy d" ∷ []))
+        (mdoc_rows ((codes "     " ++ (bold (codes "a") ++ (codes " " ++ (bold (codes "b") ++ (codes " " ++ (bold (codes "c") ++ (codes " " ++ bold (codes "d")))))))) ∷
+        []))
+        [] }
+    // words in italic (mdoc(7), Ad, Mt, Sx, Va and Vt)
+    ensures words_in_italic { Shows plain
+        (mdoc_page (codes ".Ad a" ∷ codes ".Mt b" ∷ codes ".Sx c" ∷ codes ".Va d" ∷ codes ".Vt e" ∷ []))
+        (mdoc_rows ((codes "     " ++ (italic (codes "a") ++ (codes " " ++ (italic (codes "b") ++ (codes " " ++ (italic (codes "c") ++ (codes " " ++ (italic (codes "d") ++ (codes " " ++ italic (codes "e")))))))))) ∷
+        []))
+        [] }
+    // words in roman (mdoc(7), An, At, Dv, Er, Ev, Lb, Li, St and Tn)
+    ensures words_in_roman { Shows plain
+        (mdoc_page (codes ".An a" ∷
+        codes ".At v7" ∷
+        codes ".Dv b" ∷
+        codes ".Er c" ∷
+        codes ".Ev d" ∷
+        codes ".Lb libc" ∷
+        codes ".Li e" ∷
+        codes ".St -p1003.1" ∷
+        codes ".Tn f" ∷
+        []))
+        (mdoc_rows (codes "     a v7 b c d libc e -p1003.1 f" ∷ []))
         [] }
 {}
 
@@ -62,6 +88,11 @@ pub fn fl_pages()
         codes "mandoc: x.1:10:5: WARNING: skipping empty macro: No" ∷
         codes "mandoc: x.1:13:5: ERROR: missing manual name, using \"\"" ∷
         []) }
+    // an apostrophe, and a word in front of others without a blank (mdoc(7), Ap and Pf)
+    ensures an_apostrophe_and_a_word_in_front_of_others { Shows plain
+        (mdoc_page (codes ".Fl a Ap s" ∷ codes ".Pf ( Ar b" ∷ []))
+        (mdoc_rows ((codes "     " ++ (bold (codes "-a") ++ (codes "'s (" ++ italic (codes "b")))) ∷ []))
+        [] }
 {}
 
 /// mdoc(7), Ar.
@@ -164,6 +195,21 @@ pub fn ns_pages()
         codes "S                                 2020-01-01                              T(1)" ∷
         [])
         [] }
+    // a link with its words, and without any (mdoc(7), Lk)
+    ensures a_link_with_its_words_and_without_any { Shows plain
+        (mdoc_page (codes ".Lk http://a b" ∷ codes ".Lk http://c" ∷ []))
+        (mdoc_rows ((codes "     " ++ (italic (codes "b") ++ codes ": http://a http://c")) ∷ []))
+        [] }
+    // rows of their own, six columns further in (mdoc(7), D1 and Dl)
+    ensures rows_of_their_own_six_columns_further_in { Shows plain
+        (mdoc_page (codes "a" ∷ codes ".D1 b" ∷ codes ".Dl c" ∷ codes "d" ∷ []))
+        (mdoc_rows (codes "     a" ∷ codes "           b" ∷ codes "           c" ∷ codes "     d" ∷ []))
+        [] }
+    // what the manual is about (mdoc(7), Nd)
+    ensures what_the_manual_is_about { Shows plain
+        (mdoc_page (codes ".Nm t" ∷ codes ".Nd x" ∷ []))
+        (mdoc_rows ((codes "     " ++ (bold (codes "t") ++ codes " - x")) ∷ []))
+        [] }
 {}
 
 /// mdoc(7), Bf.
@@ -191,6 +237,11 @@ pub fn bf_pages()
         (codes "mandoc: x.1:5:2: WARNING: unknown font, skipping request: E\"m" ∷
         codes "mandoc: x.1:8:2: WARNING: unknown font, skipping request: E\"\"m" ∷
         []) }
+    // words that are kept together, and a place for links, change no row (mdoc(7), Bk, Ek and Tg)
+    ensures words_that_are_kept_together_and_a_place_for_links { Shows plain
+        (mdoc_page (codes "a" ∷ codes ".Bk" ∷ codes "b" ∷ codes ".Ek" ∷ codes ".Tg x" ∷ codes "c" ∷ []))
+        (mdoc_rows (codes "     a b c" ∷ []))
+        [] }
 {}
 
 /// mdoc(7), Op.
@@ -244,6 +295,44 @@ pub fn op_pages()
         [] ∷
         codes "S                                 2020-01-01                              T(1)" ∷
         [])
+        [] }
+    // enclosures of a line (mdoc(7), Aq, Bq, Brq, Dq, Pq, Ql, Qq and Sq)
+    ensures enclosures_of_a_line { Shows plain
+        (mdoc_page (codes ".Aq a" ∷
+        codes ".Bq b" ∷
+        codes ".Brq c" ∷
+        codes ".Dq d" ∷
+        codes ".Pq e" ∷
+        codes ".Ql f" ∷
+        codes ".Qq g" ∷
+        codes ".Sq h" ∷
+        []))
+        (mdoc_rows (codes "     <a> [b] {c} \"d\" (e) `f' \"g\" `h'" ∷ []))
+        [] }
+    // enclosures over lines (mdoc(7), Ao, Bo, Bro, Do, Oo, Po, Qo and So)
+    ensures enclosures_over_lines { Shows plain
+        (mdoc_page (codes ".Ao a Ac" ∷
+        codes ".Bo" ∷
+        codes "b" ∷
+        codes ".Bc" ∷
+        codes ".Bro c Brc" ∷
+        codes ".Do d Dc" ∷
+        codes ".Oo e Oc" ∷
+        codes ".Po f Pc" ∷
+        codes ".Qo g Qc" ∷
+        codes ".So h Sc" ∷
+        []))
+        (mdoc_rows (codes "     <a> [b] {c} \"d\" [e] (f) \"g\" `h'" ∷ []))
+        [] }
+    // marks of one's own (mdoc(7), Eo and Ec)
+    ensures marks_of_one_s_own { Shows plain
+        (mdoc_page (codes ".Eo ((" ∷ codes "a" ∷ codes ".Ec ))" ∷ []))
+        (mdoc_rows (codes "     ((a))" ∷ []))
+        [] }
+    // closing delimiters at a line's end come after the mark (mdoc(7), Pq)
+    ensures closing_delimiters_at_a_line_s_end_come_after_the { Shows plain
+        (mdoc_page (codes ".Pq a ," ∷ codes "b" ∷ []))
+        (mdoc_rows (codes "     (a), b" ∷ []))
         [] }
 {}
 
@@ -326,6 +415,41 @@ pub fn in_pages()
         [] ∷
         codes "S                                 2020-01-01                              T(1)" ∷
         [])
+        [] }
+    // a reference to an article (mdoc(7), Rs, %A, %D, %J and %T)
+    ensures a_reference_to_an_article { Shows plain
+        (mdoc_page (codes ".Rs" ∷
+        codes ".%A A. Author" ∷
+        codes ".%T A Title" ∷
+        codes ".%J Journal" ∷
+        codes ".%D 2001" ∷
+        codes ".Re" ∷
+        []))
+        (mdoc_rows ((codes "     A. Author, " ++ (italic (codes "A") ++ (codes " " ++ (italic (codes "Title") ++ (codes ", " ++ (italic (codes "Journal") ++ codes ", 2001.")))))) ∷
+        []))
+        [] }
+    // the other fields of a reference (mdoc(7), %B, %C, %I, %N, %O, %P, %Q, %R, %U and %V)
+    ensures the_other_fields_of_a_reference { Shows plain
+        (mdoc_page (codes ".Rs" ∷
+        codes ".%B book" ∷
+        codes ".%C city" ∷
+        codes ".%I issuer" ∷
+        codes ".%N no" ∷
+        codes ".%O other" ∷
+        codes ".%P page" ∷
+        codes ".%Q quoted" ∷
+        codes ".%R report" ∷
+        codes ".%U url" ∷
+        codes ".%V volume" ∷
+        codes ".Re" ∷
+        []))
+        (mdoc_rows ((codes "     " ++ (italic (codes "book") ++ codes ", city, issuer, no, other, page, quoted, report, url, volume.")) ∷
+        []))
+        [] }
+    // commas and brackets of opening delimiters in roman (mdoc(7), Delimiters)
+    ensures commas_and_brackets_of_opening_delimiters_in_roman { Shows plain
+        (mdoc_page (codes ".Ar ( a ) , b" ∷ []))
+        (mdoc_rows ((codes "     (" ++ (italic (codes "a") ++ (codes "), " ++ italic (codes "b")))) ∷ []))
         [] }
 {}
 

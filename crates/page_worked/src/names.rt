@@ -184,4 +184,26 @@ pub fn strings_pages_3()
         (man_page (codes ".ie t a" ∷ codes ".el b" ∷ []))
         (man_rows (codes "       b" ∷ []))
         [] }
+    // a string is appended to, renamed and removed (roff(7), as, rn and rm)
+    ensures a_string_is_appended_to_renamed_and_removed { Shows plain
+        (man_page (codes ".ds a x" ∷ codes ".as a y" ∷ codes ".rn a b" ∷ codes "\\*b" ∷ codes ".rm b" ∷ codes "\\*b" ∷ []))
+        (man_rows (codes "       xy" ∷ []))
+        (codes "mandoc: x.1:8:1: WARNING: undefined string, using \"\": b" ∷ []) }
+    // a register that is removed is 0 (roff(7), rr)
+    ensures a_register_that_is_removed_is_0 { Shows plain
+        (man_page (codes ".nr a 5" ∷ codes "\\na" ∷ codes ".rr a" ∷ codes "\\na" ∷ []))
+        (man_rows (codes "       5 0" ∷ []))
+        [] }
+    // the width of a text, in units of 24 a column (roff(7), \w)
+    ensures the_width_of_a_text_in_units_of_24_a_column { Shows plain
+        (man_page (codes "\\w'abc'" ∷ []))
+        (man_rows (codes "       72" ∷ []))
+        [] }
+    // an equation and a picture are shown as they are written (roff(7), EQ and PS)
+    ensures an_equation_and_a_picture_are_shown_as_they_are { Shows plain
+        (man_page (codes ".EQ" ∷ codes "x" ∷ codes ".EN" ∷ codes ".PS" ∷ codes "y" ∷ codes ".PE" ∷ []))
+        (man_rows (codes "       x" ∷ codes "       y" ∷ []))
+        (codes "mandoc: x.1:3:2: UNSUPP: unsupported table, equation or picture" ∷
+        codes "mandoc: x.1:6:2: UNSUPP: unsupported table, equation or picture" ∷
+        []) }
 {}

@@ -433,4 +433,57 @@ pub fn escapes_pages_3()
         codes "       b cdddddddddddd" ∷
         []))
         [] }
+    // a glyph by its name in quotes (roff(7), \C)
+    ensures a_glyph_by_its_name_in_quotes { Shows plain
+        (man_page (codes "\\C'em'a" ∷ []))
+        (man_rows (codes "       --a" ∷ []))
+        [] }
+    // escapes of one letter that print nothing (roff(7), Escape sequences)
+    ensures escapes_of_one_letter_that_print_nothing { Shows plain
+        (man_page (codes "a\\)b\\^c\\%d\\/e\\,f\\:g" ∷ codes "a\\ab\\uc\\dd\\re\\zf" ∷ []))
+        (man_rows (codes "       abcdefg abcdef" ∷ []))
+        [] }
+    // escapes with a name that print nothing (roff(7), \F, \k, \M and \m)
+    ensures escapes_with_a_name_that_print_nothing { Shows plain
+        (man_page (codes "a\\m[red]b\\M(xxc\\kxd\\F[y]e" ∷ []))
+        (man_rows (codes "       abcde" ∷ []))
+        [] }
+    // escapes with a quoted argument that are not supported (roff(7), Escape sequences)
+    ensures escapes_with_a_quoted_argument_that_are_not { Shows plain
+        (man_page (codes "a\\b'x'" ∷
+        codes "b\\o'xy'" ∷
+        codes "c\\l'1i'" ∷
+        codes "d\\L'1i'" ∷
+        codes "e\\N'65'" ∷
+        codes "f\\A'x'" ∷
+        codes "g\\H'1'" ∷
+        codes "h\\S'1'" ∷
+        codes "i\\R'a 1'" ∷
+        codes "j\\Z'x'" ∷
+        codes "k\\X'x'" ∷
+        codes "l\\B'x'" ∷
+        []))
+        (man_rows (codes "       a b c d e f g h i j k l" ∷ []))
+        (codes "mandoc: x.1:3:1: UNSUPP: unsupported escape sequence: \\b" ∷
+        codes "mandoc: x.1:4:1: UNSUPP: unsupported escape sequence: \\o" ∷
+        codes "mandoc: x.1:5:1: UNSUPP: unsupported escape sequence: \\l" ∷
+        codes "mandoc: x.1:6:1: UNSUPP: unsupported escape sequence: \\L" ∷
+        codes "mandoc: x.1:7:1: UNSUPP: unsupported escape sequence: \\N" ∷
+        codes "mandoc: x.1:8:1: UNSUPP: unsupported escape sequence: \\A" ∷
+        codes "mandoc: x.1:9:1: UNSUPP: unsupported escape sequence: \\H" ∷
+        codes "mandoc: x.1:10:1: UNSUPP: unsupported escape sequence: \\S" ∷
+        codes "mandoc: x.1:11:1: UNSUPP: unsupported escape sequence: \\R" ∷
+        codes "mandoc: x.1:12:1: UNSUPP: unsupported escape sequence: \\Z" ∷
+        codes "mandoc: x.1:13:1: UNSUPP: unsupported escape sequence: \\X" ∷
+        codes "mandoc: x.1:14:1: UNSUPP: unsupported escape sequence: \\B" ∷
+        []) }
+    // escapes with a name, and one alone, that are not supported (roff(7), Escape sequences)
+    ensures escapes_with_a_name_and_one_alone_that_are_not { Shows plain
+        (man_page (codes "a\\gx" ∷ codes "b\\V(xx" ∷ codes "c\\Y[x]" ∷ codes "d\\p" ∷ []))
+        (man_rows (codes "       a b c d" ∷ []))
+        (codes "mandoc: x.1:3:1: UNSUPP: unsupported escape sequence: \\g" ∷
+        codes "mandoc: x.1:4:1: UNSUPP: unsupported escape sequence: \\V" ∷
+        codes "mandoc: x.1:5:1: UNSUPP: unsupported escape sequence: \\Y" ∷
+        codes "mandoc: x.1:6:1: UNSUPP: unsupported escape sequence: \\p" ∷
+        []) }
 {}

@@ -8,4 +8,5 @@ unfolding u0 u1 u2 u3 u4 u5 u6 u7 u8 u9 u10 u11 u12 u13 u14 u15 u16 u17 u18 u19 
 returns c = record {
   the_next_line_in_bold = record { rows = refl; messages = refl };
   a_pair_of_quotes_in_the_name_of_a_glyph_that_there = record { rows = refl; messages = refl };
+  words_in_italic = record { rows = refl; messages = refl };
 }

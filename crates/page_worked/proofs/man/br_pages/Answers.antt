@@ -9,4 +9,5 @@ returns c = record {
   words_in_bold_and_in_roman_in_turn = record { rows = refl; messages = refl };
   fonts_in_turn = record { rows = refl; messages = refl };
   arguments_in_two_fonts_a_hyphen_in_one_and_one_at = record { rows = refl; messages = refl };
+  arguments_in_italic_and_roman_italic_and_bold = record { rows = refl; messages = refl };
 }

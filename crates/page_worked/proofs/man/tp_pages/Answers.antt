@@ -12,4 +12,5 @@ returns c = record {
   a_tag_that_a_font_macro_fills_and_a_further_one = record { rows = refl; messages = refl };
   rows_that_are_kept_in_a_tag_s_text = record { rows = refl; messages = refl };
   no_row_of_a_tag_ends_after_a_hyphen = record { rows = refl; messages = refl };
+  lp_and_p_are_paragraphs_as_pp = record { rows = refl; messages = refl };
 }

@@ -8,4 +8,7 @@ unfolding u0 u1 u2 u3 u4 u5 u6 u7 u8 u9 u10 u11 u12 u13 u14 u15 u16 u17 u18 u19 
 returns c = record {
   declarations_in_the_synopsis = record { rows = refl; messages = refl };
   the_same_macros_elsewhere = record { rows = refl; messages = refl };
+  a_reference_to_an_article = record { rows = refl; messages = refl };
+  the_other_fields_of_a_reference = record { rows = refl; messages = refl };
+  commas_and_brackets_of_opening_delimiters_in_roman = record { rows = refl; messages = refl };
 }

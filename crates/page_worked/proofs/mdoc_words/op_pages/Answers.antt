@@ -9,4 +9,8 @@ returns c = record {
   a_mark_after_a_word_that_ends_in_c_is_what_the = record { rows = refl; messages = refl };
   a_flag_with_its_argument_in_brackets_and_two_flags = record { rows = refl; messages = refl };
   a_reference_in_parentheses_and_a_delimiter_after = record { rows = refl; messages = refl };
+  enclosures_of_a_line = record { rows = refl; messages = refl };
+  enclosures_over_lines = record { rows = refl; messages = refl };
+  marks_of_one_s_own = record { rows = refl; messages = refl };
+  closing_delimiters_at_a_line_s_end_come_after_the = record { rows = refl; messages = refl };
 }

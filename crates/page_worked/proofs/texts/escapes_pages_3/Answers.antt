@@ -13,4 +13,9 @@ returns c = record {
   characters = record { rows = refl; messages = refl };
   a_backslash_as_a_delimiter_begins_an_escape = record { rows = refl; messages = refl };
   a_word_that_goes_on_in_the_next_line_with_a_blank = record { rows = refl; messages = refl };
+  a_glyph_by_its_name_in_quotes = record { rows = refl; messages = refl };
+  escapes_of_one_letter_that_print_nothing = record { rows = refl; messages = refl };
+  escapes_with_a_name_that_print_nothing = record { rows = refl; messages = refl };
+  escapes_with_a_quoted_argument_that_are_not = record { rows = refl; messages = refl };
+  escapes_with_a_name_and_one_alone_that_are_not = record { rows = refl; messages = refl };
 }
