@@ -1,2 +1,3 @@
 pub mod MarginLemmas
 pub mod HeadingLemmas
+pub mod ListFits

@@ -1,2 +1,3 @@
-pub mod KeptLemmas
+pub mod KeptFits
 pub mod CellLemmas
+pub mod KeptLemmas
