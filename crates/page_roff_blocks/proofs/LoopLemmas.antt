@@ -15,7 +15,7 @@ use Rattle.page_roff_blocks.specs.declared.line_parts.Head.{Head}
 use Rattle.page_roff_blocks.specs.declared.parts.Keyword.{Keyword}
 use Rattle.page_roff_blocks.specs.declared.parts.Keyword.TheVariants as keywords
 use Rattle.page_roff_blocks.specs.declared.parts.Part.{Part}
-use Rattle.page_roff_blocks.specs.Loops.{blocks_left, blocks_after, before_end, left_by, left_in, left_of, len_before, len_of}
+use Rattle.page_roff_blocks.specs.Loops.{blocks_left, blocks_after, before_end, left_by, left_in, left_of, left_rest, len_before, len_of}
 use Rattle.page_roff_blocks.specs.machine.LinePlaces.{IsEndOf, place_after}
 use Rattle.page_roff_blocks.specs.Parts.{head_line_part, loop_part_if, end_part, plain_part, raw_rest, keyword_of, keyword_part, form_part, written_part}
 use Rattle.page_roff_blocks.proofs.LinePartLemmas.{IsShorter, room, room_left, written_shorter}
@@ -88,11 +88,6 @@ enough (suc n) (suc k) blocks (Some line) p q =
     by_same (blocks_after part.line_part part.is_end blocks) (λ b. left_in n b part.rest) (λ b. left_in k b part.rest) (drop (before_end part.line_part) line)
     (λ b. enough n k b part.rest (omega (arith, h, p)) (omega (arith, h, q)))
 
--- what is left of the rest of a line
-abbrev pub left_rest : ℕ → Option (List ℕ) → Option (List ℕ)
-left_rest blocks None = None
-left_rest blocks (Some line) = left_of blocks line
-
 all_left : (n blocks : ℕ) (rest : Option (List ℕ)) → room rest ≤ n → left_in n blocks rest ≡ left_rest blocks rest
 unfolding room left_of
 all_left zero blocks None p = refl
@@ -100,7 +95,7 @@ all_left (suc n) blocks None p = refl
 all_left n blocks (Some line) p = enough n (suc (length line)) blocks (Some line) p (omega arith)
 
 -- a part, and then the rest
-left_cons : (blocks : ℕ) (line : List ℕ) → let part = written_part line in
+pub left_cons : (blocks : ℕ) (line : List ℕ) → let part = written_part line in
     left_of blocks line ≡ left_by (blocks_after part.line_part part.is_end blocks) (λ b. left_rest b part.rest) (drop (before_end part.line_part) line)
 unfolding left_of
 left_cons blocks line =

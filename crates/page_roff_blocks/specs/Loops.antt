@@ -45,6 +45,11 @@ left_in (suc n) blocks (Some line) =
 unfoldable pub left_of : ℕ → List ℕ → Option (List ℕ)
 left_of blocks line = left_in (suc (length line)) blocks (Some line)
 
+-- what is left of the rest of a line
+abbrev pub left_rest : ℕ → Option (List ℕ) → Option (List ℕ)
+left_rest blocks None = None
+left_rest blocks (Some line) = left_of blocks line
+
 -- the bytes before it
 abbrev pub len_before : List ℕ → Option (List ℕ) → Option ℕ
 len_before line None = None

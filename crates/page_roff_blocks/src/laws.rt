@@ -1,8 +1,10 @@
 //! Laws of sources.
 
-ghost use Rattle.std.specs.Prelude.{◌≡◌, ◌≤◌, ℕ, ◌+◌, ◌*◌, List, ◌++◌, length};
+ghost use Rattle.std.specs.Prelude.{◌≡◌, ◌≤◌, ℕ, ◌+◌, ◌*◌, List, ◌++◌, length, drop};
 ghost use Rattle.page_roff_blocks.specs.LineParts.{with_part, part_of, line_parts, line_parts_left};
 ghost use Rattle.page_roff_blocks.specs.Levels.{BlockCursor};
+ghost use Rattle.page_roff_blocks.specs.Loops.{before_end, blocks_after, left_by, left_of, left_rest};
+ghost use Rattle.page_roff_blocks.specs.Parts.{written_part};
 ghost use Rattle.page_roff_blocks.specs.declared.line_parts.LinePart.{LinePart};
 ghost use Rattle.page_roff_blocks.specs.Run.{Meaning, run_lines, At, headed, each_line};
 ghost use Rattle.page_roff_blocks.specs.machine.Steps.{step_parts, step_lines};
@@ -10,6 +12,14 @@ ghost use Rattle.page_roff_blocks.specs.machine.Steps.{step_parts, step_lines};
 /// The parts of a line are its first one, and those of what is left of the line.
 pub fn line_parts_law()
     ensures { (line : List ℕ) → line_parts line ≡ with_part (part_of line) (line_parts_left (part_of line).rest) }
+{}
+
+/// What is left of a line from the end of its loop on is what its first part and then the rest of the line leave: the number of remainders up to
+/// which the definition reads is no limit.
+pub fn loop_law()
+    ensures { (blocks : ℕ) (line : List ℕ) → let part = written_part line in
+        left_of blocks line ≡ left_by (blocks_after part.line_part part.is_end blocks) (λ (open : ℕ). left_rest open part.rest)
+        (drop (before_end part.line_part) line) }
 {}
 
 /// What the forest of a source does is what its parts do one after another, from every place on.

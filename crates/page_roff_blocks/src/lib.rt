@@ -6,7 +6,7 @@
 //!
 //! Proved: `LinePlace` (`next_line_part`, `pass_line_part`, `opens_block`), `is_leaf`, `loop_text`, `Levels`, `OpenRegion`, `BlockCursor`,
 //! `Standing`: the parts of a raw line, what of it belongs to a loop, and the open and skipped blocks, the open loop and the open region of a
-//! source. `fold_law`, `cut_law`, `lines_law`, `line_parts_law`, `room_law`: the forest of a source's raw lines (`specs/Forest.antt`) is what
+//! source. `fold_law`, `cut_law`, `lines_law`, `line_parts_law`, `loop_law`, `room_law`: the forest of a source's raw lines (`specs/Forest.antt`) is what
 //! reading it part by part gives, from every open start, and it may be cut anywhere.
 #![tactic(auto)]
 
@@ -20,7 +20,7 @@ mod parts;
 mod standings;
 
 pub use block_cursors::{BlockCursor, Pass, Reached};
-pub use laws::{cut_law, fold_law, line_parts_law, lines_law, room_law};
+pub use laws::{cut_law, fold_law, line_parts_law, lines_law, loop_law, room_law};
 pub use levels::{Answer, Ended, Levels, Way};
 pub use line_parts::{Branch, Head, LinePart, Opening};
 pub use line_places::LinePlace;

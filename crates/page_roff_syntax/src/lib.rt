@@ -7,7 +7,7 @@
 //! and `RegionHeads.antt` for regions.
 //!
 //! Proved: `form_of`, `control_name`, `Arguments::next_argument`, `read_argument`: the form of a raw line, the name of a control line, and its
-//! arguments one after another, are those of `specs/LineForms.antt` and `Arguments.antt`. `Argument::value_len`, `value_front`: what an argument says, as
+//! arguments one after another, are those of `specs/LineForms.antt` and `Arguments.antt`; `arguments_law`: of which there are as many as the text has. `Argument::value_len`, `value_front`: what an argument says, as
 //! far as a field has room for it. `Request::of`, `RegionKind::name`, `fixed_ending`: which names
 //! are requests, and what each is, by one table (`specs/Requests.antt`, `Regions.antt`), with which the rows of the program are compared.
 //! `region_head`, `is_ending`: what the head of a region names and which raw line ends it (`specs/RegionHeads.antt`). `OpenRegion`: what of the head
@@ -17,6 +17,7 @@
 mod arguments;
 mod comments;
 mod ends;
+mod laws;
 mod line_forms;
 mod names;
 mod open_regions;
@@ -30,6 +31,7 @@ mod values;
 pub use arguments::{Arguments, has_arguments, read_argument};
 pub use comments::{begins_comment, plain_len, uncommented_len};
 pub use ends::kept_len;
+pub use laws::arguments_law;
 pub use line_forms::{
     LineForm, begins_control, control_name, form_of, has_word, is_white, white_len,
 };
