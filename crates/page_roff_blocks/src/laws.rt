@@ -18,7 +18,7 @@ pub fn line_parts_law()
 /// which the definition reads is no limit.
 pub fn loop_law()
     ensures { (blocks : ℕ) (line : List ℕ) → let part = written_part line in
-        left_of blocks line ≡ left_by (blocks_after part.line_part part.is_end blocks) (λ (open : ℕ). left_rest open part.rest)
+        left_of blocks line ≡ left_by (blocks_after part.line_part part.is_end blocks) (λ (left : ℕ). left_rest left part.rest)
         (drop (before_end part.line_part) line) }
 {}
 
