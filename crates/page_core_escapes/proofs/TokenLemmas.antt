@@ -1,7 +1,10 @@
 -- The tokens of a text, one by one.
-use Rattle.std.proofs.Common.{◌≡◌, ℕ, zero, suc, ◌-◌, ◌<◌, ◌≤◌, ◌==◌, ◌&&◌, Bool, true, false, List, [], ◌∷◌, length, drop, refl, ap, ◌∙◌, arith, inl, inr, length-drop}
+use Rattle.std.proofs.Common.{◌≡◌, ℕ, zero, suc, ◌-◌, ◌<◌, ◌≤◌, ◌==◌, ◌&&◌, Bool, true, false, List, [], ◌∷◌, length, take, drop, if◌then◌else◌, refl, ap, ◌∙◌, arith, inl, inr, length-drop}
+use Rattle.std.specs.List.{prefix_len}
 use Rattle.std.proofs.lemmas.Bool.{cases_Bool}
-use Rattle.page_core_escapes.specs.Tokens.{begins_word, is_space, is_white, token_at, token_len, tokens_within, tokens_of}
+use Rattle.std.proofs.lemmas.List.{length-take}
+use Rattle.page_core_escapes.specs.Escapes.{escape_of}
+use Rattle.page_core_escapes.specs.Tokens.{TextToken, begins_escape, begins_quote, begins_white, begins_word, is_space, is_white, prints_itself, token_at, token_bytes, token_len, tokens_len, tokens_within, tokens_of}
 
 -- more tokens than bytes make no difference
 tokens_enough : (quoted : Bool) (n m : ℕ) (text : List ℕ) → length text ≤ n → length text ≤ m → tokens_within quoted n text ≡ tokens_within quoted m text
@@ -40,6 +43,34 @@ pub tokens_none : (quoted : Bool) (text : List ℕ) → length text ≤ 0 → to
 unfolding tokens_of
 tokens_none quoted [] h = refl
 tokens_none quoted (b ∷ bs) h = absurd (omega arith)
+
+either_within : (test : Bool) (s t : TextToken) (n : ℕ) → length (token_bytes s) ≤ n → length (token_bytes t) ≤ n
+    → length (token_bytes (if test then s else t)) ≤ n
+either_within true s t n h k = h
+either_within false s t n h k = k
+
+front_within : (n : ℕ) (text : List ℕ) → length (take n text) ≤ length text
+front_within n text = omega (arith, length-take n text)
+
+token_within : (quoted : Bool) (text : List ℕ) → token_len quoted text ≤ length text
+unfolding token_at
+token_within quoted text =
+    either_within (begins_white text) _ _ (length text) (front_within (prefix_len is_white text) text)
+    (either_within (begins_escape text) _ _ (length text) (front_within (escape_of quoted text).1 text)
+    (either_within (quoted && begins_quote text) _ _ (length text) (front_within 2 text)
+    (front_within (prefix_len (prints_itself quoted) text) text)))
+
+some_within : (quoted : Bool) (n : ℕ) (text : List ℕ) → tokens_len (tokens_within quoted n text) ≤ length text
+some_within quoted zero text = omega arith
+some_within quoted (suc n) [] = omega arith
+some_within quoted (suc n) (b ∷ bs) =
+    let cut = token_len quoted (b ∷ bs) - 1 in
+    omega (arith, token_within quoted (b ∷ bs), some_within quoted n (drop cut bs), length-drop cut bs)
+
+-- the tokens of a text have no more bytes than it
+pub len_within : (quoted : Bool) (text : List ℕ) → tokens_len (tokens_of quoted text) ≤ length text
+unfolding tokens_of
+len_within quoted text = some_within quoted (length text) text
 
 pub word_some : (text : List ℕ) → begins_word text ≡ true → 0 < length text
 word_some [] h = grind (arith, h)

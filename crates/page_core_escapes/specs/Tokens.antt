@@ -1,6 +1,6 @@
 -- The tokens of a text: white space, runs of characters that print themselves, quotes in a quoted argument, and escapes.
 -- Source: roff(7), "LANGUAGE SYNTAX", "Macro syntax" and "ESCAPE SEQUENCES".
-use Rattle.std.specs.Prelude.{ℕ, zero, suc, ◌-◌, Bool, true, false, not, ◌==◌, ◌||◌, ◌&&◌, List, [], ◌∷◌, length, take, drop, if◌then◌else◌}
+use Rattle.std.specs.Prelude.{ℕ, zero, suc, ◌+◌, ◌-◌, Bool, true, false, not, ◌==◌, ◌||◌, ◌&&◌, List, [], ◌∷◌, length, take, drop, if◌then◌else◌}
 use Rattle.std.specs.List.{prefix_len}
 use Rattle.page_core_escapes.specs.Escapes.{escape_of, meaning_view}
 use Rattle.page_core_escapes.specs.Meanings.{Meaning}
@@ -88,3 +88,8 @@ tokens_within quoted (suc n) (byte ∷ bytes) =
 -- all tokens: a text has no more of them than bytes
 unfoldable pub tokens_of : Bool → List ℕ → List TextToken
 tokens_of quoted text = tokens_within quoted (length text) text
+
+-- how many bytes tokens have
+abbrev pub tokens_len : List TextToken → ℕ
+tokens_len [] = 0
+tokens_len (token ∷ tokens) = length (token_bytes token) + tokens_len tokens

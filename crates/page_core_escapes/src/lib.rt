@@ -4,7 +4,7 @@
 //!
 //! Read first: `escape` below, with the table of letters in `specs/Letters.antt`; then `read_token` in `tokens.rt`.
 //!
-//! Proved: `escape`, `read_token`: what the escape at the front of a text is, and how long it is, by one table of letters (`specs/Letters.antt`,
+//! Proved: `escape`, `read_token`, `Tokens`: what the escape at the front of a text is, and how long it is, by one table of letters (`specs/Letters.antt`,
 //! `Meanings.antt`); the tokens of a text. `read_font`, `short_font`: the font of a name.
 #![tactic(auto)]
 
@@ -22,9 +22,11 @@ mod extents;
 mod letters;
 mod meaning;
 mod quoted;
+mod token_readers;
 mod tokens;
 
 pub use meaning::{Escape, FontName, read_font};
+pub use token_readers::Tokens;
 pub use tokens::{Token, begins_word, plain_len, read_token, short_font};
 
 /// The escape at the front of a text, where a backslash is, and how many bytes it takes: roff(7),

@@ -6,4 +6,3 @@ pub mod RunEndLemmas
 pub mod RunWordLemmas
 pub mod FontWordLemmas
 mod PartLemmas
-pub mod TokenLemmas

@@ -5,7 +5,7 @@ ghost use Rattle.page_core_escapes.specs.Tokens.{token_bytes, token_view};
 ghost use Rattle.page_scopes_text.specs.Names as names;
 
 use page_core_base::{LINE, Output};
-use page_core_escapes::{Token, read_token};
+use page_core_escapes::{Token, Tokens};
 use page_core_numbers::{columns, escape_columns};
 
 // The columns of characters that print themselves.
@@ -42,11 +42,9 @@ pub fn name_columns(output: Output, quoted: bool, name: &[u8]) -> u32
     ensures bound { result ≤ 1000 * length name.now }
 {
     let mut sum = 0;
-    let mut rest = name;
-    while !rest.is_empty() {
-        let token = read_token(quoted, rest);
+    let mut tokens = Tokens::new(quoted, name);
+    while let Some(token) = tokens.read() {
         sum += token_columns(output, &token);
-        rest = &rest[token.len()..];
     }
     sum
 }

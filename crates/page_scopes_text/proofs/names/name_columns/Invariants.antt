@@ -1,12 +1,13 @@
 use Rattle.std.proofs.Common.{◌≡◌, ◌≤◌, ◌+◌, ◌*◌, length}
-use Rattle.page_core_base.specs.declared.limits.TheConstants.{LINE}
+use Rattle.page_core_escapes.specs.Tokens.{tokens_len}
 use Rattle.page_scopes_text.specs.Names as names
 use Rattle.page_scopes_text.proofs.names.name_columns.Given as goal
 
-abbrev pub invariant-loop-rest : goal.invariant-loop-rest
-invariant-loop-rest l =
-    (l.sum + names.name_columns l.output l.quoted l.rest ≡ names.name_columns l.output l.quoted l.name)
-    × (l.sum + 1000 * length l.rest ≤ 1000 * length l.name) × (length l.rest ≤ LINE)
+abbrev pub invariant-loop-token : goal.invariant-loop-token
+invariant-loop-token l = record {
+  value : l.sum + names.tokens_columns l.output l.tokens ≡ names.name_columns l.output l.quoted l.name;
+  bound : l.sum + 1000 * tokens_len l.tokens ≤ 1000 * length l.name;
+}
 
-abbrev pub decreases-loop-rest : goal.decreases-loop-rest
-decreases-loop-rest l = length l.rest
+abbrev pub decreases-loop-token : goal.decreases-loop-token
+decreases-loop-token l = length l.tokens
