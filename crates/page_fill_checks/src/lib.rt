@@ -5,6 +5,8 @@
 #![tactic(auto)]
 
 #[cfg(test)]
+mod blank_rows;
+#[cfg(test)]
 mod sheets;
 #[cfg(test)]
 mod steps;

@@ -20,6 +20,8 @@ pub enum Step {
     Text(&'static str),
     /// A piece comes.
     Piece(Piece<&'static [u8]>),
+    /// A text of so many blanks in a font comes, of at most 8,193.
+    Blanks(usize, Font),
     /// A text comes 4,096 times.
     Cells(&'static str),
     /// A word of 4,096 cells comes in 64 parts, each of 63 accents and a hyphen.
@@ -57,6 +59,17 @@ fn blank(count: u32) -> Piece<&'static [u8]> {
 
 fn tag(hang: u32, form: TagForm) -> Piece<&'static [u8]> {
     Piece::Tag { hang, form }
+}
+
+// The cells of two rows and one more.
+static BLANKS: [u8; 8193] = [b' '; 8193];
+
+fn blank_text(count: usize, font: Font) -> Piece<&'static [u8]> {
+    Piece::Text {
+        text: &BLANKS[..count.min(BLANKS.len())],
+        font,
+        place: HERE,
+    }
 }
 
 // The piece that a byte of a script stands for; most letters are a text.
@@ -225,6 +238,7 @@ fn take_step(
         Step::Script(script) => give_script(filler, script.as_bytes(), rows, notes),
         Step::Text(word) => give(filler, text(word), rows, notes),
         Step::Piece(piece) => give(filler, piece, rows, notes),
+        Step::Blanks(count, font) => give(filler, blank_text(count, font), rows, notes),
         Step::Cells(cell) => give_cells(filler, cell, rows, notes),
         Step::Parts => give_parts(filler, rows, notes),
         Step::Words(words, font, taken) => {

@@ -1,5 +1,6 @@
 //! Rows of pieces.
 
+use crate::blank_rows::BLANK_ROWS;
 use crate::sheets::Sheet;
 use crate::steps::{HERE, Step, run};
 use page_core_base::{Fault, Font, Output, Settings};
@@ -11,12 +12,12 @@ fn check_bytes(rt: &impl Abort, got: &[u8], wanted: &[u8]) {
     assert_eq!(rt; got, wanted);
 }
 
-const ASCII: Output = Output::Ascii;
+pub(crate) const ASCII: Output = Output::Ascii;
 
 const UTF8: Output = Output::Utf8;
 
 // A width, an output, steps, the rows that they give, where these are compared, and the messages.
-type Case<'a> = (u32, Output, &'a [Step], Option<&'a str>, &'a str);
+pub(crate) type Case<'a> = (u32, Output, &'a [Step], Option<&'a str>, &'a str);
 
 fn settings_of(width: u32, output: Output) -> Settings {
     let mut settings = Settings::new();
@@ -435,11 +436,11 @@ const GLYPHS: &[Case<'static>] = &[
     ),
 ];
 
-const TOO_MANY: &str = "mandoc: t:3:7: ERROR: limit exceeded, skipping: CELLS\n";
+pub(crate) const TOO_MANY: &str = "mandoc: t:3:7: ERROR: limit exceeded, skipping: CELLS\n";
 
-const LITERAL: Step = Step::Piece(Piece::Literal(true));
+pub(crate) const LITERAL: Step = Step::Piece(Piece::Literal(true));
 
-const FILLED: Step = Step::Piece(Piece::Literal(false));
+pub(crate) const FILLED: Step = Step::Piece(Piece::Literal(false));
 
 const TWO_BLANKS: Step = Step::Piece(Piece::Blank {
     count: 2,
@@ -555,7 +556,7 @@ const LONG_ROWS: &[Case<'static>] = &[
     ),
 ];
 
-const BLANK: Step = Step::Piece(Piece::Blank {
+pub(crate) const BLANK: Step = Step::Piece(Piece::Blank {
     count: 1,
     has_tab: false,
 });
@@ -706,7 +707,7 @@ fn scripts_give_rows(rt: HostRuntime) -> Result<(), Fail> {
 
 #[test]
 fn steps_give_rows(rt: HostRuntime) -> Result<(), Fail> {
-    for cases in [WORDS, GLYPHS, LONG_ROWS, ROWS_AS_THEY_COME] {
+    for cases in [WORDS, GLYPHS, LONG_ROWS, BLANK_ROWS, ROWS_AS_THEY_COME] {
         check_cases(&rt, cases)?;
     }
     Ok(())

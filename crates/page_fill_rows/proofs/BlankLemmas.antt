@@ -1,5 +1,5 @@
 -- Rows of which a part is blank.
-use Rattle.std.proofs.Common.{◌≡◌, ℕ, true, false, ◌&&◌, ◌==◌, List, [], ◌∷◌, ◌++◌, length, take, drop, inl, inr, refl, sym, ap, ◌∙◌, arith}
+use Rattle.std.proofs.Common.{◌≡◌, ℕ, zero, suc, true, false, ◌&&◌, ◌==◌, List, [], ◌∷◌, ◌++◌, length, take, drop, replicate, inl, inr, refl, sym, ap, ◌∙◌, arith}
 use Rattle.std.proofs.lemmas.Bool.{cases_Bool}
 use Rattle.std.proofs.lemmas.Bool.Decides.{nat_tests}
 use Rattle.std.proofs.lemmas.List.{take-append-drop}
@@ -27,3 +27,10 @@ rest-blank cells n blank =
 pub some-stand : (cells : List Cell) (n : ℕ) → is_blank_row (row_of 0 (take n cells)) ≡ false → is_blank_row (row_of 0 cells) ≡ false
 some-stand cells n stands =
     ap (λ row. is_blank_row (row_of 0 row)) (sym (take-append-drop n cells)) ∙ (blank-append (take n cells) (drop n cells) ∙ rw stands refl)
+
+-- all of its cells are one blank
+pub blanks-blank : (n : ℕ) (cell : Cell) → is_blank cell ≡ true → is_blank_row (row_of 0 (replicate n cell)) ≡ true
+blanks-blank zero cell blank = refl
+blanks-blank (suc n) cell blank =
+    let others : (length (trimmed (replicate n cell)) == 0) ≡ true = blanks-blank n cell blank in
+    before-blank cell (trimmed (replicate n cell)) ∙ rw (blank, others) refl

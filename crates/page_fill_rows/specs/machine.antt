@@ -1,4 +1,5 @@
 -- The code's own steps and fast ways. Trust needs no reading of them.
+pub mod BlankRuns
 pub mod Plain
 pub mod Room
 pub mod Sheets

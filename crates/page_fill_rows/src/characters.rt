@@ -13,7 +13,7 @@ use crate::plain_texts::all_printable;
 use page_core_base::{Cell, Font, Note, NoteKind, Output, Place, RowOut};
 use page_core_tables::{Printed, printed_char, printed_glyph};
 
-// The characters of a plain text that are put together.
+// The characters of a plain text that are put together, be there room for them or not.
 const PART: usize = 64;
 
 /// Whether bytes are printable ASCII, of a column each.
@@ -23,7 +23,7 @@ pub fn is_printable_ascii(bytes: &[u8]) -> bool
     all_printable(bytes)
 }
 
-/// Puts the characters of a plain text, some of them after others, so that those which the row ends within are few.
+/// Puts the characters of a plain text: of a long one, those for which a row has room together.
 pub fn put_plain<O: RowOut>(row: &mut OpenRow, bytes: &[u8], font: Font, place: Place, out: &mut O)
     requires { plain.is_printable_ascii bytes.now ≡ true }
     ensures { LaysOut O.left out.old (sheet.letters row.old
@@ -31,7 +31,7 @@ pub fn put_plain<O: RowOut>(row: &mut OpenRow, bytes: &[u8], font: Font, place: 
 {
     let mut rest = bytes;
     while rest.len() > PART {
-        let (part, later) = rest.split_at(PART);
+        let (part, later) = rest.split_at(row.part_len(rest.len()));
         put_part(row, part, font, place, out);
         rest = later;
     }

@@ -13,6 +13,7 @@
 ghost use Rattle.std.specs.Prelude.{◌≡◌};
 ghost use Rattle.page_fill_rows.specs.OpenRows as rows;
 
+mod blank_runs;
 mod cell_widths;
 mod characters;
 mod laws;

@@ -9,7 +9,7 @@ ghost use Rattle.page_fill_rows.specs.OpenRows.{IsHeld};
 ghost use Rattle.page_fill_rows.specs.machine.Plain as plain;
 ghost use Rattle.page_fill_rows.specs.machine.Sheets as sheet;
 
-use crate::cell_widths::{BLANK, cell_columns, columns, is_blank};
+use crate::cell_widths::{BLANK, cell_columns, columns};
 use crate::row_cells::RowCells;
 use crate::{BLANK_ROWS, TAG_COLUMNS};
 use page_core_base::{CELLS, Cell, Font, Limit, Note, NoteKind, Place, RowOut};
@@ -235,9 +235,8 @@ impl OpenRow {
         requires { end ≤ length self.old.cells }
         ensures { LaysOut O.left out.old (sheet.gives self.old (take end self.old.cells)) out.new self.new }
     {
-        let cells = &self.row.as_slice()[..end];
-        out.give(self.margin, cells);
-        self.blank_rows = if is_blank(cells) {
+        out.give(self.margin, &self.row.as_slice()[..end]);
+        self.blank_rows = if self.row.is_blank(end) {
             self.blank_rows.saturating_add(1).min(BLANK_ROWS)
         } else {
             0
@@ -379,6 +378,28 @@ impl OpenRow {
         self.is_literal || self.gap == 0 || columns <= u64::from(self.width)
     }
 
+    // How many cells of a column each the row takes before it ends.
+    fn room(&self) -> usize {
+        let free = CELLS - self.row.len();
+        if self.is_literal || self.gap == 0 {
+            return free;
+        }
+        let columns = self
+            .width
+            .saturating_sub(self.margin)
+            .saturating_sub(self.columns);
+        free.min(columns as usize)
+    }
+
+    /// How many of some cells of a column each are put together: those that the row takes before it ends, or the one before which it ends.
+    pub(crate) fn part_len(&self, count: usize) -> usize
+        requires { 0 < count }
+        ensures some { 0 < result }
+        ensures within { result ≤ count }
+    {
+        self.room().max(1).min(count)
+    }
+
     /// Whether the row has a cell, and takes this count of cells of a column each after it before it ends.
     pub fn has_part_room(&self, count: usize) -> bool
         ensures { result ≡ plain.has_part_room self.now count }
@@ -470,7 +491,7 @@ impl OpenRow {
         ensures part { result ≡ true → self.new ≡ plain.taken self.old (shown.cells_of font bytes.now) }
         ensures same { result ≡ false → self.new ≡ self.old }
     {
-        if !self.row.add_word(0, bytes, font) {
+        if !self.row.add_part(bytes, font) {
             return false;
         }
         let count = bytes.len() as u32;

@@ -1,12 +1,17 @@
 //! The cells of a row, in places that are reserved for good.
 
-ghost use Rattle.std.specs.Prelude.{◌≡◌, ℕ, ◌+◌, ◌-◌, ◌<◌, ◌≤◌, [], ◌∷◌, ◌++◌, ◌==◌, length, take, drop, replicate, IfOk, true, if◌then◌else◌};
+ghost use Rattle.std.specs.Prelude.{◌≡◌, ℕ, ◌+◌, ◌-◌, ◌<◌, ◌≤◌, [], ◌∷◌, ◌++◌, ◌==◌, length, take, drop, replicate, get_or, IfOk, true, if◌then◌else◌};
+ghost use Rattle.std.specs.List.{list_all};
+ghost use Rattle.page_core_base.specs.Rows.{is_blank_row, row_of};
+ghost use Rattle.page_core_base.specs.declared.cells.Cell.{Cell};
 ghost use Rattle.page_core_base.specs.declared.cells.Font.TheVariants.{R};
 ghost use Rattle.page_fill_rows.specs.Characters as shown;
+ghost use Rattle.page_fill_rows.specs.machine.BlankRuns.{HasRun, is_blank_byte};
 ghost use Rattle.page_fill_rows.specs.machine.Plain as plain;
 ghost use Rattle.page_fill_rows.specs.machine.Sheets as sheet;
 
-use crate::cell_widths::BLANK;
+use crate::blank_runs::{BlankRun, NO_RUN, is_long_run};
+use crate::cell_widths::{BLANK, is_blank};
 use crate::plain_texts::all_printable;
 use page_core_base::{CELLS, Cell, Font};
 use std::alloc::{AllocError, Global};
@@ -24,18 +29,21 @@ pub(crate) struct RowCells {
     // The row's cells come first; what stands after them means nothing.
     places: Vec<Cell>,
     len: usize,
+    // Places that have blanks, be they of the row or of an earlier one.
+    run: BlankRun,
 }
 
 impl Model for RowCells {
     ghost use Rattle.std.specs.Prelude.{◌≡◌, ◌≤◌, List, length, take};
     ghost use Rattle.page_core_base.specs.declared.cells.Cell.{Cell};
     ghost use Rattle.page_core_base.specs.declared.limits.TheConstants.{CELLS};
+    ghost use Rattle.page_fill_rows.specs.machine.BlankRuns.{HasRun};
 
     ghost Value = { List Cell };
 
     ghost view = { λ r. take r.len r.places.items };
 
-    ghost invariant = { λ r. (length r.places.items ≡ CELLS) × (r.len ≤ CELLS) };
+    ghost invariant = { λ r. (length r.places.items ≡ CELLS) × (r.len ≤ CELLS) × HasRun r.places.items r.run.start r.run.end r.run.font };
 }
 
 impl RowCells {
@@ -45,7 +53,11 @@ impl RowCells {
     {
         let mut places = Vec::with_capacity(alloc, CELLS)?;
         places.resize(CELLS, BLANK)?;
-        Ok(RowCells { places, len: 0 })
+        Ok(RowCells {
+            places,
+            len: 0,
+            run: NO_RUN,
+        })
     }
 
     /// The same cells, with all memory that they will ever have.
@@ -55,6 +67,7 @@ impl RowCells {
         Ok(RowCells {
             places: Vec::from_slice(alloc, &self.places)?,
             len: self.len,
+            run: self.run,
         })
     }
 
@@ -81,6 +94,17 @@ impl RowCells {
         self.len == 0
     }
 
+    /// Whether no cell of a front prints anything.
+    pub(crate) fn is_blank(&self, end: usize) -> bool
+        requires { end ≤ length self.now }
+        ensures { result ≡ is_blank_row (row_of 0 (take end self.now)) }
+    {
+        if self.run.start == 0 && end <= self.run.end {
+            return true;
+        }
+        is_blank(&self.places[..end])
+    }
+
     /// Takes all cells away.
     pub(crate) fn clear(&mut self)
         ensures { self.new ≡ [] }
@@ -93,8 +117,14 @@ impl RowCells {
         requires { length self.old < CELLS }
         ensures { self.new ≡ self.old ++ cell ∷ [] }
     {
+        let end = self.len + 1;
+        if cell.c == ' ' && self.run.has(self.len, end, cell.font) {
+            self.len = end;
+            return;
+        }
         self.places[self.len] = cell;
-        self.len += 1;
+        self.run.cut(end);
+        self.len = end;
     }
 
     /// Takes the cells before a start away.
@@ -102,8 +132,26 @@ impl RowCells {
         requires { start ≤ length self.old }
         ensures { self.new ≡ drop start self.old }
     {
+        self.run = NO_RUN;
         move_to_front(&mut self.places, start, self.len);
         self.len -= start;
+    }
+
+    // Appends a blank for each byte, all of which are blanks.
+    fn add_blanks(&mut self, bytes: &[u8], font: Font)
+        requires blanks { list_all is_blank_byte bytes.now ≡ true }
+        requires room { length self.old + length bytes.now ≤ CELLS }
+        ensures { self.new ≡ self.old ++ shown.cells_of font bytes.now }
+    {
+        let start = self.len;
+        let end = start + bytes.len();
+        if self.run.has(start, end, font) {
+            self.len = end;
+            return;
+        }
+        put_cells(&mut self.places, start, bytes, font);
+        self.run = self.run.with(start, end, font);
+        self.len = end;
     }
 
     /// Appends a cell of each byte.
@@ -112,8 +160,26 @@ impl RowCells {
         requires room { length self.old + length bytes.now ≤ CELLS }
         ensures { self.new ≡ self.old ++ shown.cells_of font bytes.now }
     {
+        if is_long_run(bytes) {
+            return self.add_blanks(bytes, font);
+        }
+        let end = self.len + bytes.len();
         put_cells(&mut self.places, self.len, bytes, font);
-        self.len += bytes.len();
+        self.run.cut(end);
+        self.len = end;
+    }
+
+    /// Appends a cell of each byte, if all bytes are printable ASCII, and says whether they are.
+    pub(crate) fn add_part(&mut self, bytes: &[u8], font: Font) -> bool
+        requires { length self.old + length bytes.now ≤ CELLS }
+        ensures answer { result ≡ plain.is_printable_ascii bytes.now }
+        ensures cells { self.new ≡ (if result then self.old ++ shown.cells_of font bytes.now else self.old) }
+    {
+        if is_long_run(bytes) {
+            self.add_blanks(bytes, font);
+            return true;
+        }
+        self.add_word(0, bytes, font)
     }
 
     /// Appends blanks and a cell of each byte, if all bytes are printable ASCII, and says whether they are.
@@ -125,11 +191,13 @@ impl RowCells {
             else self.old) }
     {
         let start = self.len + blanks as usize;
+        let end = start + bytes.len();
+        self.run.cut(end);
         put_blanks(&mut self.places, self.len, blanks as usize);
         if !put_printable(&mut self.places, start, bytes, font) {
             return false;
         }
-        self.len = start + bytes.len();
+        self.len = end;
         true
     }
 
@@ -138,8 +206,10 @@ impl RowCells {
         requires { length self.old + length bytes.now ≤ CELLS }
         ensures { self.new ≡ self.old ++ shown.cells_of R bytes.now }
     {
+        let end = self.len + bytes.len();
         put_cells(&mut self.places, self.len, bytes, Font::R);
-        self.len += bytes.len();
+        self.run.cut(end);
+        self.len = end;
     }
 }
 
@@ -149,6 +219,7 @@ fn put_cells(places: &mut [Cell], start: usize, bytes: &[u8], font: Font)
     ensures cells { take (start + length bytes.now) places.new
         ≡ take start places.old ++ shown.cells_of font bytes.now }
     ensures before { (k : ℕ) → k ≤ start → take k places.new ≡ take k places.old }
+    ensures after { (k : ℕ) (d : Cell) → start + length bytes.now ≤ k → get_or places.new k d ≡ get_or places.old k d }
     ensures len { length places.new ≡ length places.old }
 {
     for i in 0..bytes.len() {
@@ -165,6 +236,7 @@ fn put_blanks(places: &mut [Cell], start: usize, count: usize)
     requires { start + count ≤ length places.old }
     ensures blanks { take (start + count) places.new ≡ take start places.old ++ replicate count sheet.blank }
     ensures before { take start places.new ≡ take start places.old }
+    ensures after { (k : ℕ) (d : Cell) → start + count ≤ k → get_or places.new k d ≡ get_or places.old k d }
     ensures len { length places.new ≡ length places.old }
 {
     if count == 1 {
@@ -184,6 +256,7 @@ fn put_printable(places: &mut [Cell], start: usize, bytes: &[u8], font: Font) ->
         → take (start + length bytes.now) places.new
         ≡ take start places.old ++ shown.cells_of font bytes.now }
     ensures before { (k : ℕ) → k ≤ start → take k places.new ≡ take k places.old }
+    ensures after { (k : ℕ) (d : Cell) → start + length bytes.now ≤ k → get_or places.new k d ≡ get_or places.old k d }
     ensures len { length places.new ≡ length places.old }
 {
     if bytes.len() < LONG {
@@ -204,6 +277,7 @@ fn put_word(places: &mut [Cell], start: usize, bytes: &[u8], font: Font) -> bool
         → take (start + length bytes.now) places.new
         ≡ take start places.old ++ shown.cells_of font bytes.now }
     ensures before { (k : ℕ) → k ≤ start → take k places.new ≡ take k places.old }
+    ensures after { (k : ℕ) (d : Cell) → start + length bytes.now ≤ k → get_or places.new k d ≡ get_or places.old k d }
     ensures len { length places.new ≡ length places.old }
 {
     let mut end = start;

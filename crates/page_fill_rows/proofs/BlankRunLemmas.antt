@@ -1,0 +1,137 @@
+-- Places of a row that are known to have blanks.
+use Rattle.std.proofs.Common.{◌≡◌, ℕ, zero, suc, ◌+◌, ◌-◌, ◌<◌, ◌≤◌, max, nat_lt, true, List, [], ◌∷◌, ◌++◌, length, take, get_or, replicate, append_assoc, append-nil, add-one, inl, inr, refl, sym, ap, ◌∙◌, arith}
+use Rattle.std.specs.List.{list_all}
+use Rattle.std.proofs.Math.Nat.{le-max_left, le-max_right}
+use Rattle.std.proofs.lemmas.Bool.{cases_Bool}
+use Rattle.std.proofs.lemmas.Bool.Decides.{nat_tests}
+use Rattle.std.proofs.lemmas.List.{get_or-take, get_or-append_right, get_or-replicate, length-take-le, replicate-append-replicate, take-take, take_more}
+use Rattle.page_core_base.specs.declared.cells.Cell.{Cell}
+use Rattle.page_core_base.specs.declared.cells.Font.{Font}
+use Rattle.page_core_base.specs.Rows.{is_blank_row, row_of}
+use Rattle.page_fill_rows.specs.Characters.{cell_of, cells_of}
+use Rattle.page_fill_rows.specs.machine.BlankRuns.{HasRun, is_blank_byte}
+use Rattle.page_fill_rows.specs.machine.Plain.{is_printable_ascii}
+use Rattle.page_fill_rows.proofs.BlankLemmas.{blanks-blank}
+
+-- ---- bytes that are blanks
+
+first-blank : (b : ℕ) (bytes : List ℕ) → list_all is_blank_byte (b ∷ bytes) ≡ true → b ≡ 32
+first-blank b bytes all = grind (arith, nat_tests, all)
+
+rest-blanks : (b : ℕ) (bytes : List ℕ) → list_all is_blank_byte (b ∷ bytes) ≡ true → list_all is_blank_byte bytes ≡ true
+rest-blanks b bytes all = grind (arith, all)
+
+pub blanks-cells : (font : Font) (bytes : List ℕ) → list_all is_blank_byte bytes ≡ true → cells_of font bytes ≡ replicate (length bytes) (cell_of font 32)
+blanks-cells font [] all = refl
+blanks-cells font (b ∷ bytes) all =
+    ap (λ k. cell_of font k ∷ cells_of font bytes) (first-blank b bytes all)
+    ∙ ap (λ cells. cell_of font 32 ∷ cells) (blanks-cells font bytes (rest-blanks b bytes all))
+
+pub blanks-plain : (bytes : List ℕ) → list_all is_blank_byte bytes ≡ true → is_printable_ascii bytes ≡ true
+blanks-plain [] all = refl
+blanks-plain (b ∷ bytes) all = rw (first-blank b bytes all, blanks-plain bytes (rest-blanks b bytes all)) refl
+
+-- ---- places
+
+one-more : (n : ℕ) (cell : Cell) → replicate n cell ++ cell ∷ [] ≡ replicate (suc n) cell
+one-more n cell = replicate-append-replicate n 1 cell ∙ ap (λ k. replicate k cell) (add-one n)
+
+-- places that have one cell each
+same-cells : (places : List Cell) (start n : ℕ) (cell : Cell) → ((k : ℕ) → start ≤ k → k < start + n → get_or places k cell ≡ cell)
+    → start + n ≤ length places → take (start + n) places ≡ take start places ++ replicate n cell
+same-cells places start zero cell all room =
+    let none : start + zero ≡ start = omega arith in
+    ap (λ k. take k places) none ∙ sym (append-nil (take start places))
+same-cells places start (suc n) cell all room =
+    let fewer = same-cells places start n cell (λ k h g. all k h (omega (arith, g))) (omega (arith, room)) in
+    let more : start + suc n ≡ (start + n) + 1 = omega arith in
+    let last : get_or places (start + n) cell ≡ cell = all (start + n) (omega arith) (omega arith) in
+    ap (λ k. take k places) more
+    ∙ (take_more places (start + n) cell (omega (arith, room))
+    ∙ (ap (λ c. take (start + n) places ++ c ∷ []) last
+    ∙ (ap (λ cells. cells ++ cell ∷ []) fewer
+    ∙ (append_assoc (take start places) (replicate n cell) (cell ∷ [])
+    ∙ ap (λ cells. take start places ++ cells) (one-more n cell)))))
+
+-- blanks that are there already
+pub run-cells : (places : List Cell) (first last start : ℕ) (font : Font) (bytes : List ℕ) → HasRun places first last font → list_all is_blank_byte bytes ≡ true
+    → first ≤ start → start + length bytes ≤ last → start + length bytes ≤ length places
+    → take (start + length bytes) places ≡ take start places ++ cells_of font bytes
+run-cells places first last start font bytes run all from to room =
+    same-cells places start (length bytes) (cell_of font 32) (λ k h g. run.at k (omega (arith, h, from)) (omega (arith, g, to))) room
+    ∙ ap (λ cells. take start places ++ cells) (sym (blanks-cells font bytes all))
+
+pub run-cell : (places : List Cell) (first last start : ℕ) (font : Font) → HasRun places first last font
+    → first ≤ start → start + 1 ≤ last → start + 1 ≤ length places → take (start + 1) places ≡ take start places ++ cell_of font 32 ∷ []
+run-cell places first last start font run from to room = run-cells places first last start font (32 ∷ []) run refl from to room
+
+-- ---- what is known after places were put
+
+-- nothing is known of no place
+pub no-run : (places : List Cell) (font : Font) → HasRun places 0 0 font
+no-run places font = record { at = λ k h g. absurd (omega (arith, g)) }
+
+-- places were put up to an end
+pub cut-run : (old new : List Cell) (first last end : ℕ) (font : Font) → HasRun old first last font
+    → ((k : ℕ) (d : Cell) → end ≤ k → get_or new k d ≡ get_or old k d) → HasRun new (max first end) last font
+cut-run old new first last end font run after = record {
+  at = λ k h g.
+      let from : first ≤ k = omega (arith, h, le-max_left first end) in
+      let past : end ≤ k = omega (arith, h, le-max_right first end) in
+      after k (cell_of font 32) past ∙ run.at k from g;
+}
+
+-- blanks were put
+pub put-run : (old new : List Cell) (start : ℕ) (font : Font) (bytes : List ℕ) → list_all is_blank_byte bytes ≡ true
+    → take (start + length bytes) new ≡ take start old ++ cells_of font bytes → start ≤ length old
+    → HasRun new start (start + length bytes) font
+put-run old new start font bytes all put within = record {
+  at = λ k h g.
+      let cell = cell_of font 32 in
+      let behind : k - start < length bytes = omega (arith, h, g) in
+      sym (get_or-take (start + length bytes) new k cell g)
+      ∙ (ap (λ cells. get_or cells k cell) (put ∙ ap (λ cells. take start old ++ cells) (blanks-cells font bytes all))
+      ∙ (get_or-append_right (take start old) (replicate (length bytes) cell) start k cell (length-take-le start old within) h
+      ∙ get_or-replicate (length bytes) (k - start) cell cell behind));
+}
+
+-- blanks were put behind others
+pub grown-run : (old new : List Cell) (first last start end : ℕ) (font : Font) → HasRun old first last font → start ≤ last
+    → take start new ≡ take start old → HasRun new start end font → HasRun new first end font
+grown-run old new first last start end font run within before put = record {
+  at = λ k h g. elim (cases_Bool (nat_lt k start)) [
+    | inl t ↦ kept k h (grind (arith, nat_tests, t))
+    | inr f ↦ put.at k (grind (arith, nat_tests, f)) g
+  ];
+} where
+  kept : (k : ℕ) → first ≤ k → k < start → get_or new k (cell_of font 32) ≡ cell_of font 32
+  kept k h g =
+      sym (get_or-take start new k (cell_of font 32) g)
+      ∙ (ap (λ cells. get_or cells k (cell_of font 32)) before
+      ∙ (get_or-take start old k (cell_of font 32) g ∙ run.at k h (omega (arith, g, within))))
+
+-- ---- a row of blanks
+
+pub blank-places : (places : List Cell) (last end : ℕ) (font : Font) → HasRun places 0 last font → end ≤ last → end ≤ length places
+    → is_blank_row (row_of 0 (take end places)) ≡ true
+blank-places places last end font run to room =
+    let none : 0 + end ≡ end = omega arith in
+    let cells = ap (λ k. take k places) (sym none) ∙ same-cells places 0 end (cell_of font 32) (λ k h g. run.at k h (omega (arith, g, to))) (omega (arith, room)) in
+    ap (λ row. is_blank_row (row_of 0 row)) cells ∙ blanks-blank end (cell_of font 32) refl
+
+-- the same of the first cells of a row
+pub blank-front : (places : List Cell) (first last len end : ℕ) (font : Font) → HasRun places first last font → first ≡ 0 → end ≤ last → end ≤ len → len ≤ length places
+    → is_blank_row (row_of 0 (take end (take len places))) ≡ true
+blank-front places first last len end font run begins to within room =
+    ap (λ cells. is_blank_row (row_of 0 cells)) (take-take end len places within)
+    ∙ blank-places places last end font (rw begins at run) to (omega (arith, within, room))
+
+-- ---- one blank
+
+-- a blank that is there already
+pub pushed-cell : (places : List Cell) (first last start : ℕ) (font : Font) (cell : Cell) → HasRun places first last font
+    → (first ≤ start) × (start + 1 ≤ last) × (font ≡ cell.font) → cell.c ≡ 32 → start + 1 ≤ length places
+    → take (start + 1) places ≡ take start places ++ cell ∷ []
+pushed-cell places first last start font cell run known is room =
+    run-cell places first last start font run known.0 known.1 room
+    ∙ (ap (λ c. take start places ++ cell_of font c ∷ []) (sym is) ∙ ap (λ f. take start places ++ cell_of f cell.c ∷ []) known.2)

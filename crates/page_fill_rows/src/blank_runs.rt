@@ -1,0 +1,98 @@
+//! Places of a row that are known to have blanks, so that blanks that come again cost nothing.
+
+ghost use Rattle.std.specs.Prelude.{◌≡◌, ◌≤◌, List, take, true, max};
+ghost use Rattle.std.specs.List.{list_all};
+ghost use Rattle.page_core_base.specs.declared.cells.Cell.{Cell};
+ghost use Rattle.page_fill_rows.specs.machine.BlankRuns.{HasRun, is_blank_byte};
+
+use page_core_base::Font;
+
+// The bytes of a text that no word has, of which most are blanks if the first one is.
+const LONG: usize = 64;
+
+/// Places of a row that are known to have blanks in one font: those from a start up to an end.
+#[derive(Clone, Copy)]
+pub(crate) struct BlankRun {
+    pub(crate) start: usize,
+    pub(crate) end: usize,
+    pub(crate) font: Font,
+}
+
+/// No place is known to have a blank.
+pub(crate) const NO_RUN: BlankRun = BlankRun {
+    start: 0,
+    end: 0,
+    font: Font::R,
+};
+
+// Whether two fonts are the same.
+fn is_same(one: Font, other: Font) -> bool
+    ensures { result ≡ true → one ≡ other }
+{
+    match one {
+        Font::R => matches!(other, Font::R),
+        Font::B => matches!(other, Font::B),
+        Font::I => matches!(other, Font::I),
+        Font::BI => matches!(other, Font::BI),
+    }
+}
+
+impl BlankRun {
+    /// Whether all places from a start up to an end are known to have blanks in a font.
+    pub(crate) fn has(&self, start: usize, end: usize, font: Font) -> bool
+        ensures { result ≡ true → (self.now.start ≤ start) × (end ≤ self.now.end) × (self.now.font ≡ font) }
+    {
+        self.start <= start && end <= self.end && is_same(self.font, font)
+    }
+
+    // Whether blanks in a font that begin at a place go on with these.
+    fn goes_on(self, place: usize, font: Font) -> bool
+        ensures { result ≡ true → (self.start ≤ place) × (place ≤ self.end) × (self.font ≡ font) }
+    {
+        self.start <= place && place <= self.end && is_same(self.font, font)
+    }
+
+    /// What is known where places from a start up to an end were given blanks in a font: these, and those before them with which they go on.
+    pub(crate) fn with(self, start: usize, end: usize, font: Font) -> BlankRun
+        ensures { (old new : List Cell) → HasRun old self.start self.end self.font
+            → take start new ≡ take start old → HasRun new start end font
+            → HasRun new result.start result.end result.font }
+    {
+        if self.goes_on(start, font) {
+            return BlankRun {
+                start: self.start,
+                end,
+                font,
+            };
+        }
+        BlankRun { start, end, font }
+    }
+
+    /// The places before an end are put anew.
+    pub(crate) fn cut(&mut self, end: usize)
+        ensures start { self.new.start ≡ max self.old.start end }
+        ensures end { self.new.end ≡ self.old.end }
+        ensures font { self.new.font ≡ self.old.font }
+    {
+        self.start = self.start.max(end);
+    }
+}
+
+// Whether all bytes are blanks. All of them are read, so that the compiler can test many at once.
+fn are_blanks(bytes: &[u8]) -> bool
+    ensures { result ≡ list_all is_blank_byte bytes.now }
+{
+    let mut all = true;
+    for byte in bytes {
+        all &= *byte == b' ';
+    }
+    all
+}
+
+/// Whether a text is so long that its blanks are worth a look, and all of its bytes are blanks.
+#[inline(always)]
+pub(crate) fn is_long_run(bytes: &[u8]) -> bool
+    ensures { result ≡ true → list_all is_blank_byte bytes.now ≡ true }
+{
+    bytes.len() >= LONG && bytes[0] == b' ' && are_blanks(bytes)
+}
