@@ -5,7 +5,7 @@
 //! Read first: `escape` below, with the table of letters in `specs/Letters.antt`; then `read_token` in `tokens.rt`.
 //!
 //! Proved: `escape`, `read_token`, `Tokens`: what the escape at the front of a text is, and how long it is, by one table of letters (`specs/Letters.antt`,
-//! `Meanings.antt`); the tokens of a text. `read_font`, `short_font`: the font of a name.
+//! `Meanings.antt`); the tokens of a text; `tokens_law`: of which there are as many as the text has. `read_font`, `short_font`: the font of a name.
 #![tactic(auto)]
 
 ghost use Rattle.std.specs.Prelude.{◌≡◌, ◌+◌, ◌<◌, ◌≤◌, false, length, slice_index, IfSome};
@@ -19,12 +19,14 @@ use page_core_base::LINE;
 use quoted::quoted_len;
 
 mod extents;
+mod laws;
 mod letters;
 mod meaning;
 mod quoted;
 mod token_readers;
 mod tokens;
 
+pub use laws::tokens_law;
 pub use meaning::{Escape, FontName, read_font};
 pub use token_readers::Tokens;
 pub use tokens::{Token, begins_word, plain_len, read_token, short_font};
