@@ -6,7 +6,7 @@ ghost use Rattle.page_core_base.specs.Limits as limits;
 /// The bytes of a line.
 pub const LINE: usize = 65_536;
 
-/// The bytes of a title, section, date, source, volume, manual name or link target.
+/// The bytes of a title, section, date, source, volume, manual name or link target; a pair of quotes in a quoted argument counts as one.
 pub const FIELD: usize = 256;
 
 /// The cells of a row, its margin not counted.

@@ -9,7 +9,7 @@ use Rattle.page_core_tables.specs.declared.rows.Glyph.{Glyph}
 use Rattle.page_core_tables.specs.Glyphs.{Symbol, Entry, symbol_of, table, symbol_at, name_key, glyph_of, first_spelling, spelling_of}
 use Rattle.page_core_tables.specs.machine.Rows.{has_key, rows_are_spelled, is_spelled, spellings_have_rows, are_characters_from}
 
--- what stands at a key passes what each entry passes
+-- what is at a key passes what each entry passes
 pub symbol_at-passes : (p : ℕ → Symbol → Bool) (rows : List Entry) (key : ℕ) (s : Symbol) → list_all (λ e. p e.key e.symbol) rows ≡ true → symbol_at rows key ≡ Some s
     → p key s ≡ true
 unfolding symbol_at
@@ -24,7 +24,7 @@ symbol_at-passes p (x ∷ xs) key s h e =
       | inr other ↦ symbol_at-passes p xs key s parts.1 (sym (cond-false _ _ _ other) ∙ e)
     ]
 
--- where nothing stands at a key no row has it
+-- where there is nothing at a key no row has it
 symbol_at-none-has_key : (rows : List Entry) (key : ℕ) → symbol_at rows key ≡ None → has_key rows key ≡ false
 unfolding symbol_at
 symbol_at-none-has_key [] key e = refl

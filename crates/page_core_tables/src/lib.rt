@@ -1,6 +1,6 @@
 //! The glyphs that have a name in mandoc_char(7), how characters are spelled in ASCII, and what characters and glyphs print.
 //!
-//! It stands below filling, which prints them, and below numbers, which count their columns.
+//! It is below filling, which prints them, and below numbers, which count their columns.
 //!
 //! Read first: `glyph` and `spelling` below, with the table in `specs/Glyphs.antt`; then `printing.rt`.
 //!
