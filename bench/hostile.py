@@ -2,8 +2,12 @@
 """Times ./mandoc on hostile pages (usage: bench/run hostile [COUNT]), each with COUNT macros or columns (default 100,000).
 
 Each page is formatted once at a quarter, a half and the whole of its size: where the time is linear, each column is about twice the one
-before. Beside them stand the peak of our memory at the whole size, and the time of the `mandoc` on the PATH, if there is one: a run that takes
+before. Next to them are the peak of our memory at the whole size, and the time of the `mandoc` on the PATH, if there is one: a run that takes
 more than a minute is ended, and one that a signal ends is reported.
+
+Then the dearest lines that are known: what one line of each kind takes, in milliseconds of the processor, at a quarter, a half and all of the
+size that the limits allow, and how often 1 MB of plain text, measured in the same run, would fit in the last. A line of three bytes that calls a macro
+runs a thousand such lines at most.
 """
 import os
 import shutil
@@ -50,6 +54,96 @@ HOSTILE = [
 ]
 
 
+# ---- the dearest lines
+
+MAN = ".TH BENCH 1 2026-11-22 Bench\n.SH NAME\nbench \\- lines to time\n.SH DESCRIPTION\n"
+VALUE, VALUES = 16_000, 60_000
+# as many interpolations as a line may have
+EACH = 1000
+PLAIN = MAN + ("These words are as plain as the words of a page can be, and a row ends after some of them.\n" * 11_000)
+
+
+def in_widths(value, names="a", each=4):
+    """A line of widths, each of a value several times: as many interpolations as a line may have."""
+
+    def made(part):
+        size = min(VALUE, VALUES // len(names)) * part // 4
+        texts = [value(size, at) for at, _ in enumerate(names)]
+        values = "".join(f".ds {name} {text}\n" for name, text in zip(names, texts))
+        width = "\\w'" + "".join(f"\\\\*{names[at % len(names)]}" for at in range(each)) + "'"
+        return MAN + values + ".ds z " + width * (EACH // (each + 1) - 1) + "\n", "\\*z\n"
+
+    return made
+
+
+def unended(size, at):
+    """Widths whose second delimiters never come, all different."""
+    return "".join("\\w" + chr(0x4E00 + at * (size // 5) + k) for k in range(size // 5))
+
+
+def between_registers(size, at):
+    """The same, with a register after each hundred: so the value is not copied as a whole."""
+    parts = unended(size, at).split("\\w")[1:]
+    return "".join("\\w" + part + ("\\\\n[x]" if k % 100 == 99 else "") for k, part in enumerate(parts))
+
+
+def names_of_blanks(part):
+    """A name of many blank cells, printed as often as a line has room for it."""
+    count = 36 * part // 4
+    head = HEAD.replace(".Nm bench\n", ".Nm " + "\\h'999'" * count + "\n")
+    return head + ".ds a " + "Nm " * 5400 + "\n", ".No \\*a\\*a\\*a\\*a\n"
+
+
+def blanks(part):
+    """Blanks of a thousand columns, as many as a line has room for."""
+    return MAN + ".ds a " + "\\\\h'999'" * (VALUE * part // 4 // 8) + "\n", "\\*a\\*a\\*a\\*a\n"
+
+
+def tabs_of_columns(part):
+    return HEAD + ".Bl -column a b\n.It a\n", "\t" * (16_000 * part) + "x\n"
+
+
+LINES_OF = [
+    ("\\w without ends, in a value", in_widths(unended)),
+    ("the same, two values in turn", in_widths(unended, "ab")),
+    ("the same, forty values in turn", in_widths(unended, "abcdefghijklmnopqrstuvwxyABCDEFGHIJKLMNO", 40)),
+    ("the same, with registers between", in_widths(between_registers, "a", 1)),
+    ("widths of \\&", in_widths(lambda size, at: "\\&" * (size // 2))),
+    ("widths of CJK", in_widths(lambda size, at: chr(0x4E00) * (size // 3))),
+    ("widths of glyphs", in_widths(lambda size, at: "\\(bu" * (size // 4))),
+    ("widths of plain letters", in_widths(lambda size, at: "x" * size)),
+    ("Nm of blanks", names_of_blanks),
+    ("\\h'999'", blanks),
+    ("tabs of columns", tabs_of_columns),
+]
+
+
+def processor_time(text, name):
+    """The least time of the processor, in seconds, that a page takes in three runs."""
+    with open(name, "w", encoding="utf-8") as file:
+        file.write(text)
+    times = []
+    for _ in range(3):
+        before = os.times()
+        with open(name, "rb") as page:
+            subprocess.run(["./mandoc", "-T", "utf8"], stdin=page, stdout=subprocess.DEVNULL, stderr=subprocess.DEVNULL, check=False)
+        after = os.times()
+        times.append(after.children_user - before.children_user + after.children_system - before.children_system)
+    return min(times)
+
+
+def line_times(name, repeated=20):
+    """Prints what one line of each kind takes."""
+    plain = processor_time(PLAIN, name) * 1_000_000 / len(PLAIN)
+    print(f"\n{'one line':34} {'milliseconds at a quarter, a half and all':>44}   1 MB of plain text ({plain * 1000:.1f} ms)")
+    for kind, made in LINES_OF:
+        times = []
+        for part in (1, 2, 4):
+            before, line = made(part)
+            times.append((processor_time(before + line * repeated, name) - processor_time(before, name)) / repeated)
+        print(f"{kind:34} " + "".join(f"{seconds * 1000:>15.2f}" for seconds in times) + f"{times[-1] / plain:>10.2f}", flush=True)
+
+
 def timed(words, name):
     """Returns how a run over a page ended: its seconds, whatever its status, or what ended it."""
     begun = time.perf_counter()
@@ -76,6 +170,7 @@ def main():
                 times.append(timed(["./mandoc"], name))
             line = f"{kind:34} {os.path.getsize(name):10} " + "".join(f"{seconds:>13}" for seconds in times) + f"{peak_of(['./mandoc'], name):>10}"
             print(line + (f"   {timed([other, '-T', 'ascii'], name)}" if other else ""), flush=True)
+        line_times(name)
 
 
 if __name__ == "__main__":
