@@ -1,17 +1,19 @@
 //! The columns of a finished text: mandoc_char(7); roff(7), "Escape sequences". It is read escape by escape, and the expressions in `\h`
 //! (`expressions`) count.
 
-ghost use Rattle.std.specs.Prelude.{◌*◌, ◌≡◌, ◌≤◌, ◌<◌, length, take, chars, true};
-ghost use Rattle.std.specs.Str.{IsUtf8, IsCharBoundary};
+ghost use Rattle.std.specs.Prelude.{◌*◌, ◌≡◌, ◌≤◌, ◌<◌, length, take, slice_index, IfSome, true, false};
+ghost use Rattle.std.specs.Str.{IsUtf8};
+ghost use Rattle.page_core_escapes.specs.Bytes.{backslash, is_among};
 ghost use Rattle.page_core_escapes.specs.Escapes.{meaning_view};
 ghost use Rattle.page_core_tables.specs.Printed.{printed_view};
-ghost use Rattle.page_core_numbers.specs.Columns.{BeginsWith, characters_columns, printed_escape, printed_front, front_len, blanks_in, columns_of};
+ghost use Rattle.page_core_numbers.specs.Columns.{BeginsWith, characters_columns, printed_escape, blanks_in, columns_of};
+ghost use Rattle.page_core_numbers.specs.machine.Fronts.{Front, nothing_letters, one_letters, ShortColumns};
 ghost use Rattle.page_core_numbers.specs.machine.Plain.{is_plain, are_plain};
 
 use crate::expressions::read_expression;
 use crate::scales::Scale;
 use page_core_base::{LINE, Output, PARENS};
-use page_core_escapes::{Escape, escape};
+use page_core_escapes::{Escape, escape, short_font};
 use page_core_tables::{Printed, char_columns, printed_char, printed_glyph};
 
 // The columns of `\h` at most.
@@ -77,26 +79,6 @@ pub fn escape_columns(escape: Escape<'_>, output: Output) -> u32
     }
 }
 
-// The columns of the escape or the character at a text's front, and how many bytes it takes.
-fn front_columns(text: &str, first: char, output: Output) -> (u32, usize)
-    requires first { BeginsWith text.now first }
-    requires line { length text.now ≤ LINE }
-    ensures columns { result.0 ≡ characters_columns (printed_front output text.now (chars text.now)) }
-    ensures bound { result.0 ≤ WIDEST }
-    ensures len { result.1 ≡ front_len text.now (chars text.now) }
-    ensures some { 0 < result.1 }
-    ensures whole_characters { IsCharBoundary text.now result.1 }
-{
-    if first == '\\' {
-        let (found, len) = escape(text.as_bytes());
-        return (escape_columns(found, output), len);
-    }
-    (
-        printed_columns(printed_char(output, first)),
-        first.len_utf8(),
-    )
-}
-
 // Whether a byte is a character of one column by itself: printable ASCII, and no backslash.
 #[inline(always)]
 fn is_plain(byte: u8) -> bool
@@ -134,12 +116,114 @@ fn groups_len(text: &[u8]) -> usize
 fn plain_len(text: &[u8]) -> usize
     ensures within { result ≤ length text.now }
     ensures plain { are_plain (take result text.now) ≡ true }
+    ensures all { result < length text.now → is_plain (slice_index text.now result) ≡ false }
 {
     let mut at = groups_len(text);
     while at < text.len() && is_plain(text[at]) {
         at += 1;
     }
     at
+}
+
+// Whether the escape of this letter takes two bytes and prints nothing, as `\&`.
+#[inline(always)]
+fn prints_nothing(letter: u8) -> bool
+    ensures { result ≡ is_among letter nothing_letters }
+{
+    matches!(
+        letter,
+        b'&' | b')'
+            | b'|'
+            | b'^'
+            | b'%'
+            | b'/'
+            | b','
+            | b':'
+            | b'a'
+            | b'u'
+            | b'r'
+            | b'd'
+            | b'z'
+            | b'{'
+            | b'c'
+            | b'p'
+    )
+}
+
+// Whether the escape of this letter takes two bytes and prints a character of one column in each output, as `\-`.
+#[inline(always)]
+fn prints_one(letter: u8) -> bool
+    ensures { result ≡ is_among letter one_letters }
+{
+    matches!(
+        letter,
+        b' ' | b'~' | b'0' | b't' | b'e' | b'\\' | b'-' | b'`' | b'.'
+    )
+}
+
+// The columns of the escape at a text's front, and how many bytes it takes, where few bytes say so.
+#[inline(always)]
+fn short_escape(text: &[u8]) -> Option<(u32, usize)>
+    requires { BeginsWith text.now backslash }
+    ensures { IfSome result (λ found. ShortColumns text.now found.0 found.1) }
+{
+    if text.len() < 2 {
+        return None;
+    }
+    if prints_nothing(text[1]) {
+        return Some((0, 2));
+    }
+    if prints_one(text[1]) {
+        return Some((1, 2));
+    }
+    let (_, len) = short_font(text)?;
+    Some((0, len))
+}
+
+// The columns of the escape at a text's front, and how many bytes it takes.
+#[inline(always)]
+fn escape_front(text: &str, output: Output) -> (u32, usize)
+    requires first { BeginsWith text.now backslash }
+    requires line { length text.now ≤ LINE }
+    ensures { Front output text.now result.0 result.1 }
+{
+    let bytes = text.as_bytes();
+    if let Some(found) = short_escape(bytes) {
+        return found;
+    }
+    long_escape(bytes, output)
+}
+
+// The same of any escape.
+#[inline(never)]
+fn long_escape(text: &[u8], output: Output) -> (u32, usize)
+    requires utf8 { IsUtf8 text.now }
+    requires first { BeginsWith text.now backslash }
+    requires line { length text.now ≤ LINE }
+    ensures { Front output text.now result.0 result.1 }
+{
+    let (found, len) = escape(text);
+    (escape_columns(found, output), len)
+}
+
+// The columns of what stands at a text's front, and how many bytes it takes: an escape, characters of one column each, or a character.
+#[inline(always)]
+fn front_columns(text: &str, first: char, output: Output) -> (u32, usize)
+    requires first { BeginsWith text.now first }
+    requires line { length text.now ≤ LINE }
+    ensures { Front output text.now result.0 result.1 }
+{
+    match first {
+        '\\' => escape_front(text, output),
+        ' '..='~' => {
+            let len = plain_len(text.as_bytes());
+            (len as u32, len)
+        }
+        _ => (
+            printed_columns(printed_char(output, first)),
+            first.len_utf8(),
+        ),
+    }
 }
 
 // The columns of a text.
@@ -150,13 +234,7 @@ fn text_columns(text: &str, output: Output) -> u32
 {
     let mut sum = 0u32;
     let mut rest = text;
-    while !rest.is_empty() {
-        let plain = plain_len(rest.as_bytes());
-        sum += plain as u32;
-        rest = &rest[plain..];
-        let Some(first) = rest.chars().next() else {
-            return sum;
-        };
+    while let Some(first) = rest.chars().next() {
         let (columns, len) = front_columns(rest, first, output);
         sum += columns;
         rest = &rest[len..];
@@ -173,8 +251,6 @@ pub fn columns(text: &[u8], output: Output) -> u32
     ensures value { result ≡ columns_of output text.now }
     ensures bound { result ≤ 1000 * length text.now }
 {
-    match str::from_utf8(text) {
-        Ok(text) => text_columns(text, output),
-        Err(_) => unreachable!(),
-    }
+    // Safety: the text is in UTF-8, as the contract requires, and each call is proved to keep that.
+    text_columns(unsafe { str::from_utf8_unchecked(text) }, output)
 }
