@@ -5,3 +5,4 @@ pub mod ExpressionLemmas
 pub mod ColumnLemmas
 pub mod PlainLemmas
 pub mod ShortColumnLemmas
+pub mod SpelledLemmas

@@ -1,6 +1,6 @@
 -- The columns of escapes that few bytes tell.
-use Rattle.std.proofs.Common.{◌≡◌, ℕ, ◌≤◌, ◌==◌, true, false, inl, inr, List, [], ◌∷◌, ◌++◌, length, get_or, encode_utf8, refl, sym, arith}
-use Rattle.std.specs.Prelude.{Some, ⊤}
+use Rattle.std.proofs.Common.{◌≡◌, ℕ, ◌≤◌, ◌==◌, true, false, inl, inr, List, [], ◌∷◌, ◌++◌, length, get_or, encode_utf8, refl, sym, arith, ◌+◌, ◌<◌, take, drop, ap, ◌∙◌}
+use Rattle.std.specs.Prelude.{Some, ⊤, option_map, option_and_then}
 use Rattle.std.specs.Str.{continuation_len}
 use Rattle.std.proofs.Math.Dec.{leb-zero}
 use Rattle.std.proofs.lemmas.Bool.{cases_Bool, cond-true}
@@ -9,13 +9,13 @@ use Rattle.std.proofs.lemmas.Str.{byte_from_char}
 use Rattle.page_core_base.specs.declared.page_settings.Output.{Output}
 use Rattle.page_core_escapes.specs.Bytes.{is_among}
 use Rattle.page_core_escapes.specs.Escapes.{escape_of}
-use Rattle.page_core_escapes.specs.Extents.{character_len}
+use Rattle.page_core_escapes.specs.Extents.{character_len, written_len, name_len}
 use Rattle.page_core_escapes.specs.Lengths.{extent_len, escape_len_by, escape_len}
 use Rattle.page_core_escapes.specs.Letters.{letter_of}
-use Rattle.page_core_escapes.specs.Meanings.{Face, Meaning, character, tab, blank, nothing, glue, unsupported, meaning_of}
+use Rattle.page_core_escapes.specs.Meanings.{Face, Meaning, glyph, character, tab, blank, nothing, glue, unsupported, meaning_of}
 use Rattle.page_core_escapes.specs.machine.ShortEscapes.{ShortFont}
 use Rattle.page_core_numbers.specs.Columns.{characters_columns, printed_escape}
-use Rattle.page_core_numbers.specs.machine.Fronts.{nothing_letters, one_letters, ShortColumns}
+use Rattle.page_core_numbers.specs.machine.Fronts.{nothing_letters, one_letters, ShortColumns, ShortGlyph}
 use Rattle.page_core_numbers.proofs.ColumnLemmas.{blank-columns, printed-printable}
 
 -- ---- an escape that is a letter alone
@@ -147,3 +147,28 @@ pub font-columns : (text : List ℕ) (font : Face) (len : ℕ) → ShortFont tex
 font-columns text font len f =
     let is = f.escape.escape false in
     record { some = f.escape.not_empty; few = omega arith; columns_are = λ output. rw is refl; len_is = rw is refl }
+
+-- ---- a glyph whose name is two bytes
+
+pair_len : (a b : ℕ) (rest : List ℕ) → continuation_len a ≡ 0 → continuation_len b ≡ 0 → name_len false (40 ∷ a ∷ b ∷ rest) ≡ Some 3
+pair_len a b rest first second =
+    ap (λ o. option_map (λ k. k + 1) (option_and_then (λ before. option_map (λ after. before + after) (written_len false (drop before (a ∷ b ∷ rest)))) o)) (one_byte a (b ∷ rest) first)
+    ∙ ap (λ o. option_map (λ k. k + 1) (option_map (λ after. 1 + after) o)) (one_byte b rest second)
+
+pair-escape : (a b : ℕ) (rest : List ℕ) → continuation_len a ≡ 0 → continuation_len b ≡ 0 → escape_of false (92 ∷ 40 ∷ a ∷ b ∷ rest) ≡ (glyph (a ∷ b ∷ []), 4)
+unfolding escape_of escape_len escape_len_by extent_len letter_of meaning_of
+pair-escape a b rest first second = rw (pair_len a b rest first second) refl
+
+alone : (b : ℕ) → b < 128 → continuation_len b ≡ 0
+alone b ascii = grind (arith, nat_tests, ascii)
+
+pub short-glyph : (text rest : List ℕ) → text ≡ encode_utf8 92 ++ rest → 4 ≤ length text → get_or text 1 0 ≡ 40 → get_or text 2 0 < 128 → get_or text 3 0 < 128
+    → ShortGlyph text (take 2 (drop 2 text))
+short-glyph [] rest is long paren a b = absurd (omega (arith, long))
+short-glyph (w ∷ []) rest is long paren a b = absurd (omega (arith, long))
+short-glyph (w ∷ x ∷ []) rest is long paren a b = absurd (omega (arith, long))
+short-glyph (w ∷ x ∷ y ∷ []) rest is long paren a b = absurd (omega (arith, long))
+short-glyph (w ∷ x ∷ y ∷ z ∷ more) rest is long paren a b =
+    let first : w ≡ 92 = byte_from_char (w ∷ x ∷ y ∷ z ∷ more) rest 92 is (omega arith) in
+    let second : x ≡ 40 = paren in
+    record { is = rw (first, second) (pair-escape y z more (alone y a) (alone z b)) }

@@ -5,22 +5,29 @@ ghost use Rattle.std.specs.Prelude.{◌*◌, ◌≡◌, ◌≤◌, ◌<◌, leng
 ghost use Rattle.std.specs.Str.{IsUtf8};
 ghost use Rattle.page_core_escapes.specs.Bytes.{backslash, is_among};
 ghost use Rattle.page_core_escapes.specs.Escapes.{meaning_view};
-ghost use Rattle.page_core_tables.specs.Printed.{printed_view};
+ghost use Rattle.page_core_tables.specs.Printed.{prints_ascii, by_spelling, char_printed, printed_view};
+ghost use Rattle.page_core_tables.specs.Glyphs.{spelling_of};
 ghost use Rattle.page_core_numbers.specs.Columns.{BeginsWith, characters_columns, printed_escape, blanks_in, columns_of};
-ghost use Rattle.page_core_numbers.specs.machine.Fronts.{Front, nothing_letters, one_letters, ShortColumns};
+ghost use Rattle.page_core_numbers.specs.machine.Fronts.{Front, nothing_letters, one_letters, ShortColumns, ShortGlyph};
 ghost use Rattle.page_core_numbers.specs.machine.Plain.{is_plain, are_plain};
 
 use crate::expressions::read_expression;
 use crate::scales::Scale;
 use page_core_base::{LINE, Output, PARENS};
 use page_core_escapes::{Escape, escape, short_font};
-use page_core_tables::{Printed, char_columns, printed_char, printed_glyph};
+use page_core_tables::{Printed, char_columns, printed_char, printed_glyph, spelling};
 
 // The columns of `\h` at most.
 const WIDEST: u32 = 1000;
 
 // The basic units of a column.
 const COLUMN: u32 = 24;
+
+// The last character that has a spelling in ASCII.
+const LAST_SPELLED: char = '\u{27E9}';
+
+// The columns of `<?>`.
+const UNSPELLED: u32 = 3;
 
 // The bytes that are tested at a time.
 const GROUP: usize = 32;
@@ -180,6 +187,18 @@ fn short_escape(text: &[u8]) -> Option<(u32, usize)>
     Some((0, len))
 }
 
+// The name of the glyph at a text's front, where two bytes of ASCII are it, as in `\(bu`.
+#[inline(always)]
+fn short_glyph(text: &[u8]) -> Option<&[u8]>
+    requires { BeginsWith text.now backslash }
+    ensures { IfSome result (λ name. ShortGlyph text.now name.now) }
+{
+    if text.len() < 4 || text[1] != b'(' || !text[2].is_ascii() || !text[3].is_ascii() {
+        return None;
+    }
+    Some(&text[2..4])
+}
+
 // The columns of the escape at a text's front, and how many bytes it takes.
 #[inline(always)]
 fn escape_front(text: &str, output: Output) -> (u32, usize)
@@ -190,6 +209,9 @@ fn escape_front(text: &str, output: Output) -> (u32, usize)
     let bytes = text.as_bytes();
     if let Some(found) = short_escape(bytes) {
         return found;
+    }
+    if let Some(name) = short_glyph(bytes) {
+        return (printed_columns(printed_glyph(output, name)), 4);
     }
     long_escape(bytes, output)
 }
@@ -206,6 +228,43 @@ fn long_escape(text: &[u8], output: Output) -> (u32, usize)
     (escape_columns(found, output), len)
 }
 
+// The columns of the spelling of a character above ASCII. CJK is above all that have one.
+fn spelled_columns(c: char) -> u32
+    requires { 128 ≤ c }
+    ensures value { result ≡ characters_columns (by_spelling (spelling_of c) c).characters }
+    ensures bound { result ≤ 8 }
+{
+    if c > LAST_SPELLED {
+        return UNSPELLED;
+    }
+    let spelling = spelling(c);
+    if spelling.is_empty() {
+        return UNSPELLED;
+    }
+    spelling.len() as u32
+}
+
+// The columns of what a character prints, without the detour of what that is.
+#[inline(always)]
+fn character_columns(output: Output, c: char) -> u32
+    ensures value { result ≡ characters_columns (char_printed output c).characters }
+    ensures bound { result ≤ 24 }
+{
+    match c {
+        '\t' | '\u{A0}' => 1,
+        '\u{80}'.. if prints_ascii(output) => spelled_columns(c),
+        _ => char_columns(c),
+    }
+}
+
+// Whether characters above ASCII are spelled in ASCII.
+#[inline(always)]
+fn prints_ascii(output: Output) -> bool
+    ensures { result ≡ prints_ascii output }
+{
+    !matches!(output, Output::Utf8)
+}
+
 // The columns of what stands at a text's front, and how many bytes it takes: an escape, characters of one column each, or a character.
 #[inline(always)]
 fn front_columns(text: &str, first: char, output: Output) -> (u32, usize)
@@ -219,10 +278,7 @@ fn front_columns(text: &str, first: char, output: Output) -> (u32, usize)
             let len = plain_len(text.as_bytes());
             (len as u32, len)
         }
-        _ => (
-            printed_columns(printed_char(output, first)),
-            first.len_utf8(),
-        ),
+        _ => (character_columns(output, first), first.len_utf8()),
     }
 }
 

@@ -3,6 +3,7 @@ use Rattle.std.specs.Prelude.{ℕ, ◌≡◌, ◌+◌, ◌*◌, ◌<◌, ◌≤�
 use Rattle.std.specs.Str.{IsCharBoundary}
 use Rattle.page_core_base.specs.declared.page_settings.Output.{Output}
 use Rattle.page_core_escapes.specs.Escapes.{escape_of}
+use Rattle.page_core_escapes.specs.Meanings.{glyph}
 use Rattle.page_core_numbers.specs.Columns.{characters_columns, printed_escape, printed_within, columns_of}
 
 -- `sum` columns of a text have come, and with steps enough those that are left are the ones of `rest`
@@ -34,3 +35,7 @@ pub record ShortColumns (text : List ℕ) (columns len : ℕ) : Type 0 where
   pub few : columns ≤ 1
   pub columns_are : (output : Output) → columns ≡ characters_columns (printed_escape output (escape_of false text).0)
   pub len_is : len ≡ (escape_of false text).1
+
+-- the escape at a text's front is the glyph of this name, in four bytes
+pub record ShortGlyph (text name : List ℕ) : Type 0 where
+  pub is : escape_of false text ≡ (glyph name, 4)

@@ -1,5 +1,4 @@
-use Rattle.std.proofs.Common.{◌≡◌, ◌≢◌, ◌∙◌, ◌<◌, true, ap, take, arith}
-use Rattle.page_core_numbers.specs.Columns.{characters_columns}
+use Rattle.std.proofs.Common.{◌≡◌, ◌≢◌, ◌<◌, true, take, arith}
 use Rattle.page_core_numbers.specs.machine.Plain.{are_plain}
 use Rattle.page_core_numbers.proofs.ColumnLemmas.{front-of_character}
 use Rattle.page_core_numbers.proofs.PlainLemmas.{front-of_plain, plain-some}
@@ -15,5 +14,5 @@ returns-in-32-to-126 c =
 
 pub returns-in_default : goal.returns-in_default
 returns-in_default c =
-    front-of_character c.args.output c.args.text.now c.requires.first.rest c.args.first c.printed_columns.result c.len_utf8.result c.utf8.text c.requires.first.is (omega arith) (omega arith)
-    (c.printed_columns.ensures.value ∙ ap (λ p. characters_columns p.characters) c.printed_char.ensures.value) c.len_utf8.ensures.value
+    front-of_character c.args.output c.args.text.now c.requires.first.rest c.args.first c.character_columns.result c.len_utf8.result c.utf8.text c.requires.first.is (omega arith) (omega arith)
+    c.character_columns.ensures.value c.len_utf8.ensures.value
