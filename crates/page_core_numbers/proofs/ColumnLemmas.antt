@@ -6,14 +6,14 @@ use Rattle.std.proofs.lemmas.Bool.Decides.{nat_tests}
 use Rattle.std.proofs.lemmas.List.{length-drop}
 use Rattle.std.proofs.lemmas.List.Sums.{sum_by-append}
 use Rattle.std.proofs.lemmas.List.Folds.{sum_by-replicate}
-use Rattle.std.proofs.lemmas.Str.{byte_from_char, chars_past_char, length-encode, len_utf8_bounds, IsCharBoundary-past_char}
+use Rattle.std.proofs.lemmas.Str.{byte_from_char, drop_past_char, chars_past_char, length-encode, len_utf8_bounds, IsCharBoundary-past_char}
 use Rattle.page_core_base.specs.declared.page_settings.Output.{Output}
 use Rattle.page_core_escapes.specs.Escapes.{escape_of}
 use Rattle.page_core_escapes.proofs.EscapeTexts.{escape_cuts}
 use Rattle.page_core_tables.specs.Printed.{char_printed, glyph_printed, char_columns}
 use Rattle.page_core_tables.proofs.PrintedLemmas.{char_columns-printable}
 use Rattle.page_core_numbers.specs.Columns.{characters_columns, printed_escape, printed_front, front_len, printed_within, columns_of}
-use Rattle.page_core_numbers.specs.machine.Fronts.{Left, Front, ShortColumns, ShortGlyph}
+use Rattle.page_core_numbers.specs.machine.Fronts.{Left, Front, Past, ShortColumns, ShortGlyph}
 
 -- ---- single characters
 
@@ -116,3 +116,17 @@ pub front-of_glyph : (output : Output) (text rest name : List ℕ) (columns : �
     → columns ≡ characters_columns (glyph_printed output name).characters → Front output text columns 4
 front-of_glyph output text rest name columns utf8 is short few same =
     front-of_escape output text rest columns 4 utf8 is (omega arith) (omega arith) (rw short.is same) (rw short.is refl)
+
+-- ---- what is left after it
+
+pub past-front : (output : Output) (text : List ℕ) (columns len : ℕ) (rest : List ℕ) → Front output text columns len → rest ≡ drop len text → Past output text columns rest
+past-front output text columns len rest f is =
+    let short = length-drop len text in
+    let same : length rest ≡ length (drop len text) = ap length is in
+    record { shorter = omega (arith, short, same, f.some, f.whole_characters.0); few = omega (arith, short, same, f.few, f.whole_characters.0); goes_on = λ whole sum l. rw is (f.goes_on whole sum l) }
+
+pub past-character : (output : Output) (text rest : List ℕ) (c columns : ℕ) → IsUtf8 text → text ≡ encode_utf8 c ++ rest → c ≢ 92 → columns ≤ 1000
+    → columns ≡ characters_columns (char_printed output c).characters → Past output text columns rest
+past-character output text rest c columns utf8 is e few same =
+    let left : drop (len_utf8 c) text ≡ rest = rw zero-add at (drop_past_char text rest 0 c is) in
+    past-front output text columns (len_utf8 c) rest (front-of_character output text rest c columns (len_utf8 c) utf8 is e few same refl) (sym left)

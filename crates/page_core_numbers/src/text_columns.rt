@@ -1,14 +1,14 @@
 //! The columns of a finished text: mandoc_char(7); roff(7), "Escape sequences". It is read escape by escape, and the expressions in `\h`
 //! (`expressions`) count.
 
-ghost use Rattle.std.specs.Prelude.{◌*◌, ◌≡◌, ◌≤◌, ◌<◌, length, take, slice_index, IfSome, true, false};
+ghost use Rattle.std.specs.Prelude.{◌*◌, ◌++◌, ◌≡◌, ◌≤◌, ◌<◌, length, take, slice_index, encode_utf8, IfSome, MatchOption, true, false};
 ghost use Rattle.std.specs.Str.{IsUtf8};
 ghost use Rattle.page_core_escapes.specs.Bytes.{backslash, is_among};
 ghost use Rattle.page_core_escapes.specs.Escapes.{meaning_view};
 ghost use Rattle.page_core_tables.specs.Printed.{prints_ascii, by_spelling, char_printed, printed_view};
 ghost use Rattle.page_core_tables.specs.Glyphs.{spelling_of};
 ghost use Rattle.page_core_numbers.specs.Columns.{BeginsWith, characters_columns, printed_escape, blanks_in, columns_of};
-ghost use Rattle.page_core_numbers.specs.machine.Fronts.{Front, nothing_letters, one_letters, ShortColumns, ShortGlyph};
+ghost use Rattle.page_core_numbers.specs.machine.Fronts.{Front, Past, nothing_letters, one_letters, ShortColumns, ShortGlyph};
 ghost use Rattle.page_core_numbers.specs.machine.Plain.{is_plain, are_plain};
 
 use crate::expressions::read_expression;
@@ -265,20 +265,34 @@ fn prints_ascii(output: Output) -> bool
     !matches!(output, Output::Utf8)
 }
 
-// The columns of what stands at a text's front, and how many bytes it takes: an escape, characters of one column each, or a character.
+// The first character of a text, and what follows it.
 #[inline(always)]
-fn front_columns(text: &str, first: char, output: Output) -> (u32, usize)
-    requires first { BeginsWith text.now first }
+fn split_first(text: &str) -> Option<(char, &str)>
+    ensures { MatchOption result (length text.now ≡ 0) (λ found. text.now ≡ encode_utf8 found.0 ++ found.1.now) }
+{
+    let mut chars = text.chars();
+    let first = chars.next()?;
+    Some((first, chars.as_str()))
+}
+
+// The columns of what stands at a text's front, an escape, characters of one column each, or a character, and the text that follows it;
+// `after` is what follows the first character.
+#[inline(always)]
+fn front_columns<'a>(text: &'a str, first: char, after: &'a str, output: Output) -> (u32, &'a str)
+    requires first { text.now ≡ encode_utf8 first ++ after.now }
     requires line { length text.now ≤ LINE }
-    ensures { Front output text.now result.0 result.1 }
+    ensures { Past output text.now result.0 result.1.now }
 {
     match first {
-        '\\' => escape_front(text, output),
+        '\\' => {
+            let (columns, len) = escape_front(text, output);
+            (columns, &text[len..])
+        }
         ' '..='~' => {
             let len = plain_len(text.as_bytes());
-            (len as u32, len)
+            (len as u32, &text[len..])
         }
-        _ => (character_columns(output, first), first.len_utf8()),
+        _ => (character_columns(output, first), after),
     }
 }
 
@@ -290,10 +304,10 @@ fn text_columns(text: &str, output: Output) -> u32
 {
     let mut sum = 0u32;
     let mut rest = text;
-    while let Some(first) = rest.chars().next() {
-        let (columns, len) = front_columns(rest, first, output);
+    while let Some((first, after)) = split_first(rest) {
+        let (columns, left) = front_columns(rest, first, after, output);
         sum += columns;
-        rest = &rest[len..];
+        rest = left;
     }
     sum
 }

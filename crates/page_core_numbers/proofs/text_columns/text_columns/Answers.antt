@@ -1,8 +1,7 @@
-use Rattle.std.proofs.Common.{◌∙◌, ap, sym, length}
 use Rattle.page_core_numbers.proofs.ColumnLemmas.{left-none}
 use Rattle.page_core_numbers.proofs.text_columns.text_columns.Goals as goal
 
 pub returns-clause-value : goal.returns-clause-value
 returns-clause-value c =
     let l = c.loop-first in
-    left-none c.args.output c.args.text.now l.sum l.rest.now l.invariant.1 (ap length (sym c.chars.ensures.rest) ∙ c.in_default.ensures.steps.0.0)
+    left-none c.args.output c.args.text.now l.sum l.rest.now l.invariant.1 c.in_default.ensures
