@@ -1,24 +1,33 @@
 //! The columns of a finished text: mandoc_char(7); roff(7), "Escape sequences". It is read escape by escape, and the expressions in `\h`
 //! (`expressions`) count.
 
-ghost use Rattle.std.specs.Prelude.{◌*◌, ◌≡◌, ◌≤◌, ◌<◌, length, take, chars, true};
-ghost use Rattle.std.specs.Str.{IsUtf8, IsCharBoundary};
+ghost use Rattle.std.specs.Prelude.{◌*◌, ◌++◌, ◌≡◌, ◌≤◌, ◌<◌, length, take, slice_index, encode_utf8, IfSome, MatchOption, true, false};
+ghost use Rattle.std.specs.Str.{IsUtf8};
+ghost use Rattle.page_core_escapes.specs.Bytes.{backslash, is_among};
 ghost use Rattle.page_core_escapes.specs.Escapes.{meaning_view};
-ghost use Rattle.page_core_tables.specs.Printed.{printed_view};
-ghost use Rattle.page_core_numbers.specs.Columns.{BeginsWith, characters_columns, printed_escape, printed_front, front_len, blanks_in, columns_of};
+ghost use Rattle.page_core_tables.specs.Printed.{prints_ascii, by_spelling, char_printed, printed_view};
+ghost use Rattle.page_core_tables.specs.Glyphs.{spelling_of};
+ghost use Rattle.page_core_numbers.specs.Columns.{BeginsWith, characters_columns, printed_escape, blanks_in, columns_of};
+ghost use Rattle.page_core_numbers.specs.machine.Fronts.{Front, Past, nothing_letters, one_letters, ShortColumns, ShortGlyph};
 ghost use Rattle.page_core_numbers.specs.machine.Plain.{is_plain, are_plain};
 
 use crate::expressions::read_expression;
 use crate::scales::Scale;
 use page_core_base::{LINE, Output, PARENS};
-use page_core_escapes::{Escape, escape};
-use page_core_tables::{Printed, char_columns, printed_char, printed_glyph};
+use page_core_escapes::{Escape, escape, short_font};
+use page_core_tables::{Printed, char_columns, printed_char, printed_glyph, spelling};
 
 // The columns of `\h` at most.
 const WIDEST: u32 = 1000;
 
 // The basic units of a column.
 const COLUMN: u32 = 24;
+
+// The last character that has a spelling in ASCII.
+const LAST_SPELLED: char = '\u{27E9}';
+
+// The columns of `<?>`.
+const UNSPELLED: u32 = 3;
 
 // The bytes that are tested at a time.
 const GROUP: usize = 32;
@@ -77,26 +86,6 @@ pub fn escape_columns(escape: Escape<'_>, output: Output) -> u32
     }
 }
 
-// The columns of the escape or the character at a text's front, and how many bytes it takes.
-fn front_columns(text: &str, first: char, output: Output) -> (u32, usize)
-    requires first { BeginsWith text.now first }
-    requires line { length text.now ≤ LINE }
-    ensures columns { result.0 ≡ characters_columns (printed_front output text.now (chars text.now)) }
-    ensures bound { result.0 ≤ WIDEST }
-    ensures len { result.1 ≡ front_len text.now (chars text.now) }
-    ensures some { 0 < result.1 }
-    ensures whole_characters { IsCharBoundary text.now result.1 }
-{
-    if first == '\\' {
-        let (found, len) = escape(text.as_bytes());
-        return (escape_columns(found, output), len);
-    }
-    (
-        printed_columns(printed_char(output, first)),
-        first.len_utf8(),
-    )
-}
-
 // Whether a byte is a character of one column by itself: printable ASCII, and no backslash.
 #[inline(always)]
 fn is_plain(byte: u8) -> bool
@@ -134,12 +123,177 @@ fn groups_len(text: &[u8]) -> usize
 fn plain_len(text: &[u8]) -> usize
     ensures within { result ≤ length text.now }
     ensures plain { are_plain (take result text.now) ≡ true }
+    ensures all { result < length text.now → is_plain (slice_index text.now result) ≡ false }
 {
     let mut at = groups_len(text);
     while at < text.len() && is_plain(text[at]) {
         at += 1;
     }
     at
+}
+
+// Whether the escape of this letter takes two bytes and prints nothing, as `\&`.
+#[inline(always)]
+fn prints_nothing(letter: u8) -> bool
+    ensures { result ≡ is_among letter nothing_letters }
+{
+    matches!(
+        letter,
+        b'&' | b')'
+            | b'|'
+            | b'^'
+            | b'%'
+            | b'/'
+            | b','
+            | b':'
+            | b'a'
+            | b'u'
+            | b'r'
+            | b'd'
+            | b'z'
+            | b'{'
+            | b'c'
+            | b'p'
+    )
+}
+
+// Whether the escape of this letter takes two bytes and prints a character of one column in each output, as `\-`.
+#[inline(always)]
+fn prints_one(letter: u8) -> bool
+    ensures { result ≡ is_among letter one_letters }
+{
+    matches!(
+        letter,
+        b' ' | b'~' | b'0' | b't' | b'e' | b'\\' | b'-' | b'`' | b'.'
+    )
+}
+
+// The columns of the escape at a text's front, and how many bytes it takes, where few bytes say so.
+#[inline(always)]
+fn short_escape(text: &[u8]) -> Option<(u32, usize)>
+    requires { BeginsWith text.now backslash }
+    ensures { IfSome result (λ found. ShortColumns text.now found.0 found.1) }
+{
+    if text.len() < 2 {
+        return None;
+    }
+    if prints_nothing(text[1]) {
+        return Some((0, 2));
+    }
+    if prints_one(text[1]) {
+        return Some((1, 2));
+    }
+    let (_, len) = short_font(text)?;
+    Some((0, len))
+}
+
+// The name of the glyph at a text's front, where two bytes of ASCII are it, as in `\(bu`.
+#[inline(always)]
+fn short_glyph(text: &[u8]) -> Option<&[u8]>
+    requires { BeginsWith text.now backslash }
+    ensures { IfSome result (λ name. ShortGlyph text.now name.now) }
+{
+    if text.len() < 4 || text[1] != b'(' || !text[2].is_ascii() || !text[3].is_ascii() {
+        return None;
+    }
+    Some(&text[2..4])
+}
+
+// The columns of the escape at a text's front, and how many bytes it takes.
+#[inline(always)]
+fn escape_front(text: &str, output: Output) -> (u32, usize)
+    requires first { BeginsWith text.now backslash }
+    requires line { length text.now ≤ LINE }
+    ensures { Front output text.now result.0 result.1 }
+{
+    let bytes = text.as_bytes();
+    if let Some(found) = short_escape(bytes) {
+        return found;
+    }
+    if let Some(name) = short_glyph(bytes) {
+        return (printed_columns(printed_glyph(output, name)), 4);
+    }
+    long_escape(bytes, output)
+}
+
+// The same of any escape.
+#[inline(never)]
+fn long_escape(text: &[u8], output: Output) -> (u32, usize)
+    requires utf8 { IsUtf8 text.now }
+    requires first { BeginsWith text.now backslash }
+    requires line { length text.now ≤ LINE }
+    ensures { Front output text.now result.0 result.1 }
+{
+    let (found, len) = escape(text);
+    (escape_columns(found, output), len)
+}
+
+// The columns of the spelling of a character above ASCII. CJK is above all that have one.
+fn spelled_columns(c: char) -> u32
+    requires { 128 ≤ c }
+    ensures value { result ≡ characters_columns (by_spelling (spelling_of c) c).characters }
+    ensures bound { result ≤ 8 }
+{
+    if c > LAST_SPELLED {
+        return UNSPELLED;
+    }
+    let spelling = spelling(c);
+    if spelling.is_empty() {
+        return UNSPELLED;
+    }
+    spelling.len() as u32
+}
+
+// The columns of what a character prints, without the detour of what that is.
+#[inline(always)]
+fn character_columns(output: Output, c: char) -> u32
+    ensures value { result ≡ characters_columns (char_printed output c).characters }
+    ensures bound { result ≤ 24 }
+{
+    match c {
+        '\t' | '\u{A0}' => 1,
+        '\u{80}'.. if prints_ascii(output) => spelled_columns(c),
+        _ => char_columns(c),
+    }
+}
+
+// Whether characters above ASCII are spelled in ASCII.
+#[inline(always)]
+fn prints_ascii(output: Output) -> bool
+    ensures { result ≡ prints_ascii output }
+{
+    !matches!(output, Output::Utf8)
+}
+
+// The first character of a text, and what follows it.
+#[inline(always)]
+fn split_first(text: &str) -> Option<(char, &str)>
+    ensures { MatchOption result (length text.now ≡ 0) (λ found. text.now ≡ encode_utf8 found.0 ++ found.1.now) }
+{
+    let mut chars = text.chars();
+    let first = chars.next()?;
+    Some((first, chars.as_str()))
+}
+
+// The columns of what stands at a text's front, an escape, characters of one column each, or a character, and the text that follows it;
+// `after` is what follows the first character.
+#[inline(always)]
+fn front_columns<'a>(text: &'a str, first: char, after: &'a str, output: Output) -> (u32, &'a str)
+    requires first { text.now ≡ encode_utf8 first ++ after.now }
+    requires line { length text.now ≤ LINE }
+    ensures { Past output text.now result.0 result.1.now }
+{
+    match first {
+        '\\' => {
+            let (columns, len) = escape_front(text, output);
+            (columns, &text[len..])
+        }
+        ' '..='~' => {
+            let len = plain_len(text.as_bytes());
+            (len as u32, &text[len..])
+        }
+        _ => (character_columns(output, first), after),
+    }
 }
 
 // The columns of a text.
@@ -150,16 +304,10 @@ fn text_columns(text: &str, output: Output) -> u32
 {
     let mut sum = 0u32;
     let mut rest = text;
-    while !rest.is_empty() {
-        let plain = plain_len(rest.as_bytes());
-        sum += plain as u32;
-        rest = &rest[plain..];
-        let Some(first) = rest.chars().next() else {
-            return sum;
-        };
-        let (columns, len) = front_columns(rest, first, output);
+    while let Some((first, after)) = split_first(rest) {
+        let (columns, left) = front_columns(rest, first, after, output);
         sum += columns;
-        rest = &rest[len..];
+        rest = left;
     }
     sum
 }
@@ -173,8 +321,6 @@ pub fn columns(text: &[u8], output: Output) -> u32
     ensures value { result ≡ columns_of output text.now }
     ensures bound { result ≤ 1000 * length text.now }
 {
-    match str::from_utf8(text) {
-        Ok(text) => text_columns(text, output),
-        Err(_) => unreachable!(),
-    }
+    // Safety: the text is in UTF-8, as the contract requires, and each call is proved to keep that.
+    text_columns(unsafe { str::from_utf8_unchecked(text) }, output)
 }

@@ -1,32 +1,23 @@
-use Rattle.std.proofs.Common.{false, ◌∙◌, ap, sym}
-use Rattle.std.proofs.lemmas.Str.{length-encode}
-use Rattle.page_core_escapes.specs.Escapes.{escape_of}
-use Rattle.page_core_numbers.specs.Columns.{characters_columns, printed_escape}
-use Rattle.page_core_numbers.proofs.ColumnLemmas.{front-escape, front-character, front-boundary}
+use Rattle.std.proofs.Common.{◌≡◌, ◌≢◌, ◌<◌, true, take, arith}
+use Rattle.page_core_numbers.specs.machine.Plain.{are_plain}
+use Rattle.page_core_numbers.proofs.ColumnLemmas.{past-front, past-character}
+use Rattle.page_core_numbers.proofs.PlainLemmas.{front-of_plain, plain-some}
 use Rattle.page_core_numbers.proofs.text_columns.front_columns.Goals as goal
 
-pub returns-then-first-eq92-clause-columns : goal.returns-then-first-eq92-clause-columns
-returns-then-first-eq92-clause-columns c =
-    let front = front-escape c.args.output c.args.text.now c.requires.first.rest c.args.first c.utf8.text c.requires.first.is c.if-first-eq92.true in
-    c.escape_columns.ensures.value ∙ ap (λ m. characters_columns (printed_escape c.args.output m)) (c.escape-len.ensures.meaning ∙ ap (λ t. (escape_of false t).0) c.as_bytes.ensures.value)
-    ∙ ap characters_columns (sym front.0)
+pub range_from-requires-in-32-to-126 : goal.range_from-requires-in-32-to-126
+range_from-requires-in-32-to-126 c =
+    let n = c.plain_len-len.result in
+    let plain : are_plain (take n c.args.text.now) ≡ true = rw c.as_bytes.ensures.value at c.plain_len-len.ensures.plain in
+    λ some. (front-of_plain c.args.output c.args.text.now n c.utf8.text some (omega arith) plain).whole_characters
 
-pub returns-then-first-eq92-clause-len : goal.returns-then-first-eq92-clause-len
-returns-then-first-eq92-clause-len c =
-    let front = front-escape c.args.output c.args.text.now c.requires.first.rest c.args.first c.utf8.text c.requires.first.is c.if-first-eq92.true in
-    c.escape-len.ensures.len ∙ ap (λ t. (escape_of false t).1) c.as_bytes.ensures.value ∙ sym front.1
+pub returns-in-32-to-126 : goal.returns-in-32-to-126
+returns-in-32-to-126 c =
+    let n = c.plain_len-len.result in
+    let plain : are_plain (take n c.args.text.now) ≡ true = rw c.as_bytes.ensures.value at c.plain_len-len.ensures.plain in
+    let other : c.args.first ≢ 92 = omega arith in
+    let some : 0 < n = plain-some c.args.text.now c.args.after.now c.args.first n c.requires.first (omega arith) (omega arith) other (rw c.as_bytes.ensures.value at c.plain_len-len.ensures.all) in
+    past-front c.args.output c.args.text.now n n c.range_from-in-32-to-126.result.now (front-of_plain c.args.output c.args.text.now n c.utf8.text some (omega arith) plain) c.range_from-in-32-to-126.ensures.value
 
-pub returns-clause-columns : goal.returns-clause-columns
-returns-clause-columns c =
-    let front = front-character c.args.output c.args.text.now c.requires.first.rest c.args.first c.utf8.text c.requires.first.is c.if-first-eq92.false in
-    c.printed_columns.ensures.value ∙ ap (λ p. characters_columns p.characters) c.printed_char.ensures.value ∙ ap characters_columns (sym front.0)
-
-pub returns-clause-len : goal.returns-clause-len
-returns-clause-len c =
-    let front = front-character c.args.output c.args.text.now c.requires.first.rest c.args.first c.utf8.text c.requires.first.is c.if-first-eq92.false in
-    c.len_utf8.ensures.value ∙ sym (length-encode c.args.first) ∙ sym front.1
-
-pub returns-clause-whole_characters : goal.returns-clause-whole_characters
-returns-clause-whole_characters c =
-    let boundary = front-boundary c.args.text.now c.requires.first.rest c.args.first c.utf8.text c.requires.first.is in
-    rw c.len_utf8.ensures.value boundary
+pub returns-in_default : goal.returns-in_default
+returns-in_default c =
+    past-character c.args.output c.args.text.now c.args.after.now c.args.first c.character_columns.result c.utf8.text c.requires.first (omega arith) (omega arith) c.character_columns.ensures.value

@@ -1,0 +1,174 @@
+-- The columns of escapes that few bytes tell.
+use Rattle.std.proofs.Common.{◌≡◌, ℕ, ◌≤◌, ◌==◌, true, false, inl, inr, List, [], ◌∷◌, ◌++◌, length, get_or, encode_utf8, refl, sym, arith, ◌+◌, ◌<◌, take, drop, ap, ◌∙◌}
+use Rattle.std.specs.Prelude.{Some, ⊤, option_map, option_and_then}
+use Rattle.std.specs.Str.{continuation_len}
+use Rattle.std.proofs.Math.Dec.{leb-zero}
+use Rattle.std.proofs.lemmas.Bool.{cases_Bool, cond-true}
+use Rattle.std.proofs.lemmas.Bool.Decides.{nat_tests}
+use Rattle.std.proofs.lemmas.Str.{byte_from_char}
+use Rattle.page_core_base.specs.declared.page_settings.Output.{Output}
+use Rattle.page_core_escapes.specs.Bytes.{is_among}
+use Rattle.page_core_escapes.specs.Escapes.{escape_of}
+use Rattle.page_core_escapes.specs.Extents.{character_len, written_len, name_len}
+use Rattle.page_core_escapes.specs.Lengths.{extent_len, escape_len_by, escape_len}
+use Rattle.page_core_escapes.specs.Letters.{letter_of}
+use Rattle.page_core_escapes.specs.Meanings.{Face, Meaning, glyph, character, tab, blank, nothing, glue, unsupported, meaning_of}
+use Rattle.page_core_escapes.specs.machine.ShortEscapes.{ShortFont}
+use Rattle.page_core_numbers.specs.Columns.{characters_columns, printed_escape}
+use Rattle.page_core_numbers.specs.machine.Fronts.{nothing_letters, one_letters, ShortColumns, ShortGlyph}
+use Rattle.page_core_numbers.proofs.ColumnLemmas.{blank-columns, printed-printable}
+
+-- ---- an escape that is a letter alone
+
+one_byte : (key : ℕ) (rest : List ℕ) → continuation_len key ≡ 0 → character_len (key ∷ rest) ≡ Some 1
+one_byte key rest none = rw none (cond-true _ _ _ (leb-zero (length rest)))
+
+-- the escape of this letter has two bytes and so many columns
+abbrev Prints : (rest : List ℕ) (columns letter : ℕ) → Type 0
+Prints rest columns letter =
+    (meaning : Meaning) × (escape_of false (92 ∷ letter ∷ rest) ≡ (meaning, 2)) × ((output : Output) → columns ≡ characters_columns (printed_escape output meaning))
+
+AllPrint : (rest : List ℕ) (columns : ℕ) → List ℕ → Type 0
+AllPrint rest columns [] = ⊤
+AllPrint rest columns (k ∷ ks) = Prints rest columns k × AllPrint rest columns ks
+
+nothing-print : (rest : List ℕ) → AllPrint rest 0 nothing_letters
+unfolding AllPrint escape_of escape_len escape_len_by extent_len letter_of meaning_of
+nothing-print rest = (
+  (nothing, rw (one_byte 38 rest refl) refl, λ output. refl),
+  ((
+    (nothing, rw (one_byte 41 rest refl) refl, λ output. refl),
+    ((
+      (nothing, rw (one_byte 124 rest refl) refl, λ output. refl),
+      ((
+        (nothing, rw (one_byte 94 rest refl) refl, λ output. refl),
+        ((
+          (nothing, rw (one_byte 37 rest refl) refl, λ output. refl),
+          ((
+            (nothing, rw (one_byte 47 rest refl) refl, λ output. refl),
+            ((
+              (nothing, rw (one_byte 44 rest refl) refl, λ output. refl),
+              ((
+                (nothing, rw (one_byte 58 rest refl) refl, λ output. refl),
+                ((
+                  (nothing, rw (one_byte 97 rest refl) refl, λ output. refl),
+                  ((
+                    (nothing, rw (one_byte 117 rest refl) refl, λ output. refl),
+                    ((
+                      (nothing, rw (one_byte 114 rest refl) refl, λ output. refl),
+                      ((
+                        (nothing, rw (one_byte 100 rest refl) refl, λ output. refl),
+                        ((
+                          (nothing, rw (one_byte 122 rest refl) refl, λ output. refl),
+                          ((
+                            (nothing, rw (one_byte 123 rest refl) refl, λ output. refl),
+                            ((
+                              (glue, rw (one_byte 99 rest refl) refl, λ output. refl),
+                              ((
+                                (unsupported, rw (one_byte 112 rest refl) refl, λ output. refl),
+                                (
+                                    tt),
+                              )),
+                            )),
+                          )),
+                        )),
+                      )),
+                    )),
+                  )),
+                )),
+              )),
+            )),
+          )),
+        )),
+      )),
+    )),
+  )),
+)
+
+one-print : (rest : List ℕ) → AllPrint rest 1 one_letters
+unfolding AllPrint escape_of escape_len escape_len_by extent_len letter_of meaning_of
+one-print rest = (
+  (blank, rw (one_byte 32 rest refl) refl, λ output. sym blank-columns),
+  ((
+    (blank, rw (one_byte 126 rest refl) refl, λ output. sym blank-columns),
+    ((
+      (blank, rw (one_byte 48 rest refl) refl, λ output. sym blank-columns),
+      ((
+        (tab, rw (one_byte 116 rest refl) refl, λ output. sym blank-columns),
+        ((
+          (character 92, rw (one_byte 101 rest refl) refl, λ output. sym (printed-printable output 92 (omega arith) (omega arith))),
+          ((
+            (character 92, rw (one_byte 92 rest refl) refl, λ output. sym (printed-printable output 92 (omega arith) (omega arith))),
+            ((
+              (character 45, rw (one_byte 45 rest refl) refl, λ output. sym (printed-printable output 45 (omega arith) (omega arith))),
+              ((
+                (character 96, rw (one_byte 96 rest refl) refl, λ output. sym (printed-printable output 96 (omega arith) (omega arith))),
+                ((
+                  (character 46, rw (one_byte 46 rest refl) refl, λ output. sym (printed-printable output 46 (omega arith) (omega arith))),
+                  (
+                      tt),
+                )),
+              )),
+            )),
+          )),
+        )),
+      )),
+    )),
+  )),
+)
+
+among-prints : (rest : List ℕ) (columns letter : ℕ) (letters : List ℕ) → AllPrint rest columns letters → is_among letter letters ≡ true → Prints rest columns letter
+unfolding AllPrint
+among-prints rest columns letter [] all h = absurd (grind (arith, h))
+among-prints rest columns letter (k ∷ ks) all h =
+    elim (cases_Bool (letter == k)) [
+      | inl same ↦ let e : letter ≡ k = grind (arith, nat_tests, same) in rw e all.0
+      | inr other ↦ among-prints rest columns letter ks all.1 (rw other at h)
+    ]
+
+letters-columns : (letters : List ℕ) (columns : ℕ) → ((rest : List ℕ) → AllPrint rest columns letters) → columns ≤ 1 → (text rest : List ℕ) → text ≡ encode_utf8 92 ++ rest → 2 ≤ length text
+    → is_among (get_or text 1 0) letters ≡ true → ShortColumns text columns 2
+letters-columns letters columns all few [] rest is long h = absurd (omega (arith, long))
+letters-columns letters columns all few (x ∷ []) rest is long h = absurd (omega (arith, long))
+letters-columns letters columns all few (x ∷ y ∷ more) rest is long h =
+    let first : x ≡ 92 = byte_from_char (x ∷ y ∷ more) rest 92 is (omega arith) in
+    let found = among-prints more columns y letters (all more) h in
+    record { some = omega arith; few = few; columns_are = λ output. rw (first, found.1) (found.2 output); len_is = rw (first, found.1) refl }
+
+pub nothing-columns : (text rest : List ℕ) → text ≡ encode_utf8 92 ++ rest → 2 ≤ length text → is_among (get_or text 1 0) nothing_letters ≡ true → ShortColumns text 0 2
+nothing-columns text rest is long h = letters-columns nothing_letters 0 nothing-print (omega arith) text rest is long h
+
+pub one-columns : (text rest : List ℕ) → text ≡ encode_utf8 92 ++ rest → 2 ≤ length text → is_among (get_or text 1 0) one_letters ≡ true → ShortColumns text 1 2
+one-columns text rest is long h = letters-columns one_letters 1 one-print (omega arith) text rest is long h
+
+-- ---- a font that few bytes name
+
+pub font-columns : (text : List ℕ) (font : Face) (len : ℕ) → ShortFont text font len → ShortColumns text 0 len
+font-columns text font len f =
+    let is = f.escape.escape false in
+    record { some = f.escape.not_empty; few = omega arith; columns_are = λ output. rw is refl; len_is = rw is refl }
+
+-- ---- a glyph whose name is two bytes
+
+pair_len : (a b : ℕ) (rest : List ℕ) → continuation_len a ≡ 0 → continuation_len b ≡ 0 → name_len false (40 ∷ a ∷ b ∷ rest) ≡ Some 3
+pair_len a b rest first second =
+    ap (λ o. option_map (λ k. k + 1) (option_and_then (λ before. option_map (λ after. before + after) (written_len false (drop before (a ∷ b ∷ rest)))) o)) (one_byte a (b ∷ rest) first)
+    ∙ ap (λ o. option_map (λ k. k + 1) (option_map (λ after. 1 + after) o)) (one_byte b rest second)
+
+pair-escape : (a b : ℕ) (rest : List ℕ) → continuation_len a ≡ 0 → continuation_len b ≡ 0 → escape_of false (92 ∷ 40 ∷ a ∷ b ∷ rest) ≡ (glyph (a ∷ b ∷ []), 4)
+unfolding escape_of escape_len escape_len_by extent_len letter_of meaning_of
+pair-escape a b rest first second = rw (pair_len a b rest first second) refl
+
+alone : (b : ℕ) → b < 128 → continuation_len b ≡ 0
+alone b ascii = grind (arith, nat_tests, ascii)
+
+pub short-glyph : (text rest : List ℕ) → text ≡ encode_utf8 92 ++ rest → 4 ≤ length text → get_or text 1 0 ≡ 40 → get_or text 2 0 < 128 → get_or text 3 0 < 128
+    → ShortGlyph text (take 2 (drop 2 text))
+short-glyph [] rest is long paren a b = absurd (omega (arith, long))
+short-glyph (w ∷ []) rest is long paren a b = absurd (omega (arith, long))
+short-glyph (w ∷ x ∷ []) rest is long paren a b = absurd (omega (arith, long))
+short-glyph (w ∷ x ∷ y ∷ []) rest is long paren a b = absurd (omega (arith, long))
+short-glyph (w ∷ x ∷ y ∷ z ∷ more) rest is long paren a b =
+    let first : w ≡ 92 = byte_from_char (w ∷ x ∷ y ∷ z ∷ more) rest 92 is (omega arith) in
+    let second : x ≡ 40 = paren in
+    record { is = rw (first, second) (pair-escape y z more (alone y a) (alone z b)) }
