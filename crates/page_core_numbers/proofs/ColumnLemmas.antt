@@ -78,7 +78,7 @@ left-none output text sum [] l none = at l.steps l.enough l.same
     at (suc k) enough same = omega (arith, same)
 left-none output text sum (b ∷ bs) l none = absurd (omega arith)
 
--- ---- what stands at a text's front
+-- ---- what is at a text's front
 
 left-past : (output : Output) (text : List ℕ) (columns len : ℕ) → 0 < length text → columns ≡ characters_columns (printed_front output text (chars text)) → len ≡ front_len text (chars text) → 0 < len
     → (whole : List ℕ) (sum : ℕ) → Left output whole sum text → Left output whole (sum + columns) (drop len text)

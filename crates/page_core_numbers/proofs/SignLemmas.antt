@@ -26,7 +26,7 @@ operand-signs inside scale (b ∷ bs) =
           ]
     ]
 
--- after signs stands no sign
+-- there is no sign after signs
 pub after_signs-front : (text : List ℕ) → (get_or (after_signs text) 0 0 == 45) ≡ false
 after_signs-front [] = refl
 after_signs-front (b ∷ bs) =

@@ -40,7 +40,7 @@ printed_escape output escapes.bad = []
 
 -- ---- texts
 
--- what stands at a text's front, where the text's characters are known: an escape, or a character
+-- what is at a text's front, where the text's characters are known: an escape, or a character
 abbrev pub printed_front : Output → List ℕ → List ℕ → List ℕ
 printed_front output text [] = []
 printed_front output text (c ∷ cs) = if c == backslash then printed_escape output (escape_of false text).0 else (char_printed output c).characters

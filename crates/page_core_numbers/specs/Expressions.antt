@@ -35,7 +35,7 @@ abbrev pub after_close : List ℕ → List ℕ
 after_close [] = []
 after_close (b ∷ bs) = if b == closing_parenthesis then bs else b ∷ bs
 
--- An expression in parentheses. Where it ends early, what stands around it ends with it, and its value so far is the operand.
+-- An expression in parentheses. Where it ends early, what is around it ends with it, and its value so far is the operand.
 abbrev pub in_parentheses : Read ℤ → Read (Option ℤ)
 in_parentheses inside = record {
   value = Some inside.value;

@@ -88,7 +88,7 @@ ten_thousandths digits = decimal (take 4 (digits ++ codes "0000"))
 unfoldable pub units_of : (whole fraction : List ℕ) → Scale → ℕ
 units_of whole fraction scale = (decimal whole * 10000 + ten_thousandths fraction) * numerator scale / (10000 * denominator scale)
 
--- a number of these digits, where `text` stands after them: its value in basic units, and what follows
+-- a number of these digits, where `text` is after them: its value in basic units, and what follows
 abbrev pub number_of : Scale → (whole fraction text : List ℕ) → ℤ × List ℕ
 number_of scale whole fraction text = (in_range (pos (units_of whole fraction (unwrap_or (scale_at text) scale))), after_scale text)
 

@@ -21,7 +21,7 @@ pub(crate) struct Number<'a> {
     pub(crate) rest: &'a [u8],
 }
 
-// How many digits stand at a text's front.
+// How many digits are at a text's front.
 fn digits_len(text: &[u8]) -> usize
     ensures value { result ≡ prefix_len is_digit text.now }
     ensures within { result ≤ length text.now }

@@ -56,7 +56,7 @@ pub fn evaluate(text: &[u8], unit: Scale) -> Evaluation
 }
 
 impl Evaluation {
-    /// Its messages, which all stand at one place.
+    /// Its messages, which are all at one place.
     pub fn notes(self, place: Place) -> EvaluationNotes
         ensures { result ≡ messages_at place.line place.column (reported self) }
     {

@@ -127,7 +127,7 @@ fn in_parentheses(inside: Expression<'_>) -> Operand<'_>
     }
 }
 
-// What stands after a parenthesis that opens at a text's front.
+// What is after a parenthesis that opens at a text's front.
 fn after_open(text: &[u8]) -> Option<&[u8]>
     ensures value { option_copied result ≡ after_open text.now }
     ensures bound { IfSome result (λ after. length after.now < length text.now) }

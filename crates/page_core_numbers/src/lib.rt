@@ -1,6 +1,6 @@
 //! Numbers of requests and escapes, and the columns of a finished text: roff(7), "Scaling Widths" and "Numerical expressions".
 //!
-//! It stands below roff and the scopes, which read with it what a request, a macro or an escape is given.
+//! It is below roff and the scopes, which read with it what a request, a macro or an escape is given.
 //!
 //! Read first: `number` below, with `specs/Expressions.antt`; `evaluate` (`evaluations.rt`), the same without a sink; then `columns` in
 //! `text_columns.rt`.

@@ -1,4 +1,4 @@
-//! Operators: roff(7), "Numerical expressions". They stand between the operands of an expression (`expressions`).
+//! Operators: roff(7), "Numerical expressions". They are between the operands of an expression (`expressions`).
 
 ghost use Rattle.std.specs.Prelude.{◌≡◌, ◌<◌, length, option_map, IfSome};
 ghost use Rattle.page_core_numbers.specs.Operators.{operator_named, operator_at, begins_equal, operator_len, truth, result_of, divides_by_zero};

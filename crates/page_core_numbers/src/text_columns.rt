@@ -275,7 +275,7 @@ fn split_first(text: &str) -> Option<(char, &str)>
     Some((first, chars.as_str()))
 }
 
-// The columns of what stands at a text's front, an escape, characters of one column each, or a character, and the text that follows it;
+// The columns of the front of a text (an escape, characters of one column each, or a character), and the text that follows it;
 // `after` is what follows the first character.
 #[inline(always)]
 fn front_columns<'a>(text: &'a str, first: char, after: &'a str, output: Output) -> (u32, &'a str)

@@ -19,7 +19,7 @@ pub record Front (output : Output) (text : List ℕ) (columns len : ℕ) : Type 
   pub few : columns ≤ 1000 * len
   pub goes_on : (whole : List ℕ) (sum : ℕ) → Left output whole sum text → Left output whole (sum + columns) (drop len text)
 
--- what stands before `rest` in a text is whole escapes and characters, of so many columns
+-- what is before `rest` in a text is whole escapes and characters, of so many columns
 pub record Past (output : Output) (text : List ℕ) (columns : ℕ) (rest : List ℕ) : Type 0 where
   pub shorter : length rest < length text
   pub few : columns + 1000 * length rest ≤ 1000 * length text

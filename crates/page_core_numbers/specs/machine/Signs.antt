@@ -1,4 +1,4 @@
--- Of the code's own steps, which no public clause cites: what stands before an operand, signs and a parenthesis that opens.
+-- Of the code's own steps, which no public clause cites: what is before an operand, signs and a parenthesis that opens.
 use Rattle.std.specs.Prelude.{ℕ, zero, suc, ◌==◌, List, [], ◌∷◌, if◌then◌else◌, Option, None, Some, ℤ, neg_ℤ}
 use Rattle.page_core_escapes.specs.Bytes.{plus, minus, parenthesis}
 use Rattle.page_core_numbers.specs.declared.scales.Scale.{Scale}
@@ -22,7 +22,7 @@ abbrev pub negated_times : ℕ → Read (Option ℤ) → Read (Option ℤ)
 negated_times zero operand = operand
 negated_times (suc times) operand = negated_operand (negated_times times operand)
 
--- what stands after a parenthesis that opens
+-- what is after a parenthesis that opens
 abbrev pub after_open : List ℕ → Option (List ℕ)
 after_open [] = None
 after_open (b ∷ bs) = if b == parenthesis then Some bs else None
