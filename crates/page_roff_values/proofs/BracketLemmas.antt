@@ -8,7 +8,7 @@ use Rattle.page_roff_values.specs.declared.parts.Call.TheVariants.{String, Regis
 use Rattle.page_roff_values.specs.machine.Brackets.{has_bracket, IsKnown}
 use Rattle.page_roff_values.specs.Parts.{CutText, SeenText, copies, calls, cut, character_len, two_characters, bracketed, name_cut, content_len, delimited, width_cut, plain, after_plain, argument_call, call_cut, pair, is_doubled, escape, begins_escape, seen}
 
-abbrev Lacks : List ℕ → Type 0
+abbrev pub Lacks : List ℕ → Type 0
 Lacks text = has_bracket text ≡ false
 
 first_false : (a b : Bool) → (a || b) ≡ false → a ≡ false
@@ -26,7 +26,7 @@ lacks_at [] i h l = absurd (omega arith)
 lacks_at (b ∷ bs) zero h l = first_false (b == 93) (has_bracket bs) h
 lacks_at (b ∷ bs) (suc i) h l = lacks_at bs i (later_false (b == 93) (has_bracket bs) h) (omega arith)
 
-lacks_all : (text : List ℕ) → ((i : ℕ) → i < length text → (get_or text i 0 == 93) ≡ false) → Lacks text
+pub lacks_all : (text : List ℕ) → ((i : ℕ) → i < length text → (get_or text i 0 == 93) ≡ false) → Lacks text
 lacks_all [] n = refl
 lacks_all (b ∷ bs) n = rw (n 0 (omega arith)) (lacks_all bs (λ i l. n (suc i) (omega arith)))
 

@@ -35,7 +35,7 @@ pub front_none : (copy : Bool) (text : List ℕ) → IsFront copy 0 text
 front_none copy text = λ call s e h. rw (append-nil s.text) refl
 
 -- a part that is copied
-front_part : (copy : Bool) (text : List ℕ) (n : ℕ) → 0 < length text → copies (take n text) (drop n text) ≡ seen copy text → IsFront copy n text
+pub front_part : (copy : Bool) (text : List ℕ) (n : ℕ) → 0 < length text → copies (take n text) (drop n text) ≡ seen copy text → IsFront copy n text
 unfolding lay
 front_part copy [] n h x = absurd (omega arith)
 front_part copy (b ∷ bs) n h x = λ call s e fits.

@@ -7,8 +7,11 @@ pub mod FollowLemmas
 pub mod FrontLemmas
 pub mod GoingLemmas
 pub mod GrowLemmas
+pub mod KnownLemmas
 pub mod LayLemmas
 pub mod LineLemmas
+pub mod LoneLemmas
+pub mod MetLemmas
 pub mod PartTexts
 pub mod PlainTexts
 pub mod ReadLemmas

@@ -3,6 +3,7 @@ pub mod Brackets
 pub mod Expansions
 pub mod Fronts
 pub mod Held
+pub mod Lone
 pub mod Rest
 pub mod Searches
 pub mod Steps

@@ -1,10 +1,10 @@
 //! The finished line (roff(7), "Escape sequences").
 
-ghost use Rattle.std.specs.Prelude.{◌≡◌, ◌+◌, ◌-◌, ◌*◌, ◌^◌, ◌<◌, ◌≤◌, length, not, false, nat_lt, IfOk, if◌then◌else◌};
+ghost use Rattle.std.specs.Prelude.{◌≡◌, ◌+◌, ◌-◌, ◌*◌, ◌^◌, ◌<◌, ◌≤◌, ℕ, length, not, false, nat_lt, IfOk, MatchOption, if◌then◌else◌};
 ghost use Rattle.std.specs.Fmt.{decimal, signed_decimal};
 ghost use Rattle.page_core_base.specs.declared.limits.TheConstants.{LINE};
 ghost use Rattle.page_roff_values.specs.Latches.{Goes};
-ghost use Rattle.page_roff_values.specs.machine.Rest.{calling, going_on, steps, texts_of};
+ghost use Rattle.page_roff_values.specs.machine.Rest.{Reads, calling, going_on, size, steps, texts_of};
 ghost use Rattle.page_roff_values.specs.Values as laying;
 ghost use Rattle.page_roff_values.specs.machine.Expansions.{outermost, over};
 ghost use Rattle.page_roff_values.specs.machine.Steps.{going_inside, going_outside};
@@ -12,6 +12,7 @@ ghost use Rattle.page_roff_values.specs.machine.Views.{call_of, surroundings_of,
 
 use crate::endings::{kept, without_lone};
 use crate::environments::Environment;
+use crate::lone_widths::LoneWidths;
 use crate::parts::{Call, Part};
 use crate::sources::Sources;
 use crate::verbatim::is_verbatim;
@@ -54,6 +55,8 @@ struct Nested {
     width_column: Option<u32>,
     count: u32,
     ended: bool,
+    // What is known of widths without their ends.
+    lone_widths: LoneWidths,
 }
 
 impl Model for Nested {
@@ -86,6 +89,7 @@ impl Nested {
             width_column: None,
             count: 0,
             ended: false,
+            lone_widths: LoneWidths::new(alloc)?,
         })
     }
 
@@ -100,6 +104,7 @@ impl Nested {
         self.width_column = None;
         self.count = 0;
         self.ended = false;
+        self.lone_widths.begin();
     }
 
     // Sets how many bytes of the line stand before the text that comes.
@@ -158,6 +163,17 @@ impl Nested {
             Some(column) => column,
             None => self.bytes_before + (self.text.len() - self.start) as u32 + 1,
         }
+    }
+
+    // The next part of the texts that are read.
+    #[inline(always)]
+    fn next_part<'e>(&mut self, copy: bool, sources: &mut Sources<'e>) -> Option<Part<&'e [u8]>>
+        ensures same { self.new ≡ self.old }
+        ensures reads { Reads copy (LINE - laying.finished_len self.old.spot) (texts_of sources.old) result (texts_of sources.new) }
+        ensures falls { MatchOption result ℕ (λ p. size (texts_of sources.new) < size (texts_of sources.old)) }
+    {
+        let fits = self.room();
+        sources.next(copy, fits, &mut self.lone_widths)
     }
 
     // Copies bytes, for which there is room.
@@ -357,7 +373,7 @@ impl Nested {
         ensures before { self.new.before ≡ self.old.before }
     {
         'parts: while self.is_going() {
-            match sources.next(env.copy, self.room()) {
+            match self.next_part(env.copy, sources) {
                 None => return,
                 Some(Part::Copied(run)) => self.put(run, out),
                 Some(Part::Called(call)) => self.call(env, room, call, sources, out),

@@ -39,8 +39,8 @@ pub struct Cut<'e> {
     pub rest: &'e [u8],
 }
 
-// The bytes of a text's first character.
-fn character_len(text: &[u8]) -> usize
+/// The bytes of a text's first character.
+pub(crate) fn character_len(text: &[u8]) -> usize
     ensures value { result ≡ reading.character_len text.now }
     ensures within { result ≤ length text.now }
 {
@@ -113,8 +113,8 @@ fn read_name<'e>(text: &'e [u8], is_unclosed: &mut bool) -> Option<Cut<'e>>
     }
 }
 
-// The bytes of a pair, or of one byte that begins none.
-fn unit_len(text: &[u8]) -> usize
+/// The bytes of a pair, or of one byte that begins none.
+pub(crate) fn unit_len(text: &[u8]) -> usize
     requires { 0 < length text.now }
     ensures value { result ≡ reading.unit_len text.now }
     ensures some { 0 < result }
@@ -211,6 +211,13 @@ fn read_width(text: &[u8]) -> Option<Cut<'_>>
         [] | [b'\\', ..] => None,
         _ => read_delimited(text, character_len(text)),
     }
+}
+
+/// Whether a width at a text's front has an end.
+pub(crate) fn has_width(text: &[u8]) -> bool
+    requires { 2 ≤ length text.now }
+{
+    read_width(after(text, 2)).is_some()
 }
 
 /// Whether a backslash and this byte make one backslash.

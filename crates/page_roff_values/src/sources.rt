@@ -3,6 +3,7 @@
 ghost use Rattle.std.specs.Prelude.{◌≡◌, ℕ, ◌<◌, ◌≤◌, ◌+◌, ◌^◌, [], ◌∷◌, length, Option, Some, None, MatchOption};
 ghost use Rattle.page_roff_values.specs.machine.Rest.{texts_of, size, Reads};
 
+use crate::lone_widths::LoneWidths;
 use crate::parts::Part;
 use crate::unread::Unread;
 use arrayvec::ArrayVec;
@@ -29,7 +30,12 @@ impl<'e> Sources<'e> {
     /// The next part of the innermost text that isn't at its end. Parts that are copied come as one as far as they have at most `fits` bytes,
     /// for which there must be room.
     #[inline(always)]
-    pub(crate) fn next(&mut self, copy: bool, fits: usize) -> Option<Part<&'e [u8]>>
+    pub(crate) fn next(
+        &mut self,
+        copy: bool,
+        fits: usize,
+        lone_widths: &mut LoneWidths,
+    ) -> Option<Part<&'e [u8]>>
         ensures reads { Reads copy fits (texts_of self.old) result (texts_of self.new) }
         ensures falls { MatchOption result ℕ (λ p. size (texts_of self.new) < size (texts_of self.old)) }
     {
@@ -42,6 +48,10 @@ impl<'e> Sources<'e> {
         let front = self.inner.take_front(copy, fits);
         if !front.is_empty() {
             return Some(Part::Copied(front));
+        }
+        let lone = self.inner.take_lone(copy, fits, lone_widths);
+        if !lone.is_empty() {
+            return Some(Part::Copied(lone));
         }
         Some(self.inner.next(copy))
     }

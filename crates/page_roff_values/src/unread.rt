@@ -8,6 +8,7 @@ ghost use Rattle.page_roff_values.specs.machine.Views.{part_of};
 
 use crate::endings::after;
 use crate::fronts::front_len;
+use crate::lone_widths::LoneWidths;
 use crate::parts::{Part, read};
 
 /// What is left of a text, and whether it is known that no bracket closes in it: then no name that lacks its bracket costs a search up to the
@@ -40,6 +41,26 @@ impl<'e> Unread<'e> {
         ensures fits { length result.now ≤ fits }
     {
         let len = front_len(self.text, copy, fits);
+        let front = &self.text[..len];
+        self.text = after(self.text, len);
+        front
+    }
+
+    /// Takes the bytes of the front that are copied as they are, up to this many, where a width without its end stands there and some such widths
+    /// were searched for.
+    pub(crate) fn take_lone(
+        &mut self,
+        copy: bool,
+        fits: usize,
+        lone_widths: &mut LoneWidths,
+    ) -> &'e [u8]
+        ensures value { result.now ≡ take (length result.now) self.old.text.now }
+        ensures rest { self.new.text.now ≡ drop (length result.now) self.old.text.now }
+        ensures front { IsFront copy (length result.now) self.old.text.now }
+        ensures within { length result.now ≤ length self.old.text.now }
+        ensures fits { length result.now ≤ fits }
+    {
+        let len = lone_widths.front_len(self.text, copy, fits);
         let front = &self.text[..len];
         self.text = after(self.text, len);
         front

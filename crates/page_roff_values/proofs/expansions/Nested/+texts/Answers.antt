@@ -244,13 +244,15 @@ run-returns-in-None-clause-goes g x c =
     let s = c.parts.self.spot in
     let ts = texts_of c.parts.sources in
     let e = going s.ended (sym c.parts-test.true ∙ c.is_going.ensures) in
-    goes_then g.O.NoteOut.left _ _ _ (seq (nothing c.args.self.now.spot) (rest env room (texts_of c.args.sources.now))) (seq (nothing s) (rest env room ts)) (nothing s) c.parts.invariant.goes
-    (goes_same g.O.NoteOut.left _ (seq (nothing s) (rest env room ts)) (nothing s) (seq_nothing s (rest env room ts) e ∙ c.in-None.ensures.reads env room s refl e (omega (arith, c.room.ensures))))
+    rw c.next_part.ensures.same
+    (goes_then g.O.NoteOut.left _ _ _ (seq (nothing c.args.self.now.spot) (rest env room (texts_of c.args.sources.now))) (seq (nothing s) (rest env room ts)) (nothing s) c.parts.invariant.goes
+    (goes_same g.O.NoteOut.left _ (seq (nothing s) (rest env room ts)) (nothing s) (seq_nothing s (rest env room ts) e ∙ c.in-None.ensures.reads env room s refl e (omega arith))))
 
 pub run-parts-smaller-in-Some-Copied : goal.run-parts-smaller-in-Some-Copied
 run-parts-smaller-in-Some-Copied g x c =
     let s = c.parts.self.spot in
-    steps_less s c.put.new.self.spot (texts_of c.parts.sources) (texts_of c.next.new.self) (ap (λ (t : Spot). t.count) {y = (put c.in-Some-Copied.run'.now s).edge} c.put.ensures.goes.1 ∙ put_count c.in-Some-Copied.run'.now s) c.in-Some-Copied.ensures.falls
+    let put_goes = rw c.next_part.ensures.same at c.put.ensures.goes in
+    steps_less s c.put.new.self.spot (texts_of c.parts.sources) (texts_of c.next_part.new.sources) (ap (λ (t : Spot). t.count) {y = (put c.in-Some-Copied.run'.now s).edge} put_goes.1 ∙ put_count c.in-Some-Copied.run'.now s) c.in-Some-Copied.ensures.falls
 
 pub run-parts-preserved-in-Some-Copied : goal.run-parts-preserved-in-Some-Copied
 run-parts-preserved-in-Some-Copied g x c =
@@ -258,21 +260,21 @@ run-parts-preserved-in-Some-Copied g x c =
     let room = c.args.room in
     let s = c.parts.self.spot in
     let ts = texts_of c.parts.sources in
-    let us = texts_of c.next.new.self in
+    let us = texts_of c.next_part.new.sources in
     let e = going s.ended (sym c.parts-test.true ∙ c.is_going.ensures) in
     let given = put c.in-Some-Copied.run'.now s in
-    let reads = rw c.in-Some-Copied.field-0-is at (c.in-Some-Copied.ensures.reads env room s refl e (omega (arith, c.room.ensures))) in
+    let reads = rw c.in-Some-Copied.field-0-is at (c.in-Some-Copied.ensures.reads env room s refl e (omega arith)) in
     record {
       goes = goes_then g.O.NoteOut.left _ _ _ (seq (nothing c.args.self.now.spot) (rest env room (texts_of c.args.sources.now))) (seq (nothing s) (rest env room ts)) (seq (nothing c.put.new.self.spot) (rest env room us)) c.parts.invariant.goes
-          (goes_on g.O.NoteOut.left _ _ (seq (nothing s) (rest env room ts)) given c.put.new.self.spot (rest env room us) (seq_nothing s (rest env room ts) e ∙ (reads ∙ seq_more given (rest env room us))) c.put.ensures.goes);
-      before = c.put.ensures.before ∙ c.parts.invariant.before;
+          (goes_on g.O.NoteOut.left _ _ (seq (nothing s) (rest env room ts)) given c.put.new.self.spot (rest env room us) (seq_nothing s (rest env room ts) e ∙ (reads ∙ seq_more given (rest env room us))) (rw c.next_part.ensures.same at c.put.ensures.goes));
+      before = (rw c.next_part.ensures.same at c.put.ensures.before) ∙ c.parts.invariant.before;
     }
 
 pub run-parts-smaller : goal.run-parts-smaller
 run-parts-smaller g x c =
     let s = c.parts.self.spot in
-    let less = steps_less s s (texts_of c.parts.sources) (texts_of c.next.new.self) refl c.in-Some-Called.ensures.falls in
-    omega (arith, c.call.ensures.falls)
+    let less = steps_less s s (texts_of c.parts.sources) (texts_of c.next_part.new.sources) refl c.in-Some-Called.ensures.falls in
+    omega (arith, rw c.next_part.ensures.same at c.call.ensures.falls)
 
 pub run-parts-preserved : goal.run-parts-preserved
 run-parts-preserved g x c =
@@ -280,16 +282,16 @@ run-parts-preserved g x c =
     let room = c.args.room in
     let s = c.parts.self.spot in
     let ts = texts_of c.parts.sources in
-    let us = texts_of c.next.new.self in
+    let us = texts_of c.next_part.new.sources in
     let e = going s.ended (sym c.parts-test.true ∙ c.is_going.ensures) in
     let call = seq (call_at env (room_in room us) (call_of c.in-Some-Called.call) s) (rest env room us) in
     let last = seq (nothing c.call.new.self.spot) (rest env room (texts_of c.call.new.sources)) in
-    let reads = rw c.in-Some-Called.field-0-is at (c.in-Some-Called.ensures.reads env room s refl e (omega (arith, c.room.ensures))) in
+    let reads = rw c.in-Some-Called.field-0-is at (c.in-Some-Called.ensures.reads env room s refl e (omega arith)) in
     record {
       goes = goes_then g.O.NoteOut.left _ _ _ (seq (nothing c.args.self.now.spot) (rest env room (texts_of c.args.sources.now))) (seq (nothing s) (rest env room ts)) last c.parts.invariant.goes
           (goes_then g.O.NoteOut.left _ _ _ (seq (nothing s) (rest env room ts)) call last
-          (goes_same g.O.NoteOut.left _ (seq (nothing s) (rest env room ts)) call (seq_nothing s (rest env room ts) e ∙ reads)) c.call.ensures.goes);
-      before = c.call.ensures.before ∙ c.parts.invariant.before;
+          (goes_same g.O.NoteOut.left _ (seq (nothing s) (rest env room ts)) call (seq_nothing s (rest env room ts) e ∙ reads)) (rw c.next_part.ensures.same at c.call.ensures.goes));
+      before = (rw c.next_part.ensures.same at c.call.ensures.before) ∙ c.parts.invariant.before;
     }
 
 pub run-returns-clause-goes : goal.run-returns-clause-goes

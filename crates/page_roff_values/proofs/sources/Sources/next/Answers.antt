@@ -29,11 +29,25 @@ returns-then-not-is_empty-clause-reads c = λ env room s copy e h.
     c.loop-self.invariant.same env room s e ∙ rw (← f.value, ← f.rest) at reads
 
 -- the same text, of which nothing was taken
+pub returns-then-not-is_empty-2-clause-reads : goal.returns-then-not-is_empty-2-clause-reads
+returns-then-not-is_empty-2-clause-reads c = λ env room s copy e h.
+    let l = c.loop-self.self in
+    let t = l.inner.text.now in
+    let same = same_rest c.take_front-front.result.now t c.take_front-front.new.self.text.now (sym c.is_empty-2.ensures ∙ c.if-not-is_empty.false) c.take_front-front.ensures.rest in
+    let f = c.take_lone-lone.ensures in
+    let n = length c.take_lone-lone.result.now in
+    let value = rw same at f.value in
+    let rest = rw same at f.rest in
+    let reads = front_reads env room n t (outer_of l.outer.items) s e (omega (arith, f.fits)) (rw (same, ← copy) at f.front) in
+    c.loop-self.invariant.same env room s e ∙ rw (← value, ← rest) at reads
+
+-- the same text, of which nothing was taken twice
 pub returns-clause-reads : goal.returns-clause-reads
 returns-clause-reads c = λ env room s copy e _.
     let l = c.loop-self.self in
     let t = l.inner.text.now in
-    let same = same_rest c.take_front-front.result.now t c.take_front-front.new.self.text.now (sym c.is_empty-2.ensures ∙ c.if-not-is_empty.false) c.take_front-front.ensures.rest in
+    let first = same_rest c.take_front-front.result.now t c.take_front-front.new.self.text.now (sym c.is_empty-2.ensures ∙ c.if-not-is_empty.false) c.take_front-front.ensures.rest in
+    let same = same_rest c.take_lone-lone.result.now t c.take_lone-lone.new.self.text.now (sym c.is_empty-3.ensures ∙ c.if-not-is_empty-2.false) (rw first at c.take_lone-lone.ensures.rest) in
     c.loop-self.invariant.same env room s e
     ∙ rest_reads env room t (record { part = part_of c.next.result; rest = c.next.new.self.text.now }) (outer_of l.outer.items) s (search rules) (rw (same, ← copy) at c.next.ensures)
 
@@ -41,7 +55,8 @@ pub returns-clause-falls : goal.returns-clause-falls
 returns-clause-falls c =
     let l = c.loop-self.self in
     let t = l.inner.text.now in
-    let same = same_rest c.take_front-front.result.now t c.take_front-front.new.self.text.now (sym c.is_empty-2.ensures ∙ c.if-not-is_empty.false) c.take_front-front.ensures.rest in
+    let first = same_rest c.take_front-front.result.now t c.take_front-front.new.self.text.now (sym c.is_empty-2.ensures ∙ c.if-not-is_empty.false) c.take_front-front.ensures.rest in
+    let same = same_rest c.take_lone-lone.result.now t c.take_lone-lone.new.self.text.now (sym c.is_empty-3.ensures ∙ c.if-not-is_empty-2.false) (rw first at c.take_lone-lone.ensures.rest) in
     let k = shorter c.args.copy t (record { part = part_of c.next.result; rest = c.next.new.self.text.now }) (search rules) (rw same at c.next.ensures) in
     let f = c.loop-self.invariant.falls in
     omega arith
