@@ -19,7 +19,7 @@ later_false : (a b : Bool) → (a || b) ≡ false → b ≡ false
 later_false true b h = let no : ⊥ = cc in absurd no
 later_false false b h = h
 
--- ---- where a bracket stands
+-- ---- where a bracket is
 
 lacks_at : (text : List ℕ) (i : ℕ) → Lacks text → i < length text → (get_or text i 0 == 93) ≡ false
 lacks_at [] i h l = absurd (omega arith)

@@ -1,4 +1,4 @@
--- What a line keeps, whatever is laid: where it stands, and that its count does not fall. Helpers of proofs.
+-- What a line keeps, whatever is laid: where it is, and that its count does not fall. Helpers of proofs.
 use Rattle.std.specs.Fmt.{decimal, signed_decimal}
 use Rattle.std.proofs.Common.{◌≡◌, ℕ, zero, suc, ◌-◌, ◌≤◌, Bool, true, false, nat_lt, List, [], ◌∷◌, length, take, codes, if◌then◌else◌, Option, None, Some, refl, ◌∙◌, arith}
 use Rattle.page_core_base.specs.declared.limits.TheConstants.{EXPAND, LINE}
@@ -95,7 +95,7 @@ call_follows env (suc depth) call s =
     (λ t. interpolated_follows env (λ text. lay (call_at env depth) (parts env.copy text)) call t
     (λ text. lay_follows (call_at env depth) (call_follows env depth) (parts env.copy text)))
 
--- where a text stands stays, and its count does not fall
+-- the place of a text stays, and its count does not fall
 pub value_follows : (env : Surroundings) (depth : ℕ) (text : List ℕ) (s : Spot) → Follows s (value env depth text s).edge
 unfolding value
 value_follows env depth text s = lay_follows (call_at env depth) (call_follows env depth) (parts env.copy text) s

@@ -1,4 +1,4 @@
--- What is finished of a line stays as more is laid, and the bytes of a line before its first backslash stand at the front of its value: helpers of proofs.
+-- What is finished of a line stays as more is laid, and the bytes of a line before its first backslash are at the front of its value: helpers of proofs.
 use Rattle.std.specs.Fmt.{decimal, signed_decimal}
 use Rattle.std.proofs.Common.{◌≡◌, ℕ, zero, suc, ◌-◌, ◌<◌, ◌≤◌, ◌==◌, Bool, true, false, nat_lt, List, [], ◌∷◌, ◌++◌, length, take, get_or, codes, if◌then◌else◌, Option, Some, None, refl, sym, ap, ◌∙◌, arith, append_assoc, append-nil}
 use Rattle.std.proofs.lemmas.List.{take-append-le, length-append}
@@ -91,7 +91,7 @@ call_grows env (suc depth) call s =
 
 -- ---- the front of a line
 
--- no backslash (92) stands before a place
+-- no backslash (92) is before a place
 abbrev pub HasNoneBefore : ℕ → List ℕ → Type 0
 HasNoneBefore k text = (j : ℕ) → j < k → (get_or text j 0 == 92) ≡ false
 
@@ -129,7 +129,7 @@ front_by : (k : ℕ) (run text finished : List ℕ) → take k run ≡ take k te
 front_by k run text finished e l (zs, f) =
     (ap (take k) f ∙ take-append-le k run zs l ∙ e, omega (arith, l, ap length f, length-append run zs))
 
--- the bytes before the first backslash stand at the front of the finished line
+-- the bytes before the first backslash are at the front of the finished line
 pub finished_front : (env : Surroundings) (n k : ℕ) (line : List ℕ) → length line ≤ LINE → k ≤ length line → HasNoneBefore k line
     → (take k (expanded env n line).edge.text ≡ take k line) × (k ≤ length (expanded env n line).edge.text)
 finished_front env n zero line l h f = (refl, omega arith)

@@ -85,7 +85,7 @@ delimiter text long begins plain =
       first = λ xs e. prefix_at xs d e 0 (omega arith);
     }
 
--- ---- where a delimiter stands
+-- ---- where a delimiter is
 
 none_further : (n : ℕ) (o : Option ℕ) → o ≡ None → further n o ≡ None
 none_further n o e = rw e refl
@@ -324,7 +324,7 @@ pub front_first : (text : List ℕ) (start width front first : ℕ) → start �
 front_first text start width front first a b (inl e) f g = (omega arith, omega arith, rw e f)
 front_first text start width front first a b (inr e) f g = (omega arith, omega arith, rw e g)
 
--- no bracket stands behind the last one
+-- no bracket is behind the last one
 pub lacks_behind : (text : List ℕ) (k : ℕ) → IsLastByte (is_byte 93) text (Some k) → has_bracket (drop (k + 1) text) ≡ false
 lacks_behind text k h =
     lacks_all (drop (k + 1) text) (λ i l. rw (get_or-drop (k + 1) text i 0) (not_true (get_or text (k + 1 + i) 0 == 93) (h.0.after (k + 1 + i) (omega arith) (omega (arith, length-drop (k + 1) text)))))

@@ -98,7 +98,7 @@ content_ends d zero (b ∷ bs) =
     ends_if (starts_with nat_eq (b ∷ bs) d) d (b ∷ bs) (Some 0) (further 1 (content_len d (paired_len b bs) bs))
     (λ e. e) (λ _. ends_further d b bs (content_len d (paired_len b bs) bs) (content_ends d (paired_len b bs) bs))
 
--- both what stands between the delimiters and what follows
+-- both what is between the delimiters and what follows
 abbrev CutTexts : Option CutText → Type 0
 CutTexts o = MatchOption o (Unit {0}) (λ c. IsText c.front × IsText c.rest)
 

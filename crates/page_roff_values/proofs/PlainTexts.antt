@@ -37,7 +37,7 @@ plain_append b [] ys = refl
 plain_append b (x ∷ xs) ys =
     ap (λ t. is_no_control b x && t) (plain_append x xs ys) ∙ and_right (is_no_control b x) (has_no_control x xs) (has_no_control (last_of x xs) ys)
 
--- what stands before matters for one byte alone
+-- what is before matters for one byte alone
 other_before : (b : ℕ) (ys : List ℕ) → b ≢ 194 → has_no_control b ys ≡ has_no_control 0 ys
 other_before b [] n = refl
 other_before b (y ∷ ys) n = let t : (b == 194) ≡ false = grind (arith, nat_tests) in rw t refl

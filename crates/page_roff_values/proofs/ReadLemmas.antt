@@ -123,7 +123,7 @@ pub content_none : (delimiter : List ℕ) → content_len delimiter 0 [] ≡ Non
 unfolding content_len
 content_none delimiter = refl
 
--- a delimiter that stands nowhere
+-- a delimiter that is nowhere
 pub here_occurs : (text d : List ℕ) (k : ℕ) → k ≤ length text → d ≡ take (length d) (drop k text) → OccursAt text d k
 here_occurs text d k h e = record {
   fits = let n = ap length e in omega (arith, n, length-take (length d) (drop k text), length-drop k text);

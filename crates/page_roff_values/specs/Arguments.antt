@@ -26,11 +26,11 @@ abbrev pub spaced_quoted : List (List ℕ) → List ℕ
 spaced_quoted [] = []
 spaced_quoted (argument ∷ arguments) = 32 ∷ 34 ∷ (argument ++ (34 ∷ spaced_quoted arguments))
 
--- `\$*`: all arguments, parted by blanks
+-- `\$*`: all arguments, separated by blanks
 abbrev pub joined : List (List ℕ) → List ℕ
 joined arguments = drop 1 (spaced arguments)
 
--- `\$@`: all arguments, each in quotes, parted by blanks
+-- `\$@`: all arguments, each in quotes, separated by blanks
 abbrev pub quoted : List (List ℕ) → List ℕ
 quoted arguments = drop 1 (spaced_quoted arguments)
 

@@ -9,6 +9,6 @@ use Rattle.page_core_numbers.specs.Expressions.{expression_of, messages_at}
 abbrev pub value_of : List ℕ → ℤ
 value_of text = (expression_of Basic text).value
 
--- its messages all stand at one place
+-- its messages are all at one place
 abbrev pub messages_of : Place → List ℕ → List Message
 messages_of place text = messages_at place.line place.column (expression_of Basic text).troubles

@@ -56,7 +56,7 @@ abbrev pub further : ℕ → Option ℕ → Option ℕ
 further n None = None
 further n (Some k) = Some (n + k)
 
--- how many bytes stand before a delimiter's next occurrence; a backslash and its next character are a pair, which is passed over.
+-- how many bytes are before a delimiter's next occurrence; a backslash and its next character are a pair, which is passed over.
 -- The first `skipped` bytes are passed over, too.
 unfoldable pub content_len : (delimiter : List ℕ) → (skipped : ℕ) → List ℕ → Option ℕ
 content_len delimiter skipped [] = None
@@ -116,7 +116,7 @@ pair bs = let n = character_len bs in copies (92 ∷ take n bs) (drop n bs)
 abbrev pub is_doubled : Bool → ℕ → Bool
 is_doubled copy letter = copy && letter == 92
 
--- what stands after a backslash. In copy mode another one makes it one. An interpolation without its end stays a pair.
+-- what is after a backslash. In copy mode another one makes it one. An interpolation without its end stays a pair.
 abbrev pub escape : Bool → List ℕ → SeenText
 escape copy [] = copies (92 ∷ []) []
 escape copy (letter ∷ bs) =

@@ -19,18 +19,18 @@ use Rattle.page_roff_values.specs.Parts.{parts, without_lone}
 use Rattle.page_core_base.specs.Limits.{name_of}
 use Rattle.page_core_base.specs.declared.limits.Limit.TheVariants as limits
 
--- how many interpolations may stand inside one another
+-- how many interpolations may be inside one another
 unfoldable pub NEST : ℕ
 NEST = 16
 
--- Where a text stands: its source line, how many bytes of the line stand before it, and the column of the outermost `\w` that it
+-- Where a text is: its source line, how many bytes of the line are before it, and the column of the outermost `\w` that it
 -- is in, if it is in one.
 pub record Around : Type 0 where
   pub line : ℕ
   pub bytes_before : ℕ
   pub width_column : Option ℕ
 
--- a line so far: where it stands, what is finished of it, how many interpolations it made, whether it has ended
+-- a line so far: where it is, what is finished of it, how many interpolations it made, whether it has ended
 pub record Spot : Type 0 where
   pub around : Around
   pub text : List ℕ
@@ -60,7 +60,7 @@ seq a f = unless a.edge.ended a (f a.edge)
 abbrev pub column_of : Spot → ℕ
 column_of s = unwrap_or s.around.width_column (s.around.bytes_before + length s.text + 1)
 
--- how many bytes are finished: those that stand before the text count too, but not in a width, whose text is measured by itself
+-- how many bytes are finished: those that are before the text count too, but not in a width, whose text is measured by itself
 abbrev pub bytes_before_in : Option ℕ → ℕ → ℕ
 bytes_before_in None bytes_before = bytes_before
 bytes_before_in (Some column) bytes_before = 0
@@ -147,13 +147,13 @@ interpolated env f (Register name) s = put (signed_decimal (register_of name env
 interpolated env f (Argument escape) s = value_or ArgOutside escape (argument_of escape env.arguments) f s
 interpolated env f (Width text) s = width env.units (f text) s
 
--- An interpolation in which this many more may stand inside one another. One too deep gives nothing.
+-- An interpolation in which this many more may be inside one another. One too deep gives nothing.
 unfoldable pub call_at : Surroundings → ℕ → Call (List ℕ) → Spot → Laid
 call_at env zero call s = charge (says Loop (name_of limits.Nest)) s
 call_at env (suc depth) call s =
     charge (interpolated env (λ text. lay (call_at env depth) (parts env.copy text)) call) s
 
--- The value of a text in which this many interpolations may stand inside one another, after what is finished of its line.
+-- The value of a text in which this many interpolations may be inside one another, after what is finished of its line.
 unfoldable pub value : Surroundings → ℕ → List ℕ → Spot → Laid
 value env depth text s = lay (call_at env depth) (parts env.copy text) s
 
@@ -166,7 +166,7 @@ start line =
 abbrev pub expanded : Surroundings → ℕ → List ℕ → Laid
 expanded env line text = value env NEST text (start line)
 
--- this many bytes of the line stand before the text that comes
+-- this many bytes of the line are before the text that comes
 abbrev pub after_bytes : ℕ → Spot → Spot
 after_bytes bytes_before s = record s { around = record s.around { bytes_before = bytes_before } }
 

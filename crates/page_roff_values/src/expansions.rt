@@ -37,11 +37,11 @@ impl Model for Expansion {
 
     ghost view = { λ a. a.nested.spot };
 
-    // Between calls it stands inside of no other.
+    // Between calls it is inside of no other.
     ghost invariant = { λ a. a.nested.before ≡ [] };
 }
 
-/// A line, or the text of a width, with what is finished of those that it stands inside of, in one buffer.
+/// A line, or the text of a width, with what is finished of those that it is inside of, in one buffer.
 #[derive(Drop)]
 struct Nested {
     text: Vec<u8>,
@@ -107,7 +107,7 @@ impl Nested {
         self.lone_widths.begin();
     }
 
-    // Sets how many bytes of the line stand before the text that comes.
+    // Sets how many bytes of the line are before the text that comes.
     fn set_bytes_before(&mut self, bytes_before: u32)
         requires { bytes_before ≤ 2 ^ 31 }
         ensures { self.new ≡ over (laying.after_bytes bytes_before) self.old }
@@ -137,7 +137,7 @@ impl Nested {
         !self.ended
     }
 
-    // How many bytes of the line stand before the text: of a width's own text none count.
+    // How many bytes of the line are before the text: of a width's own text none count.
     fn bytes_before(&self) -> usize
         ensures value { result ≡ laying.bytes_before_in self.now.spot.around.width_column self.now.spot.around.bytes_before }
         ensures bound { result ≤ 2 ^ 31 }
@@ -399,7 +399,7 @@ impl Expansion {
         self.nested.begin(line);
     }
 
-    /// Expands a text after what is finished of its line, of which `bytes_before` bytes stand before the text, with what is left of the
+    /// Expands a text after what is finished of its line, of which `bytes_before` bytes are before the text, with what is left of the
     /// line's interpolations.
     pub fn expand_more<O: NoteOut>(
         &mut self,

@@ -51,7 +51,7 @@ fn backslash_before(text: &[u8], at: usize) -> Option<usize>
     None
 }
 
-// How many backslashes stand one after the other before a place.
+// How many backslashes are one after the other before a place.
 fn backslashes_before(text: &[u8], at: usize) -> usize
     requires { at ≤ length text.now }
     ensures within { result ≤ at }
@@ -196,7 +196,7 @@ impl LoneWidths {
         self.is_ending = false;
     }
 
-    // How many bytes at the front of a text are copied, where a width stands there. Where it has an end, or few were searched in vain, none is
+    // How many bytes at the front of a text are copied, where a width is there. Where it has an end, or few were searched in vain, none is
     // known of.
     fn width_front(&mut self, text: &[u8]) -> usize
         requires { 2 ≤ length text.now }
@@ -219,7 +219,7 @@ impl LoneWidths {
         read_back(&mut self.met, &mut self.known, text)
     }
 
-    /// How many bytes at the front of a long text are copied, where a width stands there, if they are no more than these. In copy mode there is
+    /// How many bytes at the front of a long text are copied, where a width is there, if they are no more than these. In copy mode there is
     /// none. A width with a backslash behind it has no end, and is not searched for.
     pub(crate) fn front_len(&mut self, text: &[u8], copy: bool, fits: usize) -> usize
         ensures front { IsFront copy result text.now }

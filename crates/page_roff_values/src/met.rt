@@ -114,7 +114,7 @@ impl Met {
         }
     }
 
-    /// Notes the characters of a run without a backslash, before a place where those that stand behind were noted. Answers whether it is known
+    /// Notes the characters of a run without a backslash, before a place where those that are behind were noted. Answers whether it is known
     /// that a width whose text would begin with the run has no end.
     pub(crate) fn meet_run(&mut self, text: &[u8], start: usize, end: usize) -> bool
         requires order { start ≤ end }

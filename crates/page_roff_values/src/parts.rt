@@ -154,7 +154,7 @@ fn unit_end(text: &[u8], until: usize) -> usize
     place
 }
 
-// How many bytes are passed over where a delimiter stands at none of the places before one: as many, or more where a pair goes beyond that.
+// How many bytes are passed over where a delimiter is at none of the places before one: as many, or more where a pair goes beyond that.
 fn passed_len(text: &[u8], until: usize) -> usize
     requires { until ≤ length text.now }
     ensures passed { IsPassed until result text.now }
@@ -168,7 +168,7 @@ fn passed_len(text: &[u8], until: usize) -> usize
     len
 }
 
-// How many bytes stand before a delimiter's next occurrence outside pairs. Pairs are read only where it occurs: a line of nothing but widths
+// How many bytes are before a delimiter's next occurrence outside pairs. Pairs are read only where it occurs: a line of nothing but widths
 // without their ends would be walked up to its end for each of them.
 fn content_len(delimiter: &[u8], text: &[u8]) -> Option<usize>
     ensures value { result ≡ reading.content_len delimiter.now 0 text.now }

@@ -56,7 +56,7 @@ impl<'e> Sources<'e> {
         Some(self.inner.next(copy))
     }
 
-    /// How many texts stand around the innermost.
+    /// How many texts are around the innermost.
     pub(crate) fn depth(&self) -> usize
         ensures value { result + 1 ≡ length (texts_of self.now) }
         ensures fits { result ≤ NEST }

@@ -46,7 +46,7 @@ impl<'e> Unread<'e> {
         front
     }
 
-    /// Takes the bytes of the front that are copied as they are, up to this many, where a width without its end stands there and some such widths
+    /// Takes the bytes of the front that are copied as they are, up to this many, where a width without its end is there and some such widths
     /// were searched for.
     pub(crate) fn take_lone(
         &mut self,

@@ -92,7 +92,7 @@ fn is_free(text: &[u8]) -> bool
     }
 }
 
-/// Whether a text is seen to be its own value: then nothing of it has to be copied. In copy mode no backslash may stand in it.
+/// Whether a text is seen to be its own value: then nothing of it has to be copied. In copy mode no backslash may be in it.
 pub(crate) fn is_verbatim(text: &[u8], copy: bool) -> bool
     ensures { IsTrue result → IsVerbatim copy text.now }
 {

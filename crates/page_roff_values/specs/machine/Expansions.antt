@@ -5,16 +5,16 @@ use Rattle.page_core_base.specs.Limits.{LINE, NEST}
 use Rattle.page_roff_values.specs.declared.expansions.Nested.TheInside.{Inside}
 use Rattle.page_roff_values.specs.Values.{Spot}
 
--- a line so far, or the text of a width, and what is finished of those that it stands inside of, one after another
+-- a line so far, or the text of a width, and what is finished of those that it is inside of, one after another
 pub record NestedSpot : Type 0 where
   pub spot : Spot
   pub before : List ℕ
 
--- one that stands inside of no other
+-- one that is inside of no other
 abbrev pub outermost : Spot → NestedSpot
 outermost s = record { spot = s; before = [] }
 
--- a step of its own: those that it stands inside of stay
+-- a step of its own: those that it is inside of stay
 abbrev pub over : (Spot → Spot) → NestedSpot → NestedSpot
 over f s = record { spot = f s.spot; before = s.before }
 

@@ -35,7 +35,7 @@ Grows words more = (code : ℕ) → is_met words code ≡ true → is_met more c
 abbrev pub AreMet : List ℕ → List ℕ → ℕ → ℕ → Type 0
 AreMet words text from to = (k : ℕ) → from ≤ k → k < to → goes_on (get_or text k 0) ≡ false → is_met words (code_of (drop k text)) ≡ true
 
--- no backslash (92) stands from one place up to another
+-- no backslash (92) is from one place up to another
 abbrev pub IsRun : ℕ → ℕ → List ℕ → Type 0
 IsRun from to text = (k : ℕ) → from ≤ k → k < to → (get_or text k 0 == 92) ≡ false
 
@@ -47,11 +47,11 @@ pub record IsDelimiter (delimiter : List ℕ) : Type 0 where
   pub same : (text : List ℕ) → starts_with nat_eq text delimiter ≡ true → code_of text ≡ code_of delimiter
   pub first : (text : List ℕ) → starts_with nat_eq text delimiter ≡ true → get_or text 0 0 ≡ get_or delimiter 0 0
 
--- a delimiter that was not met stands nowhere in a text outside pairs
+-- a delimiter that was not met is nowhere in a text outside pairs
 abbrev pub Covers : List ℕ → List ℕ → Type 0
 Covers words text = (delimiter : List ℕ) → IsDelimiter delimiter → is_met words (code_of delimiter) ≡ false → content_len delimiter 0 text ≡ None
 
--- the last of some texts that stand one after the other
+-- the last of some texts that are one after the other
 abbrev pub IsLast : List ℕ → List ℕ → Type 0
 IsLast text texts = (length text ≤ length texts) × (drop (length texts - length text) texts ≡ text)
 

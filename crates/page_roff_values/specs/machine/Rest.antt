@@ -10,7 +10,7 @@ use Rattle.page_roff_values.specs.Environments.{Surroundings}
 use Rattle.page_roff_values.specs.Values.{Spot, Laid, nothing, seq, put, call_at, value, finished_len}
 use Rattle.page_roff_values.specs.machine.Views.{part_of}
 
--- how many interpolations more may stand inside the innermost of these texts, where this many may inside the outermost
+-- how many interpolations more may be inside the innermost of these texts, where this many may inside the outermost
 unfoldable pub room_in : ℕ → List (List ℕ) → ℕ
 room_in room [] = room
 room_in room (t ∷ ts) = room - length ts

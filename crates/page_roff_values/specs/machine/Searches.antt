@@ -7,11 +7,11 @@ use Rattle.page_roff_values.specs.Parts.{content_len, further, unit_len}
 abbrev pub EndsUnits : ℕ → List ℕ → Type 0
 EndsUnits place text = (k : ℕ) → k < place → k + unit_len (drop k text) ≤ place
 
--- a delimiter stands at none of the first places
+-- a delimiter is at none of the first places
 abbrev pub IsAbsent : List ℕ → ℕ → List ℕ → Type 0
 IsAbsent delimiter places text = (k : ℕ) → k < places → starts_with nat_eq (drop k text) delimiter ≡ false
 
--- a delimiter that stands at none of the first places is looked for behind the first n bytes
+-- a delimiter that is at none of the first places is looked for behind the first n bytes
 abbrev pub IsPassed : ℕ → ℕ → List ℕ → Type 0
 IsPassed places n text =
     (delimiter : List ℕ) → IsAbsent delimiter places text → content_len delimiter 0 text ≡ further n (content_len delimiter 0 (drop n text))

@@ -1,4 +1,4 @@
--- Texts that stand in lines. Source: mandoc(1), -K; roff(7), "LANGUAGE SYNTAX".
+-- Texts that are in lines. Source: mandoc(1), -K; roff(7), "LANGUAGE SYNTAX".
 use Rattle.std.specs.Prelude.{◌≡◌, ℕ, true, List, [], ◌∷◌, Option, Some, None, IsUtf8}
 use Rattle.page_core_base.specs.Texts.{has_no_control}
 use Rattle.page_roff_names.specs.Names.{string_of}
