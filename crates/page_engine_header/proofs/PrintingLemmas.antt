@@ -10,8 +10,7 @@ use Rattle.page_core_base.specs.declared.pieces.Piece.TheVariants.{Char}
 use Rattle.page_core_base.specs.declared.cells.Font.{Font}
 use Rattle.page_core_base.specs.declared.page_settings.Output.{Output}
 use Rattle.page_core_base.specs.declared.places.Place.{Place}
-use Rattle.page_core_escapes.specs.Tokens.{TextToken, token_at, token_len, tokens_of, plain}
-use Rattle.page_core_escapes.proofs.TokenLemmas.{tokens_more, tokens_none}
+use Rattle.page_core_escapes.specs.Tokens.{TextToken, tokens_of, plain}
 use Rattle.page_core_numbers.specs.Columns.{characters_columns}
 use Rattle.page_core_tables.proofs.PrintedLemmas.{char_columns-printable}
 use Rattle.page_core_tables.specs.Printed.{Printing, char_columns, char_printed}
@@ -19,30 +18,6 @@ use Rattle.page_scopes_words.specs.declared.fonts.Fonts.{Fonts}
 use Rattle.page_scopes_words.specs.Fonts.{roman_fonts, token_fonts}
 use Rattle.page_engine_header.specs.Printing.{characters_of, plain_printed, in_font, token_printed, tokens_columns, tokens_items, fonts_after}
 use Rattle.page_engine_header.specs.Header.{name_tokens}
-
--- ---- the tokens of a text
-
-pub columns_more : (output : Output) (text : List ℕ) (n : ℕ) → 0 < n → n ≡ token_len false text
-    → tokens_columns output (tokens_of false text) ≡ characters_columns (token_printed output (token_at false text)) + tokens_columns output (tokens_of false (drop n text))
-columns_more output text n k e = ap (tokens_columns output) (tokens_more false text n k e)
-
-pub columns_none : (output : Output) (text : List ℕ) → length text ≤ 0 → tokens_columns output (tokens_of false text) ≡ 0
-columns_none output text h = ap (tokens_columns output) (tokens_none false text h)
-
-pub items_more : (output : Output) (place : Place) (fonts : Fonts) (text : List ℕ) (n : ℕ) → 0 < n → n ≡ token_len false text
-    → tokens_items output place fonts (tokens_of false text)
-    ≡ in_font fonts.font place (token_printed output (token_at false text)) ++ tokens_items output place (token_fonts (token_at false text) fonts) (tokens_of false (drop n text))
-items_more output place fonts text n k e = ap (tokens_items output place fonts) (tokens_more false text n k e)
-
-pub items_none : (output : Output) (place : Place) (fonts : Fonts) (text : List ℕ) → length text ≤ 0 → tokens_items output place fonts (tokens_of false text) ≡ []
-items_none output place fonts text h = ap (tokens_items output place fonts) (tokens_none false text h)
-
-pub fonts_more : (fonts : Fonts) (text : List ℕ) (n : ℕ) → 0 < n → n ≡ token_len false text
-    → fonts_after fonts (tokens_of false text) ≡ fonts_after (token_fonts (token_at false text) fonts) (tokens_of false (drop n text))
-fonts_more fonts text n k e = ap (fonts_after fonts) (tokens_more false text n k e)
-
-pub fonts_none : (fonts : Fonts) (text : List ℕ) → length text ≤ 0 → fonts_after fonts (tokens_of false text) ≡ fonts
-fonts_none fonts text h = ap (fonts_after fonts) (tokens_none false text h)
 
 -- ---- tokens after tokens
 

@@ -10,7 +10,7 @@ ghost use Rattle.page_core_tables.specs.Printed.{printed_view};
 ghost use Rattle.page_engine_header.specs.Printing.{plain_printed, token_printed, tokens_columns, in_font, tokens_items, fonts_after};
 
 use page_core_base::{Font, Output, Piece, PieceOut, Place};
-use page_core_escapes::{Escape, Token, read_token};
+use page_core_escapes::{Escape, Token, Tokens};
 use page_core_numbers::{escape_columns, printed_columns};
 use page_core_tables::{Printed, printed_char, printed_glyph};
 use page_scopes_words::Fonts;
@@ -53,11 +53,9 @@ pub(crate) fn text_columns(output: Output, text: &[u8]) -> u32
     ensures bound { result ≤ 1000 * length text.now }
 {
     let mut sum = 0;
-    let mut rest = text;
-    while !rest.is_empty() {
-        let token = read_token(false, rest);
+    let mut tokens = Tokens::new(false, text);
+    while let Some(token) = tokens.read() {
         sum += token_columns(output, &token);
-        rest = &rest[token.len()..];
     }
     sum
 }
@@ -164,12 +162,10 @@ pub(crate) fn give_text<O: PieceOut>(
     ensures fonts { result ≡ fonts_after fonts (tokens_of false text.now) }
 {
     let mut fonts = fonts;
-    let mut rest = text;
-    while !rest.is_empty() {
-        let token = read_token(false, rest);
+    let mut tokens = Tokens::new(false, text);
+    while let Some(token) = tokens.read() {
         give_token(out, output, fonts.font, place, &token);
         fonts = fonts.after(&token);
-        rest = &rest[token.len()..];
     }
     fonts
 }

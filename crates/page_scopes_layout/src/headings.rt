@@ -9,7 +9,7 @@ ghost use Rattle.page_scopes_layout.specs.Headings as headings;
 
 use crate::contexts::{Context, PagePart, PageSection};
 use page_core_base::LINE;
-use page_core_escapes::{Escape, Token, read_token};
+use page_core_escapes::{Escape, Token, Tokens};
 use page_core_numbers::{Scale, evaluate};
 use page_core_tables::{glyph, spelling};
 
@@ -167,12 +167,10 @@ fn tokens_further(quoted: bool, text: &[u8], start: HeadingSoFar) -> HeadingSoFa
     requires { length text.now ≤ LINE }
     ensures { result ≡ headings.tokens_further (tokens_of quoted text.now) start }
 {
-    let mut rest = text;
+    let mut tokens = Tokens::new(quoted, text);
     let mut heading = start;
-    while !rest.is_empty() {
-        let token = read_token(quoted, rest);
+    while let Some(token) = tokens.read() {
         heading = token_further(&token, heading);
-        rest = &rest[token.len()..];
     }
     heading
 }

@@ -1,13 +1,10 @@
-use Rattle.std.proofs.Common.{◌≡◌, ◌≤◌, length}
+use Rattle.std.proofs.Common.{◌≡◌, length}
 use Rattle.page_core_escapes.specs.Tokens.{tokens_of}
-use Rattle.page_core_base.specs.declared.limits.TheConstants.{LINE}
 use Rattle.page_scopes_layout.specs.Headings as headings
 use Rattle.page_scopes_layout.proofs.headings.tokens_further.Given as goal
 
-abbrev pub invariant-loop-rest : goal.invariant-loop-rest
-invariant-loop-rest l =
-    (headings.tokens_further (tokens_of l.quoted l.text) l.fn.start ≡ headings.tokens_further (tokens_of l.quoted l.rest) l.heading)
-    × (length l.rest ≤ LINE)
+abbrev pub invariant-loop-token : goal.invariant-loop-token
+invariant-loop-token l = headings.tokens_further (tokens_of l.quoted l.text) l.fn.start ≡ headings.tokens_further l.tokens l.heading
 
-abbrev pub decreases-loop-rest : goal.decreases-loop-rest
-decreases-loop-rest l = length l.rest
+abbrev pub decreases-loop-token : goal.decreases-loop-token
+decreases-loop-token l = length l.tokens
