@@ -1,3 +1,2 @@
 pub mod MarginLemmas
 pub mod HeadingLemmas
-pub mod ListFits

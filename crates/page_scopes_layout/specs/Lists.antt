@@ -1,5 +1,6 @@
 -- Lists: what is known of an open one, and the contexts of its items. Source: mdoc(7), `Bl`.
 use Rattle.std.specs.Prelude.{ℕ, ◌+◌, ◌^◌, ◌-◌, min, nat_lt, Bool, true, false, ◌&&◌, ◌||◌, if◌then◌else◌, Option, None, Some, replicate, slice_set, get_or, ℤ, pos, ◌+ℤ◌}
+use Rattle.std.proofs.Common.{arith}
 use Rattle.std.proofs.Math.Nat.{min-le_right}
 use Rattle.page_core_base.specs.Limits.{COLUMNS}
 use Rattle.page_core_base.specs.declared.cells.Font.TheVariants.{B}
@@ -11,12 +12,11 @@ use Rattle.page_scopes_layout.specs.declared.contexts.Context.{Context}
 use Rattle.page_scopes_layout.specs.declared.contexts.PagePart.TheVariants as parts
 use Rattle.page_scopes_layout.specs.declared.lists.ColumnWidths.{ColumnWidths}
 use Rattle.page_scopes_layout.specs.declared.lists.OpenList.{OpenList}
-use Rattle.page_scopes_layout.proofs.ListFits.{none_fits}
 
 -- ---- the widths of columns; `fits` bounds their count
 
 abbrev pub no_widths : ColumnWidths
-no_widths = record { widths = replicate COLUMNS 0; count = 0; fits = none_fits }
+no_widths = record { widths = replicate COLUMNS 0; count = 0; fits = omega arith }
 
 abbrev pub has_room : ColumnWidths → Bool
 has_room w = nat_lt w.count COLUMNS

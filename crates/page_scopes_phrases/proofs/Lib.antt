@@ -1,3 +1,2 @@
-pub mod KeptFits
 pub mod CellLemmas
 pub mod KeptLemmas

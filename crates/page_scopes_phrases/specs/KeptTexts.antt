@@ -1,5 +1,8 @@
 -- Texts that are kept of an argument and printed later: the target of a link, and the name of the manual. Source: man(7), `UR`, `MT`; mdoc(7), `Nm`.
-use Rattle.std.specs.Prelude.{ℕ, Bool, true, false, ◌||◌, ◌==◌, nat_lt, List, [], ◌∷◌, ◌++◌, length, codes, if◌then◌else◌}
+use Rattle.std.specs.Prelude.{ℕ, ◌≤◌, Bool, true, false, ◌||◌, ◌==◌, nat_lt, List, [], ◌∷◌, ◌++◌, length, take, codes, if◌then◌else◌}
+use Rattle.std.proofs.Common.{arith}
+use Rattle.std.proofs.lemmas.List.{length-take}
+use Rattle.std.specs.Str.Lossy.{utf8_valid_len}
 use Rattle.std.specs.List.{list_any}
 use Rattle.page_core_base.specs.Messages.{text_front}
 use Rattle.page_core_base.specs.Pieces.{Item, shown}
@@ -19,7 +22,13 @@ use Rattle.page_scopes_phrases.specs.declared.runnings.Running.{Running}
 use Rattle.page_scopes_text.specs.Words.{blank_cells, fonts_after, token_items, token_prints}
 use Rattle.page_scopes_words.specs.Words.{has_tab, says, white_cells}
 use Rattle.page_scopes_words.specs.declared.fonts.Fonts.{Fonts}
-use Rattle.page_scopes_phrases.proofs.KeptFits.{front_fits}
+
+pub front_fits : (text : List ℕ) → length (text_front FIELD text) ≤ FIELD
+unfolding text_front
+front_fits text =
+    let a = length-take FIELD text in
+    let b = length-take (utf8_valid_len (take FIELD text)) (take FIELD text) in
+    omega (arith, a, b)
 
 -- The first FIELD bytes of what an argument says are kept, up to a character's end, and so no more, as `fits` says of each that there is. A
 -- pair of quotes in a quoted argument is one byte.
