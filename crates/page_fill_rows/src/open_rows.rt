@@ -272,8 +272,7 @@ impl OpenRow {
     fn begin_row(&mut self, cell: Cell)
         ensures { self.new ≡ sheet.begins self.old (cell ∷ []) }
     {
-        self.row.clear();
-        self.row.push(cell);
+        self.row.begin(cell);
         self.columns = cell_columns(cell);
         self.margin = self.first;
         self.first = self.rest;
