@@ -51,7 +51,7 @@ more-begun frame row front cell content =
     let more : (length (front ++ cell ∷ []) == 0) ≡ false = rw (length-append front (cell ∷ [])) (grind (arith, nat_tests)) in
     rw more refl
 
--- one more cell stands there
+-- there is one more cell
 first-front : (frame : Frame) (row : Row) (front : List Cell) (cell : Cell) (place : Place) (content : List CellOrNote) → length front < CELLS
     → first_word frame (started frame (closed row) front) (shown cell place ∷ content) ≡ first_word frame (started frame (counted (closed row) cell) (front ++ cell ∷ [])) content
 unfolding first_word

@@ -182,7 +182,7 @@ word-fits frame row n cells p q some room fit =
     step ∙ (ap (by_word frame (gapped row n) (cell_content q cells)) rest
     ∙ rw (k, append_assoc, tally-append row.tag_columns (replicate n blank) cells, has_cell-append row.tag_begun (replicate n blank) cells) refl)
 
--- a word of which nothing stands in the row
+-- a word of which there is nothing in the row
 row-left : (row : Row) (n : ℕ) → before_word (gapped row n) ≡ row.cells
 row-left row n = take_at row.cells (replicate n blank) (length row.cells) refl
 

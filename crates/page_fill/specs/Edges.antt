@@ -75,7 +75,7 @@ start settings = record { sheet = fresh settings.width; word = no_word; tag = No
 abbrev pub under : ℕ → Output → Edge → Edge
 under width output e = record e { sheet = record e.sheet { width = width }; output = output }
 
--- how many blank rows stand at the end of the rows that were given
+-- how many blank rows are at the end of the rows that were given
 abbrev pub blank_rows_at_end : Edge → ℕ
 blank_rows_at_end e = e.sheet.blank_rows
 

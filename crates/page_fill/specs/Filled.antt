@@ -1,4 +1,4 @@
--- What filling is, in words. Between two breaks stands a list of words. A word is a list of parts, which end after its hyphens, and only its first
+-- What filling is, in words. Between two breaks there is a list of words. A word is a list of parts, which end after its hyphens, and only its first
 -- part has blanks before it; since a row may end before each part, a `Word` here is one such part. A row takes them up to its first offending
 -- cell: the first one with which margin and columns pass the width while its word isn't the row's first, or else that would be one cell too many.
 -- In the first case the row ends before that word, in the second before that cell, which is reported. Blanks before a word count with that word,
@@ -40,7 +40,7 @@ pub record Frame : Type 0 where
 
 -- the row that is open
 pub record Row : Type 0 where
-  -- its margin, its cells (none: no row is open), how many of them stand before its last word and that word's blanks, and before that word
+  -- its margin, its cells (none: no row is open), how many of them are before its last word and that word's blanks, and before that word
   pub margin : ℕ
   pub cells : List Cell
   pub gap : ℕ

@@ -1,4 +1,4 @@
--- What filling is: pieces and the messages among them are groups of words, which fill rows, and what stands between such groups.
+-- What filling is: pieces and the messages among them are groups of words, which fill rows, and what is between such groups.
 -- Source: roff(7), "Filling and adjusting"; mandoc(1).
 use Rattle.std.specs.Prelude.{ℕ, ◌+◌, ◌-◌, ◌%◌, Bool, true, false, ◌&&◌, ◌==◌, nat_lt, nat_le, min, List, [], ◌∷◌, length, replicate, Option, None, Some, if◌then◌else◌}
 use Rattle.page_core_base.specs.declared.cells.Cell.{Cell}
@@ -57,7 +57,7 @@ blank_rows e n = record {
   edge = record e { sheet = record e.sheet { blank_rows = more_blank_rows e.sheet.blank_rows n; heading = e.sheet.heading && n == 0 } };
 }
 
--- so many that this number of them stands there, but none after a heading's row
+-- so many that there is this number of them, but none after a heading's row
 abbrev pub blank_rows_up_to : Edge → ℕ → Laid Edge
 blank_rows_up_to e n = blank_rows e (if e.sheet.heading then 0 else n - e.sheet.blank_rows)
 
@@ -69,7 +69,7 @@ placed e n = nothing (record e { word = placed_word n })
 abbrev pub HANG_MAX : ℕ
 HANG_MAX = 1000
 
--- after a tag with this hang: where a blank fits before the hang, the next word stands there; else the row ends, or one blank stands
+-- after a tag with this hang: where a blank fits before the hang, the next word begins there; else the row ends, or there is one blank
 abbrev pub after_tag : Edge → OpenTag → Laid Edge
 after_tag e tag =
     let hang = min tag.hang HANG_MAX in
@@ -82,7 +82,7 @@ abbrev pub tag_ended : Edge → Option OpenTag → Laid Edge
 tag_ended e None = row_end e
 tag_ended e (Some tag) = if e.sheet.tag_begun then after_tag e tag else nothing (record e { word = no_word })
 
--- a tag that is set in ends first, and its blanks stand, where a row is open
+-- a tag that is set in ends first, and then come its blanks, where a row is open
 abbrev pub tag_end : Edge → Option ℕ → Laid Edge
 tag_end e None = tag_ended (record e { tag = None }) e.tag
 tag_end e (Some blanks) = placed (record e { set_in = None }) (if length e.sheet.cells == 0 then 0 else blanks)

@@ -90,7 +90,7 @@ words_from output literal empty w (Tab font place) rest = and_then literal empty
 words_from output literal empty w Split rest = if w.is_joined && not literal then parted rest else rest
 words_from output literal empty w _ rest = rest
 
--- a message stands after what came
+-- a message comes after what came
 abbrev pub after_message : Message → Words → Words
 after_message m rest = record { first = noted m ∷ rest.first; later = rest.later }
 

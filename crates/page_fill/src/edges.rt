@@ -44,20 +44,20 @@ pub(crate) struct OpenWord {
 pub(crate) struct OpenTag {
     /// The columns that it may take with a blank after it.
     pub(crate) hang: u32,
-    /// Its row ends after it where it takes more; else one blank stands.
+    /// Its row ends after it where it takes more; else there is one blank.
     pub(crate) ends_row: bool,
 }
 
 /// What is held between two pieces.
 #[derive(Drop)]
 pub struct Edge {
-    /// The open row with its margin and its last word; the margins of the rows after it, how they are filled, and what stands above them.
+    /// The open row with its margin and its last word; the margins of the rows after it, how they are filled, and what is above them.
     pub(crate) sheet: OpenRow,
     /// The open word, and the blanks that wait before the next one.
     pub(crate) word: OpenWord,
     /// The open tag.
     pub(crate) tag: Option<OpenTag>,
-    /// The blanks after a tag that is set in, where one is open: it may stand in another one.
+    /// The blanks after a tag that is set in, where one is open: it may be in another one.
     pub(crate) set_in: Option<u32>,
     /// What characters and glyphs print.
     pub(crate) output: Output,
@@ -259,7 +259,7 @@ impl Edge {
         c.is_ascii() && self.takes_at_once(&[c as u8], font)
     }
 
-    // Takes the first words of a roman text, in which one blank stands before each, as far as the row has room for them; answers how many
+    // Takes the first words of a roman text, with one blank before each, as far as the row has room for them; answers how many
     // bytes of the text these are.
     fn take_roman(&mut self, text: &[u8]) -> usize
         ensures takes { TakesFirstWords text.now R result self.old self.new }
@@ -279,7 +279,7 @@ impl Edge {
         end
     }
 
-    /// Takes the first words of a text, in which one blank stands before each, as far as the row has room for them; answers how many bytes
+    /// Takes the first words of a text, with one blank before each, as far as the row has room for them; answers how many bytes
     /// of the text these are. They are roman, as the blanks are.
     pub fn take_words(&mut self, text: &[u8], font: Font) -> usize
         ensures takes { TakesFirstWords text.now font result self.old self.new }
@@ -382,7 +382,7 @@ impl Edge {
         self.word = NO_WORD;
     }
 
-    /// Ends the row, and gives blank rows until a count of them stands there; none after a heading's row.
+    /// Ends the row, and gives blank rows until there are so many of them; none after a heading's row.
     #[tactic(auto, unfolding(crate::specs::machine::Fill::paragraph))]
     pub(crate) fn paragraph<O: RowOut>(&mut self, count: u32, out: &mut O)
         ensures { LaysOut O.left out.old (fill.paragraph self.old count) out.new self.new }
@@ -505,7 +505,7 @@ impl Edge {
         }
     }
 
-    /// The next word stands at a column, or a blank after the last cell.
+    /// The next word is at a column, or a blank after the last cell.
     pub(crate) fn column(&mut self, column: u32)
         ensures { self.new ≡ (fill.placed self.old (fill.to_column self.old.sheet.cells column)).edge }
     {

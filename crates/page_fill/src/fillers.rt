@@ -116,7 +116,7 @@ impl Filler {
         }
     }
 
-    /// A filler for a page of these settings, below its header: one blank row stands there. It reserves all memory that it will ever
+    /// A filler for a page of these settings, below its header, with one blank row. It reserves all memory that it will ever
     /// hold, and its fault is [`Fault::Memory`].
     pub fn new(alloc: Global, settings: &Settings) -> Result<Filler, Fault>
         ensures ok { IfOk result (λ f. f ≡ Some (fill.start settings.now)) }
@@ -139,7 +139,7 @@ impl Filler {
         self.edge.cells()
     }
 
-    /// How many blank rows stand at the end of the rows that were given, the open row left aside.
+    /// How many blank rows are at the end of the rows that were given, the open row left aside.
     pub fn blank_rows(&self) -> u32
         ensures { IfSome self.now (λ e. result ≡ fill.blank_rows_at_end e) }
     {
@@ -197,7 +197,7 @@ impl Filler {
         result
     }
 
-    /// Takes the first words of a text, in which one blank stands before each, as far as the open row has room for them; answers how many
+    /// Takes the first words of a text, with one blank before each, as far as the open row has room for them; answers how many
     /// bytes of the text these are. They settle nothing.
     #[inline(always)]
     pub fn take_words(&mut self, text: &[u8], font: Font) -> usize

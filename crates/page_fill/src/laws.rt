@@ -21,7 +21,7 @@ ghost use Rattle.page_fill.specs.PieceWords as pieces;
 ghost use Rattle.page_fill.specs.machine.Words as row;
 
 /// What a filler lays piece by piece is what the definition says of the whole list: pieces and the messages among them are groups of
-/// words, which fill rows, and what stands between such groups; and a list may be cut anywhere. So it is at each edge that a page comes
+/// words, which fill rows, and what is between such groups; and a list may be cut anywhere. So it is at each edge that a page comes
 /// to: the premises on the sheet and the open word hold from the start of a page on.
 pub fn words_law()
     ensures items { (e : Edge) (items : List Item) → IsHeld e.sheet → is_sound e.word ≡ true
@@ -35,7 +35,7 @@ pub fn words_law()
     ensures start { (width : ℕ) → IsHeld (open_rows.fresh width) × (is_sound edges.no_word ≡ true) }
 {}
 
-/// Texts that are glued are one word, whatever blanks stand between them.
+/// Texts that are glued are one word, whatever blanks are between them.
 pub fn glue_law()
     ensures { (e : Edge) (a b : List ℕ) (font : Font) (place : Place) (n : ℕ) (has_tab : Bool)
         → e.word.is_joined ≡ false → IsUtf8 a → IsUtf8 b → 0 < length a

@@ -1,7 +1,7 @@
 //! Filling: pieces become rows (roff(7), "Filling and adjusting").
 //!
 //! In the pipeline (bytes, lines, roff, macro set, scopes, filling, rows) it takes the pieces that the scopes give, and gives rows to a
-//! sink. Between two breaks stands a list of words, each with the blanks before it; a row takes them up to the first one that passes its
+//! sink. Between two breaks there is a list of words, each with the blanks before it; a row takes them up to the first one that passes its
 //! width. So says the definition in words that all contracts here cite: read `filled` in `specs/Filling.antt` first, and then [`Filler`].
 //!
 //! What the code does is a machine: one piece after another goes into the open row ([`Edge`], which is all that is held between two pieces), and rows

@@ -83,7 +83,7 @@ fn fill_piece<R: RowSink, N: NoteSink>(
 }
 
 impl Edge {
-    /// Below the header of a page of these settings: one blank row stands there. It reserves all memory that is ever held.
+    /// Below the header of a page of these settings, with one blank row. It reserves all memory that is ever held.
     pub fn new(alloc: Global, settings: &Settings) -> Result<Edge, AllocError>
         ensures { IfOk result (λ e. e ≡ fill.start settings.now) }
     {
@@ -133,7 +133,7 @@ impl Edge {
         self.sheet.cells()
     }
 
-    /// How many blank rows stand at the end of the rows that were given, the open row left aside.
+    /// How many blank rows are at the end of the rows that were given, the open row left aside.
     pub fn blank_rows(&self) -> u32
         ensures { result ≡ fill.blank_rows_at_end self.now }
     {

@@ -1,10 +1,10 @@
 -- Places of a row that are known to have blanks.
-use Rattle.std.proofs.Common.{◌≡◌, ℕ, zero, suc, ◌+◌, ◌-◌, ◌<◌, ◌≤◌, max, nat_lt, true, List, [], ◌∷◌, ◌++◌, length, take, get_or, replicate, append_assoc, append-nil, add-one, inl, inr, refl, sym, ap, ◌∙◌, arith}
+use Rattle.std.proofs.Common.{◌≡◌, ℕ, zero, suc, ◌+◌, ◌-◌, ◌<◌, ◌≤◌, max, nat_lt, true, List, [], ◌∷◌, ◌++◌, length, take, get_or, replicate, set, append_assoc, append-nil, add-one, inl, inr, refl, sym, ap, ◌∙◌, arith}
 use Rattle.std.specs.List.{list_all}
 use Rattle.std.proofs.Math.Nat.{le-max_left, le-max_right}
 use Rattle.std.proofs.lemmas.Bool.{cases_Bool}
 use Rattle.std.proofs.lemmas.Bool.Decides.{nat_tests}
-use Rattle.std.proofs.lemmas.List.{get_or-take, get_or-append_right, get_or-replicate, length-take-le, replicate-append-replicate, take-take, take_more}
+use Rattle.std.proofs.lemmas.List.{get_or-take, get_or-append_right, get_or-replicate, get_or-set_other, length-take-le, replicate-append-replicate, take-take, take_more}
 use Rattle.page_core_base.specs.declared.cells.Cell.{Cell}
 use Rattle.page_core_base.specs.declared.cells.Font.{Font}
 use Rattle.page_core_base.specs.Rows.{is_blank_row, row_of}
@@ -81,6 +81,24 @@ cut-run old new first last end font run after = record {
       after k (cell_of font 32) past ∙ run.at k from g;
 }
 
+-- a blank was put in the first place, before others
+pub first-run : (places : List Cell) (first last : ℕ) (font : Font) (cell : Cell) → HasRun places first last font → first ≤ 1 → font ≡ cell.font → cell.c ≡ 32
+    → HasRun (set places 0 cell) 0 last font
+first-run [] first last font cell run from same is = record { at = λ k h g. refl }
+first-run (old ∷ places) first last font cell run from same is = record { at = λ k h g. place k g } where
+  place : (k : ℕ) → k < last → get_or (cell ∷ places) k (cell_of font 32) ≡ cell_of font 32
+  place zero g = ap (λ c. cell_of cell.font c) is ∙ ap (λ f. cell_of f 32) (sym same)
+  place (suc k) g = run.at (suc k) (omega (arith, from)) g
+
+-- another cell was
+pub other-first : (places : List Cell) (first last : ℕ) (font : Font) (cell : Cell) → HasRun places first last font → HasRun (set places 0 cell) (max first 1) last font
+other-first places first last font cell run = record {
+  at = λ k h g.
+      let from : first ≤ k = omega (arith, h, le-max_left first 1) in
+      let behind : 1 ≤ k = omega (arith, h, le-max_right first 1) in
+      get_or-set_other places 0 k cell (cell_of font 32) (λ is. omega (arith, behind, is)) ∙ run.at k from g;
+}
+
 -- blanks were put
 pub put-run : (old new : List Cell) (start : ℕ) (font : Font) (bytes : List ℕ) → list_all is_blank_byte bytes ≡ true
     → take (start + length bytes) new ≡ take start old ++ cells_of font bytes → start ≤ length old
@@ -125,13 +143,3 @@ pub blank-front : (places : List Cell) (first last len end : ℕ) (font : Font) 
 blank-front places first last len end font run begins to within room =
     ap (λ cells. is_blank_row (row_of 0 cells)) (take-take end len places within)
     ∙ blank-places places last end font (rw begins at run) to (omega (arith, within, room))
-
--- ---- one blank
-
--- a blank that is there already
-pub pushed-cell : (places : List Cell) (first last start : ℕ) (font : Font) (cell : Cell) → HasRun places first last font
-    → (first ≤ start) × (start + 1 ≤ last) × (font ≡ cell.font) → cell.c ≡ 32 → start + 1 ≤ length places
-    → take (start + 1) places ≡ take start places ++ cell ∷ []
-pushed-cell places first last start font cell run known is room =
-    run-cell places first last start font run known.0 known.1 room
-    ∙ (ap (λ c. take start places ++ cell_of font c ∷ []) (sym is) ∙ ap (λ f. take start places ++ cell_of f cell.c ∷ []) known.2)

@@ -40,7 +40,7 @@ letter-last : (b : ℕ) → (b == 32) ≡ false → word_start (b ∷ []) ≡ 0
 unfolding word_start
 letter-last b other = rw other refl
 
--- a blank stands before a place
+-- a blank is before a place
 pub start-at-blank : (bytes : List ℕ) (end : ℕ) → 0 < end → end ≤ length bytes → get_or bytes (end - 1) 0 ≡ 32 → word_start (take end bytes) ≡ end
 start-at-blank bytes end some within is =
     let one = blank-last (get_or bytes (end - 1) 0) is in
@@ -48,7 +48,7 @@ start-at-blank bytes end some within is =
     rw (last-byte bytes end some within)
     (start-append (take (end - 1) bytes) (get_or bytes (end - 1) 0 ∷ []) (grind (arith, nat_tests, one)) ∙ omega (arith, one, len, some))
 
--- a letter stands before a place
+-- a letter is before a place
 pub start-at-letter : (bytes : List ℕ) (end : ℕ) → 0 < end → end ≤ length bytes → (get_or bytes (end - 1) 0 == 32) ≡ false
     → word_start (take end bytes) ≡ word_start (take (end - 1) bytes)
 start-at-letter bytes end some within other =

@@ -43,7 +43,7 @@ pub record Sheet : Type 0 where
   pub cells : List Cell
   pub gap : ℕ
   pub word : ℕ
-  -- how many blank rows stand at the end of the rows that were given, up to BLANK_ROWS, and whether a heading's row does
+  -- how many blank rows are at the end of the rows that were given, up to BLANK_ROWS, and whether the last is a heading's row
   pub blank_rows : ℕ
   pub heading : Bool
   -- the columns of the open tag's cells, up to TAG_COLUMNS, and whether it has a cell

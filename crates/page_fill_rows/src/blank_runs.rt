@@ -1,11 +1,11 @@
 //! Places of a row that are known to have blanks, so that blanks that come again cost nothing.
 
-ghost use Rattle.std.specs.Prelude.{◌≡◌, ◌≤◌, List, take, true, max};
+ghost use Rattle.std.specs.Prelude.{◌≡◌, ◌≤◌, List, set, take, true, max};
 ghost use Rattle.std.specs.List.{list_all};
 ghost use Rattle.page_core_base.specs.declared.cells.Cell.{Cell};
 ghost use Rattle.page_fill_rows.specs.machine.BlankRuns.{HasRun, is_blank_byte};
 
-use page_core_base::Font;
+use page_core_base::{Cell, Font};
 
 // The bytes of a text that no word has, of which most are blanks if the first one is.
 const LONG: usize = 64;
@@ -52,6 +52,13 @@ impl BlankRun {
         self.start <= place && place <= self.end && is_same(self.font, font)
     }
 
+    // Whether these blanks begin before a place or there, and have a font.
+    fn goes_on_after(self, place: usize, font: Font) -> bool
+        ensures { result ≡ true → (self.start ≤ place) × (self.font ≡ font) }
+    {
+        self.start <= place && is_same(self.font, font)
+    }
+
     /// What is known where places from a start up to an end were given blanks in a font: these, and those before them with which they go on.
     pub(crate) fn with(self, start: usize, end: usize, font: Font) -> BlankRun
         ensures { (old new : List Cell) → HasRun old self.start self.end self.font
@@ -66,6 +73,20 @@ impl BlankRun {
             };
         }
         BlankRun { start, end, font }
+    }
+
+    /// What is known where a cell was put in the first place.
+    pub(crate) fn after_first(self, cell: Cell) -> BlankRun
+        ensures { (places : List Cell) → HasRun places self.start self.end self.font
+            → HasRun (set places 0 cell) result.start result.end result.font }
+    {
+        if cell.c == ' ' && self.goes_on_after(1, cell.font) {
+            return BlankRun { start: 0, ..self };
+        }
+        BlankRun {
+            start: self.start.max(1),
+            ..self
+        }
     }
 
     /// The places before an end are put anew.

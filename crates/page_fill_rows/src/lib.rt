@@ -1,7 +1,7 @@
 //! The open row, cell by cell, and what characters print in it (roff(7), "Filling and adjusting").
 //!
 //! In the pipeline (bytes, lines, roff, macro set, scopes, filling, rows) it is the last step: an [`OpenRow`] takes cells and blanks, and
-//! gives each row to a sink as soon as no later cell can change it. It knows words only by their places in the row; what a word is stands
+//! gives each row to a sink as soon as no later cell can change it. It knows words only by their places in the row; what a word is is
 //! in `page_fill`. Read `Sheet` in `specs/OpenRows.antt` first, which is all that a row holds, and then `specs/Characters.antt`.
 //!
 //! Proved: `OpenRow`, `put_character`, `put_characters`, `put_glyph`, `put_plain`, `printable_len`, `word_start`: what the open row is after each

@@ -147,7 +147,7 @@ impl OpenRow {
         self.is_literal
     }
 
-    /// How many blank rows stand at the end, up to [`BLANK_ROWS`].
+    /// How many blank rows are at the end, up to [`BLANK_ROWS`].
     pub fn blank_rows(&self) -> u32
         ensures value { result ≡ self.now.blank_rows }
         ensures bound { result ≤ BLANK_ROWS }
@@ -272,8 +272,7 @@ impl OpenRow {
     fn begin_row(&mut self, cell: Cell)
         ensures { self.new ≡ sheet.begins self.old (cell ∷ []) }
     {
-        self.row.clear();
-        self.row.push(cell);
+        self.row.begin(cell);
         self.columns = cell_columns(cell);
         self.margin = self.first;
         self.first = self.rest;

@@ -23,10 +23,10 @@ const LONG: usize = 64;
 
 /// The cells of a row, at most [`CELLS`].
 ///
-/// All places stand from the start, so that a loop over the bytes of a word writes its cells and nothing else.
+/// All places are from the start, so that a loop over the bytes of a word writes its cells and nothing else.
 #[derive(Drop)]
 pub(crate) struct RowCells {
-    // The row's cells come first; what stands after them means nothing.
+    // The row's cells come first; what is after them means nothing.
     places: Vec<Cell>,
     len: usize,
     // Places that have blanks, be they of the row or of an earlier one.
@@ -117,14 +117,19 @@ impl RowCells {
         requires { length self.old < CELLS }
         ensures { self.new ≡ self.old ++ cell ∷ [] }
     {
-        let end = self.len + 1;
-        if cell.c == ' ' && self.run.has(self.len, end, cell.font) {
-            self.len = end;
-            return;
-        }
         self.places[self.len] = cell;
-        self.run.cut(end);
-        self.len = end;
+        self.len += 1;
+        // (a word of letters that come one by one costs the least if nothing is known after it)
+        self.run.end = 0;
+    }
+
+    /// Takes all cells away, and appends a cell.
+    pub(crate) fn begin(&mut self, cell: Cell)
+        ensures { self.new ≡ cell ∷ [] }
+    {
+        self.places[0] = cell;
+        self.len = 1;
+        self.run = self.run.after_first(cell);
     }
 
     /// Takes the cells before a start away.

@@ -75,7 +75,7 @@ tab e font place = seq (opening e place) (λ f. if f.sheet.literal then fixed_ta
 unfoldable pub ended : Edge → Laid Edge
 ended e = over (broken e.sheet) (λ s. record e { sheet = s; word = no_word })
 
--- blank rows are given until a count of them stands at the end, but none after a heading's row
+-- blank rows are given until a count of them is at the end, but none after a heading's row
 abbrev pub missing_rows : Sheet → ℕ → ℕ
 missing_rows s n = if s.heading then 0 else n - s.blank_rows
 
@@ -102,7 +102,7 @@ heading e = over (ended e) (λ f. if length e.sheet.cells == 0 then f else on_sh
 abbrev pub held_hang : ℕ → ℕ
 held_hang hang = min hang HANG_MAX
 
--- what follows a tag with a cell stands at the hang, if a blank fits before it
+-- what follows a tag with a cell begins at the hang, if a blank fits before it
 abbrev pub fits_hang : Sheet → ℕ → Bool
 fits_hang s hang = nat_le (s.tag_columns + 1) (held_hang hang)
 

@@ -1,4 +1,4 @@
--- The steps of filling: the open row, cell by cell, and what stands at the end of the rows that were given. Trust needs no reading of
+-- The steps of filling: the open row, cell by cell, and what is at the end of the rows that were given. Trust needs no reading of
 -- them: page_fill says in words what they lay. Source: roff(7), "Filling and adjusting"; mandoc(1), "ASCII Output".
 use Rattle.std.specs.Prelude.{ℕ, zero, suc, ◌+◌, Bool, true, false, not, ◌&&◌, ◌==◌, nat_lt, min, List, [], ◌∷◌, ◌++◌, length, take, drop, replicate, if◌then◌else◌}
 use Rattle.page_core_base.specs.declared.cells.Cell.{Cell}
