@@ -7,7 +7,7 @@ use Rattle.page_engine_records.specs.declared.texts.TheConstants.{TEXT}
 use Rattle.std.specs.Prelude.{codes, if◌then◌else◌}
 use Rattle.std.proofs.lemmas.Bool.Decides.{nat_tests}
 
-without_room : (text : List ℕ) (byte : ℕ) → TEXT ≤ length text → length text ≤ TEXT → with_byte text byte ≡ text
+pub without_room : (text : List ℕ) (byte : ℕ) → TEXT ≤ length text → length text ≤ TEXT → with_byte text byte ≡ text
 without_room text byte h g = take_at text (byte ∷ []) TEXT (omega (arith, h, g))
 
 pub added_byte : (text : List ℕ) (byte : ℕ) (b : Bool) → b ≡ nat_le 1 (TEXT - length text)

@@ -1,6 +1,6 @@
 //! A reader of pieces, which keeps the text of a page's section NAME (man(7), `SH`; mdoc(7), `Sh`).
 
-ghost use Rattle.std.specs.Prelude.{◌≡◌, IfOk, chars, refl};
+ghost use Rattle.std.specs.Prelude.{◌≡◌, ℕ, List, true, IfOk, chars, refl};
 ghost use Rattle.page_core_base.specs.Pieces.{piece_of};
 ghost use Rattle.page_core_tables.specs.Printed.{printed_view};
 ghost use Rattle.page_engine_header.specs.Printing.{characters_of, plain_printed};
@@ -68,6 +68,16 @@ impl NameReader {
         self.is_apart = false;
     }
 
+    // Whether no character changes what is kept: the text has all bytes that it may have, and no blank waits.
+    fn is_full(&self) -> bool
+        ensures { result ≡ true → (cs : List ℕ) → with_characters self.now cs ≡ self.now }
+    {
+        if self.is_apart {
+            return false;
+        }
+        self.text.bytes().len() == TEXT
+    }
+
     // Takes the characters of a spelling.
     fn take_spelling(&mut self, spelling: &str)
         ensures { self.new ≡ with_characters self.old spelling.now }
@@ -88,11 +98,14 @@ impl NameReader {
         }
     }
 
-    // Takes what the characters of a text print.
+    // Takes what the characters of a text print, as long as there is room for more.
     fn take_text(&mut self, text: &str)
         ensures { self.new ≡ with_characters self.old (plain_printed Output.Ascii (chars text.now)) }
     {
         for c in text.chars() {
+            if self.is_full() {
+                return;
+            }
             self.take_printed(printed_char(Output::Ascii, c));
         }
     }
@@ -101,6 +114,9 @@ impl NameReader {
     fn take_bytes(&mut self, bytes: &[u8])
         ensures { self.new ≡ with_characters self.old (plain_printed Output.Ascii (characters_of bytes.now)) }
     {
+        if self.is_full() {
+            return;
+        }
         if let Ok(text) = str::from_utf8(bytes) {
             self.take_text(text);
         }
