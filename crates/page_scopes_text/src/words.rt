@@ -13,19 +13,18 @@ use crate::parts::{give_plain_token, give_printed};
 use crate::tokens::{give_blank_cells, give_letters, report_token};
 use crate::{Pen, TextStyle};
 use page_core_base::{Font, LINE, Piece, PieceOut, Place};
-use page_core_escapes::{Token, Tokens, begins_word, plain_len, read_token};
+use page_core_escapes::{begins_word, plain_len, read_token};
 
 /// Gives the messages of the word at a text's front.
 pub(crate) fn report_word<O: PieceOut>(out: &mut O, quoted: bool, place: Place, text: &[u8])
     requires { length text.now ≤ LINE }
     ensures { Came O.left out.old (words.word_notes quoted place (words_of quoted text.now).word) out.new }
 {
-    let mut tokens = Tokens::new(quoted, text);
-    while let Some(token) = tokens.read() {
-        if matches!(token, Token::White(_)) {
-            return;
-        }
+    let mut rest = text;
+    while begins_word(rest) {
+        let token = read_token(quoted, rest);
         report_token(out, quoted, place, &token);
+        rest = &rest[token.len()..];
     }
 }
 
