@@ -6,6 +6,8 @@ ghost use Rattle.page_engine_index.specs.Entries.{Entry, index};
 ghost use Rattle.page_engine_index.specs.Matches.{IsMatch, is_match};
 ghost use Rattle.page_engine_index.specs.Records.{AreKept, entry_line};
 
+use crate::records::FIRST_LINE;
+
 /// A word matches a name where the test says so, and nowhere else: where it occurs in the name, but for the case of letters, with no
 /// letter, digit or underscore on either side (whatis(1)).
 pub fn match_law()
@@ -19,3 +21,10 @@ pub fn read_back_law()
     ensures { (entries : List Entry) → AreKept entries
         → index (codes "whatis 2\n" ++ flat_map entry_line entries) ≡ record { entries = entries; bad = None } }
 {}
+
+/// The first line that an index is written with says the version that [`read_back_law`] speaks of.
+pub fn first_line_law() -> &'static str
+    ensures { result.now ≡ codes "whatis 2" }
+{
+    FIRST_LINE
+}

@@ -5,7 +5,8 @@
 //! Proved: `search_index`, `whatis`: the rows of all entries of which a word matches a name, in the order of the index, and their number; at a fault
 //! the rows before it, and a bad line is the first one (`specs/Searches.antt`, `Entries.antt`, `Whatis.antt`). `match_law`: a word matches where it
 //! is in the name but for the case of letters, with no letter, digit or underscore on either side. `write_record`, `print_record`, `is_field`,
-//! `read_back_law`: the bytes of a record, and that an index of such records has exactly these entries (`specs/Records.antt`).
+//! `read_back_law`: the bytes of a record, and that an index of such records has exactly these entries (`specs/Records.antt`); `first_line_law`: its
+//! first line.
 #![tactic(auto)]
 
 mod entries;
@@ -18,7 +19,7 @@ mod records;
 mod searches;
 
 pub use fields::is_field;
-pub use laws::{match_law, read_back_law};
+pub use laws::{first_line_law, match_law, read_back_law};
 pub use line_sinks::{LineSink, TextLines};
 pub use queries::{Query, Show};
 pub use records::{FIRST_LINE, Record, Text, print_record, write_record};
