@@ -8,7 +8,7 @@ ghost use Rattle.page_scopes_phrases.specs.Outcomes.{GivesOutcome};
 ghost use Rattle.page_scopes_nodes.specs.Targets as targets;
 
 use page_core_base::{Font, LINE, Piece, PieceOut, Place};
-use page_core_escapes::read_token;
+use page_core_escapes::Tokens;
 use page_roff_syntax::Argument;
 use page_scopes_layout::{Context, PagePart};
 use page_scopes_phrases::{KeptText, Running, give_kept, give_kept_gap, report_cut};
@@ -19,11 +19,9 @@ fn report_escapes<O: PieceOut>(out: &mut O, quoted: bool, place: Place, text: &[
     requires { length text.now ≤ LINE }
     ensures { Came O.left out.old (targets.notes_of quoted place (tokens_of quoted text.now)) out.new }
 {
-    let mut rest = text;
-    while !rest.is_empty() {
-        let token = read_token(quoted, rest);
+    let mut tokens = Tokens::new(quoted, text);
+    while let Some(token) = tokens.read() {
         report_token(out, quoted, place, &token);
-        rest = &rest[token.len()..];
     }
 }
 

@@ -9,7 +9,7 @@ ghost use Rattle.page_scopes_phrases.specs.KeptTexts as kept;
 
 use crate::{KeptText, Running};
 use page_core_base::{FIELD, Font, LINE, Limit, NoteKind, Piece, PieceOut, Place};
-use page_core_escapes::{Token, read_token};
+use page_core_escapes::{Token, Tokens};
 use page_roff_syntax::Argument;
 use page_scopes_text::{fonts_after, give_blank_cells, give_token, token_prints};
 use page_scopes_words::{Fonts, Setting, give_white_cells, has_tab, report};
@@ -85,15 +85,13 @@ fn give_parts<O: PieceOut>(
         (kept.parts_items is_literal front place start (tokens_of false text.now)) out.new }
     ensures fonts { result ≡ kept.fonts_through start (tokens_of false text.now) }
 {
-    let mut rest = text;
+    let mut tokens = Tokens::new(false, text);
     let mut fonts = start;
     let mut gap = front;
-    while !rest.is_empty() {
-        let token = read_token(false, rest);
+    while let Some(token) = tokens.read() {
         give_part(out, is_literal, gap, place, fonts.value.font, &token);
         fonts = fonts_after(&token, fonts);
         gap = 1;
-        rest = &rest[token.len()..];
     }
     fonts
 }
@@ -113,13 +111,11 @@ fn prints_cell(is_literal: bool, text: &[u8]) -> bool
     requires { length text.now ≤ LINE }
     ensures { result ≡ kept.prints_cell is_literal (tokens_of false text.now) }
 {
-    let mut rest = text;
-    while !rest.is_empty() {
-        let token = read_token(false, rest);
+    let mut tokens = Tokens::new(false, text);
+    while let Some(token) = tokens.read() {
         if part_prints(is_literal, &token) {
             return true;
         }
-        rest = &rest[token.len()..];
     }
     false
 }
