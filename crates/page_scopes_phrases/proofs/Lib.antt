@@ -1,2 +1,1 @@
 pub mod CellLemmas
-pub mod KeptLemmas
