@@ -59,9 +59,9 @@ abbrev pub Runs : {R N : Type 0} → Result Outcome Fault → Streams R N → R 
 Runs result streams rows_before rows_after notes_before notes_after settings bytes after = MatchResult result
     (Whole streams rows_before rows_after notes_before notes_after settings bytes after)
     (λ fault. Stopped
-      (λ (laid : Laid Edge). AllCame streams rows_before rows_after notes_before notes_after laid)
-      (λ (laid : Laid Edge). FrontCame streams rows_before rows_after notes_before notes_after laid)
-      settings bytes fault)
+    (λ (laid : Laid Edge). AllCame streams rows_before rows_after notes_before notes_after laid)
+    (λ (laid : Laid Edge). FrontCame streams rows_before rows_after notes_before notes_after laid)
+    settings bytes fault)
 
 -- ---- the causes of faults
 
@@ -69,9 +69,9 @@ Runs result streams rows_before rows_after notes_before notes_after settings byt
 abbrev pub BrokeIn : {R N : Type 0} → Streams R N → R → R → N → N → Edge → Point → List ℕ → List ℕ → Type 0
 BrokeIn streams rows_before rows_after notes_before notes_after from point own left =
     ((length (lines_within point own) ≤ 1)
-      × FrontCame streams rows_before rows_after notes_before notes_after (settled_from from point own))
+    × FrontCame streams rows_before rows_after notes_before notes_after (settled_from from point own))
     ⊎ ((own ≡ []) × (left ≡ [])
-      × FrontCame streams rows_before rows_after notes_before notes_after (page from (last_line point)))
+    × FrontCame streams rows_before rows_after notes_before notes_after (page from (last_line point)))
 
 -- a sink failed: what the bytes before a line settle came whole, then came a front of that line, and nothing
 -- of the bytes that are left; no more was read than the chunk with the line's last byte, at most 2^14 bytes
@@ -114,11 +114,11 @@ abbrev pub StoppedBy : {R N : Type 0} → Sinks R N → SourceState → SourceSt
     → PageSettings → ℕ → List ℕ → Fault → Type 0
 StoppedBy sinks source_before source_after rows_before rows_after notes_before notes_after settings asked bytes fault =
     HasCause
-      (Untouched source_before source_after rows_before rows_after notes_before notes_after)
-      (Rose source_before.failed source_after.failed)
-      (λ cause. Broken sinks rows_before rows_after notes_before notes_after
-        (start settings) (first_point settings.encoding) bytes cause)
-      asked bytes fault
+    (Untouched source_before source_after rows_before rows_after notes_before notes_after)
+    (Rose source_before.failed source_after.failed)
+    (λ cause. Broken sinks rows_before rows_after notes_before notes_after
+    (start settings) (first_point settings.encoding) bytes cause)
+    asked bytes fault
 
 -- nothing failed
 pub record Quiet {R N : Type 0} (sinks : Sinks R N) (source_before source_after : SourceState)
@@ -139,7 +139,7 @@ pub record RunsOver {R N : Type 0} (result : Result Outcome Fault) (sinks : Sink
   pub cause : MatchResult result
       (λ _. Quiet sinks source_before source_after rows_before rows_after notes_before notes_after)
       (λ fault. StoppedBy sinks source_before source_after rows_before rows_after notes_before notes_after
-        settings asked bytes fault)
+      settings asked bytes fault)
 
 -- ---- a run over bytes in memory
 
@@ -168,6 +168,6 @@ abbrev pub RunsIn : {R N : Type 0} → Result Outcome Fault → Streams R N → 
 RunsIn result streams rows_before rows_after notes_before notes_after settings bytes = MatchResult result
     (Whole streams rows_before rows_after notes_before notes_after settings bytes (Some []))
     (λ fault. StoppedIn
-      (λ (laid : Laid Edge). AllCame streams rows_before rows_after notes_before notes_after laid)
-      (λ (laid : Laid Edge). FrontCame streams rows_before rows_after notes_before notes_after laid)
-      settings bytes fault)
+    (λ (laid : Laid Edge). AllCame streams rows_before rows_after notes_before notes_after laid)
+    (λ (laid : Laid Edge). FrontCame streams rows_before rows_after notes_before notes_after laid)
+    settings bytes fault)
