@@ -28,8 +28,8 @@ text lines = flat_map (λ line. line ++ 10 ∷ []) lines
 
 -- what a page of these lines prints and what is reported about it, in a file `x.1`: these rows and these messages
 pub record Shows (settings : Settings) (page rows messages : List (List ℕ)) : Type 0 where
-  pub rows : flat_map row_bytes (whole_page settings (text page)).rows ≡ text rows
-  pub messages : flat_map (message_bytes (codes "x.1")) (whole_page settings (text page)).notes ≡ text messages
+  pub prints : flat_map row_bytes (whole_page settings (text page)).rows ≡ text rows
+  pub reports : flat_map (message_bytes (codes "x.1")) (whole_page settings (text page)).notes ≡ text messages
 
 -- ---- how rows are written
 
