@@ -1,8 +1,7 @@
 //! The macros of man(7): worked pages. Written by tools/worked, from the cases of `page_cases`.
 
 ghost use Rattle.std.specs.Prelude.{[], ◌∷◌, ◌++◌, codes};
-ghost use Rattle.page_core_base.specs.declared.page_settings.Output.TheVariants.{Utf8};
-ghost use Rattle.page_worked.specs.Pages.{Shows, plain, utf8, bold, italic, man_page, man_rows};
+ghost use Rattle.page_worked.specs.Pages.{Shows, plain, bold, italic, man_page, man_rows};
 
 /// man(7), TH.
 pub fn th_pages_1()
@@ -13,20 +12,6 @@ pub fn th_pages_1()
         codes "a" ∷
         [])
         (codes "A-B(1)                         V -- <?><?><?> w                         A-B(1)" ∷
-        [] ∷
-        bold (codes "A") ∷
-        codes "       a" ∷
-        [] ∷
-        codes "S \"T\"                              20   20                              A-B(1)" ∷
-        [])
-        [] }
-    // fields (man(7), TH)
-    ensures fields_too { Shows (record plain { output = Utf8 })
-        (codes ".TH A\\-B 1 20\\h'3n'20 \"S\\~\"\"T\"\"\" \"V \\(em \\(zz\\(dg\\[u4E00]\\tw\"" ∷
-        codes ".SH A" ∷
-        codes "a" ∷
-        [])
-        (utf8 (codes "A-B(1)                           V — <?>†一 w                           A-B(1)") ∷
         [] ∷
         bold (codes "A") ∷
         codes "       a" ∷
@@ -148,10 +133,6 @@ pub fn th_pages_1()
         codes "S                                 2020-01-01                              T(8)" ∷
         [])
         [] }
-{}
-
-/// man(7), TH.
-pub fn th_pages_2()
     // the volume of section 9 (man(7), TH)
     ensures the_volume_of_section_9 { Shows plain
         (codes ".TH T 9 2020-01-01 S" ∷ codes ".SH A" ∷ codes "x" ∷ [])
@@ -163,6 +144,10 @@ pub fn th_pages_2()
         codes "S                                 2020-01-01                              T(9)" ∷
         [])
         [] }
+{}
+
+/// man(7), TH.
+pub fn th_pages_2()
     // the volume of a section with letters is that of its digit (man(7), TH)
     ensures the_volume_of_a_section_with_letters_is_that_of { Shows plain
         (codes ".TH T 3p 2020-01-01 S" ∷ codes ".SH A" ∷ codes "x" ∷ [])

@@ -1,7 +1,6 @@
 //! Text and escapes: worked pages. Written by tools/worked, from the cases of `page_cases`.
 
 ghost use Rattle.std.specs.Prelude.{[], ◌∷◌, ◌++◌, codes};
-ghost use Rattle.page_core_base.specs.declared.page_settings.Output.TheVariants.{Utf8};
 ghost use Rattle.page_worked.specs.Pages.{Shows, plain, utf8, bold, italic, bold_italic, man_page, man_rows};
 
 /// Text.
@@ -201,19 +200,6 @@ pub fn text_pages_2()
         codes "S                       2020-01-01                    T(1)" ∷
         [])
         [] }
-    // no row ends after a hyphen beside a letter that is not ASCII (roff(7), Filling and adjusting)
-    ensures no_row_ends_after_a_hyphen_beside_a_letter_that_is { Shows (record plain { output = Utf8 })
-        (man_page (utf8 (codes "aaaaaaaaaaaaaaaaaaaaaaaaaaaaaaaaaaaaaaaaaaaaaaaaaaaaaaaaaaaaaaaaaaa é-aa") ∷
-        codes ".PP" ∷
-        utf8 (codes "aaaaaaaaaaaaaaaaaaaaaaaaaaaaaaaaaaaaaaaaaaaaaaaaaaaaaaaaaaaaaaaaaaa a-éé") ∷
-        []))
-        (man_rows (codes "       aaaaaaaaaaaaaaaaaaaaaaaaaaaaaaaaaaaaaaaaaaaaaaaaaaaaaaaaaaaaaaaaaaa" ∷
-        utf8 (codes "       é-aa") ∷
-        [] ∷
-        codes "       aaaaaaaaaaaaaaaaaaaaaaaaaaaaaaaaaaaaaaaaaaaaaaaaaaaaaaaaaaaaaaaaaaa" ∷
-        utf8 (codes "       a-éé") ∷
-        []))
-        [] }
     // no row ends after a hyphen with which a line ends that is glued to the next one (roff(7), Filling and adjusting)
     ensures no_row_ends_after_a_hyphen_with_which_a_line_ends { Shows plain
         (man_page (codes "aaaaaaaaaaaaaaaaaaaaaaaaaaaaaaaaaaaaaaaaaaaaaaaaaaaaaaaaaaaa" ∷ codes "bbbb-\\c" ∷ codes "ccccccc" ∷ []))
@@ -241,15 +227,15 @@ pub fn text_pages_2()
         (man_page (codes "aaaaaaaaaaaaaaaaaaaaaaaaaaaaaaaaaaa bbbbbbbbbbbbbbbbbbbbbbbbbbbbbbbbbbb" ∷ []))
         (man_rows (codes "       aaaaaaaaaaaaaaaaaaaaaaaaaaaaaaaaaaa bbbbbbbbbbbbbbbbbbbbbbbbbbbbbbbbbbb" ∷ []))
         [] }
-{}
-
-/// Text.
-pub fn text_pages_3()
     // two words that are a column too long for a row (roff(7), Filling and adjusting)
     ensures two_words_that_are_a_column_too_long_for_a_row { Shows plain
         (man_page (codes "aaaaaaaaaaaaaaaaaaaaaaaaaaaaaaaaaaa bbbbbbbbbbbbbbbbbbbbbbbbbbbbbbbbbbbb" ∷ []))
         (man_rows (codes "       aaaaaaaaaaaaaaaaaaaaaaaaaaaaaaaaaaa" ∷ codes "       bbbbbbbbbbbbbbbbbbbbbbbbbbbbbbbbbbbb" ∷ []))
         [] }
+{}
+
+/// Text.
+pub fn text_pages_3()
     // a word that is longer than a row, alone and after another (roff(7), Filling and adjusting)
     ensures a_word_that_is_longer_than_a_row_alone_and_after { Shows plain
         (man_page (codes "wwwwwwwwwwwwwwwwwwwwwwwwwwwwwwwwwwwwwwwwwwwwwwwwwwwwwwwwwwwwwwwwwwwwwwww" ∷
@@ -401,26 +387,6 @@ pub fn escapes_pages_3()
         (man_page (codes ".B \"\\f\"\"x\"" ∷ []))
         (man_rows ((codes "       " ++ bold (codes "x")) ∷ []))
         (codes "mandoc: x.1:3:5: WARNING: unknown font, skipping request: \"" ∷ []) }
-    // a font and a glyph (mandoc(1), -T utf8)
-    ensures a_font_and_a_glyph { Shows (record plain { output = Utf8 })
-        (man_page (codes "\\fI\\(em" ∷ []))
-        (man_rows ((codes "       " ++ italic (utf8 (codes "—"))) ∷ []))
-        [] }
-    // a code point (mandoc(1), -T utf8)
-    ensures a_code_point { Shows (record plain { output = Utf8 })
-        (man_page (codes "\\[u4E00]" ∷ []))
-        (man_rows (utf8 (codes "       一") ∷ []))
-        [] }
-    // a glyph that is not spelled in ASCII (mandoc(1), -T utf8)
-    ensures a_glyph_that_is_not_spelled_in_ascii { Shows (record plain { output = Utf8 })
-        (man_page (codes "a\\(dgb" ∷ []))
-        (man_rows (utf8 (codes "       a†b") ∷ []))
-        [] }
-    // characters (mandoc(1), -T utf8)
-    ensures characters { Shows (record plain { output = Utf8 })
-        (man_page (utf8 (codes "\\'é") ∷ []))
-        (man_rows (utf8 (codes "       ´é") ∷ []))
-        [] }
     // a backslash as a delimiter begins an escape wherever it comes again: the argument has no end (roff(7), Escape sequences)
     ensures a_backslash_as_a_delimiter_begins_an_escape { Shows plain
         (man_page (codes "a\\B\\x\\y" ∷ []))

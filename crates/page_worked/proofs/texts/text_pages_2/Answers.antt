@@ -14,8 +14,8 @@ returns c = record {
   no_row_ends_after_a_hyphen_without_a_letter_on = record { prints = refl; reports = refl };
   a_hyphen_after_an_escape_has_no_letter_before_it = record { prints = refl; reports = refl };
   words_with_hyphens_on_one_line_and_on_a_line_each = record { prints = refl; reports = refl };
-  no_row_ends_after_a_hyphen_beside_a_letter_that_is = record { prints = refl; reports = refl };
   no_row_ends_after_a_hyphen_with_which_a_line_ends = record { prints = refl; reports = refl };
   glued_text_that_fits_up_to_its_hyphen_and_that = record { prints = refl; reports = refl };
   two_words_that_fill_a_row = record { prints = refl; reports = refl };
+  two_words_that_are_a_column_too_long_for_a_row = record { prints = refl; reports = refl };
 }
