@@ -10,6 +10,7 @@ size that the limits allow, and how often 1 MB of plain text, measured in the sa
 runs a thousand such lines at most.
 """
 import os
+import resource
 import shutil
 import subprocess
 import sys
@@ -124,11 +125,11 @@ def processor_time(text, name):
         file.write(text)
     times = []
     for _ in range(3):
-        before = os.times()
+        before = resource.getrusage(resource.RUSAGE_CHILDREN)
         with open(name, "rb") as page:
             subprocess.run(["./mandoc", "-T", "utf8"], stdin=page, stdout=subprocess.DEVNULL, stderr=subprocess.DEVNULL, check=False)
-        after = os.times()
-        times.append(after.children_user - before.children_user + after.children_system - before.children_system)
+        after = resource.getrusage(resource.RUSAGE_CHILDREN)
+        times.append(after.ru_utime - before.ru_utime + after.ru_stime - before.ru_stime)
     return min(times)
 
 
