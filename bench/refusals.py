@@ -21,8 +21,14 @@ REFUSING = r"""
 #define _GNU_SOURCE
 #include <dlfcn.h>
 #include <errno.h>
+#include <stdio.h>
 #include <stdlib.h>
 static long calls, refused = -1;
+__attribute__((destructor)) static void count(void) {
+    const char *name = getenv("CALLS_TO");
+    FILE *file = name ? fopen(name, "w") : 0;
+    if (file) { fprintf(file, "%ld", calls); fclose(file); }
+}
 static int refuses(void) {
     if (refused < 0) { const char *at = getenv("FAIL_AT"); refused = at ? atol(at) : 0; }
     return ++calls == refused;
@@ -73,6 +79,21 @@ def given(program, library, page, refused):
     return subprocess.run([program], input=page, env=env, stdout=subprocess.PIPE, stderr=subprocess.DEVNULL).stdout
 
 
+def first_of(program, library, page, whole):
+    """Returns the number of the first allocation that is not the program's own: those before it, by which it makes room on its stack, change nothing."""
+    with tempfile.NamedTemporaryFile() as file:
+        env = dict(os.environ, LD_PRELOAD=library, FAIL_AT="0", CALLS_TO=file.name)
+        subprocess.run([program], input=page, env=env, stdout=subprocess.DEVNULL, stderr=subprocess.DEVNULL)
+        low, high = 3, int(open(file.name).read())
+    while low < high:
+        middle = (low + high) // 2
+        if given(program, library, page, middle) == whole:
+            low = middle + 1
+        else:
+            high = middle
+    return low
+
+
 def stage_of(shown, whole, refused):
     """Returns the line that a run prints in which the allocation of this number is refused, or None where there is no page."""
     lines = [line for line in STAGES if line in shown]
@@ -83,12 +104,13 @@ def stage_of(shown, whole, refused):
     return lines[0] if lines else None
 
 
-def tellings(program, library, page, first=1):
+def tellings(program, library, page, first=None):
     """Refuses each allocation in turn from that of a number on, up to the one after roff. Returns the number of the first that is reported, and what
     is reported from there on: each line, and how often it comes before the next one."""
     whole = given(program, library, page, 0)
+    first = first or first_of(program, library, page, whole)
     begin, lines = 0, []
-    for refused in range(first, 10_000):
+    for refused in range(first, first + 10_000):
         line = stage_of(given(program, library, page, refused), whole, refused)
         if line is None and begin:
             raise Bad(f"is not there where allocation {refused} is refused")
