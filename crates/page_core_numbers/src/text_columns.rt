@@ -8,7 +8,7 @@ ghost use Rattle.page_core_escapes.specs.Escapes.{meaning_view};
 ghost use Rattle.page_core_tables.specs.Printed.{prints_ascii, by_spelling, char_printed, printed_view};
 ghost use Rattle.page_core_tables.specs.Glyphs.{spelling_of};
 ghost use Rattle.page_core_numbers.specs.Columns.{BeginsWith, characters_columns, printed_escape, blanks_in, columns_of};
-ghost use Rattle.page_core_numbers.specs.machine.Fronts.{Front, Past, nothing_letters, one_letters, ShortColumns, ShortGlyph};
+ghost use Rattle.page_core_numbers.specs.machine.Fronts.{Front, Past, nothing_letters, one_letters, undefined_letters, ShortColumns, ShortGlyph};
 ghost use Rattle.page_core_numbers.specs.machine.Plain.{is_plain, are_plain};
 
 use crate::expressions::read_expression;
@@ -168,6 +168,39 @@ fn prints_one(letter: u8) -> bool
     )
 }
 
+// Whether there is no escape of this letter, so that the letter itself is printed in one column, as of `\q`.
+#[inline(always)]
+fn is_undefined(letter: u8) -> bool
+    ensures { result ≡ is_among letter undefined_letters }
+{
+    matches!(
+        letter,
+        b'!' | b'"'
+            | b'#'
+            | b'$'
+            | b'*'
+            | b'+'
+            | b'1'..=b'9'
+            | b';'..=b'@'
+            | b'E'
+            | b'G'
+            | b'I'..=b'K'
+            | b'O'..=b'Q'
+            | b'T'
+            | b'U'
+            | b'W'
+            | b']'
+            | b'_'
+            | b'i'
+            | b'j'
+            | b'n'
+            | b'q'
+            | b'w'
+            | b'y'
+            | b'}'
+    )
+}
+
 // The columns of the escape at a text's front, and how many bytes it takes, where few bytes say so.
 #[inline(always)]
 fn short_escape(text: &[u8]) -> Option<(u32, usize)>
@@ -181,6 +214,9 @@ fn short_escape(text: &[u8]) -> Option<(u32, usize)>
         return Some((0, 2));
     }
     if prints_one(text[1]) {
+        return Some((1, 2));
+    }
+    if is_undefined(text[1]) {
         return Some((1, 2));
     }
     let (_, len) = short_font(text)?;

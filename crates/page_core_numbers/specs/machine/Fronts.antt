@@ -35,6 +35,10 @@ nothing_letters = codes "&)|^%/,:aurdz{cp"
 abbrev pub one_letters : List ℕ
 one_letters = codes " ~0te\\-`."
 
+-- and those of which there is no escape: the letter itself is printed
+abbrev pub undefined_letters : List ℕ
+undefined_letters = codes "!\"#$*+123456789;<=>?@EGIJKOPQTUW]_ijnqwy}"
+
 -- the escape at a text's front has so many columns in each output, and so many bytes
 pub record ShortColumns (text : List ℕ) (columns len : ℕ) : Type 0 where
   pub some : 0 < len
