@@ -5,13 +5,13 @@ use Rattle.page_core_base.specs.declared.limits.TheConstants.{EXPAND}
 use Rattle.page_core_base.specs.declared.note_kinds.NoteKind.{NoteKind}
 use Rattle.page_core_base.specs.declared.note_kinds.NoteKind.TheVariants.{UndefString, ArgOutside, Loop}
 use Rattle.page_roff_names.specs.Names.{string_of}
-use Rattle.page_roff_values.specs.declared.parts.Call.{Call}
-use Rattle.page_roff_values.specs.declared.parts.Call.TheVariants.{String, Register, Argument, Width}
-use Rattle.page_roff_values.specs.declared.parts.Part.{Part}
-use Rattle.page_roff_values.specs.declared.parts.Part.TheVariants.{Copied, Called}
+use Rattle.page_roff_parts.specs.declared.parts.Call.{Call}
+use Rattle.page_roff_parts.specs.declared.parts.Call.TheVariants.{String, Register, Argument, Width}
+use Rattle.page_roff_parts.specs.declared.parts.Part.{Part}
+use Rattle.page_roff_parts.specs.declared.parts.Part.TheVariants.{Copied, Called}
 use Rattle.page_roff_values.specs.Arguments.{argument_of}
 use Rattle.page_roff_values.specs.Environments.{Surroundings}
-use Rattle.page_roff_values.specs.Parts.{parts, without_lone}
+use Rattle.page_roff_parts.specs.Parts.{parts, without_lone}
 use Rattle.page_roff_values.specs.machine.Texts.{IsText, AreLines, MeasureAlike}
 use Rattle.page_roff_values.specs.Values.{Spot, Laid, unless, seq, ends, counts, put, lay, charge, value_or, inside, leaves, width, interpolated, call_at, value}
 use Rattle.page_roff_values.proofs.PartTexts.{CallText, ArePartTexts, parts_texts, lone_text}

@@ -8,16 +8,16 @@ use Rattle.page_core_base.specs.declared.limits.Limit.TheVariants as limits
 use Rattle.page_core_base.specs.declared.note_kinds.NoteKind.{NoteKind}
 use Rattle.page_core_base.specs.declared.note_kinds.NoteKind.TheVariants.{UndefString, ArgOutside, Loop, Limit}
 use Rattle.page_roff_names.specs.Names.{string_of}
-use Rattle.page_roff_values.specs.declared.parts.Call.{Call}
-use Rattle.page_roff_values.specs.declared.parts.Call.TheVariants.{String, Register, Argument, Width}
-use Rattle.page_roff_values.specs.declared.parts.Part.{Part}
-use Rattle.page_roff_values.specs.declared.parts.Part.TheVariants.{Copied, Called}
+use Rattle.page_roff_parts.specs.declared.parts.Call.{Call}
+use Rattle.page_roff_parts.specs.declared.parts.Call.TheVariants.{String, Register, Argument, Width}
+use Rattle.page_roff_parts.specs.declared.parts.Part.{Part}
+use Rattle.page_roff_parts.specs.declared.parts.Part.TheVariants.{Copied, Called}
 use Rattle.page_roff_values.specs.Arguments.{argument_of}
 use Rattle.page_roff_values.specs.Environments.{Surroundings, register_of}
-use Rattle.page_roff_values.specs.Parts.{plain, after_plain, copies, seen, parts, without_lone}
+use Rattle.page_roff_parts.specs.Parts.{plain, after_plain, copies, seen, parts, without_lone}
 use Rattle.page_roff_values.specs.Values.{Spot, Laid, nothing, unless, seq, says, ends, adds, counts, kept, put, lay, charge, value_or, inside, leaves, width, interpolated, call_at, value, start, expanded, NEST, finished_len}
 use Rattle.page_roff_values.proofs.LineLemmas.{put_all}
-use Rattle.page_roff_values.proofs.ReadLemmas.{parts_more}
+use Rattle.page_roff_parts.proofs.ReadLemmas.{parts_more}
 
 -- a text begins with another
 abbrev pub Begins : List ℕ → List ℕ → Type 0

@@ -9,16 +9,16 @@ use Rattle.page_core_base.specs.declared.limits.TheConstants.{EXPAND, LINE}
 use Rattle.page_core_base.specs.declared.note_kinds.NoteKind.{NoteKind}
 use Rattle.page_core_base.specs.declared.note_kinds.NoteKind.TheVariants.{UndefString, ArgOutside, Loop, Limit}
 use Rattle.page_roff_names.specs.Names.{string_of}
-use Rattle.page_roff_values.specs.declared.parts.Call.{Call}
-use Rattle.page_roff_values.specs.declared.parts.Call.TheVariants.{String, Register, Argument, Width}
-use Rattle.page_roff_values.specs.declared.parts.Part.{Part}
-use Rattle.page_roff_values.specs.declared.parts.Part.TheVariants.{Copied, Called}
+use Rattle.page_roff_parts.specs.declared.parts.Call.{Call}
+use Rattle.page_roff_parts.specs.declared.parts.Call.TheVariants.{String, Register, Argument, Width}
+use Rattle.page_roff_parts.specs.declared.parts.Part.{Part}
+use Rattle.page_roff_parts.specs.declared.parts.Part.TheVariants.{Copied, Called}
 use Rattle.page_roff_values.specs.Arguments.{argument_of}
 use Rattle.page_roff_values.specs.Environments.{Surroundings, register_of}
-use Rattle.page_roff_values.specs.Parts.{copies, seen, parts, parts_up_to, without_lone}
+use Rattle.page_roff_parts.specs.Parts.{copies, seen, parts, parts_up_to, without_lone}
 use Rattle.page_roff_values.specs.Values.{Spot, Laid, nothing, unless, seq, says, ends, adds, counts, kept, character_end, put, lay, charge, value_or, inside, leaves, width, interpolated, call_at, value, start, expanded, IsWithin, finished_len}
 use Rattle.page_roff_values.proofs.LayLemmas.{seq_end}
-use Rattle.page_roff_values.proofs.ReadLemmas.{parts_more, plain_part}
+use Rattle.page_roff_parts.proofs.ReadLemmas.{parts_more, plain_part}
 
 unless_within : (b : Bool) (x y : Laid) → IsWithin x.edge → IsWithin y.edge → IsWithin (unless b x y).edge
 unless_within true x y h k = h

@@ -3,14 +3,14 @@ use Rattle.std.proofs.Common.{◌≡◌, ℕ, suc, ◌-◌, ◌<◌, Bool, true,
 use Rattle.std.proofs.lemmas.Bool.{eqb-true}
 use Rattle.std.proofs.lemmas.List.{reverse-append}
 use Rattle.std.specs.Borrow.{Bor}
-use Rattle.page_roff_values.specs.declared.parts.Part.{Part}
-use Rattle.page_roff_values.specs.declared.parts.Part.TheVariants.{Copied, Called}
+use Rattle.page_roff_parts.specs.declared.parts.Part.{Part}
+use Rattle.page_roff_parts.specs.declared.parts.Part.TheVariants.{Copied, Called}
 use Rattle.page_roff_values.specs.Environments.{Surroundings}
-use Rattle.page_roff_values.specs.Parts.{SeenText, seen, parts, parts_up_to}
+use Rattle.page_roff_parts.specs.Parts.{SeenText, seen, parts, parts_up_to}
 use Rattle.page_roff_values.specs.Values.{Spot, nothing, seq, lay, call_at, value}
 use Rattle.page_roff_values.specs.machine.Rest.{rest, room_in, one, size}
 use Rattle.page_roff_values.proofs.LayLemmas.{seq_nothing, seq_assoc}
-use Rattle.page_roff_values.proofs.ReadLemmas.{parts_more, seen_shorter}
+use Rattle.page_roff_parts.proofs.ReadLemmas.{parts_more, seen_shorter}
 
 -- nothing is left of the innermost text
 pub rest_done : (env : Surroundings) (room : ℕ) (ts : List (List ℕ)) (s : Spot) → s.ended ≡ false → rest env room ([] ∷ ts) s ≡ rest env room ts s

@@ -2,6 +2,5 @@ pub mod Arguments
 pub mod Environments
 pub mod Latches
 pub mod Numbers
-pub mod Parts
 pub mod Values
 pub mod machine

@@ -6,10 +6,9 @@ ghost use Rattle.page_roff_values.specs.Arguments.{arguments_in, argument_at, ar
 ghost use Rattle.page_roff_values.specs.Environments.{argument_count};
 ghost use Rattle.page_roff_names.specs.Names.{Lends};
 
-use crate::endings::after;
-use crate::parts::Cut;
 use memchr::memchr;
 use page_core_base::ARGS;
+use page_roff_parts::{Cut, after};
 use std::alloc::{AllocError, Global};
 use std::marker::Model;
 

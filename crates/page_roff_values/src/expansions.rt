@@ -8,18 +8,17 @@ ghost use Rattle.page_roff_values.specs.machine.Rest.{Reads, calling, going_on, 
 ghost use Rattle.page_roff_values.specs.Values as laying;
 ghost use Rattle.page_roff_values.specs.machine.Expansions.{outermost, over};
 ghost use Rattle.page_roff_values.specs.machine.Steps.{going_inside, going_outside};
-ghost use Rattle.page_roff_values.specs.machine.Views.{call_of, surroundings_of, units_of_bytes};
+ghost use Rattle.page_roff_parts.specs.machine.Views.{call_of};
+ghost use Rattle.page_roff_values.specs.machine.Views.{surroundings_of, units_of_bytes};
 
-use crate::endings::{kept, without_lone};
+use crate::endings::kept;
 use crate::environments::Environment;
-use crate::lone_widths::LoneWidths;
-use crate::parts::{Call, Part};
 use crate::sources::Sources;
-use crate::verbatim::is_verbatim;
 use itoa::Buffer;
 use memchr::memchr;
 use page_core_base::{EXPAND, LINE, Limit, NEST, Note, NoteKind, NoteOut, Output, Place};
 use page_core_numbers::columns;
+use page_roff_parts::{Call, LoneWidths, Part, is_verbatim, without_lone};
 use std::alloc::{AllocError, Global};
 use std::marker::Model;
 

@@ -1,16 +1,9 @@
 //! Laws of expansion.
 
-ghost use Rattle.std.specs.Prelude.{◌≡◌, ℕ, Bool, List, ◌∷◌};
+ghost use Rattle.std.specs.Prelude.{ℕ, List};
 ghost use Rattle.page_roff_values.specs.Environments.{Surroundings};
-ghost use Rattle.page_roff_values.specs.Parts.{parts, seen};
 ghost use Rattle.page_roff_values.specs.machine.Texts.{AreLines, IsText};
 ghost use Rattle.page_roff_values.specs.Values as laying;
-
-/// The parts of a text are its first one and those of what follows it: the number of parts up to which their definition reads is no limit.
-pub fn parts_law()
-    ensures { (copy : Bool) (byte : ℕ) (bytes : List ℕ)
-        → parts copy (byte ∷ bytes) ≡ (seen copy (byte ∷ bytes)).part ∷ parts copy (seen copy (byte ∷ bytes)).rest }
-{}
 
 /// No line makes more than `EXPAND` interpolations, and none is longer than `LINE`.
 pub fn is_bounded()

@@ -1,12 +1,12 @@
 //! Expansion of a text (roff(7), "Escape sequences"): strings, number registers, macro arguments and widths are interpolated, in one pass
 //! with a stack of texts, in memory that is reserved once. And the value of an expression (`numbers.rt`).
 //!
-//! It is above the names (`page_roff_names`), and conditions, definitions and lines are expanded by it. Read `specs/Values.antt` first,
-//! then `Parts.antt`; the code begins at `Expansion::expand` in `expansions.rt`.
+//! It is above the parts of texts (`page_roff_parts`) and the names (`page_roff_names`), and conditions, definitions and lines are expanded by it.
+//! Read `specs/Values.antt` first; the code begins at `Expansion::expand` in `expansions.rt`.
 //!
 //! Proved: `Expansion::expand`, `expand_more`, `CallArguments::set`: a text once strings, registers, arguments and widths are interpolated, with its
 //! messages at their columns and the count of interpolations, is `value` (`specs/Values.antt`), a recursion in which a value is expanded by itself
-//! before the rest. `parts_law`: a text has as many parts as it has. `gives_itself`: such a line is its own value. `is_bounded`, `keeps_texts`: no line makes more interpolations, and none grows
+//! before the rest. `gives_itself`: such a line is its own value. `is_bounded`, `keeps_texts`: no line makes more interpolations, and none grows
 //! longer, than the limits say; what is expanded from lines is a line.
 #![tactic(auto)]
 
@@ -14,20 +14,14 @@ mod call_arguments;
 mod endings;
 mod environments;
 mod expansions;
-mod fronts;
-mod known_fronts;
 mod laws;
-mod lone_widths;
-mod met;
+mod lines;
 mod numbers;
-mod parts;
 mod sources;
-mod unread;
-mod verbatim;
 
 pub use call_arguments::CallArguments;
 pub use environments::Environment;
 pub use expansions::Expansion;
-pub use laws::{is_bounded, keeps_texts, parts_law};
+pub use laws::{is_bounded, keeps_texts};
+pub use lines::gives_itself;
 pub use numbers::expression;
-pub use verbatim::gives_itself;

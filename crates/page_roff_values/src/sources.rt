@@ -3,11 +3,9 @@
 ghost use Rattle.std.specs.Prelude.{◌≡◌, ℕ, ◌<◌, ◌≤◌, ◌+◌, ◌^◌, [], ◌∷◌, length, Option, Some, None, MatchOption};
 ghost use Rattle.page_roff_values.specs.machine.Rest.{texts_of, size, Reads};
 
-use crate::lone_widths::LoneWidths;
-use crate::parts::Part;
-use crate::unread::Unread;
 use arrayvec::ArrayVec;
 use page_core_base::NEST;
+use page_roff_parts::{LoneWidths, Part, Unread};
 
 /// What is left of the innermost text, and of those around it, the outermost first.
 #[derive(Drop)]
@@ -39,7 +37,7 @@ impl<'e> Sources<'e> {
         ensures reads { Reads copy fits (texts_of self.old) result (texts_of self.new) }
         ensures falls { MatchOption result ℕ (λ p. size (texts_of self.new) < size (texts_of self.old)) }
     {
-        while self.inner.text.is_empty() {
+        while self.inner.is_empty() {
             match self.outer.pop() {
                 None => return None,
                 Some(text) => self.inner = Unread::new(text),
@@ -70,7 +68,7 @@ impl<'e> Sources<'e> {
         ensures texts { texts_of self.new ≡ value.now ∷ texts_of self.old }
         ensures fits { length value.now < 2 ^ 64 }
     {
-        self.outer.push(self.inner.text);
+        self.outer.push(self.inner.text());
         self.inner = Unread::new(value);
     }
 }

@@ -64,7 +64,7 @@ unfoldable pub use Rattle.page_roff_syntax.specs.OpenRegions.{within_limit as u2
 unfoldable pub use Rattle.page_roff_syntax.specs.RegionHeads.{region_head as u271, is_ending as u272}
 unfoldable pub use Rattle.page_roff_syntax.specs.Requests.{request_of as u273}
 unfoldable pub use Rattle.page_roff_values.specs.Arguments.{arguments_in as u274}
-unfoldable pub use Rattle.page_roff_values.specs.Parts.{content_len as u275, seen as u276, parts_up_to as u277, parts as u278, without_lone as u279}
+unfoldable pub use Rattle.page_roff_parts.specs.Parts.{content_len as u275, seen as u276, parts_up_to as u277, parts as u278, without_lone as u279}
 unfoldable pub use Rattle.page_roff_values.specs.Values.{NEST as u280, seq as u281, put as u282, lay as u283, charge as u284, width as u285, interpolated as u286, call_at as u287, value as u288}
 unfoldable pub use Rattle.page_scopes.specs.Bodies.{coming as u289, stands as u290}
 unfoldable pub use Rattle.page_scopes_blocks.specs.Blocks.{block_opened as u291}

@@ -2,13 +2,13 @@
 use Rattle.std.specs.Prelude.{◌≡◌, ℕ, suc, ◌+◌, ◌-◌, ◌*◌, ◌^◌, ◌≤◌, false, List, [], ◌∷◌, length, map, reverse, Bool, Option, MatchOption}
 use Rattle.std.specs.Borrow.{Bor}
 use Rattle.page_core_base.specs.Limits.{EXPAND, LINE}
-use Rattle.page_roff_values.specs.declared.parts.Call.{Call}
-use Rattle.page_roff_values.specs.declared.parts.Part.{Part}
-use Rattle.page_roff_values.specs.declared.parts.Part.TheVariants.{Copied, Called}
+use Rattle.page_roff_parts.specs.declared.parts.Call.{Call}
+use Rattle.page_roff_parts.specs.declared.parts.Part.{Part}
+use Rattle.page_roff_parts.specs.declared.parts.Part.TheVariants.{Copied, Called}
 use Rattle.page_roff_values.specs.declared.sources.Sources.{Sources}
 use Rattle.page_roff_values.specs.Environments.{Surroundings}
 use Rattle.page_roff_values.specs.Values.{Spot, Laid, nothing, seq, put, call_at, value, finished_len}
-use Rattle.page_roff_values.specs.machine.Views.{part_of}
+use Rattle.page_roff_parts.specs.machine.Views.{part_of}
 
 -- how many interpolations more may be inside the innermost of these texts, where this many may inside the outermost
 unfoldable pub room_in : ℕ → List (List ℕ) → ℕ
@@ -45,7 +45,7 @@ size (t ∷ ts) = suc (length t + size ts)
 
 -- the innermost first
 abbrev pub texts_of : Sources → List (List ℕ)
-texts_of s = s.inner.text.now ∷ map (λ (t : Bor (List ℕ)). t.now) (reverse s.outer.items)
+texts_of s = s.inner ∷ map (λ (t : Bor (List ℕ)). t.now) (reverse s.outer.items)
 
 -- How much may still come, at most: a value is paid by its interpolation, and each byte and each text's end is one.
 unfoldable pub HUGE : ℕ

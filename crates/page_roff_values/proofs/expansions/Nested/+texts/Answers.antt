@@ -7,7 +7,7 @@ use Rattle.page_roff_values.specs.machine.Views.{surroundings_of}
 use Rattle.page_roff_values.specs.machine.Expansions.{NestedSpot}
 use Rattle.page_roff_values.specs.machine.Rest.{rest, room_in, steps, texts_of}
 use Rattle.page_roff_values.specs.Values.{Spot, nothing, seq, says, ends, counts, put, width, inside, call_at, value}
-use Rattle.page_roff_values.specs.machine.Views.{call_of}
+use Rattle.page_roff_parts.specs.machine.Views.{call_of}
 use Rattle.page_roff_values.proofs.CallLemmas.{call_ends, call_deep, call_gives, call_enters, string_some, string_none, argument_some, argument_none, register_some, width_some, steps_counts, steps_later, steps_less, size_value}
 use Rattle.page_roff_values.proofs.FollowLemmas.{put_follows, put_count, width_follows, value_follows}
 use Rattle.page_roff_values.proofs.GoingLemmas.{begins}
@@ -23,7 +23,7 @@ call-returns-then-not-charge-clause-goes g x c =
     let env = surroundings_of c.args.env.now in
     let s = c.args.self.now.spot in
     let room = c.args.room in
-    let t = c.args.sources.now.inner.text.now in
+    let t = c.args.sources.now.inner in
     let ts = outer_of c.args.sources.now.outer.items in
     let call = call_of c.args.call in
     goes_on g.O.NoteOut.left _ _ (seq (call_at env (room_in room (t ∷ ts)) call s) (rest env room (t ∷ ts))) (ends Loop (codes "EXPAND") s) c.report_end.new.self.spot (rest env room (t ∷ ts))
@@ -38,7 +38,7 @@ call-returns-then-room-depth-clause-goes g x c =
     let env = surroundings_of c.args.env.now in
     let s = c.args.self.now.spot in
     let room = c.args.room in
-    let t = c.args.sources.now.inner.text.now in
+    let t = c.args.sources.now.inner in
     let ts = outer_of c.args.sources.now.outer.items in
     let call = call_of c.args.call in
     rw c.if-not-charge.ensures.counted (goes_on g.O.NoteOut.left _ _ (seq (call_at env (room_in room (t ∷ ts)) call s) (rest env room (t ∷ ts))) (says Loop (codes "NEST") (counts s)) (counts s) (rest env room (t ∷ ts))
@@ -54,7 +54,7 @@ call-returns-in-Register-clause-goes g x c =
     let env = surroundings_of c.args.env.now in
     let s = c.args.self.now.spot in
     let room = c.args.room in
-    let t = c.args.sources.now.inner.text.now in
+    let t = c.args.sources.now.inner in
     let ts = outer_of c.args.sources.now.outer.items in
     let call = call_of c.args.call in
     let d = room - length (t ∷ ts) in
@@ -73,7 +73,7 @@ call-returns-in-Width-clause-goes g x c =
     let env = surroundings_of c.args.env.now in
     let s = c.args.self.now.spot in
     let room = c.args.room in
-    let t = c.args.sources.now.inner.text.now in
+    let t = c.args.sources.now.inner in
     let ts = outer_of c.args.sources.now.outer.items in
     let call = call_of c.args.call in
     let d = room - c.depth-in-Width.result - 1 in
@@ -94,7 +94,7 @@ call-returns-in-Some-clause-goes g x c =
     let env = surroundings_of c.args.env.now in
     let s = c.args.self.now.spot in
     let room = c.args.room in
-    let t = c.args.sources.now.inner.text.now in
+    let t = c.args.sources.now.inner in
     let ts = outer_of c.args.sources.now.outer.items in
     let call = call_of c.args.call in
     let d = room - length (t ∷ ts) in
@@ -114,7 +114,7 @@ call-returns-in-None-clause-goes g x c =
     let env = surroundings_of c.args.env.now in
     let s = c.args.self.now.spot in
     let room = c.args.room in
-    let t = c.args.sources.now.inner.text.now in
+    let t = c.args.sources.now.inner in
     let ts = outer_of c.args.sources.now.outer.items in
     let call = call_of c.args.call in
     let d = room - length (t ∷ ts) in
@@ -133,7 +133,7 @@ call-returns-in-Some-argument-clause-goes g x c =
     let env = surroundings_of c.args.env.now in
     let s = c.args.self.now.spot in
     let room = c.args.room in
-    let t = c.args.sources.now.inner.text.now in
+    let t = c.args.sources.now.inner in
     let ts = outer_of c.args.sources.now.outer.items in
     let call = call_of c.args.call in
     let d = room - length (t ∷ ts) in
@@ -153,7 +153,7 @@ call-returns-in-None-argument-clause-goes g x c =
     let env = surroundings_of c.args.env.now in
     let s = c.args.self.now.spot in
     let room = c.args.room in
-    let t = c.args.sources.now.inner.text.now in
+    let t = c.args.sources.now.inner in
     let ts = outer_of c.args.sources.now.outer.items in
     let call = call_of c.args.call in
     let d = room - length (t ∷ ts) in

@@ -1,0 +1,161 @@
+-- What is known of the brackets in a text: helpers of proofs.
+use Rattle.std.proofs.Common.{◌≡◌, ℕ, zero, suc, ◌+◌, ◌<◌, Bool, true, false, not, ◌&&◌, ◌||◌, ◌==◌, List, [], ◌∷◌, length, get_or, drop, take, if◌then◌else◌, Option, None, Some, MatchOption, option_map, unwrap_or, position, refl, arith}
+use Rattle.std.proofs.lemmas.Bool.{eqb-true, le-ltb, lt-ltb}
+use Rattle.std.proofs.lemmas.List.Sums.{position_or_len_is}
+use Rattle.memchr.specs.Find.{IsFirstByte, is_byte}
+use Rattle.page_roff_parts.specs.declared.parts.Call.{Call}
+use Rattle.page_roff_parts.specs.declared.parts.Call.TheVariants.{String, Register, Width}
+use Rattle.page_roff_parts.specs.machine.Brackets.{has_bracket, IsKnown}
+use Rattle.page_roff_parts.specs.Parts.{CutText, SeenText, copies, calls, cut, character_len, two_characters, bracketed, name_cut, content_len, delimited, width_cut, plain, after_plain, argument_call, call_cut, pair, is_doubled, escape, begins_escape, seen}
+
+abbrev pub Lacks : List ℕ → Type 0
+Lacks text = has_bracket text ≡ false
+
+first_false : (a b : Bool) → (a || b) ≡ false → a ≡ false
+first_false true b h = h
+first_false false b h = refl
+
+later_false : (a b : Bool) → (a || b) ≡ false → b ≡ false
+later_false true b h = let no : ⊥ = cc in absurd no
+later_false false b h = h
+
+-- ---- where a bracket is
+
+lacks_at : (text : List ℕ) (i : ℕ) → Lacks text → i < length text → (get_or text i 0 == 93) ≡ false
+lacks_at [] i h l = absurd (omega arith)
+lacks_at (b ∷ bs) zero h l = first_false (b == 93) (has_bracket bs) h
+lacks_at (b ∷ bs) (suc i) h l = lacks_at bs i (later_false (b == 93) (has_bracket bs) h) (omega arith)
+
+pub lacks_all : (text : List ℕ) → ((i : ℕ) → i < length text → (get_or text i 0 == 93) ≡ false) → Lacks text
+lacks_all [] n = refl
+lacks_all (b ∷ bs) n = rw (n 0 (omega arith)) (lacks_all bs (λ i l. n (suc i) (omega arith)))
+
+not_true : (b : Bool) → ¬ (b ≡ true) → b ≡ false
+not_true true h = absurd (h refl)
+not_true false h = refl
+
+pub none_lacks : (text : List ℕ) → IsFirstByte (is_byte 93) text None → Lacks text
+none_lacks text h = lacks_all text (λ i l. not_true (get_or text i 0 == 93) (h i (omega arith) l))
+
+pub lacking : (text : List ℕ) → Lacks text → bracketed text ≡ None
+lacking text h =
+    let n = length text in
+    let e = position_or_len_is (λ b. b == 93) text n 0 (omega arith) (λ i l. lacks_at text i h l) (λ l. absurd (omega arith)) in
+    rw (e, le-ltb n n (omega arith)) refl
+
+pub bracket_at : (text : List ℕ) (k : ℕ) → IsFirstByte (is_byte 93) text (Some k) → bracketed text ≡ Some (cut k 1 text)
+bracket_at text k h =
+    let e = position_or_len_is (λ b. b == 93) text k 0 (omega (arith, h.0.high)) (λ i l. not_true (get_or text i 0 == 93) (h.0.before i (omega arith) l)) (λ l. h.1) in
+    rw (e, lt-ltb k (length text) h.0.high) refl
+
+-- ---- what follows a part lacks it too
+
+lacks_drop : (k : ℕ) (text : List ℕ) → Lacks text → Lacks (drop k text)
+lacks_drop zero text h = h
+lacks_drop (suc k) [] h = h
+lacks_drop (suc k) (b ∷ bs) h = lacks_drop k bs (later_false (b == 93) (has_bracket bs) h)
+
+lacks_if : (c : Bool) (xs ys : List ℕ) → Lacks xs → Lacks ys → Lacks (if c then xs else ys)
+lacks_if true xs ys h k = h
+lacks_if false xs ys h k = k
+
+lacks_plain : (text : List ℕ) → Lacks text → Lacks (after_plain text)
+lacks_plain [] h = h
+lacks_plain (b ∷ bs) h = lacks_if (b == 92) (b ∷ bs) (after_plain bs) h (lacks_plain bs (later_false (b == 93) (has_bracket bs) h))
+
+abbrev CutLacks : Option CutText → Type 0
+CutLacks o = MatchOption o (Unit {0}) (λ c. Lacks c.rest)
+
+abbrev SeenLacks : Option SeenText → Type 0
+SeenLacks o = MatchOption o (Unit {0}) (λ s. Lacks s.rest)
+
+cut_if : (c : Bool) (o p : Option CutText) → CutLacks o → CutLacks p → CutLacks (if c then o else p)
+cut_if true o p h k = h
+cut_if false o p h k = k
+
+seen_if : (c : Bool) (o p : Option SeenText) → SeenLacks o → SeenLacks p → SeenLacks (if c then o else p)
+seen_if true o p h k = h
+seen_if false o p h k = k
+
+called_lacks : (make : List ℕ → Call (List ℕ)) (o : Option CutText) → CutLacks o → SeenLacks (option_map (λ c. calls (make c.front) c.rest) o)
+called_lacks make None h = tt
+called_lacks make (Some c) h = h
+
+cut_lacks : (n : ℕ) (text : List ℕ) (o : Option ℕ) → Lacks text → CutLacks (option_map (λ k. cut k n text) o)
+cut_lacks n text None h = tt
+cut_lacks n text (Some k) h = lacks_drop (k + n) text h
+
+name_lacks : (text : List ℕ) → Lacks text → CutLacks (name_cut text)
+name_lacks [] h = tt
+name_lacks (b ∷ bs) h =
+    let later = later_false (b == 93) (has_bracket bs) h in
+    let n = character_len bs in
+    let m = character_len (drop n bs) in
+    let one = Some (cut (character_len (b ∷ bs)) 0 (b ∷ bs)) in
+    cut_if (b == 40) (two_characters bs) (if b == 91 then bracketed bs else one)
+    (cut_if (m == 0) None (Some (cut (n + m) 0 bs)) tt (lacks_drop (n + m + 0) bs later))
+    (cut_if (b == 91) (bracketed bs) one (cut_lacks 1 bs (position (λ c. c == 93) bs) later) (lacks_drop (character_len (b ∷ bs) + 0) (b ∷ bs) h))
+
+width_lacks : (text : List ℕ) → Lacks text → CutLacks (width_cut text)
+width_lacks [] h = tt
+width_lacks (b ∷ bs) h =
+    let n = character_len (b ∷ bs) in
+    cut_if (b == 92) None (delimited n (b ∷ bs)) tt
+    (cut_lacks n (drop n (b ∷ bs)) (content_len (take n (b ∷ bs)) 0 (drop n (b ∷ bs))) (lacks_drop n (b ∷ bs) h))
+
+call_lacks : (copy : Bool) (letter : ℕ) (bs : List ℕ) → Lacks bs → SeenLacks (call_cut copy letter bs)
+call_lacks copy letter bs h =
+    let wide = if letter == 119 && not copy then option_map (λ c. calls (Width c.front) c.rest) (width_cut bs) else None in
+    let argument = if letter == 36 then Some (argument_call bs) else wide in
+    let register = if letter == 110 then option_map (λ c. calls (Register c.front) c.rest) (name_cut bs) else argument in
+    seen_if (letter == 42) (option_map (λ c. calls (String c.front) c.rest) (name_cut bs)) register
+    (called_lacks (λ t. String t) (name_cut bs) (name_lacks bs h))
+    (seen_if (letter == 110) (option_map (λ c. calls (Register c.front) c.rest) (name_cut bs)) argument
+    (called_lacks (λ t. Register t) (name_cut bs) (name_lacks bs h))
+    (seen_if (letter == 36) (Some (argument_call bs)) wide (lacks_drop (character_len bs) bs h)
+    (seen_if (letter == 119 && not copy) (option_map (λ c. calls (Width c.front) c.rest) (width_cut bs)) None
+    (called_lacks (λ t. Width t) (width_cut bs) (width_lacks bs h)) tt)))
+
+or_lacks : (o : Option SeenText) (x : SeenText) → SeenLacks o → Lacks x.rest → Lacks (unwrap_or o x).rest
+or_lacks None x h k = k
+or_lacks (Some y) x h k = h
+
+doubled_lacks : (d copy : Bool) (c : ℕ) (bs : List ℕ) → Lacks (c ∷ bs)
+    → Lacks (if d then copies (92 ∷ []) bs else unwrap_or (call_cut copy c bs) (pair (c ∷ bs))).rest
+doubled_lacks true copy c bs h = later_false (c == 93) (has_bracket bs) h
+doubled_lacks false copy c bs h =
+    or_lacks (call_cut copy c bs) (pair (c ∷ bs)) (call_lacks copy c bs (later_false (c == 93) (has_bracket bs) h)) (lacks_drop (character_len (c ∷ bs)) (c ∷ bs) h)
+
+escape_lacks : (copy : Bool) (text : List ℕ) → Lacks text → Lacks (escape copy text).rest
+escape_lacks copy [] h = refl
+escape_lacks copy (c ∷ bs) h = doubled_lacks (is_doubled copy c) copy c bs h
+
+either_lacks : (copy c : Bool) (b : ℕ) (bs : List ℕ) → Lacks bs → Lacks (if c then escape copy bs else copies (b ∷ plain bs) (after_plain bs)).rest
+either_lacks copy true b bs h = escape_lacks copy bs h
+either_lacks copy false b bs h = lacks_plain bs h
+
+seen_lacks : (copy : Bool) (text : List ℕ) → Lacks text → Lacks (seen copy text).rest
+unfolding seen
+seen_lacks copy [] h = refl
+seen_lacks copy (b ∷ bs) h = either_lacks copy (b == 92) b bs (later_false (b == 93) (has_bracket bs) h)
+
+-- what is known stays known
+pub known_after : (copy u : Bool) (text : List ℕ) (x : SeenText) → IsKnown u text → x ≡ seen copy text → IsKnown u x.rest
+known_after copy true text x h e = rw e (seen_lacks copy text h)
+known_after copy false text x h e = refl
+
+pub known_drop : (u : Bool) (k : ℕ) (text : List ℕ) → IsKnown u text → IsKnown u (drop k text)
+known_drop true k text h = lacks_drop k text h
+known_drop false k text h = refl
+
+-- ---- before a bracket is looked for
+
+pub known_name : (u : Bool) (b : ℕ) (bs : List ℕ) → b ≡ 91 → IsKnown u bs → IsKnown u (b ∷ bs)
+known_name true b bs e h = rw e h
+known_name false b bs e h = refl
+
+pub known_call : (u : Bool) (text : List ℕ) → begins_escape text ≡ true → (get_or text 1 0 == 93) ≡ false → IsKnown u (drop 2 text) → IsKnown u text
+known_call false text e n h = refl
+known_call true [] e n h = refl
+known_call true (b ∷ []) e n h = rw (eqb-true b 92 e) refl
+known_call true (b ∷ c ∷ bs) e n h = rw (eqb-true b 92 e, n) h

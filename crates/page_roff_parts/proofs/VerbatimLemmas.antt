@@ -1,0 +1,164 @@
+-- Texts that are their own value: helpers of proofs.
+use Rattle.std.proofs.Common.{◌≡◌, ℕ, zero, suc, ◌+◌, ◌-◌, ◌%◌, ◌^◌, ◌<◌, ◌≤◌, ◌==◌, Bool, true, false, not, ◌||◌, ◌&&◌, cond, min, bit_and, List, [], ◌∷◌, ◌++◌, map, length, take, drop, get_or, if◌then◌else◌, Fits, w8, Option, None, Some, option_map, is_none, unwrap_or, refl, sym, ap, ap₂, ◌∙◌, add_assoc, arith, append_assoc, append-nil, length-append, length-drop}
+use Rattle.std.specs.Int.{bit_at}
+use Rattle.std.proofs.Math.Seq.{drop-length}
+use Rattle.std.proofs.lemmas.Bool.{eqb-true, agree_below, agree_below_at}
+use Rattle.std.proofs.lemmas.List.{take-append-drop, get_or-drop, get_or-map, length-map}
+use Rattle.std.proofs.lemmas.Nat.Bits.{bit_at_and, bit_at-zero}
+use Rattle.std.proofs.lemmas.Simd.{bit_mask_l, get_or-chunk, length-chunk, mask_l-mod, none_from_empty_mask}
+use lib.Lanes.{chunk, mask_l, top, Each1}
+use Rattle.memchr.specs.Find.{IsFirstByte, is_byte}
+use Rattle.page_roff_parts.specs.declared.parts.Call.{Call}
+use Rattle.page_roff_parts.specs.declared.parts.Part.{Part}
+use Rattle.page_roff_parts.specs.declared.parts.Part.TheVariants.{Copied, Called}
+use Rattle.page_roff_parts.specs.Parts.{after_plain, call_cut, character_len, copies, parts, parts_up_to, plain, seen}
+use Rattle.page_roff_parts.specs.machine.Verbatim.{IsFree, IsFreeFrom, IsVerbatim, copied_bytes, is_backslash, may_call}
+use Rattle.page_roff_parts.proofs.ReadLemmas.{escape_alone, escape_pair, parts_more, plain_part}
+
+-- ---- what is read
+
+pub no_call : (copy : Bool) (letter : ℕ) (bs : List ℕ) → may_call letter ≡ false → call_cut copy letter bs ≡ None
+no_call copy letter bs h =
+    let a = neither (letter == 42) (letter == 110 || (letter == 36 || letter == 119)) h in
+    let b = neither (letter == 110) (letter == 36 || letter == 119) a.1 in
+    let c = neither (letter == 36) (letter == 119) b.1 in
+    rw (a.0, b.0, c.0, c.1) refl
+  where
+    neither : (a b : Bool) → (a || b) ≡ false → (a ≡ false) × (b ≡ false)
+    neither true b h = let no : ⊥ = cc in absurd no
+    neither false b h = (refl, h)
+
+-- a part that is copied, and what follows it
+copied_more : (copy : Bool) (text : List ℕ) (n : ℕ) → 0 < length text → copies (take n text) (drop n text) ≡ seen copy text
+    → IsVerbatim copy (drop n text) → IsVerbatim copy text
+copied_more copy [] n h e v = absurd (omega arith)
+copied_more copy (b ∷ bs) n h e v =
+    rw (parts_more copy b bs, ← e, v) (ap (λ t. Some t) (take-append-drop n (b ∷ bs)))
+
+pub verbatim_none : (copy : Bool) → IsVerbatim copy []
+unfolding parts parts_up_to
+verbatim_none copy = refl
+
+-- bytes before the first backslash, and what follows them
+pub verbatim_plain : (copy : Bool) (text : List ℕ) (r : Option ℕ) → IsFirstByte (is_byte 92) text r
+    → IsVerbatim copy (drop (unwrap_or r (length text)) text) → IsVerbatim copy text
+verbatim_plain copy [] r f v = verbatim_none copy
+verbatim_plain copy (b ∷ bs) (Some zero) f v = v
+verbatim_plain copy (b ∷ bs) (Some (suc k)) f v = copied_more copy (b ∷ bs) (suc k) (omega arith) (plain_part copy (b ∷ bs) (Some (suc k)) f (omega arith) (omega arith)) v
+verbatim_plain copy (b ∷ bs) None f v = copied_more copy (b ∷ bs) (length (b ∷ bs)) (omega arith) (plain_part copy (b ∷ bs) None f (omega arith) (omega arith)) v
+
+-- a text without a backslash
+pub verbatim_all : (copy : Bool) (text : List ℕ) (r : Option ℕ) → IsFirstByte (is_byte 92) text r → is_none r ≡ true → IsVerbatim copy text
+verbatim_all copy text (Some k) f e = let no : ⊥ = cc in absurd no
+verbatim_all copy text None f e = verbatim_plain copy text None f (rw (drop-length text) (verbatim_none copy))
+
+-- a lone backslash, a pair and a run of bytes before the first backslash, and what follows them
+free_alone : (b : ℕ) → (b == 92) ≡ true → IsVerbatim false (b ∷ [])
+free_alone b e = copied_more false (b ∷ []) 1 (omega arith) (escape_alone false (b ∷ []) e (omega arith)) (verbatim_none false)
+
+free_pair : (b c : ℕ) (bs : List ℕ) → (b == 92) ≡ true → may_call c ≡ false
+    → IsVerbatim false (drop (1 + character_len (c ∷ bs)) (b ∷ c ∷ bs)) → IsVerbatim false (b ∷ c ∷ bs)
+free_pair b c bs e m v =
+    copied_more false (b ∷ c ∷ bs) (1 + character_len (c ∷ bs)) (omega arith) (escape_pair false (b ∷ c ∷ bs) e refl (omega arith) (no_call false c bs m)) v
+
+run_if : (e : Bool) (b n : ℕ) (bs : List ℕ) (p q : List ℕ) → (take n bs ≡ p) × (drop n bs ≡ q)
+    → (take (if e then 0 else suc n) (b ∷ bs) ≡ (if e then [] else b ∷ p)) × (drop (if e then 0 else suc n) (b ∷ bs) ≡ (if e then b ∷ bs else q))
+run_if true b n bs p q h = (refl, refl)
+run_if false b n bs p q h = (ap (λ l. b ∷ l) h.0, h.1)
+
+run_len : List ℕ → ℕ
+run_len [] = 0
+run_len (b ∷ bs) = if b == 92 then 0 else suc (run_len bs)
+
+run_is : (text : List ℕ) → (take (run_len text) text ≡ plain text) × (drop (run_len text) text ≡ after_plain text)
+unfolding run_len
+run_is [] = (refl, refl)
+run_is (b ∷ bs) = run_if (b == 92) b (run_len bs) bs (plain bs) (after_plain bs) (run_is bs)
+
+run_view : (b : ℕ) (bs : List ℕ) → (b == 92) ≡ false → copies (take (suc (run_len bs)) (b ∷ bs)) (drop (suc (run_len bs)) (b ∷ bs)) ≡ seen false (b ∷ bs)
+unfolding seen
+run_view b bs e = rw (e, (run_is bs).0, (run_is bs).1) refl
+
+free_run : (b : ℕ) (bs : List ℕ) → (b == 92) ≡ false → IsVerbatim false (drop (suc (run_len bs)) (b ∷ bs)) → IsVerbatim false (b ∷ bs)
+free_run b bs e v = copied_more false (b ∷ bs) (suc (run_len bs)) (omega arith) (run_view b bs e) v
+
+-- what is free stays so without its front
+free_after : (n : ℕ) (text : List ℕ) → IsFree text → IsFree (drop n text)
+free_after n text h = λ k l. rw (get_or-drop n text k 0, get_or-drop n text (k + 1) 0, ← add_assoc n k 1) (h (n + k) (omega (arith, length-drop n text)))
+
+-- a letter after a backslash
+calls_no : (b c : Bool) → b ≡ true → (b && c) ≡ false → c ≡ false
+calls_no true c e h = h
+calls_no false c e h = let no : ⊥ = cc in absurd no
+
+free_up_to : (n : ℕ) (text : List ℕ) → length text ≤ n → IsFree text → IsVerbatim false text
+free_up_to n [] l h = verbatim_none false
+free_up_to zero (b ∷ bs) l h = absurd (omega arith)
+free_up_to (suc n) (b ∷ bs) l h = first (λ t. free_up_to n t) (b == 92) bs refl l h
+  where
+    shorter : (m : ℕ) (text : List ℕ) → 0 < m → length text ≤ suc n → length (drop m text) ≤ n
+    shorter m text p q = omega (arith, length-drop m text)
+
+    first : ((t : List ℕ) → length t ≤ n → IsFree t → IsVerbatim false t) → (e : Bool) (ds : List ℕ) → (b == 92) ≡ e → length (b ∷ ds) ≤ suc n → IsFree (b ∷ ds) → IsVerbatim false (b ∷ ds)
+    first f true [] e l h = free_alone b e
+    first f true (c ∷ ds) e l h =
+        let m = 1 + character_len (c ∷ ds) in
+        free_pair b c ds e (calls_no (b == 92) (may_call c) e (h 0 (omega arith)))
+        (f (drop m (b ∷ c ∷ ds)) (shorter m (b ∷ c ∷ ds) (omega arith) l) (free_after m (b ∷ c ∷ ds) h))
+    first f false ds e l h =
+        let m = suc (run_len ds) in
+        free_run b ds e (f (drop m (b ∷ ds)) (shorter m (b ∷ ds) (omega arith) l) (free_after m (b ∷ ds) h))
+
+-- a text in which no interpolation begins
+pub verbatim_free : (text : List ℕ) → IsFree text → IsVerbatim false text
+verbatim_free text h = free_up_to (length text) text (omega arith) h
+
+-- ---- vectors
+
+-- a test of lanes, read from the top bits of what was computed lane by lane
+each_lane : (f : ℕ → ℕ) (p : ℕ → Bool) → agree_below (λ x. top 7 (f x)) p 256 ≡ true → (v : List ℕ) → Each1 (Fits w8) v → map (top 7) (map f v) ≡ map p v
+each_lane f p all [] fits = refl
+each_lane f p all (x ∷ xs) fits = ap₂ (λ a b. a ∷ b) (agree_below_at (λ y. top 7 (f y)) p 256 x all fits.0.fits) (each_lane f p all xs fits.1)
+
+pub masked : (f : ℕ → ℕ) (p : ℕ → Bool) (v z : List ℕ) → length v ≤ 64 → Each1 (Fits w8) v → z ≡ map f v → agree_below (λ x. top 7 (f x)) p 256 ≡ true
+    → mask_l (map (top 7) z) % 2 ^ 64 ≡ mask_l (map p v)
+masked f p v z short fits e all =
+    ap (λ l. mask_l l % 2 ^ 64) (ap (map (top 7)) e ∙ each_lane f p all v fits) ∙ mask_l-mod (map p v) 64 (omega (arith, length-map v p))
+
+neither_bit : (a b : Bool) → min (cond a 1 0) (cond b 1 0) ≡ 0 → (a && b) ≡ false
+neither_bit true true e = let no : ⊥ = cc in absurd no
+neither_bit true false e = refl
+neither_bit false b e = refl
+
+not_first : (a b : Bool) → a ≡ false → (a && b) ≡ false
+not_first a b e = rw e refl
+
+lane : (p : ℕ → Bool) (text : List ℕ) (at i : ℕ) → at + 32 ≤ length text → i < 32
+    → bit_at (mask_l (map p (chunk at 32 text))) i ≡ cond (p (get_or text (at + i) 0)) 1 0
+lane p text at i l b =
+    bit_mask_l (map p (chunk at 32 text)) i
+    ∙ ap (λ x. cond x 1 0) (get_or-map p (chunk at 32 text) i 0 false (omega (arith, length-chunk at 32 text l)) ∙ ap p (get_or-chunk at 32 text i 0 b))
+
+no_more : (b : Bool) → not b ≡ false → b ≡ true
+no_more true e = refl
+no_more false e = let no : ⊥ = cc in absurd no
+
+-- no bit of both masks, that of a vector and that of the one a byte further
+pub free_lanes : (text : List ℕ) (at : ℕ) → at + 32 < length text
+    → not (bit_and (mask_l (map is_backslash (chunk at 32 text))) (mask_l (map may_call (chunk (at + 1) 32 text))) == 0) ≡ false → IsFreeFrom at 32 text
+free_lanes text at l e = λ k low high.
+    let m = mask_l (map is_backslash (chunk at 32 text)) in
+    let n = mask_l (map may_call (chunk (at + 1) 32 text)) in
+    let i = k - at in
+    let here : at + i ≡ k = omega arith in
+    let next : (at + 1) + i ≡ k + 1 = omega arith in
+    let none : bit_and m n ≡ 0 = eqb-true (bit_and m n) 0 (no_more (bit_and m n == 0) e) in
+    let s : bit_at m i ≡ cond (is_backslash (get_or text k 0)) 1 0 = rw here at (lane is_backslash text at i (omega arith) (omega arith)) in
+    let t : bit_at n i ≡ cond (may_call (get_or text (k + 1) 0)) 1 0 = rw next at (lane may_call text (at + 1) i (omega arith) (omega arith)) in
+    let both : min (bit_at m i) (bit_at n i) ≡ 0 = sym (bit_at_and m n i) ∙ ap (λ x. bit_at x i) none ∙ bit_at-zero i in
+    neither_bit (is_backslash (get_or text k 0)) (may_call (get_or text (k + 1) 0)) (ap₂ min (sym s) (sym t) ∙ both)
+
+-- no backslash in a vector
+pub free_without : (text : List ℕ) (at : ℕ) → at + 32 < length text → mask_l (map is_backslash (chunk at 32 text)) ≡ 0 → IsFreeFrom at 32 text
+free_without text at l e = λ k low high.
+    not_first (is_backslash (get_or text k 0)) (may_call (get_or text (k + 1) 0)) (none_from_empty_mask is_backslash text at 32 0 (omega arith) e k low high)

@@ -1,0 +1,5 @@
+use Rattle.page_roff_parts.proofs.ReadLemmas.{parts_more}
+use Rattle.page_roff_parts.proofs.laws.parts_law.Goals as goal
+
+pub returns : goal.returns
+returns c = λ copy byte bytes. parts_more copy byte bytes

@@ -1,0 +1,150 @@
+-- What a text is made of: bytes that are copied, and interpolations. Source: roff(7), "Escape sequences", `\*`, `\n`, `\$`, `\w`,
+-- and on copy mode.
+use Rattle.std.specs.Prelude.{ℕ, zero, suc, ◌+◌, Bool, false, not, ◌==◌, nat_eq, ◌&&◌, min, List, [], ◌∷◌, length, take, drop, position}
+use Rattle.std.specs.Prelude.{Option, Some, None, option_map, unwrap_or, if◌then◌else◌}
+use Rattle.std.specs.List.{starts_with}
+use Rattle.std.specs.Str.{continuation_len}
+use Rattle.page_roff_parts.specs.declared.parts.Call.{Call}
+use Rattle.page_roff_parts.specs.declared.parts.Call.TheVariants.{String, Register, Argument, Width}
+use Rattle.page_roff_parts.specs.declared.parts.Part.{Part}
+use Rattle.page_roff_parts.specs.declared.parts.Part.TheVariants.{Copied, Called}
+
+-- the bytes of a text's first character, of which the first says how many there are
+abbrev pub character_len : List ℕ → ℕ
+character_len [] = 0
+character_len (b ∷ bs) = min (continuation_len b + 1) (suc (length bs))
+
+-- what is read of a text, and what follows that
+pub record CutText : Type 0 where
+  pub front : List ℕ
+  pub rest : List ℕ
+
+-- n bytes of a text; some more after them are passed over
+abbrev pub cut : ℕ → ℕ → List ℕ → CutText
+cut n over text = record { front = take n text; rest = drop (n + over) text }
+
+-- ---- names: `x`, `(xx` or `[name]`
+
+abbrev pub two_characters : List ℕ → Option CutText
+two_characters text =
+    let n = character_len text in
+    let m = character_len (drop n text) in
+    if m == 0 then None else Some (cut (n + m) 0 text)
+
+abbrev pub bracketed : List ℕ → Option CutText
+bracketed text = option_map (λ k. cut k 1 text) (position (λ b. b == 93) text)
+
+-- none where the text ends before the name does
+abbrev pub name_cut : List ℕ → Option CutText
+name_cut [] = None
+name_cut (b ∷ bs) =
+    if b == 40 then two_characters bs
+    else (if b == 91 then bracketed bs else Some (cut (character_len (b ∷ bs)) 0 (b ∷ bs)))
+
+-- ---- texts between two delimiters
+
+-- how many bytes the character after a byte has, where that is a backslash (92): both are a pair
+abbrev pub paired_len : ℕ → List ℕ → ℕ
+paired_len b bs = if b == 92 then character_len bs else 0
+
+-- the bytes of a pair, or of one byte that begins none
+abbrev pub unit_len : List ℕ → ℕ
+unit_len [] = 0
+unit_len (b ∷ bs) = suc (paired_len b bs)
+
+abbrev pub further : ℕ → Option ℕ → Option ℕ
+further n None = None
+further n (Some k) = Some (n + k)
+
+-- how many bytes are before a delimiter's next occurrence; a backslash and its next character are a pair, which is passed over.
+-- The first `skipped` bytes are passed over, too.
+unfoldable pub content_len : (delimiter : List ℕ) → (skipped : ℕ) → List ℕ → Option ℕ
+content_len delimiter skipped [] = None
+content_len delimiter (suc skipped) (b ∷ bs) = further 1 (content_len delimiter skipped bs)
+content_len delimiter zero (b ∷ bs) =
+    if starts_with nat_eq (b ∷ bs) delimiter then Some 0
+    else further 1 (content_len delimiter (paired_len b bs) bs)
+
+-- the first character is the delimiter
+abbrev pub delimited : ℕ → List ℕ → Option CutText
+delimited n text = option_map (λ k. cut k n (drop n text)) (content_len (take n text) 0 (drop n text))
+
+-- None where the text ends before the second delimiter. A backslash (92) begins a pair, so it is none.
+abbrev pub width_cut : List ℕ → Option CutText
+width_cut [] = None
+width_cut (b ∷ bs) = if b == 92 then None else delimited (character_len (b ∷ bs)) (b ∷ bs)
+
+-- ---- parts
+
+-- the first part of a text, and what follows it
+pub record SeenText : Type 0 where
+  pub part : Part (List ℕ)
+  pub rest : List ℕ
+
+abbrev pub copies : List ℕ → List ℕ → SeenText
+copies run rest = record { part = Copied run; rest = rest }
+
+abbrev pub calls : Call (List ℕ) → List ℕ → SeenText
+calls call rest = record { part = Called call; rest = rest }
+
+-- the bytes before the first backslash, and those from it on
+abbrev pub plain : List ℕ → List ℕ
+plain [] = []
+plain (b ∷ bs) = if b == 92 then [] else b ∷ plain bs
+
+abbrev pub after_plain : List ℕ → List ℕ
+after_plain [] = []
+after_plain (b ∷ bs) = if b == 92 then b ∷ bs else after_plain bs
+
+-- `\$` and its next character, if there is one
+abbrev pub argument_call : List ℕ → SeenText
+argument_call bs = let n = character_len bs in calls (Argument (92 ∷ 36 ∷ take n bs)) (drop n bs)
+
+-- the interpolation of a backslash, this letter (* 42, n 110, $ 36, w 119) and what follows. In copy mode there is no `\w`.
+abbrev pub call_cut : Bool → ℕ → List ℕ → Option SeenText
+call_cut copy letter bs =
+    if letter == 42 then option_map (λ c. calls (String c.front) c.rest) (name_cut bs)
+    else (if letter == 110 then option_map (λ c. calls (Register c.front) c.rest) (name_cut bs)
+    else (if letter == 36 then Some (argument_call bs)
+    else (if letter == 119 && not copy then option_map (λ c. calls (Width c.front) c.rest) (width_cut bs)
+    else None)))
+
+-- a backslash and its next character
+abbrev pub pair : List ℕ → SeenText
+pair bs = let n = character_len bs in copies (92 ∷ take n bs) (drop n bs)
+
+abbrev pub is_doubled : Bool → ℕ → Bool
+is_doubled copy letter = copy && letter == 92
+
+-- what is after a backslash. In copy mode another one makes it one. An interpolation without its end stays a pair.
+abbrev pub escape : Bool → List ℕ → SeenText
+escape copy [] = copies (92 ∷ []) []
+escape copy (letter ∷ bs) =
+    if is_doubled copy letter then copies (92 ∷ []) bs
+    else unwrap_or (call_cut copy letter bs) (pair (letter ∷ bs))
+
+abbrev pub begins_escape : List ℕ → Bool
+begins_escape [] = false
+begins_escape (b ∷ bs) = b == 92
+
+unfoldable pub seen : Bool → List ℕ → SeenText
+seen copy [] = copies [] []
+seen copy (b ∷ bs) = if b == 92 then escape copy bs else copies (b ∷ plain bs) (after_plain bs)
+
+-- the parts of a text, at most n of them
+unfoldable pub parts_up_to : Bool → ℕ → List ℕ → List (Part (List ℕ))
+parts_up_to copy zero text = []
+parts_up_to copy (suc n) [] = []
+parts_up_to copy (suc n) (b ∷ bs) = let s = seen copy (b ∷ bs) in s.part ∷ parts_up_to copy n s.rest
+
+-- The parts of a text, in copy mode or not.
+unfoldable pub parts : Bool → List ℕ → List (Part (List ℕ))
+parts copy text = parts_up_to copy (length text) text
+
+-- ---- values
+
+-- a value loses a lone backslash at its end
+unfoldable pub without_lone : List ℕ → List ℕ
+without_lone [] = []
+without_lone (b ∷ []) = if b == 92 then [] else b ∷ []
+without_lone (b ∷ c ∷ bs) = if b == 92 then b ∷ c ∷ without_lone bs else b ∷ without_lone (c ∷ bs)

@@ -1,0 +1,7 @@
+-- The code's own steps and fast ways. Trust needs no reading of them.
+pub mod Brackets
+pub mod Fronts
+pub mod Lone
+pub mod Searches
+pub mod Verbatim
+pub mod Views

@@ -1,0 +1,315 @@
+//! What a text is made of (roff(7), "Escape sequences").
+
+ghost use Rattle.std.specs.Prelude.{◌≡◌, ◌<◌, ◌≤◌, ◌+◌, ◌==◌, length, Some, None, IsTrue, option_map, IfSome, take, drop, get_or};
+ghost use Rattle.page_roff_parts.specs.machine.Brackets.{IsKnown};
+ghost use Rattle.page_roff_parts.specs.Parts as reading;
+ghost use Rattle.page_roff_parts.specs.machine.Searches.{EndsUnits, IsPassed};
+ghost use Rattle.page_roff_parts.specs.machine.Views.{seen_of, cut_of, call_of};
+
+use crate::endings::after;
+use memchr::{memchr, memmem};
+
+/// An interpolation: of a string, a number register, an argument (the escape as it is written), or the width of a text.
+#[derive(Drop)]
+pub enum Call<W> {
+    String(W),
+    Register(W),
+    Argument(W),
+    Width(W),
+}
+
+/// A part of a text: bytes that are copied, or an interpolation.
+#[derive(Drop)]
+pub enum Part<W> {
+    Copied(W),
+    Called(Call<W>),
+}
+
+/// The first part of a text, and what follows it.
+#[derive(Drop)]
+pub struct Seen<'e> {
+    pub part: Part<&'e [u8]>,
+    pub rest: &'e [u8],
+}
+
+/// What was read of a text, and what follows that.
+#[derive(Drop)]
+pub struct Cut<'e> {
+    pub front: &'e [u8],
+    pub rest: &'e [u8],
+}
+
+/// The bytes of a text's first character.
+pub(crate) fn character_len(text: &[u8]) -> usize
+    ensures value { result ≡ reading.character_len text.now }
+    ensures within { result ≤ length text.now }
+{
+    match text.first() {
+        None => 0,
+        Some(first) => {
+            let len = match *first {
+                0..=0x7F => 1,
+                0x80..=0xDF => 2,
+                0xE0..=0xEF => 3,
+                _ => 4,
+            };
+            len.min(text.len())
+        }
+    }
+}
+
+// This many bytes of a text; some more after them are passed over.
+fn cut_at(text: &[u8], len: usize, over: usize) -> Cut<'_>
+    requires { len + over ≤ length text.now }
+    ensures { cut_of result ≡ reading.cut len over text.now }
+{
+    Cut {
+        front: &text[..len],
+        rest: after(text, len + over),
+    }
+}
+
+// A name of two characters.
+fn two_characters(text: &[u8]) -> Option<Cut<'_>>
+    ensures { option_map cut_of result ≡ reading.two_characters text.now }
+{
+    let first = character_len(text);
+    let second = character_len(after(text, first));
+    if second == 0 {
+        return None;
+    }
+    Some(cut_at(text, first + second, 0))
+}
+
+// A name up to its bracket.
+fn bracketed<'e>(text: &'e [u8], is_unclosed: &mut bool) -> Option<Cut<'e>>
+    requires { IsKnown is_unclosed.old text.now }
+    ensures cut { option_map cut_of result ≡ reading.bracketed text.now }
+    ensures known { IsKnown is_unclosed.new text.now }
+{
+    if *is_unclosed {
+        return None;
+    }
+    match memchr(b']', text) {
+        None => {
+            *is_unclosed = true;
+            None
+        }
+        Some(place) => Some(cut_at(text, place, 1)),
+    }
+}
+
+// The name at a text's front: `x`, `(xx` or `[name]`. None where the text ends before the name does.
+fn read_name<'e>(text: &'e [u8], is_unclosed: &mut bool) -> Option<Cut<'e>>
+    requires { IsKnown is_unclosed.old text.now }
+    ensures cut { option_map cut_of result ≡ reading.name_cut text.now }
+    ensures known { IsKnown is_unclosed.new text.now }
+{
+    match text {
+        [] => None,
+        [b'(', rest @ ..] => two_characters(rest),
+        [b'[', rest @ ..] => bracketed(rest, is_unclosed),
+        _ => Some(cut_at(text, character_len(text), 0)),
+    }
+}
+
+/// The bytes of a pair, or of one byte that begins none.
+pub(crate) fn unit_len(text: &[u8]) -> usize
+    requires { 0 < length text.now }
+    ensures value { result ≡ reading.unit_len text.now }
+    ensures some { 0 < result }
+    ensures within { result ≤ length text.now }
+{
+    if text[0] == b'\\' {
+        1 + character_len(after(text, 1))
+    } else {
+        1
+    }
+}
+
+// Whether no pair that begins before a place goes beyond it.
+fn ends_units(text: &[u8], place: usize) -> bool
+    requires { place ≤ length text.now }
+    ensures { IsTrue result → EndsUnits place text.now }
+{
+    // A pair has five bytes at most.
+    for start in place.saturating_sub(4)..place {
+        if place < start + unit_len(after(text, start)) {
+            return false;
+        }
+    }
+    true
+}
+
+// The last place up to another one beyond which no pair goes.
+fn unit_end(text: &[u8], until: usize) -> usize
+    requires { until ≤ length text.now }
+    ensures ends { EndsUnits result text.now }
+    ensures within { result ≤ until }
+{
+    let mut place = until;
+    while 0 < place && !ends_units(text, place) {
+        place -= 1;
+    }
+    place
+}
+
+// How many bytes are passed over where a delimiter is at none of the places before one: as many, or more where a pair goes beyond that.
+fn passed_len(text: &[u8], until: usize) -> usize
+    requires { until ≤ length text.now }
+    ensures passed { IsPassed until result text.now }
+    ensures least { until ≤ result }
+    ensures within { result ≤ length text.now }
+{
+    let mut len = unit_end(text, until);
+    while len < until {
+        len += unit_len(after(text, len));
+    }
+    len
+}
+
+// How many bytes are before a delimiter's next occurrence outside pairs. Pairs are read only where it occurs: a line of nothing but widths
+// without their ends would be walked up to its end for each of them.
+fn content_len(delimiter: &[u8], text: &[u8]) -> Option<usize>
+    ensures value { result ≡ reading.content_len delimiter.now 0 text.now }
+    ensures bound { IfSome result (λ len. len + length delimiter.now ≤ length text.now) }
+{
+    let mut at = 0;
+    while at < text.len() {
+        let rest = after(text, at);
+        match memmem::find(rest, delimiter) {
+            None => return None,
+            Some(found) => {
+                let passed = passed_len(rest, found);
+                if passed == found {
+                    return Some(at + found);
+                }
+                at += passed;
+            }
+        }
+    }
+    None
+}
+
+// The text between two delimiters of so many bytes, of which one begins it.
+fn read_delimited(text: &[u8], mark: usize) -> Option<Cut<'_>>
+    requires { mark ≤ length text.now }
+    ensures { option_map cut_of result ≡ reading.delimited mark text.now }
+{
+    let inner = after(text, mark);
+    match content_len(&text[..mark], inner) {
+        None => None,
+        Some(len) => Some(cut_at(inner, len, mark)),
+    }
+}
+
+// The text between two delimiters, of which the first character is one. A backslash begins a pair, so it is none.
+fn read_width(text: &[u8]) -> Option<Cut<'_>>
+    ensures { option_map cut_of result ≡ reading.width_cut text.now }
+{
+    match text {
+        [] | [b'\\', ..] => None,
+        _ => read_delimited(text, character_len(text)),
+    }
+}
+
+/// Whether a width at a text's front has an end.
+pub(crate) fn has_width(text: &[u8]) -> bool
+    requires { 2 ≤ length text.now }
+{
+    read_width(after(text, 2)).is_some()
+}
+
+/// Whether a backslash and this byte make one backslash.
+pub(crate) fn is_doubled(copy: bool, letter: u8) -> bool
+    ensures { result ≡ reading.is_doubled copy letter }
+{
+    copy && letter == b'\\'
+}
+
+// An interpolation that was read, and what follows it.
+fn called<'e>(call: Call<&'e [u8]>, rest: &'e [u8]) -> Seen<'e>
+    ensures { seen_of result ≡ reading.calls (call_of call.entry) rest.entry.now }
+{
+    Seen {
+        part: Part::Called(call),
+        rest,
+    }
+}
+
+// The interpolation at a text's front, where a backslash and a letter are.
+fn read_call<'e>(text: &'e [u8], copy: bool, is_unclosed: &mut bool) -> Option<Seen<'e>>
+    requires some { 2 ≤ length text.now }
+    requires escape { IsTrue (reading.begins_escape text.now) }
+    requires known { IsKnown is_unclosed.old text.now }
+    ensures seen { option_map seen_of result
+        ≡ reading.call_cut copy (get_or text.now 1 0) (drop 2 text.now) }
+    ensures known { IsKnown is_unclosed.new text.now }
+{
+    let rest = after(text, 2);
+    match text[1] {
+        b'*' => match read_name(rest, is_unclosed) {
+            None => None,
+            Some(name) => Some(called(Call::String(name.front), name.rest)),
+        },
+        b'n' => match read_name(rest, is_unclosed) {
+            None => None,
+            Some(name) => Some(called(Call::Register(name.front), name.rest)),
+        },
+        b'$' => {
+            let end = 2 + character_len(rest);
+            Some(called(Call::Argument(&text[..end]), after(text, end)))
+        }
+        b'w' if !copy => match read_width(rest) {
+            None => None,
+            Some(inner) => Some(called(Call::Width(inner.front), inner.rest)),
+        },
+        _ => None,
+    }
+}
+
+// The first part of a text that begins with a backslash.
+fn read_escape<'e>(text: &'e [u8], copy: bool, is_unclosed: &mut bool) -> Seen<'e>
+    requires some { 0 < length text.now }
+    requires escape { IsTrue (reading.begins_escape text.now) }
+    requires known { IsKnown is_unclosed.old text.now }
+    ensures seen { seen_of result ≡ reading.seen copy text.now }
+    ensures known { IsKnown is_unclosed.new text.now }
+{
+    if text.len() < 2 {
+        return copied(text, text.len(), 0);
+    }
+    if is_doubled(copy, text[1]) {
+        return copied(text, 1, 1);
+    }
+    match read_call(text, copy, is_unclosed) {
+        Some(seen) => seen,
+        None => copied(text, 1 + character_len(after(text, 1)), 0),
+    }
+}
+
+// This many bytes that are copied; some more after them are passed over.
+fn copied(text: &[u8], len: usize, over: usize) -> Seen<'_>
+    requires { len + over ≤ length text.now }
+    ensures { seen_of result ≡ reading.copies (take len text.now) (drop (len + over) text.now) }
+{
+    Seen {
+        part: Part::Copied(&text[..len]),
+        rest: after(text, len + over),
+    }
+}
+
+/// Reads the first part of a text, in copy mode or not. Where `is_unclosed` is set, no bracket closes in the text, and none is looked for;
+/// it is set where none was found.
+pub(crate) fn read<'e>(text: &'e [u8], copy: bool, is_unclosed: &mut bool) -> Seen<'e>
+    requires some { 0 < length text.now }
+    requires known { IsKnown is_unclosed.old text.now }
+    ensures seen { seen_of result ≡ reading.seen copy text.now }
+    ensures known { IsKnown is_unclosed.new result.rest.now }
+{
+    let end = memchr(b'\\', text).unwrap_or(text.len());
+    if end == 0 {
+        return read_escape(text, copy, is_unclosed);
+    }
+    copied(text, end, 0)
+}

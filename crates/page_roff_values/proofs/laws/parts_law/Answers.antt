@@ -1,5 +1,0 @@
-use Rattle.page_roff_values.proofs.ReadLemmas.{parts_more}
-use Rattle.page_roff_values.proofs.laws.parts_law.Goals as goal
-
-pub returns : goal.returns
-returns c = λ copy byte bytes. parts_more copy byte bytes
