@@ -7,6 +7,7 @@ pub mod GoingLemmas
 pub mod GrowLemmas
 pub mod LayLemmas
 pub mod LineLemmas
+pub mod MeasuredLemmas
 pub mod PartTexts
 pub mod PlainTexts
 pub mod TextLemmas

@@ -13,6 +13,7 @@ ghost use Rattle.page_roff_values.specs.machine.Views.{surroundings_of, units_of
 
 use crate::endings::kept;
 use crate::environments::Environment;
+use crate::known_widths::KnownWidths;
 use crate::sources::Sources;
 use itoa::Buffer;
 use memchr::memchr;
@@ -54,8 +55,9 @@ struct Nested {
     width_column: Option<u32>,
     count: u32,
     ended: bool,
-    // What is known of widths without their ends.
+    // What is known of widths without their ends, and of long texts that were measured.
     lone_widths: LoneWidths,
+    known_widths: KnownWidths,
 }
 
 impl Model for Nested {
@@ -75,6 +77,17 @@ struct Outside {
     width_column: Option<u32>,
 }
 
+// The width of a text, in basic units: 24 a column.
+fn units_of(text: &[u8], output: Output) -> u32
+    requires { length text.now ≤ LINE }
+    ensures { result ≡ units_of_bytes output text.now }
+{
+    match std::str::from_utf8(text) {
+        Ok(text) => 24 * columns(text.as_bytes(), output),
+        Err(_) => 0,
+    }
+}
+
 impl Nested {
     // Nothing yet. All memory is reserved here.
     fn new(alloc: Global) -> Result<Nested, AllocError>
@@ -89,6 +102,7 @@ impl Nested {
             count: 0,
             ended: false,
             lone_widths: LoneWidths::new(alloc)?,
+            known_widths: KnownWidths::new(alloc)?,
         })
     }
 
@@ -269,14 +283,18 @@ impl Nested {
         outside
     }
 
-    // The width of the text that is finished.
-    fn units(&self, output: Output) -> u32
-        ensures { result ≡ units_of_bytes output self.now.spot.text }
+    // The width of the text that is finished. That of a long text is remembered.
+    fn units(&mut self, output: Output) -> u32
+        ensures units { result ≡ units_of_bytes output self.old.spot.text }
+        ensures same { self.new ≡ self.old }
     {
-        match std::str::from_utf8(self.text()) {
-            Ok(text) => 24 * columns(text.as_bytes(), output),
-            Err(_) => 0,
+        let text = &self.text[self.start..];
+        if let Some(units) = self.known_widths.find(text, output) {
+            return units;
         }
+        let units = units_of(text, output);
+        self.known_widths.add(text, output, units);
+        units
     }
 
     // Goes on with the line after the text of a width.

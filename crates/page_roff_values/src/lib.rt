@@ -14,6 +14,7 @@ mod call_arguments;
 mod endings;
 mod environments;
 mod expansions;
+mod known_widths;
 mod laws;
 mod lines;
 mod numbers;

@@ -180,12 +180,12 @@ put_width-returns-then-is_going-clause-goes g x c =
     let outside' = c.go_inside-outside.ensures in
     let ran = rw (c.new-sources.ensures, outside'.inside) at c.run.ensures.goes in
     let kept = rw outside'.inside at c.run.ensures.before in
-    let back = rw (outside'.start, outside'.width_column) at c.go_outside.ensures ∙ goes_back env room text s t c.requires.going ran.1 kept in
+    let back = rw (outside'.start, outside'.width_column, c.units-units.ensures.same) at c.go_outside.ensures ∙ goes_back env room text s t c.requires.going ran.1 kept in
     let same = begins env room text (inside s.spot) c.requires.going in
     let last = seq (nothing u.spot) (put (decimal c.units-units.result)) in
     goes_then g.O.NoteOut.left _ _ _ (width env.units (value env room text) s.spot) last (nothing c.put_units.new.self.spot)
     (width_goes g.O.NoteOut.left _ _ env.units (value env room text) s.spot t.spot u.spot c.units-units.result
-    (goes_then g.O.NoteOut.left _ _ _ (value env room text (inside s.spot)) (seq (nothing (inside s.spot)) (rest env room (text ∷ []))) (nothing t.spot) (goes_same g.O.NoteOut.left _ _ _ same) ran) (ap (λ (a : NestedSpot). a.spot) back) c.units-units.ensures)
+    (goes_then g.O.NoteOut.left _ _ _ (value env room text (inside s.spot)) (seq (nothing (inside s.spot)) (rest env room (text ∷ []))) (nothing t.spot) (goes_same g.O.NoteOut.left _ _ _ same) ran) (ap (λ (a : NestedSpot). a.spot) back) c.units-units.ensures.units)
     (goes_then g.O.NoteOut.left _ _ _ last (put (decimal c.units-units.result) u.spot) (nothing c.put_units.new.self.spot)
     (goes_same g.O.NoteOut.left _ last (put (decimal c.units-units.result) u.spot) (seq_nothing u.spot (put (decimal c.units-units.result)) (going _ (sym c.if-is_going.true ∙ c.is_going.ensures))))
     c.put_units.ensures.goes)
@@ -200,7 +200,7 @@ put_width-returns-then-is_going-clause-before g x c =
     let outside' = c.go_inside-outside.ensures in
     let ran = rw (c.new-sources.ensures, outside'.inside) at c.run.ensures.goes in
     let kept = rw outside'.inside at c.run.ensures.before in
-    let back = rw (outside'.start, outside'.width_column) at c.go_outside.ensures ∙ goes_back env room text s t c.requires.going ran.1 kept in
+    let back = rw (outside'.start, outside'.width_column, c.units-units.ensures.same) at c.go_outside.ensures ∙ goes_back env room text s t c.requires.going ran.1 kept in
     c.put_units.ensures.before ∙ ap (λ (a : NestedSpot). a.before) back
 
 pub put_width-returns-else-is_going-clause-goes : goal.put_width-returns-else-is_going-clause-goes
@@ -214,12 +214,12 @@ put_width-returns-else-is_going-clause-goes g x c =
     let outside' = c.go_inside-outside.ensures in
     let ran = rw (c.new-sources.ensures, outside'.inside) at c.run.ensures.goes in
     let kept = rw outside'.inside at c.run.ensures.before in
-    let back = rw (outside'.start, outside'.width_column) at c.go_outside.ensures ∙ goes_back env room text s t c.requires.going ran.1 kept in
+    let back = rw (outside'.start, outside'.width_column, c.units-units.ensures.same) at c.go_outside.ensures ∙ goes_back env room text s t c.requires.going ran.1 kept in
     let same = begins env room text (inside s.spot) c.requires.going in
     let last = seq (nothing u.spot) (put (decimal c.units-units.result)) in
     goes_then g.O.NoteOut.left _ _ _ (width env.units (value env room text) s.spot) last (nothing u.spot)
     (width_goes g.O.NoteOut.left _ _ env.units (value env room text) s.spot t.spot u.spot c.units-units.result
-    (goes_then g.O.NoteOut.left _ _ _ (value env room text (inside s.spot)) (seq (nothing (inside s.spot)) (rest env room (text ∷ []))) (nothing t.spot) (goes_same g.O.NoteOut.left _ _ _ same) ran) (ap (λ (a : NestedSpot). a.spot) back) c.units-units.ensures)
+    (goes_then g.O.NoteOut.left _ _ _ (value env room text (inside s.spot)) (seq (nothing (inside s.spot)) (rest env room (text ∷ []))) (nothing t.spot) (goes_same g.O.NoteOut.left _ _ _ same) ran) (ap (λ (a : NestedSpot). a.spot) back) c.units-units.ensures.units)
     (goes_same g.O.NoteOut.left _ last (nothing u.spot) (seq_ended u.spot (put (decimal c.units-units.result)) (gone _ (sym c.if-is_going.false ∙ c.is_going.ensures))))
 
 pub put_width-returns-else-is_going-clause-before : goal.put_width-returns-else-is_going-clause-before
@@ -232,7 +232,7 @@ put_width-returns-else-is_going-clause-before g x c =
     let outside' = c.go_inside-outside.ensures in
     let ran = rw (c.new-sources.ensures, outside'.inside) at c.run.ensures.goes in
     let kept = rw outside'.inside at c.run.ensures.before in
-    let back = rw (outside'.start, outside'.width_column) at c.go_outside.ensures ∙ goes_back env room text s t c.requires.going ran.1 kept in
+    let back = rw (outside'.start, outside'.width_column, c.units-units.ensures.same) at c.go_outside.ensures ∙ goes_back env room text s t c.requires.going ran.1 kept in
     ap (λ (a : NestedSpot). a.before) back
 
 -- ---- the run
