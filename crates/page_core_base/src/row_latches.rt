@@ -1,10 +1,10 @@
 //! The latch over a sink of rows and a sink of messages: what inner functions give to, so that they need not hand on their faults.
 
-ghost use Rattle.std.specs.Prelude.{◌≡◌, List, [], ◌∷◌, IsTrue, None, Some, MatchResult};
+ghost use Rattle.std.specs.Prelude.{◌≡◌, List, [], ◌∷◌, IsTrue, None, Some, MatchResult, true};
 ghost use Rattle.page_core_base.specs.Latches.{CameRows};
 ghost use Rattle.page_core_base.specs.Messages.{Message, message_of};
 ghost use Rattle.page_core_base.specs.machine.RowPlans.{Planned, Left, seen};
-ghost use Rattle.page_core_base.specs.Rows.{LaidRow, row_of};
+ghost use Rattle.page_core_base.specs.Rows.{LaidRow, is_blank_row, row_of};
 
 use crate::{Cell, Fault, Note, NoteSink, RowSink};
 
@@ -21,6 +21,14 @@ pub trait RowOut {
     /// Takes a row: its margin in columns, and its cells.
     fn give(&mut self, margin: u32, cells: &[Cell])
         ensures { CameRows left self.old (row_of margin cells.now ∷ []) [] self.new };
+
+    /// Takes a row of blanks alone, as [`give`](RowOut::give) does.
+    fn give_blank(&mut self, margin: u32, cells: &[Cell])
+        requires { is_blank_row (row_of margin cells.now) ≡ true }
+        ensures { CameRows left self.old (row_of margin cells.now ∷ []) [] self.new }
+    {
+        self.give(margin, cells);
+    }
 
     /// Takes a message.
     fn report(&mut self, note: &Note)
@@ -77,6 +85,12 @@ impl<R: RowSink, N: NoteSink> RowOut for RowLatch<'_, '_, R, N> {
     fn give(&mut self, margin: u32, cells: &[Cell]) {
         if self.fault.is_none() {
             self.fault = self.rows.row(margin, cells).err();
+        }
+    }
+
+    fn give_blank(&mut self, margin: u32, cells: &[Cell]) {
+        if self.fault.is_none() {
+            self.fault = self.rows.blank_row(margin, cells).err();
         }
     }
 

@@ -1,9 +1,9 @@
 //! Sinks that take finished rows.
 
-ghost use Rattle.std.specs.Prelude.{◌≡◌, ℕ, List, [], ◌∷◌};
+ghost use Rattle.std.specs.Prelude.{◌≡◌, ℕ, List, [], ◌∷◌, true};
 ghost use Rattle.page_core_base.specs.Sinks.{IsSink, Gives};
 ghost use Rattle.page_core_base.specs.Fails.{FailsAs};
-ghost use Rattle.page_core_base.specs.Rows.{LaidRow, row_of};
+ghost use Rattle.page_core_base.specs.Rows.{LaidRow, is_blank_row, row_of};
 
 use crate::{Cell, Fault};
 
@@ -29,6 +29,16 @@ pub trait RowSink {
         ensures gives { Gives result gave within self.old (row_of margin cells.now ∷ []) self.new }
         ensures fault { FailsAs Fault.WriteText result (failed self.old) (failed self.new) }
         ensures same { loans self.new ≡ loans self.old };
+
+    /// Takes a row of blanks alone, as [`row`](RowSink::row) does: a sink may save to look at its cells.
+    fn blank_row(&mut self, margin: u32, cells: &[Cell]) -> Result<(), Fault>
+        requires { is_blank_row (row_of margin cells.now) ≡ true }
+        ensures gives { Gives result gave within self.old (row_of margin cells.now ∷ []) self.new }
+        ensures fault { FailsAs Fault.WriteText result (failed self.old) (failed self.new) }
+        ensures same { loans self.new ≡ loans self.old }
+    {
+        self.row(margin, cells)
+    }
 
     /// How often a call failed, up to 2^64 - 1.
     fn failures(&self) -> u64

@@ -1,13 +1,14 @@
 -- The blanks at a row's end, and cells one by one.
-use Rattle.std.proofs.Common.{◌≡◌, ◌≢◌, ℕ, ◌+◌, ◌<◌, ◌≤◌, ◌==◌, true, false, List, [], ◌∷◌, ◌++◌, length, take, drop, get_or, refl, sym, ap, ◌∙◌, append_assoc, arith, replicate, ◌-◌}
+use Rattle.std.proofs.Common.{suc, ◌≡◌, ◌≢◌, ℕ, ◌+◌, ◌<◌, ◌≤◌, ◌==◌, true, false, List, [], ◌∷◌, ◌++◌, length, take, drop, get_or, refl, sym, ap, ◌∙◌, append_assoc, arith, replicate, ◌-◌}
 use Rattle.std.specs.List.{flat_map, list_all}
 use Rattle.std.proofs.lemmas.List.{take_more, take-append-drop, replicate-append-replicate}
 use Rattle.std.proofs.lemmas.Grind.{flat_map-append}
+use Rattle.std.proofs.lemmas.Bool.{eqb-true}
 use Rattle.std.proofs.lemmas.Bool.Decides.{nat_tests}
 use Rattle.std.proofs.Math.Seq.{take-add}
 use Rattle.page_core_base.specs.declared.cells.Cell.{Cell}
-use Rattle.page_core_base.specs.Rows.{trimmed, trimmed_before, is_blank}
-use Rattle.page_core_streams.specs.RowBytes.{cell_bytes_of, printed}
+use Rattle.page_core_base.specs.Rows.{is_blank, is_blank_row, row_of, trimmed, trimmed_before}
+use Rattle.page_core_streams.specs.RowBytes.{cell_bytes_of, printed, row_bytes}
 
 pub trimmed-blank : (xs : List Cell) (x : Cell) → x.c ≡ 32 → trimmed (xs ++ x ∷ []) ≡ trimmed xs
 trimmed-blank [] x h = let t : is_blank x ≡ true = grind (arith, nat_tests) in rw t refl
@@ -87,3 +88,11 @@ trimmed_same cells n d p h e =
 
 pub trimmed_nothing : (cells : List Cell) (n : ℕ) → n ≤ 0 → trimmed (take n cells) ≡ take n cells
 trimmed_nothing cells n h = let e : n ≡ 0 = omega arith in rw e refl
+
+-- a row of blanks alone is a line feed
+no_cells : (cells : List Cell) → (length cells == 0) ≡ true → cells ≡ []
+no_cells [] e = refl
+no_cells (cell ∷ cells) e = let no : suc (length cells) ≡ 0 = eqb-true (suc (length cells)) 0 e in absurd (omega arith)
+
+pub blank_bytes : (margin : ℕ) (cells : List Cell) → is_blank_row (row_of margin cells) ≡ true → row_bytes (row_of margin cells) ≡ 10 ∷ []
+blank_bytes margin cells e = rw (no_cells (trimmed cells) e) refl

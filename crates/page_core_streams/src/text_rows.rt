@@ -156,6 +156,15 @@ impl<W: Target> RowSink for TextRows<'_, W> {
         Err(Fault::WriteText)
     }
 
+    #[tactic(auto, using(crate::proofs::RowLemmas::blank_bytes))]
+    fn blank_row(&mut self, _margin: u32, _cells: &[Cell]) -> Result<(), Fault> {
+        if put(self.out, b"\n") {
+            return Ok(());
+        }
+        self.failures = self.failures.saturating_add(1);
+        Err(Fault::WriteText)
+    }
+
     fn failures(&self) -> u64 {
         if self.out.is_counted() {
             self.out.failures()

@@ -46,6 +46,14 @@ impl<R: RowSink> RowSink for Shown<'_, R> {
         self.rows.row(margin, cells)
     }
 
+    #[tactic(auto, unfolding(crate::specs::Shown::shown_rows))]
+    fn blank_row(&mut self, margin: u32, cells: &[Cell]) -> Result<(), Fault> {
+        if self.is_silent {
+            return Ok(());
+        }
+        self.rows.blank_row(margin, cells)
+    }
+
     fn failures(&self) -> u64 {
         self.rows.failures()
     }

@@ -235,12 +235,14 @@ impl OpenRow {
         requires { end ≤ length self.old.cells }
         ensures { LaysOut O.left out.old (sheet.gives self.old (take end self.old.cells)) out.new self.new }
     {
-        out.give(self.margin, &self.row.as_slice()[..end]);
-        self.blank_rows = if self.row.is_blank(end) {
-            self.blank_rows.saturating_add(1).min(BLANK_ROWS)
+        let cells = &self.row.as_slice()[..end];
+        if self.row.is_blank(end) {
+            out.give_blank(self.margin, cells);
+            self.blank_rows = self.blank_rows.saturating_add(1).min(BLANK_ROWS);
         } else {
-            0
-        };
+            out.give(self.margin, cells);
+            self.blank_rows = 0;
+        }
         self.has_heading = false;
     }
 

@@ -173,7 +173,6 @@ copied_whole copy (suc n) (b ∷ bs) x l e =
         let long : length x ≡ length run + length is.0 = ap (λ (t : List ℕ). length t) (sym is.1.1) ∙ length-append run is.0 in
         rw long (whole run is.0 (parts copy rest) h (more is.0 is.1.0) ∙ ap (λ t. Some (t, [])) is.1.1)
 
-
 pub front_whole : (copy : Bool) (text : List ℕ) → IsVerbatim copy text → IsFront copy (length text) text
 unfolding parts parts_up_to
 front_whole copy text v = rw (take-length text, drop-length text) (copied_whole copy (length text) text text (omega arith) v)

@@ -73,12 +73,7 @@ impl<'e> Unread<'e> {
 
     /// Takes the bytes of the front that are copied as they are, up to this many, where a width without its end is there and some such widths
     /// were searched for.
-    pub fn take_lone(
-        &mut self,
-        copy: bool,
-        fits: usize,
-        lone_widths: &mut LoneWidths,
-    ) -> &'e [u8]
+    pub fn take_lone(&mut self, copy: bool, fits: usize, lone_widths: &mut LoneWidths) -> &'e [u8]
         ensures value { result.now ≡ take (length result.now) self.old }
         ensures rest { self.new ≡ drop (length result.now) self.old }
         ensures front { IsFront copy (length result.now) self.old }

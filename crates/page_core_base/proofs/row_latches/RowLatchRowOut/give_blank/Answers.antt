@@ -1,0 +1,8 @@
+use Rattle.page_core_base.proofs.RowLatchLemmas.{row_given}
+use Rattle.page_core_base.proofs.row_latches.RowLatchRowOut.give_blank.Goals as goal
+
+pub returns-then-is_none : goal.returns-then-is_none
+returns-then-is_none g c = λ plan more said h.
+    let none = rw c.if-is_none.true at c.is_none.ensures in
+    let e = c.blank_row.ensures in
+    rw c.err-self.ensures.value (row_given g.met.R.RowSink.laws g.met.N.NoteSink.laws g.met.N.NoteSink.whole _ c.blank_row.result _ more said none h e.gives e.fault e.same)
