@@ -12,21 +12,21 @@ use std::alloc::{AllocError, Global};
 
 /// How a page ended.
 #[derive(Clone, Copy)]
-pub(crate) struct Ending {
-    pub(crate) result: Result<Outcome, Fault>,
+pub struct Ending {
+    pub result: Result<Outcome, Fault>,
     /// The fault of each further call.
-    pub(crate) later: Option<Fault>,
+    pub later: Option<Fault>,
     /// Whether nothing was reported of how its lines are cut, which these streams do not get.
-    pub(crate) is_plain: bool,
+    pub is_plain: bool,
     /// What memory lacked for at a cut, if for anything.
-    pub(crate) lack: Option<Lack>,
+    pub lack: Option<Lack>,
     /// Whether there was memory after the end.
-    pub(crate) has_memory: bool,
+    pub has_memory: bool,
 }
 
 impl Ending {
     /// The end where there is nothing that takes lines.
-    pub(crate) fn without_lines(fault: Fault) -> Ending {
+    pub fn without_lines(fault: Fault) -> Ending {
         Ending {
             result: Err(fault),
             later: None,
@@ -39,12 +39,7 @@ impl Ending {
 
 /// Feeds all lines and the end of a page. What takes them was made last, and memory is wanted only after the end: so where an allocation is refused
 /// between the two, it is one of what takes the lines.
-pub(crate) fn run<F: Feed + Drop>(
-    alloc: Global,
-    bytes: &[u8],
-    mut lines: Lines,
-    mut feed: F,
-) -> Ending
+pub fn run<F: Feed + Drop>(alloc: Global, bytes: &[u8], mut lines: Lines, mut feed: F) -> Ending
     requires short { length bytes.now ≤ BYTES }
     requires ready { lines.cutter.ready ≡ false }
     requires consumed { lines.cutter.point.line.consumed ≡ 0 }

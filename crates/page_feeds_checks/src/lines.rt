@@ -10,16 +10,16 @@ use page_roff::Cutter;
 use std::alloc::Global;
 
 /// The bytes of a page at most.
-pub(crate) const BYTES: usize = 1_000_000;
+pub const BYTES: usize = 1_000_000;
 
 // The messages of cutting that there is memory for.
 const NOTES: usize = 16;
 
 /// The name of the file in messages.
-pub(crate) const FILE: &str = "x.1";
+pub const FILE: &str = "x.1";
 
 /// What takes the lines of a page one by one, and its end.
-pub(crate) trait Feed {
+pub trait Feed {
     /// A line comes, of a number.
     fn line(&mut self, text: &[u8], number: u32) -> Result<(), Fault>
         requires { IsLine text.now };
@@ -39,14 +39,14 @@ pub(crate) trait Feed {
 
 /// Cuts the bytes of a page into lines, with the messages of the cutting.
 #[derive(Drop)]
-pub(crate) struct Lines {
-    cutter: Cutter,
+pub struct Lines {
+    pub cutter: Cutter,
     cuts: KeptNotes,
 }
 
 impl Lines {
     /// Before the first byte.
-    pub(crate) fn new(alloc: Global, encoding: Encoding) -> Result<Lines, Fault>
+    pub fn new(alloc: Global, encoding: Encoding) -> Result<Lines, Fault>
         ensures ready { IfOk result (λ lines. lines.cutter.ready ≡ false) }
         ensures consumed { IfOk result (λ lines. lines.cutter.point.line.consumed ≡ 0) }
     {
@@ -60,7 +60,7 @@ impl Lines {
     }
 
     /// Whether nothing is reported of how the lines are cut.
-    pub(crate) fn are_plain(&self) -> bool {
+    pub fn are_plain(&self) -> bool {
         self.cuts.notes.is_empty()
     }
 
@@ -75,7 +75,7 @@ impl Lines {
     }
 
     /// Feeds all lines, and the end.
-    pub(crate) fn feed_all<F: Feed>(&mut self, feed: &mut F, bytes: &[u8]) -> Result<(), Fault>
+    pub fn feed_all<F: Feed>(&mut self, feed: &mut F, bytes: &[u8]) -> Result<(), Fault>
         requires ready { self.old.cutter.ready ≡ false }
         requires consumed { self.old.cutter.point.line.consumed + length bytes.now < 2 ^ 31 }
     {

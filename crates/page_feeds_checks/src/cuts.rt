@@ -13,7 +13,7 @@ const STEPS: usize = 10_000;
 
 /// After which lines it goes on from what is held.
 #[derive(Clone, Copy)]
-pub(crate) enum Cuts {
+pub enum Cuts {
     Never,
     /// After each, twice.
     Always,
@@ -25,13 +25,13 @@ pub(crate) enum Cuts {
 
 /// What memory lacked for.
 #[derive(Clone, Copy, PartialEq, Eq)]
-pub(crate) enum Lack {
+pub enum Lack {
     PuttingDown,
     GoingOn,
 }
 
 /// What can be put down between two lines, and go on from there.
-pub(crate) trait PutDown: Feed {
+pub trait PutDown: Feed {
     /// What is held between two lines.
     type Held: Drop;
 
@@ -44,16 +44,16 @@ pub(crate) trait PutDown: Feed {
 
 /// Takes lines, and goes on after some of them from what is held.
 #[derive(Drop)]
-pub(crate) struct CutFeed<F> {
-    pub(crate) feed: F,
-    pub(crate) alloc: Global,
-    pub(crate) cuts: Cuts,
+pub struct CutFeed<F> {
+    pub feed: F,
+    pub alloc: Global,
+    pub cuts: Cuts,
     /// Whether it went on from what is held after a line of `Cuts::After` or `Cuts::From`, or was to.
-    pub(crate) is_cut: bool,
+    pub is_cut: bool,
     /// What memory lacked for, if for anything.
-    pub(crate) lack: Option<Lack>,
+    pub lack: Option<Lack>,
     /// What takes all memory before each line, each cut and the end, if it is to, and at a cut gives back a step more each time that memory lacks.
-    pub(crate) memory: Option<Scarcity>,
+    pub memory: Option<Scarcity>,
 }
 
 // It goes on from this.
