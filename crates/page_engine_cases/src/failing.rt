@@ -1,12 +1,10 @@
 //! A page at once, and with each of its writes failing in turn.
 
-use crate::cuts::Cuts;
-use crate::endings::Ending;
-use crate::lines::FILE;
 use crate::pages::run_lines;
 use crate::streams::{Shows, Streams};
 use page_core::{Fault, Settings};
 use page_engine::{Outcome, run_page};
+use page_feeds_checks::{Cuts, Ending, FILE};
 use page_test_streams::{Fails, Store};
 use std::alloc::Global;
 

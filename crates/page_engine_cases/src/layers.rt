@@ -1,9 +1,9 @@
 //! Layers of a page that are refused memory, each alone: where one is made, where it is put down, and where it goes on from what is held of it. What
 //! cuts lines is made alone, and never put down.
 
-use crate::cuts::Lack;
 use crate::refused::Refusals;
 use page_core::{Fault, Settings};
+use page_feeds_checks::Lack;
 use page_fill::Filler;
 use page_roff::Cutter;
 use page_scopes::Scopes;

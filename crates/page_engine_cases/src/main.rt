@@ -9,11 +9,8 @@
 //! also run with memory refused, each growth in turn, where it is made, put down and goes on; and so are roff and the other layers alone.
 #![tactic(auto)]
 
-mod cuts;
-mod endings;
 mod failing;
 mod layers;
-mod lines;
 mod pages;
 mod refused;
 mod roffs;
@@ -21,10 +18,9 @@ mod stack_room;
 mod streams;
 mod words;
 
-use cuts::{Cuts, Lack};
-use endings::Ending;
 use failing::Whole;
 use page_engine::Outcome;
+use page_feeds_checks::{Cuts, Ending, Lack};
 use page_test_streams::is_cheap;
 use pages::run_lines;
 use refused::{Case, bare_difference, refusal_difference};

@@ -2,12 +2,10 @@
 
 ghost use Rattle.page_core_base.specs.Texts.{IsLine};
 
-use crate::cuts::{CutFeed, Cuts, Lack, PutDown};
-use crate::endings::{Ending, run};
-use crate::lines::{BYTES, FILE, Feed, Lines};
 use crate::streams::Streams;
 use page_core::{Fault, Settings, TextNotes, TextRows};
 use page_engine::{Edge, Outcome, Page};
+use page_feeds_checks::{BYTES, CutFeed, Cuts, Ending, FILE, Feed, Lack, Lines, PutDown, run};
 use page_test_streams::Scarcity;
 use std::alloc::Global;
 

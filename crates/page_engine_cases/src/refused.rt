@@ -1,13 +1,12 @@
 //! A page that is refused memory: where it is made, where it is put down after a line, and where it goes on from what is held of it; and so roff and
 //! other layers of it, each alone.
 
-use crate::cuts::{Cuts, Lack};
-use crate::endings::Ending;
 use crate::layers::layer_difference;
 use crate::pages::run_lines;
 use crate::roffs::run_roff;
 use crate::streams::{Shows, Streams};
 use page_core::{Fault, Settings};
+use page_feeds_checks::{Cuts, Ending, Lack};
 use page_test_streams::{Ended, Fails, Scarce, Scarcity, scarce_difference};
 use std::alloc::Global;
 

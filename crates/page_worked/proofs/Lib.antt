@@ -1,1 +1,1 @@
-mod Unfolded
+pub mod Unfolded

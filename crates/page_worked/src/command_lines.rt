@@ -12,16 +12,14 @@ pub fn command_line_pages()
     ensures another_width_and_indent { Shows (record plain { width = 60; indent = Some 4 })
         (codes ".TH T 1 2020-01-01 S" ∷
         codes ".SH A" ∷
-        codes "aaaaaaaaaa bbbbbbbbbb cccccccccc dddddddddd eeeeeeeeee ffffffffff" ∷
-        [])
+        codes "aaaaaaaaaa bbbbbbbbbb cccccccccc dddddddddd eeeeeeeeee ffffffffff" ∷ [])
         (codes "T(1)              General Commands Manual               T(1)" ∷
         [] ∷
         bold (codes "A") ∷
         codes "    aaaaaaaaaa bbbbbbbbbb cccccccccc dddddddddd eeeeeeeeee" ∷
         codes "    ffffffffff" ∷
         [] ∷
-        codes "S                        2020-01-01                     T(1)" ∷
-        [])
+        codes "S                        2020-01-01                     T(1)" ∷ [])
         [] }
     // the indent that the settings give (mandoc(1), -O)
     ensures the_indent_that_the_settings_give { Shows (record plain { indent = Some 2 })
@@ -36,8 +34,7 @@ pub fn command_line_pages()
         bold (codes "N") ∷
         codes "     x" ∷
         [] ∷
-        codes "Z                                     d                                   T(1)" ∷
-        [])
+        codes "Z                                     d                                   T(1)" ∷ [])
         [] }
     // the narrowest page (mandoc(1), -O)
     ensures the_narrowest_page { Shows (record plain { width = 58 })
@@ -47,8 +44,7 @@ pub fn command_line_pages()
         bold (codes "A") ∷
         codes "       a b" ∷
         [] ∷
-        codes "S                       2020-01-01                    T(1)" ∷
-        [])
+        codes "S                       2020-01-01                    T(1)" ∷ [])
         [] }
 {}
 
@@ -61,14 +57,12 @@ pub fn language_pages()
         [] ∷
         codes "       x" ∷
         [] ∷
-        codes "                                                                            ()" ∷
-        [])
+        codes "                                                                            ()" ∷ [])
         (codes "mandoc: x.1:1:1: WARNING: missing manual title, using \"\"" ∷
         codes "mandoc: x.1:1:1: WARNING: unknown manual section" ∷
         codes "mandoc: x.1:1:1: WARNING: missing date, using \"\"" ∷
         codes "mandoc: x.1:1:1: WARNING: content before first section header" ∷
-        codes "mandoc: x.1:2:2: ERROR: skipping unknown macro: Dd" ∷
-        []) }
+        codes "mandoc: x.1:2:2: ERROR: skipping unknown macro: Dd" ∷ []) }
     // requests and comments before the first macro leave the language open (mandoc(1), -m)
     ensures requests_and_comments_before_the_first_macro_leave { Shows plain
         (codes ".\\\" a comment" ∷
@@ -78,15 +72,13 @@ pub fn language_pages()
         codes ".Dt T 1" ∷
         codes ".Os S" ∷
         codes ".Sh N" ∷
-        codes "x" ∷
-        [])
+        codes "x" ∷ [])
         (codes "T(1)                       General Commands Manual                        T(1)" ∷
         [] ∷
         bold (codes "N") ∷
         codes "     x" ∷
         [] ∷
-        codes "S                                     d                                   T(1)" ∷
-        [])
+        codes "S                                     d                                   T(1)" ∷ [])
         [] }
     // a macro of man(7) in a page of mdoc(7) (mandoc(1), -mdoc)
     ensures a_macro_of_man_7_in_a_page_of_mdoc_7 { Shows (record plain { language = languages.Mdoc })
@@ -95,15 +87,13 @@ pub fn language_pages()
         [] ∷
         codes "     x" ∷
         [] ∷
-        codes "                                                                            ()" ∷
-        [])
+        codes "                                                                            ()" ∷ [])
         (codes "mandoc: x.1:1:2: ERROR: skipping unknown macro: TH" ∷
         codes "mandoc: x.1:2:1: WARNING: missing manual title, using \"\"" ∷
         codes "mandoc: x.1:2:1: WARNING: unknown manual section" ∷
         codes "mandoc: x.1:2:1: WARNING: missing date, using \"\"" ∷
         codes "mandoc: x.1:2:1: WARNING: missing Os macro, using \"\"" ∷
-        codes "mandoc: x.1:2:1: WARNING: content before first section header" ∷
-        []) }
+        codes "mandoc: x.1:2:1: WARNING: content before first section header" ∷ []) }
     // a macro of mdoc(7) in a page of man(7) (mandoc(1), -man)
     ensures a_macro_of_mdoc_7_in_a_page_of_man_7 { Shows (record plain { language = languages.Man })
         (codes ".Dd d" ∷ codes "x" ∷ [])
@@ -111,14 +101,12 @@ pub fn language_pages()
         [] ∷
         codes "       x" ∷
         [] ∷
-        codes "                                                                            ()" ∷
-        [])
+        codes "                                                                            ()" ∷ [])
         (codes "mandoc: x.1:1:2: ERROR: skipping unknown macro: Dd" ∷
         codes "mandoc: x.1:2:1: WARNING: missing manual title, using \"\"" ∷
         codes "mandoc: x.1:2:1: WARNING: unknown manual section" ∷
         codes "mandoc: x.1:2:1: WARNING: missing date, using \"\"" ∷
-        codes "mandoc: x.1:2:1: WARNING: content before first section header" ∷
-        []) }
+        codes "mandoc: x.1:2:1: WARNING: content before first section header" ∷ []) }
     // the bytes of a character of UTF-8, as two of Latin-1 (mandoc(1), -K)
     ensures the_bytes_of_a_character_of_utf_8_as_two_of_latin { Shows (record plain { encoding = encodings.Latin1; output = Utf8 })
         (man_page (utf8 (codes "é") ∷ []))
@@ -129,6 +117,5 @@ pub fn language_pages()
         (man_page (utf8 (codes "é") ∷ []))
         (man_rows (codes "       ??" ∷ []))
         (codes "mandoc: x.1:3:1: ERROR: skipping bad character: 0xc3" ∷
-        codes "mandoc: x.1:3:2: ERROR: skipping bad character: 0xa9" ∷
-        []) }
+        codes "mandoc: x.1:3:2: ERROR: skipping bad character: 0xa9" ∷ []) }
 {}

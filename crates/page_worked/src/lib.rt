@@ -1,8 +1,10 @@
-//! Worked pages, as theorems: the checker computes the definitions on them, from bytes to bytes.
+//! Worked pages, as theorems: the checker computes the definitions on them, from bytes to bytes. Here are settings, lines, names, texts, messages and
+//! limits.
 //!
 //! Read `specs/Pages.antt`, the words in which they are written, and then any chapter. Each clause has the sentence of the manual that its page
 //! shows. `tools/worked` writes the chapters from the cases of `page_cases`, and `docs/check` compares them;
-//! `layers.rt` is written by hand: single layers, from the bytes of lines to rows.
+//! `layers.rt` is written by hand: single layers, from the bytes of lines to rows. The pages of the two sets of macros are in
+//! `page_worked_man` and `page_worked_mdoc`.
 //!
 //! Proved: `Shows`: what each page prints, and the messages about it (`specs/Pages.antt`).
 #![tactic(auto)]
@@ -11,11 +13,6 @@ pub mod command_lines;
 pub mod layers;
 pub mod limits;
 pub mod lines;
-pub mod man;
-pub mod mdoc_lists;
-pub mod mdoc_titles;
-pub mod mdoc_words;
 pub mod messages;
 pub mod names;
-pub mod requests;
 pub mod texts;

@@ -1,6 +1,6 @@
 //! Limits: worked pages. Written by tools/worked, from the cases of `page_cases`.
 
-ghost use Rattle.std.specs.Prelude.{[], ◌∷◌, codes};
+ghost use Rattle.std.specs.Prelude.{[], ◌∷◌, ◌++◌, codes, replicate};
 ghost use Rattle.page_worked.specs.Pages.{Shows, plain, bold, man_page, man_rows};
 
 /// Bounds.
@@ -15,8 +15,7 @@ pub fn bounds_pages_1()
         codes ".Bl -column 1 22 333 4 5 6 7 8 9 10 11 12 13 14 15 16 17" ∷
         codes ".It a Ta b Ta c" ∷
         codes ".It d" ∷
-        codes ".El" ∷
-        [])
+        codes ".El" ∷ [])
         (codes "T(1)                       General Commands Manual                        T(1)" ∷
         [] ∷
         bold (codes "A") ∷
@@ -25,8 +24,7 @@ pub fn bounds_pages_1()
         codes "     a    b     c" ∷
         codes "     d" ∷
         [] ∷
-        codes "Z                                     d                                   T(1)" ∷
-        [])
+        codes "Z                                     d                                   T(1)" ∷ [])
         (codes "mandoc: x.1:6:2: ERROR: limit exceeded, skipping: COLUMNS" ∷ []) }
     // lists in lists up to the limit of open scopes (mdoc(7), Bl)
     ensures lists_in_lists_up_to_the_limit_of_open_scopes { Shows plain
@@ -100,8 +98,7 @@ pub fn bounds_pages_1()
         codes ".It" ∷
         codes ".Bl -bullet -compact" ∷
         codes ".It" ∷
-        codes "x" ∷
-        [])
+        codes "x" ∷ [])
         (codes "T(1)                       General Commands Manual                        T(1)" ∷
         [] ∷
         bold (codes "A") ∷
@@ -138,44 +135,11 @@ pub fn bounds_pages_1()
         codes "                                                                                                                             o" ∷
         codes "                                                                                                                                 x" ∷
         [] ∷
-        codes "Z                                     d                                   T(1)" ∷
-        [])
+        codes "Z                                     d                                   T(1)" ∷ [])
         (codes "mandoc: x.1:68:2: ERROR: limit exceeded, skipping: SCOPES" ∷
         codes "mandoc: x.1:69:2: ERROR: limit exceeded, skipping: SCOPES" ∷
         codes "mandoc: x.1:70:2: ERROR: limit exceeded, skipping: SCOPES" ∷
-        codes "mandoc: x.1:71:1: ERROR: appending missing end of block: Bl" ∷
-        codes "mandoc: x.1:71:1: ERROR: appending missing end of block: Bl" ∷
-        codes "mandoc: x.1:71:1: ERROR: appending missing end of block: Bl" ∷
-        codes "mandoc: x.1:71:1: ERROR: appending missing end of block: Bl" ∷
-        codes "mandoc: x.1:71:1: ERROR: appending missing end of block: Bl" ∷
-        codes "mandoc: x.1:71:1: ERROR: appending missing end of block: Bl" ∷
-        codes "mandoc: x.1:71:1: ERROR: appending missing end of block: Bl" ∷
-        codes "mandoc: x.1:71:1: ERROR: appending missing end of block: Bl" ∷
-        codes "mandoc: x.1:71:1: ERROR: appending missing end of block: Bl" ∷
-        codes "mandoc: x.1:71:1: ERROR: appending missing end of block: Bl" ∷
-        codes "mandoc: x.1:71:1: ERROR: appending missing end of block: Bl" ∷
-        codes "mandoc: x.1:71:1: ERROR: appending missing end of block: Bl" ∷
-        codes "mandoc: x.1:71:1: ERROR: appending missing end of block: Bl" ∷
-        codes "mandoc: x.1:71:1: ERROR: appending missing end of block: Bl" ∷
-        codes "mandoc: x.1:71:1: ERROR: appending missing end of block: Bl" ∷
-        codes "mandoc: x.1:71:1: ERROR: appending missing end of block: Bl" ∷
-        codes "mandoc: x.1:71:1: ERROR: appending missing end of block: Bl" ∷
-        codes "mandoc: x.1:71:1: ERROR: appending missing end of block: Bl" ∷
-        codes "mandoc: x.1:71:1: ERROR: appending missing end of block: Bl" ∷
-        codes "mandoc: x.1:71:1: ERROR: appending missing end of block: Bl" ∷
-        codes "mandoc: x.1:71:1: ERROR: appending missing end of block: Bl" ∷
-        codes "mandoc: x.1:71:1: ERROR: appending missing end of block: Bl" ∷
-        codes "mandoc: x.1:71:1: ERROR: appending missing end of block: Bl" ∷
-        codes "mandoc: x.1:71:1: ERROR: appending missing end of block: Bl" ∷
-        codes "mandoc: x.1:71:1: ERROR: appending missing end of block: Bl" ∷
-        codes "mandoc: x.1:71:1: ERROR: appending missing end of block: Bl" ∷
-        codes "mandoc: x.1:71:1: ERROR: appending missing end of block: Bl" ∷
-        codes "mandoc: x.1:71:1: ERROR: appending missing end of block: Bl" ∷
-        codes "mandoc: x.1:71:1: ERROR: appending missing end of block: Bl" ∷
-        codes "mandoc: x.1:71:1: ERROR: appending missing end of block: Bl" ∷
-        codes "mandoc: x.1:71:1: ERROR: appending missing end of block: Bl" ∷
-        codes "mandoc: x.1:71:1: ERROR: appending missing end of block: Bl" ∷
-        []) }
+        replicate 32 (codes "mandoc: x.1:71:1: ERROR: appending missing end of block: Bl")) }
     // a macro that calls itself (roff(7), de; mandoc(1), DIAGNOSTICS)
     ensures a_macro_that_calls_itself { Shows plain
         (man_page (codes ".de r" ∷ codes ".r" ∷ codes ".." ∷ codes ".r" ∷ []))
@@ -234,8 +198,7 @@ pub fn bounds_pages_1()
         codes ".de m17" ∷
         codes "x" ∷
         codes ".." ∷
-        codes ".m1" ∷
-        []))
+        codes ".m1" ∷ []))
         (man_rows (codes "       x" ∷ []))
         [] }
     // seventeen of them (mandoc(1), DIAGNOSTICS)
@@ -291,8 +254,7 @@ pub fn bounds_pages_1()
         codes ".de m17" ∷
         codes ".m17" ∷
         codes ".." ∷
-        codes ".m1" ∷
-        []))
+        codes ".m1" ∷ []))
         (man_rows [])
         (codes "mandoc: x.1:54:2: ERROR: input stack limit exceeded, infinite loop?: CALLS" ∷ []) }
     // two macros that call each other (mandoc(1), DIAGNOSTICS)
@@ -304,8 +266,7 @@ pub fn bounds_pages_1()
         codes ".a" ∷
         codes ".." ∷
         codes ".a" ∷
-        codes "x" ∷
-        []))
+        codes "x" ∷ []))
         (man_rows (codes "       x" ∷ []))
         (codes "mandoc: x.1:9:2: ERROR: input stack limit exceeded, infinite loop?: CALLS" ∷ []) }
     // a string that names itself (roff(7), ds; mandoc(1), DIAGNOSTICS)
@@ -315,354 +276,20 @@ pub fn bounds_pages_1()
         (codes "mandoc: x.1:4:1: ERROR: input stack limit exceeded, infinite loop?: NEST" ∷ []) }
     // sixty-four scopes, and one more (man(7), RS; mandoc(1), DIAGNOSTICS)
     ensures sixty_four_scopes_and_one_more { Shows plain
-        (man_page (codes ".RS 1" ∷
-        codes ".RS 1" ∷
-        codes ".RS 1" ∷
-        codes ".RS 1" ∷
-        codes ".RS 1" ∷
-        codes ".RS 1" ∷
-        codes ".RS 1" ∷
-        codes ".RS 1" ∷
-        codes ".RS 1" ∷
-        codes ".RS 1" ∷
-        codes ".RS 1" ∷
-        codes ".RS 1" ∷
-        codes ".RS 1" ∷
-        codes ".RS 1" ∷
-        codes ".RS 1" ∷
-        codes ".RS 1" ∷
-        codes ".RS 1" ∷
-        codes ".RS 1" ∷
-        codes ".RS 1" ∷
-        codes ".RS 1" ∷
-        codes ".RS 1" ∷
-        codes ".RS 1" ∷
-        codes ".RS 1" ∷
-        codes ".RS 1" ∷
-        codes ".RS 1" ∷
-        codes ".RS 1" ∷
-        codes ".RS 1" ∷
-        codes ".RS 1" ∷
-        codes ".RS 1" ∷
-        codes ".RS 1" ∷
-        codes ".RS 1" ∷
-        codes ".RS 1" ∷
-        codes ".RS 1" ∷
-        codes ".RS 1" ∷
-        codes ".RS 1" ∷
-        codes ".RS 1" ∷
-        codes ".RS 1" ∷
-        codes ".RS 1" ∷
-        codes ".RS 1" ∷
-        codes ".RS 1" ∷
-        codes ".RS 1" ∷
-        codes ".RS 1" ∷
-        codes ".RS 1" ∷
-        codes ".RS 1" ∷
-        codes ".RS 1" ∷
-        codes ".RS 1" ∷
-        codes ".RS 1" ∷
-        codes ".RS 1" ∷
-        codes ".RS 1" ∷
-        codes ".RS 1" ∷
-        codes ".RS 1" ∷
-        codes ".RS 1" ∷
-        codes ".RS 1" ∷
-        codes ".RS 1" ∷
-        codes ".RS 1" ∷
-        codes ".RS 1" ∷
-        codes ".RS 1" ∷
-        codes ".RS 1" ∷
-        codes ".RS 1" ∷
-        codes ".RS 1" ∷
-        codes ".RS 1" ∷
-        codes ".RS 1" ∷
-        codes ".RS 1" ∷
-        codes ".RS 1" ∷
-        codes "x" ∷
-        codes ".RE" ∷
-        codes "y" ∷
-        []))
+        (man_page (replicate 64 (codes ".RS 1") ++ codes "x" ∷ codes ".RE" ∷ codes "y" ∷ []))
         (man_rows (codes "                                                                      x" ∷
-        codes "                                                                     y" ∷
-        []))
+        codes "                                                                     y" ∷ []))
         (codes "mandoc: x.1:66:2: ERROR: limit exceeded, skipping: SCOPES" ∷
-        codes "mandoc: x.1:69:1: ERROR: appending missing end of block: RS" ∷
-        codes "mandoc: x.1:69:1: ERROR: appending missing end of block: RS" ∷
-        codes "mandoc: x.1:69:1: ERROR: appending missing end of block: RS" ∷
-        codes "mandoc: x.1:69:1: ERROR: appending missing end of block: RS" ∷
-        codes "mandoc: x.1:69:1: ERROR: appending missing end of block: RS" ∷
-        codes "mandoc: x.1:69:1: ERROR: appending missing end of block: RS" ∷
-        codes "mandoc: x.1:69:1: ERROR: appending missing end of block: RS" ∷
-        codes "mandoc: x.1:69:1: ERROR: appending missing end of block: RS" ∷
-        codes "mandoc: x.1:69:1: ERROR: appending missing end of block: RS" ∷
-        codes "mandoc: x.1:69:1: ERROR: appending missing end of block: RS" ∷
-        codes "mandoc: x.1:69:1: ERROR: appending missing end of block: RS" ∷
-        codes "mandoc: x.1:69:1: ERROR: appending missing end of block: RS" ∷
-        codes "mandoc: x.1:69:1: ERROR: appending missing end of block: RS" ∷
-        codes "mandoc: x.1:69:1: ERROR: appending missing end of block: RS" ∷
-        codes "mandoc: x.1:69:1: ERROR: appending missing end of block: RS" ∷
-        codes "mandoc: x.1:69:1: ERROR: appending missing end of block: RS" ∷
-        codes "mandoc: x.1:69:1: ERROR: appending missing end of block: RS" ∷
-        codes "mandoc: x.1:69:1: ERROR: appending missing end of block: RS" ∷
-        codes "mandoc: x.1:69:1: ERROR: appending missing end of block: RS" ∷
-        codes "mandoc: x.1:69:1: ERROR: appending missing end of block: RS" ∷
-        codes "mandoc: x.1:69:1: ERROR: appending missing end of block: RS" ∷
-        codes "mandoc: x.1:69:1: ERROR: appending missing end of block: RS" ∷
-        codes "mandoc: x.1:69:1: ERROR: appending missing end of block: RS" ∷
-        codes "mandoc: x.1:69:1: ERROR: appending missing end of block: RS" ∷
-        codes "mandoc: x.1:69:1: ERROR: appending missing end of block: RS" ∷
-        codes "mandoc: x.1:69:1: ERROR: appending missing end of block: RS" ∷
-        codes "mandoc: x.1:69:1: ERROR: appending missing end of block: RS" ∷
-        codes "mandoc: x.1:69:1: ERROR: appending missing end of block: RS" ∷
-        codes "mandoc: x.1:69:1: ERROR: appending missing end of block: RS" ∷
-        codes "mandoc: x.1:69:1: ERROR: appending missing end of block: RS" ∷
-        codes "mandoc: x.1:69:1: ERROR: appending missing end of block: RS" ∷
-        codes "mandoc: x.1:69:1: ERROR: appending missing end of block: RS" ∷
-        codes "mandoc: x.1:69:1: ERROR: appending missing end of block: RS" ∷
-        codes "mandoc: x.1:69:1: ERROR: appending missing end of block: RS" ∷
-        codes "mandoc: x.1:69:1: ERROR: appending missing end of block: RS" ∷
-        codes "mandoc: x.1:69:1: ERROR: appending missing end of block: RS" ∷
-        codes "mandoc: x.1:69:1: ERROR: appending missing end of block: RS" ∷
-        codes "mandoc: x.1:69:1: ERROR: appending missing end of block: RS" ∷
-        codes "mandoc: x.1:69:1: ERROR: appending missing end of block: RS" ∷
-        codes "mandoc: x.1:69:1: ERROR: appending missing end of block: RS" ∷
-        codes "mandoc: x.1:69:1: ERROR: appending missing end of block: RS" ∷
-        codes "mandoc: x.1:69:1: ERROR: appending missing end of block: RS" ∷
-        codes "mandoc: x.1:69:1: ERROR: appending missing end of block: RS" ∷
-        codes "mandoc: x.1:69:1: ERROR: appending missing end of block: RS" ∷
-        codes "mandoc: x.1:69:1: ERROR: appending missing end of block: RS" ∷
-        codes "mandoc: x.1:69:1: ERROR: appending missing end of block: RS" ∷
-        codes "mandoc: x.1:69:1: ERROR: appending missing end of block: RS" ∷
-        codes "mandoc: x.1:69:1: ERROR: appending missing end of block: RS" ∷
-        codes "mandoc: x.1:69:1: ERROR: appending missing end of block: RS" ∷
-        codes "mandoc: x.1:69:1: ERROR: appending missing end of block: RS" ∷
-        codes "mandoc: x.1:69:1: ERROR: appending missing end of block: RS" ∷
-        codes "mandoc: x.1:69:1: ERROR: appending missing end of block: RS" ∷
-        codes "mandoc: x.1:69:1: ERROR: appending missing end of block: RS" ∷
-        codes "mandoc: x.1:69:1: ERROR: appending missing end of block: RS" ∷
-        codes "mandoc: x.1:69:1: ERROR: appending missing end of block: RS" ∷
-        codes "mandoc: x.1:69:1: ERROR: appending missing end of block: RS" ∷
-        codes "mandoc: x.1:69:1: ERROR: appending missing end of block: RS" ∷
-        codes "mandoc: x.1:69:1: ERROR: appending missing end of block: RS" ∷
-        codes "mandoc: x.1:69:1: ERROR: appending missing end of block: RS" ∷
-        codes "mandoc: x.1:69:1: ERROR: appending missing end of block: RS" ∷
-        codes "mandoc: x.1:69:1: ERROR: appending missing end of block: RS" ∷
-        codes "mandoc: x.1:69:1: ERROR: appending missing end of block: RS" ∷
-        []) }
+        replicate 62 (codes "mandoc: x.1:69:1: ERROR: appending missing end of block: RS")) }
     // a hundred blank rows (roff(7), sp)
     ensures a_hundred_blank_rows { Shows plain
         (man_page (codes "x" ∷ codes ".sp 100" ∷ codes "y" ∷ []))
-        (man_rows (codes "       x" ∷
-        [] ∷
-        [] ∷
-        [] ∷
-        [] ∷
-        [] ∷
-        [] ∷
-        [] ∷
-        [] ∷
-        [] ∷
-        [] ∷
-        [] ∷
-        [] ∷
-        [] ∷
-        [] ∷
-        [] ∷
-        [] ∷
-        [] ∷
-        [] ∷
-        [] ∷
-        [] ∷
-        [] ∷
-        [] ∷
-        [] ∷
-        [] ∷
-        [] ∷
-        [] ∷
-        [] ∷
-        [] ∷
-        [] ∷
-        [] ∷
-        [] ∷
-        [] ∷
-        [] ∷
-        [] ∷
-        [] ∷
-        [] ∷
-        [] ∷
-        [] ∷
-        [] ∷
-        [] ∷
-        [] ∷
-        [] ∷
-        [] ∷
-        [] ∷
-        [] ∷
-        [] ∷
-        [] ∷
-        [] ∷
-        [] ∷
-        [] ∷
-        [] ∷
-        [] ∷
-        [] ∷
-        [] ∷
-        [] ∷
-        [] ∷
-        [] ∷
-        [] ∷
-        [] ∷
-        [] ∷
-        [] ∷
-        [] ∷
-        [] ∷
-        [] ∷
-        [] ∷
-        [] ∷
-        [] ∷
-        [] ∷
-        [] ∷
-        [] ∷
-        [] ∷
-        [] ∷
-        [] ∷
-        [] ∷
-        [] ∷
-        [] ∷
-        [] ∷
-        [] ∷
-        [] ∷
-        [] ∷
-        [] ∷
-        [] ∷
-        [] ∷
-        [] ∷
-        [] ∷
-        [] ∷
-        [] ∷
-        [] ∷
-        [] ∷
-        [] ∷
-        [] ∷
-        [] ∷
-        [] ∷
-        [] ∷
-        [] ∷
-        [] ∷
-        [] ∷
-        [] ∷
-        [] ∷
-        [] ∷
-        codes "       y" ∷
-        []))
+        (man_rows (codes "       x" ∷ replicate 100 [] ++ codes "       y" ∷ []))
         [] }
     // a blank row more (roff(7), sp)
     ensures a_blank_row_more { Shows plain
         (man_page (codes "x" ∷ codes ".sp 101" ∷ codes "y" ∷ []))
-        (man_rows (codes "       x" ∷
-        [] ∷
-        [] ∷
-        [] ∷
-        [] ∷
-        [] ∷
-        [] ∷
-        [] ∷
-        [] ∷
-        [] ∷
-        [] ∷
-        [] ∷
-        [] ∷
-        [] ∷
-        [] ∷
-        [] ∷
-        [] ∷
-        [] ∷
-        [] ∷
-        [] ∷
-        [] ∷
-        [] ∷
-        [] ∷
-        [] ∷
-        [] ∷
-        [] ∷
-        [] ∷
-        [] ∷
-        [] ∷
-        [] ∷
-        [] ∷
-        [] ∷
-        [] ∷
-        [] ∷
-        [] ∷
-        [] ∷
-        [] ∷
-        [] ∷
-        [] ∷
-        [] ∷
-        [] ∷
-        [] ∷
-        [] ∷
-        [] ∷
-        [] ∷
-        [] ∷
-        [] ∷
-        [] ∷
-        [] ∷
-        [] ∷
-        [] ∷
-        [] ∷
-        [] ∷
-        [] ∷
-        [] ∷
-        [] ∷
-        [] ∷
-        [] ∷
-        [] ∷
-        [] ∷
-        [] ∷
-        [] ∷
-        [] ∷
-        [] ∷
-        [] ∷
-        [] ∷
-        [] ∷
-        [] ∷
-        [] ∷
-        [] ∷
-        [] ∷
-        [] ∷
-        [] ∷
-        [] ∷
-        [] ∷
-        [] ∷
-        [] ∷
-        [] ∷
-        [] ∷
-        [] ∷
-        [] ∷
-        [] ∷
-        [] ∷
-        [] ∷
-        [] ∷
-        [] ∷
-        [] ∷
-        [] ∷
-        [] ∷
-        [] ∷
-        [] ∷
-        [] ∷
-        [] ∷
-        [] ∷
-        [] ∷
-        [] ∷
-        [] ∷
-        [] ∷
-        [] ∷
-        [] ∷
-        [] ∷
-        codes "       y" ∷
-        []))
+        (man_rows (codes "       x" ∷ replicate 100 [] ++ codes "       y" ∷ []))
         (codes "mandoc: x.1:4:2: ERROR: limit exceeded, skipping: BLANKS" ∷ []) }
     // sixteen strings inside one another (roff(7), ds)
     ensures sixteen_strings_inside_one_another { Shows plain
@@ -683,8 +310,7 @@ pub fn bounds_pages_1()
         codes ".ds s14 \\\\*[s13]" ∷
         codes ".ds s15 \\\\*[s14]" ∷
         codes ".ds s16 \\\\*[s15]" ∷
-        codes "\\*[s15]" ∷
-        []))
+        codes "\\*[s15]" ∷ []))
         (man_rows (codes "       x" ∷ []))
         [] }
     // seventeen of them (roff(7), ds; mandoc(1), DIAGNOSTICS)
@@ -706,8 +332,7 @@ pub fn bounds_pages_1()
         codes ".ds s14 \\\\*[s13]" ∷
         codes ".ds s15 \\\\*[s14]" ∷
         codes ".ds s16 \\\\*[s15]" ∷
-        codes "\\*[s16]" ∷
-        []))
+        codes "\\*[s16]" ∷ []))
         (man_rows [])
         (codes "mandoc: x.1:20:1: ERROR: input stack limit exceeded, infinite loop?: NEST" ∷ []) }
 {}
@@ -723,8 +348,7 @@ pub fn bounds_pages_2()
         codes "x" ∷
         codes ".Bl -column 1 2 3 4 5 6 7 8 9 10 11 12 13 14 15 16" ∷
         codes ".It a" ∷
-        codes ".El" ∷
-        [])
+        codes ".El" ∷ [])
         (codes "T(1)                       General Commands Manual                        T(1)" ∷
         [] ∷
         bold (codes "A") ∷
@@ -732,7 +356,6 @@ pub fn bounds_pages_2()
         [] ∷
         codes "     a" ∷
         [] ∷
-        codes "Z                                     d                                   T(1)" ∷
-        [])
+        codes "Z                                     d                                   T(1)" ∷ [])
         [] }
 {}

@@ -20,8 +20,7 @@ pub fn lines_pages()
         (man_page (codes ".B \"\\X\"\"" ∷ codes "x" ∷ []))
         (man_rows (codes "       x" ∷ []))
         (codes "mandoc: x.1:3:4: WARNING: unterminated quoted argument" ∷
-        codes "mandoc: x.1:3:5: WARNING: invalid escape sequence: \\X\"" ∷
-        []) }
+        codes "mandoc: x.1:3:5: WARNING: invalid escape sequence: \\X\"" ∷ []) }
     // two quotes outside quoted arguments (roff(7), Macro syntax)
     ensures two_quotes_outside_quoted_arguments { Shows plain
         (man_page (codes "a \\X'\"\"" ∷ []))
@@ -43,21 +42,18 @@ pub fn lines_pages()
         (man_rows (codes "       y" ∷ []))
         (codes "mandoc: x.1:4:2: STYLE: whitespace at end of input line" ∷
         codes "mandoc: x.1:7:2: STYLE: whitespace at end of input line" ∷
-        codes "mandoc: x.1:9:2: STYLE: whitespace at end of input line" ∷
-        []) }
+        codes "mandoc: x.1:9:2: STYLE: whitespace at end of input line" ∷ []) }
     // a hyphen in a quoted argument, and one after a quote in it (roff(7), MACRO SYNTAX; man(7), B)
     ensures a_hyphen_in_a_quoted_argument_and_one_after_a { Shows plain
         (man_page (codes "aaaaaaaaaaaaaaaaaaaaaaaaaaaaaaaaaaaaaaaaaaaaaaaaaaaaaaaaaaaaaaaaaa" ∷
         codes ".B \"bb-cc\"" ∷
         codes ".PP" ∷
         codes "aaaaaaaaaaaaaaaaaaaaaaaaaaaaaaaaaaaaaaaaaaaaaaaaaaaaaaaaaaaaaaaaaa" ∷
-        codes ".B \"b\"\"-cc\"" ∷
-        []))
+        codes ".B \"b\"\"-cc\"" ∷ []))
         (man_rows ((codes "       aaaaaaaaaaaaaaaaaaaaaaaaaaaaaaaaaaaaaaaaaaaaaaaaaaaaaaaaaaaaaaaaaa " ++ bold (codes "bb-")) ∷
         (codes "       " ++ bold (codes "cc")) ∷
         [] ∷
         codes "       aaaaaaaaaaaaaaaaaaaaaaaaaaaaaaaaaaaaaaaaaaaaaaaaaaaaaaaaaaaaaaaaaa" ∷
-        (codes "       " ++ bold (codes "b\"-cc")) ∷
-        []))
+        (codes "       " ++ bold (codes "b\"-cc")) ∷ []))
         [] }
 {}

@@ -12,20 +12,17 @@ pub fn messages_pages_1()
         []
         (codes "()                                                                          ()" ∷
         [] ∷
-        codes "                                                                            ()" ∷
-        [])
+        codes "                                                                            ()" ∷ [])
         (codes "mandoc: x.1:1:1: WARNING: missing manual title, using \"\"" ∷
         codes "mandoc: x.1:1:1: WARNING: unknown manual section" ∷
         codes "mandoc: x.1:1:1: WARNING: missing date, using \"\"" ∷
-        codes "mandoc: x.1:1:1: WARNING: no document body" ∷
-        []) }
+        codes "mandoc: x.1:1:1: WARNING: no document body" ∷ []) }
     // an empty page (mandoc(1), -W)
     ensures an_empty_page_too { Shows (record plain { least = None })
         []
         (codes "()                                                                          ()" ∷
         [] ∷
-        codes "                                                                            ()" ∷
-        [])
+        codes "                                                                            ()" ∷ [])
         [] }
     // an empty page (mandoc(1), -T lint)
     ensures an_empty_page_too_too { Shows (record plain { output = Lint })
@@ -34,8 +31,7 @@ pub fn messages_pages_1()
         (codes "mandoc: x.1:1:1: WARNING: missing manual title, using \"\"" ∷
         codes "mandoc: x.1:1:1: WARNING: unknown manual section" ∷
         codes "mandoc: x.1:1:1: WARNING: missing date, using \"\"" ∷
-        codes "mandoc: x.1:1:1: WARNING: no document body" ∷
-        []) }
+        codes "mandoc: x.1:1:1: WARNING: no document body" ∷ []) }
     // messages by their level (mandoc(1), -W)
     ensures messages_by_their_level { Shows (record plain { least = None })
         (man_page (codes ".ZZ" ∷ codes "a" ∷ codes "" ∷ codes "b" ∷ []))
@@ -46,15 +42,13 @@ pub fn messages_pages_1()
         (man_page (codes ".ZZ" ∷ codes "a" ∷ codes "" ∷ codes "b" ∷ []))
         (man_rows (codes "       a" ∷ [] ∷ codes "       b" ∷ []))
         (codes "mandoc: x.1:3:2: ERROR: skipping unknown macro: ZZ" ∷
-        codes "mandoc: x.1:5:1: WARNING: blank line in fill mode, using .sp" ∷
-        []) }
+        codes "mandoc: x.1:5:1: WARNING: blank line in fill mode, using .sp" ∷ []) }
     // messages by their level (mandoc(1), -W)
     ensures messages_by_their_level_too_too { Shows (record plain { least = Some levels.Warning })
         (man_page (codes ".ZZ" ∷ codes "a" ∷ codes "" ∷ codes "b" ∷ []))
         (man_rows (codes "       a" ∷ [] ∷ codes "       b" ∷ []))
         (codes "mandoc: x.1:3:2: ERROR: skipping unknown macro: ZZ" ∷
-        codes "mandoc: x.1:5:1: WARNING: blank line in fill mode, using .sp" ∷
-        []) }
+        codes "mandoc: x.1:5:1: WARNING: blank line in fill mode, using .sp" ∷ []) }
     // messages by their level (mandoc(1), -W)
     ensures messages_by_their_level_too_too_too { Shows (record plain { least = Some levels.Error })
         (man_page (codes ".ZZ" ∷ codes "a" ∷ codes "" ∷ codes "b" ∷ []))
@@ -83,12 +77,10 @@ pub fn messages_pages_1()
         bold (codes "NAME") ∷
         codes "       t - x" ∷
         [] ∷
-        codes "S                                 2020-01-01                              T(1)" ∷
-        [])
+        codes "S                                 2020-01-01                              T(1)" ∷ [])
         (codes "mandoc: x.1:3:7: STYLE: whitespace at end of input line" ∷
         codes "mandoc: x.1:4:1: WARNING: undefined string, using \"\": zz" ∷
-        codes "mandoc: x.1:5:2: ERROR: skipping unknown macro: ZZ" ∷
-        []) }
+        codes "mandoc: x.1:5:2: ERROR: skipping unknown macro: ZZ" ∷ []) }
     // a message of each of three levels (mandoc(1), -W)
     ensures a_message_of_each_of_three_levels_too { Shows (record plain { least = Some levels.Style })
         (codes ".TH T 1 2020-01-01 S" ∷ codes ".SH NAME" ∷ codes "t \\- x " ∷ codes "\\*(zz" ∷ codes ".ZZ" ∷ [])
@@ -97,12 +89,10 @@ pub fn messages_pages_1()
         bold (codes "NAME") ∷
         codes "       t - x" ∷
         [] ∷
-        codes "S                                 2020-01-01                              T(1)" ∷
-        [])
+        codes "S                                 2020-01-01                              T(1)" ∷ [])
         (codes "mandoc: x.1:3:7: STYLE: whitespace at end of input line" ∷
         codes "mandoc: x.1:4:1: WARNING: undefined string, using \"\": zz" ∷
-        codes "mandoc: x.1:5:2: ERROR: skipping unknown macro: ZZ" ∷
-        []) }
+        codes "mandoc: x.1:5:2: ERROR: skipping unknown macro: ZZ" ∷ []) }
 {}
 
 /// Messages.
@@ -115,11 +105,9 @@ pub fn messages_pages_2()
         bold (codes "NAME") ∷
         codes "       t - x" ∷
         [] ∷
-        codes "S                                 2020-01-01                              T(1)" ∷
-        [])
+        codes "S                                 2020-01-01                              T(1)" ∷ [])
         (codes "mandoc: x.1:4:1: WARNING: undefined string, using \"\": zz" ∷
-        codes "mandoc: x.1:5:2: ERROR: skipping unknown macro: ZZ" ∷
-        []) }
+        codes "mandoc: x.1:5:2: ERROR: skipping unknown macro: ZZ" ∷ []) }
     // a message of each of three levels (mandoc(1), -W)
     ensures a_message_of_each_of_three_levels_too { Shows (record plain { least = Some levels.Error })
         (codes ".TH T 1 2020-01-01 S" ∷ codes ".SH NAME" ∷ codes "t \\- x " ∷ codes "\\*(zz" ∷ codes ".ZZ" ∷ [])
@@ -128,8 +116,7 @@ pub fn messages_pages_2()
         bold (codes "NAME") ∷
         codes "       t - x" ∷
         [] ∷
-        codes "S                                 2020-01-01                              T(1)" ∷
-        [])
+        codes "S                                 2020-01-01                              T(1)" ∷ [])
         (codes "mandoc: x.1:5:2: ERROR: skipping unknown macro: ZZ" ∷ []) }
     // a message of each of three levels (mandoc(1), -W)
     ensures a_message_of_each_of_three_levels_too_too { Shows (record plain { least = Some levels.Unsupp })
@@ -139,8 +126,7 @@ pub fn messages_pages_2()
         bold (codes "NAME") ∷
         codes "       t - x" ∷
         [] ∷
-        codes "S                                 2020-01-01                              T(1)" ∷
-        [])
+        codes "S                                 2020-01-01                              T(1)" ∷ [])
         [] }
     // a message of each of three levels (mandoc(1), -W)
     ensures a_message_of_each_of_three_levels_too_too_too { Shows (record plain { least = None })
@@ -150,8 +136,7 @@ pub fn messages_pages_2()
         bold (codes "NAME") ∷
         codes "       t - x" ∷
         [] ∷
-        codes "S                                 2020-01-01                              T(1)" ∷
-        [])
+        codes "S                                 2020-01-01                              T(1)" ∷ [])
         [] }
     // a message of each of three levels (mandoc(1), -W and -T lint)
     ensures a_message_of_each_of_three_levels_too_too_too_too { Shows (record plain { output = Lint })
@@ -159,23 +144,20 @@ pub fn messages_pages_2()
         []
         (codes "mandoc: x.1:3:7: STYLE: whitespace at end of input line" ∷
         codes "mandoc: x.1:4:1: WARNING: undefined string, using \"\": zz" ∷
-        codes "mandoc: x.1:5:2: ERROR: skipping unknown macro: ZZ" ∷
-        []) }
+        codes "mandoc: x.1:5:2: ERROR: skipping unknown macro: ZZ" ∷ []) }
     // a message of each of three levels (mandoc(1), -W and -T lint)
     ensures a_message_of_each_of_three_levels_too_too_too_too_too { Shows (record plain { output = Lint; least = Some levels.Style })
         (codes ".TH T 1 2020-01-01 S" ∷ codes ".SH NAME" ∷ codes "t \\- x " ∷ codes "\\*(zz" ∷ codes ".ZZ" ∷ [])
         []
         (codes "mandoc: x.1:3:7: STYLE: whitespace at end of input line" ∷
         codes "mandoc: x.1:4:1: WARNING: undefined string, using \"\": zz" ∷
-        codes "mandoc: x.1:5:2: ERROR: skipping unknown macro: ZZ" ∷
-        []) }
+        codes "mandoc: x.1:5:2: ERROR: skipping unknown macro: ZZ" ∷ []) }
     // a message of each of three levels (mandoc(1), -W and -T lint)
     ensures a_message_of_each_of_three_levels_too_too_too_too_too_too { Shows (record plain { output = Lint; least = Some levels.Warning })
         (codes ".TH T 1 2020-01-01 S" ∷ codes ".SH NAME" ∷ codes "t \\- x " ∷ codes "\\*(zz" ∷ codes ".ZZ" ∷ [])
         []
         (codes "mandoc: x.1:4:1: WARNING: undefined string, using \"\": zz" ∷
-        codes "mandoc: x.1:5:2: ERROR: skipping unknown macro: ZZ" ∷
-        []) }
+        codes "mandoc: x.1:5:2: ERROR: skipping unknown macro: ZZ" ∷ []) }
     // a message of each of three levels (mandoc(1), -W and -T lint)
     ensures a_message_of_each_of_three_levels_too_too_too_too_too_too_too { Shows (record plain { output = Lint; least = Some levels.Error })
         (codes ".TH T 1 2020-01-01 S" ∷ codes ".SH NAME" ∷ codes "t \\- x " ∷ codes "\\*(zz" ∷ codes ".ZZ" ∷ [])

@@ -13,8 +13,7 @@ pub fn strings_pages_1()
         codes ".el \\{\\" ∷
         codes ".ds q cd" ∷
         codes "'br\\}" ∷
-        codes "\\*q" ∷
-        []))
+        codes "\\*q" ∷ []))
         (man_rows (codes "       ab" ∷ []))
         [] }
     // a macro with an argument (roff(7), de)
@@ -31,8 +30,7 @@ pub fn strings_pages_1()
         codes "old" ∷
         codes ".." ∷
         codes ".m" ∷
-        codes ".m" ∷
-        []))
+        codes ".m" ∷ []))
         (man_rows (codes "       old new" ∷ []))
         [] }
     // an expression without precedence (roff(7), Numerical expressions)
@@ -103,8 +101,7 @@ pub fn strings_pages_2()
         codes ".nr i +1" ∷
         codes ".\\}" ∷
         codes ".." ∷
-        codes ".m you" ∷
-        []))
+        codes ".m you" ∷ []))
         (man_rows (codes "       you you" ∷ []))
         [] }
     // a loop that the page leaves open (roff(7), while)
@@ -131,8 +128,7 @@ pub fn strings_pages_2()
         codes ".am A" ∷
         codes "x" ∷
         codes ".." ∷
-        codes ".A q" ∷
-        []))
+        codes ".A q" ∷ []))
         (man_rows (codes "       [a b c] [\"a\" \"b c\"] [q] [\"q\"] x" ∷ []))
         [] }
     // a condition that does not hold still begins a region (roff(7), if and ig)
@@ -155,14 +151,12 @@ pub fn strings_pages_2()
         (codes ".ig" ∷ codes "x" ∷ [])
         (codes "()                                                                          ()" ∷
         [] ∷
-        codes "                                                                            ()" ∷
-        [])
+        codes "                                                                            ()" ∷ [])
         (codes "mandoc: x.1:2:1: ERROR: appending missing end of block: ig" ∷
         codes "mandoc: x.1:2:1: WARNING: missing manual title, using \"\"" ∷
         codes "mandoc: x.1:2:1: WARNING: unknown manual section" ∷
         codes "mandoc: x.1:2:1: WARNING: missing date, using \"\"" ∷
-        codes "mandoc: x.1:2:1: WARNING: no document body" ∷
-        []) }
+        codes "mandoc: x.1:2:1: WARNING: no document body" ∷ []) }
     // a macro that leaves a blank row in one output (roff(7), if and sp)
     ensures a_macro_that_leaves_a_blank_row_in_one_output { Shows plain
         (man_page (codes ".de Sp" ∷
@@ -171,8 +165,7 @@ pub fn strings_pages_2()
         codes ".." ∷
         codes "a" ∷
         codes ".Sp" ∷
-        codes "b" ∷
-        []))
+        codes "b" ∷ []))
         (man_rows (codes "       a" ∷ [] ∷ codes "       b" ∷ []))
         [] }
 {}
@@ -204,6 +197,5 @@ pub fn strings_pages_3()
         (man_page (codes ".EQ" ∷ codes "x" ∷ codes ".EN" ∷ codes ".PS" ∷ codes "y" ∷ codes ".PE" ∷ []))
         (man_rows (codes "       x" ∷ codes "       y" ∷ []))
         (codes "mandoc: x.1:3:2: UNSUPP: unsupported table, equation or picture" ∷
-        codes "mandoc: x.1:6:2: UNSUPP: unsupported table, equation or picture" ∷
-        []) }
+        codes "mandoc: x.1:6:2: UNSUPP: unsupported table, equation or picture" ∷ []) }
 {}

@@ -35,8 +35,7 @@ pub fn text_pages_1()
         (man_page (codes "i\\[. " ∷ codes "c" ∷ []))
         (man_rows (codes "       i c" ∷ []))
         (codes "mandoc: x.1:3:5: STYLE: whitespace at end of input line" ∷
-        codes "mandoc: x.1:3:1: WARNING: invalid escape sequence: \\[. " ∷
-        []) }
+        codes "mandoc: x.1:3:1: WARNING: invalid escape sequence: \\[. " ∷ []) }
     // a tab between words (roff(7), LANGUAGE SYNTAX)
     ensures a_tab_between_words { Shows plain
         (man_page (codes "a\tb" ∷ []))
@@ -61,15 +60,13 @@ pub fn text_pages_1()
     ensures a_row_ends_after_a_hyphen_between_two_letters { Shows plain
         (man_page (codes "aaaaaaaaaaaaaaaaaaaaaaaaaaaaaaaaaaaaaaaaaaaaaaaaaaaaaaaaaaaa bbbb-cccccccc" ∷ []))
         (man_rows (codes "       aaaaaaaaaaaaaaaaaaaaaaaaaaaaaaaaaaaaaaaaaaaaaaaaaaaaaaaaaaaa bbbb-" ∷
-        codes "       cccccccc" ∷
-        []))
+        codes "       cccccccc" ∷ []))
         [] }
     // no row ends after a hyphen that is an escape (roff(7), Filling and adjusting)
     ensures no_row_ends_after_a_hyphen_that_is_an_escape { Shows plain
         (man_page (codes "aaaaaaaaaaaaaaaaaaaaaaaaaaaaaaaaaaaaaaaaaaaaaaaaaaaaaaaaaaaa bbbb\\-cccccccc" ∷ []))
         (man_rows (codes "       aaaaaaaaaaaaaaaaaaaaaaaaaaaaaaaaaaaaaaaaaaaaaaaaaaaaaaaaaaaa" ∷
-        codes "       bbbb-cccccccc" ∷
-        []))
+        codes "       bbbb-cccccccc" ∷ []))
         [] }
 {}
 
@@ -79,45 +76,38 @@ pub fn text_pages_2()
     ensures a_part_with_its_hyphen_fits_exactly { Shows plain
         (man_page (codes "aaaaaaaaaaaaaaaaaaaaaaaaaaaaaaaaaaaaaaaaaaaaaaaaaaaaaaaaaaaa bbbbbbbbb-cccccccc" ∷ []))
         (man_rows (codes "       aaaaaaaaaaaaaaaaaaaaaaaaaaaaaaaaaaaaaaaaaaaaaaaaaaaaaaaaaaaa bbbbbbbbb-" ∷
-        codes "       cccccccc" ∷
-        []))
+        codes "       cccccccc" ∷ []))
         [] }
     // a part that is a column too long for its hyphen (roff(7), Filling and adjusting)
     ensures a_part_that_is_a_column_too_long_for_its_hyphen { Shows plain
         (man_page (codes "aaaaaaaaaaaaaaaaaaaaaaaaaaaaaaaaaaaaaaaaaaaaaaaaaaaaaaaaaaaa bbbbbbbbbb-cccccccc" ∷ []))
         (man_rows (codes "       aaaaaaaaaaaaaaaaaaaaaaaaaaaaaaaaaaaaaaaaaaaaaaaaaaaaaaaaaaaa" ∷
-        codes "       bbbbbbbbbb-cccccccc" ∷
-        []))
+        codes "       bbbbbbbbbb-cccccccc" ∷ []))
         [] }
     // the first word of a row, cut after its hyphen (roff(7), Filling and adjusting)
     ensures the_first_word_of_a_row_cut_after_its_hyphen { Shows plain
         (man_page (codes "aaaaaaaaaaaaaaaaaaaaaaaaaaaaaaaaaaaaaaaaaaaaaaaaaaaaaaaaaaaaaaaaaaaaaaaaaaaaaaaa-bbbbb" ∷ []))
         (man_rows (codes "       aaaaaaaaaaaaaaaaaaaaaaaaaaaaaaaaaaaaaaaaaaaaaaaaaaaaaaaaaaaaaaaaaaaaaaaaaaaaaaaa-" ∷
-        codes "       bbbbb" ∷
-        []))
+        codes "       bbbbb" ∷ []))
         [] }
     // the part after a hyphen goes on in the next line (roff(7), Filling and adjusting)
     ensures the_part_after_a_hyphen_goes_on_in_the_next_line { Shows plain
         (man_page (codes "aaaaaaaaaaaaaaaaaaaaaaaaaaaaaaaaaaaaaaaaaaaaaaaaaaaaaaaaaaaa" ∷
         codes "bbbb-ccc\\c" ∷
-        codes "ccccc" ∷
-        []))
+        codes "ccccc" ∷ []))
         (man_rows (codes "       aaaaaaaaaaaaaaaaaaaaaaaaaaaaaaaaaaaaaaaaaaaaaaaaaaaaaaaaaaaa bbbb-" ∷
-        codes "       cccccccc" ∷
-        []))
+        codes "       cccccccc" ∷ []))
         [] }
     // a row ends after the last hyphen that fits (roff(7), Filling and adjusting)
     ensures a_row_ends_after_the_last_hyphen_that_fits { Shows plain
         (man_page (codes "aaaaaaaaaaaaaaaaaaaaaaaaaaaaaaaaaaaaaaaaaaaaaaaaaaaaaaaaaaaaaaaaaa bb-cc-dd" ∷
         codes ".PP" ∷
-        codes "aaaaaaaaaaaaaaaaaaaaaaaaaaaaaaaaaaaaaaaaaaaaaaaaaaaaaaaaaaaaaaa bb-cc-dd" ∷
-        []))
+        codes "aaaaaaaaaaaaaaaaaaaaaaaaaaaaaaaaaaaaaaaaaaaaaaaaaaaaaaaaaaaaaaa bb-cc-dd" ∷ []))
         (man_rows (codes "       aaaaaaaaaaaaaaaaaaaaaaaaaaaaaaaaaaaaaaaaaaaaaaaaaaaaaaaaaaaaaaaaaa bb-" ∷
         codes "       cc-dd" ∷
         [] ∷
         codes "       aaaaaaaaaaaaaaaaaaaaaaaaaaaaaaaaaaaaaaaaaaaaaaaaaaaaaaaaaaaaaaa bb-cc-" ∷
-        codes "       dd" ∷
-        []))
+        codes "       dd" ∷ []))
         [] }
     // no row ends after a hyphen without a letter on both sides (roff(7), Filling and adjusting)
     ensures no_row_ends_after_a_hyphen_without_a_letter_on { Shows plain
@@ -131,8 +121,7 @@ pub fn text_pages_2()
         codes ".PP" ∷
         codes "aaaaaaaaaaaaaaaaaaaaaaaaaaaaaaaaaaaaaaaaaaaaaaaaaaaaaaaaaaaaaaaaaaaaa -x" ∷
         codes ".PP" ∷
-        codes "aaaaaaaaaaaaaaaaaaaaaaaaaaaaaaaaaaaaaaaaaaaaaaaaaaaaaaaaaaaaaaaaaaaaa x-" ∷
-        []))
+        codes "aaaaaaaaaaaaaaaaaaaaaaaaaaaaaaaaaaaaaaaaaaaaaaaaaaaaaaaaaaaaaaaaaaaaa x-" ∷ []))
         (man_rows (codes "       aaaaaaaaaaaaaaaaaaaaaaaaaaaaaaaaaaaaaaaaaaaaaaaaaaaaaaaaaaaaaaaaaaa" ∷
         codes "       bb--cc" ∷
         [] ∷
@@ -149,15 +138,13 @@ pub fn text_pages_2()
         codes "       -x" ∷
         [] ∷
         codes "       aaaaaaaaaaaaaaaaaaaaaaaaaaaaaaaaaaaaaaaaaaaaaaaaaaaaaaaaaaaaaaaaaaaaa" ∷
-        codes "       x-" ∷
-        []))
+        codes "       x-" ∷ []))
         [] }
     // a hyphen after an escape has no letter before it (roff(7), Filling and adjusting)
     ensures a_hyphen_after_an_escape_has_no_letter_before_it { Shows plain
         (man_page (codes "aaaaaaaaaaaaaaaaaaaaaaaaaaaaaaaaaaaaaaaaaaaaaaaaaaaaaaaaaaaaaaa \\fBbb-cc\\fR-dd" ∷ []))
         (man_rows ((codes "       aaaaaaaaaaaaaaaaaaaaaaaaaaaaaaaaaaaaaaaaaaaaaaaaaaaaaaaaaaaaaaa " ++ bold (codes "bb-")) ∷
-        (codes "       " ++ (bold (codes "cc") ++ codes "-dd")) ∷
-        []))
+        (codes "       " ++ (bold (codes "cc") ++ codes "-dd")) ∷ []))
         [] }
     // words with hyphens, on one line and on a line each (roff(7), Filling and adjusting)
     ensures words_with_hyphens_on_one_line_and_on_a_line_each { Shows (record plain { width = 58 })
@@ -182,8 +169,7 @@ pub fn text_pages_2()
         codes "qq-rr" ∷
         codes "sss-ttt" ∷
         codes "uuuu-v" ∷
-        codes "w-xx-yyy-zzzz" ∷
-        [])
+        codes "w-xx-yyy-zzzz" ∷ [])
         (codes "T(1)             General Commands Manual              T(1)" ∷
         [] ∷
         bold (codes "A") ∷
@@ -197,8 +183,7 @@ pub fn text_pages_2()
         codes "       g hhhh-iiii-jjjj k-l-m-n-o-p qq-rr sss-ttt uuuu-v" ∷
         codes "       w-xx-yyy-zzzz" ∷
         [] ∷
-        codes "S                       2020-01-01                    T(1)" ∷
-        [])
+        codes "S                       2020-01-01                    T(1)" ∷ [])
         [] }
     // no row ends after a hyphen with which a line ends that is glued to the next one (roff(7), Filling and adjusting)
     ensures no_row_ends_after_a_hyphen_with_which_a_line_ends { Shows plain
@@ -213,14 +198,12 @@ pub fn text_pages_2()
         codes ".PP" ∷
         codes "aaaaaaaaaaaaaaaaaaaaaaaaaaaaaaaaaaaaaaaaaaaaaaaaaaaaaaaaaaaa" ∷
         codes "bbbb-cc\\c" ∷
-        codes "ddd-eeeee" ∷
-        []))
+        codes "ddd-eeeee" ∷ []))
         (man_rows (codes "       aaaaaaaaaaaaaaaaaaaaaaaaaaaaaaaaaaaaaaaaaaaaaaaaaaaaaaaaaaaa bbbb-ccdd-" ∷
         codes "       eeeee" ∷
         [] ∷
         codes "       aaaaaaaaaaaaaaaaaaaaaaaaaaaaaaaaaaaaaaaaaaaaaaaaaaaaaaaaaaaa bbbb-" ∷
-        codes "       ccddd-eeeee" ∷
-        []))
+        codes "       ccddd-eeeee" ∷ []))
         [] }
     // two words that fill a row (roff(7), Filling and adjusting)
     ensures two_words_that_fill_a_row { Shows plain
@@ -240,13 +223,11 @@ pub fn text_pages_3()
     ensures a_word_that_is_longer_than_a_row_alone_and_after { Shows plain
         (man_page (codes "wwwwwwwwwwwwwwwwwwwwwwwwwwwwwwwwwwwwwwwwwwwwwwwwwwwwwwwwwwwwwwwwwwwwwwww" ∷
         codes ".PP" ∷
-        codes "a wwwwwwwwwwwwwwwwwwwwwwwwwwwwwwwwwwwwwwwwwwwwwwwwwwwwwwwwwwwwwwwwwwwwwwww" ∷
-        []))
+        codes "a wwwwwwwwwwwwwwwwwwwwwwwwwwwwwwwwwwwwwwwwwwwwwwwwwwwwwwwwwwwwwwwwwwwwwwww" ∷ []))
         (man_rows (codes "       wwwwwwwwwwwwwwwwwwwwwwwwwwwwwwwwwwwwwwwwwwwwwwwwwwwwwwwwwwwwwwwwwwwwwwww" ∷
         [] ∷
         codes "       a" ∷
-        codes "       wwwwwwwwwwwwwwwwwwwwwwwwwwwwwwwwwwwwwwwwwwwwwwwwwwwwwwwwwwwwwwwwwwwwwwww" ∷
-        []))
+        codes "       wwwwwwwwwwwwwwwwwwwwwwwwwwwwwwwwwwwwwwwwwwwwwwwwwwwwwwwwwwwwwwwwwwwwwwww" ∷ []))
         [] }
 {}
 
@@ -366,8 +347,7 @@ pub fn escapes_pages_2()
         (man_page (codes "\\(zz\\q" ∷ []))
         (man_rows (codes "       <?>q" ∷ []))
         (codes "mandoc: x.1:3:1: WARNING: undefined escape, printing literally: \\q" ∷
-        codes "mandoc: x.1:3:1: WARNING: unknown character, using <?>: zz" ∷
-        []) }
+        codes "mandoc: x.1:3:1: WARNING: unknown character, using <?>: zz" ∷ []) }
     // a tab in a word, reported once (roff(7), \t)
     ensures a_tab_in_a_word_reported_once { Shows plain
         (man_page (codes "a\\tb\\tc" ∷ []))
@@ -396,8 +376,7 @@ pub fn escapes_pages_3()
     ensures a_word_that_goes_on_in_the_next_line_with_a_blank { Shows plain
         (man_page (codes "aaaaaaaaaaaaaaaaaaaaaaaaaaaaaaaaaaaaaaaaaaaaaaaaaaaaaaaaaaaa b\\ c\\c" ∷ codes "dddddddddddd" ∷ []))
         (man_rows (codes "       aaaaaaaaaaaaaaaaaaaaaaaaaaaaaaaaaaaaaaaaaaaaaaaaaaaaaaaaaaaa" ∷
-        codes "       b cdddddddddddd" ∷
-        []))
+        codes "       b cdddddddddddd" ∷ []))
         [] }
     // a glyph by its name in quotes (roff(7), \C)
     ensures a_glyph_by_its_name_in_quotes { Shows plain
@@ -427,8 +406,7 @@ pub fn escapes_pages_3()
         codes "i\\R'a 1'" ∷
         codes "j\\Z'x'" ∷
         codes "k\\X'x'" ∷
-        codes "l\\B'x'" ∷
-        []))
+        codes "l\\B'x'" ∷ []))
         (man_rows (codes "       a b c d e f g h i j k l" ∷ []))
         (codes "mandoc: x.1:3:1: UNSUPP: unsupported escape sequence: \\b" ∷
         codes "mandoc: x.1:4:1: UNSUPP: unsupported escape sequence: \\o" ∷
@@ -441,8 +419,7 @@ pub fn escapes_pages_3()
         codes "mandoc: x.1:11:1: UNSUPP: unsupported escape sequence: \\R" ∷
         codes "mandoc: x.1:12:1: UNSUPP: unsupported escape sequence: \\Z" ∷
         codes "mandoc: x.1:13:1: UNSUPP: unsupported escape sequence: \\X" ∷
-        codes "mandoc: x.1:14:1: UNSUPP: unsupported escape sequence: \\B" ∷
-        []) }
+        codes "mandoc: x.1:14:1: UNSUPP: unsupported escape sequence: \\B" ∷ []) }
     // escapes with a name, and one alone, that are not supported (roff(7), Escape sequences)
     ensures escapes_with_a_name_and_one_alone_that_are_not { Shows plain
         (man_page (codes "a\\gx" ∷ codes "b\\V(xx" ∷ codes "c\\Y[x]" ∷ codes "d\\p" ∷ []))
@@ -450,6 +427,5 @@ pub fn escapes_pages_3()
         (codes "mandoc: x.1:3:1: UNSUPP: unsupported escape sequence: \\g" ∷
         codes "mandoc: x.1:4:1: UNSUPP: unsupported escape sequence: \\V" ∷
         codes "mandoc: x.1:5:1: UNSUPP: unsupported escape sequence: \\Y" ∷
-        codes "mandoc: x.1:6:1: UNSUPP: unsupported escape sequence: \\p" ∷
-        []) }
+        codes "mandoc: x.1:6:1: UNSUPP: unsupported escape sequence: \\p" ∷ []) }
 {}
