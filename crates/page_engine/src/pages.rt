@@ -90,6 +90,24 @@ impl Model for Page {
     ghost invariant = { λ p. IsKept p.phase p.counts p.layers };
 }
 
+// What the two ways to take a line have in common. The page counts as failed until all of the line was given.
+macro_rules! takes_line {
+    ($page:ident, $taken:expr) => {{
+        if let Some(fault) = $page.phase.begin_line($page.counts.source) {
+            return Err(fault);
+        }
+        let worst = $page.layers.worst;
+        if let Err(fault) = $taken {
+            $page.layers.worst = worst;
+            return Err(fault);
+        }
+        $page.layers.caps_law();
+        $page.counts = $page.layers.counts();
+        $page.phase = Phase::Open;
+        Ok(())
+    }};
+}
+
 impl Page {
     /// The start of a page. The settings are checked first, with [`Fault::Settings`]; then memory is reserved for
     /// all that the page will ever hold, with [`Fault::Memory`].
@@ -173,18 +191,7 @@ impl Page {
         ensures rows_same { R.loans rows.new ≡ R.loans rows.old }
         ensures notes_same { N.loans notes.new ≡ N.loans notes.old }
     {
-        if let Some(fault) = self.phase.begin_line(self.counts.source) {
-            return Err(fault);
-        }
-        let worst = self.layers.worst;
-        if let Err(fault) = self.layers.feed(text, number, rows, notes) {
-            self.layers.worst = worst;
-            return Err(fault);
-        }
-        self.layers.caps_law();
-        self.counts = self.layers.counts();
-        self.phase = Phase::Open;
-        Ok(())
+        takes_line!(self, self.layers.feed(text, number, rows, notes))
     }
 }
 
@@ -213,18 +220,7 @@ impl Page {
         ensures rows_same { R.loans rows.new ≡ R.loans rows.old }
         ensures notes_same { N.loans notes.new ≡ N.loans notes.old }
     {
-        if let Some(fault) = self.phase.begin_line(self.counts.source) {
-            return Err(fault);
-        }
-        let worst = self.layers.worst;
-        if let Err(fault) = self.layers.take_line(cutter, rows, notes) {
-            self.layers.worst = worst;
-            return Err(fault);
-        }
-        self.layers.caps_law();
-        self.counts = self.layers.counts();
-        self.phase = Phase::Open;
-        Ok(())
+        takes_line!(self, self.layers.take_line(cutter, rows, notes))
     }
 }
 
