@@ -20,7 +20,7 @@ use Rattle.page_sets.specs.Either.{either_indent}
 use Rattle.page_sets.specs.declared.either.Either.{Either}
 use Rattle.page_sets.specs.declared.either.Either.TheVariants as sets
 use Rattle.page_engine_lines.specs.Languages.{language_of}
-use Rattle.page_sets_lines.specs.PlainLines.{event_at, plain_kind}
+use Rattle.page_sets_lines.specs.PlainLines.{event_at, line_start, plain_kind}
 use Rattle.page_sets_lines.specs.declared.events.EventKind.{EventKind}
 use Rattle.page_sets_lines.specs.declared.events.EventKind.TheVariants.{Leaf}
 use Rattle.page_sets_lines.specs.declared.events.Event.{Event}
@@ -118,7 +118,7 @@ pub record GivesEvents {P O : Type 0} (left : P → O → List Item → Type 0) 
 
 -- what a line that is no control line does, before it ends
 abbrev pub plain_event : ℕ → List ℕ → PlainLine → Event (List ℕ)
-plain_event number text line = event_at number 1 (plain_kind line text)
+plain_event number text line = event_at (line_start number) (plain_kind line text)
 
 -- ---- the page's end, after the line of a number
 

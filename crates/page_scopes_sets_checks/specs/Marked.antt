@@ -1,5 +1,5 @@
 -- A small set of macros: `I` sets its words in italic, `Open` begins a quotation, and `Close` ends it.
-use Rattle.std.specs.Prelude.{ℕ, ◌+◌, ◌≤◌, Bool, true, false, List, [], ◌∷◌, length, drop, Option, None, Some, if◌then◌else◌, codes}
+use Rattle.std.specs.Prelude.{ℕ, ◌≤◌, Bool, true, false, List, [], ◌∷◌, length, drop, Option, None, Some, if◌then◌else◌, codes}
 use Rattle.std.specs.Str.{bytes_eq}
 use Rattle.page_core_base.specs.declared.cells.Font.TheVariants.{I}
 use Rattle.page_core_base.specs.declared.note_kinds.NoteKind.TheVariants.{UnknownMacro}
@@ -17,18 +17,15 @@ use Rattle.page_sets_lines.specs.declared.events.Role.TheVariants as roles
 use Rattle.page_sets_lines.specs.declared.events.EventKind.{EventKind}
 use Rattle.page_sets_lines.specs.declared.events.EventKind.TheVariants as kinds
 use Rattle.page_sets_lines.specs.declared.events.Event.{Event}
-use Rattle.page_sets_lines.specs.ControlLines.{before_name, name_end, name_of, is_nameless, arguments_after}
-use Rattle.page_sets_lines.specs.PlainLines.{event_at, line_end, plain_line, plain_events}
+use Rattle.page_sets_lines.specs.ControlLines.{name_end, name_of, name_place, is_nameless, arguments_after}
+use Rattle.page_sets_lines.specs.PlainLines.{event_at, line_end, plain_line, plain_events, word_place}
 use Rattle.page_scopes_sets_checks.specs.declared.marked.MarkedPlace.{MarkedPlace}
 use Rattle.page_scopes_sets_checks.specs.declared.marked.MarkedPlace.TheVariants as places
-
-abbrev pub name_column : List ℕ → ℕ
-name_column text = before_name text + 1
 
 -- a word in italic, and all of them
 abbrev pub italic : ℕ → Argument (List ℕ) → Event (List ℕ)
 italic number argument =
-    event_at number argument.column
+    event_at (word_place number argument)
     (kinds.Word (record { arg = argument; role = roles.Argument; font = Some I; before = Apart; after = Apart }))
 
 abbrev pub italic_words : ℕ → List (Argument (List ℕ)) → Bool → List (Event (List ℕ))
@@ -42,13 +39,13 @@ quotation false = kinds.Close (closers.Block (block_closers.Quotation Do))
 
 -- a name that is none of the set's
 abbrev pub unknown : Line → Event (List ℕ)
-unknown line = event_at line.number (name_column line.text) (kinds.Note UnknownMacro (name_of line) false false)
+unknown line = event_at (name_place line) (kinds.Note UnknownMacro (name_of line) false false)
 
 -- the events of a line from a place on
 abbrev pub events_from : Line → MarkedPlace → List (Event (List ℕ))
 events_from line (places.Plain plain) = plain_events line.number line.text plain
 events_from line places.Unknown = unknown line ∷ line_end line.number false ∷ []
-events_from line (places.Quotation begins) = event_at line.number (name_column line.text) (quotation begins) ∷ line_end line.number false ∷ []
+events_from line (places.Quotation begins) = event_at (name_place line) (quotation begins) ∷ line_end line.number false ∷ []
 events_from line (places.Words rest filled) = italic_words line.number (arguments_after rest line.text) filled
 events_from line (places.End filled) = line_end line.number filled ∷ []
 events_from line places.Nothing = []

@@ -13,7 +13,9 @@ use page_sets::{
     BlockCloser, BlockOpener, Closer, Event, EventKind, Join, MacroSet, Opener, Quotation, Role,
     Word,
 };
-use page_sets_lines::{PlainLine, event_at, find_name, read_after};
+use page_sets_lines::{
+    PlainLine, event_at, find_name, line_start, name_place, read_after, word_place,
+};
 
 /// The set.
 #[derive(Clone, Copy)]
@@ -47,7 +49,7 @@ fn italic(number: u32, argument: Argument<&[u8]>) -> Event<&[u8]>
         before: Join::Apart,
         after: Join::Apart,
     });
-    event_at(number, argument.column, kind)
+    event_at(word_place(number, argument), kind)
 }
 
 // A quotation begins, or ends.
@@ -102,15 +104,7 @@ fn unknown<'a>(line: Taken<'a>) -> Event<&'a [u8]>
         is_quoted: false,
         begins_body: false,
     };
-    event_at(line.line, name.start as u32 + 1, kind)
-}
-
-// The column of a line's name.
-fn name_column(line: Taken<'_>) -> u32
-    requires { length line.text.now ≤ LINE }
-    ensures { result ≡ marked.name_column line.entry.text.now }
-{
-    find_name(line).start as u32 + 1
+    event_at(name_place(line), kind)
 }
 
 impl MacroSet for Marked {
@@ -150,7 +144,7 @@ impl MacroSet for Marked {
         match *place {
             MarkedPlace::Plain(plain) => {
                 *place = MarkedPlace::End(plain.fills());
-                Some(event_at(line.line, 1, plain.kind(line.text)))
+                Some(event_at(line_start(line.line), plain.kind(line.text)))
             }
             MarkedPlace::Unknown => {
                 *place = MarkedPlace::End(false);
@@ -158,7 +152,7 @@ impl MacroSet for Marked {
             }
             MarkedPlace::Quotation { begins } => {
                 *place = MarkedPlace::End(false);
-                Some(event_at(line.line, name_column(line), quotation(begins)))
+                Some(event_at(name_place(line), quotation(begins)))
             }
             MarkedPlace::Words { rest, fills } => {
                 if let Some((argument, end)) = read_after(line.text, rest) {
@@ -166,11 +160,11 @@ impl MacroSet for Marked {
                     return Some(italic(line.line, argument));
                 }
                 *place = MarkedPlace::Nothing;
-                Some(event_at(line.line, 1, EventKind::End { fills }))
+                Some(event_at(line_start(line.line), EventKind::End { fills }))
             }
             MarkedPlace::End(fills) => {
                 *place = MarkedPlace::Nothing;
-                Some(event_at(line.line, 1, EventKind::End { fills }))
+                Some(event_at(line_start(line.line), EventKind::End { fills }))
             }
             MarkedPlace::Nothing => None,
         }

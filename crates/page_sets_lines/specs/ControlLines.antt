@@ -5,6 +5,7 @@ use Rattle.page_roff_syntax.specs.declared.quotes.Argument.{Argument}
 use Rattle.page_roff_syntax.specs.declared.quotes.Quoting.{Quoting}
 use Rattle.page_roff_syntax.specs.declared.quotes.Quoting.TheVariants.{Bare, Closed, Unclosed}
 use Rattle.page_core_base.specs.LinesTaken.{Line}
+use Rattle.page_core_base.specs.declared.places.Place.{Place}
 use Rattle.page_roff_syntax.specs.LineForms.{is_white}
 use Rattle.page_roff_syntax.specs.Arguments.{arguments, argument_view}
 use Rattle.std.specs.Borrow.{Bor}
@@ -16,6 +17,10 @@ before_name text = min 1 (length text) + prefix_len is_white (drop 1 text)
 -- the name goes as far as the line says, but not past the text's end; a name that would end before it begins is empty
 abbrev pub name_end : Line → ℕ
 name_end line = max (before_name line.text) (min line.name_end (length line.text))
+
+-- where the name is
+abbrev pub name_place : Line → Place
+name_place line = record { line = line.number; column = before_name line.text + 1 }
 
 abbrev pub name_of : Line → List ℕ
 name_of line = take (name_end line - before_name line.text) (drop (before_name line.text) line.text)

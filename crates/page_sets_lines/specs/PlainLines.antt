@@ -3,6 +3,7 @@ use Rattle.std.specs.Prelude.{ℕ, Bool, true, false, List, [], ◌∷◌, Optio
 use Rattle.page_core_base.specs.declared.cells.Font.{Font}
 use Rattle.page_core_base.specs.declared.lines_taken.Form.{Form}
 use Rattle.page_core_base.specs.declared.lines_taken.Form.TheVariants as forms
+use Rattle.page_core_base.specs.declared.places.Place.{Place}
 use Rattle.page_roff_syntax.specs.declared.quotes.Argument.{Argument}
 use Rattle.page_roff_syntax.specs.declared.quotes.Quoting.TheVariants.{Bare}
 use Rattle.page_roff_syntax.specs.LineForms.{has_word}
@@ -28,20 +29,28 @@ use Rattle.page_sets_lines.specs.declared.plain_lines.PlainLine.{PlainLine}
 use Rattle.page_sets_lines.specs.declared.plain_lines.PlainLine.TheVariants as lines
 use Rattle.page_sets_names.specs.declared.generated_texts.GeneratedText.{GeneratedText}
 
--- an event in a column of a line
-abbrev pub event_at : ℕ → ℕ → EventKind (List ℕ) → Event (List ℕ)
-event_at number column kind = record { place = record { line = number; column = column }; kind = kind }
+-- the first column of a line
+abbrev pub line_start : ℕ → Place
+line_start number = record { line = number; column = 1 }
+
+-- where an argument of a line is
+abbrev pub word_place : ℕ → Argument (List ℕ) → Place
+word_place number word = record { line = number; column = word.column }
+
+-- an event at a place
+abbrev pub event_at : Place → EventKind (List ℕ) → Event (List ℕ)
+event_at place kind = record { place = place; kind = kind }
 
 -- an argument as a word, in its own column
 abbrev pub word_event : ℕ → Role → Option Font → Join → Join → Argument (List ℕ) → Event (List ℕ)
 word_event number role font before after word =
-    event_at number word.column
+    event_at (word_place number word)
     (kinds.Word (record { arg = word; role = role; font = font; before = before; after = after }))
 
 -- a text of a macro's own
-abbrev pub generated_word : ℕ → ℕ → GeneratedText → Option Font → Join → Join → Event (List ℕ)
-generated_word number column text font before after =
-    event_at number column (kinds.Leaf (leaves.Generated (record { text = text; font = font; before = before; after = after })))
+abbrev pub generated_word : Place → GeneratedText → Option Font → Join → Join → Event (List ℕ)
+generated_word place text font before after =
+    event_at place (kinds.Leaf (leaves.Generated (record { text = text; font = font; before = before; after = after })))
 
 -- a whole line is one word
 abbrev pub line_word : List ℕ → Word (List ℕ)
@@ -75,11 +84,11 @@ fills lines.Blank = false
 fills lines.Raw = false
 
 abbrev pub line_end : ℕ → Bool → Event (List ℕ)
-line_end number filled = event_at number 1 (kinds.End filled)
+line_end number filled = event_at (line_start number) (kinds.End filled)
 
 -- the events of a line that is no control line
 abbrev pub plain_events : ℕ → List ℕ → PlainLine → List (Event (List ℕ))
-plain_events number text line = event_at number 1 (plain_kind line text) ∷ line_end number (fills line) ∷ []
+plain_events number text line = event_at (line_start number) (plain_kind line text) ∷ line_end number (fills line) ∷ []
 
 -- the requests that change rows
 abbrev pub layout_in : Option roff.Request → Option LayoutRequest

@@ -6,9 +6,9 @@ ghost use Rattle.page_core_base.specs.LinesTaken.{line_view};
 ghost use Rattle.page_roff_syntax.specs.Arguments.{argument_view};
 ghost use Rattle.page_sets_lines.specs.Events.{given_view};
 ghost use Rattle.page_sets_lines.specs.Fits.{ArgumentFits, GivenFits};
-ghost use Rattle.page_sets_lines.specs.ControlLines.{before_name, name_end, arguments_after, first_of, is_quote, open_quote, ReadsAfter};
+ghost use Rattle.page_sets_lines.specs.ControlLines.{before_name, name_end, name_place, arguments_after, first_of, is_quote, open_quote, ReadsAfter};
 
-use page_core_base::{LINE, Taken};
+use page_core_base::{LINE, Place, Taken};
 use page_roff_syntax::{Argument, Arguments, Quoting, read_argument, white_len};
 
 /// Where the name of a control line begins and ends, in bytes.
@@ -49,6 +49,17 @@ pub fn find_name(line: Taken<'_>) -> NameSpan
     NameSpan {
         start,
         end: end.max(start),
+    }
+}
+
+/// Where the name of a control line is.
+pub fn name_place(line: Taken<'_>) -> Place
+    requires { length line.text.now ≤ LINE }
+    ensures { result ≡ name_place (line_view line.entry) }
+{
+    Place {
+        line: line.line,
+        column: before_name(line.text) as u32 + 1,
     }
 }
 

@@ -3,7 +3,7 @@
 ghost use Rattle.std.specs.Prelude.{◌≡◌};
 ghost use Rattle.page_sets_lines.specs.Events.{event_view, kind_view};
 ghost use Rattle.page_roff_syntax.specs.Arguments.{argument_view};
-ghost use Rattle.page_sets_lines.specs.PlainLines.{event_at, generated_word, word_event};
+ghost use Rattle.page_sets_lines.specs.PlainLines.{event_at, generated_word, line_start, word_event, word_place};
 
 use crate::leaves::{GeneratedWord, Leaf};
 use crate::openers::{Closer, LineOpener, Opener};
@@ -77,17 +77,31 @@ pub struct Event<W> {
     pub kind: EventKind<W>,
 }
 
-/// An event in a column of a line.
-pub fn event_at<'a>(number: u32, column: u32, kind: EventKind<&'a [u8]>) -> Event<&'a [u8]>
-    ensures { event_view result ≡ event_at number column (kind_view kind.entry) }
+/// The first column of a line.
+pub fn line_start(number: u32) -> Place
+    ensures { result ≡ line_start number }
 {
-    Event {
-        place: Place {
-            line: number,
-            column,
-        },
-        kind,
+    Place {
+        line: number,
+        column: 1,
     }
+}
+
+/// Where an argument of a line is.
+pub fn word_place(number: u32, word: Argument<&[u8]>) -> Place
+    ensures { result ≡ word_place number (argument_view word.entry) }
+{
+    Place {
+        line: number,
+        column: word.column,
+    }
+}
+
+/// An event at a place.
+pub fn event_at<'a>(place: Place, kind: EventKind<&'a [u8]>) -> Event<&'a [u8]>
+    ensures { event_view result ≡ event_at place (kind_view kind.entry) }
+{
+    Event { place, kind }
 }
 
 /// An argument as a word, in its own column.
@@ -102,8 +116,7 @@ pub fn word_event(
     ensures { event_view result ≡ word_event number role font before after (argument_view word.entry) }
 {
     event_at(
-        number,
-        word.column,
+        word_place(number, word),
         EventKind::Word(Word {
             arg: word,
             role,
@@ -116,18 +129,16 @@ pub fn word_event(
 
 /// A text of a macro's own.
 pub fn generated_word<'a>(
-    number: u32,
-    column: u32,
+    place: Place,
     text: GeneratedText,
     font: Option<Font>,
     before: Join,
     after: Join,
 ) -> Event<&'a [u8]>
-    ensures { event_view result ≡ generated_word number column text font before after }
+    ensures { event_view result ≡ generated_word place text font before after }
 {
     event_at(
-        number,
-        column,
+        place,
         EventKind::Leaf(Leaf::Generated(GeneratedWord {
             text,
             font,

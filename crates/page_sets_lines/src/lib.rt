@@ -22,9 +22,12 @@ mod plain_lines;
 mod requests;
 
 pub use blocks::{Block, BlockCloser, BlockOpener};
-pub use control_lines::{NameSpan, find_name, first_of, open_quote, read_after};
+pub use control_lines::{NameSpan, find_name, first_of, name_place, open_quote, read_after};
 pub use event_outs::{EventOut, EventTaker, Handed, Nth};
-pub use events::{Event, EventKind, Join, Role, Word, event_at, generated_word, word_event};
+pub use events::{
+    Event, EventKind, Join, Role, Word, event_at, generated_word, line_start, word_event,
+    word_place,
+};
 pub use leaves::{GeneratedWord, Leaf, Request};
 pub use line_steps::{LineStep, SynopsisStep};
 pub use lists::{Awaited, ListKind, ListOptions, ListWord, read_list_options};

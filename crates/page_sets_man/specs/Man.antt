@@ -1,5 +1,5 @@
 -- The events of a line. Source: man(7).
-use Rattle.std.specs.Prelude.{ℕ, ◌+◌, Bool, true, false, ◌&&◌, List, [], ◌∷◌, ◌++◌, Option, None, Some, option_map, if◌then◌else◌}
+use Rattle.std.specs.Prelude.{ℕ, Bool, true, false, ◌&&◌, List, [], ◌∷◌, ◌++◌, Option, None, Some, option_map, if◌then◌else◌}
 use Rattle.page_core_base.specs.declared.cells.Font.{Font}
 use Rattle.page_core_base.specs.declared.cells.Font.TheVariants as fonts
 use Rattle.page_core_base.specs.declared.note_kinds.NoteKind.{NoteKind}
@@ -27,7 +27,8 @@ use Rattle.page_sets_lines.specs.declared.events.EventKind.{EventKind}
 use Rattle.page_sets_lines.specs.declared.events.EventKind.TheVariants as kinds
 use Rattle.page_sets_lines.specs.declared.events.Event.{Event}
 use Rattle.page_core_base.specs.LinesTaken.{Line}
-use Rattle.page_sets_lines.specs.ControlLines.{before_name, name_end, name_of, is_nameless, rest_of, arguments_after, first_of, second_of, text_of, open_quote}
+use Rattle.page_core_base.specs.declared.places.Place.{Place}
+use Rattle.page_sets_lines.specs.ControlLines.{name_end, name_of, name_place, is_nameless, rest_of, arguments_after, first_of, second_of, text_of, open_quote}
 use Rattle.page_sets_lines.specs.PlainLines.{event_at, generated_word, line_end, plain_line, plain_events, request, word_event}
 use Rattle.page_sets_man.specs.declared.rows.Opens.{Opens}
 use Rattle.page_sets_man.specs.declared.rows.Opens.TheVariants as opens
@@ -123,8 +124,8 @@ abbrev pub argument_word : ℕ → Option Font → Join → Argument (List ℕ) 
 argument_word number font before argument = word_event number roles.Argument font before Apart argument
 
 -- a mark of the macro's own
-abbrev pub mark : ℕ → ℕ → GeneratedText → Join → Join → Event (List ℕ)
-mark number column text before after = generated_word number column text None before after
+abbrev pub mark : Place → GeneratedText → Join → Join → Event (List ℕ)
+mark place text before after = generated_word place text None before after
 
 -- all arguments, in the font around them
 abbrev pub plain_words : ℕ → List (Argument (List ℕ)) → List (Event (List ℕ))
@@ -148,29 +149,29 @@ option_words number [] = []
 option_words number (key ∷ arguments) = argument_word number (Some fonts.B) Apart key ∷ one_word number (Some fonts.I) Apart arguments
 
 -- a section in parentheses, and a suffix, all glued
-abbrev pub section_words : ℕ → ℕ → List (Argument (List ℕ)) → List (Event (List ℕ))
-section_words number column [] = []
-section_words number column (section ∷ arguments) =
-    mark number column OpenParenthesis Glued Glued ∷ argument_word number None Apart section ∷ mark number column CloseParenthesis Glued Apart
-    ∷ one_word number None Glued arguments
+abbrev pub section_words : Place → List (Argument (List ℕ)) → List (Event (List ℕ))
+section_words place [] = []
+section_words place (section ∷ arguments) =
+    mark place OpenParenthesis Glued Glued ∷ argument_word place.line None Apart section ∷ mark place CloseParenthesis Glued Apart
+    ∷ one_word place.line None Glued arguments
 
 -- a name in italic, with its section and suffix (`MR`)
-abbrev pub reference_words : ℕ → ℕ → List (Argument (List ℕ)) → List (Event (List ℕ))
-reference_words number column [] = []
-reference_words number column (name ∷ arguments) = argument_word number (Some fonts.I) Apart name ∷ section_words number column arguments
+abbrev pub reference_words : Place → List (Argument (List ℕ)) → List (Event (List ℕ))
+reference_words place [] = []
+reference_words place (name ∷ arguments) = argument_word place.line (Some fonts.I) Apart name ∷ section_words place arguments
 
 -- the arguments after the first, which the macro's effect takes: words of the text, in the font around them (`UE ME SY`)
 abbrev pub further_words : ℕ → List (Argument (List ℕ)) → List (Event (List ℕ))
 further_words number [] = []
 further_words number (first ∷ arguments) = plain_words number arguments
 
-abbrev pub words_events : ℕ → ℕ → Words → List (Argument (List ℕ)) → List (Event (List ℕ))
-words_events number column words.Nothing arguments = []
-words_events number column words.Plain arguments = plain_words number arguments
-words_events number column (words.Alternating font other) arguments = alternating_words number font other Apart arguments
-words_events number column words.Option arguments = option_words number arguments
-words_events number column words.Reference arguments = reference_words number column arguments
-words_events number column words.Further arguments = further_words number arguments
+abbrev pub words_events : Place → Words → List (Argument (List ℕ)) → List (Event (List ℕ))
+words_events place words.Nothing arguments = []
+words_events place words.Plain arguments = plain_words place.line arguments
+words_events place (words.Alternating font other) arguments = alternating_words place.line font other Apart arguments
+words_events place words.Option arguments = option_words place.line arguments
+words_events place words.Reference arguments = reference_words place arguments
+words_events place words.Further arguments = further_words place.line arguments
 
 abbrev pub has_words : Words → Bool
 has_words words.Nothing = false
@@ -182,9 +183,9 @@ has_words words.Further = true
 
 -- ---- the events of a line
 
-abbrev pub break_events : ℕ → ℕ → Bool → List (Event (List ℕ))
-break_events number column true = event_at number column (kinds.Close closers.Line) ∷ []
-break_events number column false = []
+abbrev pub break_events : Place → Bool → List (Event (List ℕ))
+break_events place true = event_at place (kinds.Close closers.Line) ∷ []
+break_events place false = []
 
 -- the quote of an argument without its closing one, which is reported before the macro has its effect
 abbrev pub quote_at : Bool → Option ℕ → Option Quote
@@ -201,53 +202,53 @@ quote_kind quote = kinds.Note Unterminated [] false quote.begins_body
 
 abbrev pub quote_events : ℕ → Option Quote → List (Event (List ℕ))
 quote_events number None = []
-quote_events number (Some quote) = event_at number quote.column (quote_kind quote) ∷ []
+quote_events number (Some quote) = event_at (record { line = number; column = quote.column }) (quote_kind quote) ∷ []
 
-abbrev pub kind_events : ℕ → ℕ → Option (EventKind (List ℕ)) → List (Event (List ℕ))
-kind_events number column None = []
-kind_events number column (Some kind) = event_at number column kind ∷ []
+abbrev pub kind_events : Place → Option (EventKind (List ℕ)) → List (Event (List ℕ))
+kind_events place None = []
+kind_events place (Some kind) = event_at place kind ∷ []
 
-abbrev pub scope_events : ℕ → ℕ → Option LineOpener → List (Event (List ℕ))
-scope_events number column None = []
-scope_events number column (Some opener) = event_at number column (kinds.LineScope opener) ∷ []
+abbrev pub scope_events : Place → Option LineOpener → List (Event (List ℕ))
+scope_events place None = []
+scope_events place (Some opener) = event_at place (kinds.LineScope opener) ∷ []
 
-abbrev pub last_events : ℕ → ℕ → Last → List (Event (List ℕ))
-last_events number column lasts.Nothing = []
-last_events number column lasts.FontEnds = event_at number column (kinds.Leaf (leaves.Fonts None)) ∷ []
-last_events number column (lasts.Mark text) = mark number column text Glued Apart ∷ []
+abbrev pub last_events : Place → Last → List (Event (List ℕ))
+last_events place lasts.Nothing = []
+last_events place lasts.FontEnds = event_at place (kinds.Leaf (leaves.Fonts None)) ∷ []
+last_events place (lasts.Mark text) = mark place text Glued Apart ∷ []
 
 -- a macro with its arguments: it breaks line scopes, a missing quote is reported, it has its effect, opens a line scope, and gives its words;
 -- where it has words, the line fills line scopes
-abbrev pub macro_events : ℕ → ℕ → Row → List ℕ → List (Argument (List ℕ)) → List (Event (List ℕ))
-macro_events number column row rest arguments =
-    break_events number column row.breaks
-    ++ (quote_events number (missing_quote row.quotes arguments)
-    ++ (kind_events number column (effect_kind row.effect rest arguments)
-    ++ (scope_events number column (line_scope row.effect)
-    ++ (words_events number column row.words arguments
-    ++ (last_events number column row.last ++ line_end number (has_words row.words && has_arguments rest) ∷ [])))))
+abbrev pub macro_events : Place → Row → List ℕ → List (Argument (List ℕ)) → List (Event (List ℕ))
+macro_events place row rest arguments =
+    break_events place row.breaks
+    ++ (quote_events place.line (missing_quote row.quotes arguments)
+    ++ (kind_events place (effect_kind row.effect rest arguments)
+    ++ (scope_events place (line_scope row.effect)
+    ++ (words_events place row.words arguments
+    ++ (last_events place row.last ++ line_end place.line (has_words row.words && has_arguments rest) ∷ [])))))
 
 -- a message about a macro's name
-abbrev pub refused_events : NoteKind → ℕ → ℕ → List ℕ → List (Event (List ℕ))
-refused_events kind number column name = event_at number column (kinds.Note kind name false false) ∷ line_end number false ∷ []
+abbrev pub refused_events : NoteKind → Place → List ℕ → List (Event (List ℕ))
+refused_events kind place name = event_at place (kinds.Note kind name false false) ∷ line_end place.line false ∷ []
 
 -- a macro without arguments
-abbrev pub lone_events : Alone → ℕ → ℕ → List ℕ → List (Event (List ℕ)) → List (Event (List ℕ))
-lone_events Same number column name events = events
-lone_events Empty number column name events = refused_events EmptyMacro number column name
-lone_events (Scope opener) number column name events =
-    event_at number column (kinds.LineScope opener) ∷ line_end number false ∷ []
+abbrev pub lone_events : Alone → Place → List ℕ → List (Event (List ℕ)) → List (Event (List ℕ))
+lone_events Same place name events = events
+lone_events Empty place name events = refused_events EmptyMacro place name
+lone_events (Scope opener) place name events =
+    event_at place (kinds.LineScope opener) ∷ line_end place.line false ∷ []
 
-abbrev pub row_events : ℕ → ℕ → List ℕ → List ℕ → List (Argument (List ℕ)) → Row → List (Event (List ℕ))
-row_events number column name rest arguments row =
-    if has_arguments rest then macro_events number column row rest arguments
-    else lone_events row.alone number column name (macro_events number column row rest arguments)
+abbrev pub row_events : Place → List ℕ → List ℕ → List (Argument (List ℕ)) → Row → List (Event (List ℕ))
+row_events place name rest arguments row =
+    if has_arguments rest then macro_events place row rest arguments
+    else lone_events row.alone place name (macro_events place row rest arguments)
 
 -- a macro by its row, if its name has one
 abbrev pub named_events : Line → Option Row → List (Event (List ℕ))
-named_events line None = refused_events UnknownMacro line.number (before_name line.text + 1) (name_of line)
+named_events line None = refused_events UnknownMacro (name_place line) (name_of line)
 named_events line (Some row) =
-    row_events line.number (before_name line.text + 1) (name_of line) (rest_of line) (arguments_after (name_end line) line.text) row
+    row_events (name_place line) (name_of line) (rest_of line) (arguments_after (name_end line) line.text) row
 
 -- a line without a name does nothing
 abbrev pub control_events : Line → List (Event (List ℕ))

@@ -13,11 +13,12 @@ ghost use Rattle.page_sets_man.specs.Man as man;
 
 use crate::effects::{effect_kind, line_scope};
 use crate::rows::{Alone, Last, Quotes, Row, Words, row_of};
-use page_core_base::{Font, LINE, NoteKind, Taken};
+use page_core_base::{Font, LINE, NoteKind, Place, Taken};
 use page_roff_syntax::{Argument, has_arguments};
 use page_sets_lines::{
     Closer, Event, EventKind, EventTaker, GeneratedText, Join, Leaf, LineOpener, PlainLine, Role,
-    event_at, find_name, generated_word, open_quote, read_after, word_event,
+    event_at, find_name, generated_word, line_start, name_place, open_quote, read_after,
+    word_event,
 };
 
 /// The quote of an argument without its closing one: its column, and whether its message may begin the body of the
@@ -87,16 +88,10 @@ fn argument_word(
 }
 
 // A mark of a macro's own.
-fn mark<'a>(
-    number: u32,
-    column: u32,
-    text: GeneratedText,
-    before: Join,
-    after: Join,
-) -> Event<&'a [u8]>
-    ensures { event_view result ≡ man.mark number column text before after }
+fn mark<'a>(place: Place, text: GeneratedText, before: Join, after: Join) -> Event<&'a [u8]>
+    ensures { event_view result ≡ man.mark place text before after }
 {
-    generated_word(number, column, text, None, before, after)
+    generated_word(place, text, None, before, after)
 }
 
 // All arguments, in the font around them.
@@ -180,62 +175,47 @@ fn give_option<'a, O: EventTaker<'a>>(out: &mut O, number: u32, text: &'a [u8], 
 }
 
 // A section in parentheses, and a suffix, all glued.
-fn give_section<'a, O: EventTaker<'a>>(
-    out: &mut O,
-    number: u32,
-    column: u32,
-    text: &'a [u8],
-    start: usize,
-)
+fn give_section<'a, O: EventTaker<'a>>(out: &mut O, place: Place, text: &'a [u8], start: usize)
     requires short { length text.now ≤ LINE }
     requires within { start ≤ length text.now }
     ensures { Came O.left out.old
-        (man.section_words number column (arguments_after start text.now)) out.new }
+        (man.section_words place (arguments_after start text.now)) out.new }
 {
     if let Some((section, rest)) = read_after(text, start) {
         out.give(mark(
-            number,
-            column,
+            place,
             GeneratedText::OpenParenthesis,
             Join::Glued,
             Join::Glued,
         ));
-        out.give(argument_word(number, None, Join::Apart, section));
+        out.give(argument_word(place.line, None, Join::Apart, section));
         out.give(mark(
-            number,
-            column,
+            place,
             GeneratedText::CloseParenthesis,
             Join::Glued,
             Join::Apart,
         ));
-        give_one(out, number, None, Join::Glued, text, rest);
+        give_one(out, place.line, None, Join::Glued, text, rest);
     }
 }
 
 // `MR`: a name in italic, with its section and suffix.
-fn give_reference<'a, O: EventTaker<'a>>(
-    out: &mut O,
-    number: u32,
-    column: u32,
-    text: &'a [u8],
-    start: usize,
-)
+fn give_reference<'a, O: EventTaker<'a>>(out: &mut O, place: Place, text: &'a [u8], start: usize)
     requires short { length text.now ≤ LINE }
     requires within { start ≤ length text.now }
     ensures { Came O.left out.old
-        (man.reference_words number column (arguments_after start text.now)) out.new }
+        (man.reference_words place (arguments_after start text.now)) out.new }
 {
     if let Some((name, rest)) = read_after(text, start) {
-        out.give(argument_word(number, Some(Font::I), Join::Apart, name));
-        give_section(out, number, column, text, rest);
+        out.give(argument_word(place.line, Some(Font::I), Join::Apart, name));
+        give_section(out, place, text, rest);
     }
 }
 
 // The words of a macro.
 fn give_words<'a, O: EventTaker<'a>>(
     out: &mut O,
-    number: u32,
-    column: u32,
+    place: Place,
     words: Words,
     text: &'a [u8],
     start: usize,
@@ -243,28 +223,28 @@ fn give_words<'a, O: EventTaker<'a>>(
     requires short { length text.now ≤ LINE }
     requires within { start ≤ length text.now }
     ensures { Came O.left out.old
-        (man.words_events number column words (arguments_after start text.now)) out.new }
+        (man.words_events place words (arguments_after start text.now)) out.new }
 {
     match words {
         Words::Nothing => {}
-        Words::Plain => give_plain_words(out, number, text, start),
+        Words::Plain => give_plain_words(out, place.line, text, start),
         Words::Alternating { font, other } => {
-            give_alternating(out, number, font, other, text, start);
+            give_alternating(out, place.line, font, other, text, start);
         }
-        Words::Option => give_option(out, number, text, start),
-        Words::Reference => give_reference(out, number, column, text, start),
-        Words::Further => give_further_words(out, number, text, start),
+        Words::Option => give_option(out, place.line, text, start),
+        Words::Reference => give_reference(out, place, text, start),
+        Words::Further => give_further_words(out, place.line, text, start),
     }
 }
 
 // What comes after a macro's words, but the line's end.
-fn give_last<'a, O: EventTaker<'a>>(out: &mut O, number: u32, column: u32, last: Last)
-    ensures { Came O.left out.old (man.last_events number column last) out.new }
+fn give_last<'a, O: EventTaker<'a>>(out: &mut O, place: Place, last: Last)
+    ensures { Came O.left out.old (man.last_events place last) out.new }
 {
     match last {
         Last::Nothing => {}
-        Last::FontEnds => out.give(event_at(number, column, EventKind::Leaf(Leaf::Fonts(None)))),
-        Last::Mark(text) => out.give(mark(number, column, text, Join::Glued, Join::Apart)),
+        Last::FontEnds => out.give(event_at(place, EventKind::Leaf(Leaf::Fonts(None)))),
+        Last::Mark(text) => out.give(mark(place, text, Join::Glued, Join::Apart)),
     }
 }
 
@@ -273,46 +253,40 @@ fn give_quote<'a, O: EventTaker<'a>>(out: &mut O, number: u32, quote: Option<Quo
     ensures { Came O.left out.old (man.quote_events number quote) out.new }
 {
     if let Some(quote) = quote {
-        out.give(event_at(number, quote.column, quote_kind(quote)));
+        let place = Place {
+            line: number,
+            column: quote.column,
+        };
+        out.give(event_at(place, quote_kind(quote)));
     }
 }
 
 // What a macro does, if it does something.
-fn give_kind<'a, O: EventTaker<'a>>(
-    out: &mut O,
-    number: u32,
-    column: u32,
-    kind: Option<EventKind<&'a [u8]>>,
-)
+fn give_kind<'a, O: EventTaker<'a>>(out: &mut O, place: Place, kind: Option<EventKind<&'a [u8]>>)
     requires { IfSome kind (λ d. IsShortKind (kind_view d)) }
     ensures { Came O.left out.old
-        (man.kind_events number column (option_map kind_view kind.entry)) out.new }
+        (man.kind_events place (option_map kind_view kind.entry)) out.new }
 {
     if let Some(kind) = kind {
-        out.give(event_at(number, column, kind));
+        out.give(event_at(place, kind));
     }
 }
 
 // The line scope that a macro opens, if it opens one.
-fn give_scope<'a, O: EventTaker<'a>>(
-    out: &mut O,
-    number: u32,
-    column: u32,
-    scope: Option<LineOpener>,
-)
-    ensures { Came O.left out.old (man.scope_events number column scope) out.new }
+fn give_scope<'a, O: EventTaker<'a>>(out: &mut O, place: Place, scope: Option<LineOpener>)
+    ensures { Came O.left out.old (man.scope_events place scope) out.new }
 {
     if let Some(opener) = scope {
-        out.give(event_at(number, column, EventKind::LineScope(opener)));
+        out.give(event_at(place, EventKind::LineScope(opener)));
     }
 }
 
 // The end of the line scopes that are open, where a macro breaks them.
-fn give_break<'a, O: EventTaker<'a>>(out: &mut O, number: u32, column: u32, breaks: bool)
-    ensures { Came O.left out.old (man.break_events number column breaks) out.new }
+fn give_break<'a, O: EventTaker<'a>>(out: &mut O, place: Place, breaks: bool)
+    ensures { Came O.left out.old (man.break_events place breaks) out.new }
 {
     if breaks {
-        out.give(event_at(number, column, EventKind::Close(Closer::Line)));
+        out.give(event_at(place, EventKind::Close(Closer::Line)));
     }
 }
 
@@ -320,14 +294,13 @@ fn give_break<'a, O: EventTaker<'a>>(out: &mut O, number: u32, column: u32, brea
 fn give_end<'a, O: EventTaker<'a>>(out: &mut O, number: u32, fills: bool)
     ensures { Came O.left out.old (line_end number fills ∷ []) out.new }
 {
-    out.give(event_at(number, 1, EventKind::End { fills }));
+    out.give(event_at(line_start(number), EventKind::End { fills }));
 }
 
 // A macro by its row, with arguments that begin after this many bytes.
 fn give_macro<'a, O: EventTaker<'a>>(
     out: &mut O,
-    number: u32,
-    column: u32,
+    place: Place,
     row: Row,
     text: &'a [u8],
     start: usize,
@@ -335,34 +308,27 @@ fn give_macro<'a, O: EventTaker<'a>>(
     requires short { length text.now ≤ LINE }
     requires within { start ≤ length text.now }
     ensures { Came O.left out.old
-        (man.macro_events number column row (drop start text.now) (arguments_after start text.now)) out.new }
+        (man.macro_events place row (drop start text.now) (arguments_after start text.now)) out.new }
 {
-    give_break(out, number, column, row.breaks);
-    give_quote(out, number, missing_quote(row.quotes, text, start));
-    give_kind(out, number, column, effect_kind(row.effect, text, start));
-    give_scope(out, number, column, line_scope(row.effect));
-    give_words(out, number, column, row.words, text, start);
-    give_last(out, number, column, row.last);
+    give_break(out, place, row.breaks);
+    give_quote(out, place.line, missing_quote(row.quotes, text, start));
+    give_kind(out, place, effect_kind(row.effect, text, start));
+    give_scope(out, place, line_scope(row.effect));
+    give_words(out, place, row.words, text, start);
+    give_last(out, place, row.last);
     give_end(
         out,
-        number,
+        place.line,
         has_words(row.words) && has_arguments(&text[start..]),
     );
 }
 
 // A message about a macro's name.
-fn give_refused<'a, O: EventTaker<'a>>(
-    out: &mut O,
-    kind: NoteKind,
-    number: u32,
-    column: u32,
-    name: &'a [u8],
-)
-    ensures { Came O.left out.old (man.refused_events kind number column name.now) out.new }
+fn give_refused<'a, O: EventTaker<'a>>(out: &mut O, kind: NoteKind, place: Place, name: &'a [u8])
+    ensures { Came O.left out.old (man.refused_events kind place name.now) out.new }
 {
     out.give(event_at(
-        number,
-        column,
+        place,
         EventKind::Note {
             kind,
             detail: name,
@@ -370,30 +336,29 @@ fn give_refused<'a, O: EventTaker<'a>>(
             begins_body: false,
         },
     ));
-    give_end(out, number, false);
+    give_end(out, place.line, false);
 }
 
 // A macro without arguments.
 fn give_lone<'a, O: EventTaker<'a>>(
     out: &mut O,
-    line: Taken<'a>,
-    column: u32,
+    place: Place,
     name: &'a [u8],
     row: Row,
+    text: &'a [u8],
     start: usize,
 )
-    requires short { length line.text.now ≤ LINE }
-    requires within { start ≤ length line.text.now }
-    ensures { Came O.left out.old
-        (man.lone_events row.alone line.entry.line column name.now (man.macro_events line.entry.line column row
-        (drop start line.entry.text.now) (arguments_after start line.entry.text.now))) out.new }
+    requires short { length text.now ≤ LINE }
+    requires within { start ≤ length text.now }
+    ensures { Came O.left out.old (man.lone_events row.alone place name.now
+        (man.macro_events place row (drop start text.now) (arguments_after start text.now))) out.new }
 {
     match row.alone {
-        Alone::Same => give_macro(out, line.line, column, row, line.text, start),
-        Alone::Empty => give_refused(out, NoteKind::EmptyMacro, line.line, column, name),
+        Alone::Same => give_macro(out, place, row, text, start),
+        Alone::Empty => give_refused(out, NoteKind::EmptyMacro, place, name),
         Alone::Scope(opener) => {
-            out.give(event_at(line.line, column, EventKind::LineScope(opener)));
-            give_end(out, line.line, false);
+            out.give(event_at(place, EventKind::LineScope(opener)));
+            give_end(out, place.line, false);
         }
     }
 }
@@ -405,7 +370,7 @@ fn give_control<'a, O: EventTaker<'a>>(out: &mut O, line: Taken<'a>)
     ensures { Came O.left out.old (man.control_events (line_view line.entry)) out.new }
 {
     let span = find_name(line);
-    let column = span.start as u32 + 1;
+    let place = name_place(line);
     if span.is_empty() {
         give_end(out, line.line, false);
         return;
@@ -413,10 +378,10 @@ fn give_control<'a, O: EventTaker<'a>>(out: &mut O, line: Taken<'a>)
     let name = &line.text[span.start..span.end];
     match row_of(name) {
         Some(row) if has_arguments(&line.text[span.end..]) => {
-            give_macro(out, line.line, column, row, line.text, span.end);
+            give_macro(out, place, row, line.text, span.end);
         }
-        Some(row) => give_lone(out, line, column, name, row, span.end),
-        None => give_refused(out, NoteKind::UnknownMacro, line.line, column, name),
+        Some(row) => give_lone(out, place, name, row, line.text, span.end),
+        None => give_refused(out, NoteKind::UnknownMacro, place, name),
     }
 }
 
@@ -428,7 +393,7 @@ pub(crate) fn give_events<'a, O: EventTaker<'a>>(out: &mut O, line: Taken<'a>)
 {
     match PlainLine::of(line) {
         Some(plain) => {
-            out.give(event_at(line.line, 1, plain.kind(line.text)));
+            out.give(event_at(line_start(line.line), plain.kind(line.text)));
             give_end(out, line.line, plain.fills());
         }
         None => give_control(out, line),

@@ -13,8 +13,8 @@ use Rattle.page_sets_lines.specs.declared.events.Event.{Event}
 use Rattle.page_sets_lines.specs.declared.line_steps.SynopsisStep.TheVariants.{Break}
 use Rattle.page_sets_lines.specs.declared.openers.Closer.TheVariants as closers
 use Rattle.page_sets_lines.specs.declared.plain_lines.PlainLine.{PlainLine}
-use Rattle.page_sets_lines.specs.ControlLines.{name_of, rest_of, is_nameless}
-use Rattle.page_sets_lines.specs.PlainLines.{event_at, line_end, plain_line, plain_events, layout_request}
+use Rattle.page_sets_lines.specs.ControlLines.{name_of, name_place, rest_of, is_nameless}
+use Rattle.page_sets_lines.specs.PlainLines.{event_at, line_end, plain_line, plain_events, layout_request, word_place}
 use Rattle.page_sets_mdoc_lines.specs.declared.macros.Inline.{Inline}
 use Rattle.page_sets_mdoc_lines.specs.declared.blocks.LineMacro.{LineMacro}
 use Rattle.page_sets_mdoc_lines.specs.declared.blocks.LineMacro.TheVariants as lines
@@ -24,7 +24,7 @@ use Rattle.page_sets_mdoc_words.specs.Printed.{printed}
 use Rattle.page_sets_mdoc_words.specs.Synopses.{framed, placed_events}
 use Rattle.page_sets_mdoc_words.specs.Sentences.{include_events, sentence_events}
 use Rattle.page_sets_mdoc_blocks.specs.Macros.{has_phrase}
-use Rattle.page_sets_mdoc_blocks.specs.Fronts.{name_column, line_arguments, refusal, request_front, has_real_word, given_names, block_front}
+use Rattle.page_sets_mdoc_blocks.specs.Fronts.{line_arguments, refusal, request_front, has_real_word, given_names, block_front}
 
 -- the columns by which the text of a page is indented
 abbrev pub mdoc_indent : ℕ
@@ -34,7 +34,7 @@ mdoc_indent = 5
 
 -- a macro that a word calls is at that word
 abbrev pub call_events : ℕ → Call → Bool → List (Event (List ℕ))
-call_events number call follows = placed_events false number call.name.column call.name.text call.inline call.taken call.words follows
+call_events number call follows = placed_events false (word_place number call.name) call.name.text call.inline call.taken call.words follows
 
 abbrev pub calls_events : ℕ → List Call → List (Event (List ℕ))
 calls_events number [] = []
@@ -43,7 +43,7 @@ calls_events number (call ∷ calls) = call_events number call (has_calls calls)
 -- the closing delimiters at the line's end are outside its enclosures
 abbrev pub tail_events : ℕ → List (Argument (List ℕ)) → List (Event (List ℕ))
 tail_events number [] = []
-tail_events number (first ∷ more) = event_at number first.column (kinds.Close closers.Enclosures) ∷ printed number None (first ∷ more)
+tail_events number (first ∷ more) = event_at (word_place number first) (kinds.Close closers.Enclosures) ∷ printed number None (first ∷ more)
 
 -- what comes after the words of the macro that begins the line
 abbrev pub rest_events : ℕ → LineParts → List (Event (List ℕ))
@@ -52,7 +52,7 @@ rest_events number parts = calls_events number parts.calls ++ tail_events number
 -- a macro that can be among words, and begins the line
 abbrev pub head_events : Line → Inline → LineParts → List (Event (List ℕ))
 head_events line inline parts =
-    placed_events true line.number (name_column line) (name_of line) inline parts.taken parts.words (has_calls parts.calls)
+    placed_events true (name_place line) (name_of line) inline parts.taken parts.words (has_calls parts.calls)
     ++ rest_events line.number parts
 
 -- the words of any other macro, in the font around them
@@ -74,7 +74,7 @@ field_font false font = None
 -- the file of `In` is on a row of its own in the SYNOPSIS; one without a word is refused, and its words stay
 abbrev pub include_words : Bool → Line → List (Event (List ℕ))
 include_words true line =
-    framed line.number (name_column line) (Some Break) (Some Break) (include_events line.number (name_column line) (line_arguments line))
+    framed (name_place line) (Some Break) (Some Break) (include_events (name_place line) (line_arguments line))
 include_words false line = printed line.number None (line_arguments line)
 
 abbrev pub words_events : LineMacro → Line → List (Event (List ℕ))
@@ -84,7 +84,7 @@ words_events (lines.Heading name) line = phrase_events line.number (line_parts N
 words_events lines.Description line = phrase_events line.number (line_parts None line)
 words_events (lines.OneLine name) line = phrase_events line.number (line_parts None line)
 words_events (lines.Field font) line = printed line.number (field_font (has_real_word line) font) (line_arguments line)
-words_events (lines.Sentence sentence) line = sentence_events line.number (name_column line) sentence (given_names (line_arguments line))
+words_events (lines.Sentence sentence) line = sentence_events (name_place line) sentence (given_names (line_arguments line))
 words_events lines.Include line = include_words (has_real_word line) line
 words_events (lines.Prologue name) line = []
 words_events (lines.Paragraph name) line = []

@@ -5,7 +5,7 @@ ghost use Rattle.page_core_base.specs.LinesTaken.{line_view};
 ghost use Rattle.page_core_base.specs.Latches.{Came};
 ghost use Rattle.page_roff_syntax.specs.Arguments.{argument_view};
 ghost use Rattle.std.specs.List.{list_all};
-ghost use Rattle.page_sets_lines.specs.ControlLines.{name_of};
+ghost use Rattle.page_sets_lines.specs.ControlLines.{name_of, name_place};
 ghost use Rattle.page_sets_mdoc_lines.specs.Rows as rows;
 ghost use Rattle.page_sets_mdoc_lines.specs.LineWords.{arguments_after, is_closing};
 ghost use Rattle.page_sets_mdoc_lines.specs.Parts.{parts};
@@ -13,13 +13,16 @@ ghost use Rattle.page_sets_mdoc_lines.specs.machine.Cursors.{IsCursorOf};
 ghost use Rattle.page_sets_mdoc_lines.specs.Words.{words_view};
 ghost use Rattle.page_sets_mdoc_words.specs.Printed.{printed};
 ghost use Rattle.page_sets_mdoc_words.specs.Sentences.{sentence_events};
-ghost use Rattle.page_sets_mdoc_blocks.specs.Fronts.{name_column, has_real_word, given_names, line_arguments};
+ghost use Rattle.page_sets_mdoc_blocks.specs.Fronts.{has_real_word, given_names, line_arguments};
 ghost use Rattle.page_sets_mdoc.specs.machine.Calls.{FindsCall};
 ghost use Rattle.page_sets_mdoc.specs.Mdoc as mdoc;
 
 use page_core_base::{Font, LINE, Taken};
 use page_roff_syntax::Argument;
-use page_sets_lines::{Closer, EventKind, EventTaker, LineStep, SynopsisStep, event_at, find_name};
+use page_sets_lines::{
+    Closer, EventKind, EventTaker, LineStep, SynopsisStep, event_at, find_name, name_place,
+    word_place,
+};
 use page_sets_mdoc_blocks::{has_real_word, is_standard};
 use page_sets_mdoc_lines::{
     Cursor, Inline, LineMacro, Sentence, Words, find_words, is_closing, is_parsed, word_call,
@@ -87,7 +90,7 @@ fn give_tail<'a, O: EventTaker<'a>>(out: &mut O, number: u32, text: &'a [u8], cu
     let mut ahead = cursor;
     if let Some(first) = ahead.read(text) {
         let end = EventKind::Close(Closer::Enclosures);
-        out.give(event_at(number, first.column, end));
+        out.give(event_at(word_place(number, first), end));
         give_printed(out, number, None, text, Words::from(text, cursor));
     }
 }
@@ -103,8 +106,7 @@ fn give_rest<'a, O: EventTaker<'a>>(out: &mut O, number: u32, text: &'a [u8], cu
     let mut rest = cursor;
     while let Some(call) = next_call(text, rest) {
         let name = MacroName {
-            line: number,
-            column: call.name.column,
+            place: word_place(number, call.name),
             text: call.name.text,
         };
         let words = find_words(text, Some(call.inline), call.after, true);
@@ -122,8 +124,7 @@ fn give_head<'a, O: EventTaker<'a>>(out: &mut O, inline: Inline, line: Taken<'a>
 {
     let span = find_name(line);
     let name = MacroName {
-        line: line.line,
-        column: span.start as u32 + 1,
+        place: name_place(line),
         text: &line.text[span.start..span.end],
     };
     let cursor = Cursor::new(line.text, span.end);
@@ -188,22 +189,21 @@ fn give_file<'a, O: EventTaker<'a>>(out: &mut O, line: Taken<'a>)
         give_printed(out, line.line, None, line.text, words);
         return;
     }
-    let column = find_name(line).start as u32 + 1;
+    let place = name_place(line);
     let row = LineStep::Synopsis(SynopsisStep::Break);
-    out.give(step_event(line.line, column, row));
-    give_include(out, line.line, column, line.text, words);
-    out.give(step_event(line.line, column, row));
+    out.give(step_event(place, row));
+    give_include(out, place, line.text, words);
+    out.give(step_event(place, row));
 }
 
 // A sentence with its names.
 fn give_line_sentence<'a, O: EventTaker<'a>>(out: &mut O, sentence: Sentence, line: Taken<'a>)
     requires { length line.text.now ≤ LINE }
-    ensures { Came O.left out.old (sentence_events line.entry.line (name_column (line_view line.entry)) sentence
+    ensures { Came O.left out.old (sentence_events (name_place (line_view line.entry)) sentence
         (given_names (line_arguments (line_view line.entry)))) out.new }
 {
-    let column = find_name(line).start as u32 + 1;
     let names = sentence_names(line);
-    give_sentence(out, line.line, column, sentence, line.text, names);
+    give_sentence(out, name_place(line), sentence, line.text, names);
 }
 
 /// Gives the words of the macro that begins a line, and those of the macros that they call.

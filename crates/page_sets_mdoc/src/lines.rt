@@ -9,7 +9,9 @@ ghost use Rattle.page_sets_mdoc.specs.Mdoc as mdoc;
 use crate::line_words::give_words;
 use page_core_base::{LINE, NoteKind, Taken};
 use page_roff_syntax::{LayoutRequest, has_arguments};
-use page_sets_lines::{EventKind, EventTaker, PlainLine, event_at, find_name, layout_request};
+use page_sets_lines::{
+    EventKind, EventTaker, PlainLine, event_at, find_name, layout_request, line_start,
+};
 use page_sets_mdoc_blocks::{give_front, give_refusal, give_request, has_phrase};
 use page_sets_mdoc_lines::{LineMacro, line_macro};
 
@@ -17,7 +19,7 @@ use page_sets_mdoc_lines::{LineMacro, line_macro};
 fn give_end<'a, O: EventTaker<'a>>(out: &mut O, number: u32, fills: bool)
     ensures { Came O.left out.old (line_end number fills ∷ []) out.new }
 {
-    out.give(event_at(number, 1, EventKind::End { fills }));
+    out.give(event_at(line_start(number), EventKind::End { fills }));
 }
 
 // A message that names the macro, which does nothing else.
@@ -95,7 +97,7 @@ pub(crate) fn give_events<'a, O: EventTaker<'a>>(out: &mut O, line: Taken<'a>)
 {
     match PlainLine::of(line) {
         Some(plain) => {
-            out.give(event_at(line.line, 1, plain.kind(line.text)));
+            out.give(event_at(line_start(line.line), plain.kind(line.text)));
             give_end(out, line.line, plain.fills());
         }
         None => give_control(out, line),

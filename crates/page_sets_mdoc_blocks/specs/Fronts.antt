@@ -1,9 +1,10 @@
 -- What a macro that begins a line does before its words, and the requests that change rows. Source: mdoc(7), "MACRO
 -- REFERENCE"; roff(7), "REQUEST REFERENCE".
-use Rattle.std.specs.Prelude.{ℕ, ◌+◌, ◌-◌, Bool, true, false, ◌&&◌, List, [], ◌∷◌, ◌++◌, Option, None, Some, unwrap_or, codes, if◌then◌else◌}
+use Rattle.std.specs.Prelude.{ℕ, ◌-◌, Bool, true, false, ◌&&◌, List, [], ◌∷◌, ◌++◌, Option, None, Some, unwrap_or, codes, if◌then◌else◌}
 use Rattle.std.specs.Str.{bytes_eq}
 use Rattle.std.specs.List.{list_any}
 use Rattle.page_core_base.specs.LinesTaken.{Line}
+use Rattle.page_core_base.specs.declared.places.Place.{Place}
 use Rattle.page_core_base.specs.declared.note_kinds.NoteKind.{NoteKind}
 use Rattle.page_core_base.specs.declared.note_kinds.NoteKind.TheVariants.{Unterminated, UnknownFont, EmptyMacro}
 use Rattle.page_roff_syntax.specs.Arguments.{is_quoted}
@@ -24,7 +25,7 @@ use Rattle.page_sets_lines.specs.declared.blocks.BlockOpener.{BlockOpener}
 use Rattle.page_sets_lines.specs.declared.blocks.BlockCloser.{BlockCloser}
 use Rattle.page_sets_lines.specs.declared.blocks.BlockOpener.TheVariants as block_openers
 use Rattle.page_sets_lines.specs.declared.blocks.BlockCloser.TheVariants as block_closers
-use Rattle.page_sets_lines.specs.ControlLines.{before_name, name_end, name_of, rest_of, arguments_after, first_of, text_of, is_unclosed, open_quote}
+use Rattle.page_sets_lines.specs.ControlLines.{name_end, name_of, name_place, rest_of, arguments_after, first_of, text_of, is_unclosed, open_quote}
 use Rattle.page_sets_lines.specs.PlainLines.{event_at, request}
 use Rattle.page_core_base.specs.declared.cells.Font.{Font}
 use Rattle.page_sets_mdoc_lines.specs.declared.blocks.Block.{Block}
@@ -36,12 +37,9 @@ use Rattle.page_sets_lines.specs.Lists.{list_options}
 use Rattle.page_sets_mdoc_blocks.specs.Displays.{display, given_font}
 use Rattle.page_sets_mdoc_blocks.specs.Lists.{list_note, list_opener}
 
--- the column of the macro that begins the line
-abbrev pub name_column : Line → ℕ
-name_column line = before_name line.text + 1
-
+-- an event at the macro that begins the line
 abbrev pub at_name : Line → EventKind (List ℕ) → Event (List ℕ)
-at_name line kind = event_at line.number (name_column line) kind
+at_name line kind = event_at (name_place line) kind
 
 abbrev pub line_arguments : Line → List (Argument (List ℕ))
 line_arguments line = arguments_after (name_end line) line.text
@@ -51,12 +49,12 @@ abbrev pub refusal : NoteKind → Line → Event (List ℕ)
 refusal kind line = at_name line (kinds.Note kind (name_of line) false false)
 
 -- the quote of an argument that lacks its last one; its message may begin the body of the page
-abbrev pub quote_event : ℕ → Bool → ℕ → Event (List ℕ)
-quote_event number begins_body column = event_at number column (kinds.Note Unterminated [] false begins_body)
+abbrev pub quote_event : Place → Bool → Event (List ℕ)
+quote_event place begins_body = event_at place (kinds.Note Unterminated [] false begins_body)
 
 abbrev pub quote_events : ℕ → Bool → Option ℕ → List (Event (List ℕ))
 quote_events number begins_body None = []
-quote_events number begins_body (Some column) = quote_event number begins_body column ∷ []
+quote_events number begins_body (Some column) = quote_event (record { line = number; column = column }) begins_body ∷ []
 
 -- a macro that prints none of its arguments tells of a quote that lacks its last one
 abbrev pub missing_quote : Bool → Line → List (Event (List ℕ))

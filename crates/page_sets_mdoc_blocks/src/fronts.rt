@@ -15,7 +15,7 @@ use page_core_base::{LINE, NoteKind, Place, Taken};
 use page_roff_syntax::LayoutRequest;
 use page_sets_lines::{
     BlockCloser, BlockOpener, Closer, Event, EventKind, EventTaker, HeadingName, Leaf, LineOpener,
-    LineStep, Opener, find_name, first_of, with_argument,
+    LineStep, Opener, event_at, find_name, first_of, name_place, with_argument,
 };
 use page_sets_mdoc_lines::{Block, LineMacro};
 
@@ -24,32 +24,23 @@ fn at_name<'a>(line: Taken<'_>, kind: EventKind<&'a [u8]>) -> Event<&'a [u8]>
     requires { length line.text.now ≤ LINE }
     ensures { event_view result ≡ fronts.at_name (line_view line.entry) (kind_view kind.entry) }
 {
-    Event {
-        place: Place {
-            line: line.line,
-            column: find_name(line).start as u32 + 1,
-        },
-        kind,
-    }
+    event_at(name_place(line), kind)
 }
 
 // The message about a quote.
-fn quote_event<'a>(number: u32, begins_body: bool, column: u32) -> Event<&'a [u8]>
-    ensures { event_view result ≡ fronts.quote_event number begins_body column }
+fn quote_event<'a>(place: Place, begins_body: bool) -> Event<&'a [u8]>
+    ensures { event_view result ≡ fronts.quote_event place begins_body }
 {
     let detail: &[u8] = &[];
-    Event {
-        place: Place {
-            line: number,
-            column,
-        },
-        kind: EventKind::Note {
+    event_at(
+        place,
+        EventKind::Note {
             kind: NoteKind::Unterminated,
             detail,
             is_quoted: false,
             begins_body,
         },
-    }
+    )
 }
 
 // The message about a quote in a column, if it lacks its last one.
@@ -62,7 +53,11 @@ fn give_quote<'a, O: EventTaker<'a>>(
     ensures { Came O.left out.old (fronts.quote_events number begins_body column) out.new }
 {
     if let Some(column) = column {
-        out.give(quote_event(number, begins_body, column));
+        let place = Place {
+            line: number,
+            column,
+        };
+        out.give(quote_event(place, begins_body));
     }
 }
 

@@ -8,7 +8,7 @@ use page_core_base::{Font, LINE, NoteKind, Taken};
 use page_roff_syntax::Argument;
 use page_sets_lines::{
     Block, BlockCloser, BlockOpener, Closer, Event, EventKind, EventTaker, GeneratedWord, Join,
-    Leaf, LineStep, Opener, Role, SynopsisStep, Word, find_name,
+    Leaf, LineStep, Opener, Role, SynopsisStep, Word, find_name, name_place,
 };
 use page_sets_mdoc_lines::{Cursor, LineMacro, find_words, is_parsed, line_macro};
 use page_sets_mdoc_words::{MacroName, give_macro};
@@ -189,8 +189,7 @@ fn show(shown: &mut ShownEvents, first: bool, line: Taken<'_>)
     let text = &line.text[span.start..span.end];
     if let Some(LineMacro::Inline(inline)) = line_macro(text) {
         let name = MacroName {
-            line: line.line,
-            column: span.start as u32 + 1,
+            place: name_place(line),
             text,
         };
         let cursor = Cursor::new(line.text, span.end);

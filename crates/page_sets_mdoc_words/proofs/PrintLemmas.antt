@@ -4,6 +4,7 @@ use Rattle.std.proofs.lemmas.Bool.{cases_Bool}
 use Rattle.std.proofs.lemmas.List.{take-append-drop}
 use Rattle.page_core_base.specs.declared.cells.Font.{Font}
 use Rattle.page_core_base.specs.declared.cells.Font.TheVariants.{B, I}
+use Rattle.page_core_base.specs.declared.places.Place.{Place}
 use Rattle.page_roff_syntax.specs.declared.quotes.Argument.{Argument}
 use Rattle.page_sets_lines.specs.declared.events.EventKind.{EventKind}
 use Rattle.page_sets_lines.specs.declared.events.EventKind.TheVariants as kinds
@@ -155,13 +156,13 @@ lone_prints line number event (word ∷ words) w s h =
           (printed_prints line number None (word ∷ words) h))
     ]
 
-pub named_prints : (line : List ℕ) (number column : ℕ) (words : List (Argument (List ℕ))) → AreArguments line words
-    → Prints line 0 words (named number column words)
-named_prints line number column [] h = no_event line 0 []
-named_prints line number column (word ∷ words) h =
+pub named_prints : (line : List ℕ) (place : Place) (words : List (Argument (List ℕ))) → AreArguments line words
+    → Prints line 0 words (named place words)
+named_prints line place [] h = no_event line 0 []
+named_prints line place (word ∷ words) h =
     elim (cases_Bool (is_real word)) [
-      | inl t ↦ rw t (word_first line 0 word words _ (printed number (Some B) words) h.0 (first_taken word words) (printed_prints line number (Some B) words h.1))
-      | inr t ↦ rw t (printed_first line 0 number None word words (named number column words) h.0 (named_prints line number column words h.1))
+      | inl t ↦ rw t (word_first line 0 word words _ (printed place.line (Some B) words) h.0 (first_taken word words) (printed_prints line place.line (Some B) words h.1))
+      | inr t ↦ rw t (printed_first line 0 place.line None word words (named place words) h.0 (named_prints line place words h.1))
     ]
 
 pub flags_print : (line : List ℕ) (number : ℕ) (words : List (Argument (List ℕ))) → AreArguments line words
@@ -194,74 +195,74 @@ reference_prints line number (word ∷ words) h =
       | inr t ↦ rw t (printed_first line 1 number None word words (reference number words) h.0 (reference_prints line number words h.1))
     ]
 
-pub more_arguments_print : (line : List ℕ) (number column : ℕ) (words : List (Argument (List ℕ))) → AreArguments line words
-    → Prints line 0 words (more_arguments number column words)
-more_arguments_print line number column [] h = no_event line 0 []
-more_arguments_print line number column (word ∷ words) h =
-    let more = more_arguments_print line number column words h.1 in
+pub more_arguments_print : (line : List ℕ) (place : Place) (words : List (Argument (List ℕ))) → AreArguments line words
+    → Prints line 0 words (more_arguments place words)
+more_arguments_print line place [] h = no_event line 0 []
+more_arguments_print line place (word ∷ words) h =
+    let more = more_arguments_print line place words h.1 in
     elim (cases_Bool (is_real word)) [
-      | inl t ↦ rw t (marked_first line 0 number (Some I) _ word words (more_arguments number column words) refl tt h.0 more)
-      | inr t ↦ rw t (printed_first line 0 number (Some I) word words (more_arguments number column words) h.0 more)
+      | inl t ↦ rw t (marked_first line 0 place.line (Some I) _ word words (more_arguments place words) refl tt h.0 more)
+      | inr t ↦ rw t (printed_first line 0 place.line (Some I) word words (more_arguments place words) h.0 more)
     ]
 
-pub arguments_print : (line : List ℕ) (number column : ℕ) (words : List (Argument (List ℕ))) → AreArguments line words
-    → Prints line 0 words (arguments number column words)
-arguments_print line number column [] h = no_event line 0 []
-arguments_print line number column (word ∷ words) h =
+pub arguments_print : (line : List ℕ) (place : Place) (words : List (Argument (List ℕ))) → AreArguments line words
+    → Prints line 0 words (arguments place words)
+arguments_print line place [] h = no_event line 0 []
+arguments_print line place (word ∷ words) h =
     elim (cases_Bool (is_real word)) [
-      | inl t ↦ rw t (printed_first line 0 number (Some I) word words (more_arguments number column words) h.0 (more_arguments_print line number column words h.1))
-      | inr t ↦ rw t (printed_first line 0 number (Some I) word words (arguments number column words) h.0 (arguments_print line number column words h.1))
+      | inl t ↦ rw t (printed_first line 0 place.line (Some I) word words (more_arguments place words) h.0 (more_arguments_print line place words h.1))
+      | inr t ↦ rw t (printed_first line 0 place.line (Some I) word words (arguments place words) h.0 (arguments_print line place words h.1))
     ]
 
-pub function_words_print : (line : List ℕ) (number column : ℕ) (words : List (Argument (List ℕ))) → AreArguments line words
-    → Prints line 0 words (function_words number column words)
-function_words_print line number column [] h = no_event line 0 []
-function_words_print line number column (word ∷ words) h =
-    elim (cases_Bool (is_real word)) [
-      | inl t ↦
-          rw t (word_marked line 0 number (Some B) _ word words (arguments number column words) refl tt h.0 (arguments_print line number column words h.1))
-      | inr t ↦ rw t (printed_first line 0 number (Some B) word words (function_words number column words) h.0 (function_words_print line number column words h.1))
-    ]
-
-pub function_end_prints : (line : List ℕ) (number column : ℕ) (words : List (Argument (List ℕ))) → AreArguments line words
-    → Prints line 1 words (function_end number column words)
-function_end_prints line number column words h =
-    own_first line 0 1 words _ (printed number None words) refl tt (omega arith) (printed_prints line number None words h)
-
-pub next_arguments_print : (line : List ℕ) (number column : ℕ) (words : List (Argument (List ℕ))) → AreArguments line words
-    → Prints line 0 words (next_arguments number column words)
-next_arguments_print line number column [] h = no_event line 0 []
-next_arguments_print line number column (word ∷ words) h =
-    let more = next_arguments_print line number column words h.1 in
-    elim (cases_Bool (is_real word)) [
-      | inl t ↦ rw t (marked_first line 0 number (Some I) _ word words (next_arguments number column words) refl tt h.0 more)
-      | inr t ↦ rw t (printed_first line 0 number None word words (next_arguments number column words) h.0 more)
-    ]
-
-pub function_opened_prints : (line : List ℕ) (number column : ℕ) (words : List (Argument (List ℕ))) → AreArguments line words
-    → Prints line 0 words (function_opened number column words)
-function_opened_prints line number column [] h = no_event line 0 []
-function_opened_prints line number column (word ∷ words) h =
+pub function_words_print : (line : List ℕ) (place : Place) (words : List (Argument (List ℕ))) → AreArguments line words
+    → Prints line 0 words (function_words place words)
+function_words_print line place [] h = no_event line 0 []
+function_words_print line place (word ∷ words) h =
     elim (cases_Bool (is_real word)) [
       | inl t ↦
-          rw t (word_passed line 0 word words _ (own_first line 0 2 words _ (printed number None words) refl h.0 (omega arith) (printed_prints line number None words h.1)))
-      | inr t ↦ rw t (printed_first line 0 number None word words (function_opened number column words) h.0 (function_opened_prints line number column words h.1))
+          rw t (word_marked line 0 place.line (Some B) _ word words (arguments place words) refl tt h.0 (arguments_print line place words h.1))
+      | inr t ↦ rw t (printed_first line 0 place.line (Some B) word words (function_words place words) h.0 (function_words_print line place words h.1))
     ]
 
-pub bsd_prints : (line : List ℕ) (number column : ℕ) (words : List (Argument (List ℕ))) → AreArguments line words
-    → Prints line 1 words (bsd number column words)
-bsd_prints line number column [] h = own_first line 0 1 [] _ [] refl tt (omega arith) (no_event line 0 [])
-bsd_prints line number column (word ∷ words) h =
+pub function_end_prints : (line : List ℕ) (place : Place) (words : List (Argument (List ℕ))) → AreArguments line words
+    → Prints line 1 words (function_end place words)
+function_end_prints line place words h =
+    own_first line 0 1 words _ (printed place.line None words) refl tt (omega arith) (printed_prints line place.line None words h)
+
+pub next_arguments_print : (line : List ℕ) (place : Place) (words : List (Argument (List ℕ))) → AreArguments line words
+    → Prints line 0 words (next_arguments place words)
+next_arguments_print line place [] h = no_event line 0 []
+next_arguments_print line place (word ∷ words) h =
+    let more = next_arguments_print line place words h.1 in
+    elim (cases_Bool (is_real word)) [
+      | inl t ↦ rw t (marked_first line 0 place.line (Some I) _ word words (next_arguments place words) refl tt h.0 more)
+      | inr t ↦ rw t (printed_first line 0 place.line None word words (next_arguments place words) h.0 more)
+    ]
+
+pub function_opened_prints : (line : List ℕ) (place : Place) (words : List (Argument (List ℕ))) → AreArguments line words
+    → Prints line 0 words (function_opened place words)
+function_opened_prints line place [] h = no_event line 0 []
+function_opened_prints line place (word ∷ words) h =
+    elim (cases_Bool (is_real word)) [
+      | inl t ↦
+          rw t (word_passed line 0 word words _ (own_first line 0 2 words _ (printed place.line None words) refl h.0 (omega arith) (printed_prints line place.line None words h.1)))
+      | inr t ↦ rw t (printed_first line 0 place.line None word words (function_opened place words) h.0 (function_opened_prints line place words h.1))
+    ]
+
+pub bsd_prints : (line : List ℕ) (place : Place) (words : List (Argument (List ℕ))) → AreArguments line words
+    → Prints line 1 words (bsd place words)
+bsd_prints line place [] h = own_first line 0 1 [] _ [] refl tt (omega arith) (no_event line 0 [])
+bsd_prints line place (word ∷ words) h =
     elim (cases_Bool (is_real word)) [
       | inl t ↦
           rw t (more_events line 0 1 (word ∷ words) _ (omega arith)
-          (word_marked line 0 number None _ word words (printed number None words) refl tt h.0 (printed_prints line number None words h.1)))
+          (word_marked line 0 place.line None _ word words (printed place.line None words) refl tt h.0 (printed_prints line place.line None words h.1)))
       | inr t ↦
           elim (cases_Bool (is_opening word)) [
-            | inl s ↦ rw (t, s) (printed_first line 1 number None word words (bsd number column words) h.0 (bsd_prints line number column words h.1))
+            | inl s ↦ rw (t, s) (printed_first line 1 place.line None word words (bsd place words) h.0 (bsd_prints line place words h.1))
             | inr s ↦
-                rw (t, s) (own_first line 0 1 (word ∷ words) _ (printed number None (word ∷ words)) refl tt (omega arith)
-                (printed_prints line number None (word ∷ words) h))
+                rw (t, s) (own_first line 0 1 (word ∷ words) _ (printed place.line None (word ∷ words)) refl tt (omega arith)
+                (printed_prints line place.line None (word ∷ words) h))
           ]
     ]
 
@@ -270,21 +271,21 @@ nothing_after [] = refl
 nothing_after (word ∷ words) = ap (λ l. word ∷ l) (nothing_after words)
 
 -- the address, after its texts
-address_prints : (line : List ℕ) (number column : ℕ) (uri : Argument (List ℕ)) (texts : List (Argument (List ℕ))) → IsArgument line uri → AreArguments line texts
-    → Prints line 2 texts (address number column uri texts)
-address_prints line number column uri [] u h = own_first line 0 2 [] _ [] refl u (omega arith) (no_event line 0 [])
-address_prints line number column uri (text ∷ texts) u h =
-    let p = printed_prints line number (Some I) (text ∷ texts) h in
+address_prints : (line : List ℕ) (place : Place) (uri : Argument (List ℕ)) (texts : List (Argument (List ℕ))) → IsArgument line uri → AreArguments line texts
+    → Prints line 2 texts (address place uri texts)
+address_prints line place uri [] u h = own_first line 0 2 [] _ [] refl u (omega arith) (no_event line 0 [])
+address_prints line place uri (text ∷ texts) u h =
+    let p = printed_prints line place.line (Some I) (text ∷ texts) h in
     let q = own_first line 1 2 [] _ _ refl tt (omega arith) (own_first line 0 1 [] _ [] refl u (omega arith) (no_event line 0 [])) in
-    subst (λ l. Prints line 2 l (address number column uri (text ∷ texts))) (nothing_after (text ∷ texts)) (both line 0 2 (text ∷ texts) [] _ _ p q)
+    subst (λ l. Prints line 2 l (address place uri (text ∷ texts))) (nothing_after (text ∷ texts)) (both line 0 2 (text ∷ texts) [] _ _ p q)
 
-pub link_words_print : (line : List ℕ) (number column : ℕ) (words : List (Argument (List ℕ))) → AreArguments line words
-    → Prints line 0 words (link_words number column words)
-link_words_print line number column [] h = no_event line 0 []
-link_words_print line number column (word ∷ words) h =
+pub link_words_print : (line : List ℕ) (place : Place) (words : List (Argument (List ℕ))) → AreArguments line words
+    → Prints line 0 words (link_words place words)
+link_words_print line place [] h = no_event line 0 []
+link_words_print line place (word ∷ words) h =
     elim (cases_Bool (is_real word)) [
-      | inl t ↦ rw t (word_passed line 0 word words _ (address_prints line number column word words h.0 h.1))
-      | inr t ↦ rw t (printed_first line 0 number None word words (link_words number column words) h.0 (link_words_print line number column words h.1))
+      | inl t ↦ rw t (word_passed line 0 word words _ (address_prints line place word words h.0 h.1))
+      | inr t ↦ rw t (printed_first line 0 place.line None word words (link_words place words) h.0 (link_words_print line place words h.1))
     ]
 
 pub missing_quote_prints : (line : List ℕ) (number : ℕ) (option : Argument (List ℕ)) → Prints line 0 (option ∷ []) (missing_quote number option)
@@ -296,92 +297,92 @@ missing_quote_prints line number option =
 
 -- ---- `In`
 
-pub file_prints : (line : List ℕ) (number column : ℕ) (words : List (Argument (List ℕ))) → AreArguments line words
-    → Prints line 0 words (file_events number column words)
-file_prints line number column [] h = no_event line 0 []
-file_prints line number column (file ∷ words) h =
-    word_marked line 0 number None _ file words (printed number None words) refl tt h.0 (printed_prints line number None words h.1)
+pub file_prints : (line : List ℕ) (place : Place) (words : List (Argument (List ℕ))) → AreArguments line words
+    → Prints line 0 words (file_events place words)
+file_prints line place [] h = no_event line 0 []
+file_prints line place (file ∷ words) h =
+    word_marked line 0 place.line None _ file words (printed place.line None words) refl tt h.0 (printed_prints line place.line None words h.1)
 
-pub include_prints : (line : List ℕ) (number column : ℕ) (words : List (Argument (List ℕ))) → AreArguments line words
-    → Prints line 2 words (include_events number column words)
-include_prints line number column [] h = no_event line 2 []
-include_prints line number column (word ∷ words) h =
+pub include_prints : (line : List ℕ) (place : Place) (words : List (Argument (List ℕ))) → AreArguments line words
+    → Prints line 2 words (include_events place words)
+include_prints line place [] h = no_event line 2 []
+include_prints line place (word ∷ words) h =
     elim (cases_Bool (is_real word)) [
       | inl t ↦
           rw t (own_first line 1 2 (word ∷ words) _ _ refl tt (omega arith)
-          (own_first line 0 1 (word ∷ words) _ _ refl tt (omega arith) (file_prints line number column (word ∷ words) h)))
-      | inr t ↦ rw t (printed_first line 2 number None word words (include_events number column words) h.0 (include_prints line number column words h.1))
+          (own_first line 0 1 (word ∷ words) _ _ refl tt (omega arith) (file_prints line place (word ∷ words) h)))
+      | inr t ↦ rw t (printed_first line 2 place.line None word words (include_events place words) h.0 (include_prints line place words h.1))
     ]
 
 -- ---- `Ex`, `Rv`
 
 -- what is glued to a name takes the room of an argument's second event
-name_first : (line : List ℕ) (more number column : ℕ) (mark : Option GeneratedText) (name : Argument (List ℕ)) (names : List (Argument (List ℕ))) (events : List (Event (List ℕ)))
+name_first : (line : List ℕ) (more : ℕ) (place : Place) (mark : Option GeneratedText) (name : Argument (List ℕ)) (names : List (Argument (List ℕ))) (events : List (Event (List ℕ)))
     → IsArgument line name → Prints line more names events
-    → Prints line more (name ∷ names) (real_word number (Some B) name ∷ marked number column mark events)
-name_first line more number column None name names events h p = word_first line more name names _ events h (first_taken name names) p
-name_first line more number column (Some text) name names events h p = record {
+    → Prints line more (name ∷ names) (real_word place.line (Some B) name ∷ marked place mark events)
+name_first line more place None name names events h p = word_first line more name names _ events h (first_taken name names) p
+name_first line more place (Some text) name names events h p = record {
   slices = (h, (tt, p.slices));
   order = (names, first_taken name names, (names, refl, p.order));
   few = let few = p.few in omega (arith, few);
 }
 
 -- the last name
-last_prints : (line : List ℕ) (number column : ℕ) (sentence : Sentence) (all : NameCount) (name : Argument (List ℕ)) → IsArgument line name
-    → Prints line 1 (name ∷ []) (names_events number column sentence all (name ∷ []))
-last_prints line number column sentence all name h =
-    name_first line 1 number column (name_mark sentence (has_comma all counts.Zero)) name [] _ h
+last_prints : (line : List ℕ) (place : Place) (sentence : Sentence) (all : NameCount) (name : Argument (List ℕ)) → IsArgument line name
+    → Prints line 1 (name ∷ []) (names_events place sentence all (name ∷ []))
+last_prints line place sentence all name h =
+    name_first line 1 place (name_mark sentence (has_comma all counts.Zero)) name [] _ h
     (own_first line 0 1 [] _ [] refl tt (omega arith) (no_event line 0 []))
 
-names_print : (line : List ℕ) (number column : ℕ) (sentence : Sentence) (all : NameCount) (names : List (Argument (List ℕ))) → AreArguments line names
-    → Prints line 2 names (names_events number column sentence all names)
-names_print line number column sentence all [] h = own_first line 0 2 [] _ [] refl tt (omega arith) (no_event line 0 [])
-names_print line number column sentence all (name ∷ []) h =
-    more_events line 1 2 (name ∷ []) _ (omega arith) (last_prints line number column sentence all name h.0)
-names_print line number column sentence all (name ∷ last ∷ []) h =
-    name_first line 2 number column (name_mark sentence (has_comma all counts.One)) name (last ∷ []) _ h.0
-    (own_first line 1 2 (last ∷ []) _ _ refl tt (omega arith) (last_prints line number column sentence all last h.1.0))
-names_print line number column sentence all (name ∷ second ∷ third ∷ []) h =
-    name_first line 2 number column (name_mark sentence (has_comma all counts.Two)) name (second ∷ third ∷ []) _ h.0
-    (names_print line number column sentence all (second ∷ third ∷ []) h.1)
-names_print line number column sentence all (name ∷ second ∷ third ∷ fourth ∷ names) h =
-    name_first line 2 number column (name_mark sentence (has_comma all counts.More)) name (second ∷ third ∷ fourth ∷ names) _ h.0
-    (names_print line number column sentence all (second ∷ third ∷ fourth ∷ names) h.1)
+names_print : (line : List ℕ) (place : Place) (sentence : Sentence) (all : NameCount) (names : List (Argument (List ℕ))) → AreArguments line names
+    → Prints line 2 names (names_events place sentence all names)
+names_print line place sentence all [] h = own_first line 0 2 [] _ [] refl tt (omega arith) (no_event line 0 [])
+names_print line place sentence all (name ∷ []) h =
+    more_events line 1 2 (name ∷ []) _ (omega arith) (last_prints line place sentence all name h.0)
+names_print line place sentence all (name ∷ last ∷ []) h =
+    name_first line 2 place (name_mark sentence (has_comma all counts.One)) name (last ∷ []) _ h.0
+    (own_first line 1 2 (last ∷ []) _ _ refl tt (omega arith) (last_prints line place sentence all last h.1.0))
+names_print line place sentence all (name ∷ second ∷ third ∷ []) h =
+    name_first line 2 place (name_mark sentence (has_comma all counts.Two)) name (second ∷ third ∷ []) _ h.0
+    (names_print line place sentence all (second ∷ third ∷ []) h.1)
+names_print line place sentence all (name ∷ second ∷ third ∷ fourth ∷ names) h =
+    name_first line 2 place (name_mark sentence (has_comma all counts.More)) name (second ∷ third ∷ fourth ∷ names) _ h.0
+    (names_print line place sentence all (second ∷ third ∷ fourth ∷ names) h.1)
 
-marked_prints : (line : List ℕ) (more number column : ℕ) (mark : Option GeneratedText) (words : List (Argument (List ℕ))) (events : List (Event (List ℕ)))
-    → Prints line more words events → Prints line (more + 1) words (marked number column mark events)
-marked_prints line more number column None words events p = more_events line more (more + 1) words events (omega arith) p
-marked_prints line more number column (Some text) words events p = own_first line more (more + 1) words _ events refl tt (omega arith) p
+marked_prints : (line : List ℕ) (more : ℕ) (place : Place) (mark : Option GeneratedText) (words : List (Argument (List ℕ))) (events : List (Event (List ℕ)))
+    → Prints line more words events → Prints line (more + 1) words (marked place mark events)
+marked_prints line more place None words events p = more_events line more (more + 1) words events (omega arith) p
+marked_prints line more place (Some text) words events p = own_first line more (more + 1) words _ events refl tt (omega arith) p
 
-given_names_print : (line : List ℕ) (number column : ℕ) (sentence : Sentence) (names : List (Argument (List ℕ))) → AreArguments line names
-    → Prints line 3 names (given_names number column sentence names)
-given_names_print line number column sentence [] h =
+given_names_print : (line : List ℕ) (place : Place) (sentence : Sentence) (names : List (Argument (List ℕ))) → AreArguments line names
+    → Prints line 3 names (given_names place sentence names)
+given_names_print line place sentence [] h =
     own_first line 2 3 [] _ _ refl tt (omega arith)
-    (marked_prints line 1 number column (name_mark sentence false) [] _ (own_first line 0 1 [] _ [] refl tt (omega arith) (no_event line 0 [])))
-given_names_print line number column sentence (name ∷ names) h =
-    more_events line 2 3 (name ∷ names) _ (omega arith) (names_print line number column sentence (name_count (name ∷ names)) (name ∷ names) h)
+    (marked_prints line 1 place (name_mark sentence false) [] _ (own_first line 0 1 [] _ [] refl tt (omega arith) (no_event line 0 [])))
+given_names_print line place sentence (name ∷ names) h =
+    more_events line 2 3 (name ∷ names) _ (omega arith) (names_print line place sentence (name_count (name ∷ names)) (name ∷ names) h)
 
-pub sentence_prints : (line : List ℕ) (number column : ℕ) (sentence : Sentence) (names : List (Argument (List ℕ))) → AreArguments line names
-    → Prints line 4 names (sentence_events number column sentence names)
-sentence_prints line number column sentence names h =
-    own_first line 3 4 names _ _ refl tt (omega arith) (given_names_print line number column sentence names h)
+pub sentence_prints : (line : List ℕ) (place : Place) (sentence : Sentence) (names : List (Argument (List ℕ))) → AreArguments line names
+    → Prints line 4 names (sentence_events place sentence names)
+sentence_prints line place sentence names h =
+    own_first line 3 4 names _ _ refl tt (omega arith) (given_names_print line place sentence names h)
 
 -- ---- with what a macro does in the SYNOPSIS
 
-preceded_prints : (line : List ℕ) (more number column : ℕ) (before : Option SynopsisStep) (words : List (Argument (List ℕ))) (events : List (Event (List ℕ)))
-    → Prints line more words events → Prints line (more + 1) words (preceded number column before events)
-preceded_prints line more number column None words events p = more_events line more (more + 1) words events (omega arith) p
-preceded_prints line more number column (Some step) words events p = own_first line more (more + 1) words _ events refl tt (omega arith) p
+preceded_prints : (line : List ℕ) (more : ℕ) (place : Place) (before : Option SynopsisStep) (words : List (Argument (List ℕ))) (events : List (Event (List ℕ)))
+    → Prints line more words events → Prints line (more + 1) words (preceded place before events)
+preceded_prints line more place None words events p = more_events line more (more + 1) words events (omega arith) p
+preceded_prints line more place (Some step) words events p = own_first line more (more + 1) words _ events refl tt (omega arith) p
 
-followed_prints : (line : List ℕ) (more number column : ℕ) (after : Option SynopsisStep) (words : List (Argument (List ℕ))) (events : List (Event (List ℕ)))
-    → Prints line more words events → Prints line (more + 1) words (followed number column after events)
-followed_prints line more number column None words events p = more_events line more (more + 1) words events (omega arith) p
-followed_prints line more number column (Some step) words events p =
-    subst (λ l. Prints line (more + 1) l (followed number column (Some step) events)) (nothing_after words)
+followed_prints : (line : List ℕ) (more : ℕ) (place : Place) (after : Option SynopsisStep) (words : List (Argument (List ℕ))) (events : List (Event (List ℕ)))
+    → Prints line more words events → Prints line (more + 1) words (followed place after events)
+followed_prints line more place None words events p = more_events line more (more + 1) words events (omega arith) p
+followed_prints line more place (Some step) words events p =
+    subst (λ l. Prints line (more + 1) l (followed place (Some step) events)) (nothing_after words)
     (both line more 1 words [] events _ p (own_first line 0 1 [] _ [] refl tt (omega arith) (no_event line 0 [])))
 
-pub framed_prints : (line : List ℕ) (more number column : ℕ) (before after : Option SynopsisStep) (words : List (Argument (List ℕ))) (events : List (Event (List ℕ)))
-    → Prints line more words events → Prints line (more + 2) words (framed number column before after events)
-framed_prints line more number column before after words events p =
+pub framed_prints : (line : List ℕ) (more : ℕ) (place : Place) (before after : Option SynopsisStep) (words : List (Argument (List ℕ))) (events : List (Event (List ℕ)))
+    → Prints line more words events → Prints line (more + 2) words (framed place before after events)
+framed_prints line more place before after words events p =
     more_events line (more + 1 + 1) (more + 2) words _ (omega arith)
-    (preceded_prints line (more + 1) number column before words _ (followed_prints line more number column after words events p))
+    (preceded_prints line (more + 1) place before words _ (followed_prints line more place after words events p))

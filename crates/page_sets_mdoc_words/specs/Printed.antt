@@ -2,6 +2,7 @@
 use Rattle.std.specs.Prelude.{ℕ, Bool, true, false, List, [], ◌∷◌, Option, None, Some}
 use Rattle.page_core_base.specs.declared.cells.Font.{Font}
 use Rattle.page_core_base.specs.declared.cells.Font.TheVariants.{R}
+use Rattle.page_core_base.specs.declared.places.Place.{Place}
 use Rattle.page_roff_syntax.specs.declared.quotes.Argument.{Argument}
 use Rattle.page_sets_lines.specs.declared.events.Join.{Join}
 use Rattle.page_sets_lines.specs.declared.events.Join.TheVariants.{Apart, Glued}
@@ -40,8 +41,8 @@ abbrev pub printed : ℕ → Option Font → List (Argument (List ℕ)) → List
 printed number font [] = []
 printed number font (word ∷ words) = printed_word number font word ∷ printed number font words
 
-abbrev pub step_event : ℕ → ℕ → LineStep (List ℕ) → Event (List ℕ)
-step_event number column step = event_at number column (kinds.Leaf (leaves.Step step))
+abbrev pub step_event : Place → LineStep (List ℕ) → Event (List ℕ)
+step_event place step = event_at place (kinds.Leaf (leaves.Step step))
 
 abbrev pub opens : Option Delimiter → Bool
 opens (Some Opening) = true

@@ -1,6 +1,7 @@
 -- Words of macros that begin a line and read all of it: the sentences of `Ex` and `Rv`, and the file of `In`. Source: mdoc(7), `Ex`, `In` and `Rv`.
 use Rattle.std.specs.Prelude.{ℕ, Bool, true, false, not, ◌&&◌, List, [], ◌∷◌, Option, None, Some, if◌then◌else◌}
 use Rattle.page_core_base.specs.declared.cells.Font.TheVariants.{B}
+use Rattle.page_core_base.specs.declared.places.Place.{Place}
 use Rattle.page_roff_syntax.specs.declared.quotes.Argument.{Argument}
 use Rattle.page_sets_lines.specs.declared.events.Event.{Event}
 use Rattle.page_sets_lines.specs.declared.events.Join.TheVariants.{Apart, Glued}
@@ -56,53 +57,53 @@ sentence_end Exit false = owns.UtilityExits
 sentence_end Return true = owns.FunctionsReturn
 sentence_end Return false = owns.FunctionReturns
 
-abbrev pub sentence_word : ℕ → ℕ → GeneratedText → Event (List ℕ)
-sentence_word number column text = generated_word number column text None Apart Apart
+abbrev pub sentence_word : Place → GeneratedText → Event (List ℕ)
+sentence_word place text = generated_word place text None Apart Apart
 
-abbrev pub mark_word : ℕ → ℕ → GeneratedText → Event (List ℕ)
-mark_word number column text = generated_word number column text None Glued Apart
+abbrev pub mark_word : Place → GeneratedText → Event (List ℕ)
+mark_word place text = generated_word place text None Glued Apart
 
-abbrev pub marked : ℕ → ℕ → Option GeneratedText → List (Event (List ℕ)) → List (Event (List ℕ))
-marked number column None events = events
-marked number column (Some text) events = mark_word number column text ∷ events
+abbrev pub marked : Place → Option GeneratedText → List (Event (List ℕ)) → List (Event (List ℕ))
+marked place None events = events
+marked place (Some text) events = mark_word place text ∷ events
 
 -- before the last of several names
-abbrev pub joined : ℕ → ℕ → NameCount → List (Event (List ℕ)) → List (Event (List ℕ))
-joined number column counts.One events = sentence_word number column owns.And ∷ events
-joined number column _ events = events
+abbrev pub joined : Place → NameCount → List (Event (List ℕ)) → List (Event (List ℕ))
+joined place counts.One events = sentence_word place owns.And ∷ events
+joined place _ events = events
 
 -- the names that are left of this many, in bold, and the rest of the sentence
-abbrev pub names_events : ℕ → ℕ → Sentence → NameCount → List (Argument (List ℕ)) → List (Event (List ℕ))
-names_events number column sentence all [] = sentence_word number column (sentence_end sentence (is_plural all)) ∷ []
-names_events number column sentence all (name ∷ names) =
-    real_word number (Some B) name
-    ∷ marked number column (name_mark sentence (has_comma all (name_count names)))
-    (joined number column (name_count names) (names_events number column sentence all names))
+abbrev pub names_events : Place → Sentence → NameCount → List (Argument (List ℕ)) → List (Event (List ℕ))
+names_events place sentence all [] = sentence_word place (sentence_end sentence (is_plural all)) ∷ []
+names_events place sentence all (name ∷ names) =
+    real_word place.line (Some B) name
+    ∷ marked place (name_mark sentence (has_comma all (name_count names)))
+    (joined place (name_count names) (names_events place sentence all names))
 
 -- where no name is given, it is the name of the manual
-abbrev pub given_names : ℕ → ℕ → Sentence → List (Argument (List ℕ)) → List (Event (List ℕ))
-given_names number column sentence [] =
-    step_event number column steps.ManualName
-    ∷ marked number column (name_mark sentence false) (names_events number column sentence counts.Zero [])
-given_names number column sentence (name ∷ names) =
-    names_events number column sentence (name_count (name ∷ names)) (name ∷ names)
+abbrev pub given_names : Place → Sentence → List (Argument (List ℕ)) → List (Event (List ℕ))
+given_names place sentence [] =
+    step_event place steps.ManualName
+    ∷ marked place (name_mark sentence false) (names_events place sentence counts.Zero [])
+given_names place sentence (name ∷ names) =
+    names_events place sentence (name_count (name ∷ names)) (name ∷ names)
 
-abbrev pub sentence_events : ℕ → ℕ → Sentence → List (Argument (List ℕ)) → List (Event (List ℕ))
-sentence_events number column sentence names = sentence_word number column owns.The ∷ given_names number column sentence names
+abbrev pub sentence_events : Place → Sentence → List (Argument (List ℕ)) → List (Event (List ℕ))
+sentence_events place sentence names = sentence_word place owns.The ∷ given_names place sentence names
 
 -- ---- `In`
 
 -- a file in angles; other words are as they are, and delimiters in their place
-abbrev pub file_events : ℕ → ℕ → List (Argument (List ℕ)) → List (Event (List ℕ))
-file_events number column [] = []
-file_events number column (file ∷ words) =
-    printed_word number None file ∷ generated_word number column owns.CloseAngle None Glued Apart ∷ printed number None words
+abbrev pub file_events : Place → List (Argument (List ℕ)) → List (Event (List ℕ))
+file_events place [] = []
+file_events place (file ∷ words) =
+    printed_word place.line None file ∷ generated_word place owns.CloseAngle None Glued Apart ∷ printed place.line None words
 
-abbrev pub include_events : ℕ → ℕ → List (Argument (List ℕ)) → List (Event (List ℕ))
-include_events number column [] = []
-include_events number column (word ∷ words) =
+abbrev pub include_events : Place → List (Argument (List ℕ)) → List (Event (List ℕ))
+include_events place [] = []
+include_events place (word ∷ words) =
     if is_real word then
-    synopsis_event number column Include
-    ∷ generated_word number column owns.OpenAngle None Apart Glued
-    ∷ file_events number column (word ∷ words)
-    else printed_word number None word ∷ include_events number column words
+    synopsis_event place Include
+    ∷ generated_word place owns.OpenAngle None Apart Glued
+    ∷ file_events place (word ∷ words)
+    else printed_word place.line None word ∷ include_events place words

@@ -1,6 +1,7 @@
 -- What a macro does in the section SYNOPSIS, before its words and after them. Source: mdoc(7), `Cd`, `Fd`, `Fn`, `Fo`, `Ft`, `Nm`, `Vt`.
 use Rattle.std.specs.Prelude.{ℕ, Bool, true, false, ◌&&◌, List, [], ◌∷◌, ◌++◌, Option, None, Some, if◌then◌else◌}
 use Rattle.std.specs.List.{list_any}
+use Rattle.page_core_base.specs.declared.places.Place.{Place}
 use Rattle.page_roff_syntax.specs.declared.quotes.Argument.{Argument}
 use Rattle.page_sets_lines.specs.declared.events.Event.{Event}
 use Rattle.page_sets_lines.specs.declared.line_steps.LineStep.TheVariants as steps
@@ -35,23 +36,23 @@ after_words first inlines.Declaration real = step_if real Break
 after_words first inlines.Name real = step_if first NameEnds
 after_words first inline real = None
 
-abbrev pub synopsis_event : ℕ → ℕ → SynopsisStep → Event (List ℕ)
-synopsis_event number column step = step_event number column (steps.Synopsis step)
+abbrev pub synopsis_event : Place → SynopsisStep → Event (List ℕ)
+synopsis_event place step = step_event place (steps.Synopsis step)
 
-abbrev pub preceded : ℕ → ℕ → Option SynopsisStep → List (Event (List ℕ)) → List (Event (List ℕ))
-preceded number column None events = events
-preceded number column (Some step) events = synopsis_event number column step ∷ events
+abbrev pub preceded : Place → Option SynopsisStep → List (Event (List ℕ)) → List (Event (List ℕ))
+preceded place None events = events
+preceded place (Some step) events = synopsis_event place step ∷ events
 
-abbrev pub followed : ℕ → ℕ → Option SynopsisStep → List (Event (List ℕ)) → List (Event (List ℕ))
-followed number column None events = events
-followed number column (Some step) events = events ++ (synopsis_event number column step ∷ [])
+abbrev pub followed : Place → Option SynopsisStep → List (Event (List ℕ)) → List (Event (List ℕ))
+followed place None events = events
+followed place (Some step) events = events ++ (synopsis_event place step ∷ [])
 
 -- events with one before them and one after them, where there are such
-abbrev pub framed : ℕ → ℕ → (before after : Option SynopsisStep) → List (Event (List ℕ)) → List (Event (List ℕ))
-framed number column before after events = preceded number column before (followed number column after events)
+abbrev pub framed : Place → (before after : Option SynopsisStep) → List (Event (List ℕ)) → List (Event (List ℕ))
+framed place before after events = preceded place before (followed place after events)
 
 -- all events of a macro, where it begins its line or not: where it is, its name, the word that it takes as it is, its other words, and whether calls come after them
-abbrev pub placed_events : Bool → ℕ → ℕ → List ℕ → Inline → Option (Argument (List ℕ)) → List (Argument (List ℕ)) → Bool → List (Event (List ℕ))
-placed_events first number column name inline taken words follows =
-    framed number column (before_words first inline (list_any is_real words)) (after_words first inline (list_any is_real words))
-    (inline_events number column name inline taken words follows)
+abbrev pub placed_events : Bool → Place → List ℕ → Inline → Option (Argument (List ℕ)) → List (Argument (List ℕ)) → Bool → List (Event (List ℕ))
+placed_events first place name inline taken words follows =
+    framed place (before_words first inline (list_any is_real words)) (after_words first inline (list_any is_real words))
+    (inline_events place name inline taken words follows)

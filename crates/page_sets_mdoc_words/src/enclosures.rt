@@ -33,12 +33,12 @@ fn give_opener<'a, O: EventTaker<'a>>(
     requires within { IsCursorOf text.now words.cursor }
     requires fits { BlockOpenerFits (block_opener_view opener) }
     ensures { Came O.left out.old
-        (event_at name.entry.line name.entry.column (kinds.Open (begins.Block (block_opener_view opener.entry)))
-        ∷ printed name.entry.line None (words_view text.now words)) out.new }
+        (event_at name.entry.place (kinds.Open (begins.Block (block_opener_view opener.entry)))
+        ∷ printed name.entry.place.line None (words_view text.now words)) out.new }
 {
     let kind = EventKind::Open(Opener::Block(opener));
-    out.give(event_at(name.line, name.column, kind));
-    give_printed(out, name.line, None, text, words);
+    out.give(event_at(name.place, kind));
+    give_printed(out, name.place.line, None, text, words);
 }
 
 // What closes a scope, and then the words.
@@ -53,12 +53,12 @@ fn give_closer<'a, O: EventTaker<'a>>(
     requires within { IsCursorOf text.now words.cursor }
     requires fits { BlockCloserFits (block_closer_view closer) }
     ensures { Came O.left out.old
-        (event_at name.entry.line name.entry.column (kinds.Close (ends.Block (block_closer_view closer.entry)))
-        ∷ printed name.entry.line None (words_view text.now words)) out.new }
+        (event_at name.entry.place (kinds.Close (ends.Block (block_closer_view closer.entry)))
+        ∷ printed name.entry.place.line None (words_view text.now words)) out.new }
 {
     let kind = EventKind::Close(Closer::Block(closer));
-    out.give(event_at(name.line, name.column, kind));
-    give_printed(out, name.line, None, text, words);
+    out.give(event_at(name.place, kind));
+    give_printed(out, name.place.line, None, text, words);
 }
 
 /// The first macro of a pair.
@@ -73,7 +73,7 @@ pub(crate) fn give_opened<'a, O: EventTaker<'a>>(
     requires stand { AreIn text.now words }
     requires known { AreKnown text.now words }
     requires fits { GivenFits (given_view words.taken) }
-    ensures { Came O.left out.old (inlines.opened name.entry.line name.entry.column name.entry.text.now pair
+    ensures { Came O.left out.old (inlines.opened name.entry.place name.entry.text.now pair
         (given_view words.entry.taken) (words_view text.now words.entry.all)) out.new }
 {
     match pair {
@@ -86,7 +86,7 @@ pub(crate) fn give_opened<'a, O: EventTaker<'a>>(
         }
         Pair::Extension => give_opener(out, name, BlockOpener::Extension, text, words.all),
         Pair::Function if words.has_real => {
-            give_function_opened(out, name.line, name.column, text, words.all);
+            give_function_opened(out, name.place, text, words.all);
         }
         Pair::Function => give_refused(out, name, text, words.all),
     }
@@ -104,7 +104,7 @@ pub(crate) fn give_closed<'a, O: EventTaker<'a>>(
     requires short { length text.now ≤ LINE }
     requires within { IsCursorOf text.now words.cursor }
     requires fits { GivenFits (given_view mark) }
-    ensures { Came O.left out.old (inlines.closed name.entry.line name.entry.column pair
+    ensures { Came O.left out.old (inlines.closed name.entry.place pair
         (given_view mark.entry) (words_view text.now words)) out.new }
 {
     match pair {

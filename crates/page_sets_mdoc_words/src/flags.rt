@@ -8,7 +8,7 @@ ghost use Rattle.page_sets_mdoc_words.specs.Inlines as inlines;
 
 use crate::printed::printed_word;
 use page_core_base::{Font, LINE};
-use page_sets_lines::{EventTaker, GeneratedText, Join, generated_word};
+use page_sets_lines::{EventTaker, GeneratedText, Join, generated_word, word_place};
 use page_sets_mdoc_lines::{Words, is_real};
 
 /// A dash before each word that is no delimiter.
@@ -26,8 +26,7 @@ pub(crate) fn give_flags<'a, O: EventTaker<'a>>(
     while let Some(word) = left.read(text) {
         if is_real(word) {
             out.give(generated_word(
-                number,
-                word.column,
+                word_place(number, word),
                 GeneratedText::Dash,
                 Some(Font::B),
                 Join::Apart,

@@ -8,7 +8,7 @@ ghost use Rattle.page_sets_mdoc_words.specs.Inlines as inlines;
 
 use crate::plain::give_printed;
 use crate::printed::{printed_word, step_event};
-use page_core_base::{Font, LINE};
+use page_core_base::{Font, LINE, Place};
 use page_sets_lines::{
     BlockOpener, EventKind, EventTaker, GeneratedText, Join, LineStep, Opener, event_at,
     generated_word,
@@ -16,16 +16,10 @@ use page_sets_lines::{
 use page_sets_mdoc_lines::{MacroWords, Words, is_real};
 
 // The arguments of `Fn`: a comma before each but the first.
-fn give_arguments<'a, O: EventTaker<'a>>(
-    out: &mut O,
-    number: u32,
-    column: u32,
-    text: &'a [u8],
-    words: Words,
-)
+fn give_arguments<'a, O: EventTaker<'a>>(out: &mut O, place: Place, text: &'a [u8], words: Words)
     requires short { length text.now ≤ LINE }
     requires within { IsCursorOf text.now words.cursor }
-    ensures { Came O.left out.old (inlines.arguments number column (words_view text.now words)) out.new }
+    ensures { Came O.left out.old (inlines.arguments place (words_view text.now words)) out.new }
 {
     let mut left = words;
     let mut is_first = true;
@@ -33,8 +27,7 @@ fn give_arguments<'a, O: EventTaker<'a>>(
         if is_real(word) {
             if !is_first {
                 out.give(generated_word(
-                    number,
-                    column,
+                    place,
                     GeneratedText::Comma,
                     None,
                     Join::Glued,
@@ -43,29 +36,28 @@ fn give_arguments<'a, O: EventTaker<'a>>(
             }
             is_first = false;
         }
-        out.give(printed_word(number, Some(Font::I), word));
+        out.give(printed_word(place.line, Some(Font::I), word));
     }
 }
 
 // The name of a function, and then its arguments.
 fn give_function_words<'a, O: EventTaker<'a>>(
     out: &mut O,
-    number: u32,
-    column: u32,
+    place: Place,
     text: &'a [u8],
     words: Words,
 )
     requires short { length text.now ≤ LINE }
     requires within { IsCursorOf text.now words.cursor }
-    ensures { Came O.left out.old (inlines.function_words number column (words_view text.now words)) out.new }
+    ensures { Came O.left out.old (inlines.function_words place (words_view text.now words)) out.new }
 {
     let mut left = words;
     while let Some(word) = left.read(text) {
-        out.give(printed_word(number, Some(Font::B), word));
+        out.give(printed_word(place.line, Some(Font::B), word));
         if is_real(word) {
             let opening = GeneratedText::OpenParenthesis;
-            out.give(generated_word(number, column, opening, None, Join::Glued, Join::Glued));
-            give_arguments(out, number, column, text, left);
+            out.give(generated_word(place, opening, None, Join::Glued, Join::Glued));
+            give_arguments(out, place, text, left);
             return;
         }
     }
@@ -74,40 +66,38 @@ fn give_function_words<'a, O: EventTaker<'a>>(
 /// `Fn`: a function with its arguments; the closing delimiters at the end come after its end.
 pub(crate) fn give_function<'a, O: EventTaker<'a>>(
     out: &mut O,
-    number: u32,
-    column: u32,
+    place: Place,
     text: &'a [u8],
     words: MacroWords<'a>,
 )
     requires short { length text.now ≤ LINE }
     requires stand { AreIn text.now words }
-    ensures { Came O.left out.old (inlines.function_words number column (words_view text.now words.entry.inside)
-        ++ inlines.function_end number column (words_view text.now words.entry.outside)) out.new }
+    ensures { Came O.left out.old (inlines.function_words place (words_view text.now words.entry.inside)
+        ++ inlines.function_end place (words_view text.now words.entry.outside)) out.new }
 {
-    give_function_words(out, number, column, text, words.inside);
-    out.give(step_event(number, column, LineStep::FunctionEnd));
-    give_printed(out, number, None, text, words.outside);
+    give_function_words(out, place, text, words.inside);
+    out.give(step_event(place, LineStep::FunctionEnd));
+    give_printed(out, place.line, None, text, words.outside);
 }
 
 /// `Fa`: each word is the next argument of the function that is open.
 pub(crate) fn give_next_arguments<'a, O: EventTaker<'a>>(
     out: &mut O,
-    number: u32,
-    column: u32,
+    place: Place,
     text: &'a [u8],
     words: Words,
 )
     requires short { length text.now ≤ LINE }
     requires within { IsCursorOf text.now words.cursor }
-    ensures { Came O.left out.old (inlines.next_arguments number column (words_view text.now words)) out.new }
+    ensures { Came O.left out.old (inlines.next_arguments place (words_view text.now words)) out.new }
 {
     let mut left = words;
     while let Some(word) = left.read(text) {
         if is_real(word) {
-            out.give(step_event(number, column, LineStep::NextArgument));
-            out.give(printed_word(number, Some(Font::I), word));
+            out.give(step_event(place, LineStep::NextArgument));
+            out.give(printed_word(place.line, Some(Font::I), word));
         } else {
-            out.give(printed_word(number, None, word));
+            out.give(printed_word(place.line, None, word));
         }
     }
 }
@@ -115,23 +105,22 @@ pub(crate) fn give_next_arguments<'a, O: EventTaker<'a>>(
 /// `Fo`: the first word that is no delimiter is the name of a function that goes on over lines.
 pub(crate) fn give_function_opened<'a, O: EventTaker<'a>>(
     out: &mut O,
-    number: u32,
-    column: u32,
+    place: Place,
     text: &'a [u8],
     words: Words,
 )
     requires short { length text.now ≤ LINE }
     requires within { IsCursorOf text.now words.cursor }
-    ensures { Came O.left out.old (inlines.function_opened number column (words_view text.now words)) out.new }
+    ensures { Came O.left out.old (inlines.function_opened place (words_view text.now words)) out.new }
 {
     let mut left = words;
     while let Some(word) = left.read(text) {
         if is_real(word) {
             let opener = BlockOpener::Function(word);
-            out.give(event_at(number, column, EventKind::Open(Opener::Block(opener))));
-            give_printed(out, number, None, text, left);
+            out.give(event_at(place, EventKind::Open(Opener::Block(opener))));
+            give_printed(out, place.line, None, text, left);
             return;
         }
-        out.give(printed_word(number, None, word));
+        out.give(printed_word(place.line, None, word));
     }
 }

@@ -8,34 +8,28 @@ ghost use Rattle.page_sets_mdoc_words.specs.Sentences.{include_events};
 
 use crate::plain::give_printed;
 use crate::printed::{printed_word, step_event};
-use page_core_base::LINE;
+use page_core_base::{LINE, Place};
 use page_sets_lines::{EventTaker, GeneratedText, Join, LineStep, SynopsisStep, generated_word};
 use page_sets_mdoc_lines::{Words, is_real};
 
 /// Gives the words of `In`: the first that is no delimiter is a file, which is in angles.
-pub fn give_include<'a, O: EventTaker<'a>>(
-    out: &mut O,
-    number: u32,
-    column: u32,
-    text: &'a [u8],
-    words: Words,
-)
+pub fn give_include<'a, O: EventTaker<'a>>(out: &mut O, place: Place, text: &'a [u8], words: Words)
     requires short { length text.now ≤ LINE }
     requires within { IsCursorOf text.now words.cursor }
-    ensures { Came O.left out.old (include_events number column (words_view text.now words)) out.new }
+    ensures { Came O.left out.old (include_events place (words_view text.now words)) out.new }
 {
     let mut left = words;
     while let Some(word) = left.read(text) {
         if is_real(word) {
             let include = LineStep::Synopsis(SynopsisStep::Include);
             let (opening, closing) = (GeneratedText::OpenAngle, GeneratedText::CloseAngle);
-            out.give(step_event(number, column, include));
-            out.give(generated_word(number, column, opening, None, Join::Apart, Join::Glued));
-            out.give(printed_word(number, None, word));
-            out.give(generated_word(number, column, closing, None, Join::Glued, Join::Apart));
-            give_printed(out, number, None, text, left);
+            out.give(step_event(place, include));
+            out.give(generated_word(place, opening, None, Join::Apart, Join::Glued));
+            out.give(printed_word(place.line, None, word));
+            out.give(generated_word(place, closing, None, Join::Glued, Join::Apart));
+            give_printed(out, place.line, None, text, left);
             return;
         }
-        out.give(printed_word(number, None, word));
+        out.give(printed_word(place.line, None, word));
     }
 }

@@ -11,7 +11,7 @@ ghost use Rattle.page_sets_mdoc_words.specs.Printed.{printed};
 
 use crate::plain::give_printed;
 use crate::printed::{printed_word, step_event};
-use page_core_base::{Font, LINE};
+use page_core_base::{Font, LINE, Place};
 use page_roff_syntax::Argument;
 use page_sets_lines::{EventTaker, GeneratedText, Join, LineStep, generated_word};
 use page_sets_mdoc_lines::{MacroWords, Words, is_real};
@@ -19,8 +19,7 @@ use page_sets_mdoc_lines::{MacroWords, Words, is_real};
 // An address, after its texts.
 fn give_address<'a, O: EventTaker<'a>>(
     out: &mut O,
-    number: u32,
-    column: u32,
+    place: Place,
     uri: Argument<&'a [u8]>,
     text: &'a [u8],
     texts: Words,
@@ -29,61 +28,47 @@ fn give_address<'a, O: EventTaker<'a>>(
     requires within { IsCursorOf text.now texts.cursor }
     requires fits { ArgumentFits (argument_view uri) }
     ensures { Came O.left out.old
-        (inlines.address number column (argument_view uri.entry) (words_view text.now texts)) out.new }
+        (inlines.address place (argument_view uri.entry) (words_view text.now texts)) out.new }
 {
     let mut left = texts;
     let Some(first) = left.read(text) else {
-        out.give(step_event(number, column, LineStep::Uri(uri)));
+        out.give(step_event(place, LineStep::Uri(uri)));
         return;
     };
-    out.give(printed_word(number, Some(Font::I), first));
-    give_printed(out, number, Some(Font::I), text, left);
-    out.give(generated_word(
-        number,
-        column,
-        GeneratedText::Colon,
-        None,
-        Join::Glued,
-        Join::Apart,
-    ));
-    out.give(step_event(number, column, LineStep::Uri(uri)));
+    out.give(printed_word(place.line, Some(Font::I), first));
+    give_printed(out, place.line, Some(Font::I), text, left);
+    out.give(generated_word(place, GeneratedText::Colon, None, Join::Glued, Join::Apart));
+    out.give(step_event(place, LineStep::Uri(uri)));
 }
 
 // The words of a link up to its closing delimiters: the first that is no delimiter is the address.
-fn give_link_words<'a, O: EventTaker<'a>>(
-    out: &mut O,
-    number: u32,
-    column: u32,
-    text: &'a [u8],
-    words: Words,
-)
+fn give_link_words<'a, O: EventTaker<'a>>(out: &mut O, place: Place, text: &'a [u8], words: Words)
     requires short { length text.now ≤ LINE }
     requires within { IsCursorOf text.now words.cursor }
-    ensures { Came O.left out.old (inlines.link_words number column (words_view text.now words)) out.new }
+    ensures { Came O.left out.old (inlines.link_words place (words_view text.now words)) out.new }
 {
     let mut left = words;
     while let Some(word) = left.read(text) {
         if is_real(word) {
-            give_address(out, number, column, word, text, left);
+            give_address(out, place, word, text, left);
             return;
         }
-        out.give(printed_word(number, None, word));
+        out.give(printed_word(place.line, None, word));
     }
 }
 
 /// A link, and the closing delimiters at the end.
 pub(crate) fn give_link<'a, O: EventTaker<'a>>(
     out: &mut O,
-    number: u32,
-    column: u32,
+    place: Place,
     text: &'a [u8],
     words: MacroWords<'a>,
 )
     requires short { length text.now ≤ LINE }
     requires stand { AreIn text.now words }
-    ensures { Came O.left out.old (inlines.link_words number column (words_view text.now words.entry.inside)
-        ++ printed number None (words_view text.now words.entry.outside)) out.new }
+    ensures { Came O.left out.old (inlines.link_words place (words_view text.now words.entry.inside)
+        ++ printed place.line None (words_view text.now words.entry.outside)) out.new }
 {
-    give_link_words(out, number, column, text, words.inside);
-    give_printed(out, number, None, text, words.outside);
+    give_link_words(out, place, text, words.inside);
+    give_printed(out, place.line, None, text, words.outside);
 }

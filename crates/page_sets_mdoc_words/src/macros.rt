@@ -26,7 +26,7 @@ use crate::references::give_reference;
 use crate::synopses::{after_words, before_words};
 use crate::systems::{give_bsd, system_word};
 use crate::taken_words::{give_author, give_prefix};
-use page_core_base::{Font, LINE};
+use page_core_base::{Font, LINE, Place};
 use page_sets_lines::{
     Event, EventKind, EventTaker, GeneratedText, Join, LineOpener, LineStep, Marks, SynopsisStep,
     event_at, generated_word,
@@ -53,36 +53,34 @@ fn give_before<'a, O: EventTaker<'a>>(
 // A step of its line, and then the words.
 fn give_step<'a, O: EventTaker<'a>>(
     out: &mut O,
-    number: u32,
-    column: u32,
+    place: Place,
     step: LineStep<&'a [u8]>,
     text: &'a [u8],
     words: Words,
 )
     requires short { length text.now ≤ LINE }
     requires within { IsCursorOf text.now words.cursor }
-    requires fits { IsShort (step_event number column (step_view step)) }
-    ensures { Came O.left out.old (step_event number column (step_view step.entry) ∷ printed number None (words_view text.now words)) out.new }
+    requires fits { IsShort (step_event place (step_view step)) }
+    ensures { Came O.left out.old (step_event place (step_view step.entry) ∷ printed place.line None (words_view text.now words)) out.new }
 {
-    give_before(out, step_event(number, column, step), number, text, words);
+    give_before(out, step_event(place, step), place.line, text, words);
 }
 
 // What begins an enclosure over the rest of its line, and then the words.
 fn give_enclosed<'a, O: EventTaker<'a>>(
     out: &mut O,
-    number: u32,
-    column: u32,
+    place: Place,
     marks: Marks,
     text: &'a [u8],
     words: Words,
 )
     requires short { length text.now ≤ LINE }
     requires within { IsCursorOf text.now words.cursor }
-    ensures { Came O.left out.old (event_at number column (kinds.LineScope (lines.Enclosure marks))
-        ∷ printed number None (words_view text.now words)) out.new }
+    ensures { Came O.left out.old (event_at place (kinds.LineScope (lines.Enclosure marks))
+        ∷ printed place.line None (words_view text.now words)) out.new }
 {
     let kind = EventKind::LineScope(LineOpener::Enclosure(marks));
-    give_before(out, event_at(number, column, kind), number, text, words);
+    give_before(out, event_at(place, kind), place.line, text, words);
 }
 
 // Words in a font, of a macro that needs one.
@@ -96,23 +94,23 @@ fn give_font_words<'a, O: EventTaker<'a>>(
     requires short { length text.now ≤ LINE }
     requires stand { AreIn text.now words }
     requires known { AreKnown text.now words }
-    ensures { Came O.left out.old (inlines.with_words name.entry.line name.entry.column name.entry.text.now
+    ensures { Came O.left out.old (inlines.with_words name.entry.place name.entry.text.now
         (words_view text.now words.entry.all)
-        (printed name.entry.line (Some font) (words_view text.now words.entry.all))) out.new }
+        (printed name.entry.place.line (Some font) (words_view text.now words.entry.all))) out.new }
 {
     if words.has_real {
-        give_printed(out, name.line, Some(font), text, words.all);
+        give_printed(out, name.place.line, Some(font), text, words.all);
     } else {
         give_refused(out, name, text, words.all);
     }
 }
 
 // The text of `Ap`.
-fn apostrophe<'a>(number: u32, column: u32) -> Event<&'a [u8]>
-    ensures { event_view result ≡ generated_word number column Apostrophe None Glued Glued }
+fn apostrophe<'a>(place: Place) -> Event<&'a [u8]>
+    ensures { event_view result ≡ generated_word place Apostrophe None Glued Glued }
 {
     let text = GeneratedText::Apostrophe;
-    generated_word(number, column, text, None, Join::Glued, Join::Glued)
+    generated_word(place, text, None, Join::Glued, Join::Glued)
 }
 
 // A macro with its words.
@@ -127,59 +125,54 @@ fn give_inline<'a, O: EventTaker<'a>>(
     requires stand { AreIn text.now words }
     requires known { AreKnown text.now words }
     requires fits { GivenFits (given_view words.taken) }
-    ensures { Came O.left out.old (inlines.inline_events name.entry.line name.entry.column name.entry.text.now inline
+    ensures { Came O.left out.old (inlines.inline_events name.entry.place name.entry.text.now inline
         (given_view words.entry.taken) (words_view text.now words.entry.all) words.entry.follows) out.new }
 {
-    let MacroName { line, column, .. } = name;
+    let place = name.place;
     let MacroWords { all, has_real, .. } = words;
     match inline {
         Inline::Words(font) => give_font_words(out, name, font, text, words),
         Inline::Declaration => give_font_words(out, name, Font::B, text, words),
         Inline::TypeName => give_font_words(out, name, Font::I, text, words),
         Inline::Author => give_author(out, name, words.taken, text, all, has_real),
-        Inline::Name if has_real => give_named(out, line, column, text, all),
-        Inline::Name => give_lone(out, line, column, Lone::ManualName, text, all),
-        Inline::Defaulted(_) if has_real => give_printed(out, line, Some(Font::I), text, all),
+        Inline::Name if has_real => give_named(out, place, text, all),
+        Inline::Name => give_lone(out, place, Lone::ManualName, text, all),
+        Inline::Defaulted(_) if has_real => give_printed(out, place.line, Some(Font::I), text, all),
         Inline::Defaulted(default) => {
-            give_lone(out, line, column, Lone::Default(default), text, all);
+            give_lone(out, place, Lone::Default(default), text, all);
         }
-        Inline::Flag if has_real => give_flags(out, line, text, all),
+        Inline::Flag if has_real => give_flags(out, place.line, text, all),
         Inline::Flag => {
             let follows = words.follows;
-            give_lone(out, line, column, Lone::Dash { follows }, text, all);
+            give_lone(out, place, Lone::Dash { follows }, text, all);
         }
-        Inline::Arguments if has_real => give_next_arguments(out, line, column, text, all),
-        Inline::Reference if has_real => give_reference(out, line, text, all),
-        Inline::Function if has_real => give_function(out, line, column, text, words),
-        Inline::Link if has_real => give_link(out, line, column, text, words),
+        Inline::Arguments if has_real => give_next_arguments(out, place, text, all),
+        Inline::Reference if has_real => give_reference(out, place.line, text, all),
+        Inline::Function if has_real => give_function(out, place, text, words),
+        Inline::Link if has_real => give_link(out, place, text, words),
         Inline::Arguments | Inline::Reference | Inline::Function | Inline::Link => {
             give_refused(out, name, text, all);
         }
         Inline::System(system) => {
-            give_before(out, system_word(line, column, system), line, text, all);
+            give_before(out, system_word(place, system), place.line, text, all);
         }
-        Inline::Bsd => give_bsd(out, line, column, text, all),
-        Inline::NoSpace => give_step(out, line, column, LineStep::Glue, text, all),
-        Inline::Apostrophe => give_before(out, apostrophe(line, column), line, text, all),
-        Inline::NextColumn => give_step(out, line, column, LineStep::NextColumn, text, all),
+        Inline::Bsd => give_bsd(out, place, text, all),
+        Inline::NoSpace => give_step(out, place, LineStep::Glue, text, all),
+        Inline::Apostrophe => give_before(out, apostrophe(place), place.line, text, all),
+        Inline::NextColumn => give_step(out, place, LineStep::NextColumn, text, all),
         Inline::Prefix => give_prefix(out, name, words.taken, text, all),
-        Inline::Enclosure(marks) => give_enclosed(out, line, column, marks, text, all),
+        Inline::Enclosure(marks) => give_enclosed(out, place, marks, text, all),
         Inline::Opens(pair) => give_opened(out, name, pair, text, words),
         Inline::Closes(pair) => give_closed(out, name, pair, words.taken, text, all),
     }
 }
 
 // What a macro does in the SYNOPSIS before its words, or after them.
-fn give_synopsis<'a, O: EventTaker<'a>>(
-    out: &mut O,
-    number: u32,
-    column: u32,
-    step: Option<SynopsisStep>,
-)
-    ensures { Came O.left out.old (synopses.preceded number column step []) out.new }
+fn give_synopsis<'a, O: EventTaker<'a>>(out: &mut O, place: Place, step: Option<SynopsisStep>)
+    ensures { Came O.left out.old (synopses.preceded place step []) out.new }
 {
     if let Some(step) = step {
-        out.give(step_event(number, column, LineStep::Synopsis(step)));
+        out.give(step_event(place, LineStep::Synopsis(step)));
     }
 }
 
@@ -197,12 +190,12 @@ pub fn give_macro<'a, O: EventTaker<'a>>(
     requires stand { AreIn text.now words }
     requires known { AreKnown text.now words }
     requires fits { GivenFits (given_view words.taken) }
-    ensures { Came O.left out.old (synopses.placed_events first name.entry.line name.entry.column name.entry.text.now inline
+    ensures { Came O.left out.old (synopses.placed_events first name.entry.place name.entry.text.now inline
         (given_view words.entry.taken) (words_view text.now words.entry.all) words.entry.follows) out.new }
 {
     let before = before_words(first, inline, words.has_real);
     let after = after_words(first, inline, words.has_real);
-    give_synopsis(out, name.line, name.column, before);
+    give_synopsis(out, name.place, before);
     give_inline(out, name, inline, text, words);
-    give_synopsis(out, name.line, name.column, after);
+    give_synopsis(out, name.place, after);
 }

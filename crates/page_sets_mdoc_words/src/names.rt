@@ -11,7 +11,7 @@ ghost use Rattle.page_sets_mdoc_words.specs.machine.Lone.{lone_event};
 
 use crate::plain::give_printed;
 use crate::printed::{is_opening, printed_word, step_event};
-use page_core_base::{Font, LINE};
+use page_core_base::{Font, LINE, Place};
 use page_sets_lines::{
     Event, EventTaker, GeneratedText, Join, LineStep, Role, generated_word, word_event,
 };
@@ -50,32 +50,18 @@ fn dash(follows: bool, is_last: bool) -> GeneratedText
 }
 
 // What is printed, knowing whether no word comes after it.
-fn lone_event<'a>(number: u32, column: u32, lone: Lone, is_last: bool) -> Event<&'a [u8]>
-    ensures { event_view result ≡ lone_event number column lone is_last }
+fn lone_event<'a>(place: Place, lone: Lone, is_last: bool) -> Event<&'a [u8]>
+    ensures { event_view result ≡ lone_event place lone is_last }
 {
     match lone {
-        Lone::ManualName => step_event(number, column, LineStep::ManualName),
+        Lone::ManualName => step_event(place, LineStep::ManualName),
         Lone::Default(default) => {
             let text = default_text(default);
-            generated_word(
-                number,
-                column,
-                text,
-                Some(Font::I),
-                Join::Apart,
-                Join::Apart,
-            )
+            generated_word(place, text, Some(Font::I), Join::Apart, Join::Apart)
         }
         Lone::Dash { follows } => {
             let text = dash(follows, is_last);
-            generated_word(
-                number,
-                column,
-                text,
-                Some(Font::B),
-                Join::Apart,
-                Join::Apart,
-            )
+            generated_word(place, text, Some(Font::B), Join::Apart, Join::Apart)
         }
     }
 }
@@ -83,8 +69,7 @@ fn lone_event<'a>(number: u32, column: u32, lone: Lone, is_last: bool) -> Event<
 /// What a macro prints where all its words are delimiters, after the opening ones.
 pub(crate) fn give_lone<'a, O: EventTaker<'a>>(
     out: &mut O,
-    number: u32,
-    column: u32,
+    place: Place,
     lone: Lone,
     text: &'a [u8],
     words: Words,
@@ -92,41 +77,41 @@ pub(crate) fn give_lone<'a, O: EventTaker<'a>>(
     requires short { length text.now ≤ LINE }
     requires within { IsCursorOf text.now words.cursor }
     ensures { Came O.left out.old
-        (inlines.lone number (lone_event number column lone) (words_view text.now words)) out.new }
+        (inlines.lone place.line (lone_event place lone) (words_view text.now words)) out.new }
 {
     let mut left = words;
     while let Some(word) = left.read(text) {
         if !is_opening(word) {
-            out.give(lone_event(number, column, lone, false));
-            out.give(printed_word(number, None, word));
-            give_printed(out, number, None, text, left);
+            out.give(lone_event(place, lone, false));
+            out.give(printed_word(place.line, None, word));
+            give_printed(out, place.line, None, text, left);
             return;
         }
-        out.give(printed_word(number, None, word));
+        out.give(printed_word(place.line, None, word));
     }
-    out.give(lone_event(number, column, lone, true));
+    out.give(lone_event(place, lone, true));
 }
 
 /// `Nm`: the first word that is no delimiter is the name of the manual.
 pub(crate) fn give_named<'a, O: EventTaker<'a>>(
     out: &mut O,
-    number: u32,
-    column: u32,
+    place: Place,
     text: &'a [u8],
     words: Words,
 )
     requires short { length text.now ≤ LINE }
     requires within { IsCursorOf text.now words.cursor }
-    ensures { Came O.left out.old (inlines.named number column (words_view text.now words)) out.new }
+    ensures { Came O.left out.old (inlines.named place (words_view text.now words)) out.new }
 {
     let mut left = words;
     while let Some(word) = left.read(text) {
         if is_real(word) {
+            let Place { line, column } = place;
             let role = Role::Name { column };
-            out.give(word_event(number, role, Some(Font::B), Join::Apart, Join::Apart, word));
-            give_printed(out, number, Some(Font::B), text, left);
+            out.give(word_event(line, role, Some(Font::B), Join::Apart, Join::Apart, word));
+            give_printed(out, line, Some(Font::B), text, left);
             return;
         }
-        out.give(printed_word(number, None, word));
+        out.give(printed_word(place.line, None, word));
     }
 }

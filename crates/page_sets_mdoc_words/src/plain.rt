@@ -8,17 +8,14 @@ ghost use Rattle.page_sets_mdoc_words.specs.Inlines.{refused};
 ghost use Rattle.page_sets_mdoc_words.specs.Printed as printed;
 
 use crate::printed::printed_word;
-use page_core_base::{Font, LINE, NoteKind};
+use page_core_base::{Font, LINE, NoteKind, Place};
 use page_sets_lines::{EventKind, EventTaker, event_at};
 use page_sets_mdoc_lines::Words;
 
 /// The name of a macro in its line.
 #[derive(Clone, Copy)]
 pub struct MacroName<'a> {
-    /// The line, from 1.
-    pub line: u32,
-    /// The column, from 1.
-    pub column: u32,
+    pub place: Place,
     pub text: &'a [u8],
 }
 
@@ -50,11 +47,10 @@ pub(crate) fn give_refused<'a, O: EventTaker<'a>>(
     requires short { length text.now ≤ LINE }
     requires within { IsCursorOf text.now words.cursor }
     ensures { Came O.left out.old
-        (refused name.entry.line name.entry.column name.entry.text.now (words_view text.now words)) out.new }
+        (refused name.entry.place name.entry.text.now (words_view text.now words)) out.new }
 {
     out.give(event_at(
-        name.line,
-        name.column,
+        name.place,
         EventKind::Note {
             kind: NoteKind::EmptyMacro,
             detail: name.text,
@@ -62,5 +58,5 @@ pub(crate) fn give_refused<'a, O: EventTaker<'a>>(
             begins_body: false,
         },
     ));
-    give_printed(out, name.line, None, text, words);
+    give_printed(out, name.place.line, None, text, words);
 }

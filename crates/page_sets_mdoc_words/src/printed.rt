@@ -7,7 +7,7 @@ ghost use Rattle.page_sets_lines.specs.Fits.{ArgumentFits, IsShort};
 ghost use Rattle.page_sets_lines.specs.PlainLines.{event_at};
 ghost use Rattle.page_sets_mdoc_words.specs.Printed as printed;
 
-use page_core_base::Font;
+use page_core_base::{Font, Place};
 use page_roff_syntax::Argument;
 use page_sets_lines::{Event, EventKind, Join, Leaf, LineStep, Role, event_at, word_event};
 use page_sets_mdoc_lines::{Delimiter, word_delimiter};
@@ -43,10 +43,10 @@ pub fn printed_word(number: u32, font: Option<Font>, word: Argument<&[u8]>) -> E
 }
 
 /// What a macro changes in its line.
-pub fn step_event<'a>(number: u32, column: u32, step: LineStep<&'a [u8]>) -> Event<&'a [u8]>
-    ensures { event_view result ≡ printed.step_event number column (step_view step.entry) }
+pub fn step_event<'a>(place: Place, step: LineStep<&'a [u8]>) -> Event<&'a [u8]>
+    ensures { event_view result ≡ printed.step_event place (step_view step.entry) }
 {
-    event_at(number, column, EventKind::Leaf(Leaf::Step(step)))
+    event_at(place, EventKind::Leaf(Leaf::Step(step)))
 }
 
 /// Whether a word is an opening delimiter.

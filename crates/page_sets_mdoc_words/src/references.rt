@@ -9,7 +9,7 @@ ghost use Rattle.page_sets_mdoc_words.specs.Inlines as inlines;
 use crate::plain::give_printed;
 use crate::printed::printed_word;
 use page_core_base::LINE;
-use page_sets_lines::{EventTaker, GeneratedText, Join, generated_word};
+use page_sets_lines::{EventTaker, GeneratedText, Join, generated_word, word_place};
 use page_sets_mdoc_lines::{Words, is_real};
 
 // The section, in parentheses.
@@ -21,14 +21,14 @@ fn give_section<'a, O: EventTaker<'a>>(out: &mut O, number: u32, text: &'a [u8],
     let mut left = words;
     while let Some(word) = left.read(text) {
         if is_real(word) {
-            let column = word.column;
+            let place = word_place(number, word);
             let (opening, closing) = (
                 GeneratedText::OpenParenthesis,
                 GeneratedText::CloseParenthesis,
             );
-            out.give(generated_word(number, column, opening, None, Join::Glued, Join::Glued));
+            out.give(generated_word(place, opening, None, Join::Glued, Join::Glued));
             out.give(printed_word(number, None, word));
-            out.give(generated_word(number, column, closing, None, Join::Glued, Join::Apart));
+            out.give(generated_word(place, closing, None, Join::Glued, Join::Apart));
             give_printed(out, number, None, text, left);
             return;
         }

@@ -10,7 +10,7 @@ ghost use Rattle.page_sets_mdoc_words.specs.Printed.{step_event};
 ghost use Rattle.page_sets_mdoc_words.specs.Sentences as sentences;
 
 use crate::printed::{real_word, step_event};
-use page_core_base::{Font, LINE};
+use page_core_base::{Font, LINE, Place};
 use page_sets_lines::{Event, EventTaker, GeneratedText, Join, LineStep, generated_word};
 use page_sets_mdoc_lines::{Sentence, Words};
 
@@ -82,32 +82,27 @@ fn sentence_end(sentence: Sentence, is_plural: bool) -> GeneratedText
 }
 
 // A word of the sentence.
-fn sentence_word<'a>(number: u32, column: u32, text: GeneratedText) -> Event<&'a [u8]>
-    ensures { event_view result ≡ sentences.sentence_word number column text }
+fn sentence_word<'a>(place: Place, text: GeneratedText) -> Event<&'a [u8]>
+    ensures { event_view result ≡ sentences.sentence_word place text }
 {
-    generated_word(number, column, text, None, Join::Apart, Join::Apart)
+    generated_word(place, text, None, Join::Apart, Join::Apart)
 }
 
 // What is glued to a name.
-fn give_mark<'a, O: EventTaker<'a>>(
-    out: &mut O,
-    number: u32,
-    column: u32,
-    mark: Option<GeneratedText>,
-)
-    ensures { Came O.left out.old (sentences.marked number column mark []) out.new }
+fn give_mark<'a, O: EventTaker<'a>>(out: &mut O, place: Place, mark: Option<GeneratedText>)
+    ensures { Came O.left out.old (sentences.marked place mark []) out.new }
 {
     if let Some(text) = mark {
-        out.give(generated_word(number, column, text, None, Join::Glued, Join::Apart));
+        out.give(generated_word(place, text, None, Join::Glued, Join::Apart));
     }
 }
 
 // The word before the last of several names.
-fn give_and<'a, O: EventTaker<'a>>(out: &mut O, number: u32, column: u32, left: NameCount)
-    ensures { Came O.left out.old (sentences.joined number column left []) out.new }
+fn give_and<'a, O: EventTaker<'a>>(out: &mut O, place: Place, left: NameCount)
+    ensures { Came O.left out.old (sentences.joined place left []) out.new }
 {
     if let NameCount::One = left {
-        out.give(sentence_word(number, column, GeneratedText::And));
+        out.give(sentence_word(place, GeneratedText::And));
     }
 }
 
@@ -115,8 +110,7 @@ fn give_and<'a, O: EventTaker<'a>>(out: &mut O, number: u32, column: u32, left: 
 #[tactic(auto, using(crate::proofs::SentenceLemmas::name_goes_on))]
 fn give_names<'a, O: EventTaker<'a>>(
     out: &mut O,
-    number: u32,
-    column: u32,
+    place: Place,
     sentence: Sentence,
     all: NameCount,
     text: &'a [u8],
@@ -125,39 +119,33 @@ fn give_names<'a, O: EventTaker<'a>>(
     requires short { length text.now ≤ LINE }
     requires within { IsCursorOf text.now names.cursor }
     ensures { Came O.left out.old
-        (sentences.names_events number column sentence all (words_view text.now names)) out.new }
+        (sentences.names_events place sentence all (words_view text.now names)) out.new }
 {
     let mut left = names;
     while let Some(name) = left.read(text) {
         let others = name_count(text, left);
-        out.give(real_word(number, Some(Font::B), name));
-        give_mark(
-            out,
-            number,
-            column,
-            name_mark(sentence, has_comma(all, others)),
-        );
-        give_and(out, number, column, others);
+        out.give(real_word(place.line, Some(Font::B), name));
+        give_mark(out, place, name_mark(sentence, has_comma(all, others)));
+        give_and(out, place, others);
     }
     let end = sentence_end(sentence, is_plural(all));
-    out.give(sentence_word(number, column, end));
+    out.give(sentence_word(place, end));
 }
 
 // The name of the manual, where no name is given, with what is glued to it.
 fn give_manual_name<'a, O: EventTaker<'a>>(
     out: &mut O,
-    number: u32,
-    column: u32,
+    place: Place,
     sentence: Sentence,
     all: NameCount,
 )
     ensures { Came O.left out.old (if sentences.is_zero all
-        then step_event number column ManualName ∷ sentences.marked number column (sentences.name_mark sentence false) []
+        then step_event place ManualName ∷ sentences.marked place (sentences.name_mark sentence false) []
         else []) out.new }
 {
     if let NameCount::Zero = all {
-        out.give(step_event(number, column, LineStep::ManualName));
-        give_mark(out, number, column, name_mark(sentence, false));
+        out.give(step_event(place, LineStep::ManualName));
+        give_mark(out, place, name_mark(sentence, false));
     }
 }
 
@@ -165,8 +153,7 @@ fn give_manual_name<'a, O: EventTaker<'a>>(
 #[tactic(auto, using(crate::proofs::SentenceLemmas::given_by))]
 pub fn give_sentence<'a, O: EventTaker<'a>>(
     out: &mut O,
-    number: u32,
-    column: u32,
+    place: Place,
     sentence: Sentence,
     text: &'a [u8],
     names: Words,
@@ -174,10 +161,10 @@ pub fn give_sentence<'a, O: EventTaker<'a>>(
     requires short { length text.now ≤ LINE }
     requires within { IsCursorOf text.now names.cursor }
     ensures { Came O.left out.old
-        (sentences.sentence_events number column sentence (words_view text.now names)) out.new }
+        (sentences.sentence_events place sentence (words_view text.now names)) out.new }
 {
     let all = name_count(text, names);
-    out.give(sentence_word(number, column, GeneratedText::The));
-    give_manual_name(out, number, column, sentence, all);
-    give_names(out, number, column, sentence, all, text, names);
+    out.give(sentence_word(place, GeneratedText::The));
+    give_manual_name(out, place, sentence, all);
+    give_names(out, place, sentence, all, text, names);
 }

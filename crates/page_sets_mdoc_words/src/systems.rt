@@ -9,7 +9,7 @@ ghost use Rattle.page_sets_mdoc_words.specs.Inlines as inlines;
 
 use crate::plain::give_printed;
 use crate::printed::{is_opening, printed_word};
-use page_core_base::LINE;
+use page_core_base::{LINE, Place};
 use page_sets_lines::{Event, EventTaker, GeneratedText, Join, generated_word};
 use page_sets_mdoc_lines::{System, Words, is_real};
 
@@ -28,67 +28,38 @@ fn system_text(system: System) -> GeneratedText
 }
 
 /// The name of a system.
-pub(crate) fn system_word<'a>(number: u32, column: u32, system: System) -> Event<&'a [u8]>
-    ensures { event_view result ≡ inlines.system_word number column system }
+pub(crate) fn system_word<'a>(place: Place, system: System) -> Event<&'a [u8]>
+    ensures { event_view result ≡ inlines.system_word place system }
 {
-    generated_word(
-        number,
-        column,
-        system_text(system),
-        None,
-        Join::Apart,
-        Join::Apart,
-    )
+    generated_word(place, system_text(system), None, Join::Apart, Join::Apart)
 }
 
 /// `Bx`: a version, after opening delimiters, and then the name; without a version the name is alone.
 pub(crate) fn give_bsd<'a, O: EventTaker<'a>>(
     out: &mut O,
-    number: u32,
-    column: u32,
+    place: Place,
     text: &'a [u8],
     words: Words,
 )
     requires short { length text.now ≤ LINE }
     requires within { IsCursorOf text.now words.cursor }
-    ensures { Came O.left out.old (inlines.bsd number column (words_view text.now words)) out.new }
+    ensures { Came O.left out.old (inlines.bsd place (words_view text.now words)) out.new }
 {
     let mut left = words;
     while let Some(word) = left.read(text) {
         if is_real(word) {
-            out.give(printed_word(number, None, word));
-            out.give(generated_word(
-                number,
-                column,
-                GeneratedText::Bsd,
-                None,
-                Join::Glued,
-                Join::Apart,
-            ));
-            give_printed(out, number, None, text, left);
+            out.give(printed_word(place.line, None, word));
+            out.give(generated_word(place, GeneratedText::Bsd, None, Join::Glued, Join::Apart));
+            give_printed(out, place.line, None, text, left);
             return;
         }
         if !is_opening(word) {
-            out.give(generated_word(
-                number,
-                column,
-                GeneratedText::Bsd,
-                None,
-                Join::Apart,
-                Join::Apart,
-            ));
-            out.give(printed_word(number, None, word));
-            give_printed(out, number, None, text, left);
+            out.give(generated_word(place, GeneratedText::Bsd, None, Join::Apart, Join::Apart));
+            out.give(printed_word(place.line, None, word));
+            give_printed(out, place.line, None, text, left);
             return;
         }
-        out.give(printed_word(number, None, word));
+        out.give(printed_word(place.line, None, word));
     }
-    out.give(generated_word(
-        number,
-        column,
-        GeneratedText::Bsd,
-        None,
-        Join::Apart,
-        Join::Apart,
-    ));
+    out.give(generated_word(place, GeneratedText::Bsd, None, Join::Apart, Join::Apart));
 }

@@ -12,7 +12,7 @@ ghost use Rattle.page_sets_mdoc_lines.specs.Words.{words_view};
 ghost use Rattle.page_sets_mdoc_words.specs.Inlines as inlines;
 
 use crate::plain::{MacroName, give_printed, give_refused};
-use page_core_base::{Font, LINE, NoteKind};
+use page_core_base::{Font, LINE, NoteKind, Place};
 use page_roff_syntax::{Argument, Quoting};
 use page_sets_lines::{EventKind, EventTaker, Join, Role, event_at, word_event};
 use page_sets_mdoc_lines::Words;
@@ -23,9 +23,12 @@ fn give_missing_quote<'a, O: EventTaker<'a>>(out: &mut O, number: u32, option: A
 {
     if let Quoting::Unclosed = option.quoting {
         let detail: &[u8] = &[];
+        let place = Place {
+            line: number,
+            column: option.column.saturating_sub(1),
+        };
         out.give(event_at(
-            number,
-            option.column.saturating_sub(1),
+            place,
             EventKind::Note {
                 kind: NoteKind::Unterminated,
                 detail,
@@ -48,15 +51,15 @@ pub(crate) fn give_author<'a, O: EventTaker<'a>>(
     requires short { length text.now ≤ LINE }
     requires within { IsCursorOf text.now words.cursor }
     requires real { has_real ≡ list_any is_real (words_view text.now words) }
-    ensures { Came O.left out.old (inlines.author name.entry.line name.entry.column name.entry.text.now
+    ensures { Came O.left out.old (inlines.author name.entry.place name.entry.text.now
         (given_view option.entry) (words_view text.now words)) out.new }
 {
     match option {
         Some(option) => {
-            give_missing_quote(out, name.line, option);
-            give_printed(out, name.line, Some(Font::R), text, words);
+            give_missing_quote(out, name.place.line, option);
+            give_printed(out, name.place.line, Some(Font::R), text, words);
         }
-        None if has_real => give_printed(out, name.line, Some(Font::R), text, words),
+        None if has_real => give_printed(out, name.place.line, Some(Font::R), text, words),
         None => give_refused(out, name, text, words),
     }
 }
@@ -72,14 +75,15 @@ pub(crate) fn give_prefix<'a, O: EventTaker<'a>>(
     requires short { length text.now ≤ LINE }
     requires within { IsCursorOf text.now words.cursor }
     requires fits { GivenFits (given_view prefix) }
-    ensures { Came O.left out.old (inlines.prefix name.entry.line name.entry.column name.entry.text.now
+    ensures { Came O.left out.old (inlines.prefix name.entry.place name.entry.text.now
         (given_view prefix.entry) (words_view text.now words)) out.new }
 {
     match prefix {
         Some(prefix) => {
+            let number = name.place.line;
             let role = Role::Argument;
-            out.give(word_event(name.line, role, None, Join::Apart, Join::Glued, prefix));
-            give_printed(out, name.line, None, text, words);
+            out.give(word_event(number, role, None, Join::Apart, Join::Glued, prefix));
+            give_printed(out, number, None, text, words);
         }
         None => give_refused(out, name, text, words),
     }

@@ -20,7 +20,7 @@ use Rattle.page_sets_lines.specs.declared.plain_lines.PlainLine.{PlainLine}
 use Rattle.page_roff_syntax.specs.declared.requests.LayoutRequest.{LayoutRequest}
 use Rattle.page_core_base.specs.LinesTaken.{Line}
 use Rattle.page_sets_lines.specs.Laws.{IsPart, IsArgument, IsArgumentIfGiven, OpensSlices, ClosesSlices, LeavesSlices, HasSlices, AreSlices, AreInOrder}
-use Rattle.page_sets_lines.specs.ControlLines.{before_name, name_end, name_of, is_nameless, arguments_after, first_of}
+use Rattle.page_sets_lines.specs.ControlLines.{name_end, name_of, name_place, is_nameless, arguments_after, first_of}
 use Rattle.page_sets_lines.specs.PlainLines.{line_end, plain_line, layout_request}
 use Rattle.page_sets_lines.proofs.ArgumentLaws.{ArgumentsFrom, all_after, earlier, few_after}
 use Rattle.page_sets_lines.proofs.LawLemmas.{nothing_part, rest_part, end_within, name_part, first_slice_after, first_text_after, second_text_after, request_slices, line_slices, AreSlices-append, HasNoWord, order_after, order_before, line_order, named_bytes}
@@ -43,37 +43,38 @@ use Rattle.page_sets_man.specs.declared.rows.Last.TheVariants as lasts
 use Rattle.page_sets_man.specs.declared.rows.Row.{Row}
 use Rattle.page_sets_man.specs.declared.gives.Quote.{Quote}
 use Rattle.page_core_base.specs.TableRows.{row_in}
+use Rattle.page_core_base.specs.declared.places.Place.{Place}
 use Rattle.page_sets_man.specs.Rows.{quiet, table, macro_row, request_row, row_of}
 use Rattle.page_sets_man.specs.Man.{opener, closer, leaf, effect_kind, line_scope, one_word, plain_words, alternating_words, option_words, section_words, reference_words, further_words, words_events, has_words, break_events, quote_at, missing_quote, quote_events, kind_events, scope_events, last_events, macro_events, lone_events, row_events, named_events, control_events, line_events, man_events}
 
 -- ---- slices
 
-break_slices : (line : List ℕ) (number column : ℕ) (breaks : Bool) → AreSlices line (break_events number column breaks)
-break_slices line number column true = (tt, tt)
-break_slices line number column false = tt
+break_slices : (line : List ℕ) (place : Place) (breaks : Bool) → AreSlices line (break_events place breaks)
+break_slices line place true = (tt, tt)
+break_slices line place false = tt
 
 quote_slices : (line : List ℕ) (number : ℕ) (quote : Option Quote) → AreSlices line (quote_events number quote)
 quote_slices line number None = tt
 quote_slices line number (Some quote) = (nothing_part line, tt)
 
-scope_slices : (line : List ℕ) (number column : ℕ) (scope : Option LineOpener) → AreSlices line (scope_events number column scope)
-scope_slices line number column None = tt
-scope_slices line number column (Some opener) = (tt, tt)
+scope_slices : (line : List ℕ) (place : Place) (scope : Option LineOpener) → AreSlices line (scope_events place scope)
+scope_slices line place None = tt
+scope_slices line place (Some opener) = (tt, tt)
 
-last_slices : (line : List ℕ) (number column : ℕ) (last : Last) → AreSlices line (last_events number column last)
-last_slices line number column lasts.Nothing = tt
-last_slices line number column lasts.FontEnds = (tt, tt)
-last_slices line number column (lasts.Mark text) = (tt, tt)
+last_slices : (line : List ℕ) (place : Place) (last : Last) → AreSlices line (last_events place last)
+last_slices line place lasts.Nothing = tt
+last_slices line place lasts.FontEnds = (tt, tt)
+last_slices line place (lasts.Mark text) = (tt, tt)
 
 -- what may be there, and then has slices
 HasSlicesIfGiven : List ℕ → Option (EventKind (List ℕ)) → Type 0
 HasSlicesIfGiven line None = Unit {0}
 HasSlicesIfGiven line (Some kind) = HasSlices line kind
 
-kind_slices : (line : List ℕ) (number column : ℕ) (kind : Option (EventKind (List ℕ))) → HasSlicesIfGiven line kind → AreSlices line (kind_events number column kind)
+kind_slices : (line : List ℕ) (place : Place) (kind : Option (EventKind (List ℕ))) → HasSlicesIfGiven line kind → AreSlices line (kind_events place kind)
 unfolding HasSlicesIfGiven
-kind_slices line number column None h = tt
-kind_slices line number column (Some kind) h = (h, tt)
+kind_slices line place None h = tt
+kind_slices line place (Some kind) h = (h, tt)
 
 target_slices : (line : List ℕ) (make : Argument (List ℕ) → Opener (List ℕ)) (given : Option (Argument (List ℕ)))
     → ((argument : Argument (List ℕ)) → IsArgument line argument → OpensSlices line (make argument)) → IsArgumentIfGiven line given
@@ -136,60 +137,60 @@ option_slices : (line : List ℕ) (number from : ℕ) (arguments : List (Argumen
 option_slices line number from [] h = tt
 option_slices line number from (key ∷ arguments) h = (h.1, one_slices line number _ _ _ arguments h.2)
 
-section_slices : (line : List ℕ) (number column from : ℕ) (arguments : List (Argument (List ℕ)))
-    → ArgumentsFrom line from arguments → AreSlices line (section_words number column arguments)
-section_slices line number column from [] h = tt
-section_slices line number column from (section ∷ arguments) h = (tt, (h.1, (tt, one_slices line number _ _ _ arguments h.2)))
+section_slices : (line : List ℕ) (place : Place) (from : ℕ) (arguments : List (Argument (List ℕ)))
+    → ArgumentsFrom line from arguments → AreSlices line (section_words place arguments)
+section_slices line place from [] h = tt
+section_slices line place from (section ∷ arguments) h = (tt, (h.1, (tt, one_slices line place.line _ _ _ arguments h.2)))
 
-reference_slices : (line : List ℕ) (number column from : ℕ) (arguments : List (Argument (List ℕ)))
-    → ArgumentsFrom line from arguments → AreSlices line (reference_words number column arguments)
-reference_slices line number column from [] h = tt
-reference_slices line number column from (name ∷ arguments) h = (h.1, section_slices line number column _ arguments h.2)
+reference_slices : (line : List ℕ) (place : Place) (from : ℕ) (arguments : List (Argument (List ℕ)))
+    → ArgumentsFrom line from arguments → AreSlices line (reference_words place arguments)
+reference_slices line place from [] h = tt
+reference_slices line place from (name ∷ arguments) h = (h.1, section_slices line place _ arguments h.2)
 
 further_slices : (line : List ℕ) (number from : ℕ) (arguments : List (Argument (List ℕ)))
     → ArgumentsFrom line from arguments → AreSlices line (further_words number arguments)
 further_slices line number from [] h = tt
 further_slices line number from (first ∷ arguments) h = plain_slices line number (first.column + length first.text) arguments h.2
 
-words_slices : (line : List ℕ) (number column : ℕ) (these : Words) (from : ℕ) (arguments : List (Argument (List ℕ)))
-    → ArgumentsFrom line from arguments → AreSlices line (words_events number column these arguments)
-words_slices line number column words.Nothing from arguments h = tt
-words_slices line number column words.Plain from arguments h = plain_slices line number from arguments h
-words_slices line number column (words.Alternating font other) from arguments h = alternating_slices line number font other Apart from arguments h
-words_slices line number column words.Option from arguments h = option_slices line number from arguments h
-words_slices line number column words.Reference from arguments h = reference_slices line number column from arguments h
-words_slices line number column words.Further from arguments h = further_slices line number from arguments h
+words_slices : (line : List ℕ) (place : Place) (these : Words) (from : ℕ) (arguments : List (Argument (List ℕ)))
+    → ArgumentsFrom line from arguments → AreSlices line (words_events place these arguments)
+words_slices line place words.Nothing from arguments h = tt
+words_slices line place words.Plain from arguments h = plain_slices line place.line from arguments h
+words_slices line place (words.Alternating font other) from arguments h = alternating_slices line place.line font other Apart from arguments h
+words_slices line place words.Option from arguments h = option_slices line place.line from arguments h
+words_slices line place words.Reference from arguments h = reference_slices line place from arguments h
+words_slices line place words.Further from arguments h = further_slices line place.line from arguments h
 
-macro_slices : (line : List ℕ) (number column start : ℕ) (row : Row) → start ≤ length line
-    → AreSlices line (macro_events number column row (drop start line) (arguments_after start line))
-macro_slices line number column start row within =
+macro_slices : (line : List ℕ) (place : Place) (start : ℕ) (row : Row) → start ≤ length line
+    → AreSlices line (macro_events place row (drop start line) (arguments_after start line))
+macro_slices line place start row within =
     let arguments = arguments_after start line in
-    AreSlices-append line _ _ (break_slices line number column row.breaks)
-    (AreSlices-append line _ _ (quote_slices line number (missing_quote row.quotes arguments))
-    (AreSlices-append line _ _ (kind_slices line number column _ (effect_slices line row.effect start within))
-    (AreSlices-append line _ _ (scope_slices line number column (line_scope row.effect))
-    (AreSlices-append line _ _ (words_slices line number column row.words (start + 1) arguments (all_after line start))
-    (AreSlices-append line _ _ (last_slices line number column row.last) (tt, tt))))))
+    AreSlices-append line _ _ (break_slices line place row.breaks)
+    (AreSlices-append line _ _ (quote_slices line place.line (missing_quote row.quotes arguments))
+    (AreSlices-append line _ _ (kind_slices line place _ (effect_slices line row.effect start within))
+    (AreSlices-append line _ _ (scope_slices line place (line_scope row.effect))
+    (AreSlices-append line _ _ (words_slices line place row.words (start + 1) arguments (all_after line start))
+    (AreSlices-append line _ _ (last_slices line place row.last) (tt, tt))))))
 
-lone_slices : (line : List ℕ) (alone : Alone) (number column : ℕ) (name : List ℕ) (events : List (Event (List ℕ))) → IsPart line name
-    → AreSlices line events → AreSlices line (lone_events alone number column name events)
-lone_slices line Same number column name events n h = h
-lone_slices line Empty number column name events n h = (n, (tt, tt))
-lone_slices line (Scope opener) number column name events n h = (tt, (tt, tt))
+lone_slices : (line : List ℕ) (alone : Alone) (place : Place) (name : List ℕ) (events : List (Event (List ℕ))) → IsPart line name
+    → AreSlices line events → AreSlices line (lone_events alone place name events)
+lone_slices line Same place name events n h = h
+lone_slices line Empty place name events n h = (n, (tt, tt))
+lone_slices line (Scope opener) place name events n h = (tt, (tt, tt))
 
-row_slices : (line : List ℕ) (number column start : ℕ) (name : List ℕ) (row : Row) → start ≤ length line → IsPart line name
-    → AreSlices line (row_events number column name (drop start line) (arguments_after start line) row)
-row_slices line number column start name row within n =
-    let m = macro_slices line number column start row within in
+row_slices : (line : List ℕ) (place : Place) (start : ℕ) (name : List ℕ) (row : Row) → start ≤ length line → IsPart line name
+    → AreSlices line (row_events place name (drop start line) (arguments_after start line) row)
+row_slices line place start name row within n =
+    let m = macro_slices line place start row within in
     elim (cases_Bool (has_arguments (drop start line))) [
       | inl t ↦ rw t (rw t at m)
-      | inr t ↦ rw t (lone_slices line row.alone number column name _ n (rw t at m))
+      | inr t ↦ rw t (lone_slices line row.alone place name _ n (rw t at m))
     ]
 
 named_slices : (line : Line) (row : Option Row) → AreSlices line.text (named_events line row)
 named_slices line None = (name_part line, (tt, tt))
 named_slices line (Some row) =
-    row_slices line.text line.number (before_name line.text + 1) (name_end line) (name_of line) row (end_within line) (name_part line)
+    row_slices line.text (name_place line) (name_end line) (name_of line) row (end_within line) (name_part line)
 
 control_slices : (line : Line) → AreSlices line.text (control_events line)
 control_slices line =
@@ -208,33 +209,33 @@ man_slices line = form_slices line (plain_line line.form line.text)
 
 -- ---- order
 
-break_no_word : (number column : ℕ) (breaks : Bool) → HasNoWord (break_events number column breaks)
-break_no_word number column true = (refl, tt)
-break_no_word number column false = tt
+break_no_word : (place : Place) (breaks : Bool) → HasNoWord (break_events place breaks)
+break_no_word place true = (refl, tt)
+break_no_word place false = tt
 
 quote_no_word : (number : ℕ) (quote : Option Quote) → HasNoWord (quote_events number quote)
 quote_no_word number None = tt
 quote_no_word number (Some quote) = (refl, tt)
 
-scope_no_word : (number column : ℕ) (scope : Option LineOpener) → HasNoWord (scope_events number column scope)
-scope_no_word number column None = tt
-scope_no_word number column (Some opener) = (refl, tt)
+scope_no_word : (place : Place) (scope : Option LineOpener) → HasNoWord (scope_events place scope)
+scope_no_word place None = tt
+scope_no_word place (Some opener) = (refl, tt)
 
-open_no_word : (number column : ℕ) (given : Option (Opener (List ℕ))) → HasNoWord (kind_events number column (option_map kinds.Open given))
-open_no_word number column None = tt
-open_no_word number column (Some opener) = (refl, tt)
+open_no_word : (place : Place) (given : Option (Opener (List ℕ))) → HasNoWord (kind_events place (option_map kinds.Open given))
+open_no_word place None = tt
+open_no_word place (Some opener) = (refl, tt)
 
-effect_no_word : (number column : ℕ) (effect : Effect) (rest : List ℕ) (arguments : List (Argument (List ℕ)))
-    → HasNoWord (kind_events number column (effect_kind effect rest arguments))
-effect_no_word number column effects.Nothing rest arguments = tt
-effect_no_word number column (effects.Opens scope) rest arguments = open_no_word number column (opener scope arguments)
-effect_no_word number column (effects.Closes scope) rest arguments = (refl, tt)
-effect_no_word number column (effects.Sets change) rest arguments = (refl, tt)
+effect_no_word : (place : Place) (effect : Effect) (rest : List ℕ) (arguments : List (Argument (List ℕ)))
+    → HasNoWord (kind_events place (effect_kind effect rest arguments))
+effect_no_word place effects.Nothing rest arguments = tt
+effect_no_word place (effects.Opens scope) rest arguments = open_no_word place (opener scope arguments)
+effect_no_word place (effects.Closes scope) rest arguments = (refl, tt)
+effect_no_word place (effects.Sets change) rest arguments = (refl, tt)
 
-last_no_word : (number column : ℕ) (last : Last) (filled : Bool) → HasNoWord (last_events number column last ++ line_end number filled ∷ [])
-last_no_word number column lasts.Nothing filled = (refl, tt)
-last_no_word number column lasts.FontEnds filled = (refl, (refl, tt))
-last_no_word number column (lasts.Mark text) filled = (refl, (refl, tt))
+last_no_word : (place : Place) (last : Last) (filled : Bool) → HasNoWord (last_events place last ++ line_end place.line filled ∷ [])
+last_no_word place lasts.Nothing filled = (refl, tt)
+last_no_word place lasts.FontEnds filled = (refl, (refl, tt))
+last_no_word place (lasts.Mark text) filled = (refl, (refl, tt))
 
 one_order : (line : List ℕ) (number : ℕ) (font : Option Font) (before : Join) (from : ℕ) (arguments : List (Argument (List ℕ)))
     → ArgumentsFrom line from arguments → AreInOrder from (one_word number font before arguments)
@@ -255,15 +256,15 @@ option_order : (line : List ℕ) (number from : ℕ) (arguments : List (Argument
 option_order line number from [] h = tt
 option_order line number from (key ∷ arguments) h = (h.0, one_order line number _ _ _ arguments h.2)
 
-section_order : (line : List ℕ) (number column from : ℕ) (arguments : List (Argument (List ℕ)))
-    → ArgumentsFrom line from arguments → AreInOrder from (section_words number column arguments)
-section_order line number column from [] h = tt
-section_order line number column from (section ∷ arguments) h = (tt, (h.0, (tt, one_order line number _ _ _ arguments h.2)))
+section_order : (line : List ℕ) (place : Place) (from : ℕ) (arguments : List (Argument (List ℕ)))
+    → ArgumentsFrom line from arguments → AreInOrder from (section_words place arguments)
+section_order line place from [] h = tt
+section_order line place from (section ∷ arguments) h = (tt, (h.0, (tt, one_order line place.line _ _ _ arguments h.2)))
 
-reference_order : (line : List ℕ) (number column from : ℕ) (arguments : List (Argument (List ℕ)))
-    → ArgumentsFrom line from arguments → AreInOrder from (reference_words number column arguments)
-reference_order line number column from [] h = tt
-reference_order line number column from (name ∷ arguments) h = (h.0, section_order line number column _ arguments h.2)
+reference_order : (line : List ℕ) (place : Place) (from : ℕ) (arguments : List (Argument (List ℕ)))
+    → ArgumentsFrom line from arguments → AreInOrder from (reference_words place arguments)
+reference_order line place from [] h = tt
+reference_order line place from (name ∷ arguments) h = (h.0, section_order line place _ arguments h.2)
 
 further_order : (line : List ℕ) (number from : ℕ) (arguments : List (Argument (List ℕ)))
     → ArgumentsFrom line from arguments → AreInOrder from (further_words number arguments)
@@ -271,42 +272,42 @@ further_order line number from [] h = tt
 further_order line number from (first ∷ arguments) h =
     plain_order line number from arguments (earlier line from (first.column + length first.text) arguments (omega (arith, h.0)) h.2)
 
-words_order : (line : List ℕ) (number column : ℕ) (these : Words) (from : ℕ) (arguments : List (Argument (List ℕ)))
-    → ArgumentsFrom line from arguments → AreInOrder from (words_events number column these arguments)
-words_order line number column words.Nothing from arguments h = tt
-words_order line number column words.Plain from arguments h = plain_order line number from arguments h
-words_order line number column (words.Alternating font other) from arguments h = alternating_order line number font other Apart from arguments h
-words_order line number column words.Option from arguments h = option_order line number from arguments h
-words_order line number column words.Reference from arguments h = reference_order line number column from arguments h
-words_order line number column words.Further from arguments h = further_order line number from arguments h
+words_order : (line : List ℕ) (place : Place) (these : Words) (from : ℕ) (arguments : List (Argument (List ℕ)))
+    → ArgumentsFrom line from arguments → AreInOrder from (words_events place these arguments)
+words_order line place words.Nothing from arguments h = tt
+words_order line place words.Plain from arguments h = plain_order line place.line from arguments h
+words_order line place (words.Alternating font other) from arguments h = alternating_order line place.line font other Apart from arguments h
+words_order line place words.Option from arguments h = option_order line place.line from arguments h
+words_order line place words.Reference from arguments h = reference_order line place from arguments h
+words_order line place words.Further from arguments h = further_order line place.line from arguments h
 
-macro_order : (line : List ℕ) (number column start : ℕ) (row : Row) → AreInOrder 0 (macro_events number column row (drop start line) (arguments_after start line))
-macro_order line number column start row =
+macro_order : (line : List ℕ) (place : Place) (start : ℕ) (row : Row) → AreInOrder 0 (macro_events place row (drop start line) (arguments_after start line))
+macro_order line place start row =
     let arguments = arguments_after start line in
-    order_after 0 _ _ (break_no_word number column row.breaks)
-    (order_after 0 _ _ (quote_no_word number (missing_quote row.quotes arguments))
-    (order_after 0 _ _ (effect_no_word number column row.effect (drop start line) arguments)
-    (order_after 0 _ _ (scope_no_word number column (line_scope row.effect))
-    (order_before 0 _ _ (words_order line number column row.words 0 arguments (earlier line 0 (start + 1) arguments (omega arith) (all_after line start)))
-    (last_no_word number column row.last (has_words row.words && has_arguments (drop start line)))))))
+    order_after 0 _ _ (break_no_word place row.breaks)
+    (order_after 0 _ _ (quote_no_word place.line (missing_quote row.quotes arguments))
+    (order_after 0 _ _ (effect_no_word place row.effect (drop start line) arguments)
+    (order_after 0 _ _ (scope_no_word place (line_scope row.effect))
+    (order_before 0 _ _ (words_order line place row.words 0 arguments (earlier line 0 (start + 1) arguments (omega arith) (all_after line start)))
+    (last_no_word place row.last (has_words row.words && has_arguments (drop start line)))))))
 
-lone_order : (alone : Alone) (number column : ℕ) (name : List ℕ) (events : List (Event (List ℕ))) → AreInOrder 0 events → AreInOrder 0 (lone_events alone number column name events)
-lone_order Same number column name events h = h
-lone_order Empty number column name events h = (tt, (tt, tt))
-lone_order (Scope opener) number column name events h = (tt, (tt, tt))
+lone_order : (alone : Alone) (place : Place) (name : List ℕ) (events : List (Event (List ℕ))) → AreInOrder 0 events → AreInOrder 0 (lone_events alone place name events)
+lone_order Same place name events h = h
+lone_order Empty place name events h = (tt, (tt, tt))
+lone_order (Scope opener) place name events h = (tt, (tt, tt))
 
-row_order : (line : List ℕ) (number column start : ℕ) (name : List ℕ) (row : Row)
-    → AreInOrder 0 (row_events number column name (drop start line) (arguments_after start line) row)
-row_order line number column start name row =
-    let m = macro_order line number column start row in
+row_order : (line : List ℕ) (place : Place) (start : ℕ) (name : List ℕ) (row : Row)
+    → AreInOrder 0 (row_events place name (drop start line) (arguments_after start line) row)
+row_order line place start name row =
+    let m = macro_order line place start row in
     elim (cases_Bool (has_arguments (drop start line))) [
       | inl t ↦ rw t (rw t at m)
-      | inr t ↦ rw t (lone_order row.alone number column name _ (rw t at m))
+      | inr t ↦ rw t (lone_order row.alone place name _ (rw t at m))
     ]
 
 named_order : (line : Line) (row : Option Row) → AreInOrder 0 (named_events line row)
 named_order line None = (tt, (tt, tt))
-named_order line (Some row) = row_order line.text line.number (before_name line.text + 1) (name_end line) (name_of line) row
+named_order line (Some row) = row_order line.text (name_place line) (name_end line) (name_of line) row
 
 control_order : (line : Line) → AreInOrder 0 (control_events line)
 control_order line =
@@ -363,10 +364,10 @@ weight row =
     break_weight row.breaks + (quotes_weight row.quotes + (effect_weight row.effect
     + (scope_weight (line_scope row.effect) + (marks_weight row.words + last_weight row.last))))
 
-few_break : (number column : ℕ) (breaks : Bool) → length (break_events number column breaks) ≤ break_weight breaks
+few_break : (place : Place) (breaks : Bool) → length (break_events place breaks) ≤ break_weight breaks
 unfolding break_weight
-few_break number column true = omega arith
-few_break number column false = omega arith
+few_break place true = omega arith
+few_break place false = omega arith
 
 few_quote_at : (number : ℕ) (begins_body : Bool) (column : Option ℕ) → length (quote_events number (quote_at begins_body column)) ≤ 1
 few_quote_at number begins_body None = omega arith
@@ -378,28 +379,28 @@ few_quote number Printed arguments = omega arith
 few_quote number (After printed) arguments = few_quote_at number false _
 few_quote number (BodyAfter printed) arguments = few_quote_at number true _
 
-few_kind : (number column : ℕ) (kind : Option (EventKind (List ℕ))) → length (kind_events number column kind) ≤ 1
-few_kind number column None = omega arith
-few_kind number column (Some kind) = omega arith
+few_kind : (place : Place) (kind : Option (EventKind (List ℕ))) → length (kind_events place kind) ≤ 1
+few_kind place None = omega arith
+few_kind place (Some kind) = omega arith
 
-few_effect : (number column : ℕ) (effect : Effect) (rest : List ℕ) (arguments : List (Argument (List ℕ)))
-    → length (kind_events number column (effect_kind effect rest arguments)) ≤ effect_weight effect
+few_effect : (place : Place) (effect : Effect) (rest : List ℕ) (arguments : List (Argument (List ℕ)))
+    → length (kind_events place (effect_kind effect rest arguments)) ≤ effect_weight effect
 unfolding effect_weight
-few_effect number column effects.Nothing rest arguments = omega arith
-few_effect number column (effects.Opens scope) rest arguments = few_kind number column _
-few_effect number column (effects.Closes scope) rest arguments = omega arith
-few_effect number column (effects.Sets change) rest arguments = omega arith
+few_effect place effects.Nothing rest arguments = omega arith
+few_effect place (effects.Opens scope) rest arguments = few_kind place _
+few_effect place (effects.Closes scope) rest arguments = omega arith
+few_effect place (effects.Sets change) rest arguments = omega arith
 
-few_scope : (number column : ℕ) (scope : Option LineOpener) → length (scope_events number column scope) ≤ scope_weight scope
+few_scope : (place : Place) (scope : Option LineOpener) → length (scope_events place scope) ≤ scope_weight scope
 unfolding scope_weight
-few_scope number column None = omega arith
-few_scope number column (Some opener) = omega arith
+few_scope place None = omega arith
+few_scope place (Some opener) = omega arith
 
-few_last : (number column : ℕ) (last : Last) → length (last_events number column last) ≤ last_weight last
+few_last : (place : Place) (last : Last) → length (last_events place last) ≤ last_weight last
 unfolding last_weight
-few_last number column lasts.Nothing = omega arith
-few_last number column lasts.FontEnds = omega arith
-few_last number column (lasts.Mark text) = omega arith
+few_last place lasts.Nothing = omega arith
+few_last place lasts.FontEnds = omega arith
+few_last place (lasts.Mark text) = omega arith
 
 few_one : (number : ℕ) (font : Option Font) (before : Join) (arguments : List (Argument (List ℕ))) → length (one_word number font before arguments) ≤ length arguments
 few_one number font before [] = omega arith
@@ -418,38 +419,38 @@ few_option : (number : ℕ) (arguments : List (Argument (List ℕ))) → length 
 few_option number [] = omega arith
 few_option number (key ∷ arguments) = let f = few_one number (Some fonts.I) Apart arguments in omega (arith, f)
 
-few_section : (number column : ℕ) (arguments : List (Argument (List ℕ))) → length (section_words number column arguments) ≤ 2 + length arguments
-few_section number column [] = omega arith
-few_section number column (section ∷ arguments) = let f = few_one number None Glued arguments in omega (arith, f)
+few_section : (place : Place) (arguments : List (Argument (List ℕ))) → length (section_words place arguments) ≤ 2 + length arguments
+few_section place [] = omega arith
+few_section place (section ∷ arguments) = let f = few_one place.line None Glued arguments in omega (arith, f)
 
-few_reference : (number column : ℕ) (arguments : List (Argument (List ℕ))) → length (reference_words number column arguments) ≤ 2 + length arguments
-few_reference number column [] = omega arith
-few_reference number column (name ∷ arguments) = let f = few_section number column arguments in omega (arith, f)
+few_reference : (place : Place) (arguments : List (Argument (List ℕ))) → length (reference_words place arguments) ≤ 2 + length arguments
+few_reference place [] = omega arith
+few_reference place (name ∷ arguments) = let f = few_section place arguments in omega (arith, f)
 
 few_further : (number : ℕ) (arguments : List (Argument (List ℕ))) → length (further_words number arguments) ≤ length arguments
 few_further number [] = omega arith
 few_further number (first ∷ arguments) = let f = few_plain number arguments in omega (arith, f)
 
-few_words : (number column : ℕ) (these : Words) (arguments : List (Argument (List ℕ)))
-    → length (words_events number column these arguments) ≤ marks_weight these + length arguments
+few_words : (place : Place) (these : Words) (arguments : List (Argument (List ℕ)))
+    → length (words_events place these arguments) ≤ marks_weight these + length arguments
 unfolding marks_weight
-few_words number column words.Nothing arguments = omega arith
-few_words number column words.Plain arguments = let f = few_plain number arguments in omega (arith, f)
-few_words number column (words.Alternating font other) arguments = let f = few_alternating number font other Apart arguments in omega (arith, f)
-few_words number column words.Option arguments = let f = few_option number arguments in omega (arith, f)
-few_words number column words.Reference arguments = let f = few_reference number column arguments in omega (arith, f)
-few_words number column words.Further arguments = let f = few_further number arguments in omega (arith, f)
+few_words place words.Nothing arguments = omega arith
+few_words place words.Plain arguments = let f = few_plain place.line arguments in omega (arith, f)
+few_words place (words.Alternating font other) arguments = let f = few_alternating place.line font other Apart arguments in omega (arith, f)
+few_words place words.Option arguments = let f = few_option place.line arguments in omega (arith, f)
+few_words place words.Reference arguments = let f = few_reference place arguments in omega (arith, f)
+few_words place words.Further arguments = let f = few_further place.line arguments in omega (arith, f)
 
-few_macro : (number column : ℕ) (row : Row) (rest : List ℕ) (arguments : List (Argument (List ℕ)))
-    → length (macro_events number column row rest arguments) ≤ weight row + length arguments + 1
+few_macro : (place : Place) (row : Row) (rest : List ℕ) (arguments : List (Argument (List ℕ)))
+    → length (macro_events place row rest arguments) ≤ weight row + length arguments + 1
 unfolding weight
-few_macro number column row rest arguments =
-    let a = few_break number column row.breaks in
-    let b = few_quote number row.quotes arguments in
-    let c = few_effect number column row.effect rest arguments in
-    let d = few_scope number column (line_scope row.effect) in
-    let e = few_words number column row.words arguments in
-    let f = few_last number column row.last in
+few_macro place row rest arguments =
+    let a = few_break place row.breaks in
+    let b = few_quote place.line row.quotes arguments in
+    let c = few_effect place row.effect rest arguments in
+    let d = few_scope place (line_scope row.effect) in
+    let e = few_words place row.words arguments in
+    let f = few_last place row.last in
     simp length-append (omega (arith, a, b, c, d, e, f))
 
 -- ---- the rows of the table are light
@@ -494,18 +495,18 @@ light_weight : (row : Row) → is_light row ≡ true → weight row ≤ 4
 unfolding is_light
 light_weight row h = grind (arith, nat_tests)
 
-few_lone : (alone : Alone) (number column : ℕ) (name : List ℕ) (events : List (Event (List ℕ))) (n : ℕ) → 2 ≤ n → length events ≤ n
-    → length (lone_events alone number column name events) ≤ n
-few_lone Same number column name events n t h = h
-few_lone Empty number column name events n t h = omega arith
-few_lone (Scope opener) number column name events n t h = omega arith
+few_lone : (alone : Alone) (place : Place) (name : List ℕ) (events : List (Event (List ℕ))) (n : ℕ) → 2 ≤ n → length events ≤ n
+    → length (lone_events alone place name events) ≤ n
+few_lone Same place name events n t h = h
+few_lone Empty place name events n t h = omega arith
+few_lone (Scope opener) place name events n t h = omega arith
 
-few_row : (number column : ℕ) (name rest : List ℕ) (arguments : List (Argument (List ℕ))) (row : Row) (n : ℕ) → 2 ≤ n
-    → length (macro_events number column row rest arguments) ≤ n → length (row_events number column name rest arguments row) ≤ n
-few_row number column name rest arguments row n t h =
+few_row : (place : Place) (name rest : List ℕ) (arguments : List (Argument (List ℕ))) (row : Row) (n : ℕ) → 2 ≤ n
+    → length (macro_events place row rest arguments) ≤ n → length (row_events place name rest arguments row) ≤ n
+few_row place name rest arguments row n t h =
     elim (cases_Bool (has_arguments rest)) [
       | inl s ↦ rw s (rw s at h)
-      | inr s ↦ rw s (few_lone row.alone number column name _ n t (rw s at h))
+      | inr s ↦ rw s (few_lone row.alone place name _ n t (rw s at h))
     ]
 
 few_named : (line : Line) (row : Option Row) → is_nameless line ≡ false → row_of (name_of line) ≡ row
@@ -517,8 +518,8 @@ few_named line (Some row) h e =
     let b = named_bytes line h in
     let w = light_weight row (light_row (name_of line) row e) in
     let f = few_after text start in
-    let m = few_macro line.number (before_name text + 1) row (drop start text) (arguments_after start text) in
-    few_row line.number (before_name text + 1) (name_of line) (drop start text) (arguments_after start text) row
+    let m = few_macro (name_place line) row (drop start text) (arguments_after start text) in
+    few_row (name_place line) (name_of line) (drop start text) (arguments_after start text) row
     (2 * length text + 2) (omega arith) (omega (arith, b.0, b.1, w, f, m))
 
 few_control : (line : Line) → length (control_events line) ≤ 2 * length line.text + 2

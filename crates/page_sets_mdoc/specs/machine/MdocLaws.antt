@@ -8,7 +8,7 @@ use Rattle.page_roff_syntax.specs.declared.quotes.Argument.{Argument}
 use Rattle.page_roff_syntax.specs.declared.requests.LayoutRequest.{LayoutRequest}
 use Rattle.page_sets_lines.specs.declared.events.Event.{Event}
 use Rattle.page_sets_lines.specs.declared.plain_lines.PlainLine.{PlainLine}
-use Rattle.page_sets_lines.specs.ControlLines.{name_end, name_of, is_nameless}
+use Rattle.page_sets_lines.specs.ControlLines.{name_end, name_of, name_place, is_nameless}
 use Rattle.page_sets_lines.specs.Laws.{AreSlices, AreInOrder}
 use Rattle.page_sets_lines.specs.PlainLines.{line_end, plain_line, layout_request}
 use Rattle.page_sets_lines.proofs.ArgumentLaws.{ArgumentsFrom, all_after, earlier}
@@ -19,7 +19,7 @@ use Rattle.page_sets_mdoc_lines.specs.declared.blocks.LineMacro.TheVariants as l
 use Rattle.page_sets_mdoc_lines.specs.Rows.{line_macro, is_parsed}
 use Rattle.page_sets_mdoc_lines.proofs.FewLemmas.{few_arguments_after}
 use Rattle.page_sets_mdoc_words.proofs.PrintLemmas.{Prints, no_event, more_events, word_passed, printed_prints, include_prints, sentence_prints, framed_prints}
-use Rattle.page_sets_mdoc_blocks.specs.Fronts.{name_column, line_arguments, request_front, has_real_word, is_standard, given_names, block_front}
+use Rattle.page_sets_mdoc_blocks.specs.Fronts.{line_arguments, request_front, has_real_word, is_standard, given_names, block_front}
 use Rattle.page_sets_mdoc_blocks.proofs.FrontLemmas.{request_front_slices, block_slices, request_no_word, block_no_word, request_few, words_more, block_few}
 use Rattle.page_sets_mdoc_words.specs.Sentences.{sentence_events}
 use Rattle.page_sets_mdoc_lines.specs.declared.blocks.Sentence.{Sentence}
@@ -31,20 +31,20 @@ use Rattle.page_sets_mdoc.specs.machine.RestLaws.{head_prints, phrase_prints}
 
 -- the names of a sentence, after its option
 names_print : (line : Line) (sentence : Sentence) (arguments : List (Argument (List ℕ))) → AreArguments line.text arguments
-    → Prints line.text 4 arguments (sentence_events line.number (name_column line) sentence (given_names arguments))
-names_print line sentence [] h = sentence_prints line.text line.number (name_column line) sentence [] h
+    → Prints line.text 4 arguments (sentence_events (name_place line) sentence (given_names arguments))
+names_print line sentence [] h = sentence_prints line.text (name_place line) sentence [] h
 names_print line sentence (word ∷ words) h =
     elim (cases_Bool (is_standard word)) [
       | inl t ↦
           rw t (word_passed line.text 4 word words _ (more_events line.text 4 6 words _ (omega arith)
-          (sentence_prints line.text line.number (name_column line) sentence words h.1)))
-      | inr t ↦ rw t (sentence_prints line.text line.number (name_column line) sentence (word ∷ words) h)
+          (sentence_prints line.text (name_place line) sentence words h.1)))
+      | inr t ↦ rw t (sentence_prints line.text (name_place line) sentence (word ∷ words) h)
     ]
 
 include_words_print : (line : Line) (real : Bool) → Prints line.text 4 (line_arguments line) (include_words real line)
 include_words_print line true =
-    framed_prints line.text 2 line.number (name_column line) (Some Break) (Some Break) (line_arguments line) _
-    (include_prints line.text line.number (name_column line) (line_arguments line) (all_arguments line.text (name_end line)))
+    framed_prints line.text 2 (name_place line) (Some Break) (Some Break) (line_arguments line) _
+    (include_prints line.text (name_place line) (line_arguments line) (all_arguments line.text (name_end line)))
 include_words_print line false =
     more_events line.text 0 4 (line_arguments line) _ (omega arith)
     (printed_prints line.text line.number None (line_arguments line) (all_arguments line.text (name_end line)))

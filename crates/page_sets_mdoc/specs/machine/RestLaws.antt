@@ -3,7 +3,8 @@ use Rattle.std.proofs.Common.{◌≡◌, ℕ, ◌+◌, ◌-◌, Bool, List, [], 
 use Rattle.page_core_base.specs.LinesTaken.{Line}
 use Rattle.page_roff_syntax.specs.declared.quotes.Argument.{Argument}
 use Rattle.page_sets_lines.specs.declared.events.Event.{Event}
-use Rattle.page_sets_lines.specs.ControlLines.{name_of}
+use Rattle.page_sets_lines.specs.ControlLines.{name_of, name_place}
+use Rattle.page_sets_lines.specs.PlainLines.{word_place}
 use Rattle.page_sets_lines.proofs.LawLemmas.{name_part}
 use Rattle.page_sets_lines.proofs.OrderLemmas.{AreArguments, AreArguments-split}
 use Rattle.page_sets_mdoc_lines.specs.declared.macros.Inline.{Inline}
@@ -13,7 +14,6 @@ use Rattle.page_sets_mdoc_lines.proofs.PartLemmas.{none_taken, whole}
 use Rattle.page_sets_mdoc_words.specs.Printed.{printed}
 use Rattle.page_sets_mdoc_words.proofs.MacroPrintLemmas.{begun_prints, called_prints, own_arguments}
 use Rattle.page_sets_mdoc_words.proofs.PrintLemmas.{Prints, both, more_events, no_event, own_first, printed_prints, word_passed}
-use Rattle.page_sets_mdoc_blocks.specs.Fronts.{name_column}
 use Rattle.page_sets_mdoc.specs.Mdoc.{call_events, calls_events, tail_events, rest_events, head_events, phrase_events}
 
 tail_prints : (line : Line) (tail : List (Argument (List ℕ))) → AreArguments line.text tail → Prints line.text 1 tail (tail_events line.number tail)
@@ -29,7 +29,7 @@ call_prints line call follows others events h p =
     let own = own_arguments call.taken call.words in
     word_passed line.text 1 call.name (own ++ others) _
     (both line.text 2 1 own others _ events
-    (called_prints line.text line.number call.name.column call.name.text call.inline call.taken call.words follows (call.name.column - 1, h.0.slice) (AreArguments-split line.text own others h.1).0)
+    (called_prints line.text (word_place line.number call.name) call.name.text call.inline call.taken call.words follows (call.name.column - 1, h.0.slice) (AreArguments-split line.text own others h.1).0)
     p)
 
 calls_print : (line : Line) (calls : List Call) (tail : List (Argument (List ℕ))) → AreArguments line.text (calls_arguments calls ++ tail)
@@ -65,7 +65,7 @@ head_prints line inline arguments h =
     let all = whole (Some inline) (is_parsed (name_of line)) arguments in
     subst (λ l. Prints line.text 5 l (head_events line inline p)) all
     (parts_print line 4 p _ (subst (λ l. AreArguments line.text l) (sym all) h)
-    (λ own. begun_prints line.text line.number (name_column line) (name_of line) inline p.taken p.words (has_calls p.calls) (name_part line) own))
+    (λ own. begun_prints line.text (name_place line) (name_of line) inline p.taken p.words (has_calls p.calls) (name_part line) own))
 
 -- words as they are
 phrase_generated : (line : Line) (p : LineParts) → p.taken ≡ None → AreArguments line.text (own_arguments p.taken p.words)

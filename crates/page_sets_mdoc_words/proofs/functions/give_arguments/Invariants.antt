@@ -8,8 +8,8 @@ use Rattle.page_sets_mdoc_words.proofs.functions.give_arguments.Given as goal
 abbrev pub invariant-loop-word : goal.invariant-loop-word
 invariant-loop-word g l = record {
   within : IsCursorOf l.text l.left.cursor;
-  came : CameUpTo g.O.EventTaker.left l.fn.out (arguments l.number l.column (words_view l.text l.fn.words))
-      (if l.is_first then arguments l.number l.column (words_view l.text l.left) else more_arguments l.number l.column (words_view l.text l.left)) l.out;
+  came : CameUpTo g.O.EventTaker.left l.fn.out (arguments l.place (words_view l.text l.fn.words))
+      (if l.is_first then arguments l.place (words_view l.text l.left) else more_arguments l.place (words_view l.text l.left)) l.out;
 }
 
 abbrev pub decreases-loop-word : goal.decreases-loop-word

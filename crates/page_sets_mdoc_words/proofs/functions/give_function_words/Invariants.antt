@@ -8,8 +8,8 @@ use Rattle.page_sets_mdoc_words.proofs.functions.give_function_words.Given as go
 abbrev pub invariant-loop-word : goal.invariant-loop-word
 invariant-loop-word g l = record {
   within : IsCursorOf l.text l.left.cursor;
-  came : CameUpTo g.O.EventTaker.left l.fn.out (function_words l.number l.column (words_view l.text l.fn.words))
-      (function_words l.number l.column (words_view l.text l.left)) l.out;
+  came : CameUpTo g.O.EventTaker.left l.fn.out (function_words l.place (words_view l.text l.fn.words))
+      (function_words l.place (words_view l.text l.left)) l.out;
 }
 
 abbrev pub decreases-loop-word : goal.decreases-loop-word

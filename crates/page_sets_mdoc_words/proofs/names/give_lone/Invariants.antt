@@ -9,8 +9,8 @@ use Rattle.page_sets_mdoc_words.proofs.names.give_lone.Given as goal
 abbrev pub invariant-loop-word : goal.invariant-loop-word
 invariant-loop-word g l = record {
   within : IsCursorOf l.text l.left.cursor;
-  came : CameUpTo g.O.EventTaker.left l.fn.out (lone l.number (lone_event l.number l.column l.lone) (words_view l.text l.fn.words))
-      (lone l.number (lone_event l.number l.column l.lone) (words_view l.text l.left)) l.out;
+  came : CameUpTo g.O.EventTaker.left l.fn.out (lone l.place.line (lone_event l.place l.lone) (words_view l.text l.fn.words))
+      (lone l.place.line (lone_event l.place l.lone) (words_view l.text l.left)) l.out;
 }
 
 abbrev pub decreases-loop-word : goal.decreases-loop-word
