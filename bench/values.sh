@@ -8,7 +8,7 @@ room=$(mktemp -d) || exit 1
 trap 'rm -rf "$room"' EXIT
 program=$room/crates/values
 mkdir -p "$program/src"
-crates="page_core_base page_core_streams page_core_tables page_core_escapes page_core_numbers page_roff_syntax page_roff_names page_roff_values"
+crates="page_core_base page_core_streams page_core_tables page_core_escapes page_core_numbers page_roff_syntax page_roff_names page_roff_parts page_roff_values"
 for crate in $crates; do
     cp -R "crates/$crate" "$room/crates/"
     grep "^$crate:" crates.txt >> "$room/crates.txt"

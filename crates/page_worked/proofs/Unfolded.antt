@@ -57,14 +57,14 @@ unfoldable pub use Rattle.page_roff_lines.specs.Open.{restart as u242, put as u2
 unfoldable pub use Rattle.page_roff_lines.specs.Physical.{read as u262, read_pair as u263}
 unfoldable pub use Rattle.page_roff_names.specs.Names.{first_passed as u264}
 unfoldable pub use Rattle.page_roff_names.specs.Predefined.{predefined as u265}
-unfoldable pub use Rattle.page_roff_source.specs.Edges.{line_count as u266}
-unfoldable pub use Rattle.page_roff_source.specs.Given.{run_all as u267}
-unfoldable pub use Rattle.page_roff_syntax.specs.Arguments.{arguments as u268}
-unfoldable pub use Rattle.page_roff_syntax.specs.OpenRegions.{within_limit as u269, opened as u270}
-unfoldable pub use Rattle.page_roff_syntax.specs.RegionHeads.{region_head as u271, is_ending as u272}
-unfoldable pub use Rattle.page_roff_syntax.specs.Requests.{request_of as u273}
-unfoldable pub use Rattle.page_roff_values.specs.Arguments.{arguments_in as u274}
-unfoldable pub use Rattle.page_roff_parts.specs.Parts.{content_len as u275, seen as u276, parts_up_to as u277, parts as u278, without_lone as u279}
+unfoldable pub use Rattle.page_roff_parts.specs.Parts.{content_len as u266, seen as u267, parts_up_to as u268, parts as u269, without_lone as u270}
+unfoldable pub use Rattle.page_roff_source.specs.Edges.{line_count as u271}
+unfoldable pub use Rattle.page_roff_source.specs.Given.{run_all as u272}
+unfoldable pub use Rattle.page_roff_syntax.specs.Arguments.{arguments as u273}
+unfoldable pub use Rattle.page_roff_syntax.specs.OpenRegions.{within_limit as u274, opened as u275}
+unfoldable pub use Rattle.page_roff_syntax.specs.RegionHeads.{region_head as u276, is_ending as u277}
+unfoldable pub use Rattle.page_roff_syntax.specs.Requests.{request_of as u278}
+unfoldable pub use Rattle.page_roff_values.specs.Arguments.{arguments_in as u279}
 unfoldable pub use Rattle.page_roff_values.specs.Values.{NEST as u280, seq as u281, put as u282, lay as u283, charge as u284, width as u285, interpolated as u286, call_at as u287, value as u288}
 unfoldable pub use Rattle.page_scopes.specs.Bodies.{coming as u289, stands as u290}
 unfoldable pub use Rattle.page_scopes_blocks.specs.Blocks.{block_opened as u291}

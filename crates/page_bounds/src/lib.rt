@@ -1,0 +1,12 @@
+//! Laws of definitions that count their steps: the numbers up to which they count are no limits.
+//!
+//! It is above the crates of these definitions, and nothing of the program depends on it. Read `src/laws.rt`: each law says of a definition what it would be with no
+//! count.
+//!
+//! Proved: `content_law`: the content of a quoted argument is searched to its end (`page_core_escapes`). `printed_law`: a text prints what its
+//! front prints, and then what the rest prints (`page_core_numbers`).
+#![tactic(auto)]
+
+mod laws;
+
+pub use laws::{content_law, printed_law};
