@@ -77,6 +77,16 @@ def in_widths(value, names="a", each=4):
     return made
 
 
+def in_different_widths(value):
+    """The same, of which no two widths have the same text: what is remembered of one says nothing of the next."""
+
+    def made(part):
+        width = "".join(f"\\w'{at:03}" + "\\\\*a" * 4 + "'" for at in range(EACH // 5 - 1))
+        return MAN + ".ds a " + value(VALUE * part // 4) + "\n.ds z " + width + "\n", "\\*z\n"
+
+    return made
+
+
 def unended(size, at):
     """Widths whose second delimiters never come, all different."""
     return "".join("\\w" + chr(0x4E00 + at * (size // 5) + k) for k in range(size // 5))
@@ -112,6 +122,9 @@ LINES_OF = [
     ("widths of \\&", in_widths(lambda size, at: "\\&" * (size // 2))),
     ("widths of CJK", in_widths(lambda size, at: chr(0x4E00) * (size // 3))),
     ("widths of glyphs", in_widths(lambda size, at: "\\(bu" * (size // 4))),
+    ("widths of CJK, all different", in_different_widths(lambda size: chr(0x4E00) * (size // 3))),
+    ("widths of glyphs, all different", in_different_widths(lambda size: "\\(bu" * (size // 4))),
+    ("widths of \\h, all different", in_different_widths(lambda size: "\\h'1'" * (size // 5))),
     ("widths of plain letters", in_widths(lambda size, at: "x" * size)),
     ("Nm of blanks", names_of_blanks),
     ("\\h'999'", blanks),
