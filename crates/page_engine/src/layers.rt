@@ -191,8 +191,8 @@ impl Layers {
         ensures faults { (e : Edge) → IsAt self.old e →
             FailsBySink result (R.failed rows.old) (R.failed rows.new)
             (N.failed notes.old) (N.failed notes.new) }
-        ensures point { OnOk result (cutter.new.point ≡ cutter.old.point) }
-        ensures ready { OnOk result (cutter.new.ready ≡ false) }
+        ensures point { cutter.new.point ≡ cutter.old.point }
+        ensures ready { cutter.new.ready ≡ false }
         ensures rows_same { R.loans rows.new ≡ R.loans rows.old }
         ensures notes_same { N.loans notes.new ≡ N.loans notes.old }
     {

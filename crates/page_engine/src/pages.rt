@@ -217,6 +217,9 @@ impl Page {
         ensures source { OnOk result (self.new.counts.source ≡ self.old.counts.source + 1) }
         ensures point { OnOk result (cutter.new.point ≡ cutter.old.point) }
         ensures ready { OnOk result (cutter.new.ready ≡ false) }
+        ensures taken { line_fault self.old ≡ None
+            → (cutter.new.point ≡ cutter.old.point) × (cutter.new.ready ≡ false) }
+        ensures waits { (fault : Fault) → line_fault self.old ≡ Some fault → cutter.new ≡ cutter.old }
         ensures rows_same { R.loans rows.new ≡ R.loans rows.old }
         ensures notes_same { N.loans notes.new ≡ N.loans notes.old }
     {
