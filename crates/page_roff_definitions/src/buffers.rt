@@ -1,6 +1,6 @@
 //! What was taken last, in memory that is reserved once: a line, a call, the body of a region or a loop.
 
-ghost use Rattle.std.specs.Prelude.{◌≡◌, ◌≤◌, length, IfOk, IfSome, None, Some};
+ghost use Rattle.std.specs.Prelude.{◌≡◌, ◌≤◌, length, false, IfOk, IfSome, None, Some};
 ghost use Rattle.page_core_base.specs.LinesTaken.{line_view};
 ghost use Rattle.page_core_base.specs.declared.limits.TheConstants.{BODY, LINE};
 ghost use Rattle.page_roff_definitions.specs.machine.Buffers.{no_line, AddsLine};
@@ -131,7 +131,8 @@ impl BodyBuffer {
 
     /// Adds a line with its end to a body. Where that passes the limit, there is no body from then on.
     pub fn add_line(&mut self, line: &[u8]) -> bool
-        ensures { AddsLine self.old line.now result self.new }
+        ensures none { self.old ≡ None → (result ≡ false) × (self.new ≡ None) }
+        ensures added { AddsLine self.old line.now result self.new }
     {
         if !self.is_open {
             return false;

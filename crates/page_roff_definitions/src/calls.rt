@@ -137,6 +137,7 @@ impl CallBuffer {
         requires room { column + length rest.now ≤ LINE + 1 }
         ensures packed { Packs (packed (arguments column rest.now)) result.fits self.new.packed }
         ensures closed { result.is_closed ≡ true → (line : ℕ) → closings_notes line (arguments column rest.now) ≡ [] }
+        ensures body { self.new.body ≡ self.old.body }
     {
         self.packed.clear();
         append_arguments(&mut self.packed, &mut Arguments::new(rest, column))
