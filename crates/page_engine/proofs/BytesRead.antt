@@ -8,7 +8,7 @@ use Rattle.page_core_base.proofs.SinkLemmas.{within-join}
 use Rattle.page_roff_lines.specs.Cutting.{Point, point_after, lines_within, last_line, lines_from}
 use Rattle.page_roff_lines.proofs.PointLemmas.{lines_within-append}
 use Rattle.page_engine.specs.Page.{Edge, IsReached, settled, page}
-use Rattle.page_engine.specs.Runs.{page_from, settled_from}
+use Rattle.page_engine.specs.machine.Points.{page_from, settled_from}
 use Rattle.page_engine.proofs.WholeLines.{settled-append, page-append}
 
 -- ---- what is settled of more bytes

@@ -8,10 +8,10 @@ use Rattle.page_core_base.specs.declared.faults.Fault.{Fault}
 use Rattle.page_core_base.specs.declared.faults.Fault.TheVariants.{Memory, Read, WriteText, WriteNotes, TooLong, Settings, Failed, Ended, BadIndex}
 use Rattle.page_core_base.specs.declared.page_settings.Settings.{Settings as PageSettings}
 use Rattle.page_core_streams.specs.Sources.{SourceState}
-use Rattle.page_roff_lines.specs.Cutting.{Point, point_after, last_line}
+use Rattle.page_roff_lines.specs.Whole.{lines_made, line_left}
 use Rattle.page_engine.specs.declared.runs.Outcome.{Outcome}
-use Rattle.page_engine.specs.Page.{Edge, page, start}
-use Rattle.page_engine.specs.Runs.{Runs, RunsOver, Whole, Stopped, Broken, BrokeIn, Untouched, Quiet, whole_page, settled_page, settled_from}
+use Rattle.page_engine.specs.Page.{page, settled, start}
+use Rattle.page_engine.specs.Runs.{Runs, RunsOver, Whole, Stopped, Broken, BrokeIn, Untouched, Quiet, whole_page, settled_page}
 use Rattle.page_core_base.specs.Laid.{nothing}
 use Rattle.page_engine.specs.Streams.{Sinks, AllCame, FrontCame}
 
@@ -48,12 +48,15 @@ module _ {R N W V : Type 0} (k : Sinks R N) (i : Sinks W V) (f : R → W) (g : N
       subst (λ (x : ℕ). IsSinkFault fault x b' c' d') e1 (subst (λ (x : ℕ). IsSinkFault fault a x c' d') e2
       (subst (λ (x : ℕ). IsSinkFault fault a b x d') e3 (subst (λ (x : ℕ). IsSinkFault fault a b c x) e4 h)))
 
-  broke_on : (r r' : R) (n n' : N) (e : Edge) (p : Point) (own left : List ℕ) → P n → BrokeIn k.to r r' n n' e p own left → BrokeIn i.to (f r) (f r') (g n) (g n') e p own left
-  broke_on r r' n n' e p own left q (inl h) = inl (h.0, front_on r r' n n' (settled_from e p own) q h.1)
-  broke_on r r' n n' e p own left q (inr h) = inr (h.0, h.1, front_on r r' n n' (page e (last_line p)) q h.2)
+  broke_on : (r r' : R) (n n' : N) (s : PageSettings) (before own left : List ℕ) → P n → BrokeIn k.to r r' n n' s before own left
+      → BrokeIn i.to (f r) (f r') (g n) (g n') s before own left
+  broke_on r r' n n' s before own left q (inl h) =
+      inl (h.0, front_on r r' n n' (settled (settled_page s before).edge (lines_made s.encoding before own)) q h.1)
+  broke_on r r' n n' s before own left q (inr h) =
+      inr (h.0, h.1, front_on r r' n n' (page (settled_page s before).edge (line_left s.encoding before)) q h.2)
 
-  broken_on : (r r' : R) (n n' : N) (e : Edge) (p : Point) (bytes : List ℕ) (fault : Fault) → P n → Broken k r r' n n' e p bytes fault → Broken i (f r) (f r') (g n) (g n') e p bytes fault
-  broken_on r r' n n' e p bytes fault q h = record {
+  broken_on : (r r' : R) (n n' : N) (s : PageSettings) (bytes : List ℕ) (fault : Fault) → P n → Broken k r r' n n' s bytes fault → Broken i (f r) (f r') (g n) (g n') s bytes fault
+  broken_on r r' n n' s bytes fault q h = record {
     before = h.before;
     own = h.own;
     left = h.left;
@@ -61,8 +64,8 @@ module _ {R N W V : Type 0} (k : Sinks R N) (i : Sinks W V) (f : R → W) (g : N
     recent = h.recent;
     rows = f h.rows;
     notes = g h.notes;
-    whole = all_on r h.rows n h.notes (settled_from e p h.before) q h.whole;
-    front = broke_on h.rows r' h.notes n' (settled_from e p h.before).edge (point_after p h.before) h.own h.left (o.stays n h.notes (settled_from e p h.before).notes q h.whole.notes) h.front;
+    whole = all_on r h.rows n h.notes (settled_page s h.before) q h.whole;
+    front = broke_on h.rows r' h.notes n' s h.before h.own h.left (o.stays n h.notes (settled_page s h.before).notes q h.whole.notes) h.front;
     cause = cause_at fault _ _ _ _ _ _ _ _ (o.rows_failed r) (o.rows_failed r') (o.notes_failed n) (o.notes_failed n') h.cause;
   }
 
@@ -116,7 +119,7 @@ module _ {R N W V : Type 0} (k : Sinks R N) (i : Sinks W V) (f : R → W) (g : N
     source = h.source;
     lean = h.lean;
     runs = (h.runs.0, front_on r r' n n' (whole_page s bytes) p h.runs.1);
-    cause = broken_on r r' n n' _ _ bytes WriteText p h.cause;
+    cause = broken_on r r' n n' s bytes WriteText p h.cause;
   }
   caused_on a b r r' n n' s bytes (Err WriteNotes) p h = record {
     asked = h.asked;
@@ -124,7 +127,7 @@ module _ {R N W V : Type 0} (k : Sinks R N) (i : Sinks W V) (f : R → W) (g : N
     source = h.source;
     lean = h.lean;
     runs = (h.runs.0, front_on r r' n n' (whole_page s bytes) p h.runs.1);
-    cause = broken_on r r' n n' _ _ bytes WriteNotes p h.cause;
+    cause = broken_on r r' n n' s bytes WriteNotes p h.cause;
   }
   caused_on a b r r' n n' s bytes (Err (Settings x)) p h = record {
     asked = h.asked;

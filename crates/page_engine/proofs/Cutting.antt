@@ -7,7 +7,7 @@ use Rattle.page_core_base.specs.Sinks.{IsSink}
 use Rattle.page_core_base.specs.Laid.{Gave, nothing}
 use Rattle.page_roff_lines.specs.Decoding.{Line}
 use Rattle.page_roff_lines.specs.Cutting.{Point, point_after, lines_within, next_point, point_at}
-use Rattle.page_roff_lines.specs.Open.{open_after}
+use Rattle.page_roff_lines.specs.machine.Open.{open_after}
 use Rattle.page_roff_lines.proofs.OpenLaws.{open_after-consumed}
 use Rattle.page_engine.proofs.WholeLines.{settled_none}
 use Rattle.page_engine.specs.States.{PageState, IsOpenAt}

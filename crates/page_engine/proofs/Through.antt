@@ -12,7 +12,7 @@ use Rattle.page_engine.specs.machine.PageSinks.{cause_later}
 use Rattle.page_engine.specs.States.{PageState, IsOpenAt}
 use Rattle.page_engine.specs.Page.{Edge, IsReached, page}
 use Rattle.page_engine.specs.Streams.{Streams, Sinks, AllCame, FrontCame, Front}
-use Rattle.page_engine.specs.Runs.{page_from, settled_from, Broken, BrokeIn}
+use Rattle.page_engine.specs.machine.Points.{page_from, settled_from, BrokenFrom, BrokeFrom}
 use Rattle.page_engine.specs.machine.Steps.{CanTake, IsFresh, Moved, Settled, Through, ChunkBroke}
 use Rattle.page_engine.proofs.WholeLines.{settled_none}
 use Rattle.page_engine.proofs.LineCounts.{lines_most}
@@ -100,7 +100,7 @@ cut_parts xs bs as_ n = sym (append_assoc xs bs as_) ∙ ap (λ l. (xs ++ bs) ++
 pub broken_chunk : {R N : Type 0} (k : Sinks R N) → IsSink k.to.row_gave k.to.row_within → IsSink k.to.note_gave k.to.note_within
     → {run mid : Run} {r a a' : R} {n b b' : N} (xs ys : List ℕ) (fault : Fault) → Through k run mid r a n b xs
     → ((e : Edge) → IsOpenAt mid.page e → ChunkBroke k a a' b b' e mid.cutter.point ys fault) → length ys ≤ 2 ^ 14
-    → (e : Edge) → IsOpenAt run.page e → Broken k r a' n b' e run.cutter.point (xs ++ ys) fault
+    → (e : Edge) → IsOpenAt run.page e → BrokenFrom k r a' n b' e run.cutter.point (xs ++ ys) fault
 broken_chunk k rows notes {run} {mid} {r} {a} {a'} {n} {b} {b'} xs ys fault s t m e h =
     let p = run.cutter.point in
     let q = mid.cutter.point in
@@ -125,7 +125,7 @@ broken_chunk k rows notes {run} {mid} {r} {a} {a'} {n} {b} {b'} xs ys fault s t 
 -- at the end, after all bytes were taken
 pub broken_end : {R N : Type 0} (k : Sinks R N) {run mid : Run} {r a a' : R} {n b b' : N} (xs : List ℕ) (fault : Fault) → Through k run mid r a n b xs
     → ((e : Edge) → IsOpenAt mid.page e → Front k a a' b b' (page e (last_line mid.cutter.point)) fault)
-    → (e : Edge) → IsOpenAt run.page e → Broken k r a' n b' e run.cutter.point xs fault
+    → (e : Edge) → IsOpenAt run.page e → BrokenFrom k r a' n b' e run.cutter.point xs fault
 broken_end k {run} {mid} {r} {a} {a'} {n} {b} {b'} xs fault s t e h =
     let f = s.settled e h in
     let c = t (settled_from e run.cutter.point xs).edge f.at in record {
@@ -144,7 +144,7 @@ broken_end k {run} {mid} {r} {a} {a'} {n} {b} {b'} xs fault s t e h =
 -- what came is a front of the page that the bytes make
 front_of : {R N : Type 0} (j : Streams R N) → IsSink j.row_gave j.row_within → IsSink j.note_gave j.note_within
     → {r a r' : R} {n b n' : N} (e : Edge) (p : Point) (before own left bytes : List ℕ) → IsReached e → bytes ≡ before ++ (own ++ left)
-    → AllCame j r a n b (settled_from e p before) → BrokeIn j a r' b n' (settled_from e p before).edge (point_after p before) own left
+    → AllCame j r a n b (settled_from e p before) → BrokeFrom j a r' b n' (settled_from e p before).edge (point_after p before) own left
     → FrontCame j r r' n n' (page_from e p bytes)
 front_of j rows notes {r} {a} {r'} {n} {b} {n'} e p before own left bytes k h g (inl f) =
     let q = point_after p before in
@@ -162,7 +162,7 @@ front_of j rows notes {r} {a} {r'} {n} {b} {n'} e p before own left bytes k h g 
     rw (i, page_last e p (point_after p before) before k refl) (both_within rows notes r' n' x (page x.edge (last_line (point_after p before))) g f.2)
 
 pub broken_front : {R N : Type 0} (k : Sinks R N) → IsSink k.to.row_gave k.to.row_within → IsSink k.to.note_gave k.to.note_within
-    → {r r' : R} {n n' : N} (e : Edge) (p : Point) (bytes : List ℕ) (fault : Fault) → IsReached e → Broken k r r' n n' e p bytes fault
+    → {r r' : R} {n n' : N} (e : Edge) (p : Point) (bytes : List ℕ) (fault : Fault) → IsReached e → BrokenFrom k r r' n n' e p bytes fault
     → FrontCame k.to r r' n n' (page_from e p bytes)
 broken_front k rows notes e p bytes fault i c = front_of k.to rows notes e p c.before c.own c.left bytes i c.parts c.whole c.front
 

@@ -1,5 +1,5 @@
 -- Whole runs.
-use Rattle.std.proofs.Common.{◌≡◌, ℕ, List, [], length, Result, Ok, Err, MatchResult, refl, sym, ap, ◌∙◌, arith}
+use Rattle.std.proofs.Common.{◌≡◌, ℕ, ◌-◌, ◌^◌, List, [], length, take, inl, inr, Result, Ok, Err, MatchResult, refl, sym, ap, ◌∙◌, arith}
 use Rattle.std.specs.Io.KnownBytes.{IsAtEnd}
 use Rattle.page_core_base.specs.Sinks.{IsSink}
 use Rattle.page_core_base.specs.Laid.{Laid, nothing}
@@ -9,7 +9,9 @@ use Rattle.page_core_base.specs.declared.faults.Fault.TheVariants.{Memory, Read,
 use Rattle.page_core_base.specs.declared.page_settings.Settings.{Settings as PageSettings}
 use Rattle.page_core_base.specs.declared.page_settings.SettingFault.{SettingFault}
 use Rattle.page_roff_lines.specs.Decoding.{lines}
-use Rattle.page_roff_lines.specs.Cutting.{Point, first_point, lines_from, last_line}
+use Rattle.page_roff_lines.specs.Cutting.{Point, first_point, point_after, lines_within, lines_from, last_line}
+use Rattle.page_roff_lines.specs.Whole.{whole_lines, lines_made, line_left}
+use Rattle.page_roff_lines.proofs.WholeLemmas.{whole-is, made-is, left-is}
 use Rattle.page_roff_lines.proofs.LineAgreement.{lines-one_by_one}
 use Rattle.page_engine.specs.declared.runs.Outcome.{Outcome}
 use Rattle.page_engine.specs.declared.runs.Run.{Run}
@@ -18,7 +20,8 @@ use Rattle.page_engine.specs.Page.{Edge, counts_at, page, start, settled}
 use Rattle.page_core_streams.specs.Chunks.{Stops}
 use Rattle.page_core_streams.specs.Sources.{SourceState}
 use Rattle.page_engine.specs.Streams.{Streams, Sinks, AllCame, FrontCame}
-use Rattle.page_engine.specs.Runs.{RunsOver, Stopped, StoppedBy, Broken, whole_page, page_from, settled_from}
+use Rattle.page_engine.specs.Runs.{RunsOver, Stopped, StoppedBy, BrokeIn, Broken, whole_page, settled_page}
+use Rattle.page_engine.specs.machine.Points.{page_from, settled_from, BrokeFrom, BrokenFrom}
 use Rattle.page_engine.specs.machine.PageSinks.{cause_later}
 use Rattle.page_roff_source.specs.declared.counts.Counts.{Counts}
 use Rattle.page_engine.specs.machine.Steps.{source_lines, TookLast, Finished, Finishes, Through, EndedWell, StoppedFrom, ReadsAll}
@@ -30,6 +33,31 @@ use Rattle.page_engine.proofs.WholeLines.{start_reached, page_end, end_counts}
 -- from the start of a page
 pub page_start : (s : PageSettings) (bytes : List ℕ) → page_from (start s) (first_point s.encoding) bytes ≡ whole_page s bytes
 page_start s bytes = ap (page (start s)) (sym (lines-one_by_one s.encoding bytes))
+
+settled_start : (s : PageSettings) (bytes : List ℕ) → settled_from (start s) (first_point s.encoding) bytes ≡ settled_page s bytes
+settled_start s bytes = ap (settled (start s)) (sym (whole-is s.encoding bytes))
+
+-- what broke from the first point on is said by lists of lines alone
+broke_start : {R N : Type 0} (j : Streams R N) (r r' : R) (n n' : N) (s : PageSettings) (before own left : List ℕ)
+    → BrokeFrom j r r' n n' (settled_from (start s) (first_point s.encoding) before).edge (point_after (first_point s.encoding) before) own left
+    → BrokeIn j r r' n n' s before own left
+broke_start j r r' n n' s before own left (inl h) = rw (made-is s.encoding before own, ← settled_start s before) (inl h)
+broke_start j r r' n n' s before own left (inr h) = rw (left-is s.encoding before, ← settled_start s before) (inr h)
+
+broken_start : {R N : Type 0} (k : Sinks R N) (r r' : R) (n n' : N) (s : PageSettings) (bytes : List ℕ) (fault : Fault)
+    → BrokenFrom k r r' n n' (start s) (first_point s.encoding) bytes fault → Broken k r r' n n' s bytes fault
+broken_start k r r' n n' s bytes fault h = record {
+  before = h.before;
+  own = h.own;
+  left = h.left;
+  parts = h.parts;
+  recent = h.recent;
+  rows = h.rows;
+  notes = h.notes;
+  whole = rw (← settled_start s h.before) h.whole;
+  front = broke_start k.to h.rows r' h.notes n' s h.before h.own h.left h.front;
+  cause = h.cause;
+}
 
 -- ---- the end of the bytes
 
@@ -91,7 +119,7 @@ ended_well k rows notes {run} {mid} {run'} {r} {a} {r'} {n} {b} {n'} s t xs z g 
 
 -- a fault of a sink stops the run
 pub stopped_by : {R N : Type 0} (k : Sinks R N) (a b : SourceState) (r r' : R) (n n' : N) (e : Edge) (p : Point) (asked : ℕ) (bytes : List ℕ) (fault : Fault)
-    → Broken k r r' n n' e p bytes fault → StoppedFrom k a b r r' n n' e p asked bytes fault
+    → BrokenFrom k r r' n n' e p bytes fault → StoppedFrom k a b r r' n n' e p asked bytes fault
 stopped_by k a b r r' n n' e p asked bytes Memory c = absurd c.cause
 stopped_by k a b r r' n n' e p asked bytes Read c = absurd c.cause
 stopped_by k a b r r' n n' e p asked bytes WriteText c = c
@@ -135,12 +163,12 @@ stopped_run : {R N : Type 0} (k : Sinks R N) → IsSink k.to.row_gave k.to.row_w
     → (a b : SourceState) (r r' : R) (n n' : N) (s : PageSettings) (asked : ℕ) (bytes : List ℕ) (fault : Fault) → IsGood s
     → StoppedFrom k a b r r' n n' (start s) (first_point s.encoding) asked bytes fault → Stopped (λ (l : Laid Edge). AllCame k.to r r' n n' l) (λ (l : Laid Edge). FrontCame k.to r r' n n' l) s bytes fault
 stopped_run k rows notes a b r r' n n' s asked bytes Memory g h = absurd h
-stopped_run k rows notes a b r r' n n' s asked bytes Read g h = (g, h.0)
+stopped_run k rows notes a b r r' n n' s asked bytes Read g h = (g, rw (← settled_start s bytes) h.0)
 stopped_run k rows notes a b r r' n n' s asked bytes WriteText g h =
     (g, rw (← page_start) (broken_front k rows notes (start s) (first_point s.encoding) bytes WriteText (start_reached s) h))
 stopped_run k rows notes a b r r' n n' s asked bytes WriteNotes g h =
     (g, rw (← page_start) (broken_front k rows notes (start s) (first_point s.encoding) bytes WriteNotes (start_reached s) h))
-stopped_run k rows notes a b r r' n n' s asked bytes TooLong g h = (g, h.0)
+stopped_run k rows notes a b r r' n n' s asked bytes TooLong g h = (g, rw (← settled_start s (take (2 ^ 31 - 1) bytes)) h.0)
 stopped_run k rows notes a b r r' n n' s asked bytes (Settings f) g h = absurd h
 stopped_run k rows notes a b r r' n n' s asked bytes Failed g h = absurd h
 stopped_run k rows notes a b r r' n n' s asked bytes Ended g h = absurd h
@@ -150,8 +178,8 @@ cause_of : {R N : Type 0} (k : Sinks R N) (a b : SourceState) (r r' : R) (n n' :
     → StoppedFrom k a b r r' n n' (start s) (first_point s.encoding) asked bytes fault → StoppedBy k a b r r' n n' s asked bytes fault
 cause_of k a b r r' n n' s asked bytes Memory h = absurd h
 cause_of k a b r r' n n' s asked bytes Read h = h.1
-cause_of k a b r r' n n' s asked bytes WriteText h = h
-cause_of k a b r r' n n' s asked bytes WriteNotes h = h
+cause_of k a b r r' n n' s asked bytes WriteText h = broken_start k r r' n n' s bytes WriteText h
+cause_of k a b r r' n n' s asked bytes WriteNotes h = broken_start k r r' n n' s bytes WriteNotes h
 cause_of k a b r r' n n' s asked bytes TooLong h = h.1
 cause_of k a b r r' n n' s asked bytes (Settings f) h = absurd h
 cause_of k a b r r' n n' s asked bytes Failed h = absurd h

@@ -7,19 +7,12 @@ use Rattle.page_core_base.specs.declared.faults.Fault.TheVariants.{Memory, Read,
 use Rattle.page_core_base.specs.declared.page_settings.Settings.{Settings as PageSettings}
 use Rattle.page_core_base.specs.Laid.{Laid, nothing}
 use Rattle.page_roff_lines.specs.Decoding.{lines}
-use Rattle.page_roff_lines.specs.Cutting.{Point, first_point, point_after, lines_within, last_line, lines_from}
+use Rattle.page_roff_lines.specs.Whole.{whole_lines, lines_made, line_left}
 use Rattle.page_core_base.specs.Checks.{IsGood, IsFirst}
 use Rattle.page_engine.specs.declared.runs.Outcome.{Outcome}
 use Rattle.page_engine.specs.Page.{Edge, counts_at, settled, page, start}
 use Rattle.page_core_streams.specs.Sources.{SourceState, HasGiven, IsLean, IsTooLong}
 use Rattle.page_engine.specs.Streams.{Streams, Sinks, AllCame, FrontCame}
-
--- from an edge and a point between two bytes: the page of the bytes to come, and what their lines settle
-abbrev pub page_from : Edge → Point → List ℕ → Laid Edge
-page_from edge point bytes = page edge (lines_from point bytes)
-
-abbrev pub settled_from : Edge → Point → List ℕ → Laid Edge
-settled_from edge point bytes = settled edge (lines_within point bytes)
 
 -- ---- a whole run
 
@@ -28,7 +21,7 @@ abbrev pub whole_page : PageSettings → List ℕ → Laid Edge
 whole_page settings bytes = page (start settings) (lines settings.encoding bytes)
 
 abbrev pub settled_page : PageSettings → List ℕ → Laid Edge
-settled_page settings bytes = settled (start settings) (lines_within (first_point settings.encoding) bytes)
+settled_page settings bytes = settled (start settings) (whole_lines settings.encoding bytes)
 
 -- to the sinks came all of the page that these bytes make, and with it its worst level and its counts
 pub record Whole {R N : Type 0} (streams : Streams R N) (rows_before rows_after : R) (notes_before notes_after : N)
@@ -65,18 +58,19 @@ Runs result streams rows_before rows_after notes_before notes_after settings byt
 
 -- ---- the causes of faults
 
--- what a sink failed in: the next line; or, where no byte was left, the page's end
-abbrev pub BrokeIn : {R N : Type 0} → Streams R N → R → R → N → N → Edge → Point → List ℕ → List ℕ → Type 0
-BrokeIn streams rows_before rows_after notes_before notes_after from point own left =
-    ((length (lines_within point own) ≤ 1)
-    × FrontCame streams rows_before rows_after notes_before notes_after (settled_from from point own))
+-- What a sink failed in, after what the bytes before had settled: the line that these bytes made whole; or, where no byte was left, the page's end.
+abbrev pub BrokeIn : {R N : Type 0} → Streams R N → R → R → N → N → PageSettings → (before own left : List ℕ) → Type 0
+BrokeIn streams rows_before rows_after notes_before notes_after settings before own left =
+    let edge = (settled_page settings before).edge in
+    ((length (lines_made settings.encoding before own) ≤ 1)
+    × FrontCame streams rows_before rows_after notes_before notes_after (settled edge (lines_made settings.encoding before own)))
     ⊎ ((own ≡ []) × (left ≡ [])
-    × FrontCame streams rows_before rows_after notes_before notes_after (page from (last_line point)))
+    × FrontCame streams rows_before rows_after notes_before notes_after (page edge (line_left settings.encoding before)))
 
 -- a sink failed: what the bytes before a line settle came whole, then came a front of that line, and nothing
 -- of the bytes that are left; no more was read than the chunk with the line's last byte, at most 2^14 bytes
 pub record Broken {R N : Type 0} (sinks : Sinks R N) (rows_before rows_after : R) (notes_before notes_after : N)
-    (from : Edge) (point : Point) (bytes : List ℕ) (fault : Fault) : Type 0 where
+    (settings : PageSettings) (bytes : List ℕ) (fault : Fault) : Type 0 where
   pub before : List ℕ
   pub own : List ℕ
   pub left : List ℕ
@@ -84,9 +78,8 @@ pub record Broken {R N : Type 0} (sinks : Sinks R N) (rows_before rows_after : R
   pub recent : length (own ++ left) ≤ 2 ^ 14
   pub rows : R
   pub notes : N
-  pub whole : AllCame sinks.to rows_before rows notes_before notes (settled_from from point before)
-  pub front : BrokeIn sinks.to rows rows_after notes notes_after
-      (settled_from from point before).edge (point_after point before) own left
+  pub whole : AllCame sinks.to rows_before rows notes_before notes (settled_page settings before)
+  pub front : BrokeIn sinks.to rows rows_after notes notes_after settings before own left
   pub cause : IsSinkFault fault (sinks.rows_failed rows_before) (sinks.rows_failed rows_after)
       (sinks.notes_failed notes_before) (sinks.notes_failed notes_after)
 
@@ -116,8 +109,7 @@ StoppedBy sinks source_before source_after rows_before rows_after notes_before n
     HasCause
     (Untouched source_before source_after rows_before rows_after notes_before notes_after)
     (Rose source_before.failed source_after.failed)
-    (λ cause. Broken sinks rows_before rows_after notes_before notes_after
-    (start settings) (first_point settings.encoding) bytes cause)
+    (λ cause. Broken sinks rows_before rows_after notes_before notes_after settings bytes cause)
     asked bytes fault
 
 -- nothing failed

@@ -3,4 +3,5 @@ pub mod ByLine
 pub mod Held
 pub mod Layers
 pub mod PageSinks
+pub mod Points
 pub mod Steps

@@ -7,7 +7,7 @@ use Rattle.page_core_base.specs.Messages.{Message}
 use Rattle.page_core_base.specs.Pieces.{Item, noted}
 use Rattle.page_roff_effects.specs.States.{Given, says, takes}
 use Rattle.page_roff_source.specs.Edges.{Edge}
-use Rattle.page_roff_source.specs.machine.Taking.{given_of, line_taken}
+use Rattle.page_roff_source.specs.Taken.{given_of, line_taken}
 use Rattle.page_roff_machine.specs.Giving.{notes_before, next_line, after_line}
 use Rattle.page_engine_lines.specs.Bodies.{BodyEdge}
 use Rattle.page_engine_lines.specs.machine.Given.{given_items, line_items, line_after, body_after}

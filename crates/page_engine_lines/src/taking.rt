@@ -3,7 +3,7 @@
 ghost use Rattle.std.specs.Prelude.{◌≡◌, ◌≤◌, length, None};
 ghost use Rattle.page_core_base.specs.Latches.{Came};
 ghost use Rattle.page_core_base.specs.LinesTaken.{line_view};
-ghost use Rattle.page_roff_source.specs.machine.Taking.{given_of};
+ghost use Rattle.page_roff_source.specs.Taken.{given_of};
 ghost use Rattle.page_engine_lines.specs.machine.Lines as lines;
 ghost use Rattle.page_engine_lines.specs.machine.Given.{given_items, body_after, line_after, line_items};
 

@@ -11,10 +11,10 @@ use Rattle.page_roff_lines.specs.declared.Mark.{Mark}
 use Rattle.page_roff_lines.specs.declared.Mark.TheVariants.{Unread, First, Second, Absent, Present}
 use Rattle.page_roff_lines.specs.Bytes.{newline}
 use Rattle.page_roff_lines.specs.Limit.{line_limit}
-use Rattle.page_roff_lines.specs.Held.{Held, hold, nothing_held}
+use Rattle.page_roff_lines.specs.machine.Held.{Held, hold, nothing_held}
 use Rattle.page_roff_lines.specs.Physical.{read}
 use Rattle.page_roff_lines.specs.Logical.{Logical, Kept, join_texts, logical_lines, keep}
-use Rattle.page_roff_lines.specs.Open.{Open, restart, next_open, put_byte, put_newline, newline_in, without_return, close, put_in, put_plain, put, count_byte, ends_mark, mark_after, end_open, open_after, whole_lines, kept_of, if_whole, last_line, lines_from}
+use Rattle.page_roff_lines.specs.machine.Open.{Open, restart, next_open, put_byte, put_newline, newline_in, without_return, close, put_in, put_plain, put, count_byte, ends_mark, mark_after, end_open, open_after, whole_lines, kept_of, if_whole, last_line, lines_from}
 use Rattle.page_roff_lines.specs.machine.Run.{is_settled}
 use Rattle.page_roff_lines.proofs.OpenLaws.{open_after-append, whole_lines-append}
 use Rattle.page_roff_lines.proofs.RunLemmas.{st, any, open_after-restart, whole_lines-restart}

@@ -17,3 +17,4 @@ pub mod LineAgreement
 pub mod SequenceLemmas
 pub mod FineLemmas
 pub mod HeldLaws
+pub mod WholeLemmas

@@ -12,7 +12,7 @@ use Rattle.page_roff_lines.specs.declared.Mark.{Mark}
 use Rattle.page_roff_lines.specs.declared.Mark.TheVariants.{Unread, First, Second, Absent, Present}
 use Rattle.page_roff_lines.specs.Bytes.{newline, hash}
 use Rattle.page_roff_lines.specs.Logical.{Kept, kept_lines, has_mark}
-use Rattle.page_roff_lines.specs.Open.{Open, first_open, restart, close, count_byte, put, put_plain, put_pair, put_in, put_byte, ends_mark, mark_after, is_marked, next_open, end_open, end_in, kept_of, if_whole, whole_lines, open_after, lines_from as raw_lines_from}
+use Rattle.page_roff_lines.specs.machine.Open.{Open, first_open, restart, close, count_byte, put, put_plain, put_pair, put_in, put_byte, ends_mark, mark_after, is_marked, next_open, end_open, end_in, kept_of, if_whole, whole_lines, open_after, lines_from as raw_lines_from}
 use Rattle.page_roff_lines.specs.machine.Run.{is_settled}
 use Rattle.page_roff_lines.specs.Characters.{good, bad, is_printable, sequence_length, character, later_length, characters_after, characters}
 use Rattle.page_roff_lines.specs.Decoding.{Line, decode_line, choice_of, or_else, choice_of_lines, page_encoding, lines}
@@ -101,7 +101,7 @@ unfolding put_byte
 put_byte-whole true o b h w = w
 put_byte-whole false o b h w = rw h (put_in-whole o.mode o.after_return o b ∙ w)
 
-next_open-whole : (o : Open) (b : ℕ) → (b == newline) ≡ false → (next_open o b).whole ≡ false
+pub next_open-whole : (o : Open) (b : ℕ) → (b == newline) ≡ false → (next_open o b).whole ≡ false
 unfolding next_open count_byte
 next_open-whole o b h = put_byte-whole (ends_mark o.mark b) (count_byte (restart o) b) b h (restart-whole o)
 

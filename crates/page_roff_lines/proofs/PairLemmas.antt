@@ -8,8 +8,8 @@ use Rattle.page_roff_lines.specs.declared.Mark.{Mark}
 use Rattle.page_roff_lines.specs.declared.Mark.TheVariants.{Unread, First, Second, Absent, Present}
 use Rattle.page_roff_lines.specs.Bytes.{newline, carriage_return, backslash, quote, hash}
 use Rattle.page_roff_lines.specs.Characters.{is_printable}
-use Rattle.page_roff_lines.specs.Held.{Held, nothing_held, extend}
-use Rattle.page_roff_lines.specs.Open.{Open, restart, next_open, put_byte, put_in, put_plain, put_pair, pair_mode, put, count_byte, ends_mark, mark_after, if_whole, whole_lines, open_after}
+use Rattle.page_roff_lines.specs.machine.Held.{Held, nothing_held, extend}
+use Rattle.page_roff_lines.specs.machine.Open.{Open, restart, next_open, put_byte, put_in, put_plain, put_pair, pair_mode, put, count_byte, ends_mark, mark_after, if_whole, whole_lines, open_after}
 use Rattle.page_roff_lines.specs.machine.Run.{BeginsPair, ReadsText, is_settled, run_in, stays, with_run}
 use Rattle.page_roff_lines.proofs.RunLemmas.{any, extend-extend, open_after-restart, st, whole_lines-restart}
 

@@ -3,7 +3,7 @@ use Rattle.std.proofs.Common.{◌≡◌, ℕ, zero, suc, ◌-◌, ◌≤◌, Boo
 use Rattle.std.proofs.lemmas.List.{take_more}
 use Rattle.page_core_base.specs.declared.page_settings.Encoding.{Encoding}
 use Rattle.page_roff_lines.specs.Logical.{Kept}
-use Rattle.page_roff_lines.specs.Open.{Open, next_open, end_open, kept_of, if_whole, whole_lines, open_after}
+use Rattle.page_roff_lines.specs.machine.Open.{Open, next_open, end_open, kept_of, if_whole, whole_lines, open_after}
 use Rattle.page_roff_lines.specs.Cutting.{Point, Cutting, encoding_after, point_at, next_point, end_point, line_of, line_at, lines_within, point_after}
 use Rattle.page_roff_lines.proofs.OpenLaws.{open_after-append}
 

@@ -9,8 +9,8 @@ use Rattle.page_roff_lines.specs.declared.Mode.TheVariants.{Plain, Comment, Drop
 use Rattle.page_roff_lines.specs.declared.Mark.{Mark}
 use Rattle.page_roff_lines.specs.Bytes.{quote, hash}
 use Rattle.page_roff_lines.specs.Characters.{is_printable}
-use Rattle.page_roff_lines.specs.Held.{Held, nothing_held}
-use Rattle.page_roff_lines.specs.Open.{Open, open_after, restart, whole_lines}
+use Rattle.page_roff_lines.specs.machine.Held.{Held, nothing_held}
+use Rattle.page_roff_lines.specs.machine.Open.{Open, open_after, restart, whole_lines}
 use Rattle.page_roff_lines.specs.machine.Run.{BeginsPair, IsRead, IsText, ends_run, is_settled, run_in, with_run}
 use Rattle.page_roff_lines.proofs.OpenLaws.{open_after-append, rest_of, whole_lines-append}
 use Rattle.page_roff_lines.proofs.PairLemmas.{front_two, open_after-pair, whole_lines-pair}

@@ -7,9 +7,9 @@ use Rattle.page_roff_lines.specs.declared.Mode.TheVariants.{Plain}
 use Rattle.page_roff_lines.specs.declared.Mark.{Mark}
 use Rattle.page_roff_lines.specs.declared.Mark.TheVariants.{Unread, First, Second, Absent, Present}
 use Rattle.page_roff_lines.specs.Bytes.{newline, carriage_return, backslash, quote, hash}
-use Rattle.page_roff_lines.specs.Held.{Held, hold, shorten}
+use Rattle.page_roff_lines.specs.machine.Held.{Held, hold, shorten}
 use Rattle.page_roff_lines.specs.Physical.{Physical, after_byte, read, read_pair}
-use Rattle.page_roff_lines.specs.Open.{Open, restart, next_open, put_byte, put_newline, newline_in, without_return, close, count_byte, ends_mark, mark_after, end_open, end_in, open_after, whole_lines, if_whole}
+use Rattle.page_roff_lines.specs.machine.Open.{Open, restart, next_open, put_byte, put_newline, newline_in, without_return, close, count_byte, ends_mark, mark_after, end_open, end_in, open_after, whole_lines, if_whole}
 use Rattle.page_roff_lines.specs.machine.Run.{is_settled}
 use Rattle.page_roff_lines.proofs.RunLemmas.{st, any}
 use Rattle.page_roff_lines.proofs.Spots.{Spot, plain, returned, slash, slash_returned, noted, noted_returned, dropping, mode_of, return_of, pending, at, next, next_text, by_byte, hold-pop, next_open-at}

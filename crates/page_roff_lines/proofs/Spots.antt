@@ -9,8 +9,8 @@ use Rattle.page_roff_lines.specs.declared.Mark.{Mark}
 use Rattle.page_roff_lines.specs.declared.Mark.TheVariants.{Unread, First, Second, Absent, Present}
 use Rattle.page_roff_lines.specs.Bytes.{newline, carriage_return, backslash, quote, hash}
 use Rattle.page_roff_lines.specs.Limit.{line_limit}
-use Rattle.page_roff_lines.specs.Held.{Held, hold, extend, shorten}
-use Rattle.page_roff_lines.specs.Open.{Open, restart, next_open, put_byte, put_in, put_plain, put_pair, pair_mode, put, count_byte, ends_mark, mark_after}
+use Rattle.page_roff_lines.specs.machine.Held.{Held, hold, extend, shorten}
+use Rattle.page_roff_lines.specs.machine.Open.{Open, restart, next_open, put_byte, put_in, put_plain, put_pair, pair_mode, put, count_byte, ends_mark, mark_after}
 use Rattle.page_roff_lines.specs.machine.Run.{is_settled}
 use Rattle.page_roff_lines.proofs.RunLemmas.{st, take-take-append}
 

@@ -2,9 +2,8 @@ pub mod Bytes
 pub mod Characters
 pub mod Cutting
 pub mod Decoding
-pub mod Held
 pub mod Limit
 pub mod Logical
-pub mod Open
 pub mod Physical
+pub mod Whole
 pub mod machine

@@ -4,7 +4,8 @@ ghost use mathlib.Core.Option.{none};
 ghost use Rattle.std.specs.Borrow.{sem, follows_so};
 ghost use Rattle.page_core_base.specs.declared.page_settings.Encoding.{Encoding as AnyEncoding};
 ghost use Rattle.page_roff_lines.specs.Decoding.{lines, choice_of};
-ghost use Rattle.page_roff_lines.specs.Cutting.{Point, first_point, point_after, lines_within, lines_from};
+ghost use Rattle.page_roff_lines.specs.Cutting.{Point, first_point, point_after, lines_within, last_line, lines_from};
+ghost use Rattle.page_roff_lines.specs.Whole.{whole_lines, lines_made, line_left};
 ghost use Rattle.page_core_base.specs.Sinks.{Gives};
 ghost use Rattle.page_core_base.specs.Fails.{FailsAs, Rose};
 ghost use Rattle.page_core_base.specs.Texts.{IsLine};
@@ -186,6 +187,15 @@ impl Cutter {
 /// The lines of a page are those that its bytes give one by one from its first point on.
 pub fn one_by_one_law()
     ensures { (set : AnyEncoding) (bytes : List ℕ) → lines set bytes ≡ lines_from (first_point set) bytes }
+{}
+
+/// What the point of a page gives is said by lists of its lines alone: the lines that are whole within its bytes, those that more bytes make whole, and
+/// the line that is left at the end.
+pub fn whole_law()
+    ensures whole { (set : AnyEncoding) (bytes : List ℕ) → whole_lines set bytes ≡ lines_within (first_point set) bytes }
+    ensures made { (set : AnyEncoding) (before own : List ℕ) → lines_made set before own
+        ≡ lines_within (point_after (first_point set) before) own }
+    ensures left { (set : AnyEncoding) (bytes : List ℕ) → line_left set bytes ≡ last_line (point_after (first_point set) bytes) }
 {}
 
 /// A page cut anywhere gives the same lines: those within the part above the cut, and those that come from the point

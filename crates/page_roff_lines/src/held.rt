@@ -2,7 +2,7 @@
 ghost use Rattle.std.specs.Prelude.{◌≡◌, ◌+◌, ◌^◌, ◌<◌, ◌≤◌, ◌∷◌, [], length, true, IfOk};
 ghost use Rattle.std.specs.List.{list_all};
 ghost use Rattle.page_roff_lines.specs.Characters.{is_printable};
-ghost use Rattle.page_roff_lines.specs.Held.{extend, shorten, nothing_held};
+ghost use Rattle.page_roff_lines.specs.machine.Held.{extend, shorten, nothing_held};
 
 use crate::characters::is_printable;
 use crate::choosing::is_printable_ascii;
@@ -24,7 +24,7 @@ impl Model for HeldText {
     ghost use Rattle.std.specs.List.{list_all};
     ghost use Rattle.page_core_base.specs.declared.limits.TheConstants.{LINE};
     ghost use Rattle.page_roff_lines.specs.Characters.{is_printable};
-    ghost use Rattle.page_roff_lines.specs.Held.{Held};
+    ghost use Rattle.page_roff_lines.specs.machine.Held.{Held};
 
     ghost Value = { Held };
 
@@ -63,7 +63,7 @@ impl HeldText {
     }
 
     /// Appends a byte.
-    #[tactic(auto, unfolding(crate::specs::Held::extend))]
+    #[tactic(auto, unfolding(crate::specs::machine::Held::extend))]
     pub fn push(&mut self, byte: u8)
         requires { self.old.total < 2 ^ 31 }
         ensures { self.new ≡ extend self.old (byte ∷ []) }
@@ -77,7 +77,7 @@ impl HeldText {
 
     /// Appends bytes, which may be known to be printable.
     #[inline(always)]
-    #[tactic(auto, unfolding(crate::specs::Held::extend))]
+    #[tactic(auto, unfolding(crate::specs::machine::Held::extend))]
     pub fn extend(&mut self, more: &[u8], printable: bool)
         requires total { self.old.total + length more.now < 2 ^ 31 }
         requires printable { printable ≡ true → list_all is_printable more.now ≡ true }
@@ -99,7 +99,7 @@ impl HeldText {
     }
 
     /// Takes the last byte away.
-    #[tactic(auto, unfolding(crate::specs::Held::shorten))]
+    #[tactic(auto, unfolding(crate::specs::machine::Held::shorten))]
     pub fn shorten(&mut self)
         ensures { self.new ≡ shorten self.old }
     {

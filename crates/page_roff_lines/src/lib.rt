@@ -17,7 +17,7 @@ mod open;
 mod reporting;
 mod scanning;
 
-pub use cutter::{Cutter, cut_law, held_law, one_by_one_law};
+pub use cutter::{Cutter, cut_law, held_law, one_by_one_law, whole_law};
 pub use held::HeldText;
 pub use open::OpenLine;
 

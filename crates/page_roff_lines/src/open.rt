@@ -1,7 +1,7 @@
 //! The open logical line of a page.
 ghost use Rattle.std.specs.Prelude.{◌≡◌, ◌+◌, ◌-◌, ◌^◌, ◌<◌, ◌≤◌, ◌∷◌, [], length, take, true, false, IfOk, if◌then◌else◌};
 ghost use Rattle.std.specs.List.{list_all};
-ghost use Rattle.page_roff_lines.specs.Open.{pair_mode as spec_pair_mode};
+ghost use Rattle.page_roff_lines.specs.machine.Open.{pair_mode as spec_pair_mode};
 ghost use Rattle.page_roff_lines.specs.Characters.{is_printable};
 
 use crate::scanning::{comment_run, paired_run};
@@ -40,7 +40,7 @@ pub struct OpenLine {
 
 impl Model for OpenLine {
     ghost use Rattle.std.specs.Prelude.{◌≤◌, ◌<◌, ◌+◌, ◌^◌};
-    ghost use Rattle.page_roff_lines.specs.Open.{Open};
+    ghost use Rattle.page_roff_lines.specs.machine.Open.{Open};
 
     ghost Value = { Open };
 
@@ -61,11 +61,11 @@ impl Model for OpenLine {
 }
 
 impl Mark {
-    ghost use Rattle.page_roff_lines.specs.Open.{mark_after, ends_mark};
+    ghost use Rattle.page_roff_lines.specs.machine.Open.{mark_after, ends_mark};
     ghost use Rattle.page_roff_lines.specs.machine.Run.{is_settled};
 
     // How much of the mark came with this byte.
-    #[tactic(auto, unfolding(crate::specs::Open::mark_after))]
+    #[tactic(auto, unfolding(crate::specs::machine::Open::mark_after))]
     fn after(self, byte: u8) -> Mark
         ensures { result ≡ mark_after self byte }
     {
@@ -86,7 +86,7 @@ impl Mark {
     }
 
     // Whether the mark is whole with this byte.
-    #[tactic(auto, unfolding(crate::specs::Open::ends_mark))]
+    #[tactic(auto, unfolding(crate::specs::machine::Open::ends_mark))]
     fn ends_at(self, byte: u8) -> bool
         ensures { result ≡ ends_mark self byte }
     {
@@ -98,7 +98,7 @@ impl Mark {
 }
 
 // How the byte after a pair is read.
-#[tactic(auto, unfolding(crate::specs::Open::pair_mode))]
+#[tactic(auto, unfolding(crate::specs::machine::Open::pair_mode))]
 fn pair_mode(byte: u8) -> Mode
     ensures { result ≡ spec_pair_mode byte }
 {
@@ -110,7 +110,7 @@ fn pair_mode(byte: u8) -> Mode
 }
 
 impl OpenLine {
-    ghost use Rattle.page_roff_lines.specs.Open.{first_open, restart, put, put_plain, put_pair, put_in, without_return, newline_in, put_newline, put_byte, next_open, end_open, count_byte, close, ends_mark, open_after, whole_lines, kept_of, is_marked};
+    ghost use Rattle.page_roff_lines.specs.machine.Open.{first_open, restart, put, put_plain, put_pair, put_in, without_return, newline_in, put_newline, put_byte, next_open, end_open, count_byte, close, ends_mark, open_after, whole_lines, kept_of, is_marked};
     ghost use Rattle.page_roff_lines.specs.Bytes.{newline};
     ghost use Rattle.page_roff_lines.specs.machine.Run.{InText, IsRead, with_run};
 
@@ -133,7 +133,7 @@ impl OpenLine {
     }
 
     // Begins the line after a whole one.
-    #[tactic(auto, unfolding(crate::specs::Open::restart))]
+    #[tactic(auto, unfolding(crate::specs::machine::Open::restart))]
     fn restart(&mut self)
         ensures restart { self.new ≡ restart self.old }
         ensures consumed { self.new.consumed ≡ self.old.consumed }
@@ -146,7 +146,7 @@ impl OpenLine {
     }
 
     // Appends a byte, and says how the next one is read.
-    #[tactic(auto, unfolding(crate::specs::Open::put, crate::specs::Held::extend))]
+    #[tactic(auto, unfolding(crate::specs::machine::Open::put, crate::specs::machine::Held::extend))]
     fn put(&mut self, byte: u8, mode: Mode)
         requires { self.old.text.total < self.old.consumed }
         ensures { self.new ≡ put self.old byte mode }
@@ -158,7 +158,7 @@ impl OpenLine {
     }
 
     // Appends a byte that follows no backslash.
-    #[tactic(auto, unfolding(crate::specs::Open::put_plain))]
+    #[tactic(auto, unfolding(crate::specs::machine::Open::put_plain))]
     fn put_plain(&mut self, byte: u8)
         requires { self.old.text.total < self.old.consumed }
         ensures { self.new ≡ put_plain self.old byte }
@@ -171,7 +171,7 @@ impl OpenLine {
     }
 
     // Reads the byte after a backslash: a hash drops both and what follows.
-    #[tactic(auto, unfolding(crate::specs::Open::put_pair, crate::specs::Held::shorten))]
+    #[tactic(auto, unfolding(crate::specs::machine::Open::put_pair, crate::specs::machine::Held::shorten))]
     fn put_pair(&mut self, byte: u8)
         requires { self.old.text.total < self.old.consumed }
         ensures { self.new ≡ put_pair self.old byte }
@@ -185,7 +185,7 @@ impl OpenLine {
     }
 
     // Reads a byte that is no line feed.
-    #[tactic(auto, unfolding(crate::specs::Open::put_in))]
+    #[tactic(auto, unfolding(crate::specs::machine::Open::put_in))]
     fn put_in(&mut self, byte: u8)
         requires { self.old.text.total < self.old.consumed }
         ensures { self.new ≡ put_in self.old.mode self.old.after_return self.old byte }
@@ -205,7 +205,7 @@ impl OpenLine {
     }
 
     // Makes the line whole.
-    #[tactic(auto, unfolding(crate::specs::Open::close))]
+    #[tactic(auto, unfolding(crate::specs::machine::Open::close))]
     fn close(&mut self)
         ensures { self.new ≡ close self.old }
     {
@@ -216,7 +216,7 @@ impl OpenLine {
     }
 
     // Takes away a carriage return right before the line feed.
-    #[tactic(auto, unfolding(crate::specs::Open::without_return, crate::specs::Held::shorten))]
+    #[tactic(auto, unfolding(crate::specs::machine::Open::without_return, crate::specs::machine::Held::shorten))]
     fn drop_return(&mut self)
         ensures { self.new ≡ without_return self.old }
     {
@@ -227,7 +227,7 @@ impl OpenLine {
     }
 
     // Ends the physical line: the logical one with it, or it waits for what is joined.
-    #[tactic(auto, unfolding(crate::specs::Open::newline_in, crate::specs::Held::shorten))]
+    #[tactic(auto, unfolding(crate::specs::machine::Open::newline_in, crate::specs::machine::Held::shorten))]
     fn end_physical(&mut self)
         ensures { self.new ≡ newline_in self.old.mode self.old }
     {
@@ -250,7 +250,7 @@ impl OpenLine {
     }
 
     // Reads a line feed.
-    #[tactic(auto, unfolding(crate::specs::Open::put_newline, crate::specs::Open::without_return, crate::specs::Open::newline_in, crate::specs::Open::close))]
+    #[tactic(auto, unfolding(crate::specs::machine::Open::put_newline, crate::specs::machine::Open::without_return, crate::specs::machine::Open::newline_in, crate::specs::machine::Open::close))]
     fn put_newline(&mut self)
         requires { self.old.physical ≤ self.old.consumed }
         ensures { self.new ≡ put_newline self.old }
@@ -261,7 +261,7 @@ impl OpenLine {
     }
 
     // Counts a byte of the page, which may belong to its byte order mark.
-    #[tactic(auto, unfolding(crate::specs::Open::count_byte))]
+    #[tactic(auto, unfolding(crate::specs::machine::Open::count_byte))]
     fn count(&mut self, byte: u8)
         requires { self.old.consumed + 1 < 2 ^ 31 }
         ensures count_byte { self.new ≡ count_byte self.old byte }
@@ -283,7 +283,7 @@ impl OpenLine {
     }
 
     // Reads a line feed after text.
-    #[tactic(auto, unfolding(crate::specs::Open::close))]
+    #[tactic(auto, unfolding(crate::specs::machine::Open::close))]
     fn end_text(&mut self)
         requires text { InText self.old }
         requires consumed { self.old.consumed + 1 < 2 ^ 31 }
@@ -296,7 +296,7 @@ impl OpenLine {
     }
 
     // Reads a byte; whether the line is whole with it.
-    #[tactic(auto, unfolding(crate::specs::Open::next_open, crate::specs::Open::put_byte, crate::specs::Open::count_byte, crate::specs::Open::restart))]
+    #[tactic(auto, unfolding(crate::specs::machine::Open::next_open, crate::specs::machine::Open::put_byte, crate::specs::machine::Open::count_byte, crate::specs::machine::Open::restart))]
     fn take_byte(&mut self, byte: u8) -> bool
         requires { self.old.consumed + 1 < 2 ^ 31 }
         ensures after { self.new ≡ next_open self.old byte }
@@ -337,7 +337,7 @@ impl OpenLine {
     }
 
     // Appends bytes that are read at once, which may be known to be printable.
-    #[tactic(auto, unfolding(crate::specs::machine::Run::run_in, crate::specs::Held::extend))]
+    #[tactic(auto, unfolding(crate::specs::machine::Run::run_in, crate::specs::machine::Held::extend))]
     fn put_run(&mut self, run: &[u8], printable: bool)
         requires consumed { self.old.consumed + length run.now < 2 ^ 31 }
         requires some { 0 < length run.now }
@@ -398,7 +398,7 @@ impl OpenLine {
     }
 
     /// Ends the page; whether a last line is there.
-    #[tactic(auto, unfolding(crate::specs::Open::end_open, crate::specs::Open::end_in, crate::specs::Open::restart, crate::specs::Open::close, crate::specs::Held::shorten))]
+    #[tactic(auto, unfolding(crate::specs::machine::Open::end_open, crate::specs::machine::Open::end_in, crate::specs::machine::Open::restart, crate::specs::machine::Open::close, crate::specs::machine::Held::shorten))]
     pub fn end(&mut self) -> bool
         ensures after { self.new ≡ end_open self.old }
         ensures line { result ≡ self.new.whole }

@@ -1,5 +1,5 @@
 -- How many lines a source line gives and takes: helpers of proofs.
-use Rattle.std.proofs.Common.{◌≡◌, ℕ, ◌+◌, ◌*◌, ◌≤◌, Bool, true, false, List, [], ◌∷◌, ◌++◌, length, map, Option, Some, None, refl, ap, arith}
+use Rattle.std.proofs.Common.{◌≡◌, ℕ, ◌+◌, ◌*◌, ◌≤◌, Bool, true, false, List, [], ◌∷◌, ◌++◌, length, map, Option, Some, None, refl, ap, ◌∙◌, append-nil, arith}
 use Rattle.page_core_base.specs.Messages.{Message}
 use Rattle.page_roff_heads.specs.declared.conditions.Condition.{Condition}
 use Rattle.page_roff_syntax.specs.OpenRegions.{Opened}
@@ -18,10 +18,10 @@ use Rattle.page_roff_effects.proofs.CountLemmas.{spends}
 use Rattle.page_roff_machine.proofs.DoingLemmas.{head_plain, end_plain, finish_plain, loop_plain, collect_plain}
 use Rattle.page_roff_source.specs.Edges.{Edge, SourceLine, line_count}
 use Rattle.page_roff_source.specs.machine.Taking.{before_line, run_line, line_given, line_done}
-use Rattle.page_roff_source.specs.Given.{done}
-use Rattle.page_roff_source.specs.machine.LineByLine.{lines_done}
+use Rattle.page_roff_source.specs.Given.{given, done}
+use Rattle.page_roff_source.specs.machine.LineByLine.{lines_given, lines_done}
 use Rattle.page_roff_source.specs.Each.{EachIsWithin}
-use Rattle.page_roff_source.proofs.LineLemmas.{done-idle}
+use Rattle.page_roff_source.proofs.LineLemmas.{given-by_line, done-idle, one_done}
 
 count-append : (xs ys : List Given) → line_count (xs ++ ys) ≡ line_count xs + line_count ys
 unfolding line_count
@@ -196,3 +196,22 @@ lines_done-expansions e (line ∷ lines) =
 pub lines_expansions : (e : Edge) (lines : List SourceLine)
     → (done e lines).memory.expansions + EXPAND * e.taken ≤ EXPAND * (done e lines).taken + e.memory.expansions
 lines_expansions e lines = rw (done-idle e lines) (lines_done-expansions e lines)
+
+-- ---- one line, by what the page gives of it
+
+one_count : (e : Edge) (line : SourceLine) → line_count (given e (line ∷ [])) ≡ line_count (line_given e line)
+unfolding lines_given
+one_count e line =
+    let front = count-append (map says line.notes) (line_given e line ++ []) in
+    let none = count-says line.notes in
+    ap line_count (given-by_line e (line ∷ [])) ∙ omega (arith, front, none, ap line_count (append-nil (line_given e line)))
+
+pub one_taken : (e : Edge) (line : SourceLine) → (done e (line ∷ [])).taken ≤ e.taken + (REREAD + 1)
+one_taken e line = rw (one_done e line) (taken_bound e line)
+
+pub one_given_bound : (e : Edge) (line : SourceLine) → line_count (given e (line ∷ [])) + e.taken ≤ (done e (line ∷ [])).taken
+one_given_bound e line = rw (one_done e line, one_count e line) (given_bound e line)
+
+pub one_expansions : (e : Edge) (line : SourceLine)
+    → (done e (line ∷ [])).memory.expansions + EXPAND * e.taken ≤ EXPAND * (done e (line ∷ [])).taken + e.memory.expansions
+one_expansions e line = rw (one_done e line) (expansions_bound e line)

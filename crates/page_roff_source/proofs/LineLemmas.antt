@@ -20,7 +20,8 @@ use Rattle.page_roff_effects.specs.Effects.{effects, in_front}
 use Rattle.page_roff_effects.specs.States.{State, Given, says, Memory, numbered}
 use Rattle.page_roff_effects.proofs.GivenLemmas.{is_front}
 use Rattle.page_roff_source.specs.Edges.{Edge, SourceLine}
-use Rattle.page_roff_source.specs.machine.Taking.{before_line, run_line, line_given, line_done}
+use Rattle.page_roff_source.specs.machine.Taking.{before_line, run_line, run_begun, line_given, line_done}
+use Rattle.page_roff_source.specs.Taken.{line_begun}
 use Rattle.page_roff_source.specs.Given.{head_of, before_lines, run_all, given, done}
 use Rattle.page_roff_source.specs.machine.LineByLine.{lines_given, lines_done, StandsAt}
 
@@ -141,3 +142,18 @@ idle-same e h = ap (λ t. record e { to_come = t }) (sym h)
 
 pub done-by_line : (e : Edge) (lines : List SourceLine) → e.to_come ≡ None → done e lines ≡ lines_done e lines
 done-by_line e lines h = done-idle e lines ∙ idle-same (lines_done e lines) (lines_done-to_come e lines h)
+
+-- ---- one line
+
+one_given : (e : Edge) (line : SourceLine) → line.notes ≡ [] → given e (line ∷ []) ≡ line_given e line
+unfolding lines_given run_line before_line
+one_given e line h = given-by_line e (line ∷ []) ∙ rw h (append-nil (line_given e line))
+
+pub one_done : (e : Edge) (line : SourceLine) → done e (line ∷ []) ≡ line_done e line
+unfolding lines_done
+one_done e line = done-idle e (line ∷ [])
+
+pub begun-is : (e : Edge) (line : SourceLine) → line.notes ≡ [] → line_begun e line ≡ run_begun e line
+begun-is e line h =
+    ap (λ (t : Option (List Given)). record (done e (line ∷ [])) { to_come = t }) (ap Some (one_given e line h))
+    ∙ ap (λ (f : Edge). record f { to_come = Some (line_given e line) }) (one_done e line)

@@ -29,7 +29,9 @@ use Rattle.page_roff_source.specs.declared.counts.Counts.{Counts}
 use Rattle.page_roff_source.specs.Caps.{RoffFits}
 use Rattle.page_roff_source.specs.Edges.{Edge, SourceLine, first_edge, counts_of, end_notes}
 use Rattle.page_roff_source.specs.Parts.{Part, IsPart, edge_at, part_of}
-use Rattle.page_roff_source.specs.machine.Taking.{LinesState, before_line, run_line, line_begun, given_of, line_taken, left_if}
+use Rattle.page_roff_source.specs.Taken.{line_begun, given_of, line_taken, left_if}
+use Rattle.page_roff_source.proofs.LineLemmas.{begun-is}
+use Rattle.page_roff_source.specs.machine.Taking.{LinesState, before_line, run_line, run_begun}
 use Rattle.page_roff_source.specs.declared.roff_lines.Remaining.{Remaining}
 use Rattle.page_roff_source.specs.declared.roff_lines.Remaining.TheVariants as remaining
 use Rattle.page_roff_source.specs.machine.RoffLines.{edge_of, state_of, given_by, begun_as, run_if, IsIdleAs, IsCounted, IsAtEdge, RunsOn}
@@ -151,7 +153,7 @@ unfolding before_line
 before_at m source line e = ap (λ (a : At (Budgeted State)). begun_from a line.number) e
 
 pub begun : (old new : Machine) (source : ℕ) (line : SourceLine) → machine.is_idle old ≡ true → Begins line.text line.number old new
-    → HoldsTexts (edge_of old source remaining.Nothing).memory → IsLine line.text → edge_of new (source + 1) remaining.Run ≡ line_begun (edge_of old source remaining.Nothing) line
+    → HoldsTexts (edge_of old source remaining.Nothing).memory → IsLine line.text → edge_of new (source + 1) remaining.Run ≡ run_begun (edge_of old source remaining.Nothing) line
 unfolding run_line
 begun old new source line idle b h l =
     let e = before_at old source line (idle_stands old idle) in
@@ -161,7 +163,7 @@ begun old new source line idle b h l =
 
 -- a line that is taken at once, where it is all that the line gives
 pub taken : (old new : Machine) (source : ℕ) (line : SourceLine) → machine.is_idle old ≡ true → Takes line.text line.number old new
-    → HoldsTexts (edge_of old source remaining.Nothing).memory → IsLine line.text → edge_of new (source + 1) remaining.Line ≡ line_begun (edge_of old source remaining.Nothing) line
+    → HoldsTexts (edge_of old source remaining.Nothing).memory → IsLine line.text → edge_of new (source + 1) remaining.Line ≡ run_begun (edge_of old source remaining.Nothing) line
 unfolding run_line
 taken old new source line idle t h l =
     let e = before_at old source line (idle_stands old idle) in
@@ -171,7 +173,7 @@ taken old new source line idle t h l =
     ∙ ap (λ (o : Output). begun_with o (stands_after given new) (source + 1)) t.output
     ∙ ap (λ (a : At (Budgeted State)). begun_with (output_of old) a (source + 1)) outcome
 
-pub begun_counted : (e : Edge) (line : SourceLine) → IsCounted e → e.source < 2 ^ 31 → length line.text ≤ LINE → IsCounted (line_begun e line)
+pub begun_counted : (e : Edge) (line : SourceLine) → IsCounted e → e.source < 2 ^ 31 → length line.text ≤ LINE → IsCounted (run_begun e line)
 begun_counted e line c few short =
     let t = taken_bound e line in
     let s = done_room e line in
@@ -244,8 +246,12 @@ begin_room m source remaining.Run p none = absurd (cc)
 begin_at : (old new : Machine) (source : ℕ) (is_taken : Bool) (line : List ℕ) (number : ℕ) → machine.is_idle old ≡ true → BeginsOrTakes is_taken line number old new
     → HoldsTexts (edge_of old source remaining.Nothing).memory → IsLine line
     → edge_of new (source + 1) (begun_as is_taken) ≡ line_begun (edge_of old source remaining.Nothing) (record { text = line; number = number; notes = [] })
-begin_at old new source true line number idle b h l = taken old new source (record { text = line; number = number; notes = [] }) idle b h l
-begin_at old new source false line number idle b h l = begun old new source (record { text = line; number = number; notes = [] }) idle b h l
+begin_at old new source true line number idle b h l =
+    let x : SourceLine = record { text = line; number = number; notes = [] } in
+    taken old new source x idle b h l ∙ sym (begun-is (edge_of old source remaining.Nothing) x refl)
+begin_at old new source false line number idle b h l =
+    let x : SourceLine = record { text = line; number = number; notes = [] } in
+    begun old new source x idle b h l ∙ sym (begun-is (edge_of old source remaining.Nothing) x refl)
 
 pub begin_edge : (old new : Machine) (source : ℕ) (left : Remaining) (is_taken : Bool) (line : List ℕ) (number : ℕ) → IsAtEdge old source left
     → (edge_of old source left).to_come ≡ None → BeginsOrTakes is_taken line number old new → IsLine line
@@ -265,7 +271,7 @@ pub begin_invariant : (old new : Machine) (source : ℕ) (left : Remaining) (is_
 begin_invariant old new source left is_taken line number p none b few t =
     let l : SourceLine = record { text = line; number = number; notes = [] } in
     let e = edge_of old source left in
-    let same = sym (begin_edge old new source left is_taken line number p none b t) in
+    let same = sym (begin_edge old new source left is_taken line number p none b t ∙ begun-is e l refl) in
     let h = line_texts e l p.texts t in
     record {
       idle = begun_idle old new is_taken line number b;

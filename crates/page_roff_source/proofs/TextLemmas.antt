@@ -17,7 +17,8 @@ use Rattle.page_roff_source.specs.machine.Texts.{HoldsTexts, AreGiven}
 use Rattle.page_roff_source.proofs.AlikeTexts.{page_alike}
 use Rattle.page_roff_source.proofs.EffectTexts.{HoldsState, page_texts}
 use Rattle.page_roff_source.specs.Edges.{Edge, SourceLine}
-use Rattle.page_roff_source.specs.machine.Taking.{before_line, run_line, given_of, line_taken, left_if}
+use Rattle.page_roff_source.specs.Taken.{given_of, line_taken, left_if}
+use Rattle.page_roff_source.specs.machine.Taking.{before_line, run_line}
 
 -- of a line it gives lines, and what is remembered stays text
 pub line_texts : (e : Edge) (line : SourceLine) → HoldsTexts e.memory → IsLine line.text → HoldsState (run_line e line).state.rest

@@ -9,7 +9,7 @@ use Rattle.page_roff_effects.specs.States.{Given}
 use Rattle.page_roff_source.specs.declared.counts.Counts.{Counts}
 use Rattle.page_roff_source.specs.Edges.{Edge, first_edge, counts_of}
 use Rattle.page_roff_source.specs.Parts.{Part, edge_at}
-use Rattle.page_roff_source.specs.machine.Taking.{is_idle}
+use Rattle.page_roff_source.specs.Taken.{is_idle}
 
 -- What decides the rest, until a message is refused or the page ends; the body with the arguments of each macro or loop that runs, from the
 -- inside out; and what was counted up to the last line that is done.

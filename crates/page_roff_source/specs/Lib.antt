@@ -4,4 +4,5 @@ pub mod Fuses
 pub mod Given
 pub mod Each
 pub mod Parts
+pub mod Taken
 pub mod machine

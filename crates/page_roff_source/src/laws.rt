@@ -1,9 +1,8 @@
 //! Laws of what roff gives of a page's lines.
 
-ghost use Rattle.std.specs.Prelude.{◌≡◌, ◌≤◌, ◌+◌, ◌*◌, List, ◌++◌, length, None};
+ghost use Rattle.std.specs.Prelude.{◌≡◌, ◌≤◌, ◌+◌, ◌*◌, List, [], ◌∷◌, ◌++◌, length, None};
 ghost use Rattle.page_core_base.specs.declared.limits.TheConstants.{EXPAND, REREAD};
 ghost use Rattle.page_roff_source.specs.Edges.{Edge, SourceLine, line_count};
-ghost use Rattle.page_roff_source.specs.machine.Taking.{line_given, line_done};
 ghost use Rattle.page_roff_source.specs.Given.{given, done};
 ghost use Rattle.page_roff_source.specs.machine.LineByLine.{lines_given, lines_done};
 ghost use Rattle.page_roff_source.specs.Each.{EachIsWithin};
@@ -27,12 +26,12 @@ pub fn cut_law()
 /// `EXPAND` interpolations for each: not as a mean, but for each single line that is taken, be it one of a page or of a body, a remainder, a line of
 /// a region or a turn of a loop.
 pub fn count_law()
-    ensures taken { (e : Edge) (line : SourceLine) → (line_done e line).taken ≤ e.taken + (REREAD + 1) }
+    ensures taken { (e : Edge) (line : SourceLine) → (done e (line ∷ [])).taken ≤ e.taken + (REREAD + 1) }
     ensures given { (e : Edge) (line : SourceLine)
-        → line_count (line_given e line) + e.taken ≤ (line_done e line).taken }
+        → line_count (given e (line ∷ [])) + e.taken ≤ (done e (line ∷ [])).taken }
     ensures expansions { (e : Edge) (line : SourceLine) →
-        (line_done e line).memory.expansions + EXPAND * e.taken
-        ≤ EXPAND * (line_done e line).taken + e.memory.expansions }
+        (done e (line ∷ [])).memory.expansions + EXPAND * e.taken
+        ≤ EXPAND * (done e (line ∷ [])).taken + e.memory.expansions }
     ensures lines { (e : Edge) (lines : List SourceLine) → (done e lines).taken ≤ e.taken + (REREAD + 1) * length lines }
     ensures lines_expansions { (e : Edge) (lines : List SourceLine) →
         (done e lines).memory.expansions + EXPAND * e.taken
@@ -42,6 +41,6 @@ pub fn count_law()
 
 /// A line begins at most two skipped blocks a byte, and two.
 pub fn room_law()
-    ensures { (e : Edge) (line : SourceLine) → (line_done e line).place.levels.skipped
+    ensures { (e : Edge) (line : SourceLine) → (done e (line ∷ [])).place.levels.skipped
         ≤ e.place.levels.skipped + (2 * length line.text + 2) }
 {}

@@ -10,7 +10,7 @@ ghost use Rattle.page_core_base.specs.Latches.{Came};
 ghost use Rattle.page_roff_machine.specs.Giving.{notes_before, next_line};
 ghost use Rattle.page_roff_source.specs.Caps.{RoffFits, RunsWithin};
 ghost use Rattle.page_roff_source.specs.Edges.{first_edge, end_notes, counts_of};
-ghost use Rattle.page_roff_source.specs.machine.Taking.{line_begun, given_of, line_taken, is_idle};
+ghost use Rattle.page_roff_source.specs.Taken.{line_begun, given_of, line_taken, is_idle};
 ghost use Rattle.page_roff_source.specs.Parts.{edge_at, part_of};
 ghost use Rattle.page_roff_source.specs.machine.RoffLines.{RunsOn, begun_as, run_if};
 

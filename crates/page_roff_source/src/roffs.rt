@@ -8,7 +8,7 @@ ghost use Rattle.page_core_base.specs.Texts.{IsLine};
 ghost use Rattle.page_roff_machine.specs.Giving.{notes_before, next_line};
 ghost use Rattle.page_roff_source.specs.Caps.{RoffFits, RunsWithin};
 ghost use Rattle.page_roff_source.specs.Edges.{Edge, end_notes, counts_of};
-ghost use Rattle.page_roff_source.specs.machine.Taking.{line_begun, given_of, line_taken};
+ghost use Rattle.page_roff_source.specs.Taken.{line_begun, given_of, line_taken};
 ghost use Rattle.page_roff_machine.specs.machine.Machines.{taken_if};
 ghost use Rattle.page_roff_source.specs.Parts.{part_of};
 ghost use Rattle.page_roff_source.specs.Fuses.{first_state, state_at, is_idle_at, counts_from, Reports};

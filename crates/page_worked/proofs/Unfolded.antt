@@ -50,10 +50,10 @@ unfoldable pub use Rattle.page_roff_language.specs.Languages.{inner as u207, is_
 unfoldable pub use Rattle.page_roff_lines.specs.Characters.{is_second as u219, sequence_length as u220, high_character as u221, character as u222, high_later_length as u223, later_length as u224, characters_after as u225}
 unfoldable pub use Rattle.page_roff_lines.specs.Cutting.{encoding_after as u226, point_at as u227, next_point as u228, end_point as u229, line_at as u230, lines_within as u231, point_after as u232}
 unfoldable pub use Rattle.page_roff_lines.specs.Decoding.{characters_within as u233, bad_notes as u234, decode_line as u235, choice_of as u236}
-unfoldable pub use Rattle.page_roff_lines.specs.Held.{extend as u237, shorten as u238}
+unfoldable pub use Rattle.page_roff_lines.specs.machine.Held.{extend as u237, shorten as u238}
 unfoldable pub use Rattle.page_roff_lines.specs.Limit.{line_limit as u239}
 unfoldable pub use Rattle.page_roff_lines.specs.Logical.{join_texts as u240, logical_lines as u241}
-unfoldable pub use Rattle.page_roff_lines.specs.Open.{restart as u242, put as u243, put_plain as u244, pair_mode as u245, put_pair as u246, put_in as u247, close as u248, without_return as u249, newline_in as u250, put_newline as u251, mark_after as u252, ends_mark as u253, count_byte as u254, put_byte as u255, next_open as u256, end_in as u257, end_open as u258, if_whole as u259, whole_lines as u260, open_after as u261}
+unfoldable pub use Rattle.page_roff_lines.specs.machine.Open.{restart as u242, put as u243, put_plain as u244, pair_mode as u245, put_pair as u246, put_in as u247, close as u248, without_return as u249, newline_in as u250, put_newline as u251, mark_after as u252, ends_mark as u253, count_byte as u254, put_byte as u255, next_open as u256, end_in as u257, end_open as u258, if_whole as u259, whole_lines as u260, open_after as u261}
 unfoldable pub use Rattle.page_roff_lines.specs.Physical.{read as u262, read_pair as u263}
 unfoldable pub use Rattle.page_roff_names.specs.Names.{first_passed as u264}
 unfoldable pub use Rattle.page_roff_names.specs.Predefined.{predefined as u265}

@@ -11,7 +11,7 @@ use Rattle.page_engine.specs.States.{PageState, IsOpenAt}
 use Rattle.page_engine.specs.Page.{Edge, counts_at, settled, page, start}
 use Rattle.page_core_streams.specs.Sources.{SourceState, HasGiven, IsLean, IsTooLong}
 use Rattle.page_engine.specs.Streams.{Sinks, AllCame, Came, Front}
-use Rattle.page_engine.specs.Runs.{page_from, settled_from, Broken}
+use Rattle.page_engine.specs.machine.Points.{page_from, settled_from, BrokenFrom}
 
 -- ---- bytes that are taken
 
@@ -142,8 +142,8 @@ StoppedFrom k a b r r' n n' e p asked bytes Read =
     AllCame k.to r r' n n' (settled_from e p bytes) × Rose a.failed b.failed
 StoppedFrom k a b r r' n n' e p asked bytes TooLong =
     AllCame k.to r r' n n' (settled_from e p (take (2 ^ 31 - 1) bytes)) × IsTooLong asked bytes
-StoppedFrom k a b r r' n n' e p asked bytes WriteText = Broken k r r' n n' e p bytes WriteText
-StoppedFrom k a b r r' n n' e p asked bytes WriteNotes = Broken k r r' n n' e p bytes WriteNotes
+StoppedFrom k a b r r' n n' e p asked bytes WriteText = BrokenFrom k r r' n n' e p bytes WriteText
+StoppedFrom k a b r r' n n' e p asked bytes WriteNotes = BrokenFrom k r r' n n' e p bytes WriteNotes
 StoppedFrom k a b r r' n n' e p asked bytes (Settings fault) = ⊥
 StoppedFrom k a b r r' n n' e p asked bytes Failed = ⊥
 StoppedFrom k a b r r' n n' e p asked bytes Ended = ⊥

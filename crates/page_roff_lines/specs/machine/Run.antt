@@ -7,8 +7,8 @@ use Rattle.page_roff_lines.specs.declared.Mark.{Mark}
 use Rattle.page_roff_lines.specs.declared.Mark.TheVariants.{Unread, First, Second, Absent, Present}
 use Rattle.page_roff_lines.specs.Bytes.{newline, carriage_return, backslash, quote, hash}
 use Rattle.page_roff_lines.specs.Characters.{is_printable}
-use Rattle.page_roff_lines.specs.Held.{extend}
-use Rattle.page_roff_lines.specs.Open.{Open, open_after, restart, whole_lines}
+use Rattle.page_roff_lines.specs.machine.Held.{extend}
+use Rattle.page_roff_lines.specs.machine.Open.{Open, open_after, restart, whole_lines}
 
 -- the byte ends a run
 abbrev pub ends_run : Mode → ℕ → Bool

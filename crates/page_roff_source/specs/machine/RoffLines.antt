@@ -12,7 +12,8 @@ use Rattle.page_roff_source.specs.machine.Texts.{HoldsTexts, AreGiven}
 use Rattle.page_roff_source.specs.declared.roff_lines.Remaining.{Remaining}
 use Rattle.page_roff_source.specs.declared.roff_lines.Remaining.TheVariants as remaining
 use Rattle.page_roff_source.specs.Edges.{Edge}
-use Rattle.page_roff_source.specs.machine.Taking.{LinesState, given_of, line_taken}
+use Rattle.page_roff_source.specs.Taken.{given_of, line_taken}
+use Rattle.page_roff_source.specs.machine.Taking.{LinesState}
 
 -- what is still to be given: nothing, a line that was taken at once, or what the machine runs
 abbrev pub given_by : Remaining → Machine → Option (List Given)

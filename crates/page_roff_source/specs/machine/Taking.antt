@@ -1,6 +1,6 @@
--- A machine: one source line at a time, and what it gives one line after another, as `take` lends it. That the lines of a page give what the forest
--- of all of them gives is the law `forest_law`; trust in a page needs no reading of it. Source: roff(7), "LANGUAGE SYNTAX".
-use Rattle.std.specs.Prelude.{ℕ, ◌+◌, Bool, is_none, false, List, [], ◌∷◌, Option, Some, None, unwrap_or}
+-- A machine: one source line at a time, with a budget of its own. That the lines of a page give what the forest of all of them gives is the law
+-- `forest_law`; trust needs no reading of it. Source: roff(7), "LANGUAGE SYNTAX".
+use Rattle.std.specs.Prelude.{ℕ, ◌+◌, false, List, [], ◌∷◌, Option, Some, None}
 use Rattle.page_core_base.specs.LinesTaken.{Line}
 use Rattle.page_roff_blocks.specs.Run.{At}
 use Rattle.page_roff_values.specs.Values.{units_of}
@@ -9,7 +9,6 @@ use Rattle.page_roff_language.specs.Languages.{run_page}
 use Rattle.page_core_base.specs.Limits.{REREAD}
 use Rattle.page_roff_effects.specs.Effects.{effects}
 use Rattle.page_roff_effects.specs.States.{State, Given, numbered}
-use Rattle.page_roff_machine.specs.Giving.{next_line, after_line}
 use Rattle.page_roff_source.specs.Edges.{Edge, SourceLine}
 
 -- The lines of a page as they run: what decides the rest; the finished line that was given last; and the body with the arguments of each
@@ -51,33 +50,9 @@ left_at e after to_come = record {
 }
 
 -- a line begins: all that it gives is to come
-abbrev pub line_begun : Edge → SourceLine → Edge
-line_begun e line = left_at e (run_line e line) (Some (line_given e line))
+abbrev pub run_begun : Edge → SourceLine → Edge
+run_begun e line = left_at e (run_line e line) (Some (line_given e line))
 
 -- all that it gives was given
 abbrev pub line_done : Edge → SourceLine → Edge
 line_done e line = left_at e (run_line e line) None
-
--- ---- what is given of it, line after line
-
-abbrev pub is_idle : Edge → Bool
-is_idle e = is_none e.to_come
-
--- what is still to be given of the present line
-abbrev pub given_of : Edge → List Given
-given_of e = unwrap_or e.to_come []
-
--- after the next line for the set of macros, or after the last message
-abbrev pub left_if : Option Line → List Given → Option (List Given)
-left_if None given = None
-left_if (Some line) given = Some given
-
-abbrev pub line_taken : Edge → Edge
-line_taken e = record {
-  output = e.output;
-  place = e.place;
-  memory = e.memory;
-  source = e.source;
-  taken = e.taken;
-  to_come = left_if (next_line (given_of e)) (after_line (given_of e));
-}

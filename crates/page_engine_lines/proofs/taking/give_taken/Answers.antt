@@ -1,4 +1,4 @@
-use Rattle.page_roff_source.specs.machine.Taking.{given_of}
+use Rattle.page_roff_source.specs.Taken.{given_of}
 use Rattle.page_core_base.specs.LinesTaken.{line_view}
 use Rattle.page_engine_lines.specs.machine.Given.{given_items, body_after}
 use Rattle.page_engine_lines.proofs.Parts.{taken_shorter, same_but_taken, body_taken, body_done, items_taken, items_done}

@@ -2,7 +2,7 @@ use Rattle.std.proofs.Common.{◌≡◌, ◌≤◌, true, ◌++◌, length, refl
 use Rattle.std.specs.Prelude.{◌||◌, nat_lt}
 use Rattle.std.specs.List.{list_all}
 use Rattle.page_roff_lines.specs.Limit.{line_limit, line_limit_is}
-use Rattle.page_roff_lines.specs.Open.{Open, kept_of}
+use Rattle.page_roff_lines.specs.machine.Open.{Open, kept_of}
 use Rattle.page_roff_lines.specs.Characters.{is_printable, characters, all_bytes}
 use Rattle.page_roff_lines.specs.Decoding.{Line, choice_of, decode_line, characters_within, bad_notes, limit_notes}
 use Rattle.page_roff_lines.specs.Cutting.{Point, line_of}

@@ -2,7 +2,7 @@ use Rattle.std.proofs.Common.{◌≡◌, ◌++◌, ◌-◌, take, length, min, a
 use Rattle.std.proofs.lemmas.List.{take_min, length-take-le}
 use Rattle.page_roff_lines.specs.Characters.{is_printable}
 use Rattle.page_roff_lines.specs.Limit.{line_limit, line_limit_is}
-use Rattle.page_roff_lines.specs.Held.{extend}
+use Rattle.page_roff_lines.specs.machine.Held.{extend}
 use Rattle.page_roff_lines.proofs.HeldLemmas.{take-append-room, if_ok}
 use Rattle.page_roff_lines.proofs.ScanLemmas.{all-append, all-take}
 use Rattle.page_roff_lines.proofs.held.HeldText.extend.Goals as goal

@@ -1,5 +1,5 @@
 use Rattle.std.proofs.Common.{◌+◌, ap, ◌∙◌}
-use Rattle.page_roff_lines.specs.Open.{Open, close}
+use Rattle.page_roff_lines.specs.machine.Open.{Open, close}
 use Rattle.page_roff_lines.proofs.RunLemmas.{text-newline}
 use Rattle.page_roff_lines.proofs.open.OpenLine.end_text.Goals as goal
 

@@ -1,6 +1,6 @@
 use Rattle.std.proofs.Common.{[], ap, ◌∙◌}
 use Rattle.page_roff_source.specs.machine.Taking.{LinesState}
-use Rattle.page_roff_source.specs.machine.Taking.{line_begun}
+use Rattle.page_roff_source.specs.Taken.{line_begun}
 use Rattle.page_roff_source.proofs.RoffLineLemmas.{none_in, few_in, begin_room, begin_edge, begin_invariant}
 use Rattle.page_roff_source.proofs.roff_lines.RoffLines.source.Goals as goal
 

@@ -7,7 +7,7 @@ use Rattle.page_roff_lines.specs.declared.Mode.TheVariants.{Plain, Backslash, Co
 use Rattle.page_roff_lines.specs.declared.Mark.{Mark}
 use Rattle.page_roff_lines.specs.declared.Mark.TheVariants.{Unread, First, Second, Absent, Present}
 use Rattle.page_roff_lines.specs.Bytes.{newline, carriage_return, backslash, quote, hash}
-use Rattle.page_roff_lines.specs.Held.{Held, nothing_held, extend, shorten}
+use Rattle.page_roff_lines.specs.machine.Held.{Held, nothing_held, extend, shorten}
 use Rattle.page_roff_lines.specs.Logical.{Kept}
 
 pub record Open : Type 0 where
