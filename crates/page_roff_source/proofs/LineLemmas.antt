@@ -1,5 +1,5 @@
 -- The forest of all lines of a page gives what its lines give one after another: helpers of proofs.
-use Rattle.std.proofs.Common.{◌≡◌, ℕ, ◌+◌, Bool, true, false, List, [], ◌∷◌, ◌++◌, length, map, Option, Some, None, refl, sym, ap, ◌∙◌, append_assoc, append-nil, arith}
+use Rattle.std.proofs.Common.{◌≡◌, ℕ, ◌+◌, Bool, true, false, cond, List, [], ◌∷◌, ◌++◌, length, map, Option, Some, None, option_map, refl, sym, ap, ◌∙◌, append_assoc, append-nil, arith}
 use Rattle.page_roff_syntax.specs.RegionHeads.{is_ending}
 use Rattle.page_roff_blocks.specs.Levels.{Levels, Place}
 use Rattle.page_roff_syntax.specs.OpenRegions.{Opened}
@@ -157,3 +157,10 @@ pub begun-is : (e : Edge) (line : SourceLine) → line.notes ≡ [] → line_beg
 begun-is e line h =
     ap (λ (t : Option (List Given)). record (done e (line ∷ [])) { to_come = t }) (ap Some (one_given e line h))
     ∙ ap (λ (f : Edge). record f { to_come = Some (line_given e line) }) (one_done e line)
+
+-- of roff over a sink, as long as it goes on
+pub begun_edge : (is_going : Bool) (old new : Edge) (edge : Option Edge) (line : SourceLine) → line.notes ≡ [] → is_going ≡ true
+    → cond is_going (Some old) None ≡ edge → new ≡ run_begun old line → cond is_going (Some new) None ≡ option_map (λ e. line_begun e line) edge
+begun_edge true old new edge line none going before after =
+    ap Some (after ∙ sym (begun-is old line none)) ∙ ap (option_map (λ e. line_begun e line)) before
+begun_edge false old new edge line none going before after = cc

@@ -29,8 +29,7 @@ use Rattle.page_roff_source.specs.declared.counts.Counts.{Counts}
 use Rattle.page_roff_source.specs.Caps.{RoffFits}
 use Rattle.page_roff_source.specs.Edges.{Edge, SourceLine, first_edge, counts_of, end_notes}
 use Rattle.page_roff_source.specs.Parts.{Part, IsPart, edge_at, part_of}
-use Rattle.page_roff_source.specs.Taken.{line_begun, given_of, line_taken, left_if}
-use Rattle.page_roff_source.proofs.LineLemmas.{begun-is}
+use Rattle.page_roff_source.specs.Taken.{given_of, line_taken, left_if}
 use Rattle.page_roff_source.specs.machine.Taking.{LinesState, before_line, run_line, run_begun}
 use Rattle.page_roff_source.specs.declared.roff_lines.Remaining.{Remaining}
 use Rattle.page_roff_source.specs.declared.roff_lines.Remaining.TheVariants as remaining
@@ -245,17 +244,13 @@ begin_room m source remaining.Run p none = absurd (cc)
 
 begin_at : (old new : Machine) (source : ℕ) (is_taken : Bool) (line : List ℕ) (number : ℕ) → machine.is_idle old ≡ true → BeginsOrTakes is_taken line number old new
     → HoldsTexts (edge_of old source remaining.Nothing).memory → IsLine line
-    → edge_of new (source + 1) (begun_as is_taken) ≡ line_begun (edge_of old source remaining.Nothing) (record { text = line; number = number; notes = [] })
-begin_at old new source true line number idle b h l =
-    let x : SourceLine = record { text = line; number = number; notes = [] } in
-    taken old new source x idle b h l ∙ sym (begun-is (edge_of old source remaining.Nothing) x refl)
-begin_at old new source false line number idle b h l =
-    let x : SourceLine = record { text = line; number = number; notes = [] } in
-    begun old new source x idle b h l ∙ sym (begun-is (edge_of old source remaining.Nothing) x refl)
+    → edge_of new (source + 1) (begun_as is_taken) ≡ run_begun (edge_of old source remaining.Nothing) (record { text = line; number = number; notes = [] })
+begin_at old new source true line number idle b h l = taken old new source (record { text = line; number = number; notes = [] }) idle b h l
+begin_at old new source false line number idle b h l = begun old new source (record { text = line; number = number; notes = [] }) idle b h l
 
 pub begin_edge : (old new : Machine) (source : ℕ) (left : Remaining) (is_taken : Bool) (line : List ℕ) (number : ℕ) → IsAtEdge old source left
     → (edge_of old source left).to_come ≡ None → BeginsOrTakes is_taken line number old new → IsLine line
-    → edge_of new (source + 1) (begun_as is_taken) ≡ line_begun (edge_of old source left) (record { text = line; number = number; notes = [] })
+    → edge_of new (source + 1) (begun_as is_taken) ≡ run_begun (edge_of old source left) (record { text = line; number = number; notes = [] })
 begin_edge old new source remaining.Nothing is_taken line number p none b l = begin_at old new source is_taken line number p.idle b p.texts l
 begin_edge old new source remaining.Line is_taken line number p none b l = absurd (cc)
 begin_edge old new source remaining.End is_taken line number p none b l = absurd (cc)
@@ -271,7 +266,7 @@ pub begin_invariant : (old new : Machine) (source : ℕ) (left : Remaining) (is_
 begin_invariant old new source left is_taken line number p none b few t =
     let l : SourceLine = record { text = line; number = number; notes = [] } in
     let e = edge_of old source left in
-    let same = sym (begin_edge old new source left is_taken line number p none b t ∙ begun-is e l refl) in
+    let same = sym (begin_edge old new source left is_taken line number p none b t) in
     let h = line_texts e l p.texts t in
     record {
       idle = begun_idle old new is_taken line number b;

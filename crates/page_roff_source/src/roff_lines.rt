@@ -10,7 +10,8 @@ ghost use Rattle.page_core_base.specs.Latches.{Came};
 ghost use Rattle.page_roff_machine.specs.Giving.{notes_before, next_line};
 ghost use Rattle.page_roff_source.specs.Caps.{RoffFits, RunsWithin};
 ghost use Rattle.page_roff_source.specs.Edges.{first_edge, end_notes, counts_of};
-ghost use Rattle.page_roff_source.specs.Taken.{line_begun, given_of, line_taken, is_idle};
+ghost use Rattle.page_roff_source.specs.Taken.{given_of, line_taken, is_idle};
+ghost use Rattle.page_roff_source.specs.machine.Taking.{run_begun};
 ghost use Rattle.page_roff_source.specs.Parts.{edge_at, part_of};
 ghost use Rattle.page_roff_source.specs.machine.RoffLines.{RunsOn, begun_as, run_if};
 
@@ -128,7 +129,7 @@ impl RoffLines {
         requires idle { self.old.edge.to_come ≡ None }
         requires line { IsLine line.now }
         requires count { self.old.edge.source < 2 ^ 31 }
-        ensures { self.new.edge ≡ line_begun self.old.edge (record { text = line.now; number = number; notes = [] }) }
+        ensures { self.new.edge ≡ run_begun self.old.edge (record { text = line.now; number = number; notes = [] }) }
     {
         self.source += 1;
         self.remaining = begun_as(self.machine.begin(line, number));

@@ -1,6 +1,5 @@
 use Rattle.std.proofs.Common.{[], ap, ◌∙◌}
-use Rattle.page_roff_source.specs.machine.Taking.{LinesState}
-use Rattle.page_roff_source.specs.Taken.{line_begun}
+use Rattle.page_roff_source.specs.machine.Taking.{LinesState, run_begun}
 use Rattle.page_roff_source.proofs.RoffLineLemmas.{none_in, few_in, begin_room, begin_edge, begin_invariant}
 use Rattle.page_roff_source.proofs.roff_lines.RoffLines.source.Goals as goal
 
@@ -28,4 +27,4 @@ returns c =
     rw c.begun_as-self-inside.ensures
     (begin_edge a.machine c.begin.new.self a.source a.remaining c.begin.result c.args.line.now c.args.number c.self.invariant
     (none_in a.machine a.source a.remaining _ c.self.view_is c.requires.idle) c.begin.ensures c.requires.line
-    ∙ ap (λ (r : LinesState). line_begun r.edge (record { text = c.args.line.now; number = c.args.number; notes = [] })) c.self.view_is)
+    ∙ ap (λ (r : LinesState). run_begun r.edge (record { text = c.args.line.now; number = c.args.number; notes = [] })) c.self.view_is)
