@@ -9,7 +9,7 @@ use Rattle.page_engine_lines.proofs.TreeLemmas.{one_items, one_after, ending_is}
 use Rattle.page_roff_lines.specs.Decoding.{Line}
 use Rattle.page_engine_records.specs.machine.Fronts.{Front, after_line, after_lines, ended, is_settled}
 use Rattle.page_engine_records.specs.PageRecords.{raw}
-use Rattle.page_engine_records.specs.NameTexts.{read}
+use Rattle.page_engine_records.specs.machine.NameTexts.{read}
 use Rattle.page_engine_records.specs.machine.ReaderSinks.{read-append, read_notes}
 use Rattle.page_engine_records.specs.machine.Steps.{end_read}
 use Rattle.page_engine_records.specs.declared.name_readers.NameReader.{NameReader}

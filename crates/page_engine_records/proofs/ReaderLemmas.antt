@@ -6,7 +6,8 @@ use Rattle.page_core_base.specs.Latches.{Emits}
 use Rattle.page_core_base.specs.Pieces.{Item}
 use Rattle.page_core_base.specs.declared.faults.Fault.{Fault}
 use Rattle.page_engine_records.proofs.TextLemmas.{without_room}
-use Rattle.page_engine_records.specs.NameTexts.{TEXT, read, spaced, with_byte, with_character, with_characters}
+use Rattle.page_engine_records.specs.NameTexts.{TEXT}
+use Rattle.page_engine_records.specs.machine.NameTexts.{read, spaced, with_byte, with_character, with_characters}
 use Rattle.page_engine_records.specs.machine.ReaderSinks.{Never, Took}
 use Rattle.page_engine_records.specs.declared.name_readers.NameReader.{NameReader}
 

@@ -17,6 +17,7 @@ use Rattle.page_roff_lines.specs.Cutting.{Point, first_point, last_line, lines_f
 use Rattle.page_roff_lines.specs.Decoding.{Line, lines}
 use Rattle.page_roff_lines.proofs.LineAgreement.{lines-one_by_one}
 use Rattle.page_roff_lines.proofs.PointLemmas.{lines_within-append, point_after-append}
+use Rattle.page_engine_records.specs.machine.NameTexts.{kept_of}
 use Rattle.page_engine_records.specs.machine.Fronts.{Front, after_lines, ended, front_record, is_settled, start}
 use Rattle.page_engine_records.specs.PageRecords.{page_record, record_of_lines}
 use Rattle.page_engine_records.specs.Records.{record_by}
@@ -151,7 +152,7 @@ starts_fresh run s h =
     }
 
 whole_page : (run run' : RecordRun) (a b : SourceState) (s : PageSettings) (bytes : List ℕ) → StartsAt run s → EndedWell run run' a b bytes
-    → record_by run'.page.name.side run'.page.name.text run'.page.lines.body.header.fields.section ≡ page_record s bytes
+    → record_by (kept_of run'.page.name) run'.page.lines.body.header.fields.section ≡ page_record s bytes
 whole_page run run' a b s bytes h w =
     let p = first_point s.encoding in
     let at = starts_at run s h in
@@ -164,7 +165,7 @@ whole_page run run' a b s bytes h w =
     rw (name, fields) all
 
 pub ends_well : (run run' : RecordRun) (a b : SourceState) (s : PageSettings) (bytes : List ℕ) (found : Option Record) → IsGood s → StartsAt run s
-    → found ≡ record_by run'.page.name.side run'.page.name.text run'.page.lines.body.header.fields.section
+    → found ≡ record_by (kept_of run'.page.name) run'.page.lines.body.header.fields.section
     → ReadsAll (Ok tt) run run' a b bytes → ReadsRecordOver (Ok found) a b s bytes
 ends_well run run' a b s bytes found good h is w = record {
   asked = w.asked;

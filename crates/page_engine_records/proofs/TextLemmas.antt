@@ -1,7 +1,7 @@
 -- Texts in reserved memory.
 use Rattle.std.proofs.Common.{◌≡◌, ℕ, ◌+◌, ◌-◌, ◌<◌, ◌≤◌, nat_le, Bool, true, false, List, [], ◌∷◌, ◌++◌, length, refl, sym, arith, length-append, append_assoc}
 use Rattle.std.proofs.lemmas.List.{take_all, take_at}
-use Rattle.page_engine_records.specs.NameTexts.{with_byte}
+use Rattle.page_engine_records.specs.machine.NameTexts.{with_byte}
 use Rattle.page_engine_records.specs.Records.{with_name}
 use Rattle.page_engine_records.specs.declared.texts.TheConstants.{TEXT}
 use Rattle.std.specs.Prelude.{codes, if◌then◌else◌}

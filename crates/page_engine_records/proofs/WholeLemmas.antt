@@ -2,9 +2,8 @@
 use Rattle.std.proofs.Common.{◌≡◌, ℕ, Bool, true, false, ◌&&◌, ◌⊎◌, inl, inr, List, [], ◌∷◌, ◌++◌, None, map, refl, ap, sym, ◌∙◌}
 use Rattle.std.specs.Prelude.{if◌then◌else◌}
 use Rattle.std.proofs.lemmas.Bool.{cases_Bool}
-use Rattle.page_core_base.specs.Pieces.{Item, noted, shown}
+use Rattle.page_core_base.specs.Pieces.{Item}
 use Rattle.page_core_base.specs.declared.page_settings.Settings.{Settings}
-use Rattle.page_core_base.specs.declared.pieces.Piece.{Piece}
 use Rattle.page_engine_lines.specs.Bodies.{has_title}
 use Rattle.page_engine_header.specs.declared.fields.Fields.{Fields}
 use Rattle.page_engine_index.specs.declared.records.Record.{Record}
@@ -16,24 +15,14 @@ use Rattle.page_roff_source.specs.Edges.{Edge, SourceLine}
 use Rattle.page_roff_source.specs.Given.{done}
 use Rattle.page_roff_source.proofs.LineLemmas.{done-idle}
 use Rattle.page_engine_records.specs.machine.Fronts.{Front, after_line, after_lines, ended, front_record, is_settled, start}
-use Rattle.page_engine_records.specs.NameTexts.{has_ended, read, read_piece}
+use Rattle.page_engine_records.specs.NameTexts.{name_text}
+use Rattle.page_engine_records.specs.machine.NameTexts.{has_ended, kept_of, read}
 use Rattle.page_engine_records.specs.PageRecords.{name_in, raw, record_of_lines, section_in}
 use Rattle.page_engine_records.specs.machine.ReaderSinks.{read-append}
 use Rattle.page_engine_records.specs.Records.{record_by}
 use Rattle.page_engine_records.specs.declared.name_readers.NameReader.{NameReader}
 use Rattle.page_engine_records.proofs.FrontLemmas.{ended_stays}
-
--- ---- after the section NAME
-
-piece_ended : (r : NameReader) (p : Piece (List ℕ)) → has_ended r ≡ true → read_piece r p ≡ r
-unfolding read_piece
-piece_ended r p h = rw h refl
-
-read_ended : (r : NameReader) (items : List Item) → has_ended r ≡ true → read r items ≡ r
-unfolding read
-read_ended r [] h = refl
-read_ended r (noted m ∷ items) h = read_ended r items h
-read_ended r (shown p ∷ items) h = ap (λ (q : NameReader). read q items) (piece_ended r p h) ∙ read_ended r items h
+use Rattle.page_engine_records.proofs.NameTextLemmas.{kept_is_name_text, read_ended}
 
 both : (x y : Bool) → x && y ≡ true → (x ≡ true) × (y ≡ true)
 both true y h = (refl, h)
@@ -144,7 +133,9 @@ pub whole_record : (s : Settings) (page : List Line) → front_record (after_lin
 unfolding record_of_lines
 whole_record s page =
     let f = after_lines (start s) page in
-    let name : ended f ≡ name_in s page =
-    front_name (start s) page refl ∙ ap (λ (l : List Item). read (start s).name l) (sym (page_is (start_of s) page)) in
+    let items = page_items (start_of s) (map raw page) 1 in
+    let name : kept_of (ended f) ≡ name_text items =
+    ap (λ (r : NameReader). kept_of r) (front_name (start s) page refl ∙ ap (λ (l : List Item). read (start s).name l) (sym (page_is (start_of s) page)))
+    ∙ kept_is_name_text items in
     let fields = front_fields (start s) page refl in
     rw (name, fields) refl

@@ -7,18 +7,16 @@ use Rattle.page_engine_lines.specs.Acts.{raw_line, page_items, lines_after}
 use Rattle.page_engine_lines.specs.Edges.{start_of}
 use Rattle.page_roff_lines.specs.Decoding.{Line, lines}
 use Rattle.page_roff_source.specs.Edges.{SourceLine}
-use Rattle.page_engine_records.specs.NameTexts.{read, reader_at}
+use Rattle.page_engine_records.specs.NameTexts.{name_text}
 use Rattle.page_engine_records.specs.Records.{record_by}
-use Rattle.page_engine_records.specs.declared.name_readers.NameReader.{NameReader}
-use Rattle.page_engine_records.specs.declared.name_readers.Side.TheVariants.{Before}
 
 -- a line as roff takes it: the messages of its cutting are before what it gives
 abbrev pub raw : Line → SourceLine
 raw line = raw_line line.number line.text line.notes
 
--- what is read of the section NAME in the pieces of a page: a message at its end has the number of its first line, and is no text
-abbrev pub name_in : Settings → List Line → NameReader
-name_in s page = read (reader_at Before) (page_items (start_of s) (map raw page) 1)
+-- the text of the section NAME in the pieces of a page, if it has one: a message at its end has the number of its first line, and is no text
+abbrev pub name_in : Settings → List Line → Option (List ℕ)
+name_in s page = name_text (page_items (start_of s) (map raw page) 1)
 
 -- the section of the manual of its title, once all lines came
 abbrev pub section_in : Settings → List Line → List ℕ
@@ -26,7 +24,7 @@ section_in s page = (lines_after (start_of s) (map raw page)).body.header.fields
 
 -- the record of a page of these lines
 unfoldable pub record_of_lines : Settings → List Line → Option Record
-record_of_lines s page = record_by (name_in s page).side (name_in s page).text (section_in s page)
+record_of_lines s page = record_by (name_in s page) (section_in s page)
 
 -- the record of a page by its bytes
 abbrev pub page_record : Settings → List ℕ → Option Record

@@ -8,9 +8,7 @@ use Rattle.page_engine_index.specs.declared.records.Record.{Record}
 use Rattle.page_roff_syntax.specs.Ends.{kept_len}
 use Rattle.page_scopes_words.specs.Fonts.{roman_fonts}
 use Rattle.page_scopes_words.specs.Words.{at}
-use Rattle.page_engine_records.specs.NameTexts.{read, reader_at}
-use Rattle.page_engine_records.specs.declared.name_readers.Side.{Side}
-use Rattle.page_engine_records.specs.declared.name_readers.Side.TheVariants.{Before, Inside, After}
+use Rattle.page_engine_records.specs.NameTexts.{kept_text, signs_of}
 
 -- ---- names
 
@@ -69,10 +67,9 @@ record_of text section =
 
 -- the section of the manual of a title, as the header prints it in ASCII
 abbrev pub section_text : List ℕ → List ℕ
-section_text section = (read (reader_at Inside) (tokens_items Ascii (at 1 1) roman_fonts (tokens_of false section))).text
+section_text section = kept_text (signs_of 0 (tokens_items Ascii (at 1 1) roman_fonts (tokens_of false section)))
 
--- by what was read of a page, and the section of its title; a page without a section NAME has no record
-abbrev pub record_by : Side → (text section : List ℕ) → Option Record
-record_by Before text section = None
-record_by Inside text section = record_of text (section_text section)
-record_by After text section = record_of text (section_text section)
+-- by the text of the section NAME, and the section of the title; a page without a section NAME has no record
+abbrev pub record_by : Option (List ℕ) → (section : List ℕ) → Option Record
+record_by None section = None
+record_by (Some text) section = record_of text (section_text section)

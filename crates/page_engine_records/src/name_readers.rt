@@ -4,7 +4,7 @@ ghost use Rattle.std.specs.Prelude.{◌≡◌, ℕ, List, true, IfOk, chars, ref
 ghost use Rattle.page_core_base.specs.Pieces.{piece_of};
 ghost use Rattle.page_core_tables.specs.Printed.{printed_view};
 ghost use Rattle.page_engine_header.specs.Printing.{characters_of, plain_printed};
-ghost use Rattle.page_engine_records.specs.NameTexts.{has_ended, heading, paragraph, read, reader_at, taken, top_heading, with_character, with_characters};
+ghost use Rattle.page_engine_records.specs.machine.NameTexts.{has_ended, read, reader_at, taken, with_character, with_characters, with_heading, with_paragraph, with_top_heading};
 ghost use Rattle.page_engine_records.specs.machine.ReaderSinks.{reader-items, reader-messages, reader-notes, reader-well};
 
 use crate::texts::{TEXT, add_byte};
@@ -124,7 +124,7 @@ impl NameReader {
 
     // Takes the front of a paragraph.
     fn take_paragraph(&mut self)
-        ensures { self.new ≡ paragraph self.old.side self.old }
+        ensures { self.new ≡ with_paragraph self.old.side self.old }
     {
         match self.side {
             Side::Before => {
@@ -141,7 +141,7 @@ impl NameReader {
 
     // Takes the end of a heading at the page's left edge.
     fn take_top_heading(&mut self)
-        ensures { self.new ≡ top_heading self.old.side self.old }
+        ensures { self.new ≡ with_top_heading self.old.side self.old }
     {
         match self.side {
             Side::Before => {
@@ -162,7 +162,7 @@ impl NameReader {
 
     // Takes the end of a heading.
     fn take_heading(&mut self)
-        ensures { self.new ≡ heading self.old }
+        ensures { self.new ≡ with_heading self.old }
     {
         if self.margin == 0 {
             self.take_top_heading();
@@ -241,7 +241,7 @@ impl PieceSink for NameReader {
 
     ghost causes = { λ s t fault xs broke. absurd broke };
 
-    #[tactic(auto, unfolding(crate::specs::NameTexts::read, crate::specs::NameTexts::read_piece))]
+    #[tactic(auto, unfolding(crate::specs::machine::NameTexts::read, crate::specs::machine::NameTexts::read_piece))]
     fn piece(&mut self, piece: Piece<&[u8]>) -> Result<(), Fault> {
         if !self.has_ended() {
             self.take(piece);

@@ -9,7 +9,7 @@ ghost use Rattle.page_scopes_words.specs.Fonts.{roman_fonts};
 ghost use Rattle.page_scopes_words.specs.Words.{at};
 ghost use Rattle.page_engine_records.specs.Records.{record_by, section_text};
 ghost use Rattle.page_engine_records.specs.Runs.{ReadsRecord, ReadsRecordOver};
-ghost use Rattle.page_engine_records.specs.NameTexts.{reader_at};
+ghost use Rattle.page_engine_records.specs.machine.NameTexts.{kept_of, reader_at};
 ghost use Rattle.page_engine_records.specs.machine.Steps.{Finished, HasRoom, HoldsNothing, IsFresh, ReadsAll, StartsAt, Through, TookLast, TookPart};
 
 use crate::fronts::PageFront;
@@ -137,7 +137,7 @@ impl RecordRun {
     // The record that was read, of a page that has ended.
     fn into_record(self, room: RecordRoom) -> Option<Record>
         requires { HoldsNothing room }
-        ensures { result ≡ record_by self.page.name.side self.page.name.text self.page.lines.body.header.fields.section }
+        ensures { result ≡ record_by (kept_of self.page.name) self.page.lines.body.header.fields.section }
     {
         if matches!(self.page.name.side, Side::Before) {
             return None;

@@ -2,6 +2,7 @@
 
 ghost use Rattle.std.specs.Prelude.{◌≡◌, ◌≤◌, ◌+◌, length};
 ghost use Rattle.page_engine_records.specs.NameTexts as texts;
+ghost use Rattle.page_engine_records.specs.machine.NameTexts.{with_byte};
 ghost use Rattle.page_engine_records.specs.Records.{with_name};
 
 use page_core_base::BoundedText;
@@ -19,7 +20,7 @@ pub fn text_law()
 
 /// Adds a byte to a text, where there is room for it.
 pub(crate) fn add_byte(text: &mut BoundedText<TEXT>, byte: u8)
-    ensures { text.new ≡ texts.with_byte text.old byte }
+    ensures { text.new ≡ with_byte text.old byte }
 {
     let _has_room = text.add_byte(byte);
 }

@@ -21,7 +21,7 @@ unfoldable pub use Rattle.page_engine_index.specs.Matches.{matches_in as u46, na
 unfoldable pub use Rattle.page_engine_index.specs.Whatis.{is_shown as u49, row_of as u50}
 unfoldable pub use Rattle.page_engine_lines.specs.Bodies.{event_items as u51, event_after as u52, events_items as u53, events_after as u54, end_items as u55, footer_items as u56}
 unfoldable pub use Rattle.page_engine_lines.specs.Languages.{language_of as u57}
-unfoldable pub use Rattle.page_engine_records.specs.NameTexts.{with_characters as u58, read_piece as u59, read as u60}
+unfoldable pub use Rattle.page_engine_records.specs.NameTexts.{signs_of as u58, after_name as u59, name_text as u60}
 unfoldable pub use Rattle.page_engine_records.specs.PageRecords.{record_of_lines as u61}
 unfoldable pub use Rattle.page_engine_records.specs.Records.{without_front as u62, with_names as u63, begins_dash as u64, dash_place as u65}
 unfoldable pub use Rattle.page_fill.specs.Filled.{first_word as u66, outcome as u67, filling as u68}

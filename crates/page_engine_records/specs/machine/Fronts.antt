@@ -7,7 +7,7 @@ use Rattle.page_engine_index.specs.declared.records.Record.{Record}
 use Rattle.page_engine_lines.specs.Acts.{lines_items, lines_after, ending_items}
 use Rattle.page_engine_lines.specs.Edges.{LinesEdge, start_of}
 use Rattle.page_roff_lines.specs.Decoding.{Line}
-use Rattle.page_engine_records.specs.NameTexts.{has_ended, read, reader_at}
+use Rattle.page_engine_records.specs.machine.NameTexts.{has_ended, kept_of, read, reader_at}
 use Rattle.page_engine_records.specs.PageRecords.{raw}
 use Rattle.page_engine_records.specs.Records.{record_by}
 use Rattle.page_engine_records.specs.declared.name_readers.NameReader.{NameReader}
@@ -40,4 +40,4 @@ abbrev pub ended : Front → NameReader
 ended f = if is_settled f then f.name else read f.name (ending_items f.lines 1)
 
 abbrev pub front_record : Front → Option Record
-front_record f = record_by (ended f).side (ended f).text f.lines.body.header.fields.section
+front_record f = record_by (kept_of (ended f)) f.lines.body.header.fields.section

@@ -6,7 +6,7 @@ use Rattle.page_core_base.specs.Messages.{Message}
 use Rattle.page_core_base.specs.Pieces.{Item, all_noted, noted, shown}
 use Rattle.page_core_base.specs.Sinks.{IsSink}
 use Rattle.page_core_base.specs.declared.faults.Fault.{Fault}
-use Rattle.page_engine_records.specs.NameTexts.{read, read_piece}
+use Rattle.page_engine_records.specs.machine.NameTexts.{read, read_piece}
 use Rattle.page_engine_records.specs.declared.name_readers.NameReader.{NameReader}
 
 -- messages change nothing

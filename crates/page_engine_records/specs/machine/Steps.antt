@@ -9,7 +9,7 @@ use Rattle.page_engine_lines.specs.machine.Lines.{end_items}
 use Rattle.page_roff_lines.specs.Cutting.{Point, first_point, last_line, lines_from, lines_within, point_after}
 use Rattle.page_core_base.specs.declared.page_settings.Settings.{Settings as PageSettings}
 use Rattle.page_engine_records.specs.machine.Fronts.{Front, after_lines, ended, is_settled, start}
-use Rattle.page_engine_records.specs.NameTexts.{read, reader_at}
+use Rattle.page_engine_records.specs.machine.NameTexts.{read, reader_at}
 use Rattle.page_engine_records.specs.declared.fronts.PageFront.{PageFront}
 use Rattle.page_engine_records.specs.declared.name_readers.NameReader.{NameReader}
 use Rattle.page_engine_records.specs.declared.name_readers.Side.TheVariants.{Inside}

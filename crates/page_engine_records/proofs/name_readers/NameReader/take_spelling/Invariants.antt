@@ -1,5 +1,5 @@
 use Rattle.std.proofs.Common.{◌≡◌, drop}
-use Rattle.page_engine_records.specs.NameTexts.{with_characters}
+use Rattle.page_engine_records.specs.machine.NameTexts.{with_characters}
 use Rattle.page_engine_records.proofs.name_readers.NameReader.take_spelling.Given as goal
 
 abbrev pub invariant-loop-byte : goal.invariant-loop-byte

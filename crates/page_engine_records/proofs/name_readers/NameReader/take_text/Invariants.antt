@@ -2,7 +2,7 @@ use Rattle.std.proofs.Common.{◌≡◌, IsUtf8, chars}
 use Rattle.std.specs.Str.Iter.{chars_rest}
 use Rattle.page_core_base.specs.declared.page_settings.Output.TheVariants.{Ascii}
 use Rattle.page_engine_header.specs.Printing.{plain_printed}
-use Rattle.page_engine_records.specs.NameTexts.{with_characters}
+use Rattle.page_engine_records.specs.machine.NameTexts.{with_characters}
 use Rattle.page_engine_records.proofs.name_readers.NameReader.take_text.Given as goal
 
 abbrev pub invariant-loop-c : goal.invariant-loop-c

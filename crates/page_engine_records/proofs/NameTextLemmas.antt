@@ -1,0 +1,376 @@
+-- What a reader of pieces keeps is the text of the section NAME.
+use Rattle.std.proofs.Common.{◌≡◌, ℕ, ◌≤◌, Bool, true, false, nat_lt, ◌==◌, List, [], ◌∷◌, ◌++◌, length, take, map, Some, inl, inr, refl, ap, sym, ◌∙◌, arith, if◌then◌else◌}
+use Rattle.std.specs.Prelude.{codes, filter, option_map}
+use Rattle.std.proofs.Math.Path.{subst}
+use Rattle.std.specs.Str.{bytes_eq}
+use Rattle.std.proofs.lemmas.Bool.{cases_Bool}
+use Rattle.std.proofs.lemmas.List.{map-append}
+use Rattle.std.proofs.Math.Seq.{take-length}
+use Rattle.page_core_base.specs.Pieces.{Item, noted, shown}
+use Rattle.page_core_base.specs.declared.cells.Font.{Font}
+use Rattle.page_core_base.specs.declared.page_settings.Output.TheVariants.{Ascii}
+use Rattle.page_core_base.specs.declared.places.Place.{Place}
+use Rattle.page_core_base.specs.declared.pieces.Piece.{Piece}
+use Rattle.page_core_base.specs.declared.pieces.Piece.TheVariants.{Text, Glyph, Char, Tab, Blank, Glue, Split, Break, RowEnd, Para, Space, Indent, Literal, Tag, TagEnd, Heading, Column}
+use Rattle.page_core_tables.specs.Printed.{char_printed, glyph_printed}
+use Rattle.page_engine_header.specs.Printing.{characters_of, in_font, plain_printed, token_printed, tokens_items}
+use Rattle.page_core_escapes.specs.Tokens.{TextToken}
+use Rattle.page_scopes_words.specs.Fonts.{token_fonts}
+use Rattle.page_scopes_words.specs.declared.fonts.Fonts.{Fonts}
+use Rattle.page_engine_records.specs.NameTexts.{Sign, character, gap, joint, paragraph, heading, TEXT, after_name, characters, is_headed, kept_text, margin_after, name_text, piece_signs, signs_of, text_of, up_to_heading}
+use Rattle.page_engine_records.specs.machine.NameTexts.{apart, has_ended, is_after, kept_by, kept_of, read, read_piece, reader_at, spaced, taken, with_byte, with_character, with_characters, with_paragraph, with_top_heading}
+use Rattle.page_engine_records.specs.declared.name_readers.NameReader.{NameReader}
+use Rattle.page_engine_records.specs.declared.name_readers.Side.{Side}
+use Rattle.page_engine_records.specs.declared.name_readers.Side.TheVariants.{Before, Inside, After}
+use Rattle.page_engine_records.proofs.SignLemmas.{character_kept, characters_headed, characters_up_to, front-longer, front-same, headed_none, more-character, more-gap, more-joint, more-paragraph, more_text, name-same, no_signs, text_of-append, waits, waits-append}
+
+-- ---- after the section NAME
+
+piece_ended : (r : NameReader) (p : Piece (List ℕ)) → has_ended r ≡ true → read_piece r p ≡ r
+unfolding read_piece
+piece_ended r p h = rw h refl
+
+pub read_ended : (r : NameReader) (items : List Item) → has_ended r ≡ true → read r items ≡ r
+unfolding read
+read_ended r [] h = refl
+read_ended r (noted m ∷ items) h = read_ended r items h
+read_ended r (shown p ∷ items) h = ap (λ (q : NameReader). read q items) (piece_ended r p h) ∙ read_ended r items h
+
+-- ---- the reader, sign by sign
+
+-- a character of ASCII
+abbrev character_taken : NameReader → ℕ → NameReader
+character_taken r c = record r { text = with_byte (spaced r.is_apart r.text) c; is_apart = false }
+
+abbrev sign_taken : NameReader → Sign → NameReader
+sign_taken r (character c) = character_taken r c
+sign_taken r gap = apart r
+sign_taken r joint = record r { is_apart = false }
+sign_taken r paragraph = with_paragraph r.side r
+sign_taken r heading = with_top_heading r.side r
+
+abbrev signs_taken : NameReader → List Sign → NameReader
+signs_taken r [] = r
+signs_taken r (sign ∷ signs) = signs_taken (if has_ended r then r else sign_taken r sign) signs
+
+signs_taken-append : (r : NameReader) (xs ys : List Sign) → signs_taken r (xs ++ ys) ≡ signs_taken (signs_taken r xs) ys
+signs_taken-append r [] ys = refl
+signs_taken-append r (x ∷ xs) ys = signs_taken-append (if has_ended r then r else sign_taken r x) xs ys
+
+signs_ended : (r : NameReader) (signs : List Sign) → has_ended r ≡ true → signs_taken r signs ≡ r
+signs_ended r [] h = refl
+signs_ended r (sign ∷ signs) h = rw h (signs_ended r signs h)
+
+sign_first : (r : NameReader) (sign : Sign) (signs : List Sign) → has_ended r ≡ false → signs_taken r (sign ∷ signs) ≡ signs_taken (sign_taken r sign) signs
+sign_first r sign signs h = rw h refl
+
+-- all but the margin, which signs know
+abbrev left : NameReader → NameReader
+left r = record r { margin = 0 }
+
+ascii_taken : (r : NameReader) (c : ℕ) → nat_lt c 128 ≡ true → with_character r c ≡ character_taken r c
+ascii_taken r c h = rw h refl
+
+other_taken : (r : NameReader) (c : ℕ) → nat_lt c 128 ≡ false → with_character r c ≡ r
+other_taken r c h = rw h refl
+
+ascii_sign : (c : ℕ) (cs : List ℕ) → nat_lt c 128 ≡ true → characters (c ∷ cs) ≡ character c ∷ characters cs
+ascii_sign c cs h = rw h refl
+
+no_sign : (c : ℕ) (cs : List ℕ) → nat_lt c 128 ≡ false → characters (c ∷ cs) ≡ characters cs
+no_sign c cs h = rw h refl
+
+characters_taken : (r : NameReader) (cs : List ℕ) → has_ended r ≡ false → left (with_characters r cs) ≡ signs_taken (left r) (characters cs)
+unfolding with_characters
+characters_taken r [] h = refl
+characters_taken r (c ∷ cs) h = elim (cases_Bool (nat_lt c 128)) [
+  | inl ascii ↦
+      ap (λ (q : NameReader). left (with_characters q cs)) (ascii_taken r c ascii)
+      ∙ (characters_taken (character_taken r c) cs h
+      ∙ (sym (sign_first (left r) (character c) (characters cs) h)
+      ∙ ap (λ (signs : List Sign). signs_taken (left r) signs) (sym (ascii_sign c cs ascii))))
+  | inr other ↦
+      ap (λ (q : NameReader). left (with_characters q cs)) (other_taken r c other)
+      ∙ (characters_taken r cs h ∙ ap (λ (signs : List Sign). signs_taken (left r) signs) (sym (no_sign c cs other)))
+]
+
+characters_margin : (r : NameReader) (cs : List ℕ) → (with_characters r cs).margin ≡ r.margin
+unfolding with_characters
+characters_margin r [] = refl
+characters_margin r (c ∷ cs) = elim (cases_Bool (nat_lt c 128)) [
+  | inl ascii ↦ ap (λ (q : NameReader). (with_characters q cs).margin) (ascii_taken r c ascii) ∙ characters_margin (character_taken r c) cs
+  | inr other ↦ ap (λ (q : NameReader). (with_characters q cs).margin) (other_taken r c other) ∙ characters_margin r cs
+]
+
+heading_left : (side : Side) (r : NameReader) → left (with_top_heading side r) ≡ with_top_heading side (left r)
+heading_left Before r = elim (cases_Bool (bytes_eq r.text (codes "NAME"))) [
+  | inl is ↦ rw is refl
+  | inr other ↦ rw other refl
+]
+heading_left Inside r = refl
+heading_left After r = refl
+
+heading_margin : (side : Side) (r : NameReader) → (with_top_heading side r).margin ≡ r.margin
+heading_margin Before r = elim (cases_Bool (bytes_eq r.text (codes "NAME"))) [
+  | inl is ↦ rw is refl
+  | inr other ↦ rw other refl
+]
+heading_margin Inside r = refl
+heading_margin After r = refl
+
+paragraph_left : (side : Side) (r : NameReader) → left (with_paragraph side r) ≡ with_paragraph side (left r)
+paragraph_left Before r = refl
+paragraph_left Inside r = refl
+paragraph_left After r = refl
+
+paragraph_margin : (side : Side) (r : NameReader) → (with_paragraph side r).margin ≡ r.margin
+paragraph_margin Before r = refl
+paragraph_margin Inside r = refl
+paragraph_margin After r = refl
+
+piece_taken : (r : NameReader) (piece : Piece (List ℕ)) → has_ended r ≡ false → left (taken r piece) ≡ signs_taken (left r) (piece_signs r.margin piece)
+piece_taken r (Text bytes font place) h = characters_taken r (plain_printed Ascii (characters_of bytes)) h
+piece_taken r (Glyph name font place) h = characters_taken r (glyph_printed Ascii name).characters h
+piece_taken r (Char c font place) h = characters_taken r (char_printed Ascii c).characters h
+piece_taken r (Tab font place) h = rw h refl
+piece_taken r (Blank count has_tab) h = rw h refl
+piece_taken r Glue h = rw h refl
+piece_taken r Split h = refl
+piece_taken r Break h = rw h refl
+piece_taken r RowEnd h = rw h refl
+piece_taken r (Para count) h = rw h (paragraph_left r.side r)
+piece_taken r (Space count) h = rw h refl
+piece_taken r (Indent first rest) h = refl
+piece_taken r (Literal is_literal) h = refl
+piece_taken r (Tag hang form) h = refl
+piece_taken r TagEnd h = rw h refl
+piece_taken r Heading h = elim (cases_Bool (r.margin == 0)) [
+  | inl top ↦ rw (top, h) (heading_left r.side r)
+  | inr within ↦ rw (within, h) refl
+]
+piece_taken r (Column column) h = rw h refl
+
+margin_taken : (r : NameReader) (piece : Piece (List ℕ)) → (taken r piece).margin ≡ margin_after r.margin piece
+margin_taken r (Text bytes font place) = characters_margin r (plain_printed Ascii (characters_of bytes))
+margin_taken r (Glyph name font place) = characters_margin r (glyph_printed Ascii name).characters
+margin_taken r (Char c font place) = characters_margin r (char_printed Ascii c).characters
+margin_taken r (Tab font place) = refl
+margin_taken r (Blank count has_tab) = refl
+margin_taken r Glue = refl
+margin_taken r Split = refl
+margin_taken r Break = refl
+margin_taken r RowEnd = refl
+margin_taken r (Para count) = paragraph_margin r.side r
+margin_taken r (Space count) = refl
+margin_taken r (Indent first rest) = refl
+margin_taken r (Literal is_literal) = refl
+margin_taken r (Tag hang form) = refl
+margin_taken r TagEnd = refl
+margin_taken r Heading = elim (cases_Bool (r.margin == 0)) [
+  | inl top ↦ rw top (heading_margin r.side r)
+  | inr within ↦ rw within refl
+]
+margin_taken r (Column column) = refl
+
+items_ended : (r : NameReader) (items : List Item) → has_ended r ≡ true → left (read r items) ≡ signs_taken (left r) (signs_of r.margin items)
+items_ended r items h = ap (λ (q : NameReader). left q) (read_ended r items h) ∙ sym (signs_ended (left r) (signs_of r.margin items) h)
+
+piece_read : (r : NameReader) (piece : Piece (List ℕ)) → has_ended r ≡ false → read_piece r piece ≡ taken r piece
+unfolding read_piece
+piece_read r piece h = rw h refl
+
+items_taken : (r : NameReader) (items : List Item) → left (read r items) ≡ signs_taken (left r) (signs_of r.margin items)
+unfolding read signs_of
+items_taken r [] = refl
+items_taken r (noted message ∷ items) = items_taken r items
+items_taken r (shown piece ∷ items) = elim (cases_Bool (has_ended r)) [
+  | inl ended ↦ items_ended r (shown piece ∷ items) ended
+  | inr on ↦
+      let next = taken r piece in
+      ap (λ (q : NameReader). left (read q items)) (piece_read r piece on)
+      ∙ (items_taken next items
+      ∙ (ap (λ (q : NameReader). signs_taken q (signs_of next.margin items)) (piece_taken r piece on)
+      ∙ (ap (λ (margin : ℕ). signs_taken (signs_taken (left r) (piece_signs r.margin piece)) (signs_of margin items)) (margin_taken r piece)
+      ∙ sym (signs_taken-append (left r) (piece_signs r.margin piece) (signs_of (margin_after r.margin piece) items)))))
+]
+
+-- ---- inside the section
+
+-- what is kept of a section, where the text comes after another; before the front of it is a paragraph
+abbrev inside_text : (text : List ℕ) (is_apart : Bool) (front : List ℕ) (signs : List Sign) → List ℕ
+inside_text text is_apart front signs = if is_headed signs then front else take TEXT (text ++ more_text text is_apart (up_to_heading signs))
+
+-- a sign that neither begins a paragraph nor ends one, and leaves the front as it is
+step : (text text' front front' : List ℕ) (is_apart is_apart' : Bool) (sign : Sign) (signs : List Sign)
+    → front' ≡ front → is_headed (sign ∷ signs) ≡ is_headed signs
+    → up_to_heading (sign ∷ signs) ≡ (if is_headed signs then [] else sign ∷ up_to_heading signs)
+    → text ++ more_text text is_apart (sign ∷ up_to_heading signs) ≡ text' ++ more_text text' is_apart' (up_to_heading signs)
+    → inside_text text' is_apart' front' signs ≡ inside_text text is_apart front (sign ∷ signs)
+step text text' front front' is_apart is_apart' sign signs f h u t = elim (cases_Bool (is_headed signs)) [
+  | inl headed ↦ rw (h, headed) f
+  | inr other ↦
+      let on : up_to_heading (sign ∷ signs) ≡ sign ∷ up_to_heading signs = rw other at u in
+      rw (h, other, on) (ap (λ (l : List ℕ). take TEXT l) (sym t))
+]
+
+-- a paragraph that has no heading is one more of the section
+paragraph_step : (kept text front : List ℕ) (is_apart : Bool) (signs : List Sign) → kept ≡ take TEXT text
+    → inside_text text true (take (length kept) kept) signs ≡ inside_text text is_apart front (paragraph ∷ signs)
+paragraph_step kept text front is_apart signs t = elim (cases_Bool (is_headed signs)) [
+  | inl headed ↦ rw headed (take-length kept ∙ (t ∙ ap (λ (l : List ℕ). take TEXT l) (sym (no_signs text is_apart))))
+  | inr other ↦ rw other (ap (λ (l : List ℕ). take TEXT (text ++ l)) (sym (more-paragraph text is_apart (up_to_heading signs))))
+]
+
+inside : (r : NameReader) (text : List ℕ) (signs : List Sign) → r.side ≡ Inside → r.text ≡ take TEXT text → r.before ≤ length r.text
+    → kept_of (signs_taken r signs) ≡ Some (inside_text text r.is_apart (take r.before r.text) signs)
+inside r text [] s t b = rw s (ap (λ (l : List ℕ). Some l) (t ∙ ap (λ (l : List ℕ). take TEXT l) (sym (no_signs text r.is_apart))))
+inside r text (character c ∷ signs) s t b =
+    let next = character_taken r c in
+    let more = more_text text r.is_apart (character c ∷ []) in
+    let kept : next.text ≡ take TEXT (text ++ more) =
+    ap (λ (l : List ℕ). with_byte (spaced r.is_apart l) c) t ∙ character_kept text r.is_apart c in
+    let short : r.before ≤ length (take TEXT text) = subst (λ (l : List ℕ). r.before ≤ length l) t b in
+    let within : r.before ≤ length next.text =
+    subst (λ (l : List ℕ). r.before ≤ length l) (sym kept) (front-longer TEXT r.before text more short) in
+    let same : take r.before next.text ≡ take r.before r.text =
+    ap (λ (l : List ℕ). take r.before l) kept
+    ∙ (front-same TEXT r.before text more short ∙ ap (λ (l : List ℕ). take r.before l) (sym t)) in
+    ap (λ (q : NameReader). kept_of q) (sign_first r (character c) signs (ap is_after s))
+    ∙ (inside next (text ++ more) signs s kept within
+    ∙ ap (λ (l : List ℕ). Some l)
+    (step text (text ++ more) (take r.before r.text) (take r.before next.text) r.is_apart false (character c) signs same refl refl
+    (more-character text r.is_apart c (up_to_heading signs))))
+inside r text (gap ∷ signs) s t b =
+    let front = take r.before r.text in
+    ap (λ (q : NameReader). kept_of q) (sign_first r gap signs (ap is_after s))
+    ∙ (inside (apart r) text signs s t b
+    ∙ ap (λ (l : List ℕ). Some l)
+    (step text text front front r.is_apart true gap signs refl refl refl
+    (ap (λ (l : List ℕ). text ++ l) (more-gap text r.is_apart (up_to_heading signs)))))
+inside r text (joint ∷ signs) s t b =
+    let front = take r.before r.text in
+    ap (λ (q : NameReader). kept_of q) (sign_first r joint signs (ap is_after s))
+    ∙ (inside (record r { is_apart = false }) text signs s t b
+    ∙ ap (λ (l : List ℕ). Some l)
+    (step text text front front r.is_apart false joint signs refl refl refl
+    (ap (λ (l : List ℕ). text ++ l) (more-joint text r.is_apart (up_to_heading signs)))))
+inside r text (paragraph ∷ signs) s t b =
+    let next = record r { is_apart = true; before = length r.text } in
+    let one : with_paragraph r.side r ≡ next = ap (λ (side : Side). with_paragraph side r) s in
+    ap (λ (q : NameReader). kept_of q) (sign_first r paragraph signs (ap is_after s))
+    ∙ (ap (λ (q : NameReader). kept_of (signs_taken q signs)) one
+    ∙ (inside next text signs s t (omega arith)
+    ∙ ap (λ (l : List ℕ). Some l) (paragraph_step r.text text (take r.before r.text) r.is_apart signs t)))
+inside r text (heading ∷ signs) s t b =
+    let next = record r { side = After; text = take r.before r.text } in
+    let one : with_top_heading r.side r ≡ next = ap (λ (side : Side). with_top_heading side r) s in
+    ap (λ (q : NameReader). kept_of q) (sign_first r heading signs (ap is_after s))
+    ∙ (ap (λ (q : NameReader). kept_of (signs_taken q signs)) one
+    ∙ ap (λ (q : NameReader). kept_of q) (signs_ended next signs refl))
+
+-- ---- before the section
+
+-- the section from its front on
+abbrev section_text_of : List Sign → List ℕ
+section_text_of signs = kept_text (up_to_heading signs)
+
+starts_inside : (signs : List Sign) → inside_text [] false [] signs ≡ section_text_of signs
+starts_inside signs = elim (cases_Bool (is_headed signs)) [
+  | inl headed ↦ rw (headed, headed_none signs headed) refl
+  | inr other ↦ rw other refl
+]
+
+gap_passed : (passed : List Sign) → text_of (passed ++ gap ∷ []) ≡ text_of passed
+gap_passed passed =
+    text_of-append false passed (gap ∷ [])
+    ∙ (ap (λ (l : List ℕ). text_of passed ++ l) (more-gap (text_of passed) (waits false passed) []) ∙ no_signs (text_of passed) true)
+
+joint_passed : (passed : List Sign) → text_of (passed ++ joint ∷ []) ≡ text_of passed
+joint_passed passed =
+    text_of-append false passed (joint ∷ [])
+    ∙ (ap (λ (l : List ℕ). text_of passed ++ l) (more-joint (text_of passed) (waits false passed) []) ∙ no_signs (text_of passed) false)
+
+before : (r : NameReader) (passed signs : List Sign) → r.side ≡ Before → r.text ≡ take TEXT (text_of passed) → r.is_apart ≡ waits false passed
+    → kept_of (signs_taken r signs) ≡ option_map section_text_of (after_name passed signs)
+unfolding after_name
+before r passed [] s t a = rw s refl
+before r passed (character c ∷ signs) s t a =
+    let next = character_taken r c in
+    let all = text_of passed in
+    let more = more_text all r.is_apart (character c ∷ []) in
+    let kept : next.text ≡ take TEXT (all ++ more) =
+    ap (λ (l : List ℕ). with_byte (spaced r.is_apart l) c) t ∙ character_kept all r.is_apart c in
+    let whole : all ++ more ≡ text_of (passed ++ character c ∷ []) =
+    ap (λ (w : Bool). all ++ more_text all w (character c ∷ [])) a ∙ sym (text_of-append false passed (character c ∷ [])) in
+    ap (λ (q : NameReader). kept_of q) (sign_first r (character c) signs (ap is_after s))
+    ∙ before next (passed ++ character c ∷ []) signs s (kept ∙ ap (λ (l : List ℕ). take TEXT l) whole) (sym (waits-append false passed (character c ∷ [])))
+before r passed (gap ∷ signs) s t a =
+    ap (λ (q : NameReader). kept_of q) (sign_first r gap signs (ap is_after s))
+    ∙ before (apart r) (passed ++ gap ∷ []) signs s (t ∙ ap (λ (l : List ℕ). take TEXT l) (sym (gap_passed passed))) (sym (waits-append false passed (gap ∷ [])))
+before r passed (joint ∷ signs) s t a =
+    ap (λ (q : NameReader). kept_of q) (sign_first r joint signs (ap is_after s))
+    ∙ before (record r { is_apart = false }) (passed ++ joint ∷ []) signs s (t ∙ ap (λ (l : List ℕ). take TEXT l) (sym (joint_passed passed)))
+    (sym (waits-append false passed (joint ∷ [])))
+before r passed (paragraph ∷ signs) s t a =
+    let next = record r { text = []; is_apart = false } in
+    let one : with_paragraph r.side r ≡ next = ap (λ (side : Side). with_paragraph side r) s in
+    ap (λ (q : NameReader). kept_of q) (sign_first r paragraph signs (ap is_after s))
+    ∙ (ap (λ (q : NameReader). kept_of (signs_taken q signs)) one
+    ∙ before next [] signs s refl refl)
+before r passed (heading ∷ signs) s t a =
+    let one : with_top_heading r.side r ≡ with_top_heading Before r = ap (λ (side : Side). with_top_heading side r) s in
+    let same : bytes_eq r.text (codes "NAME") ≡ bytes_eq (text_of passed) (codes "NAME") =
+    ap (λ (l : List ℕ). bytes_eq l (codes "NAME")) t ∙ name-same (text_of passed) in
+    ap (λ (q : NameReader). kept_of q) (sign_first r heading signs (ap is_after s))
+    ∙ (ap (λ (q : NameReader). kept_of (signs_taken q signs)) one
+    ∙ elim (cases_Bool (bytes_eq (text_of passed) (codes "NAME"))) [
+      | inl is ↦
+          let next = record r { side = Inside; text = []; is_apart = false; before = 0 } in
+          rw (same, is) (inside next [] signs refl refl (omega arith) ∙ ap (λ (l : List ℕ). Some l) (starts_inside signs))
+      | inr other ↦ rw (same, other) (before r passed signs s t a)
+    ])
+
+-- ---- all pieces
+
+pub kept_is_name_text : (items : List Item) → kept_of (read (reader_at Before) items) ≡ name_text items
+unfolding name_text
+kept_is_name_text items =
+    ap (λ (q : NameReader). kept_of q) (items_taken (reader_at Before) items)
+    ∙ before (reader_at Before) [] (signs_of 0 items) refl refl refl
+
+some_kept : (side : Side) (text kept : List ℕ) → kept_by side text ≡ Some kept → text ≡ kept
+some_kept Before text kept h = let no : ⊥ = cc in absurd no
+some_kept Inside text kept h = cc
+some_kept After text kept h = cc
+
+-- characters alone have no heading among them
+pub text_is_kept : (items : List Item) (cs : List ℕ) → signs_of 0 items ≡ map character cs → (read (reader_at Inside) items).text ≡ kept_text (signs_of 0 items)
+text_is_kept items cs is =
+    let r = reader_at Inside in
+    let whole : inside_text [] false [] (map character cs) ≡ kept_text (map character cs) =
+    rw (characters_headed cs, characters_up_to cs) refl in
+    let read_all : kept_of (read r items) ≡ Some (inside_text [] false [] (signs_of 0 items)) =
+    ap (λ (q : NameReader). kept_of q) (items_taken r items) ∙ inside r [] (signs_of 0 items) refl refl (omega arith) in
+    some_kept (read r items).side (read r items).text (kept_text (signs_of 0 items))
+    (read_all ∙ ap (λ (l : List ℕ). Some l) (rw is whole))
+
+-- ---- the section of a title
+
+abbrev AreCharacters : List Sign → Type 0
+AreCharacters signs = (cs : List ℕ) × (signs ≡ map character cs)
+
+font_signs : (font : Font) (place : Place) (cs : List ℕ) (items : List Item) → AreCharacters (signs_of 0 items) → AreCharacters (signs_of 0 (in_font font place cs ++ items))
+unfolding signs_of
+font_signs font place [] items h = h
+font_signs font place (c ∷ cs) items h =
+    let more = font_signs font place cs items h in
+    let first = filter (λ (d : ℕ). nat_lt d 128) (char_printed Ascii c).characters in (
+      first ++ more.0,
+      ap (λ (l : List Sign). map character first ++ l) more.1 ∙ sym (map-append character first more.0),
+    )
+
+pub tokens_signs : (place : Place) (fonts : Fonts) (tokens : List TextToken) → AreCharacters (signs_of 0 (tokens_items Ascii place fonts tokens))
+unfolding signs_of
+tokens_signs place fonts [] = ([], refl)
+tokens_signs place fonts (token ∷ tokens) =
+    font_signs fonts.font place (token_printed Ascii token) (tokens_items Ascii place (token_fonts token fonts) tokens) (tokens_signs place (token_fonts token fonts) tokens)
