@@ -1,25 +1,20 @@
 -- The record that is read line by line, up to where it is settled, is the record of the whole page.
-use Rattle.std.proofs.Common.{◌≡◌, ℕ, Bool, true, false, ◌&&◌, ◌⊎◌, inl, inr, List, [], ◌∷◌, ◌++◌, None, map, refl, ap, sym, ◌∙◌}
-use Rattle.std.specs.Prelude.{if◌then◌else◌}
+use Rattle.std.proofs.Common.{◌≡◌, Bool, true, false, ◌&&◌, inl, inr, List, [], ◌∷◌, ◌++◌, None, map, refl, ap, sym, ◌∙◌}
 use Rattle.std.proofs.lemmas.Bool.{cases_Bool}
 use Rattle.page_core_base.specs.Pieces.{Item}
 use Rattle.page_core_base.specs.declared.page_settings.Settings.{Settings}
 use Rattle.page_engine_lines.specs.Bodies.{has_title}
-use Rattle.page_engine_header.specs.declared.fields.Fields.{Fields}
-use Rattle.page_engine_index.specs.declared.records.Record.{Record}
 use Rattle.page_engine_lines.specs.Acts.{lines_items, lines_after, ending_items, page_items}
 use Rattle.page_engine_lines.specs.Edges.{LinesEdge, start_of}
 use Rattle.page_engine_lines.proofs.TreeLemmas.{ending_is, end_items_after, lines_after-append, lines_items-append, no_items, none_after, title_after}
 use Rattle.page_roff_lines.specs.Decoding.{Line}
 use Rattle.page_roff_source.specs.Edges.{Edge, SourceLine}
-use Rattle.page_roff_source.specs.Given.{done}
 use Rattle.page_roff_source.proofs.LineLemmas.{done-idle}
 use Rattle.page_engine_records.specs.machine.Fronts.{Front, after_line, after_lines, ended, front_record, is_settled, start}
 use Rattle.page_engine_records.specs.NameTexts.{name_text}
 use Rattle.page_engine_records.specs.machine.NameTexts.{has_ended, kept_of, read}
-use Rattle.page_engine_records.specs.PageRecords.{name_in, raw, record_of_lines, section_in}
+use Rattle.page_engine_records.specs.PageRecords.{raw, record_of_lines}
 use Rattle.page_engine_records.specs.machine.ReaderSinks.{read-append}
-use Rattle.page_engine_records.specs.Records.{record_by}
 use Rattle.page_engine_records.specs.declared.name_readers.NameReader.{NameReader}
 use Rattle.page_engine_records.proofs.FrontLemmas.{ended_stays}
 use Rattle.page_engine_records.proofs.NameTextLemmas.{kept_is_name_text, read_ended}

@@ -1,6 +1,5 @@
 -- The record of a page, read off the pieces of its whole block tree and the title that it ends with. Source: mandoc(1), makewhatis.
 use Rattle.std.specs.Prelude.{ℕ, List, map, Option}
-use Rattle.page_core_base.specs.Pieces.{Item}
 use Rattle.page_core_base.specs.declared.page_settings.Settings.{Settings}
 use Rattle.page_engine_index.specs.declared.records.Record.{Record}
 use Rattle.page_engine_lines.specs.Acts.{raw_line, page_items, lines_after}

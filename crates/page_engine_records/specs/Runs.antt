@@ -1,5 +1,5 @@
 -- What reading the record of a page did, by its answer. Source: mandoc(1), makewhatis.
-use Rattle.std.specs.Prelude.{◌≡◌, ◌<◌, ◌≤◌, ℕ, ◌-◌, ◌^◌, List, [], Option, Result, MatchResult, ◌⊎◌, length}
+use Rattle.std.specs.Prelude.{◌≡◌, ◌≤◌, ℕ, ◌-◌, ◌^◌, List, [], Option, Result, MatchResult}
 use Rattle.std.specs.Io.KnownBytes.{IsAtEnd}
 use Rattle.page_core_base.specs.Checks.{IsGood, IsFirst}
 use Rattle.page_core_base.specs.Fails.{Rose}
