@@ -51,7 +51,7 @@ abbrev pub margin_after : ℕ → Piece (List ℕ) → ℕ
 margin_after margin (Indent first rest) = first
 margin_after margin piece = margin
 
--- of items, where rows begin in this margin; messages are no text
+-- the signs of items, where rows begin in this margin; messages are no text
 unfoldable pub signs_of : (margin : ℕ) → List Item → List Sign
 signs_of margin [] = []
 signs_of margin (noted message ∷ items) = signs_of margin items
@@ -59,7 +59,7 @@ signs_of margin (shown piece ∷ items) = piece_signs margin piece ++ signs_of (
 
 -- ---- texts
 
--- after a character: gaps, as many as there are, are one blank (32) before the next character
+-- the text after a character: gaps, as many as there are, are one blank (32) before the next character
 abbrev pub text_after : (is_apart : Bool) → List Sign → List ℕ
 text_after is_apart [] = []
 text_after true (character c ∷ signs) = 32 ∷ c ∷ text_after false signs
@@ -69,7 +69,7 @@ text_after is_apart (joint ∷ signs) = text_after false signs
 text_after is_apart (paragraph ∷ signs) = text_after true signs
 text_after is_apart (heading ∷ signs) = text_after is_apart signs
 
--- before the first character gaps are nothing, nor are they after the last
+-- the text of signs: before the first character gaps are nothing, nor are they after the last
 abbrev pub text_of : List Sign → List ℕ
 text_of [] = []
 text_of (character c ∷ signs) = c ∷ text_after false signs
@@ -104,6 +104,6 @@ up_to_heading [] = []
 up_to_heading (heading ∷ signs) = []
 up_to_heading (sign ∷ signs) = if is_headed signs then [] else sign ∷ up_to_heading signs
 
--- of a page, which begins at the left edge; one that comes to no such section has none
+-- the text of a page's section NAME: a page begins at the left edge, and one that comes to no such section has none
 unfoldable pub name_text : List Item → Option (List ℕ)
 name_text items = option_map (λ signs. kept_text (up_to_heading signs)) (after_name [] (signs_of 0 items))
