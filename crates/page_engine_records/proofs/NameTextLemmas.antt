@@ -359,7 +359,8 @@ text_is_kept items cs is =
 abbrev AreCharacters : List Sign → Type 0
 AreCharacters signs = (cs : List ℕ) × (signs ≡ map character cs)
 
-font_signs : (font : Font) (place : Place) (cs : List ℕ) (items : List Item) → AreCharacters (signs_of 0 items) → AreCharacters (signs_of 0 (in_font font place cs ++ items))
+font_signs : (font : Font) (place : Place) (cs : List ℕ) (items : List Item) → AreCharacters (signs_of 0 items)
+    → AreCharacters (signs_of 0 (in_font font place cs ++ items))
 unfolding signs_of
 font_signs font place [] items h = h
 font_signs font place (c ∷ cs) items h =
@@ -373,4 +374,5 @@ pub tokens_signs : (place : Place) (fonts : Fonts) (tokens : List TextToken) →
 unfolding signs_of
 tokens_signs place fonts [] = ([], refl)
 tokens_signs place fonts (token ∷ tokens) =
-    font_signs fonts.font place (token_printed Ascii token) (tokens_items Ascii place (token_fonts token fonts) tokens) (tokens_signs place (token_fonts token fonts) tokens)
+    let after = token_fonts token fonts in
+    font_signs fonts.font place (token_printed Ascii token) (tokens_items Ascii place after tokens) (tokens_signs place after tokens)
