@@ -50,54 +50,52 @@ unfoldable pub use Rattle.page_roff_language.specs.Languages.{inner as u207, is_
 unfoldable pub use Rattle.page_roff_lines.specs.Characters.{is_second as u219, sequence_length as u220, high_character as u221, character as u222, high_later_length as u223, later_length as u224, characters_after as u225}
 unfoldable pub use Rattle.page_roff_lines.specs.Cutting.{encoding_after as u226, point_at as u227, next_point as u228, end_point as u229, line_at as u230, lines_within as u231, point_after as u232}
 unfoldable pub use Rattle.page_roff_lines.specs.Decoding.{characters_within as u233, bad_notes as u234, decode_line as u235, choice_of as u236}
-unfoldable pub use Rattle.page_roff_lines.specs.machine.Held.{extend as u237, shorten as u238}
-unfoldable pub use Rattle.page_roff_lines.specs.Limit.{line_limit as u239}
-unfoldable pub use Rattle.page_roff_lines.specs.Logical.{join_texts as u240, logical_lines as u241}
-unfoldable pub use Rattle.page_roff_lines.specs.machine.Open.{restart as u242, put as u243, put_plain as u244, pair_mode as u245, put_pair as u246, put_in as u247, close as u248, without_return as u249, newline_in as u250, put_newline as u251, mark_after as u252, ends_mark as u253, count_byte as u254, put_byte as u255, next_open as u256, end_in as u257, end_open as u258, if_whole as u259, whole_lines as u260, open_after as u261}
-unfoldable pub use Rattle.page_roff_lines.specs.Physical.{read as u262, read_pair as u263}
-unfoldable pub use Rattle.page_roff_names.specs.Names.{first_passed as u264}
-unfoldable pub use Rattle.page_roff_names.specs.Predefined.{predefined as u265}
-unfoldable pub use Rattle.page_roff_parts.specs.Parts.{content_len as u266, seen as u267, parts_up_to as u268, parts as u269, without_lone as u270}
-unfoldable pub use Rattle.page_roff_source.specs.Edges.{line_count as u271}
-unfoldable pub use Rattle.page_roff_source.specs.Given.{run_all as u272}
-unfoldable pub use Rattle.page_roff_syntax.specs.Arguments.{arguments as u273}
-unfoldable pub use Rattle.page_roff_syntax.specs.OpenRegions.{within_limit as u274, opened as u275}
-unfoldable pub use Rattle.page_roff_syntax.specs.RegionHeads.{region_head as u276, is_ending as u277}
-unfoldable pub use Rattle.page_roff_syntax.specs.Requests.{request_of as u278}
-unfoldable pub use Rattle.page_roff_values.specs.Arguments.{arguments_in as u279}
-unfoldable pub use Rattle.page_roff_values.specs.Values.{NEST as u280, seq as u281, put as u282, lay as u283, charge as u284, width as u285, interpolated as u286, call_at as u287, value as u288}
-unfoldable pub use Rattle.page_scopes.specs.Bodies.{coming as u289, stands as u290}
-unfoldable pub use Rattle.page_scopes_blocks.specs.Blocks.{block_opened as u291}
-unfoldable pub use Rattle.page_scopes_blocks.specs.Items.{item_opened as u292}
-unfoldable pub use Rattle.page_scopes_blocks.specs.NameHangs.{kind_counted as u293}
-unfoldable pub use Rattle.page_scopes_blocks.specs.OpenLists.{list_opened as u294}
-unfoldable pub use Rattle.page_scopes_leaves.specs.EventKinds.{kind_outcome as u295}
-unfoldable pub use Rattle.page_scopes_leaves.specs.Leaves.{leaf_outcome as u296}
-unfoldable pub use Rattle.page_scopes_leaves.specs.RawLines.{raw_line as u297}
-unfoldable pub use Rattle.page_scopes_nodes.specs.Begins.{begun_by as u298}
-unfoldable pub use Rattle.page_scopes_nodes.specs.Ends.{ended as u299}
-unfoldable pub use Rattle.page_scopes_nodes.specs.Openers.{opened as u300}
-unfoldable pub use Rattle.page_scopes_nodes.specs.Targets.{target_word as u301}
-unfoldable pub use Rattle.page_scopes_phrases.specs.Cells.{cells_within as u302}
-unfoldable pub use Rattle.page_scopes_phrases.specs.FunctionEnds.{function_end as u303}
-unfoldable pub use Rattle.page_scopes_phrases.specs.LineWords.{line_word as u304, generated_word as u305}
-unfoldable pub use Rattle.page_scopes_phrases.specs.ManualNames.{missing_name as u306, name_word as u307}
-unfoldable pub use Rattle.page_scopes_phrases.specs.Tags.{tag as u308, phrase_tag as u309}
-unfoldable pub use Rattle.page_scopes_text.specs.Widths.{named_width as u310, is_expression as u311}
-unfoldable pub use Rattle.page_scopes_tree.specs.Layouts.{settled as u312, edge as u313}
-unfoldable pub use Rattle.page_scopes_tree.specs.Placements.{opener_placement as u314, line_placement as u315, opener_skips as u316}
-unfoldable pub use Rattle.page_sets_lines.specs.Lists.{headed_kind as u317, headless_kind as u318, option_named as u319}
-unfoldable pub use Rattle.page_sets_lines.specs.PlainLines.{layout_request as u320}
-unfoldable pub use Rattle.page_sets_man.specs.Man.{man_events as u321}
-unfoldable pub use Rattle.page_sets_man.specs.Rows.{macro_row as u322}
-unfoldable pub use Rattle.page_sets_mdoc.specs.Mdoc.{mdoc_events as u323}
-unfoldable pub use Rattle.page_sets_mdoc_blocks.specs.Displays.{display_type as u324, font_named as u325}
-unfoldable pub use Rattle.page_sets_mdoc_lines.specs.Delimiters.{delimiter_of as u326}
-unfoldable pub use Rattle.page_sets_mdoc_lines.specs.LineWords.{word_delimiter as u327, word_call as u328, is_closing as u329, is_real as u330, takes_next as u331}
-unfoldable pub use Rattle.page_sets_mdoc_lines.specs.Rows.{row_of as u332}
-unfoldable pub use Rattle.page_sets_mdoc_words.specs.Printed.{is_opening as u333}
-unfoldable pub use Rattle.std.specs.Str.{is_utf8 as u334, chars as u335}
-unfoldable pub use Rattle.std.specs.Str.Lossy.{utf8_valid_len as u336}
-unfoldable pub use Rattle.std.specs.Fmt.{digits as u337}
-unfoldable pub use Rattle.unicode_width.specs.Width.{char_width as u338}
-unfoldable pub use lib.Utf8.{encode as u339}
+unfoldable pub use Rattle.page_roff_lines.specs.Limit.{line_limit as u237}
+unfoldable pub use Rattle.page_roff_lines.specs.Logical.{join_texts as u238, logical_lines as u239}
+unfoldable pub use Rattle.page_roff_lines.specs.Physical.{read as u240, read_pair as u241}
+unfoldable pub use Rattle.page_roff_names.specs.Names.{first_passed as u242}
+unfoldable pub use Rattle.page_roff_names.specs.Predefined.{predefined as u243}
+unfoldable pub use Rattle.page_roff_parts.specs.Parts.{content_len as u244, seen as u245, parts_up_to as u246, parts as u247, without_lone as u248}
+unfoldable pub use Rattle.page_roff_source.specs.Edges.{line_count as u249}
+unfoldable pub use Rattle.page_roff_source.specs.Given.{run_all as u250}
+unfoldable pub use Rattle.page_roff_syntax.specs.Arguments.{arguments as u251}
+unfoldable pub use Rattle.page_roff_syntax.specs.OpenRegions.{within_limit as u252, opened as u253}
+unfoldable pub use Rattle.page_roff_syntax.specs.RegionHeads.{region_head as u254, is_ending as u255}
+unfoldable pub use Rattle.page_roff_syntax.specs.Requests.{request_of as u256}
+unfoldable pub use Rattle.page_roff_values.specs.Arguments.{arguments_in as u257}
+unfoldable pub use Rattle.page_roff_values.specs.Values.{NEST as u258, seq as u259, put as u260, lay as u261, charge as u262, width as u263, interpolated as u264, call_at as u265, value as u266}
+unfoldable pub use Rattle.page_scopes.specs.Bodies.{coming as u267, stands as u268}
+unfoldable pub use Rattle.page_scopes_blocks.specs.Blocks.{block_opened as u269}
+unfoldable pub use Rattle.page_scopes_blocks.specs.Items.{item_opened as u270}
+unfoldable pub use Rattle.page_scopes_blocks.specs.NameHangs.{kind_counted as u271}
+unfoldable pub use Rattle.page_scopes_blocks.specs.OpenLists.{list_opened as u272}
+unfoldable pub use Rattle.page_scopes_leaves.specs.EventKinds.{kind_outcome as u273}
+unfoldable pub use Rattle.page_scopes_leaves.specs.Leaves.{leaf_outcome as u274}
+unfoldable pub use Rattle.page_scopes_leaves.specs.RawLines.{raw_line as u275}
+unfoldable pub use Rattle.page_scopes_nodes.specs.Begins.{begun_by as u276}
+unfoldable pub use Rattle.page_scopes_nodes.specs.Ends.{ended as u277}
+unfoldable pub use Rattle.page_scopes_nodes.specs.Openers.{opened as u278}
+unfoldable pub use Rattle.page_scopes_nodes.specs.Targets.{target_word as u279}
+unfoldable pub use Rattle.page_scopes_phrases.specs.Cells.{cells_within as u280}
+unfoldable pub use Rattle.page_scopes_phrases.specs.FunctionEnds.{function_end as u281}
+unfoldable pub use Rattle.page_scopes_phrases.specs.LineWords.{line_word as u282, generated_word as u283}
+unfoldable pub use Rattle.page_scopes_phrases.specs.ManualNames.{missing_name as u284, name_word as u285}
+unfoldable pub use Rattle.page_scopes_phrases.specs.Tags.{tag as u286, phrase_tag as u287}
+unfoldable pub use Rattle.page_scopes_text.specs.Widths.{named_width as u288, is_expression as u289}
+unfoldable pub use Rattle.page_scopes_tree.specs.Layouts.{settled as u290, edge as u291}
+unfoldable pub use Rattle.page_scopes_tree.specs.Placements.{opener_placement as u292, line_placement as u293, opener_skips as u294}
+unfoldable pub use Rattle.page_sets_lines.specs.Lists.{headed_kind as u295, headless_kind as u296, option_named as u297}
+unfoldable pub use Rattle.page_sets_lines.specs.PlainLines.{layout_request as u298}
+unfoldable pub use Rattle.page_sets_man.specs.Man.{man_events as u299}
+unfoldable pub use Rattle.page_sets_man.specs.Rows.{macro_row as u300}
+unfoldable pub use Rattle.page_sets_mdoc.specs.Mdoc.{mdoc_events as u301}
+unfoldable pub use Rattle.page_sets_mdoc_blocks.specs.Displays.{display_type as u302, font_named as u303}
+unfoldable pub use Rattle.page_sets_mdoc_lines.specs.Delimiters.{delimiter_of as u304}
+unfoldable pub use Rattle.page_sets_mdoc_lines.specs.LineWords.{word_delimiter as u305, word_call as u306, is_closing as u307, is_real as u308, takes_next as u309}
+unfoldable pub use Rattle.page_sets_mdoc_lines.specs.Rows.{row_of as u310}
+unfoldable pub use Rattle.page_sets_mdoc_words.specs.Printed.{is_opening as u311}
+unfoldable pub use Rattle.std.specs.Str.{is_utf8 as u312, chars as u313}
+unfoldable pub use Rattle.std.specs.Str.Lossy.{utf8_valid_len as u314}
+unfoldable pub use Rattle.std.specs.Fmt.{digits as u315}
+unfoldable pub use Rattle.unicode_width.specs.Width.{char_width as u316}
+unfoldable pub use lib.Utf8.{encode as u317}
