@@ -1,13 +1,21 @@
 //! Laws that bounds are no limits.
 
-ghost use Rattle.std.specs.Prelude.{◌≡◌, ◌≢◌, ◌++◌, ℕ, Bool, List, [], ◌∷◌, None, false, drop, encode_utf8};
+ghost use Rattle.std.specs.Prelude.{◌≡◌, ◌≢◌, ◌++◌, ℕ, ℤ, Bool, List, [], ◌∷◌, None, MatchOption, false, drop, encode_utf8, if◌then◌else◌};
 ghost use Rattle.std.specs.Str.{IsUtf8};
 ghost use Rattle.page_core_base.specs.declared.page_settings.Output.{Output};
 ghost use Rattle.page_core_escapes.specs.Escapes.{escape_of};
 ghost use Rattle.page_core_escapes.specs.Lengths.{content_len};
 ghost use Rattle.page_core_numbers.specs.Columns.{printed_escape, printed_text};
+ghost use Rattle.page_core_numbers.specs.Expressions.{Read, after_operation, expression_within, first, next_operator};
+ghost use Rattle.page_core_numbers.specs.declared.scales.Scale.{Scale as AnyScale};
 ghost use Rattle.page_core_tables.specs.Printed.{char_printed};
+ghost use Rattle.page_scopes_layout.specs.declared.contexts.Context.{Context as AnyContext};
+ghost use Rattle.page_scopes_phrases.specs.Cells.{cell, cells, first_part, has_tab, other_cells, span};
+ghost use Rattle.page_scopes_phrases.specs.Outcomes.{followed_by};
+ghost use Rattle.page_scopes_phrases.specs.declared.phrases.Phrase.{Phrase as AnyPhrase};
+ghost use Rattle.page_scopes_phrases.specs.declared.runnings.Running.{Running as AnyRunning};
 ghost use Rattle.page_bounds.specs.Contents.{content_from};
+ghost use Rattle.page_bounds.specs.Operations.{done, operand_of};
 
 /// The content of a quoted argument ends where what is first in it says, or where the rest says: the number of steps in its definition is no limit
 /// (roff(7), "Escape sequences").
@@ -26,4 +34,23 @@ pub fn printed_law()
     ensures escape { (output : Output) (rest : List ℕ) → IsUtf8 (92 ∷ rest)
         → printed_text output (92 ∷ rest) ≡ printed_escape output (escape_of false (92 ∷ rest)).0
         ++ printed_text output (drop (escape_of false (92 ∷ rest)).1 (92 ∷ rest)) }
+{}
+
+/// The operations of an expression go on as long as an operator follows: the number of steps in their definition is no limit (roff(7), "Numerical
+/// expressions"). `room` parentheses more may be open.
+pub fn operations_law()
+    ensures first { (room : ℕ) (scale : AnyScale) (text : List ℕ)
+        → expression_within room scale text ≡ done room scale (first (operand_of room scale text)) }
+    ensures next { (room : ℕ) (scale : AnyScale) (so_far : Read ℤ) → MatchOption (next_operator so_far.ends so_far.rest)
+        (done room scale so_far ≡ so_far)
+        (λ found. done room scale so_far ≡ done room scale (after_operation so_far found.0 (operand_of room scale found.1))) }
+{}
+
+/// A text in the columns of a list is its first cell, and then the cells after its first tab, where it has one: the number of steps in its definition is no
+/// limit (mdoc(7), `Bl -column`).
+pub fn cells_law()
+    ensures { (line : ℕ) (phrase : AnyPhrase (List ℕ)) (context : AnyContext) (running : AnyRunning) → cells line phrase context running
+        ≡ (if has_tab phrase
+        then followed_by (first_part (span phrase) line phrase context running) (cells line (other_cells (span phrase) phrase))
+        else cell line phrase context running) }
 {}
