@@ -1,3 +1,4 @@
 pub mod PrintedLemmas
 pub mod OperationLemmas
 pub mod CellLemmas
+pub mod RoomLemmas

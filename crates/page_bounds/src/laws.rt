@@ -1,6 +1,6 @@
-//! Laws that bounds are no limits.
+//! Laws that bounds are no limits: of the steps that a definition counts, and of the room that a name or a count has.
 
-ghost use Rattle.std.specs.Prelude.{◌≡◌, ◌≢◌, ◌++◌, ℕ, ℤ, Bool, List, [], ◌∷◌, None, MatchOption, false, drop, encode_utf8, if◌then◌else◌};
+ghost use Rattle.std.specs.Prelude.{◌≡◌, ◌≢◌, ◌≤◌, ◌<◌, ◌+◌, ◌-◌, ◌^◌, ◌++◌, ℕ, ℤ, Bool, List, [], ◌∷◌, None, MatchOption, false, length, drop, encode_utf8, if◌then◌else◌};
 ghost use Rattle.std.specs.Str.{IsUtf8};
 ghost use Rattle.page_core_base.specs.declared.page_settings.Output.{Output};
 ghost use Rattle.page_core_escapes.specs.Escapes.{escape_of};
@@ -9,6 +9,12 @@ ghost use Rattle.page_core_numbers.specs.Columns.{printed_escape, printed_text};
 ghost use Rattle.page_core_numbers.specs.Expressions.{Read, after_operation, expression_within, first, next_operator};
 ghost use Rattle.page_core_numbers.specs.declared.scales.Scale.{Scale as AnyScale};
 ghost use Rattle.page_core_tables.specs.Printed.{char_printed};
+ghost use Rattle.page_core_base.specs.Limits.{NAME};
+ghost use Rattle.page_roff_effects.specs.States.{sum_of_counts};
+ghost use Rattle.page_roff_source.specs.Edges.{SourceLine, first_edge};
+ghost use Rattle.page_roff_source.specs.Given.{done as done_lines};
+ghost use Rattle.page_roff_syntax.specs.Arguments.{argument_name, argument_value};
+ghost use Rattle.page_roff_syntax.specs.declared.quotes.Argument.{Argument as AnyArgument};
 ghost use Rattle.page_scopes_layout.specs.declared.contexts.Context.{Context as AnyContext};
 ghost use Rattle.page_scopes_phrases.specs.Cells.{cell, cells, first_part, has_tab, other_cells, span};
 ghost use Rattle.page_scopes_phrases.specs.Outcomes.{followed_by};
@@ -53,4 +59,20 @@ pub fn cells_law()
         ≡ (if has_tab phrase
         then followed_by (first_part (span phrase) line phrase context running) (cells line (other_cells (span phrase) phrase))
         else cell line phrase context running) }
+{}
+
+/// A name within its limit is all that its argument says, and one above it stays above it: the room of a name leaves nothing out that makes a difference
+/// (roff(7), "ds", "nr", "de").
+pub fn names_law()
+    ensures short { (argument : AnyArgument (List ℕ)) → length (argument_value argument) ≤ NAME
+        → argument_name argument ≡ argument_value argument }
+    ensures long { (argument : AnyArgument (List ℕ)) → NAME < length (argument_value argument)
+        → NAME < length (argument_name argument) }
+{}
+
+/// The count of interpolations in a page never comes to the greatest number of 64 bits, and below that a sum of counts is the plain sum.
+pub fn expansions_law()
+    ensures sum { (a b : ℕ) → a < 2 ^ 64 → sum_of_counts a b < 2 ^ 64 - 1 → sum_of_counts a b ≡ a + b }
+    ensures page { (output : Output) (lines : List SourceLine) → length lines ≤ 2 ^ 31
+        → (done_lines (first_edge output) lines).memory.expansions < 2 ^ 64 - 1 }
 {}

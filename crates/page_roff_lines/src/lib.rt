@@ -5,7 +5,8 @@
 //!
 //! Proved: `Cutter::new`, `feed`, `end`, `line`: in whatever chunks the bytes of a page come, the lines are those of `lines` (`specs/Decoding.antt`);
 //! those of the bytes so far come first in the page, whatever follows (`IsFed` in `specs/Cutting.antt`). `one_by_one_law`, `cut_law`, `held_law`:
-//! this definition agrees with the step from point to point, a page may be cut anywhere, and an open line holds at most its limit.
+//! this definition agrees with the step from point to point, a page may be cut anywhere, and an open line holds at most its limit. `whole_law`: what is
+//! whole at a point is said by lists of lines alone (`specs/Whole.antt`).
 #![tactic(auto)]
 
 mod characters;
