@@ -1,12 +1,14 @@
 //! Words, breaks and tags: what is held between two pieces.
 
 ghost use Rattle.std.specs.Prelude.{◌≡◌, ◌≤◌, ◌==◌, length, Some, true, false, []};
+ghost use Rattle.std.specs.List.{list_all};
 ghost use Rattle.std.specs.Str.{chars};
 ghost use Rattle.page_core_base.specs.Laid.{nothing};
 ghost use Rattle.page_core_base.specs.Latches.{CameRows, LaysOut};
 ghost use Rattle.page_core_base.specs.declared.cells.Font.TheVariants.{R};
 ghost use Rattle.page_core_base.specs.declared.places.Place.{Place};
 ghost use Rattle.page_fill_rows.specs.Characters.{characters_of};
+ghost use Rattle.page_fill_rows.specs.machine.BlankRuns.{is_blank_byte};
 ghost use Rattle.page_fill_rows.specs.machine.Plain as plain;
 ghost use Rattle.page_fill.specs.Caps.{is_sound};
 ghost use Rattle.page_fill.specs.Edges.{counted_tag};
@@ -18,8 +20,8 @@ use crate::taken_words::whole_words;
 use crate::{HANG_MAX, TAB_STOP};
 use page_core_base::{Cell, Font, Note, NoteKind, Output, Place, RowOut, TagForm, last_part_start};
 use page_fill_rows::{
-    OpenRow, is_printable_ascii, printable_len, put_character, put_characters, put_glyph,
-    put_plain, word_start,
+    OpenRow, is_long_run, is_printable_ascii, printable_len, put_character, put_characters,
+    put_glyph, put_plain, word_start,
 };
 
 /// The open word, and what waits before the next one.
@@ -292,10 +294,18 @@ impl Edge {
         }
     }
 
-    // Takes a plain text.
+    // Takes a plain text, which may be known to be blanks alone.
     #[tactic(auto, unfolding(crate::specs::machine::Fill::text))]
-    fn plain<O: RowOut>(&mut self, bytes: &[u8], font: Font, place: Place, out: &mut O)
-        requires { plain.is_printable_ascii bytes.now ≡ true }
+    fn plain<O: RowOut>(
+        &mut self,
+        bytes: &[u8],
+        is_blank: bool,
+        font: Font,
+        place: Place,
+        out: &mut O,
+    )
+        requires plain { plain.is_printable_ascii bytes.now ≡ true }
+        requires blanks { is_blank ≡ true → list_all is_blank_byte bytes.now ≡ true }
         ensures { LaysOut O.left out.old (fill.text self.old bytes.now font place) out.new self.new }
     {
         if bytes.is_empty() {
@@ -303,12 +313,12 @@ impl Edge {
             return;
         }
         if self.wraps_word(bytes.len()) {
-            self.sheet.wrap_plain(bytes, font, out);
+            self.sheet.wrap_plain(bytes, is_blank, font, out);
             self.word = OpenWord::begun(false);
             return;
         }
         self.open_word(place, out);
-        put_plain(&mut self.sheet, bytes, font, place, out);
+        put_plain(&mut self.sheet, bytes, is_blank, font, place, out);
     }
 
     /// Takes bytes that are a text.
@@ -316,8 +326,11 @@ impl Edge {
         ensures { LaysOut O.left out.old (fill.text self.old
             (characters_of bytes.now) font place) out.new self.new }
     {
+        if is_long_run(bytes) {
+            return self.plain(bytes, true, font, place, out);
+        }
         if is_printable_ascii(bytes) {
-            return self.plain(bytes, font, place, out);
+            return self.plain(bytes, false, font, place, out);
         }
         match str::from_utf8(bytes) {
             Ok(text) => self.text(text, font, place, out),

@@ -1,10 +1,11 @@
 -- Places of a row that are known to have blanks.
-use Rattle.std.proofs.Common.{◌≡◌, ℕ, zero, suc, ◌+◌, ◌-◌, ◌<◌, ◌≤◌, max, nat_lt, true, List, [], ◌∷◌, ◌++◌, length, take, get_or, replicate, set, append_assoc, append-nil, add-one, inl, inr, refl, sym, ap, ◌∙◌, arith}
+use Rattle.std.proofs.Common.{◌≡◌, ℕ, zero, suc, ◌+◌, ◌-◌, ◌<◌, ◌≤◌, max, nat_lt, Bool, true, ◌&&◌, List, [], ◌∷◌, ◌++◌, length, take, drop, get_or, replicate, set, append_assoc, append-nil, add-one, inl, inr, refl, sym, ap, ◌∙◌, arith}
 use Rattle.std.specs.List.{list_all}
 use Rattle.std.proofs.Math.Nat.{le-max_left, le-max_right}
 use Rattle.std.proofs.lemmas.Bool.{cases_Bool}
 use Rattle.std.proofs.lemmas.Bool.Decides.{nat_tests}
-use Rattle.std.proofs.lemmas.List.{get_or-take, get_or-append_right, get_or-replicate, get_or-set_other, length-take-le, replicate-append-replicate, take-take, take_more}
+use Rattle.std.proofs.lemmas.List.{get_or-take, get_or-append_right, get_or-replicate, get_or-set_other, length-take-le, replicate-append-replicate, take-append-drop, take-take, take_more}
+use Rattle.std.proofs.lemmas.List.Folds.{list_all-append}
 use Rattle.page_core_base.specs.declared.cells.Cell.{Cell}
 use Rattle.page_core_base.specs.declared.cells.Font.{Font}
 use Rattle.page_core_base.specs.Rows.{is_blank_row, row_of}
@@ -30,6 +31,19 @@ blanks-cells font (b ∷ bytes) all =
 pub blanks-plain : (bytes : List ℕ) → list_all is_blank_byte bytes ≡ true → is_printable_ascii bytes ≡ true
 blanks-plain [] all = refl
 blanks-plain (b ∷ bytes) all = rw (first-blank b bytes all, blanks-plain bytes (rest-blanks b bytes all)) refl
+
+-- those before a place and those after it
+pub parts-blank : (is_blank : Bool) (n : ℕ) (bytes : List ℕ) → (is_blank ≡ true → list_all is_blank_byte bytes ≡ true)
+    → (is_blank ≡ true → list_all is_blank_byte (take n bytes) ≡ true) × (is_blank ≡ true → list_all is_blank_byte (drop n bytes) ≡ true)
+parts-blank is_blank n bytes all = ((λ is. front (all is)), (λ is. back (all is))) where
+  both : (list_all is_blank_byte (take n bytes) && list_all is_blank_byte (drop n bytes)) ≡ list_all is_blank_byte bytes
+  both = sym (list_all-append is_blank_byte (take n bytes) (drop n bytes)) ∙ ap (list_all is_blank_byte) (take-append-drop n bytes)
+
+  front : list_all is_blank_byte bytes ≡ true → list_all is_blank_byte (take n bytes) ≡ true
+  front is = grind (arith, both, is)
+
+  back : list_all is_blank_byte bytes ≡ true → list_all is_blank_byte (drop n bytes) ≡ true
+  back is = grind (arith, both, is)
 
 -- ---- places
 

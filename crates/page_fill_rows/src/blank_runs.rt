@@ -1,14 +1,18 @@
 //! Places of a row that are known to have blanks, so that blanks that come again cost nothing.
 
-ghost use Rattle.std.specs.Prelude.{◌≡◌, ◌≤◌, List, set, take, true, max};
+ghost use Rattle.std.specs.Prelude.{◌≡◌, ◌<◌, ◌≤◌, List, length, set, take, true, max};
 ghost use Rattle.std.specs.List.{list_all};
 ghost use Rattle.page_core_base.specs.declared.cells.Cell.{Cell};
 ghost use Rattle.page_fill_rows.specs.machine.BlankRuns.{HasRun, is_blank_byte};
+ghost use Rattle.page_fill_rows.specs.machine.Plain.{is_printable_ascii};
 
 use page_core_base::{Cell, Font};
 
 // The bytes of a text that no word has, of which most are blanks if the first one is.
 const LONG: usize = 64;
+
+// The bytes of a text that is read in groups of as many.
+const LONGER: usize = 128;
 
 /// Places of a row that are known to have blanks in one font: those from a start up to an end.
 #[derive(Clone, Copy)]
@@ -100,6 +104,7 @@ impl BlankRun {
 }
 
 // Whether all bytes are blanks. All of them are read, so that the compiler can test many at once.
+#[inline(always)]
 fn are_blanks(bytes: &[u8]) -> bool
     ensures { result ≡ list_all is_blank_byte bytes.now }
 {
@@ -110,10 +115,42 @@ fn are_blanks(bytes: &[u8]) -> bool
     all
 }
 
+// The same, in groups of one size, for which the compiler needs no loop. The last group may overlap the one before.
+#[inline(always)]
+fn groups_blank<const GROUP: usize>(bytes: &[u8]) -> bool
+    requires some { 0 < GROUP }
+    requires long { GROUP ≤ length bytes.now }
+    ensures { result ≡ list_all is_blank_byte bytes.now }
+{
+    let last = bytes.len() - GROUP;
+    let mut at = 0;
+    while at < last {
+        if !are_blanks(&bytes[at..at + GROUP]) {
+            return false;
+        }
+        at += GROUP;
+    }
+    are_blanks(&bytes[last..])
+}
+
+// The same of a long text, in the largest groups that have room in it. It is a call, so that what asks stays small.
+#[inline(never)]
+fn are_long_blanks(bytes: &[u8]) -> bool
+    requires { LONG ≤ length bytes.now }
+    ensures { result ≡ list_all is_blank_byte bytes.now }
+{
+    if bytes.len() < LONGER {
+        groups_blank::<64>(bytes)
+    } else {
+        groups_blank::<128>(bytes)
+    }
+}
+
 /// Whether a text is so long that its blanks are worth a look, and all of its bytes are blanks.
 #[inline(always)]
-pub(crate) fn is_long_run(bytes: &[u8]) -> bool
-    ensures { result ≡ true → list_all is_blank_byte bytes.now ≡ true }
+pub fn is_long_run(bytes: &[u8]) -> bool
+    ensures blanks { result ≡ true → list_all is_blank_byte bytes.now ≡ true }
+    ensures printable { result ≡ true → is_printable_ascii bytes.now ≡ true }
 {
-    bytes.len() >= LONG && bytes[0] == b' ' && are_blanks(bytes)
+    bytes.len() >= LONG && bytes[0] == b' ' && are_long_blanks(bytes)
 }

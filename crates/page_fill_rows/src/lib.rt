@@ -32,6 +32,7 @@ pub fn constants_law()
     ensures { (TAG_COLUMNS ≡ rows.TAG_COLUMNS) × (BLANK_ROWS ≡ rows.BLANK_ROWS) }
 {}
 
+pub use blank_runs::is_long_run;
 pub use cell_widths::columns;
 pub use characters::{is_printable_ascii, put_character, put_characters, put_glyph, put_plain};
 pub use laws::plain_law;

@@ -1,11 +1,13 @@
 //! The open row, cell by cell.
 
 ghost use Rattle.std.specs.Prelude.{◌≡◌, ◌+◌, ◌-◌, ◌<◌, ◌≤◌, ◌==◌, [], ◌∷◌, ◌++◌, length, take, drop, replicate, IfOk, true, false, if◌then◌else◌};
+ghost use Rattle.std.specs.List.{list_all};
 ghost use Rattle.page_core_base.specs.Latches.{CameRows, LaysOut};
 ghost use Rattle.page_core_base.specs.Messages.{message_of};
 ghost use Rattle.page_core_base.specs.Rows.{row_of};
 ghost use Rattle.page_fill_rows.specs.Characters as shown;
 ghost use Rattle.page_fill_rows.specs.OpenRows.{IsHeld};
+ghost use Rattle.page_fill_rows.specs.machine.BlankRuns.{is_blank_byte};
 ghost use Rattle.page_fill_rows.specs.machine.Plain as plain;
 ghost use Rattle.page_fill_rows.specs.machine.Sheets as sheet;
 
@@ -448,9 +450,10 @@ impl OpenRow {
         }
     }
 
-    /// The row ends, and a word of bytes, printable ASCII that fits a row, begins the next one.
-    pub fn wrap_plain<O: RowOut>(&mut self, bytes: &[u8], font: Font, out: &mut O)
+    /// The row ends, and a word of bytes, printable ASCII that fits a row and may be known to be blanks alone, begins the next one.
+    pub fn wrap_plain<O: RowOut>(&mut self, bytes: &[u8], is_blank: bool, font: Font, out: &mut O)
         requires plain { plain.is_printable_ascii bytes.now ≡ true }
+        requires blanks { is_blank ≡ true → list_all is_blank_byte bytes.now ≡ true }
         requires room { length bytes.now ≤ CELLS }
         ensures { LaysOut O.left out.old
             (plain.wraps_plain self.old (shown.cells_of font bytes.now)) out.new self.new }
@@ -459,7 +462,7 @@ impl OpenRow {
         let end = self.row.len();
         self.give(end, out);
         self.empty();
-        self.add_plain(bytes, font);
+        self.add_plain(bytes, is_blank, font);
     }
 
     /// The row, which has a cell and room, takes blanks and after them a word of bytes, if these are printable ASCII; says whether they are.
@@ -544,16 +547,17 @@ impl OpenRow {
         }
     }
 
-    /// The row takes cells of bytes that are a column each.
-    pub(crate) fn add_plain(&mut self, bytes: &[u8], font: Font)
+    /// The row takes cells of bytes that are a column each, and may be known to be blanks alone.
+    pub(crate) fn add_plain(&mut self, bytes: &[u8], is_blank: bool, font: Font)
         requires plain { plain.is_printable_ascii bytes.now ≡ true }
+        requires blanks { is_blank ≡ true → list_all is_blank_byte bytes.now ≡ true }
         requires room { length self.old.cells + length bytes.now ≤ CELLS }
         ensures { self.new ≡ plain.taken self.old (shown.cells_of font bytes.now) }
     {
         if self.row.is_empty() {
             self.open_row();
         }
-        self.row.add_plain(bytes, font);
+        self.row.add_plain(bytes, is_blank, font);
         let count = bytes.len() as u32;
         self.columns += count;
         self.tag_columns = self.tag_columns.saturating_add(count).min(TAG_COLUMNS);

@@ -159,13 +159,14 @@ impl RowCells {
         self.len = end;
     }
 
-    /// Appends a cell of each byte.
-    pub(crate) fn add_plain(&mut self, bytes: &[u8], font: Font)
+    /// Appends a cell of each byte, which may be known to be blanks alone.
+    pub(crate) fn add_plain(&mut self, bytes: &[u8], is_blank: bool, font: Font)
         requires plain { plain.is_printable_ascii bytes.now ≡ true }
+        requires blanks { is_blank ≡ true → list_all is_blank_byte bytes.now ≡ true }
         requires room { length self.old + length bytes.now ≤ CELLS }
         ensures { self.new ≡ self.old ++ shown.cells_of font bytes.now }
     {
-        if is_long_run(bytes) {
+        if is_blank || is_long_run(bytes) {
             return self.add_blanks(bytes, font);
         }
         let end = self.len + bytes.len();

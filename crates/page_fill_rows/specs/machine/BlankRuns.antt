@@ -1,4 +1,4 @@
--- A machine, which no public clause cites: places of a row that are known to have blanks in one font.
+-- A machine: texts that are known to be blanks, and places of a row that are known to have blanks in one font.
 use Rattle.std.specs.Prelude.{◌≡◌, ℕ, ◌<◌, ◌≤◌, ◌==◌, Bool, List, get_or}
 use Rattle.page_core_base.specs.declared.cells.Cell.{Cell}
 use Rattle.page_core_base.specs.declared.cells.Font.{Font}

@@ -4,8 +4,11 @@ use Rattle.page_fill_rows.proofs.CharacterLemmas.{characters_of-text, characters
 use Rattle.page_fill_rows.proofs.PlainLemmas.{characters_of-plain}
 use Rattle.page_fill.proofs.edges.Edge.bytes.Goals as goal
 
+pub returns-then-is_long_run : goal.returns-then-is_long_run
+returns-then-is_long_run g c = rw (characters_of-plain c.args.bytes.now (c.is_long_run.ensures.printable c.if-is_long_run.true)) c.plain.ensures
+
 pub returns-then-is_printable_ascii : goal.returns-then-is_printable_ascii
-returns-then-is_printable_ascii g c = rw (characters_of-plain c.args.bytes.now (sym c.is_printable_ascii.ensures ∙ c.if-is_printable_ascii.true)) c.plain.ensures
+returns-then-is_printable_ascii g c = rw (characters_of-plain c.args.bytes.now (sym c.is_printable_ascii.ensures ∙ c.if-is_printable_ascii.true)) c.plain-then-is_printable_ascii.ensures
 
 pub returns-in-Ok : goal.returns-in-Ok
 returns-in-Ok g c = rw (characters_of-text c.args.bytes.now c.in-Ok.ensures.cases.1, ← c.in-Ok.ensures.cases.0) c.text.ensures
