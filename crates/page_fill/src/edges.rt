@@ -326,11 +326,9 @@ impl Edge {
         ensures { LaysOut O.left out.old (fill.text self.old
             (characters_of bytes.now) font place) out.new self.new }
     {
-        if is_long_run(bytes) {
-            return self.plain(bytes, true, font, place, out);
-        }
-        if is_printable_ascii(bytes) {
-            return self.plain(bytes, false, font, place, out);
+        let is_blank = is_long_run(bytes);
+        if is_blank || is_printable_ascii(bytes) {
+            return self.plain(bytes, is_blank, font, place, out);
         }
         match str::from_utf8(bytes) {
             Ok(text) => self.text(text, font, place, out),
