@@ -15,7 +15,7 @@ use page_roff_syntax::Argument;
 use page_scopes_blocks::count_name;
 use page_scopes_layout::{Context, give_margins};
 use page_scopes_leaves::give_kind;
-use page_scopes_phrases::{KeptText, Running, argument_word, give_line_word};
+use page_scopes_phrases::{ManualName, Running, argument_word, give_line_word};
 use page_scopes_text::give_number;
 use page_scopes_tree::Act;
 use page_scopes_words::report;
@@ -178,7 +178,7 @@ fn give_kind_standing<O: PieceOut>(
     out: &mut O,
     place: Place,
     kind: &EventKind<&[u8]>,
-    name: &mut Option<KeptText>,
+    name: &mut Option<ManualName>,
     has_begun: bool,
     context: &mut Context,
     running: &mut Running,
@@ -207,7 +207,7 @@ pub(crate) fn give_standing<O: PieceOut>(
     out: &mut O,
     output: Output,
     act: &Act<&Event<&[u8]>>,
-    name: &mut Option<KeptText>,
+    name: &mut Option<ManualName>,
     has_begun: bool,
     context: &mut Context,
     running: &mut Running,

@@ -12,7 +12,7 @@ use page_roff_syntax::Argument;
 use page_scopes_labels::Label;
 use page_scopes_layout::Context;
 use page_scopes_nodes::{PageLayout, give_begun, give_ended};
-use page_scopes_phrases::{KeptText, Running};
+use page_scopes_phrases::{KeptText, ManualName, Running};
 use page_scopes_tree::{Act, Renderer, Scope};
 use page_sets_lines::{Event, EventKind, Opener};
 
@@ -25,7 +25,7 @@ pub struct LayoutState {
     /// The body of the page has begun.
     pub has_begun: bool,
     /// The name of the manual, which `Nm` gives.
-    pub name: Option<KeptText>,
+    pub name: Option<ManualName>,
 }
 
 /// What a scope keeps: the context before it, and the target of a link.
@@ -41,6 +41,16 @@ fn text_copy(text: &Option<KeptText>) -> Option<KeptText>
 {
     match text {
         Some(text) => Some(text.copy()),
+        None => None,
+    }
+}
+
+// The same name, if there is one.
+fn name_copy(name: &Option<ManualName>) -> Option<ManualName>
+    ensures { result ≡ name.now }
+{
+    match name {
+        Some(name) => Some(name.copy()),
         None => None,
     }
 }
@@ -67,7 +77,7 @@ impl LayoutState {
             context: self.context,
             running: self.running,
             has_begun: self.has_begun,
-            name: text_copy(&self.name),
+            name: name_copy(&self.name),
         }
     }
 

@@ -8,7 +8,7 @@ ghost use Rattle.page_sets_lines.specs.Events.{kind_view, word_view};
 
 use page_core_base::Output;
 use page_scopes_layout::MARGIN;
-use page_scopes_phrases::{KeptText, Running};
+use page_scopes_phrases::{ManualName, Running};
 use page_scopes_text::name_columns;
 use page_sets_lines::{EventKind, Leaf, LineStep, Role, Word};
 
@@ -43,12 +43,12 @@ fn count_word(output: Output, word: &Word<&[u8]>, so_far: u16, running: &mut Run
 
 // Counts the name of the manual.
 #[inline(never)]
-fn count_manual_name(output: Output, name: &Option<KeptText>, so_far: u16, running: &mut Running)
+fn count_manual_name(output: Output, name: &Option<ManualName>, so_far: u16, running: &mut Running)
     ensures { running.new ≡ hangs.counted (Some so_far) (hangs.manual_columns output name.now) running.old }
 {
     match name {
         Some(name) => count(
-            name_columns(output, false, name.text.text()),
+            name_columns(output, false, name.kept().text.text()),
             so_far,
             running,
         ),
@@ -63,7 +63,7 @@ fn count_manual_name(output: Output, name: &Option<KeptText>, so_far: u16, runni
 pub fn count_name(
     output: Output,
     kind: &EventKind<&[u8]>,
-    name: &Option<KeptText>,
+    name: &Option<ManualName>,
     running: &mut Running,
 )
     requires { KindFits (kind_view kind.now) }

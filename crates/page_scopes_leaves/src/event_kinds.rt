@@ -9,7 +9,7 @@ ghost use Rattle.page_sets_lines.specs.Events.{kind_view};
 use crate::{end_line, give_leaf, give_raw_line};
 use page_core_base::{PieceOut, Place};
 use page_scopes_layout::Context;
-use page_scopes_phrases::{KeptText, Running, give_line_word, keep_name};
+use page_scopes_phrases::{ManualName, Running, give_line_word, keep_name};
 use page_scopes_words::report_part;
 use page_sets_lines::EventKind;
 
@@ -20,7 +20,7 @@ pub fn give_kind<O: PieceOut>(
     out: &mut O,
     place: Place,
     kind: &EventKind<&[u8]>,
-    name: &mut Option<KeptText>,
+    name: &mut Option<ManualName>,
     context: &mut Context,
     running: &mut Running,
 )

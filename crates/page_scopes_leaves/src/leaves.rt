@@ -12,7 +12,9 @@ use crate::requests::{give_given_rows, give_literal, give_request};
 use crate::steps::give_step;
 use page_core_base::{Font, NoteKind, Piece, PieceOut, Place};
 use page_scopes_layout::Context;
-use page_scopes_phrases::{KeptText, Running, give_generated_word, give_white_columns, in_columns};
+use page_scopes_phrases::{
+    ManualName, Running, give_generated_word, give_white_columns, in_columns,
+};
 use page_scopes_words::{Setting, give_white_cells, has_tab, report};
 use page_sets_lines::Leaf;
 
@@ -117,7 +119,7 @@ pub fn give_leaf<O: PieceOut>(
     out: &mut O,
     place: Place,
     leaf: &Leaf<&[u8]>,
-    name: &Option<KeptText>,
+    name: &Option<ManualName>,
     context: &mut Context,
     running: &mut Running,
 )

@@ -10,7 +10,7 @@ use crate::margins::give_row_margins;
 use page_core_base::{NoteKind, Piece, PieceOut, Place};
 use page_scopes_layout::{Context, SeriesSoFar, give_margins, in_synopsis};
 use page_scopes_phrases::{
-    KeptText, Running, argument_word, blanks_part, give_column_step, give_function_end,
+    ManualName, Running, argument_word, blanks_part, give_column_step, give_function_end,
     give_generated_word, give_line_word, give_manual_name, joined_gap,
 };
 use page_scopes_words::{Setting, report};
@@ -183,7 +183,7 @@ pub(crate) fn give_step<O: PieceOut>(
     out: &mut O,
     place: Place,
     step: &LineStep<&[u8]>,
-    name: &Option<KeptText>,
+    name: &Option<ManualName>,
     context: &mut Context,
     running: &mut Running,
 )

@@ -1,1 +1,2 @@
 pub mod CellLemmas
+pub mod NameLemmas

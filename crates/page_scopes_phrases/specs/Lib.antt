@@ -7,3 +7,4 @@ pub mod KeptTexts
 pub mod ManualNames
 pub mod Tags
 pub mod FunctionEnds
+pub mod machine

@@ -2,16 +2,19 @@
 
 ghost use Rattle.std.specs.Prelude.{◌≡◌, ◌≤◌, ◌<◌, length, false};
 ghost use Rattle.page_core_base.specs.Latches.{Came};
-ghost use Rattle.page_core_escapes.specs.Tokens.{token_view, tokens_of};
+ghost use Rattle.page_core_escapes.specs.Tokens.{token_at, token_view, tokens_of};
 ghost use Rattle.page_core_base.specs.declared.limits.TheConstants.{FIELD};
 ghost use Rattle.page_roff_syntax.specs.Arguments.{argument_view};
 ghost use Rattle.page_scopes_phrases.specs.KeptTexts as kept;
+ghost use Rattle.page_scopes_phrases.specs.machine.NameParts as names;
+ghost use Rattle.page_scopes_text.specs.Words as texts;
 
-use crate::{KeptText, Running};
+use crate::kept_names::NamePart;
+use crate::{KeptText, ManualName, Running};
 use page_core_base::{FIELD, Font, LINE, Limit, NoteKind, Piece, PieceOut, Place};
-use page_core_escapes::{Token, Tokens};
+use page_core_escapes::{Token, Tokens, read_token};
 use page_roff_syntax::Argument;
-use page_scopes_text::{fonts_after, give_blank_cells, give_token, token_prints};
+use page_scopes_text::{fonts_after, give_blank_cells, give_blank_text, give_token, token_prints};
 use page_scopes_words::{Fonts, Setting, give_white_cells, has_tab, report};
 
 /// Reports at a place that what an argument says is not kept whole.
@@ -106,8 +109,8 @@ fn part_prints(is_literal: bool, token: &Token<'_>) -> bool
     }
 }
 
-// Whether a text prints a cell.
-fn prints_cell(is_literal: bool, text: &[u8]) -> bool
+/// Whether a text prints a cell.
+pub(crate) fn prints_cell(is_literal: bool, text: &[u8]) -> bool
     requires { length text.now ≤ LINE }
     ensures { result ≡ kept.prints_cell is_literal (tokens_of false text.now) }
 {
@@ -118,13 +121,6 @@ fn prints_cell(is_literal: bool, text: &[u8]) -> bool
         }
     }
     false
-}
-
-/// Whether a kept text prints a cell.
-pub(crate) fn kept_prints_cell(is_literal: bool, text: &KeptText) -> bool
-    ensures { result ≡ kept.prints_cell is_literal (kept.kept_tokens text.now) }
-{
-    prints_cell(is_literal, text.text.text())
 }
 
 /// Gives what a kept text prints without its messages, all at one place; white space at its front is this many blanks. The fonts
@@ -142,6 +138,70 @@ pub fn give_kept<O: PieceOut>(
     ensures fonts { result ≡ kept.fonts_through start (kept.kept_tokens text.now) }
 {
     give_parts(out, is_literal, front, place, start, text.text.text())
+}
+
+// Gives the token at the front of a text, of which a part says what is known; the fonts after it.
+#[inline(always)]
+fn give_known<O: PieceOut>(
+    out: &mut O,
+    is_literal: bool,
+    gap: u32,
+    place: Place,
+    fonts: Setting<Fonts>,
+    text: &[u8],
+    part: NamePart,
+) -> Setting<Fonts>
+    requires within { length text.now ≤ LINE }
+    requires known { part ≡ names.part_of (token_at false text.now) }
+    ensures came { Came O.left out.old (kept.part_items is_literal gap place fonts.value.font (token_at false text.now)) out.new }
+    ensures fonts { result ≡ texts.fonts_after (token_at false text.now) fonts }
+{
+    if let Some(count) = part.blanks {
+        give_blank_text(out, u32::from(count), fonts.value.font, place);
+        return fonts;
+    }
+    let token = read_token(false, text);
+    give_part(out, is_literal, gap, place, fonts.value.font, &token);
+    fonts_after(&token, fonts)
+}
+
+// Gives what a text prints without its messages, all at one place, where parts say what is known of its tokens.
+fn give_known_parts<O: PieceOut>(
+    out: &mut O,
+    is_literal: bool,
+    front: u32,
+    place: Place,
+    start: Setting<Fonts>,
+    text: &[u8],
+    parts: &[NamePart],
+)
+    requires within { length text.now ≤ LINE }
+    requires known { parts.now ≡ names.parts_of text.now }
+    ensures { Came O.left out.old (kept.parts_items is_literal front place start (tokens_of false text.now)) out.new }
+{
+    let mut rest = text;
+    let mut fonts = start;
+    let mut gap = front;
+    for part in parts {
+        fonts = give_known(out, is_literal, gap, place, fonts, rest, *part);
+        rest = &rest[part.len as usize..];
+        gap = 1;
+    }
+}
+
+/// Gives what a name prints without its messages, all at one place; white space at its front is this many blanks.
+pub(crate) fn give_name<O: PieceOut>(
+    out: &mut O,
+    is_literal: bool,
+    front: u32,
+    place: Place,
+    start: Setting<Fonts>,
+    name: &ManualName,
+)
+    ensures { Came O.left out.old (kept.kept_items is_literal front place start name.now) out.new }
+{
+    let text = name.kept().text.text();
+    give_known_parts(out, is_literal, front, place, start, text, name.parts());
 }
 
 impl Running {

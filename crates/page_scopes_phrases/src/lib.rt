@@ -7,13 +7,14 @@
 //!
 //! Proved: `give_line_word`, `give_generated_word`, `give_phrase`, `give_column_step`, `give_white_columns`: a word of a line and a word of a macro's own, in rows and in
 //! columns: its pieces and messages, the context after it, and what is then known along the page (`specs/LineWords.antt`, `Phrases.antt`,
-//! `Cells.antt`). `give_manual_name`, `keep_name`, `KeptText::of`, `give_kept`: what is kept of a name, and what it gives (`specs/ManualNames.antt`,
+//! `Cells.antt`). `give_manual_name`, `keep_name`, `ManualName::of`, `KeptText::of`, `give_kept`: what is kept of a name, and what it gives (`specs/ManualNames.antt`,
 //! `KeptTexts.antt`). `give_tag`, `give_phrase_tag`, `give_function_end`: a tag and the text that hangs after it, and what closes the arguments of a
 //! function (`specs/Tags.antt`, `FunctionEnds.antt`).
 #![tactic(auto)]
 
 mod cells;
 mod function_ends;
+mod kept_names;
 mod kept_texts;
 mod kept_words;
 mod line_words;
@@ -24,6 +25,7 @@ mod tags;
 
 pub use cells::{give_column_step, give_white_columns, in_columns};
 pub use function_ends::give_function_end;
+pub use kept_names::ManualName;
 pub use kept_texts::{FieldText, KeptText};
 pub use kept_words::{give_kept, give_kept_gap, report_cut};
 pub use line_words::{argument_word, give_generated_word, give_line_word};

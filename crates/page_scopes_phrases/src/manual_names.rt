@@ -8,9 +8,9 @@ ghost use Rattle.page_scopes_phrases.specs.ManualNames as names;
 ghost use Rattle.page_scopes_phrases.specs.Outcomes.{GivesOutcome};
 ghost use Rattle.page_scopes_phrases.specs.Phrases.{phrase_view};
 
-use crate::kept_words::{give_kept, give_kept_gap, kept_prints_cell, report_cut};
+use crate::kept_words::{give_kept_gap, give_name, report_cut};
 use crate::phrases::{Phrase, give_phrase, is_text, own_fonts};
-use crate::{KeptText, Running};
+use crate::{KeptText, ManualName, Running};
 use page_core_base::{Font, LINE, NoteKind, Piece, PieceOut, Place};
 use page_roff_syntax::Argument;
 use page_scopes_layout::Context;
@@ -23,14 +23,14 @@ fn keep_word<O: PieceOut>(
     out: &mut O,
     place: Place,
     argument: Argument<&[u8]>,
-    name: &mut Option<KeptText>,
+    name: &mut Option<ManualName>,
 )
     ensures came { Came O.left out.old (names.first_notes place (argument_view argument.entry) name.old) out.new }
     ensures name { name.new ≡ names.first_name (argument_view argument.entry) name.old }
 {
     if name.is_none() {
         report_cut(out, place, argument);
-        *name = Some(KeptText::of(argument));
+        *name = Some(ManualName::of(argument));
     }
 }
 
@@ -41,7 +41,7 @@ pub fn keep_name<O: PieceOut>(
     line: u32,
     role: Role,
     argument: Argument<&[u8]>,
-    name: &mut Option<KeptText>,
+    name: &mut Option<ManualName>,
 )
     ensures came { Came O.left out.old (names.name_notes line role (argument_view argument.entry) name.old) out.new }
     ensures name { name.new ≡ names.named role (argument_view argument.entry) name.old }
@@ -110,7 +110,7 @@ fn has_gap_cells(is_literal: bool, running: &Running) -> bool
 fn give_name_word<O: PieceOut>(
     out: &mut O,
     place: Place,
-    name: &KeptText,
+    name: &ManualName,
     context: &mut Context,
     running: &mut Running,
 )
@@ -120,24 +120,23 @@ fn give_name_word<O: PieceOut>(
 {
     let is_literal = context.is_literal.value;
     let gap = running.next_gap();
+    let text = name.kept().text.text();
     give_kept_gap(out, is_literal, running, place);
-    give_empty(out, place, name);
+    give_empty(out, place, name.kept());
     let fonts = own_fonts(Some(Font::B), context.fonts);
-    let _ = give_kept(out, is_literal, gap.max(1), place, fonts, name);
+    give_name(out, is_literal, gap.max(1), place, fonts, name);
     context.has_row = context.has_row
-        || (has_gap_cells(is_literal, running) || kept_prints_cell(is_literal, name));
-    running
-        .heading
-        .pass_text(context.part, false, gap, name.text.text());
+        || (has_gap_cells(is_literal, running) || name.prints_cell(is_literal));
+    running.heading.pass_text(context.part, false, gap, text);
     running.pass_kept(is_text(context.part), context.has_spacing.value);
-    running.line.is_sentence = ends_sentence(false, name.text.text());
+    running.line.is_sentence = ends_sentence(false, text);
 }
 
 /// Gives the name of the manual.
 pub fn give_manual_name<O: PieceOut>(
     out: &mut O,
     place: Place,
-    name: &Option<KeptText>,
+    name: &Option<ManualName>,
     context: &mut Context,
     running: &mut Running,
 )

@@ -1,5 +1,6 @@
 pub mod PartedLemmas
 pub mod TextLemmas
+pub mod BlankCountLemmas
 pub mod PlainWordLemmas
 pub mod RunLemmas
 pub mod RunEndLemmas

@@ -27,5 +27,8 @@ pub use names::name_columns;
 pub use numbers::{give_columns, give_number, give_rows};
 pub use pens::{Pen, TextStyle};
 pub use texts::give_text;
-pub use tokens::{fonts_after, give_blank_cells, give_token, report_token, token_prints};
+pub use tokens::{
+    blank_count, fonts_after, give_blank_cells, give_blank_text, give_token, report_token,
+    token_prints,
+};
 pub use widths::give_width;

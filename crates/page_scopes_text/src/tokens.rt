@@ -50,8 +50,8 @@ pub fn give_blank_cells<O: PieceOut>(out: &mut O, count: u32, font: Font, place:
 // The blanks of the widest `\h`.
 static BLANKS: [u8; 1000] = [b' '; 1000];
 
-// Gives a count of blanks that are cells as one text.
-fn give_blank_text<O: PieceOut>(out: &mut O, count: u32, font: Font, place: Place)
+/// Gives a count of blanks that are cells as one text.
+pub fn give_blank_text<O: PieceOut>(out: &mut O, count: u32, font: Font, place: Place)
     requires { count ≤ 1000 }
     ensures { Came O.left out.old (words.blank_text count font place) out.new }
 {
@@ -60,8 +60,8 @@ fn give_blank_text<O: PieceOut>(out: &mut O, count: u32, font: Font, place: Plac
     }
 }
 
-// The count of blanks of `\h`.
-fn blank_count(expression: &[u8]) -> u32
+/// The count of blanks of `\h`.
+pub fn blank_count(expression: &[u8]) -> u32
     ensures value { result ≡ words.blank_count expression.now }
     ensures bound { result ≤ 1000 }
 {

@@ -1,0 +1,97 @@
+-- The name of the manual, token by token.
+use Rattle.std.proofs.Common.{◌≡◌, ℕ, ◌+◌, ◌<◌, ◌≤◌, Bool, false, ◌||◌, List, [], ◌∷◌, length, map, drop, get_or, Some, add-one, inl, inr, refl, sym, ap, ◌∙◌, arith}
+use Rattle.std.proofs.lemmas.Bool.{cases_Bool}
+use Rattle.std.proofs.lemmas.List.{drop_all}
+use Rattle.std.proofs.Math.Seq.{drop-cons}
+use Rattle.page_core_base.specs.declared.cells.Font.{Font}
+use Rattle.page_core_base.specs.declared.places.Place.{Place}
+use Rattle.page_core_escapes.specs.Meanings as meanings
+use Rattle.page_core_escapes.specs.Meanings.{Meaning}
+use Rattle.page_core_escapes.specs.Tokens.{TextToken, white, plain, quotes, escaped, begins_word, token_at, token_len, tokens_len, tokens_of}
+use Rattle.page_core_escapes.proofs.TokenLemmas.{len_within, tokens_more, tokens_none}
+use Rattle.page_scopes_words.specs.declared.fonts.Fonts.{Fonts}
+use Rattle.page_scopes_words.specs.declared.settings.Setting.{Setting}
+use Rattle.page_scopes_text.specs.Words.{blank_count, blank_text, fonts_after}
+use Rattle.page_scopes_text.proofs.BlankCountLemmas.{count-within}
+use Rattle.page_scopes_text.proofs.PartedLemmas.{white_front, white_some, word_some}
+use Rattle.page_scopes_phrases.specs.KeptTexts.{part_items}
+use Rattle.page_scopes_phrases.specs.declared.kept_names.NamePart.{NamePart}
+use Rattle.page_scopes_phrases.specs.machine.NameParts.{meaning_blanks, part_of, parts_of, token_blanks}
+
+-- ---- a token that is a `\h`
+
+pub record IsBlank (token : TextToken) (count : ℕ) : Type 0 where
+  pub within : count ≤ 1000
+  pub items : (literal : Bool) (gap : ℕ) (place : Place) (font : Font) → part_items literal gap place font token ≡ blank_text count font place
+  pub fonts : (fonts : Setting Fonts) → fonts_after token fonts ≡ fonts
+
+none-set : (fonts : Setting Fonts) → record { value = fonts.value; is_set = fonts.is_set || false } ≡ fonts
+none-set fonts =
+    let same : (fonts.is_set || false) ≡ fonts.is_set = elim (cases_Bool fonts.is_set) [ inl t ↦ rw t refl | inr f ↦ rw f refl ] in
+    let with_set : Bool → Setting Fonts = λ b. record { value = fonts.value; is_set = b } in
+    ap with_set same
+
+escape-blank : (bytes : List ℕ) (meaning : Meaning) (count : ℕ) → meaning_blanks meaning ≡ Some count → IsBlank (escaped bytes meaning) count
+escape-blank bytes (meanings.blanks expression) count is =
+    let same : blank_count expression ≡ count = cc in
+    record {
+      within = rw (← same) (count-within expression);
+      items = λ literal gap place font. ap (λ n. blank_text n font place) same;
+      fonts = none-set;
+    }
+escape-blank bytes _ count is = cc
+
+pub token-blank : (token : TextToken) (count : ℕ) → token_blanks token ≡ Some count → IsBlank token count
+token-blank (white bytes) count is = cc
+token-blank (plain bytes) count is = cc
+token-blank (quotes bytes) count is = cc
+token-blank (escaped bytes meaning) count is = escape-blank bytes meaning count is
+
+-- ---- the first token of a text
+
+token-some : (text : List ℕ) → 0 < length text → 0 < token_len false text
+token-some text some = elim (cases_Bool (begins_word text)) [ inl t ↦ word_some false text t | inr f ↦ white_some false text (white_front text some f) ]
+
+text-some : (text : List ℕ) (part : NamePart) (parts : List NamePart) → part ∷ parts ≡ parts_of text → 0 < length text
+text-some [] part parts is =
+    let none = is ∙ ap (map part_of) (tokens_none false [] (omega arith)) in
+    cc
+text-some (b ∷ bytes) part parts is = omega arith
+
+pub record IsFirst (text : List ℕ) (part : NamePart) (parts : List NamePart) : Type 0 where
+  pub known : part ≡ part_of (token_at false text)
+  pub others : parts ≡ parts_of (drop part.len text)
+  pub within : part.len ≤ length text
+  pub tokens : tokens_of false text ≡ token_at false text ∷ tokens_of false (drop part.len text)
+
+pub first-part : (text : List ℕ) (part : NamePart) (parts : List NamePart) → part ∷ parts ≡ parts_of text → IsFirst text part parts
+first-part text part parts is =
+    let tokens = tokens_more false text (token_len false text) (token-some text (text-some text part parts is)) refl in
+    let both = is ∙ ap (map part_of) tokens in
+    let first : part ≡ part_of (token_at false text) = cc in
+    let len : part.len ≡ token_len false text = ap (λ (p : NamePart). p.len) first in
+    let all = len_within false text in
+    let sum = ap tokens_len tokens in
+    let within : token_len false text ≤ length text = omega (arith, all, sum) in
+    let later : parts ≡ parts_of (drop (token_len false text) text) = cc in
+    record {
+      known = first;
+      others = rw len later;
+      within = rw len within;
+      tokens = rw len tokens;
+    }
+
+-- ---- the parts from a place on
+
+pub next-part : (text : List ℕ) (parts : List NamePart) (k : ℕ) (d : NamePart) → k < length parts → drop k parts ≡ parts_of text
+    → IsFirst text (get_or parts k d) (drop (k + 1) parts)
+next-part text parts k d within known =
+    let next : drop k parts ≡ get_or parts k d ∷ drop (k + 1) parts = rw (add-one, drop-cons parts k d within) refl in
+    first-part text (get_or parts k d) (drop (k + 1) parts) (sym next ∙ known)
+
+none-of : (tokens : List TextToken) → [] ≡ map part_of tokens → tokens ≡ []
+none-of [] is = refl
+none-of (token ∷ tokens) is = cc
+
+pub no-part : (text : List ℕ) (parts : List NamePart) (k : ℕ) → length parts ≤ k → drop k parts ≡ parts_of text → tokens_of false text ≡ []
+no-part text parts k past known = none-of (tokens_of false text) (sym (drop_all k parts past) ∙ known)

@@ -1,0 +1,29 @@
+-- A machine: what is known of the tokens of a manual's name, so that a name that is printed again is not read anew (`ManualName`).
+use Rattle.std.specs.Prelude.{◌≡◌, ℕ, Bool, true, false, List, length, map, Option, None, Some}
+use Rattle.page_core_escapes.specs.Meanings as meanings
+use Rattle.page_core_escapes.specs.Meanings.{Meaning}
+use Rattle.page_core_escapes.specs.Tokens.{TextToken, escaped, token_bytes, tokens_of}
+use Rattle.page_scopes_phrases.specs.KeptTexts.{prints_cell}
+use Rattle.page_scopes_phrases.specs.declared.kept_names.NamePart.{NamePart}
+use Rattle.page_scopes_text.specs.Words.{blank_count}
+
+-- the count of blanks of an escape, and of a token, where it is a `\h`
+abbrev pub meaning_blanks : Meaning → Option ℕ
+meaning_blanks (meanings.blanks expression) = Some (blank_count expression)
+meaning_blanks _ = None
+
+abbrev pub token_blanks : TextToken → Option ℕ
+token_blanks (escaped bytes meaning) = meaning_blanks meaning
+token_blanks _ = None
+
+abbrev pub part_of : TextToken → NamePart
+part_of token = record { len = length (token_bytes token); blanks = token_blanks token }
+
+abbrev pub parts_of : List ℕ → List NamePart
+parts_of text = map part_of (tokens_of false text)
+
+-- what is held is what a reading of the text says
+pub record IsRead (text : List ℕ) (parts : List NamePart) (prints_filled prints_literal : Bool) : Type 0 where
+  pub known : parts ≡ parts_of text
+  pub filled : prints_filled ≡ prints_cell false (tokens_of false text)
+  pub literal : prints_literal ≡ prints_cell true (tokens_of false text)

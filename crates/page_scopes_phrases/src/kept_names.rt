@@ -1,0 +1,139 @@
+//! The name of the manual as it is kept, with what is known of its tokens: it may be printed many times, and what a `\h` in it is worth is read
+//! once (mdoc(7), `Nm`).
+
+ghost use Rattle.std.specs.Prelude.{◌≡◌, ◌≤◌, length};
+ghost use Rattle.page_core_escapes.specs.Tokens.{token_bytes, token_view};
+ghost use Rattle.page_scopes_phrases.specs.KeptTexts as kept;
+ghost use Rattle.page_scopes_phrases.specs.machine.NameParts as names;
+
+use crate::KeptText;
+use crate::kept_words::prints_cell;
+use arrayvec::ArrayVec;
+use page_core_escapes::{Escape, Token, Tokens};
+use page_roff_syntax::Argument;
+use page_scopes_text::blank_count;
+use std::marker::Model;
+
+/// What is known of a token of a name: how many bytes it has, and its count of blanks, where it is a `\h`.
+#[derive(Clone, Copy, Default)]
+pub(crate) struct NamePart {
+    pub(crate) len: u16,
+    pub(crate) blanks: Option<u16>,
+}
+
+/// The name of the manual as it is kept. Contracts see what is kept.
+#[derive(Drop)]
+pub struct ManualName {
+    kept: KeptText,
+    parts: ArrayVec<NamePart, 256>,
+    // Whether it prints a cell where rows are filled, and where they are kept as they are.
+    prints_filled: bool,
+    prints_literal: bool,
+}
+
+impl Model for ManualName {
+    ghost use Rattle.page_scopes_phrases.specs.declared.kept_texts.KeptText.{KeptText};
+    ghost use Rattle.page_scopes_phrases.specs.machine.NameParts.{IsRead};
+
+    ghost Value = { KeptText };
+
+    ghost view = { λ m. m.kept };
+
+    ghost invariant = { λ m. IsRead m.kept.text m.parts.items m.prints_filled m.prints_literal };
+}
+
+// The count of blanks of a token, where it is a `\h`.
+fn token_blanks(token: &Token<'_>) -> Option<u16>
+    ensures { result ≡ names.token_blanks (token_view token.now) }
+{
+    match *token {
+        Token::Escaped {
+            meaning: Escape::Blanks(expression),
+            ..
+        } => Some(blank_count(expression) as u16),
+        _ => None,
+    }
+}
+
+// What is known of a token.
+fn part_of(token: &Token<'_>) -> NamePart
+    requires { length (token_bytes (token_view token.now)) ≤ 256 }
+    ensures { result ≡ names.part_of (token_view token.now) }
+{
+    NamePart {
+        len: token.len() as u16,
+        blanks: token_blanks(token),
+    }
+}
+
+// What is known of the tokens of a text.
+fn parts_of(text: &[u8]) -> ArrayVec<NamePart, 256>
+    requires { length text.now ≤ 256 }
+    ensures { result.items ≡ names.parts_of text.now }
+{
+    let mut tokens = Tokens::new(false, text);
+    let mut parts = ArrayVec::new();
+    while let Some(token) = tokens.read() {
+        parts.push(part_of(&token));
+    }
+    parts
+}
+
+impl ManualName {
+    ghost use Rattle.page_roff_syntax.specs.Arguments.{argument_view};
+    ghost use Rattle.page_scopes_phrases.specs.KeptTexts.{kept_of};
+
+    // The name that a kept text is.
+    fn read(kept: KeptText) -> ManualName
+        ensures { result ≡ kept }
+    {
+        let parts = parts_of(kept.text.text());
+        let prints_filled = prints_cell(false, kept.text.text());
+        let prints_literal = prints_cell(true, kept.text.text());
+        ManualName {
+            kept,
+            parts,
+            prints_filled,
+            prints_literal,
+        }
+    }
+
+    /// The name that is kept of an argument.
+    pub fn of(argument: Argument<&[u8]>) -> ManualName
+        ensures { result ≡ kept_of (argument_view argument.entry) }
+    {
+        ManualName::read(KeptText::of(argument))
+    }
+
+    /// The same name.
+    pub fn copy(&self) -> ManualName
+        ensures { result ≡ self.now }
+    {
+        ManualName::read(self.kept.copy())
+    }
+
+    /// What is kept of it.
+    pub fn kept(&self) -> &KeptText
+        ensures { result.now ≡ self.now }
+    {
+        &self.kept
+    }
+
+    /// What is known of its tokens.
+    pub(crate) fn parts(&self) -> &[NamePart]
+        ensures { result.now ≡ names.parts_of self.now.text }
+    {
+        self.parts.as_slice()
+    }
+
+    /// Whether it prints a cell, in rows that are kept as they are or filled.
+    pub(crate) fn prints_cell(&self, is_literal: bool) -> bool
+        ensures { result ≡ kept.prints_cell is_literal (kept.kept_tokens self.now) }
+    {
+        if is_literal {
+            self.prints_literal
+        } else {
+            self.prints_filled
+        }
+    }
+}

@@ -1,0 +1,19 @@
+-- How many blanks a `\h` is.
+use Rattle.std.proofs.Common.{◌≡◌, ℕ, ◌≤◌, ◌/◌, min, ℤ, pos, negsuc, List, replicate, arith}
+use Rattle.std.proofs.Math.Nat.{min-le_right}
+use Rattle.page_core_numbers.specs.Columns.{blanks_in, characters_columns}
+use Rattle.page_core_numbers.specs.Expressions.{expression_of}
+use Rattle.page_core_numbers.specs.declared.scales.Scale.TheVariants.{Em}
+use Rattle.page_core_numbers.proofs.ColumnLemmas.{blanks-columns}
+use Rattle.page_scopes_text.specs.Words.{blank_count}
+
+blanks-within : (units : ℤ) → blanks_in units ≤ 1000
+blanks-within (pos n) = min-le_right (n / 24) 1000
+blanks-within (negsuc n) = omega arith
+
+pub count-within : (expression : List ℕ) → blank_count expression ≤ 1000
+count-within expression =
+    let n = blanks_in (expression_of Em expression).value in
+    let is = blanks-columns n in
+    let within : n ≤ 1000 = blanks-within (expression_of Em expression).value in
+    omega (arith, is, within)
