@@ -1,6 +1,6 @@
 //! Laws that bounds are no limits: of the steps that a definition counts, and of the room that a name or a count has.
 
-ghost use Rattle.std.specs.Prelude.{◌≡◌, ◌≢◌, ◌≤◌, ◌<◌, ◌+◌, ◌-◌, ◌^◌, ◌++◌, ℕ, ℤ, Bool, List, [], ◌∷◌, None, MatchOption, false, length, drop, encode_utf8, if◌then◌else◌};
+ghost use Rattle.std.specs.Prelude.{◌≡◌, ◌≢◌, ◌≤◌, ◌<◌, ◌+◌, ◌-◌, ◌^◌, ◌++◌, ℕ, ℤ, Bool, List, [], ◌∷◌, None, MatchOption, false, length, take, drop, option_map, encode_utf8, if◌then◌else◌};
 ghost use Rattle.std.specs.Str.{IsUtf8};
 ghost use Rattle.page_core_base.specs.declared.page_settings.Output.{Output};
 ghost use Rattle.page_core_escapes.specs.Escapes.{escape_of};
@@ -8,7 +8,7 @@ ghost use Rattle.page_core_escapes.specs.Lengths.{content_len};
 ghost use Rattle.page_core_numbers.specs.Columns.{printed_escape, printed_text};
 ghost use Rattle.page_core_numbers.specs.Expressions.{Read, after_operation, expression_within, first, next_operator};
 ghost use Rattle.page_core_numbers.specs.declared.scales.Scale.{Scale as AnyScale};
-ghost use Rattle.page_core_tables.specs.Printed.{char_printed};
+ghost use Rattle.page_core_tables.specs.Printed.{char_printed, glyph_printed};
 ghost use Rattle.page_core_base.specs.Limits.{NAME};
 ghost use Rattle.page_roff_effects.specs.States.{sum_of_counts};
 ghost use Rattle.page_roff_source.specs.Edges.{SourceLine, first_edge};
@@ -75,4 +75,11 @@ pub fn expansions_law()
     ensures sum { (a b : ℕ) → a < 2 ^ 64 → sum_of_counts a b < 2 ^ 64 - 1 → sum_of_counts a b ≡ a + b }
     ensures page { (output : Output) (lines : List SourceLine) → length lines ≤ 2 ^ 31
         → (done_lines (first_edge output) lines).memory.expansions < 2 ^ 64 - 1 }
+{}
+
+/// The first 64 bytes of a glyph's name say what it prints, and are all that a message shows of it: to keep no more leaves nothing out (mandoc_char(7)).
+pub fn glyphs_law()
+    ensures characters { (output : Output) (name : List ℕ) → (glyph_printed output (take 64 name)).characters ≡ (glyph_printed output name).characters }
+    ensures unknown { (output : Output) (name : List ℕ) → option_map (take 64) (glyph_printed output (take 64 name)).unknown
+        ≡ option_map (take 64) (glyph_printed output name).unknown }
 {}
