@@ -533,6 +533,23 @@ pub fn nm_pages()
         [] ∷
         codes "S                                 2020-01-01                              T(1)" ∷ [])
         [] }
+    // a name is printed alike each time, with its blanks, fonts and glyphs (mdoc(7), Nm; roff(7), \h, \f; mandoc_char(7))
+    ensures a_name_is_printed_alike_each_time_with_its_blanks { Shows plain
+        (codes ".Dd 2020-01-01" ∷
+        codes ".Dt T 1" ∷
+        codes ".Os S" ∷
+        codes ".Sh A" ∷
+        codes ".Nm a\\h'2n'b\\fIc\\fRd\\(co" ∷
+        codes "x" ∷
+        codes ".Nm" ∷
+        codes "y" ∷ [])
+        (codes "T(1)                       General Commands Manual                        T(1)" ∷
+        [] ∷
+        bold (codes "A") ∷
+        (codes "     " ++ (bold (codes "a") ++ (codes "  " ++ (bold (codes "b") ++ (italic (codes "c") ++ (codes "d(C) x " ++ (bold (codes "a") ++ (codes "  " ++ (bold (codes "b") ++ (italic (codes "c") ++ codes "d(C) y")))))))))) ∷
+        [] ∷
+        codes "S                                 2020-01-01                              T(1)" ∷ [])
+        [] }
     // the name of the manual in the SYNOPSIS, twice (mdoc(7), Nm)
     ensures the_name_of_the_manual_in_the_synopsis_twice { Shows plain
         (codes ".Dd 2020-01-01" ∷

@@ -8,6 +8,7 @@ unfolding u0 u1 u2 u3 u4 u5 u6 u7 u8 u9 u10 u11 u12 u13 u14 u15 u16 u17 u18 u19 
 returns c = record {
   a_name_that_prints_nothing_begins_its_row_at_the = record { prints = refl; reports = refl };
   a_name_that_begins_with_a_blank_has_the_blanks_of = record { prints = refl; reports = refl };
+  a_name_is_printed_alike_each_time_with_its_blanks = record { prints = refl; reports = refl };
   the_name_of_the_manual_in_the_synopsis_twice = record { prints = refl; reports = refl };
   later_rows_of_the_synopsis_stand_further_in_by_the = record { prints = refl; reports = refl };
   a_pair_of_quotes_in_the_name_of_a_glyph_that_the = record { prints = refl; reports = refl };
