@@ -1,5 +1,5 @@
 -- The names of glyphs, whose first 64 bytes say all.
-use Rattle.std.proofs.Common.{◌≡◌, ℕ, List, [], ◌∷◌, take, length, Option, None, Some, option_map, refl, sym, ap, ◌∙◌, arith}
+use Rattle.std.proofs.Common.{◌≡◌, ℕ, List, [], ◌∷◌, take, Option, None, Some, option_map, refl, ap, arith}
 use Rattle.std.proofs.lemmas.List.{take_all, length-take}
 use Rattle.page_core_base.specs.declared.page_settings.Output.{Output}
 use Rattle.page_core_tables.specs.Glyphs.{Symbol, glyph_of}

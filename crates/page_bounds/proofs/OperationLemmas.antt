@@ -1,16 +1,16 @@
 -- Operations of an expression, however many steps their definition has.
-use Rattle.std.proofs.Common.{◌≡◌, ℕ, zero, suc, ◌+◌, ◌<◌, ◌≤◌, ◌==◌, Bool, true, false, cond, List, [], ◌∷◌, length, drop, fold, Option, None, Some, option_map, IfSome, MatchOption, ℤ, inl, inr, refl, sym, ap, ◌∙◌, arith, length-drop}
+use Rattle.std.proofs.Common.{◌≡◌, ℕ, zero, suc, ◌+◌, ◌<◌, ◌≤◌, ◌==◌, Bool, true, false, List, [], ◌∷◌, length, drop, fold, Option, None, Some, option_map, IfSome, MatchOption, ℤ, inl, inr, refl, ◌∙◌, arith, length-drop}
 use Rattle.std.specs.List.{prefix_len}
 use Rattle.std.proofs.lemmas.Bool.{cases_Bool}
 use Rattle.page_core_escapes.specs.Bytes.{is_among, is_digit, plus, minus, parenthesis, closing_parenthesis}
 use Rattle.page_core_numbers.specs.declared.scales.Scale.{Scale}
-use Rattle.page_core_numbers.specs.Numbers.{number_at, number_of, digits_of, after_digits, fraction_of, after_fraction, after_scale, scale_at, point}
+use Rattle.page_core_numbers.specs.Numbers.{number_at, digits_of, after_digits, fraction_of, after_fraction, after_scale, scale_at, point}
 use Rattle.std.specs.Prelude.{is_some, codes, ◌&&◌}
 use Rattle.page_core_numbers.specs.Operators.{operator_at, operator_named, operator_len, begins_equal}
-use Rattle.page_core_numbers.specs.Expressions.{Read, no_operand, number, after_close, in_parentheses, operand_inside, negated_operand, operand_by, first, after_operation, next_operator, operations_at, expression_by, expression_within}
+use Rattle.page_core_numbers.specs.Expressions.{Read, number, after_close, in_parentheses, operand_inside, operand_by, first, after_operation, next_operator, operations_at, expression_by, expression_within}
 use Rattle.page_bounds.specs.Operations.{operand_of, done}
 
--- what follows is no longer than what was read
+-- what is left is no longer than the text that was read
 abbrev Shrinks : {V : Type 0} → (List ℕ → Read V) → Type 0
 Shrinks f = (text : List ℕ) → length (f text).rest ≤ length text
 
@@ -54,8 +54,9 @@ parentheses-less inside = elim (cases_Bool inside.ends) [
   | inr e ↦ rw e (after-close-less inside.rest)
 ]
 
+-- an operand's inside leaves no more than it was given, where there may be one
 abbrev Fits : Option (List ℕ → Read ℤ) → Type 0
-Fits None = (0 ≤ 0)
+Fits None = Unit {0}
 Fits (Some inside) = Shrinks inside
 
 inside-less : (inside : Option (List ℕ → Read ℤ)) → Fits inside → (text after : List ℕ) → length after ≤ length text
@@ -137,7 +138,7 @@ expression-less : (room : ℕ) (scale : Scale) → Shrinks (expression_within ro
 unfolding expression_within expression_by
 expression-less zero scale text =
     let f = operand_by None scale in
-    let less = operand-less None (omega arith) scale in
+    let less = operand-less None tt scale in
     omega (arith, all-less f less (suc (length text)) (first (f text)), less text)
 expression-less (suc room) scale text =
     let f = operand_by (Some (expression_within room scale)) scale in
@@ -145,7 +146,7 @@ expression-less (suc room) scale text =
     omega (arith, all-less f less (suc (length text)) (first (f text)), less text)
 
 of-less : (room : ℕ) (scale : Scale) → Shrinks (operand_of room scale)
-of-less zero scale = operand-less None (omega arith) scale
+of-less zero scale = operand-less None tt scale
 of-less (suc room) scale = operand-less (Some (expression_within room scale)) (expression-less room scale) scale
 
 by-room : (room : ℕ) (scale : Scale) (text : List ℕ) → expression_within room scale text ≡ expression_by (operand_of room scale) text

@@ -1,8 +1,7 @@
 -- Names and counts that have the room of a machine: what they would be without it.
-use Rattle.std.proofs.Common.{◌≡◌, ℕ, ◌+◌, ◌-◌, ◌*◌, ◌<◌, ◌≤◌, ◌^◌, min, List, length, take, arith}
+use Rattle.std.proofs.Common.{◌≡◌, ℕ, ◌+◌, ◌-◌, ◌<◌, ◌≤◌, ◌^◌, List, length, arith}
 use Rattle.std.proofs.lemmas.List.{take_all, length-take}
 use Rattle.page_core_base.specs.Limits.{NAME}
-use Rattle.page_core_base.specs.declared.limits.TheConstants.{EXPAND, REREAD}
 use Rattle.page_core_base.specs.declared.page_settings.Output.{Output}
 use Rattle.page_roff_effects.specs.States.{sum_of_counts}
 use Rattle.page_roff_source.specs.Edges.{SourceLine, first_edge}
