@@ -15,6 +15,7 @@
 //! `NoteLatch`: all that is given came to the sink, or a front of it and then its fault (`specs/Latches.antt`).
 #![tactic(auto)]
 
+mod blank_texts;
 mod bounded_texts;
 mod cells;
 mod faults;
@@ -34,6 +35,7 @@ mod row_sinks;
 mod texts;
 mod word_parts;
 
+pub use blank_texts::{BLANK_TEXT, blank_text};
 pub use bounded_texts::BoundedText;
 pub use cells::{BLANK_GROUP, Cell, Font, LONG_ROW, are_blank};
 pub use faults::Fault;

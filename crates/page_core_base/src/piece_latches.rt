@@ -1,13 +1,15 @@
 //! The latch over a sink of pieces: what inner functions give to, so that they need not hand on its faults.
 
-ghost use Rattle.std.specs.Prelude.{◌≡◌, ◌≤◌, List, [], ◌∷◌, length, None, Some, MatchResult};
+ghost use Rattle.std.specs.Prelude.{◌≡◌, ◌≤◌, List, [], ◌∷◌, length, replicate, None, Some, MatchResult};
 ghost use Rattle.page_core_base.specs.Latches.{Came};
 ghost use Rattle.page_core_base.specs.Messages.{message_of};
 ghost use Rattle.page_core_base.specs.machine.Plans.{Planned, Left};
 ghost use Rattle.page_core_base.specs.Pieces.{Item, shown, noted, piece_of};
 ghost use Rattle.page_core_base.specs.Words.{TakesWords};
+ghost use Rattle.page_core_base.specs.declared.blank_texts.TheConstants.{BLANK_TEXT};
+ghost use Rattle.page_core_base.specs.declared.pieces.Piece.TheVariants.{Text};
 
-use crate::{Fault, Font, Note, Piece, PieceSink, Place};
+use crate::{Fault, Font, Note, Piece, PieceSink, Place, blank_text};
 
 /// Takes pieces and messages, and never fails: after a fault of the sink below it takes nothing.
 pub trait PieceOut {
@@ -21,6 +23,18 @@ pub trait PieceOut {
     /// Takes a piece.
     fn give(&mut self, piece: Piece<&[u8]>)
         ensures { Came left self.old (shown (piece_of piece.entry) ∷ []) self.new };
+
+    /// Takes a count of blanks that are cells, at most [`BLANK_TEXT`](crate::BLANK_TEXT), as [`give`](PieceOut::give) takes a text of them.
+    fn give_blanks(&mut self, count: usize, font: Font, place: Place)
+        requires { count ≤ BLANK_TEXT }
+        ensures { Came left self.old (shown (Text (replicate count 32) font place) ∷ []) self.new }
+    {
+        self.give(Piece::Text {
+            text: blank_text(count),
+            font,
+            place,
+        });
+    }
 
     /// Takes as many of the first words of a text, with one blank before each, as it can take at once; answers how many bytes
     /// these are, which may be none. The blank before the first word is at a place. Of any other text nothing is promised.
@@ -72,6 +86,16 @@ impl<O: PieceSink> PieceOut for PieceLatch<'_, O> {
             return;
         }
         if let Err(fault) = self.out.piece(piece) {
+            self.fault = Some(fault);
+        }
+    }
+
+    #[inline(always)]
+    fn give_blanks(&mut self, count: usize, font: Font, place: Place) {
+        if self.fault.is_some() {
+            return;
+        }
+        if let Err(fault) = self.out.take_blanks(count, font, place) {
             self.fault = Some(fault);
         }
     }

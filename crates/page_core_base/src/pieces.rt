@@ -1,15 +1,17 @@
 //! Pieces: what a page's scopes give to be filled, in the order of the page.
 
-ghost use Rattle.std.specs.Prelude.{◌≡◌, ◌≤◌, ℕ, List, [], ◌∷◌, length};
+ghost use Rattle.std.specs.Prelude.{◌≡◌, ◌≤◌, ℕ, List, [], ◌∷◌, length, replicate};
 ghost use Rattle.page_core_base.specs.Sinks.{IsSink};
 ghost use Rattle.page_core_base.specs.Fails.{Rose, IsPieceFault, FailsByPieces};
 ghost use Rattle.page_core_base.specs.Latches.{Emits};
 ghost use Rattle.page_core_base.specs.Messages.{Message};
 ghost use Rattle.page_core_base.specs.declared.faults.Fault.{Fault};
 ghost use Rattle.page_core_base.specs.Pieces.{Item, shown, all_noted, piece_of};
+ghost use Rattle.page_core_base.specs.declared.blank_texts.TheConstants.{BLANK_TEXT};
+ghost use Rattle.page_core_base.specs.declared.pieces.Piece.TheVariants.{Text};
 ghost use Rattle.page_core_base.specs.Words.{TakesWords};
 
-use crate::{Fault, Font, NoteSink, Place};
+use crate::{Fault, Font, NoteSink, Place, blank_text};
 
 /// What follows a tag that is too long for its hang.
 #[derive(Clone, Copy)]
@@ -78,6 +80,22 @@ pub trait PieceSink: NoteSink {
         ensures faults { FailsByPieces result (row_failed self.old) (row_failed self.new)
             (Self.failed self.old) (Self.failed self.new) }
         ensures same { Self.loans self.new ≡ Self.loans self.old };
+
+    /// Takes a count of blanks that are cells, at most [`BLANK_TEXT`](crate::BLANK_TEXT), as [`piece`](PieceSink::piece) takes a text of
+    /// them: a sink need not look at each.
+    fn take_blanks(&mut self, count: usize, font: Font, place: Place) -> Result<(), Fault>
+        requires { count ≤ BLANK_TEXT }
+        ensures gives { Emits result took broke self.old (shown (Text (replicate count 32) font place) ∷ []) self.new }
+        ensures faults { FailsByPieces result (row_failed self.old) (row_failed self.new)
+            (Self.failed self.old) (Self.failed self.new) }
+        ensures same { Self.loans self.new ≡ Self.loans self.old }
+    {
+        self.piece(Piece::Text {
+            text: blank_text(count),
+            font,
+            place,
+        })
+    }
 
     /// Takes as many of the first words of a text, with one blank before each, as it can take at once; answers how many bytes
     /// these are, which may be none. The blank before the first word is at a place. Of any other text nothing is promised. A sink

@@ -30,7 +30,7 @@ pub trait RowSink {
         ensures fault { FailsAs Fault.WriteText result (failed self.old) (failed self.new) }
         ensures same { loans self.new ≡ loans self.old };
 
-    /// Takes a row of blanks alone, as [`row`](RowSink::row) does: a sink may save to look at its cells.
+    /// Takes a row of blanks alone, as [`row`](RowSink::row) does: a sink need not look at its cells.
     fn blank_row(&mut self, margin: u32, cells: &[Cell]) -> Result<(), Fault>
         requires { is_blank_row (row_of margin cells.now) ≡ true }
         ensures gives { Gives result gave within self.old (row_of margin cells.now ∷ []) self.new }
