@@ -98,6 +98,12 @@ impl<R: RowSink, N: NoteSink> PieceSink for PageSink<'_, '_, '_, R, N> {
         self.filler.piece(piece, &mut self.rows, &mut self.notes)
     }
 
+    #[tactic(auto, unfolding(page_fill::specs::machine::ByPiece::laid_items))]
+    fn take_blanks(&mut self, count: usize, font: Font, place: Place) -> Result<(), Fault> {
+        self.filler
+            .take_blanks(count, font, place, &mut self.rows, &mut self.notes)
+    }
+
     #[inline(always)]
     fn take_words(&mut self, text: &[u8], font: Font, _place: Place) -> usize {
         self.filler.held_law();

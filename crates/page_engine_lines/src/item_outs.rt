@@ -22,6 +22,11 @@ impl<L: PieceOut> PieceOut for ItemOut<L> {
     }
 
     #[inline(always)]
+    fn give_blanks(&mut self, count: usize, font: Font, place: Place) {
+        self.latch.give_blanks(count, font, place);
+    }
+
+    #[inline(always)]
     fn give_words(&mut self, text: &[u8], font: Font, place: Place) -> usize {
         self.latch.give_words(text, font, place)
     }

@@ -1,10 +1,11 @@
 //! Words, breaks and tags: what is held between two pieces.
 
-ghost use Rattle.std.specs.Prelude.{◌≡◌, ◌≤◌, ◌==◌, length, Some, true, false, []};
+ghost use Rattle.std.specs.Prelude.{◌≡◌, ◌≤◌, ◌==◌, length, replicate, Some, true, false, []};
 ghost use Rattle.std.specs.List.{list_all};
 ghost use Rattle.std.specs.Str.{chars};
 ghost use Rattle.page_core_base.specs.Laid.{nothing};
 ghost use Rattle.page_core_base.specs.Latches.{CameRows, LaysOut};
+ghost use Rattle.page_core_base.specs.declared.blank_texts.TheConstants.{BLANK_TEXT};
 ghost use Rattle.page_core_base.specs.declared.cells.Font.TheVariants.{R};
 ghost use Rattle.page_core_base.specs.declared.places.Place.{Place};
 ghost use Rattle.page_fill_rows.specs.Characters.{characters_of};
@@ -16,12 +17,15 @@ ghost use Rattle.page_fill.specs.machine.Fill as fill;
 ghost use Rattle.page_fill.specs.machine.PlainWords as plain_words;
 ghost use Rattle.page_fill.specs.machine.TakenWords.{TakesFirstWords};
 
+use crate::characters::{put_character, put_characters, put_glyph};
 use crate::taken_words::whole_words;
 use crate::{HANG_MAX, TAB_STOP};
-use page_core_base::{Cell, Font, Note, NoteKind, Output, Place, RowOut, TagForm, last_part_start};
+use page_core_base::{
+    BLANK_TEXT, Cell, Font, Note, NoteKind, Output, Place, RowOut, TagForm, blank_text,
+    last_part_start,
+};
 use page_fill_rows::{
-    OpenRow, is_long_run, is_printable_ascii, printable_len, put_character, put_characters,
-    put_glyph, put_plain, word_start,
+    OpenRow, is_long_run, is_printable_ascii, printable_len, put_plain, word_start,
 };
 
 /// The open word, and what waits before the next one.
@@ -251,6 +255,19 @@ impl Edge {
         }
     }
 
+    /// The same of a count of blanks that go on with the row's last word: none of them is looked at.
+    pub(crate) fn takes_blanks(&mut self, count: usize, font: Font) -> bool
+        ensures taken { result ≡ true → (place : Place)
+            → fill.text self.old (characters_of (replicate count 32)) font place ≡ nothing self.new }
+        ensures same { result ≡ false → self.new ≡ self.old }
+    {
+        if count == 0 || !self.word.is_joined || !self.sheet.has_part_room(count) {
+            return false;
+        }
+        self.sheet.add_blanks(count, font);
+        true
+    }
+
     /// The same of a character.
     #[inline(never)]
     pub(crate) fn takes_character(&mut self, c: char, font: Font) -> bool
@@ -295,6 +312,7 @@ impl Edge {
     }
 
     // Takes a plain text, which may be known to be blanks alone.
+    #[inline(always)]
     #[tactic(auto, unfolding(crate::specs::machine::Fill::text))]
     fn plain<O: RowOut>(
         &mut self,
@@ -319,6 +337,16 @@ impl Edge {
         }
         self.open_word(place, out);
         put_plain(&mut self.sheet, bytes, is_blank, font, place, out);
+    }
+
+    /// Takes a text of a count of blanks. It is a call, since few texts are blanks alone.
+    #[inline(never)]
+    pub(crate) fn blanks<O: RowOut>(&mut self, count: usize, font: Font, place: Place, out: &mut O)
+        requires { count ≤ BLANK_TEXT }
+        ensures { LaysOut O.left out.old (fill.text self.old
+            (characters_of (replicate count 32)) font place) out.new self.new }
+    {
+        self.plain(blank_text(count), true, font, place, out);
     }
 
     /// Takes bytes that are a text.

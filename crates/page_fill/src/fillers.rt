@@ -1,10 +1,12 @@
 //! The filler of a page.
 
-ghost use Rattle.std.specs.Prelude.{◌≡◌, ◌≤◌, true, [], ◌∷◌, length, IfOk, IfErr, IfSome, OnOk, OnErr, Some, None, Err, MatchResult};
+ghost use Rattle.std.specs.Prelude.{◌≡◌, ◌≤◌, true, [], ◌∷◌, length, replicate, IfOk, IfErr, IfSome, OnOk, OnErr, Some, None, Err, MatchResult};
 ghost use Rattle.page_core_base.specs.Fails.{FailsBySink};
 ghost use Rattle.page_core_base.specs.Laid.{Gets};
 ghost use Rattle.page_core_base.specs.Pieces.{piece_of, shown};
+ghost use Rattle.page_core_base.specs.declared.blank_texts.TheConstants.{BLANK_TEXT};
 ghost use Rattle.page_core_base.specs.declared.limits.TheConstants.{CELLS};
+ghost use Rattle.page_core_base.specs.declared.pieces.Piece.TheVariants.{Text};
 ghost use Rattle.page_fill.specs.Caps.{FillFits, IsHeld, is_sound};
 ghost use Rattle.page_fill.specs.Edges as fill;
 ghost use Rattle.page_fill.specs.declared.edges.Edge.{Edge};
@@ -12,7 +14,7 @@ ghost use Rattle.page_fill.specs.Filling.{filled, row_end};
 ghost use Rattle.page_fill.specs.TakenWords.{TakesFirstWords};
 
 use crate::Edge;
-use page_core_base::{Cell, Fault, Font, NoteSink, Output, Piece, RowSink, Settings};
+use page_core_base::{Cell, Fault, Font, NoteSink, Output, Piece, Place, RowSink, Settings};
 use std::alloc::{AllocError, Global};
 use std::marker::Model;
 
@@ -195,6 +197,42 @@ impl Filler {
             self.is_going = false;
         }
         result
+    }
+
+    /// Takes a count of blanks that are cells, at most [`BLANK_TEXT`](page_core_base::BLANK_TEXT), as [`piece`](Filler::piece) takes a text of them.
+    ///
+    /// Its faults are those of the sinks; after one, and after [`finish`](Filler::finish), it is [`Fault::Failed`].
+    pub fn take_blanks<R: RowSink, N: NoteSink>(
+        &mut self,
+        count: usize,
+        font: Font,
+        place: Place,
+        rows: &mut R,
+        notes: &mut N,
+    ) -> Result<(), Fault>
+        requires { count ≤ BLANK_TEXT }
+        ensures gets { (e : Edge) → self.old ≡ Some e
+            → Gets result R.gave R.within N.gave N.within rows.old rows.new notes.old notes.new
+            (filled e (shown (Text (replicate count 32) font place) ∷ [])) }
+        ensures edge { (e : Edge) → self.old ≡ Some e
+            → OnOk result (self.new ≡ Some (filled e (shown (Text (replicate count 32) font place) ∷ [])).edge) }
+        ensures faults { (e : Edge) → self.old ≡ Some e
+            → FailsBySink result (R.failed rows.old) (R.failed rows.new)
+            (N.failed notes.old) (N.failed notes.new) }
+        ensures closed { self.old ≡ None → (result ≡ Err Fault.Failed)
+            × (rows.new ≡ rows.old) × (notes.new ≡ notes.old) }
+        ensures stops { OnErr result (self.new ≡ None) }
+        ensures rows_same { R.loans rows.new ≡ R.loans rows.old }
+        ensures notes_same { N.loans notes.new ≡ N.loans notes.old }
+    {
+        if !self.is_going {
+            return Err(Fault::Failed);
+        }
+        let taken = self.edge.take_blanks(count, font, place, rows, notes);
+        if taken.is_err() {
+            self.is_going = false;
+        }
+        taken
     }
 
     /// Takes the first words of a text, with one blank before each, as far as the open row has room for them; answers how many

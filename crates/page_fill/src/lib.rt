@@ -7,13 +7,14 @@
 //! What the code does is a machine: one piece after another goes into the open row ([`Edge`], which is all that is held between two pieces), and rows
 //! go out as they are settled (`specs/machine/Fill.antt`, which you need not read to trust the result).
 //!
-//! Proved: `Filler` (`new`, `piece`, `take_words`, `finish`): what a piece settles is `filled` (`specs/Filling.antt`), and the end is `row_end`:
+//! Proved: `Filler` (`new`, `piece`, `take_blanks`, `take_words`, `finish`): what a piece settles is `filled` (`specs/Filling.antt`), and the end is `row_end`:
 //! groups of words fill rows by recursion on words, each row up to its first offending cell. `Filler::part`, `Filler::from_part`: what is held
 //! between two pieces. `caps_law`: it is within its limits. `words_law`: piece by piece is `filled` of the whole list, cut anywhere. `word_law`,
 //! `part_law`, `glue_law`: where a row ends; no row is wider unless its first part is; glued texts are one word. `stops_law`: the
 //! constants are those that the definitions cite.
 #![tactic(auto)]
 
+mod characters;
 mod edges;
 mod fillers;
 mod laws;

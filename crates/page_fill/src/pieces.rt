@@ -1,17 +1,23 @@
 //! Pieces, one by one, over two sinks.
 
-ghost use Rattle.std.specs.Prelude.{◌≡◌, ◌≤◌, length, IfOk, true, false};
+ghost use Rattle.std.specs.Prelude.{◌≡◌, ◌≤◌, length, replicate, IfOk, true, false};
 ghost use Rattle.page_core_base.specs.Fails.{FailsBySink};
 ghost use Rattle.page_core_base.specs.Laid.{Gets, nothing};
 ghost use Rattle.page_core_base.specs.Latches.{LaysOut};
 ghost use Rattle.page_core_base.specs.Pieces.{piece_of};
+ghost use Rattle.page_core_base.specs.declared.blank_texts.TheConstants.{BLANK_TEXT};
 ghost use Rattle.page_core_base.specs.declared.limits.TheConstants.{CELLS};
+ghost use Rattle.page_core_base.specs.declared.pieces.Piece.TheVariants.{Text};
+ghost use Rattle.page_fill_rows.specs.Characters.{characters_of};
 ghost use Rattle.page_fill.specs.Caps.{FillFits, IsHeld};
 ghost use Rattle.page_fill.specs.Edges.{under};
 ghost use Rattle.page_fill.specs.machine.Fill as fill;
 
 use crate::edges::{Edge, NO_WORD};
-use page_core_base::{Cell, Fault, NoteSink, Output, Piece, RowLatch, RowOut, RowSink, Settings};
+use page_core_base::{
+    BLANK_TEXT, Cell, Fault, Font, NoteSink, Output, Piece, Place, RowLatch, RowOut, RowSink,
+    Settings,
+};
 use page_fill_rows::OpenRow;
 use std::alloc::{AllocError, Global};
 
@@ -79,6 +85,29 @@ fn fill_piece<R: RowSink, N: NoteSink>(
 {
     let mut latch = RowLatch::new(rows, notes);
     take_piece(edge, piece, &mut latch);
+    latch.done()
+}
+
+// Takes a count of blanks over two sinks.
+fn fill_blanks<R: RowSink, N: NoteSink>(
+    edge: &mut Edge,
+    count: usize,
+    font: Font,
+    place: Place,
+    rows: &mut R,
+    notes: &mut N,
+) -> Result<(), Fault>
+    requires { count ≤ BLANK_TEXT }
+    ensures gets { Gets result R.gave R.within N.gave N.within rows.old rows.new notes.old notes.new
+        (fill.text edge.old (characters_of (replicate count 32)) font place) }
+    ensures edge { edge.new ≡ (fill.text edge.old (characters_of (replicate count 32)) font place).edge }
+    ensures faults { FailsBySink result (R.failed rows.old) (R.failed rows.new) (N.failed notes.old)
+        (N.failed notes.new) }
+    ensures rows_same { R.loans rows.new ≡ R.loans rows.old }
+    ensures notes_same { N.loans notes.new ≡ N.loans notes.old }
+{
+    let mut latch = RowLatch::new(rows, notes);
+    edge.blanks(count, font, place, &mut latch);
     latch.done()
 }
 
@@ -177,6 +206,31 @@ impl Edge {
             return Ok(());
         }
         fill_piece(self, piece, rows, notes)
+    }
+
+    /// Takes a count of blanks that are cells, at most [`BLANK_TEXT`], as [`piece`](Edge::piece) takes a text of them.
+    #[tactic(auto, unfolding(crate::specs::machine::Fill::laid_piece))]
+    pub fn take_blanks<R: RowSink, N: NoteSink>(
+        &mut self,
+        count: usize,
+        font: Font,
+        place: Place,
+        rows: &mut R,
+        notes: &mut N,
+    ) -> Result<(), Fault>
+        requires { count ≤ BLANK_TEXT }
+        ensures gets { Gets result R.gave R.within N.gave N.within rows.old rows.new notes.old notes.new
+            (fill.laid_piece self.old (Text (replicate count 32) font place)) }
+        ensures edge { self.new ≡ (fill.laid_piece self.old (Text (replicate count 32) font place)).edge }
+        ensures faults { FailsBySink result (R.failed rows.old) (R.failed rows.new) (N.failed notes.old)
+            (N.failed notes.new) }
+        ensures rows_same { R.loans rows.new ≡ R.loans rows.old }
+        ensures notes_same { N.loans notes.new ≡ N.loans notes.old }
+    {
+        if self.takes_blanks(count, font) {
+            return Ok(());
+        }
+        fill_blanks(self, count, font, place, rows, notes)
     }
 
     /// Ends the open row. Its faults are those of the sinks.

@@ -4,15 +4,19 @@ use Rattle.std.specs.List.{list_all}
 use Rattle.std.proofs.Math.Nat.{le-max_left, le-max_right}
 use Rattle.std.proofs.lemmas.Bool.{cases_Bool}
 use Rattle.std.proofs.lemmas.Bool.Decides.{nat_tests}
-use Rattle.std.proofs.lemmas.List.{get_or-take, get_or-append_right, get_or-replicate, get_or-set_other, length-take-le, replicate-append-replicate, take-append-drop, take-take, take_more}
+use Rattle.std.proofs.lemmas.List.{get_or-take, get_or-append_right, get_or-replicate, get_or-set_other, length-replicate, length-take-le, replicate-append-replicate, take-append-drop, take-take, take_more}
 use Rattle.std.proofs.lemmas.List.Folds.{list_all-append}
 use Rattle.page_core_base.specs.declared.cells.Cell.{Cell}
 use Rattle.page_core_base.specs.declared.cells.Font.{Font}
+use Rattle.page_core_base.specs.declared.limits.TheConstants.{CELLS}
 use Rattle.page_core_base.specs.Rows.{is_blank_row, row_of}
 use Rattle.page_fill_rows.specs.Characters.{cell_of, cells_of}
 use Rattle.page_fill_rows.specs.machine.BlankRuns.{HasRun, is_blank_byte}
 use Rattle.page_fill_rows.specs.machine.Plain.{is_printable_ascii}
+use Rattle.page_fill_rows.specs.declared.TheConstants.{TAG_COLUMNS}
+use Rattle.page_fill_rows.specs.machine.Room.{IsSound}
 use Rattle.page_fill_rows.proofs.BlankLemmas.{blanks-blank}
+use Rattle.page_fill_rows.proofs.PlainLemmas.{sound-more}
 
 -- ---- bytes that are blanks
 
@@ -32,6 +36,20 @@ pub blanks-plain : (bytes : List ℕ) → list_all is_blank_byte bytes ≡ true 
 blanks-plain [] all = refl
 blanks-plain (b ∷ bytes) all = rw (first-blank b bytes all, blanks-plain bytes (rest-blanks b bytes all)) refl
 
+-- their cells, added to others
+pub blanks-added : (cells new : List Cell) (font : Font) (bytes : List ℕ) → list_all is_blank_byte bytes ≡ true
+    → new ≡ cells ++ replicate (length bytes) (cell_of font 32) → new ≡ cells ++ cells_of font bytes
+blanks-added cells new font bytes all added = added ∙ ap (λ more. cells ++ more) (sym (blanks-cells font bytes all))
+
+-- a count of blanks
+pub count-blank : (count : ℕ) → list_all is_blank_byte (replicate count 32) ≡ true
+count-blank zero = refl
+count-blank (suc count) = count-blank count
+
+pub count-cells : (font : Font) (count : ℕ) → cells_of font (replicate count 32) ≡ replicate count (cell_of font 32)
+count-cells font zero = refl
+count-cells font (suc count) = ap (λ cells. cell_of font 32 ∷ cells) (count-cells font count)
+
 -- those before a place and those after it
 pub parts-blank : (is_blank : Bool) (n : ℕ) (bytes : List ℕ) → (is_blank ≡ true → list_all is_blank_byte bytes ≡ true)
     → (is_blank ≡ true → list_all is_blank_byte (take n bytes) ≡ true) × (is_blank ≡ true → list_all is_blank_byte (drop n bytes) ≡ true)
@@ -44,6 +62,15 @@ parts-blank is_blank n bytes all = ((λ is. front (all is)), (λ is. back (all i
 
   back : list_all is_blank_byte bytes ≡ true → list_all is_blank_byte (drop n bytes) ≡ true
   back is = grind (arith, both, is)
+
+-- a sound row with them is sound
+pub sound-blanks : {blanks : ℕ} (cells : List Cell) (n : ℕ) (font : Font) (count gap word tag tag-now : ℕ) → IsSound cells count gap word tag blanks
+    → length cells + n ≤ CELLS → tag-now ≤ TAG_COLUMNS → IsSound (cells ++ replicate n (cell_of font 32)) (count + n) gap word tag-now blanks
+sound-blanks cells n font count gap word tag tag-now sound room tagged =
+    let len = length-replicate {A = ℕ} n 32 in
+    let plain = blanks-plain (replicate n 32) (count-blank n) in
+    let more = sound-more cells (replicate n 32) font count gap word tag tag-now sound plain (omega (arith, len, room)) tagged in
+    rw (count-cells font n, len) at more
 
 -- ---- places
 
@@ -68,22 +95,13 @@ same-cells places start (suc n) cell all room =
     ∙ ap (λ cells. take start places ++ cells) (one-more n cell)))))
 
 -- blanks that are there already
-pub run-cells : (places : List Cell) (first last start : ℕ) (font : Font) (bytes : List ℕ) → HasRun places first last font → list_all is_blank_byte bytes ≡ true
-    → first ≤ start → start + length bytes ≤ last → start + length bytes ≤ length places
-    → take (start + length bytes) places ≡ take start places ++ cells_of font bytes
-run-cells places first last start font bytes run all from to room =
-    same-cells places start (length bytes) (cell_of font 32) (λ k h g. run.at k (omega (arith, h, from)) (omega (arith, g, to))) room
-    ∙ ap (λ cells. take start places ++ cells) (sym (blanks-cells font bytes all))
-
-pub run-cell : (places : List Cell) (first last start : ℕ) (font : Font) → HasRun places first last font
-    → first ≤ start → start + 1 ≤ last → start + 1 ≤ length places → take (start + 1) places ≡ take start places ++ cell_of font 32 ∷ []
-run-cell places first last start font run from to room = run-cells places first last start font (32 ∷ []) run refl from to room
+pub run-cells : (places : List Cell) (first last start count : ℕ) (font : Font) → HasRun places first last font
+    → first ≤ start → start + count ≤ last → start + count ≤ length places
+    → take (start + count) places ≡ take start places ++ replicate count (cell_of font 32)
+run-cells places first last start count font run from to room =
+    same-cells places start count (cell_of font 32) (λ k h g. run.at k (omega (arith, h, from)) (omega (arith, g, to))) room
 
 -- ---- what is known after places were put
-
--- nothing is known of no place
-pub no-run : (places : List Cell) (font : Font) → HasRun places 0 0 font
-no-run places font = record { at = λ k h g. absurd (omega (arith, g)) }
 
 -- places were put up to an end
 pub cut-run : (old new : List Cell) (first last end : ℕ) (font : Font) → HasRun old first last font
@@ -114,17 +132,16 @@ other-first places first last font cell run = record {
 }
 
 -- blanks were put
-pub put-run : (old new : List Cell) (start : ℕ) (font : Font) (bytes : List ℕ) → list_all is_blank_byte bytes ≡ true
-    → take (start + length bytes) new ≡ take start old ++ cells_of font bytes → start ≤ length old
-    → HasRun new start (start + length bytes) font
-put-run old new start font bytes all put within = record {
+pub put-run : (old new : List Cell) (start count : ℕ) (font : Font) → take (start + count) new ≡ take start old ++ replicate count (cell_of font 32)
+    → start ≤ length old → HasRun new start (start + count) font
+put-run old new start count font put within = record {
   at = λ k h g.
       let cell = cell_of font 32 in
-      let behind : k - start < length bytes = omega (arith, h, g) in
-      sym (get_or-take (start + length bytes) new k cell g)
-      ∙ (ap (λ cells. get_or cells k cell) (put ∙ ap (λ cells. take start old ++ cells) (blanks-cells font bytes all))
-      ∙ (get_or-append_right (take start old) (replicate (length bytes) cell) start k cell (length-take-le start old within) h
-      ∙ get_or-replicate (length bytes) (k - start) cell cell behind));
+      let behind : k - start < count = omega (arith, h, g) in
+      sym (get_or-take (start + count) new k cell g)
+      ∙ (ap (λ cells. get_or cells k cell) put
+      ∙ (get_or-append_right (take start old) (replicate count cell) start k cell (length-take-le start old within) h
+      ∙ get_or-replicate count (k - start) cell cell behind));
 }
 
 -- blanks were put behind others

@@ -1,10 +1,10 @@
-//! The open row, cell by cell, and what characters print in it (roff(7), "Filling and adjusting").
+//! The open row, cell by cell, and the plain texts that go into it as a whole (roff(7), "Filling and adjusting").
 //!
 //! In the pipeline (bytes, lines, roff, macro set, scopes, filling, rows) it is the last step: an [`OpenRow`] takes cells and blanks, and
 //! gives each row to a sink as soon as no later cell can change it. It knows words only by their places in the row; what a word is is
 //! in `page_fill`. Read `Sheet` in `specs/OpenRows.antt` first, which is all that a row holds, and then `specs/Characters.antt`.
 //!
-//! Proved: `OpenRow`, `put_character`, `put_characters`, `put_glyph`, `put_plain`, `printable_len`, `word_start`: what the open row is after each
+//! Proved: `OpenRow`, `put_bytes`, `put_plain`, `printable_len`, `word_start`: what the open row is after each
 //! call, and the rows and messages that the call settles (`specs/Characters.antt`, `specs/machine/Sheets.antt` and `Plain.antt`). `plain_law`:
 //! printable ASCII that is put into the row as a whole settles what its cells settle one by one. `constants_law`: the constants are those
 //! that the definitions cite.
@@ -15,7 +15,6 @@ ghost use Rattle.page_fill_rows.specs.OpenRows as rows;
 
 mod blank_runs;
 mod cell_widths;
-mod characters;
 mod laws;
 mod open_rows;
 mod plain_texts;
@@ -34,7 +33,6 @@ pub fn constants_law()
 
 pub use blank_runs::is_long_run;
 pub use cell_widths::columns;
-pub use characters::{is_printable_ascii, put_character, put_characters, put_glyph, put_plain};
 pub use laws::plain_law;
 pub use open_rows::OpenRow;
-pub use plain_texts::{printable_len, word_start};
+pub use plain_texts::{is_printable_ascii, printable_len, put_bytes, put_plain, word_start};

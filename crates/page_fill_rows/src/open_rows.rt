@@ -505,6 +505,21 @@ impl OpenRow {
         true
     }
 
+    /// The row, which has a cell and room, takes a count of blanks of its last word.
+    pub fn add_blanks(&mut self, count: usize, font: Font)
+        requires some { (length self.old.cells == 0) ≡ false }
+        requires room { length self.old.cells + count ≤ CELLS }
+        ensures { self.new ≡ plain.taken self.old (replicate count (shown.cell_of font 32)) }
+    {
+        self.row.add_blanks(count, font);
+        self.columns += count as u32;
+        self.tag_columns = self
+            .tag_columns
+            .saturating_add(count as u32)
+            .min(TAG_COLUMNS);
+        self.has_tag_cell = true;
+    }
+
     /// How many cells of a column each a filled row that has a cell takes before it ends; 0 for any other row.
     pub fn free_cells(&self) -> usize
         ensures value { result ≡ plain.free_cells self.now }

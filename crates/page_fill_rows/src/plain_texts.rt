@@ -1,10 +1,19 @@
-//! Texts whose bytes are read for the open row as a whole.
+//! Plain texts: their bytes are read, and put into the open row, as a whole.
 
-ghost use Rattle.std.specs.Prelude.{◌≡◌, ◌≤◌, ◌<◌, length};
-ghost use Rattle.std.specs.List.{prefix_len};
+ghost use Rattle.std.specs.Prelude.{◌≡◌, ◌≤◌, ◌<◌, length, true};
+ghost use Rattle.std.specs.List.{list_all, prefix_len};
+ghost use Rattle.page_core_base.specs.Latches.{LaysOut};
+ghost use Rattle.page_fill_rows.specs.Characters as shown;
+ghost use Rattle.page_fill_rows.specs.machine.BlankRuns.{is_blank_byte};
 ghost use Rattle.page_fill_rows.specs.machine.Plain as plain;
+ghost use Rattle.page_fill_rows.specs.machine.Sheets as sheet;
 
+use crate::open_rows::OpenRow;
+use page_core_base::{Cell, Font, Place, RowOut};
 use std::simd::prelude::*;
+
+// The characters of a plain text that are put together, be there room for them or not.
+const PART: usize = 64;
 
 // The bytes that are searched for a blank at a time.
 const LANES: usize = 16;
@@ -39,9 +48,9 @@ fn groups_printable<const GROUP: usize>(bytes: &[u8]) -> bool
     are_printable(&bytes[last..])
 }
 
-// The same, in the largest groups that have room in the text.
+/// Whether bytes are printable ASCII, of a column each: in the largest groups that have room in the text.
 #[inline(always)]
-pub(crate) fn all_printable(bytes: &[u8]) -> bool
+pub fn is_printable_ascii(bytes: &[u8]) -> bool
     ensures { result ≡ plain.is_printable_ascii bytes.now }
 {
     match bytes.len() {
@@ -56,7 +65,7 @@ pub fn printable_len(bytes: &[u8]) -> usize
     ensures value { result ≡ prefix_len plain.is_printable bytes.now }
     ensures within { result ≤ length bytes.now }
 {
-    if all_printable(bytes) {
+    if is_printable_ascii(bytes) {
         return bytes.len();
     }
     for i in 0..bytes.len() {
@@ -103,4 +112,62 @@ pub fn word_start(bytes: &[u8]) -> usize
         return front + start;
     }
     start_by_bytes(&bytes[..front])
+}
+
+/// Puts the characters of a plain text, which may be known to be blanks alone: of a long one, those for which a row has room together.
+pub fn put_plain<O: RowOut>(
+    row: &mut OpenRow,
+    bytes: &[u8],
+    is_blank: bool,
+    font: Font,
+    place: Place,
+    out: &mut O,
+)
+    requires plain { plain.is_printable_ascii bytes.now ≡ true }
+    requires blanks { is_blank ≡ true → list_all is_blank_byte bytes.now ≡ true }
+    ensures { LaysOut O.left out.old (sheet.letters row.old
+        (shown.cells_of font bytes.now) place) out.new row.new }
+{
+    let mut rest = bytes;
+    while rest.len() > PART {
+        let (part, later) = rest.split_at(row.part_len(rest.len()));
+        put_part(row, part, is_blank, font, place, out);
+        rest = later;
+    }
+    put_part(row, rest, is_blank, font, place, out);
+}
+
+// Puts the characters of a part of a plain text: all of them together if the row has room for them.
+fn put_part<O: RowOut>(
+    row: &mut OpenRow,
+    bytes: &[u8],
+    is_blank: bool,
+    font: Font,
+    place: Place,
+    out: &mut O,
+)
+    requires plain { plain.is_printable_ascii bytes.now ≡ true }
+    requires blanks { is_blank ≡ true → list_all is_blank_byte bytes.now ≡ true }
+    ensures { LaysOut O.left out.old (sheet.letters row.old
+        (shown.cells_of font bytes.now) place) out.new row.new }
+{
+    if !bytes.is_empty() && row.has_room(bytes.len()) {
+        row.add_plain(bytes, is_blank, font);
+        return;
+    }
+    put_bytes(row, bytes, font, place, out);
+}
+
+/// Puts cells of bytes, each a character.
+pub fn put_bytes<O: RowOut>(row: &mut OpenRow, bytes: &[u8], font: Font, place: Place, out: &mut O)
+    ensures { LaysOut O.left out.old (sheet.letters row.old
+        (shown.cells_of font bytes.now) place) out.new row.new }
+{
+    for byte in bytes {
+        let cell = Cell {
+            c: *byte as char,
+            font,
+        };
+        row.put_letter(cell, place, out);
+    }
 }

@@ -12,7 +12,7 @@ ghost use Rattle.page_fill_rows.specs.machine.Sheets as sheet;
 
 use crate::blank_runs::{BlankRun, NO_RUN, is_long_run};
 use crate::cell_widths::{BLANK, is_blank};
-use crate::plain_texts::all_printable;
+use crate::plain_texts::is_printable_ascii;
 use page_core_base::{CELLS, Cell, Font};
 use std::alloc::{AllocError, Global};
 use std::marker::Model;
@@ -142,19 +142,18 @@ impl RowCells {
         self.len -= start;
     }
 
-    // Appends a blank for each byte, all of which are blanks.
-    fn add_blanks(&mut self, bytes: &[u8], font: Font)
-        requires blanks { list_all is_blank_byte bytes.now ≡ true }
-        requires room { length self.old + length bytes.now ≤ CELLS }
-        ensures { self.new ≡ self.old ++ shown.cells_of font bytes.now }
+    /// Appends a count of blanks.
+    pub(crate) fn add_blanks(&mut self, count: usize, font: Font)
+        requires { length self.old + count ≤ CELLS }
+        ensures { self.new ≡ self.old ++ replicate count (shown.cell_of font 32) }
     {
         let start = self.len;
-        let end = start + bytes.len();
+        let end = start + count;
         if self.run.has(start, end, font) {
             self.len = end;
             return;
         }
-        put_cells(&mut self.places, start, bytes, font);
+        put_blanks(&mut self.places, start, count, font);
         self.run = self.run.with(start, end, font);
         self.len = end;
     }
@@ -167,7 +166,7 @@ impl RowCells {
         ensures { self.new ≡ self.old ++ shown.cells_of font bytes.now }
     {
         if is_blank || is_long_run(bytes) {
-            return self.add_blanks(bytes, font);
+            return self.add_blanks(bytes.len(), font);
         }
         let end = self.len + bytes.len();
         put_cells(&mut self.places, self.len, bytes, font);
@@ -182,7 +181,7 @@ impl RowCells {
         ensures cells { self.new ≡ (if result then self.old ++ shown.cells_of font bytes.now else self.old) }
     {
         if is_long_run(bytes) {
-            self.add_blanks(bytes, font);
+            self.add_blanks(bytes.len(), font);
             return true;
         }
         self.add_word(0, bytes, font)
@@ -199,7 +198,7 @@ impl RowCells {
         let start = self.len + blanks as usize;
         let end = start + bytes.len();
         self.run.cut(end);
-        put_blanks(&mut self.places, self.len, blanks as usize);
+        put_blanks(&mut self.places, self.len, blanks as usize, Font::R);
         if !put_printable(&mut self.places, start, bytes, font) {
             return false;
         }
@@ -238,19 +237,19 @@ fn put_cells(places: &mut [Cell], start: usize, bytes: &[u8], font: Font)
 }
 
 // Puts a count of blanks at a start and after it.
-fn put_blanks(places: &mut [Cell], start: usize, count: usize)
+fn put_blanks(places: &mut [Cell], start: usize, count: usize, font: Font)
     requires { start + count ≤ length places.old }
-    ensures blanks { take (start + count) places.new ≡ take start places.old ++ replicate count sheet.blank }
+    ensures blanks { take (start + count) places.new ≡ take start places.old ++ replicate count (shown.cell_of font 32) }
     ensures before { take start places.new ≡ take start places.old }
     ensures after { (k : ℕ) (d : Cell) → start + count ≤ k → get_or places.new k d ≡ get_or places.old k d }
     ensures len { length places.new ≡ length places.old }
 {
     if count == 1 {
-        places[start] = BLANK;
+        places[start] = Cell { c: ' ', font };
         return;
     }
     for i in 0..count {
-        places[start + i] = BLANK;
+        places[start + i] = Cell { c: ' ', font };
     }
 }
 
@@ -268,7 +267,7 @@ fn put_printable(places: &mut [Cell], start: usize, bytes: &[u8], font: Font) ->
     if bytes.len() < LONG {
         return put_word(places, start, bytes, font);
     }
-    if !all_printable(bytes) {
+    if !is_printable_ascii(bytes) {
         return false;
     }
     put_cells(places, start, bytes, font);

@@ -1,6 +1,5 @@
 -- A text, part by part.
-use Rattle.std.proofs.Common.{◌≡◌, ℕ, ◌≤◌, Bool, true, false, List, [], ◌++◌, length, take, drop, replicate, refl, ap, append-nil}
-use Rattle.std.proofs.lemmas.List.{take-replicate}
+use Rattle.std.proofs.Common.{◌≡◌, ℕ, ◌≤◌, Bool, true, false, List, [], ◌++◌, length, take, drop, refl, ap, append-nil}
 use Rattle.page_core_escapes.specs.Tokens.{begins_white, begins_word, token_len}
 use Rattle.page_scopes_words.specs.Words.{has_tab}
 use Rattle.page_scopes_text.proofs.PartedLemmas.{no_word, spaced_more, white_some, word_some, words_more, words_none}
@@ -102,8 +101,3 @@ pub after_text_leading : (style : TextStyle) (pen : Pen) (text : List ℕ) → b
     ≡ others_after style (leading_after style pen (spaced_front style.is_quoted text)) (words_of style.is_quoted (drop (token_len style.is_quoted text) text)).others
 after_text_leading style pen text h =
     ap (text_after style pen) (spaced_more style.is_quoted text (token_len style.is_quoted text) h (white_some style.is_quoted text h) refl)
-
--- ---- the blanks of `\h`
-
-pub first_blanks : (count blank : ℕ) → count ≤ 1000 → take count (replicate 1000 blank) ≡ replicate count blank
-first_blanks count blank within = take-replicate count 1000 blank within

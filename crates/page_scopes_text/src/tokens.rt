@@ -47,16 +47,13 @@ pub fn give_blank_cells<O: PieceOut>(out: &mut O, count: u32, font: Font, place:
     }
 }
 
-// The blanks of the widest `\h`.
-static BLANKS: [u8; 1000] = [b' '; 1000];
-
 /// Gives a count of blanks that are cells as one text.
 pub fn give_blank_text<O: PieceOut>(out: &mut O, count: u32, font: Font, place: Place)
     requires { count ≤ 1000 }
     ensures { Came O.left out.old (words.blank_text count font place) out.new }
 {
     if count != 0 {
-        give_letters(out, font, place, &BLANKS[..count as usize]);
+        out.give_blanks(count as usize, font, place);
     }
 }
 

@@ -1,6 +1,6 @@
 use Rattle.std.proofs.Common.{append_assoc, ap, arith, sym, ◌∙◌}
 use Rattle.page_fill_rows.proofs.CharacterLemmas.{bytes-more, bytes-done}
-use Rattle.page_fill_rows.proofs.characters.put_bytes.Goals as goal
+use Rattle.page_fill_rows.proofs.plain_texts.put_bytes.Goals as goal
 
 pub loop-byte-preserved : goal.loop-byte-preserved
 loop-byte-preserved g c =

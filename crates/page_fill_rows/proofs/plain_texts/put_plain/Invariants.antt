@@ -5,7 +5,7 @@ use Rattle.page_fill_rows.specs.machine.Sheets as sheet
 use Rattle.page_fill_rows.specs.Characters as shown
 use Rattle.page_fill_rows.specs.machine.BlankRuns.{is_blank_byte}
 use Rattle.page_fill_rows.specs.machine.Plain as plain
-use Rattle.page_fill_rows.proofs.characters.put_plain.Given as goal
+use Rattle.page_fill_rows.proofs.plain_texts.put_plain.Given as goal
 
 abbrev pub invariant-loop-rest : goal.invariant-loop-rest
 invariant-loop-rest g l =

@@ -2,7 +2,7 @@ use Rattle.std.proofs.Common.{append_assoc, ap, sym, ◌∙◌}
 use Rattle.page_fill_rows.proofs.BlankRunLemmas.{parts-blank}
 use Rattle.page_fill_rows.proofs.CharacterLemmas.{parts-more}
 use Rattle.page_fill_rows.proofs.PlainLemmas.{parts-plain}
-use Rattle.page_fill_rows.proofs.characters.put_plain.Goals as goal
+use Rattle.page_fill_rows.proofs.plain_texts.put_plain.Goals as goal
 
 pub put_part-requires-clause-plain : goal.put_part-requires-clause-plain
 put_part-requires-clause-plain g c =

@@ -1,6 +1,6 @@
 use Rattle.std.proofs.Common.{sym, ◌∙◌}
 use Rattle.page_fill_rows.proofs.PlainLemmas.{letters-fits}
-use Rattle.page_fill_rows.proofs.characters.put_part.Goals as goal
+use Rattle.page_fill_rows.proofs.plain_texts.put_part.Goals as goal
 
 pub returns-then-has_room : goal.returns-then-has_room
 returns-then-has_room g c =
