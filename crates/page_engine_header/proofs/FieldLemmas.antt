@@ -1,6 +1,5 @@
 -- The fields of a header or footer: helpers of proofs.
 use Rattle.std.proofs.Common.{◌≡◌, ℕ, zero, suc, ◌-◌, ◌<◌, ◌≤◌, length, List, [], ◌∷◌, ◌++◌, take, drop, refl, ap, ◌∙◌, arith}
-use Rattle.std.proofs.lemmas.List.{length-take}
 use Rattle.std.specs.List.{flat_map}
 use Rattle.std.specs.Str.Lossy.{utf8_valid_len}
 use Rattle.page_core_base.specs.Messages.{text_front}
@@ -22,12 +21,6 @@ front_within n text =
     let a = take_short (utf8_valid_len (take n text)) (take n text) in
     let b = take_short n text in
     omega (arith, a, b)
-
-pub front_fits : (n : ℕ) (text : List ℕ) → length (text_front n text) ≤ n
-unfolding text_front
-front_fits n text =
-    let a = take_short (utf8_valid_len (take n text)) (take n text) in
-    omega (arith, a, length-take n text)
 
 -- ---- arguments, one after another
 

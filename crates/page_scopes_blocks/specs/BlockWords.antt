@@ -1,8 +1,7 @@
 -- The words that blocks and line scopes of mdoc(7) print themselves, where they begin and where they end. Source: mdoc(7), "MACRO REFERENCE".
-use Rattle.std.specs.Prelude.{ℕ, min, false, List, Option, None, Some, codes}
+use Rattle.std.specs.Prelude.{ℕ, List, Option, None, Some, codes}
 use Rattle.page_core_base.specs.declared.cells.Font.TheVariants.{B}
 use Rattle.page_core_base.specs.declared.places.Place.{Place}
-use Rattle.page_core_base.specs.Limits.{LINE}
 use Rattle.page_roff_syntax.specs.declared.quotes.Argument.{Argument}
 use Rattle.page_scopes_layout.specs.declared.contexts.Context.{Context}
 use Rattle.page_scopes_layout.specs.declared.contexts.SeriesSoFar.{SeriesSoFar}
@@ -10,7 +9,7 @@ use Rattle.page_scopes_layout.specs.declared.contexts.SeriesSoFar.TheVariants.{B
 use Rattle.page_scopes_phrases.specs.LineWords.{argument_word, line_word, generated_word}
 use Rattle.page_scopes_phrases.specs.Outcomes.{Outcome, followed_by, nothing}
 use Rattle.page_scopes_phrases.specs.FunctionEnds.{function_end}
-use Rattle.page_scopes_phrases.specs.Phrases.{phrase_context, phrase_items, phrase_running}
+use Rattle.page_scopes_phrases.specs.Phrases.{own_phrase, phrase_context, phrase_items, phrase_running}
 use Rattle.page_scopes_phrases.specs.declared.phrases.Phrase.{Phrase}
 use Rattle.page_scopes_phrases.specs.declared.runnings.Running.{Running}
 use Rattle.page_scopes_labels.specs.declared.labels.Explicit.{Explicit}
@@ -38,16 +37,7 @@ opening_word marks = record { text = opening marks; font = None; before = Apart;
 
 -- a dash is before a description (`Nd`)
 abbrev pub dash_phrase : Place → Phrase (List ℕ)
-dash_phrase place = record {
-  text = codes "\\(en";
-  column = min place.column LINE;
-  is_quoted = false;
-  is_line = false;
-  is_written = false;
-  font = None;
-  before = Apart;
-  after = Apart;
-}
+dash_phrase place = own_phrase place (codes "\\(en") None Apart Apart
 
 abbrev pub dash : Place → Context → Running → Outcome
 dash place c r = record {

@@ -1,7 +1,6 @@
 -- Items of lists: their marks and numbers. Source: mdoc(7), `Bl` and `It`.
-use Rattle.std.specs.Prelude.{ℕ, min, false, List, ◌++◌, Option, None, Some, codes, decimal, pos}
+use Rattle.std.specs.Prelude.{ℕ, List, ◌++◌, Option, None, Some, codes, decimal, pos}
 use Rattle.page_core_base.specs.declared.places.Place.{Place}
-use Rattle.page_core_base.specs.Limits.{LINE}
 use Rattle.page_scopes_layout.specs.Begins.{entered_context}
 use Rattle.page_scopes_layout.specs.Lists.{item_begun}
 use Rattle.page_scopes_layout.specs.Margins.{hold}
@@ -9,11 +8,12 @@ use Rattle.page_scopes_layout.specs.Nodes.{begin_items, margin_items}
 use Rattle.page_scopes_layout.specs.declared.contexts.Context.{Context}
 use Rattle.page_scopes_layout.specs.declared.lists.OpenList.{OpenList}
 use Rattle.page_scopes_phrases.specs.Outcomes.{Outcome, followed_by, nothing}
+use Rattle.page_scopes_phrases.specs.Phrases.{own_phrase}
 use Rattle.page_scopes_phrases.specs.Runnings.{row_ended}
-use Rattle.page_scopes_phrases.specs.Tags.{phrase_tag}
+use Rattle.page_scopes_blocks.specs.Tags.{phrase_tag}
 use Rattle.page_scopes_phrases.specs.declared.phrases.Phrase.{Phrase}
 use Rattle.page_scopes_phrases.specs.declared.runnings.Running.{Running}
-use Rattle.page_scopes_phrases.specs.declared.tags.TagPlace.{TagPlace}
+use Rattle.page_scopes_blocks.specs.declared.tags.TagPlace.{TagPlace}
 use Rattle.page_scopes_labels.specs.declared.labels.Label.TheVariants as labels
 use Rattle.page_sets_lines.specs.declared.events.Join.TheVariants.{Apart}
 use Rattle.page_sets_lines.specs.declared.lists.ListKind.{ListKind}
@@ -31,16 +31,7 @@ mark_of _ number = None
 
 -- it is at its macro
 abbrev pub mark_phrase : Place → List ℕ → Phrase (List ℕ)
-mark_phrase place mark = record {
-  text = mark;
-  column = min place.column LINE;
-  is_quoted = false;
-  is_line = false;
-  is_written = false;
-  font = None;
-  before = Apart;
-  after = Apart;
-}
+mark_phrase place mark = own_phrase place mark None Apart Apart
 
 abbrev pub mark_place : OpenList → TagPlace
 mark_place list = record { margin = list.head; hang = hold (pos list.hang) }

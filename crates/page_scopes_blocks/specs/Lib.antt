@@ -1,3 +1,4 @@
+pub mod Tags
 pub mod BlockWords
 pub mod Blocks
 pub mod NameHangs

@@ -8,7 +8,7 @@ ghost use Rattle.page_scopes_phrases.specs.Outcomes.{GivesOutcome};
 ghost use Rattle.page_scopes_phrases.specs.Phrases.{phrase_view};
 ghost use Rattle.page_sets_lines.specs.Events.{block_opener_view, given_view, word_view};
 
-use page_core_base::{Font, LINE, PieceOut, Place};
+use page_core_base::{Font, PieceOut, Place};
 use page_roff_syntax::Argument;
 use page_scopes_labels::{Explicit, Label};
 use page_scopes_layout::{Context, SeriesSoFar};
@@ -49,16 +49,7 @@ fn dash_phrase(place: Place) -> Phrase<&'static [u8]>
     ensures seen { phrase_view result ≡ words.dash_phrase place }
     ensures fits { FitsAt result.column result.text.now }
 {
-    Phrase {
-        text: b"\\(en",
-        column: place.column.min(LINE as u32),
-        is_quoted: false,
-        is_line: false,
-        is_written: false,
-        font: None,
-        before: Join::Apart,
-        after: Join::Apart,
-    }
+    Phrase::own(place, b"\\(en", None, Join::Apart, Join::Apart)
 }
 
 // Gives the dash of `Nd`.

@@ -6,12 +6,13 @@ ghost use Rattle.page_scopes_phrases.specs.Outcomes.{GivesOutcome};
 ghost use Rattle.page_scopes_phrases.specs.Phrases.{phrase_view};
 ghost use Rattle.page_scopes_blocks.specs.Items as items;
 
+use crate::tags::{TagPlace, give_phrase_tag};
 use arrayvec::ArrayVec;
 use itoa::Buffer;
-use page_core_base::{LINE, PieceOut, Place};
+use page_core_base::{PieceOut, Place};
 use page_scopes_labels::Label;
 use page_scopes_layout::{Context, OpenList, give_begin, give_margins, hold};
-use page_scopes_phrases::{Phrase, Running, TagPlace, give_phrase_tag};
+use page_scopes_phrases::{Phrase, Running};
 use page_sets_lines::{Join, ListKind};
 
 // Room for a number and a full stop.
@@ -34,16 +35,7 @@ fn mark_phrase<'a>(place: Place, mark: &'a [u8]) -> Phrase<&'a [u8]>
     ensures seen { phrase_view result ≡ items.mark_phrase place mark.now }
     ensures fits { FitsAt result.column result.text.now }
 {
-    Phrase {
-        text: mark,
-        column: place.column.min(LINE as u32),
-        is_quoted: false,
-        is_line: false,
-        is_written: false,
-        font: None,
-        before: Join::Apart,
-        after: Join::Apart,
-    }
+    Phrase::own(place, mark, None, Join::Apart, Join::Apart)
 }
 
 // Where the mark of the open item is.

@@ -1,6 +1,5 @@
 -- Lists: what is known of an open one, and the contexts of its items. Source: mdoc(7), `Bl`.
 use Rattle.std.specs.Prelude.{ℕ, ◌+◌, ◌^◌, ◌-◌, min, nat_lt, Bool, true, false, ◌&&◌, ◌||◌, if◌then◌else◌, Option, None, Some, replicate, slice_set, get_or, ℤ, pos, ◌+ℤ◌}
-use Rattle.std.proofs.Common.{arith}
 use Rattle.std.proofs.Math.Nat.{min-le_right}
 use Rattle.page_core_base.specs.Limits.{COLUMNS}
 use Rattle.page_core_base.specs.declared.cells.Font.TheVariants.{B}
@@ -16,7 +15,7 @@ use Rattle.page_scopes_layout.specs.declared.lists.OpenList.{OpenList}
 -- ---- the widths of columns; `fits` bounds their count
 
 abbrev pub no_widths : ColumnWidths
-no_widths = record { widths = replicate COLUMNS 0; count = 0; fits = omega arith }
+no_widths = record { widths = replicate COLUMNS 0; count = 0; fits = min-le_right 0 COLUMNS }
 
 abbrev pub has_room : ColumnWidths → Bool
 has_room w = nat_lt w.count COLUMNS

@@ -18,9 +18,9 @@ use Rattle.page_sets_lines.specs.declared.blocks.BlockOpener.TheVariants as bloc
 use Rattle.page_scopes_phrases.specs.LineWords.{argument_word}
 use Rattle.page_scopes_phrases.specs.Outcomes.{Outcome, after_notes, followed_by, nothing}
 use Rattle.page_scopes_phrases.specs.Runnings.{row_ended}
-use Rattle.page_scopes_phrases.specs.Tags.{tag}
+use Rattle.page_scopes_blocks.specs.Tags.{tag}
 use Rattle.page_scopes_phrases.specs.declared.runnings.Running.{Running}
-use Rattle.page_scopes_phrases.specs.declared.tags.TagPlace.{TagPlace}
+use Rattle.page_scopes_blocks.specs.declared.tags.TagPlace.{TagPlace}
 use Rattle.page_scopes_text.specs.Numbers.{columns_notes, columns_value}
 use Rattle.page_scopes_labels.specs.declared.labels.Explicit.TheVariants.{RelativeMargin, Syntax}
 use Rattle.page_scopes_labels.specs.declared.labels.Label.{Label}

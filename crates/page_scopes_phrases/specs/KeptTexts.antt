@@ -1,8 +1,5 @@
 -- Texts that are kept of an argument and printed later: the target of a link, and the name of the manual. Source: man(7), `UR`, `MT`; mdoc(7), `Nm`.
 use Rattle.std.specs.Prelude.{ℕ, ◌≤◌, Bool, true, false, ◌||◌, ◌==◌, nat_lt, List, [], ◌∷◌, ◌++◌, length, take, codes, if◌then◌else◌}
-use Rattle.std.proofs.Common.{arith}
-use Rattle.std.proofs.lemmas.List.{length-take}
-use Rattle.std.specs.Str.Lossy.{utf8_valid_len}
 use Rattle.std.specs.List.{list_any}
 use Rattle.page_core_base.specs.Messages.{text_front}
 use Rattle.page_core_base.specs.Pieces.{Item, shown}
@@ -15,6 +12,7 @@ use Rattle.page_core_escapes.specs.Tokens.{TextToken, white, tokens_of}
 use Rattle.page_core_base.specs.Limits.{FIELD}
 use Rattle.page_roff_syntax.specs.Arguments.{argument_value}
 use Rattle.page_roff_syntax.specs.declared.quotes.Argument.{Argument}
+use Rattle.page_scopes_words.proofs.FrontLemmas.{front_fits}
 use Rattle.page_scopes_words.specs.declared.settings.Setting.{Setting}
 use Rattle.page_scopes_phrases.specs.Runnings.{next_gap}
 use Rattle.page_scopes_phrases.specs.declared.kept_texts.KeptText.{KeptText}
@@ -23,17 +21,10 @@ use Rattle.page_scopes_text.specs.Words.{blank_cells, fonts_after, token_items, 
 use Rattle.page_scopes_words.specs.Words.{has_tab, says, white_cells}
 use Rattle.page_scopes_words.specs.declared.fonts.Fonts.{Fonts}
 
-pub front_fits : (text : List ℕ) → length (text_front FIELD text) ≤ FIELD
-unfolding text_front
-front_fits text =
-    let a = length-take FIELD text in
-    let b = length-take (utf8_valid_len (take FIELD text)) (take FIELD text) in
-    omega (arith, a, b)
-
 -- The first FIELD bytes of what an argument says are kept, up to a character's end, and so no more, as `fits` says of each that there is. A
 -- pair of quotes in a quoted argument is one byte.
 abbrev pub kept_of : Argument (List ℕ) → KeptText
-kept_of argument = record { text = text_front FIELD (argument_value argument); fits = front_fits (argument_value argument) }
+kept_of argument = record { text = text_front FIELD (argument_value argument); fits = front_fits FIELD (argument_value argument) }
 
 abbrev pub cut_notes : Place → Argument (List ℕ) → List Item
 cut_notes place argument = if nat_lt FIELD (length (argument_value argument)) then says Limit place (codes "FIELD") ∷ [] else []

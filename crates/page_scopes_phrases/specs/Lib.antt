@@ -5,6 +5,5 @@ pub mod Cells
 pub mod LineWords
 pub mod KeptTexts
 pub mod ManualNames
-pub mod Tags
 pub mod FunctionEnds
 pub mod machine

@@ -1,10 +1,9 @@
 -- Words of a line, and words that a macro prints itself. Source: man(7), mdoc(7); roff(7), "Macro syntax".
-use Rattle.std.specs.Prelude.{ℕ, ◌-◌, min, Bool, true, false, not, ◌&&◌, ◌||◌, List, [], ◌∷◌, ◌++◌, Option}
+use Rattle.std.specs.Prelude.{ℕ, ◌-◌, Bool, true, false, not, ◌&&◌, ◌||◌, List, [], ◌∷◌, ◌++◌, Option}
 use Rattle.page_core_base.specs.Pieces.{Item}
 use Rattle.page_core_base.specs.declared.cells.Font.{Font}
 use Rattle.page_core_base.specs.declared.note_kinds.NoteKind.TheVariants.{Unterminated}
 use Rattle.page_core_base.specs.declared.places.Place.{Place}
-use Rattle.page_core_base.specs.Limits.{LINE}
 use Rattle.page_roff_syntax.specs.Arguments.{is_quoted}
 use Rattle.page_roff_syntax.specs.declared.quotes.Argument.{Argument}
 use Rattle.page_roff_syntax.specs.declared.quotes.Quoting.{Quoting}
@@ -12,7 +11,7 @@ use Rattle.page_roff_syntax.specs.declared.quotes.Quoting.TheVariants.{Unclosed}
 use Rattle.page_scopes_layout.specs.declared.contexts.Context.{Context}
 use Rattle.page_scopes_phrases.specs.Cells.{text_outcome}
 use Rattle.page_scopes_phrases.specs.Outcomes.{Outcome}
-use Rattle.page_scopes_phrases.specs.Phrases.{phrase_context, phrase_items, phrase_running}
+use Rattle.page_scopes_phrases.specs.Phrases.{own_phrase, phrase_context, phrase_items, phrase_running}
 use Rattle.page_scopes_phrases.specs.declared.phrases.Phrase.{Phrase}
 use Rattle.page_scopes_phrases.specs.declared.runnings.Running.{Running}
 use Rattle.page_scopes_words.specs.Sentences.{ends_sentence}
@@ -67,18 +66,9 @@ argument_word font before argument = record { arg = argument; role = roles.Argum
 
 -- ---- words of a macro's own
 
--- it is at its macro, which is in a line
 abbrev pub generated_phrase : Place → (spacing : Bool) → GeneratedWord → Phrase (List ℕ)
-generated_phrase place spacing word = record {
-  text = generated_text (generated_spaced spacing word.text);
-  column = min place.column LINE;
-  is_quoted = false;
-  is_line = false;
-  is_written = false;
-  font = word.font;
-  before = word.before;
-  after = word.after;
-}
+generated_phrase place spacing word =
+    own_phrase place (generated_text (generated_spaced spacing word.text)) word.font word.before word.after
 
 -- a mark of a macro ends no sentence, and leaves one that has ended; after a word none has ended, but after those of `Ex` and `Rv` one has. A dash may be glued to what comes after it in its line
 abbrev pub after_generated : GeneratedText → Running → Running

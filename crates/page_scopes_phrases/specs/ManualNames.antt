@@ -1,18 +1,17 @@
 -- The name of the manual: the first word of the first `Nm` that has one, which each `Nm` without words prints. Source: mdoc(7), `Nm`.
-use Rattle.std.specs.Prelude.{ℕ, min, max, nat_lt, ◌==◌, Bool, false, ◌||◌, ◌&&◌, if◌then◌else◌, List, [], ◌∷◌, ◌++◌, length, Option, None, Some}
+use Rattle.std.specs.Prelude.{ℕ, max, nat_lt, ◌==◌, Bool, false, ◌||◌, ◌&&◌, if◌then◌else◌, List, [], ◌∷◌, ◌++◌, length, Option, None, Some}
 use Rattle.page_core_base.specs.Pieces.{Item, shown}
 use Rattle.page_core_base.specs.declared.cells.Font.TheVariants.{B}
 use Rattle.page_core_base.specs.declared.note_kinds.NoteKind.TheVariants.{MissingName}
 use Rattle.page_core_base.specs.declared.pieces.Piece.TheVariants.{Text}
 use Rattle.page_core_base.specs.declared.places.Place.{Place}
-use Rattle.page_core_base.specs.Limits.{LINE}
 use Rattle.page_roff_syntax.specs.declared.quotes.Argument.{Argument}
 use Rattle.page_scopes_layout.specs.declared.contexts.Context.{Context}
 use Rattle.page_scopes_layout.specs.Headings.{heading_further}
 use Rattle.page_scopes_phrases.specs.KeptTexts.{after_kept, cut_notes, gap_items, kept_items, kept_of, kept_tokens, prints_cell}
 use Rattle.page_scopes_phrases.specs.LineWords.{with_sentence}
 use Rattle.page_scopes_phrases.specs.Outcomes.{Outcome}
-use Rattle.page_scopes_phrases.specs.Phrases.{is_text, own_fonts, phrase_context, phrase_items, phrase_running}
+use Rattle.page_scopes_phrases.specs.Phrases.{is_text, own_fonts, own_phrase, phrase_context, phrase_items, phrase_running}
 use Rattle.page_scopes_phrases.specs.Runnings.{next_gap}
 use Rattle.page_scopes_phrases.specs.declared.kept_texts.KeptText.{KeptText}
 use Rattle.page_scopes_phrases.specs.declared.phrases.Phrase.{Phrase}
@@ -45,16 +44,7 @@ name_notes line _ argument name = []
 
 -- where there is no name, its place is taken by a word of no bytes
 abbrev pub nameless : Place → Phrase (List ℕ)
-nameless place = record {
-  text = [];
-  column = min place.column LINE;
-  is_quoted = false;
-  is_line = false;
-  is_written = false;
-  font = Some B;
-  before = Apart;
-  after = Apart;
-}
+nameless place = own_phrase place [] (Some B) Apart Apart
 
 unfoldable pub missing_name : Place → Context → Running → Outcome
 missing_name place c r = record {

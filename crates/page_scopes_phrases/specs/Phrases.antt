@@ -1,8 +1,10 @@
 -- A text that an event prints: its fonts, and how it is beside the words around it. Source: man(7), `B`, `BR`; roff(7), `\f`, `\c`.
-use Rattle.std.specs.Prelude.{ℕ, max, Bool, true, false, not, ◌||◌, ◌&&◌, List, Option, None, Some, is_some, if◌then◌else◌}
+use Rattle.std.specs.Prelude.{ℕ, max, min, Bool, true, false, not, ◌||◌, ◌&&◌, List, Option, None, Some, is_some, if◌then◌else◌}
 use Rattle.std.specs.Borrow.{Bor}
+use Rattle.page_core_base.specs.Limits.{LINE}
 use Rattle.page_core_base.specs.Pieces.{Item}
 use Rattle.page_core_base.specs.declared.cells.Font.{Font}
+use Rattle.page_core_base.specs.declared.places.Place.{Place}
 use Rattle.page_scopes_layout.specs.declared.contexts.Context.{Context}
 use Rattle.page_scopes_layout.specs.declared.contexts.PagePart.{PagePart}
 use Rattle.page_scopes_layout.specs.declared.contexts.PagePart.TheVariants as parts
@@ -54,6 +56,19 @@ is_tag parts.Tag = true
 is_tag _ = false
 
 -- where rows are filled, a row may end within the words of what is written in the page, but for tags
+-- what a macro prints itself is at the macro, which is in a line
+abbrev pub own_phrase : Place → List ℕ → Option Font → (before after : Join) → Phrase (List ℕ)
+own_phrase place text font before after = record {
+  text = text;
+  column = min place.column LINE;
+  is_quoted = false;
+  is_line = false;
+  is_written = false;
+  font = font;
+  before = before;
+  after = after;
+}
+
 abbrev pub splits : Phrase (List ℕ) → Context → Bool
 splits p c = p.is_written && (not c.is_literal.value && not (is_tag c.part))
 

@@ -12,7 +12,7 @@ ghost use Rattle.page_sets_lines.specs.Events.{word_view};
 
 use crate::cells::{give_cells, in_columns};
 use crate::{Phrase, Running, give_phrase};
-use page_core_base::{Font, LINE, NoteKind, PieceOut, Place};
+use page_core_base::{Font, NoteKind, PieceOut, Place};
 use page_roff_syntax::{Argument, Quoting};
 use page_scopes_layout::Context;
 use page_scopes_words::{ends_sentence, report};
@@ -119,16 +119,8 @@ fn generated_phrase(place: Place, has_spacing: bool, word: GeneratedWord) -> Phr
     ensures seen { phrase_view result ≡ lines.generated_phrase place has_spacing word }
     ensures fits { FitsAt result.column result.text.now }
 {
-    Phrase {
-        text: word.text.spaced(has_spacing).text().as_bytes(),
-        column: place.column.min(LINE as u32),
-        is_quoted: false,
-        is_line: false,
-        is_written: false,
-        font: word.font,
-        before: word.before,
-        after: word.after,
-    }
+    let text = word.text.spaced(has_spacing).text().as_bytes();
+    Phrase::own(place, text, word.font, word.before, word.after)
 }
 
 /// Gives a word of a macro's own, at the macro's place.

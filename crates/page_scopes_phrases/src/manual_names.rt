@@ -11,7 +11,7 @@ ghost use Rattle.page_scopes_phrases.specs.Phrases.{phrase_view};
 use crate::kept_words::{give_kept_gap, give_name, report_cut};
 use crate::phrases::{Phrase, give_phrase, is_text, own_fonts};
 use crate::{KeptText, ManualName, Running};
-use page_core_base::{Font, LINE, NoteKind, Piece, PieceOut, Place};
+use page_core_base::{Font, NoteKind, Piece, PieceOut, Place};
 use page_roff_syntax::Argument;
 use page_scopes_layout::Context;
 use page_scopes_words::{ends_sentence, report};
@@ -56,16 +56,7 @@ fn nameless(place: Place) -> Phrase<&'static [u8]>
     ensures seen { phrase_view result ≡ names.nameless place }
     ensures fits { FitsAt result.column result.text.now }
 {
-    Phrase {
-        text: b"",
-        column: place.column.min(LINE as u32),
-        is_quoted: false,
-        is_line: false,
-        is_written: false,
-        font: Some(Font::B),
-        before: Join::Apart,
-        after: Join::Apart,
-    }
+    Phrase::own(place, b"", Some(Font::B), Join::Apart, Join::Apart)
 }
 
 // Gives the word of a manual without a name.

@@ -1,13 +1,14 @@
 //! Texts that events print: their fonts, and how they are beside the words around them (man(7), `B`, `BR`).
 
-ghost use Rattle.std.specs.Prelude.{◌≡◌};
+ghost use Rattle.std.specs.Prelude.{◌≡◌, ◌≤◌, length};
+ghost use Rattle.page_core_base.specs.declared.limits.TheConstants.{LINE};
 ghost use Rattle.page_sets_lines.specs.Fits.{FitsAt};
 ghost use Rattle.page_scopes_phrases.specs.Outcomes.{GivesOutcome};
 ghost use Rattle.page_scopes_phrases.specs.Phrases as phrases;
 ghost use Rattle.page_scopes_phrases.specs.Phrases.{phrase_view};
 
 use crate::Running;
-use page_core_base::{Font, PieceOut};
+use page_core_base::{Font, LINE, PieceOut, Place};
 use page_scopes_layout::{Context, PagePart};
 use page_scopes_text::{Pen, TextStyle, give_text};
 use page_scopes_words::{Fonts, Setting};
@@ -31,6 +32,32 @@ pub struct Phrase<W> {
     pub before: Join,
     /// How it is beside the word after it.
     pub after: Join,
+}
+
+impl<'a> Phrase<&'a [u8]> {
+    /// What a macro prints itself, at the macro's place: a short text.
+    pub fn own(
+        place: Place,
+        text: &'a [u8],
+        font: Option<Font>,
+        before: Join,
+        after: Join,
+    ) -> Phrase<&'a [u8]>
+        requires { length text.now ≤ LINE }
+        ensures seen { phrase_view result ≡ phrases.own_phrase place text.now font before after }
+        ensures fits { FitsAt result.column result.text.now }
+    {
+        Phrase {
+            text,
+            column: place.column.min(LINE as u32),
+            is_quoted: false,
+            is_line: false,
+            is_written: false,
+            font,
+            before,
+            after,
+        }
+    }
 }
 
 /// The fonts at a phrase's front.

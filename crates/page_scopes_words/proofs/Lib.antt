@@ -1,2 +1,3 @@
 pub mod WhiteLemmas
 pub mod UnpairedLemmas
+pub mod FrontLemmas

@@ -11,7 +11,7 @@ use Rattle.page_scopes_phrases.specs.Outcomes.{Outcome, followed_by}
 use Rattle.page_scopes_phrases.specs.Phrases.{phrase_outcome}
 use Rattle.page_scopes_phrases.specs.declared.phrases.Phrase.{Phrase}
 use Rattle.page_scopes_phrases.specs.declared.runnings.Running.{Running}
-use Rattle.page_scopes_phrases.specs.declared.tags.TagPlace.{TagPlace}
+use Rattle.page_scopes_blocks.specs.declared.tags.TagPlace.{TagPlace}
 use Rattle.page_sets_lines.specs.declared.events.Word.{Word}
 
 -- its row begins at its margin

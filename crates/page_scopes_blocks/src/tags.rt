@@ -5,12 +5,12 @@ ghost use Rattle.page_core_base.specs.Latches.{Came};
 ghost use Rattle.page_sets_lines.specs.Fits.{ArgumentFits, FitsAt};
 ghost use Rattle.page_scopes_phrases.specs.Outcomes.{GivesOutcome};
 ghost use Rattle.page_scopes_phrases.specs.Phrases.{phrase_view};
-ghost use Rattle.page_scopes_phrases.specs.Tags as tags;
+ghost use Rattle.page_scopes_blocks.specs.Tags as tags;
 ghost use Rattle.page_sets_lines.specs.Events.{word_view};
 
-use crate::{Phrase, Running, give_line_word, give_phrase};
 use page_core_base::{Piece, PieceOut, TagForm};
 use page_scopes_layout::{Context, PagePart, give_margins};
+use page_scopes_phrases::{Phrase, Running, give_line_word, give_phrase};
 use page_sets_lines::Word;
 
 /// Where a tag is, in columns.
