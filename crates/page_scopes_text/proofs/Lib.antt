@@ -6,4 +6,5 @@ pub mod RunLemmas
 pub mod RunEndLemmas
 pub mod RunWordLemmas
 pub mod FontWordLemmas
+pub mod QuietTokenLemmas
 mod PartLemmas

@@ -16,6 +16,7 @@ mod names;
 mod numbers;
 mod parts;
 mod pens;
+mod quiet_tokens;
 mod run_ends;
 mod runs;
 mod texts;
