@@ -101,6 +101,7 @@ fn report_bad<N: NoteSink>(
 }
 
 /// Reports a line of which less than all stays, where it is one. Its fault is [`Fault::WriteNotes`].
+#[inline(always)]
 pub fn report_limit<N: NoteSink>(passed: bool, number: u32, notes: &mut N) -> Result<(), Fault>
     ensures gives { Gives result N.gave N.within notes.old (limit_notes passed number) notes.new }
     ensures fault { FailsAs Fault.WriteNotes result (N.failed notes.old) (N.failed notes.new) }
