@@ -4,7 +4,7 @@ use Rattle.page_core_base.specs.Fails.{Rose}
 use Rattle.page_core_base.specs.declared.faults.Fault.{Fault}
 use Rattle.page_core_base.specs.declared.faults.Fault.TheVariants.{Memory, Read, WriteText, WriteNotes, TooLong, Settings, Failed, Ended, BadIndex}
 use Rattle.page_core_streams.specs.Sources.{SourceState}
-use Rattle.page_engine_index.specs.Searches.{Rows, RowsTo, Shown, FoundBad, ReadWhole, Quiet, SearchesOver}
+use Rattle.page_engine_index.specs.Searches.{RowsTo, Shown, FoundBad, ReadWhole, Quiet, SearchesOver}
 use Rattle.page_engine_index.specs.Whatis.{Asked}
 
 -- a sink over what lies below it: what comes to the sink comes there, and it fails as that does

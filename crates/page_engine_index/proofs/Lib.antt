@@ -5,3 +5,6 @@ pub mod LineLemmas
 pub mod SearchLemmas
 pub mod LawLemmas
 pub mod CauseLemmas
+pub mod ScanLemmas
+pub mod WordLemmas
+pub mod PassLemmas

@@ -1,4 +1,4 @@
-use Rattle.std.proofs.Common.{rules, ◌≡◌, ℕ, List, ap, ◌∙◌, subst}
+use Rattle.std.proofs.Common.{rules, ap, ◌∙◌, subst}
 use Rattle.page_core_streams.specs.Inputs.{state_of}
 use Rattle.page_core_streams.specs.Sources.{SourceState}
 use Rattle.page_core_streams.proofs.FailureLemmas.{count_true, state_true}
