@@ -69,18 +69,18 @@ unfoldable pub use Rattle.page_scopes_blocks.specs.Blocks.{block_opened as u269}
 unfoldable pub use Rattle.page_scopes_blocks.specs.Items.{item_opened as u270}
 unfoldable pub use Rattle.page_scopes_blocks.specs.NameHangs.{kind_counted as u271}
 unfoldable pub use Rattle.page_scopes_blocks.specs.OpenLists.{list_opened as u272}
-unfoldable pub use Rattle.page_scopes_leaves.specs.EventKinds.{kind_outcome as u273}
-unfoldable pub use Rattle.page_scopes_leaves.specs.Leaves.{leaf_outcome as u274}
-unfoldable pub use Rattle.page_scopes_leaves.specs.RawLines.{raw_line as u275}
-unfoldable pub use Rattle.page_scopes_nodes.specs.Begins.{begun_by as u276}
-unfoldable pub use Rattle.page_scopes_nodes.specs.Ends.{ended as u277}
-unfoldable pub use Rattle.page_scopes_nodes.specs.Openers.{opened as u278}
-unfoldable pub use Rattle.page_scopes_nodes.specs.Targets.{target_word as u279}
-unfoldable pub use Rattle.page_scopes_phrases.specs.Cells.{cells_within as u280}
-unfoldable pub use Rattle.page_scopes_phrases.specs.FunctionEnds.{function_end as u281}
-unfoldable pub use Rattle.page_scopes_phrases.specs.LineWords.{line_word as u282, generated_word as u283}
-unfoldable pub use Rattle.page_scopes_phrases.specs.ManualNames.{missing_name as u284, name_word as u285}
-unfoldable pub use Rattle.page_scopes_phrases.specs.Tags.{tag as u286, phrase_tag as u287}
+unfoldable pub use Rattle.page_scopes_blocks.specs.Tags.{tag as u273, phrase_tag as u274}
+unfoldable pub use Rattle.page_scopes_leaves.specs.EventKinds.{kind_outcome as u275}
+unfoldable pub use Rattle.page_scopes_leaves.specs.Leaves.{leaf_outcome as u276}
+unfoldable pub use Rattle.page_scopes_leaves.specs.RawLines.{raw_line as u277}
+unfoldable pub use Rattle.page_scopes_nodes.specs.Begins.{begun_by as u278}
+unfoldable pub use Rattle.page_scopes_nodes.specs.Ends.{ended as u279}
+unfoldable pub use Rattle.page_scopes_nodes.specs.Openers.{opened as u280}
+unfoldable pub use Rattle.page_scopes_nodes.specs.Targets.{target_word as u281}
+unfoldable pub use Rattle.page_scopes_phrases.specs.Cells.{cells_within as u282}
+unfoldable pub use Rattle.page_scopes_phrases.specs.FunctionEnds.{function_end as u283}
+unfoldable pub use Rattle.page_scopes_phrases.specs.LineWords.{line_word as u284, generated_word as u285}
+unfoldable pub use Rattle.page_scopes_phrases.specs.ManualNames.{missing_name as u286, name_word as u287}
 unfoldable pub use Rattle.page_scopes_text.specs.Widths.{named_width as u288, is_expression as u289}
 unfoldable pub use Rattle.page_scopes_tree.specs.Layouts.{settled as u290, edge as u291}
 unfoldable pub use Rattle.page_scopes_tree.specs.Placements.{opener_placement as u292, line_placement as u293, opener_skips as u294}
