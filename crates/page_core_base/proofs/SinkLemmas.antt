@@ -1,5 +1,5 @@
 -- How what sinks were given follows one another.
-use Rattle.std.proofs.Common.{◌≡◌, List, [], ◌++◌, refl, sym, ap, ◌∙◌, append_assoc, append-nil}
+use Rattle.std.proofs.Common.{◌≡◌, ℕ, suc, ◌+◌, ◌-◌, ◌<◌, List, [], ◌++◌, arith, refl, sym, ap, ◌∙◌, append_assoc, append-nil}
 use Rattle.page_core_base.specs.Messages.{Message}
 use Rattle.page_core_base.specs.Rows.{LaidRow}
 use Rattle.page_core_base.specs.Sinks.{IsSink, UpTo}
@@ -23,6 +23,10 @@ UpTo-within k {s} {t} u part rest w e g =
 
 pub UpTo-all : {S I : Type 0} {gave : S → List I → S → Type 0} {s t : S} {all : List I} → UpTo gave s all [] t → gave s all t
 UpTo-all w = rw (w.parts ∙ append-nil w.done) w.given
+
+-- of a count of things, one more came
+pub one_less : (count i : ℕ) → i < count → count - i ≡ suc (count - (i + 1))
+one_less count i h = omega arith
 
 -- ---- two sinks
 

@@ -42,10 +42,7 @@ impl<'a, N: NoteSink> NoteLatch<'a, N> {
     pub fn done(&self) -> Result<(), Fault>
         ensures { MatchResult result (λ _. self.now.fault ≡ None) (λ fault. self.now.fault ≡ Some fault) }
     {
-        match self.fault {
-            None => Ok(()),
-            Some(fault) => Err(fault),
-        }
+        self.fault.map_or(Ok(()), Err)
     }
 }
 

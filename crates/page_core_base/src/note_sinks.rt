@@ -32,8 +32,7 @@ pub trait NoteSink {
 
     /// Whether the sink does anything with messages of a kind: one that it does not take need not be given, nor made.
     fn takes(&self, kind: NoteKind) -> bool
-        ensures { result ≡ false → (message : Message) → message.kind ≡ kind
-            → gave self.now (message ∷ []) self.now }
+        ensures { result ≡ false → (message : Message) → message.kind ≡ kind → gave self.now (message ∷ []) self.now }
     {
         let _ = kind;
         true

@@ -114,10 +114,8 @@ impl Settings {
 
     /// Sets the operating system. A name of more than 256 bytes, or with a control character but the tab, is refused, and the settings stay.
     pub fn set_os(&mut self, name: &str) -> Result<(), SettingFault>
-        ensures ok { OnOk result (IsLine name.now × (length name.now ≤ 256)
-            × SameButOs self.old self.new × (self.new.os.bytes ≡ name.now)) }
-        ensures err { IfErr result (λ e. (e ≡ SettingFault.Os) × (self.new ≡ self.old)
-            × (IsLine name.now → 256 < length name.now)) }
+        ensures ok { OnOk result (IsLine name.now × (length name.now ≤ 256) × SameButOs self.old self.new × (self.new.os.bytes ≡ name.now)) }
+        ensures err { IfErr result (λ e. (e ≡ SettingFault.Os) × (self.new ≡ self.old) × (IsLine name.now → 256 < length name.now)) }
     {
         if !is_line(name.as_bytes()) {
             return Err(SettingFault::Os);

@@ -24,16 +24,15 @@ pub trait PieceOut {
     fn give(&mut self, piece: Piece<&[u8]>)
         ensures { Came left self.old (shown (piece_of piece.entry) ∷ []) self.new };
 
-    /// Takes a count of blanks that are cells, at most [`BLANK_TEXT`](crate::BLANK_TEXT), as [`give`](PieceOut::give) takes a text of them.
-    fn give_blanks(&mut self, count: usize, font: Font, place: Place)
+    /// Takes as many texts of a count of blanks that are cells, at most [`BLANK_TEXT`](crate::BLANK_TEXT) of them in each.
+    fn give_blanks(&mut self, count: usize, times: usize, font: Font, place: Place)
         requires { count ≤ BLANK_TEXT }
-        ensures { Came left self.old (shown (Text (replicate count 32) font place) ∷ []) self.new }
+        ensures { Came left self.old (replicate times (shown (Text (replicate count 32) font place))) self.new }
     {
-        self.give(Piece::Text {
-            text: blank_text(count),
-            font,
-            place,
-        });
+        let text = blank_text(count);
+        for _i in 0..times {
+            self.give(Piece::Text { text, font, place });
+        }
     }
 
     /// Takes as many of the first words of a text, with one blank before each, as it can take at once; answers how many bytes
@@ -68,10 +67,7 @@ impl<'a, O: PieceSink> PieceLatch<'a, O> {
     pub fn done(&self) -> Result<(), Fault>
         ensures { MatchResult result (λ _. self.now.fault ≡ None) (λ fault. self.now.fault ≡ Some fault) }
     {
-        match self.fault {
-            None => Ok(()),
-            Some(fault) => Err(fault),
-        }
+        self.fault.map_or(Ok(()), Err)
     }
 }
 
@@ -91,11 +87,11 @@ impl<O: PieceSink> PieceOut for PieceLatch<'_, O> {
     }
 
     #[inline(always)]
-    fn give_blanks(&mut self, count: usize, font: Font, place: Place) {
+    fn give_blanks(&mut self, count: usize, times: usize, font: Font, place: Place) {
         if self.fault.is_some() {
             return;
         }
-        if let Err(fault) = self.out.take_blanks(count, font, place) {
+        if let Err(fault) = self.out.take_blanks(count, times, font, place) {
             self.fault = Some(fault);
         }
     }

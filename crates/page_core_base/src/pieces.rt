@@ -77,29 +77,31 @@ pub trait PieceSink: NoteSink {
     /// [`Fault::Failed`] where the sink takes no more.
     fn piece(&mut self, piece: Piece<&[u8]>) -> Result<(), Fault>
         ensures gives { Emits result took broke self.old (shown (piece_of piece.entry) ∷ []) self.new }
-        ensures faults { FailsByPieces result (row_failed self.old) (row_failed self.new)
-            (Self.failed self.old) (Self.failed self.new) }
+        ensures faults { FailsByPieces result (row_failed self.old) (row_failed self.new) (Self.failed self.old) (Self.failed self.new) }
         ensures same { Self.loans self.new ≡ Self.loans self.old };
 
-    /// Takes a count of blanks that are cells, at most [`BLANK_TEXT`](crate::BLANK_TEXT), as [`piece`](PieceSink::piece) takes a text of
-    /// them: a sink need not look at each.
-    fn take_blanks(&mut self, count: usize, font: Font, place: Place) -> Result<(), Fault>
+    /// Takes as many texts of a count of blanks that are cells, at most [`BLANK_TEXT`](crate::BLANK_TEXT) of them in each.
+    fn take_blanks(
+        &mut self,
+        count: usize,
+        times: usize,
+        font: Font,
+        place: Place,
+    ) -> Result<(), Fault>
         requires { count ≤ BLANK_TEXT }
-        ensures gives { Emits result took broke self.old (shown (Text (replicate count 32) font place) ∷ []) self.new }
-        ensures faults { FailsByPieces result (row_failed self.old) (row_failed self.new)
-            (Self.failed self.old) (Self.failed self.new) }
+        ensures gives { Emits result took broke self.old (replicate times (shown (Text (replicate count 32) font place))) self.new }
+        ensures faults { FailsByPieces result (row_failed self.old) (row_failed self.new) (Self.failed self.old) (Self.failed self.new) }
         ensures same { Self.loans self.new ≡ Self.loans self.old }
     {
-        self.piece(Piece::Text {
-            text: blank_text(count),
-            font,
-            place,
-        })
+        let text = blank_text(count);
+        for _i in 0..times {
+            self.piece(Piece::Text { text, font, place })?;
+        }
+        Ok(())
     }
 
-    /// Takes as many of the first words of a text, with one blank before each, as it can take at once; answers how many bytes
-    /// these are, which may be none. The blank before the first word is at a place. Of any other text nothing is promised. A sink
-    /// that says nothing of it takes none.
+    /// Takes as many of the first words of a text, with one blank before each, as it can take at once; answers how many bytes these are. The
+    /// blank before the first word is at a place. Of any other text nothing is promised. A sink that says nothing of it takes none.
     fn take_words(&mut self, text: &[u8], font: Font, place: Place) -> usize
         ensures takes { TakesWords text.now font place result took self.old self.new }
         ensures within { result ≤ length text.now }

@@ -68,10 +68,7 @@ impl<'r, 'n, R: RowSink, N: NoteSink> RowLatch<'r, 'n, R, N> {
     pub fn done(&self) -> Result<(), Fault>
         ensures { MatchResult result (λ _. self.now.fault ≡ None) (λ fault. self.now.fault ≡ Some fault) }
     {
-        match self.fault {
-            None => Ok(()),
-            Some(fault) => Err(fault),
-        }
+        self.fault.map_or(Ok(()), Err)
     }
 }
 
