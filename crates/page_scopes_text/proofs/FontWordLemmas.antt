@@ -7,8 +7,8 @@ use Rattle.std.proofs.lemmas.Bool.{cases_Bool}
 use Rattle.page_core_base.specs.Pieces.{Item}
 use Rattle.page_core_base.specs.declared.places.Place.{Place}
 use Rattle.page_core_escapes.specs.Meanings as meanings
-use Rattle.page_core_escapes.specs.Meanings.{Face, Meaning, face, is_known}
-use Rattle.page_core_escapes.specs.machine.ShortEscapes.{ShortEscape, ShortFont}
+use Rattle.page_core_escapes.specs.Meanings.{Face, face, is_known}
+use Rattle.page_core_escapes.specs.machine.ShortEscapes.{ShortFont}
 use Rattle.page_core_escapes.specs.Tokens.{TextToken, plain, escaped, begins_word, prints_itself, token_at, token_len, token_view}
 use Rattle.page_scopes_words.specs.Words.{at, face_notes}
 use Rattle.page_scopes_text.proofs.PartedLemmas.{no_word, plain_begins, plain_token, words_more}
@@ -54,32 +54,22 @@ known_notes quoted place (meanings.unknown name) h = absurd (never h)
     never : false ≡ true → ⊥
     never e = grind (arith, e)
 
-pub short_token : (text : List ℕ) (meaning : Meaning) (n : ℕ) → get_or text 0 0 ≡ 92 → ShortEscape text meaning n → (quoted : Bool)
-    → token_at quoted text ≡ escaped (take n text) meaning
-unfolding token_at
-short_token [] meaning n b s quoted = absurd (omega (arith, s.not_empty, s.within))
-short_token (x ∷ xs) meaning n b s quoted =
-    let first : x ≡ 92 = b in
-    let is = rw first at (s.escape quoted) in
-    rw (first, is) refl
-
-pub short_begins : (text : List ℕ) (meaning : Meaning) (n : ℕ) → get_or text 0 0 ≡ 92 → ShortEscape text meaning n → begins_word text ≡ true
-short_begins [] meaning n b s = absurd (omega (arith, s.not_empty, s.within))
-short_begins (x ∷ xs) meaning n b s = let first : x ≡ 92 = b in rw first refl
-
 font_token : (text : List ℕ) (font : Face) (n : ℕ) → ShortFont text font n → (quoted : Bool) → token_at quoted text ≡ escaped (take n text) (face font)
+unfolding token_at
 font_token [] font n s quoted = absurd (omega (arith, s.escape.not_empty, s.escape.within))
-font_token (b ∷ bs) font n s quoted = short_token (b ∷ bs) (face font) n s.backslash s.escape quoted
+font_token (b ∷ bs) font n s quoted =
+    let first : b ≡ 92 = s.backslash in
+    let is = rw first at (s.escape.escape quoted) in
+    rw (first, is) refl
 
 font_begins : (text : List ℕ) (font : Face) (n : ℕ) → ShortFont text font n → begins_word text ≡ true
 font_begins [] font n s = absurd (omega (arith, s.escape.not_empty, s.escape.within))
-font_begins (b ∷ bs) font n s = short_begins (b ∷ bs) (face font) n s.backslash s.escape
+font_begins (b ∷ bs) font n s = let first : b ≡ 92 = s.backslash in rw first refl
 
 pub reads_font : (text : List ℕ) (font : Face) (n : ℕ) → ShortFont text font n → is_known font ≡ true → ReadsFont text (escaped (take n text) (face font)) (drop n text)
 reads_font text font n s known =
     let len : length (take n text) ≡ n = length-take-le n text s.escape.within in
     record {
-      some = omega (arith, len, s.escape.not_empty);
       len = omega (arith, len, length-drop n text, s.escape.within);
       words = λ quoted.
           let token = font_token text font n s quoted in

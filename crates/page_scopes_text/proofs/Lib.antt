@@ -6,5 +6,4 @@ pub mod RunLemmas
 pub mod RunEndLemmas
 pub mod RunWordLemmas
 pub mod FontWordLemmas
-pub mod QuietTokenLemmas
 mod PartLemmas

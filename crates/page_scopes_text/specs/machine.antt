@@ -1,6 +1,5 @@
 -- The code's own steps and fast ways. Trust needs no reading of them.
 pub mod FontWords
 pub mod Parts
-pub mod QuietTokens
 pub mod Reads
 pub mod Runs

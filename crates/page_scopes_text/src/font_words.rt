@@ -20,9 +20,9 @@ pub(crate) struct FontWord<'a> {
     tail: &'a [u8],
 }
 
-/// The escape at a text's front that asks for a font that there is, and what is left after it, where few bytes say so.
+// The escape at a text's front that asks for a font that there is, and what is left after it, where few bytes say so.
 #[inline(always)]
-pub(crate) fn split_font(text: &[u8]) -> Option<(Token<'_>, &[u8])>
+fn split_font(text: &[u8]) -> Option<(Token<'_>, &[u8])>
     ensures { IfSome result (λ parts. ReadsFont text.now (token_view parts.0) parts.1.now) }
 {
     let (name, len) = short_font(text)?;
@@ -34,9 +34,9 @@ pub(crate) fn split_font(text: &[u8]) -> Option<(Token<'_>, &[u8])>
     Some((Token::Escaped { bytes, meaning }, rest))
 }
 
-/// The bytes at a text's front that print themselves, and what is left after them.
+// The bytes at a text's front that print themselves, and what is left after them.
 #[inline(always)]
-pub(crate) fn split_plain(quoted: bool, text: &[u8]) -> (&[u8], &[u8])
+fn split_plain(quoted: bool, text: &[u8]) -> (&[u8], &[u8])
     ensures { ReadsPart quoted text.now result.0.now result.1.now }
 {
     text.split_at(plain_len(quoted, text))

@@ -16,7 +16,6 @@ mod names;
 mod numbers;
 mod parts;
 mod pens;
-mod quiet_tokens;
 mod run_ends;
 mod runs;
 mod texts;

@@ -10,7 +10,6 @@ ghost use Rattle.page_scopes_text.specs.Words as words;
 
 use crate::font_words::{FontWord, give_font_tokens, read_font_word};
 use crate::parts::{give_plain_token, give_printed};
-use crate::quiet_tokens::after_quiet;
 use crate::tokens::{give_blank_cells, give_letters, report_token};
 use crate::{Pen, TextStyle};
 use page_core_base::{Font, LINE, Piece, PieceOut, Place};
@@ -23,13 +22,9 @@ pub(crate) fn report_word<O: PieceOut>(out: &mut O, quoted: bool, place: Place, 
 {
     let mut rest = text;
     while begins_word(rest) {
-        if let Some(after) = after_quiet(quoted, rest) {
-            rest = after;
-        } else {
-            let token = read_token(quoted, rest);
-            report_token(out, quoted, place, &token);
-            rest = &rest[token.len()..];
-        }
+        let token = read_token(quoted, rest);
+        report_token(out, quoted, place, &token);
+        rest = &rest[token.len()..];
     }
 }
 

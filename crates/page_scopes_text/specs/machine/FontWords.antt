@@ -1,6 +1,6 @@
 -- A fast way of the code, which no public clause cites: words of two escapes that ask for fonts, each before a text that prints itself.
 -- Source: roff(7), `\f`.
-use Rattle.std.specs.Prelude.{◌≡◌, ◌<◌, ℕ, ◌+◌, Bool, false, true, List, [], ◌∷◌, ◌++◌, length, take, drop}
+use Rattle.std.specs.Prelude.{◌≡◌, ℕ, ◌+◌, Bool, false, true, List, [], ◌∷◌, ◌++◌, length, take, drop}
 use Rattle.page_core_base.specs.declared.cells.Font.{Font}
 use Rattle.page_core_base.specs.declared.places.Place.{Place}
 use Rattle.page_core_escapes.specs.Tokens.{TextToken, plain, begins_word, token_bytes, token_len, token_view}
@@ -15,7 +15,6 @@ pub record Silent (token : TextToken) : Type 0 where
 
 -- a font is asked for at a text's front
 pub record ReadsFont (text : List ℕ) (token : TextToken) (rest : List ℕ) : Type 0 where
-  pub some : 0 < length (token_bytes token)
   pub len : length (token_bytes token) + length rest ≡ length text
   pub words : (quoted : Bool) → words_of quoted text ≡ record { word = token ∷ (words_of quoted rest).word; others = (words_of quoted rest).others }
   pub silent : Silent token

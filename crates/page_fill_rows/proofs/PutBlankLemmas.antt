@@ -1,0 +1,38 @@
+-- Blanks of a row's last word, those together that the row has room for.
+use Rattle.std.proofs.Common.{◌≡◌, ℕ, ◌+◌, ◌-◌, ◌<◌, ◌≤◌, true, false, ◌==◌, replicate, ap, sym, ◌∙◌, arith}
+use Rattle.std.proofs.lemmas.Bool.Decides.{nat_tests}
+use Rattle.std.proofs.lemmas.List.{length-replicate, replicate-append-replicate}
+use Rattle.page_core_base.specs.declared.cells.Font.{Font}
+use Rattle.page_core_base.specs.declared.places.Place.{Place}
+use Rattle.page_core_base.specs.Laid.{Laid, join, nothing}
+use Rattle.page_fill_rows.specs.Characters.{cell_of}
+use Rattle.page_fill_rows.specs.machine.Plain.{has_room, room, taken}
+use Rattle.page_fill_rows.specs.machine.Sheets.{Sheet, letters}
+use Rattle.page_fill_rows.proofs.BlankRunLemmas.{blanks-plain, count-blank, count-cells}
+use Rattle.page_fill_rows.proofs.CharacterLemmas.{letters-append}
+use Rattle.page_fill_rows.proofs.PlainLemmas.{letters-fits}
+
+room-part : (s : Sheet) (n : ℕ) → 0 < n → n ≤ room s → has_room s n ≡ true
+room-part s n some within = grind (arith, nat_tests, some, within)
+
+-- a part of them for which it has room
+blanks-fit : (s : Sheet) (n : ℕ) (font : Font) (place : Place) → 0 < n → n ≤ room s
+    → letters s (replicate n (cell_of font 32)) place ≡ nothing (taken s (replicate n (cell_of font 32)))
+blanks-fit s n font place some within =
+    let bytes = replicate {A = ℕ} n 32 in
+    let len = length-replicate {A = ℕ} n 32 in
+    let any : (n == 0) ≡ false = grind (arith, nat_tests, some) in
+    let fits = letters-fits s bytes font place (rw len any) (blanks-plain bytes (count-blank n)) (rw len (room-part s n some within)) in
+    rw (count-cells font n) at fits
+
+pub blanks-parted : (s : Sheet) (n part : ℕ) (font : Font) (place : Place) → 0 < part → part ≤ n → part ≤ room s
+    → letters s (replicate n (cell_of font 32)) place
+    ≡ letters (taken s (replicate part (cell_of font 32))) (replicate (n - part) (cell_of font 32)) place
+blanks-parted s n part font place some less within =
+    let cell = cell_of font 32 in
+    let sum : part + (n - part) ≡ n = omega arith in
+    let parts = replicate-append-replicate part (n - part) cell ∙ ap (λ (k : ℕ). replicate k cell) sum in
+    let others : Laid Sheet → Laid Sheet = λ l. join l (letters l.edge (replicate (n - part) cell) place) in
+    ap (λ cells. letters s cells place) (sym parts)
+    ∙ (letters-append s (replicate part cell) (replicate (n - part) cell) place
+    ∙ ap others (blanks-fit s part font place some within))
