@@ -22,8 +22,8 @@ impl<L: PieceOut> PieceOut for ItemOut<L> {
     }
 
     #[inline(always)]
-    fn give_blanks(&mut self, count: usize, font: Font, place: Place) {
-        self.latch.give_blanks(count, font, place);
+    fn give_blanks(&mut self, count: usize, times: usize, font: Font, place: Place) {
+        self.latch.give_blanks(count, times, font, place);
     }
 
     #[inline(always)]

@@ -53,7 +53,7 @@ pub fn give_blank_text<O: PieceOut>(out: &mut O, count: u32, font: Font, place: 
     ensures { Came O.left out.old (words.blank_text count font place) out.new }
 {
     if count != 0 {
-        out.give_blanks(count as usize, font, place);
+        out.give_blanks(count as usize, 1, font, place);
     }
 }
 
