@@ -51,17 +51,6 @@ count-cells font zero = refl
 count-cells font (suc count) = ap (λ cells. cell_of font 32 ∷ cells) (count-cells font count)
 
 -- those before a place and those after it
-pub parts-blank : (is_blank : Bool) (n : ℕ) (bytes : List ℕ) → (is_blank ≡ true → list_all is_blank_byte bytes ≡ true)
-    → (is_blank ≡ true → list_all is_blank_byte (take n bytes) ≡ true) × (is_blank ≡ true → list_all is_blank_byte (drop n bytes) ≡ true)
-parts-blank is_blank n bytes all = ((λ is. front (all is)), (λ is. back (all is))) where
-  both : (list_all is_blank_byte (take n bytes) && list_all is_blank_byte (drop n bytes)) ≡ list_all is_blank_byte bytes
-  both = sym (list_all-append is_blank_byte (take n bytes) (drop n bytes)) ∙ ap (list_all is_blank_byte) (take-append-drop n bytes)
-
-  front : list_all is_blank_byte bytes ≡ true → list_all is_blank_byte (take n bytes) ≡ true
-  front is = grind (arith, both, is)
-
-  back : list_all is_blank_byte bytes ≡ true → list_all is_blank_byte (drop n bytes) ≡ true
-  back is = grind (arith, both, is)
 
 -- a sound row with them is sound
 pub sound-blanks : {blanks : ℕ} (cells : List Cell) (n : ℕ) (font : Font) (count gap word tag tag-now : ℕ) → IsSound cells count gap word tag blanks

@@ -30,7 +30,7 @@ bytes-done s bytes i font place h = rw (drop_all i bytes h) refl
 
 -- ---- parts of bytes
 
-letters-append : (s : Sheet) (front back : List Cell) (place : Place)
+pub letters-append : (s : Sheet) (front back : List Cell) (place : Place)
     → letters s (front ++ back) place ≡ join (letters s front place) (letters (letters s front place).edge back place)
 unfolding letters
 letters-append s [] back place = refl

@@ -7,3 +7,4 @@ pub mod WrapLemmas
 pub mod PlainLaw
 pub mod BlankLemmas
 pub mod BlankRunLemmas
+pub mod PutBlankLemmas

@@ -14,6 +14,7 @@ ghost use Rattle.page_fill_rows.specs.machine.Sheets as sheet;
 use crate::cell_widths::{BLANK, cell_columns, columns};
 use crate::row_cells::RowCells;
 use crate::{BLANK_ROWS, TAG_COLUMNS};
+use arrayvec::ArrayString;
 use page_core_base::{CELLS, Cell, Font, Limit, Note, NoteKind, Place, RowOut};
 use std::alloc::{AllocError, Global};
 use std::marker::Model;
@@ -22,7 +23,14 @@ use std::marker::Model;
 fn cells_note(place: Place) -> Note
     ensures { message_of result ≡ sheet.cells_note place }
 {
-    Note::about(NoteKind::Limit, place, Limit::Cells.name().as_bytes())
+    let mut detail = ArrayString::new();
+    detail.push_str(Limit::Cells.name());
+    Note {
+        kind: NoteKind::Limit,
+        line: place.line,
+        column: place.column,
+        detail,
+    }
 }
 
 /// The open row, and what is known of the rows above it.
@@ -382,7 +390,10 @@ impl OpenRow {
     }
 
     // How many cells of a column each the row takes before it ends.
-    fn room(&self) -> usize {
+    fn room(&self) -> usize
+        ensures value { result ≡ plain.room self.now }
+        ensures bound { length self.now.cells + result ≤ CELLS }
+    {
         let free = CELLS - self.row.len();
         if self.is_literal || self.gap == 0 {
             return free;
@@ -450,10 +461,9 @@ impl OpenRow {
         }
     }
 
-    /// The row ends, and a word of bytes, printable ASCII that fits a row and may be known to be blanks alone, begins the next one.
-    pub fn wrap_plain<O: RowOut>(&mut self, bytes: &[u8], is_blank: bool, font: Font, out: &mut O)
+    /// The row ends, and a word of bytes, printable ASCII that fits a row, begins the next one.
+    pub fn wrap_plain<O: RowOut>(&mut self, bytes: &[u8], font: Font, out: &mut O)
         requires plain { plain.is_printable_ascii bytes.now ≡ true }
-        requires blanks { is_blank ≡ true → list_all is_blank_byte bytes.now ≡ true }
         requires room { length bytes.now ≤ CELLS }
         ensures { LaysOut O.left out.old
             (plain.wraps_plain self.old (shown.cells_of font bytes.now)) out.new self.new }
@@ -462,7 +472,7 @@ impl OpenRow {
         let end = self.row.len();
         self.give(end, out);
         self.empty();
-        self.add_plain(bytes, is_blank, font);
+        self.add_plain(bytes, font);
     }
 
     /// The row, which has a cell and room, takes blanks and after them a word of bytes, if these are printable ASCII; says whether they are.
@@ -505,12 +515,14 @@ impl OpenRow {
         true
     }
 
-    /// The row, which has a cell and room, takes a count of blanks of its last word.
-    pub fn add_blanks(&mut self, count: usize, font: Font)
-        requires some { (length self.old.cells == 0) ≡ false }
-        requires room { length self.old.cells + count ≤ CELLS }
+    // The row, which has room, takes a count of blanks of its last word.
+    fn add_blanks(&mut self, count: usize, font: Font)
+        requires { length self.old.cells + count ≤ CELLS }
         ensures { self.new ≡ plain.taken self.old (replicate count (shown.cell_of font 32)) }
     {
+        if self.row.is_empty() {
+            self.open_row();
+        }
         self.row.add_blanks(count, font);
         self.columns += count as u32;
         self.tag_columns = self
@@ -544,7 +556,7 @@ impl OpenRow {
     {
         self.word = self.row.len() + start;
         self.gap = self.word - 1;
-        self.row.add_roman(text);
+        self.row.add_plain(text, Font::R);
         let count = text.len() as u32;
         self.columns += count;
         self.tag_columns = self.tag_columns.saturating_add(count).min(TAG_COLUMNS);
@@ -562,17 +574,16 @@ impl OpenRow {
         }
     }
 
-    /// The row takes cells of bytes that are a column each, and may be known to be blanks alone.
-    pub(crate) fn add_plain(&mut self, bytes: &[u8], is_blank: bool, font: Font)
+    /// The row takes cells of bytes that are a column each.
+    pub(crate) fn add_plain(&mut self, bytes: &[u8], font: Font)
         requires plain { plain.is_printable_ascii bytes.now ≡ true }
-        requires blanks { is_blank ≡ true → list_all is_blank_byte bytes.now ≡ true }
         requires room { length self.old.cells + length bytes.now ≤ CELLS }
         ensures { self.new ≡ plain.taken self.old (shown.cells_of font bytes.now) }
     {
         if self.row.is_empty() {
             self.open_row();
         }
-        self.row.add_plain(bytes, is_blank, font);
+        self.row.add_plain(bytes, font);
         let count = bytes.len() as u32;
         self.columns += count;
         self.tag_columns = self.tag_columns.saturating_add(count).min(TAG_COLUMNS);
@@ -644,12 +655,20 @@ impl OpenRow {
         }
     }
 
-    /// Puts blanks that are cells of the row's last word.
-    pub fn put_blanks<O: RowOut>(&mut self, count: u32, place: Place, out: &mut O)
-        ensures { LaysOut O.left out.old (sheet.fixed_blanks self.old count place) out.new self.new }
+    /// Puts a count of blanks that are cells of the row's last word: together those that the row has room for.
+    pub fn put_blanks<O: RowOut>(&mut self, count: usize, font: Font, place: Place, out: &mut O)
+        ensures { LaysOut O.left out.old (sheet.letters self.old (replicate count (shown.cell_of font 32)) place) out.new self.new }
     {
-        for _ in 0..count {
-            self.put_letter(BLANK, place, out);
+        let mut left = count;
+        while left > 0 {
+            let part = self.room().min(left);
+            if part > 0 {
+                self.add_blanks(part, font);
+                left -= part;
+            } else {
+                self.put_letter(Cell { c: ' ', font }, place, out);
+                left -= 1;
+            }
         }
     }
 
@@ -659,7 +678,7 @@ impl OpenRow {
     {
         self.open_word();
         if stands {
-            self.put_blanks(blanks, place, out);
+            self.put_blanks(blanks as usize, Font::R, place, out);
         } else {
             self.put_spaces(blanks, place, out);
         }

@@ -1,10 +1,9 @@
 //! Plain texts: their bytes are read, and put into the open row, as a whole.
 
 ghost use Rattle.std.specs.Prelude.{◌≡◌, ◌≤◌, ◌<◌, length, true};
-ghost use Rattle.std.specs.List.{list_all, prefix_len};
+ghost use Rattle.std.specs.List.{prefix_len};
 ghost use Rattle.page_core_base.specs.Latches.{LaysOut};
 ghost use Rattle.page_fill_rows.specs.Characters as shown;
-ghost use Rattle.page_fill_rows.specs.machine.BlankRuns.{is_blank_byte};
 ghost use Rattle.page_fill_rows.specs.machine.Plain as plain;
 ghost use Rattle.page_fill_rows.specs.machine.Sheets as sheet;
 
@@ -114,45 +113,29 @@ pub fn word_start(bytes: &[u8]) -> usize
     start_by_bytes(&bytes[..front])
 }
 
-/// Puts the characters of a plain text, which may be known to be blanks alone: of a long one, those for which a row has room together.
-pub fn put_plain<O: RowOut>(
-    row: &mut OpenRow,
-    bytes: &[u8],
-    is_blank: bool,
-    font: Font,
-    place: Place,
-    out: &mut O,
-)
-    requires plain { plain.is_printable_ascii bytes.now ≡ true }
-    requires blanks { is_blank ≡ true → list_all is_blank_byte bytes.now ≡ true }
+/// Puts the characters of a plain text: of a long one, those for which a row has room together.
+pub fn put_plain<O: RowOut>(row: &mut OpenRow, bytes: &[u8], font: Font, place: Place, out: &mut O)
+    requires { plain.is_printable_ascii bytes.now ≡ true }
     ensures { LaysOut O.left out.old (sheet.letters row.old
         (shown.cells_of font bytes.now) place) out.new row.new }
 {
     let mut rest = bytes;
     while rest.len() > PART {
         let (part, later) = rest.split_at(row.part_len(rest.len()));
-        put_part(row, part, is_blank, font, place, out);
+        put_part(row, part, font, place, out);
         rest = later;
     }
-    put_part(row, rest, is_blank, font, place, out);
+    put_part(row, rest, font, place, out);
 }
 
 // Puts the characters of a part of a plain text: all of them together if the row has room for them.
-fn put_part<O: RowOut>(
-    row: &mut OpenRow,
-    bytes: &[u8],
-    is_blank: bool,
-    font: Font,
-    place: Place,
-    out: &mut O,
-)
-    requires plain { plain.is_printable_ascii bytes.now ≡ true }
-    requires blanks { is_blank ≡ true → list_all is_blank_byte bytes.now ≡ true }
+fn put_part<O: RowOut>(row: &mut OpenRow, bytes: &[u8], font: Font, place: Place, out: &mut O)
+    requires { plain.is_printable_ascii bytes.now ≡ true }
     ensures { LaysOut O.left out.old (sheet.letters row.old
         (shown.cells_of font bytes.now) place) out.new row.new }
 {
     if !bytes.is_empty() && row.has_room(bytes.len()) {
-        row.add_plain(bytes, is_blank, font);
+        row.add_plain(bytes, font);
         return;
     }
     put_bytes(row, bytes, font, place, out);

@@ -4,7 +4,6 @@ ghost use Rattle.std.specs.Prelude.{◌≡◌, ℕ, ◌+◌, ◌-◌, ◌<◌, �
 ghost use Rattle.std.specs.List.{list_all};
 ghost use Rattle.page_core_base.specs.Rows.{is_blank_row, row_of};
 ghost use Rattle.page_core_base.specs.declared.cells.Cell.{Cell};
-ghost use Rattle.page_core_base.specs.declared.cells.Font.TheVariants.{R};
 ghost use Rattle.page_fill_rows.specs.Characters as shown;
 ghost use Rattle.page_fill_rows.specs.machine.BlankRuns.{HasRun, is_blank_byte};
 ghost use Rattle.page_fill_rows.specs.machine.Plain as plain;
@@ -158,16 +157,11 @@ impl RowCells {
         self.len = end;
     }
 
-    /// Appends a cell of each byte, which may be known to be blanks alone.
-    pub(crate) fn add_plain(&mut self, bytes: &[u8], is_blank: bool, font: Font)
-        requires plain { plain.is_printable_ascii bytes.now ≡ true }
-        requires blanks { is_blank ≡ true → list_all is_blank_byte bytes.now ≡ true }
-        requires room { length self.old + length bytes.now ≤ CELLS }
+    /// Appends a cell of each byte.
+    pub(crate) fn add_plain(&mut self, bytes: &[u8], font: Font)
+        requires { length self.old + length bytes.now ≤ CELLS }
         ensures { self.new ≡ self.old ++ shown.cells_of font bytes.now }
     {
-        if is_blank || is_long_run(bytes) {
-            return self.add_blanks(bytes.len(), font);
-        }
         let end = self.len + bytes.len();
         put_cells(&mut self.places, self.len, bytes, font);
         self.run.cut(end);
@@ -204,17 +198,6 @@ impl RowCells {
         }
         self.len = end;
         true
-    }
-
-    /// Appends a roman cell of each byte.
-    pub(crate) fn add_roman(&mut self, bytes: &[u8])
-        requires { length self.old + length bytes.now ≤ CELLS }
-        ensures { self.new ≡ self.old ++ shown.cells_of R bytes.now }
-    {
-        let end = self.len + bytes.len();
-        put_cells(&mut self.places, self.len, bytes, Font::R);
-        self.run.cut(end);
-        self.len = end;
     }
 }
 

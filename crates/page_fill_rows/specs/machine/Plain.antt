@@ -25,6 +25,10 @@ has_room s count =
     nat_le (length s.cells + count) CELLS
     && (s.literal || (s.gap == 0 || nat_le (s.margin + columns s.cells + count) s.width))
 
+-- how many cells of a column each it takes before they come
+abbrev pub room : Sheet → ℕ
+room s = if s.literal || s.gap == 0 then CELLS - length s.cells else min (CELLS - length s.cells) (s.width - s.margin - columns s.cells)
+
 -- the same of a row that has a cell
 abbrev pub has_part_room : Sheet → ℕ → Bool
 has_part_room s count = not (length s.cells == 0) && has_room s count

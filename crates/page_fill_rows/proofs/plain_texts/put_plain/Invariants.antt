@@ -1,9 +1,7 @@
 use Rattle.std.proofs.Common.{◌≡◌, length, true}
-use Rattle.std.specs.List.{list_all}
 use Rattle.page_core_base.specs.Latches.{CameRowsUpTo}
 use Rattle.page_fill_rows.specs.machine.Sheets as sheet
 use Rattle.page_fill_rows.specs.Characters as shown
-use Rattle.page_fill_rows.specs.machine.BlankRuns.{is_blank_byte}
 use Rattle.page_fill_rows.specs.machine.Plain as plain
 use Rattle.page_fill_rows.proofs.plain_texts.put_plain.Given as goal
 
@@ -13,7 +11,6 @@ invariant-loop-rest g l =
     (sheet.letters l.row (shown.cells_of l.font l.rest) l.place) l.out
     × ((sheet.letters l.row (shown.cells_of l.font l.rest) l.place).edge ≡ (sheet.letters l.fn.row (shown.cells_of l.font l.bytes) l.place).edge)
     × (plain.is_printable_ascii l.rest ≡ true)
-    × (l.is_blank ≡ true → list_all is_blank_byte l.rest ≡ true)
 
 abbrev pub decreases-loop-rest : goal.decreases-loop-rest
 decreases-loop-rest g l = length l.rest

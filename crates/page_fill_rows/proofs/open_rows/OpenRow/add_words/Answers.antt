@@ -10,5 +10,5 @@ overflow_add-self c =
 pub invariant_of-self : goal.invariant_of-self
 invariant_of-self c =
     let room : length c.self.inside.row + length c.args.text.now ≤ 4096 = search rules in
-    rw (c.add_roman.ensures, c.len.ensures.value)
+    rw (c.add_plain.ensures, c.len.ensures.value)
     (sound-words c.self.inside.row c.args.text.now c.args.start c.self.inside.columns c.self.inside.gap c.self.inside.word c.self.inside.tag_columns _ c.self.invariant c.requires.plain room (omega arith) c.requires.start.0)

@@ -1,9 +1,14 @@
-use Rattle.std.proofs.Common.{◌≡◌, ◌-◌}
+use Rattle.std.proofs.Common.{◌≡◌, replicate}
 use Rattle.page_core_base.specs.Latches.{CameRowsUpTo}
+use Rattle.page_fill_rows.specs.Characters as shown
 use Rattle.page_fill_rows.specs.machine.Sheets as sheet
 use Rattle.page_fill_rows.proofs.open_rows.OpenRow.put_blanks.Given as goal
 
-abbrev pub invariant-loop : goal.invariant-loop
-invariant-loop g l =
-    CameRowsUpTo g.O.RowOut.left l.fn.out (sheet.fixed_blanks l.fn.self l.count l.place) (sheet.fixed_blanks l.self (l.count - l.counter) l.place) l.out
-    × ((sheet.fixed_blanks l.self (l.count - l.counter) l.place).edge ≡ (sheet.fixed_blanks l.fn.self l.count l.place).edge)
+abbrev pub invariant-loop-left : goal.invariant-loop-left
+invariant-loop-left g l =
+    let all = sheet.letters l.fn.self (replicate l.count (shown.cell_of l.font 32)) l.place in
+    let others = sheet.letters l.self (replicate l.left (shown.cell_of l.font 32)) l.place in
+    CameRowsUpTo g.O.RowOut.left l.fn.out all others l.out × (others.edge ≡ all.edge)
+
+abbrev pub decreases-loop-left : goal.decreases-loop-left
+decreases-loop-left g l = l.left
