@@ -1,5 +1,5 @@
 -- What the steps lay of one piece is filling in words; and so is what a filler lays piece by piece.
-use Rattle.std.proofs.Common.{◌≡◌, ℕ, Bool, true, List, [], ◌∷◌, map, take, Option, None, Some, Result, Ok, Err, OnOk, refl, sym, ap, ◌∙◌}
+use Rattle.std.proofs.Common.{◌≡◌, ℕ, zero, suc, Bool, true, List, [], ◌∷◌, map, replicate, take, Option, None, Some, Result, Ok, Err, OnOk, refl, sym, ap, ◌∙◌}
 use Rattle.std.specs.Prelude.{if◌then◌else◌}
 use Rattle.page_core_base.specs.declared.faults.Fault.{Fault}
 use Rattle.page_core_base.specs.Laid.{Laid, join, seq}
@@ -16,7 +16,7 @@ use Rattle.page_fill.specs.machine.TakenWords as taken_steps
 use Rattle.page_fill.specs.machine.ByPiece.{laid_items}
 use Rattle.page_fill.specs.Filling.{filled, row_end}
 use Rattle.page_fill.specs.TakenWords.{TakesFirstWords}
-use Rattle.page_fill.proofs.FillingLaw.{steps-law, end-law}
+use Rattle.page_fill.proofs.FillingLaw.{steps-law, held-law, end-law}
 use Rattle.page_fill.proofs.GlueLaw.{seq-nothing}
 use Rattle.page_fill.proofs.HeldSheets.{piece-held}
 use Rattle.page_fill.proofs.SoundWords.{piece-sound}
@@ -60,6 +60,40 @@ end-at is_going held e goes kept is =
     let k = kept goes in
     (end-law held k.0 k.1).0 ∙ ap row_end (same-edge is_going held e goes is)
 
+-- ---- a list of pieces
+
+laid-pieces : (e : Edge) (pieces : List (Piece (List ℕ))) → steps.laid_items e (map shown pieces) ≡ laid e pieces
+unfolding laid steps.laid_items
+laid-pieces e [] = refl
+laid-pieces e (p ∷ pieces) = ap (λ (l : Laid Edge). seq (laid_piece e p) (λ _. l)) (laid-pieces (laid_piece e p).edge pieces)
+
+-- one piece again and again
+again-items : (times : ℕ) (p : Piece (List ℕ)) → map shown (replicate times p) ≡ replicate times (shown p)
+again-items zero p = refl
+again-items (suc times) p = ap (λ (items : List Item). shown p ∷ items) (again-items times p)
+
+again-law : (e : Edge) (times : ℕ) (p : Piece (List ℕ)) → IsHeld e.sheet → is_sound e.word ≡ true
+    → laid e (replicate times p) ≡ filled e (replicate times (shown p))
+again-law e times p h s =
+    let items = replicate times (shown p) in
+    sym (laid-pieces e (replicate times p)) ∙ (ap (steps.laid_items e) (again-items times p) ∙ steps-law e items h s)
+
+pub again-kept : (e : Edge) (times : ℕ) (p : Piece (List ℕ)) → IsHeld e.sheet × (is_sound e.word ≡ true)
+    → IsHeld (laid e (replicate times p)).edge.sheet × (is_sound (laid e (replicate times p)).edge.word ≡ true)
+again-kept e times p k = rw (again-law e times p k.0 k.1) (held-law e (replicate times (shown p)) k.0 k.1)
+
+pub again-at : (is_going : Bool) (held e : Edge) (times : ℕ) (p : Piece (List ℕ)) → is_going ≡ true → (is_going ≡ true → IsHeld held.sheet × (is_sound held.word ≡ true))
+    → (if is_going then Some held else None) ≡ Some e → laid held (replicate times p) ≡ filled e (replicate times (shown p))
+again-at is_going held e times p goes kept is =
+    let k = kept goes in
+    again-law held times p k.0 k.1 ∙ ap (λ (f : Edge). filled f (replicate times (shown p))) (same-edge is_going held e goes is)
+
+pub again-edge : (res : Result (Unit {0}) Fault) (is_going : Bool) (new held e : Edge) (times : ℕ) (p : Piece (List ℕ)) → is_going ≡ true
+    → (is_going ≡ true → IsHeld held.sheet × (is_sound held.word ≡ true)) → (if is_going then Some held else None) ≡ Some e
+    → new ≡ (laid held (replicate times p)).edge → OnOk res ((if is_going then Some new else None) ≡ Some (filled e (replicate times (shown p))).edge)
+again-edge (Ok x) is_going new held e times p goes kept is next = rw (goes, next, again-at is_going held e times p goes kept is) refl
+again-edge (Err x) is_going new held e times p goes kept is next = tt
+
 -- ---- piece by piece
 
 by-piece : (e : Edge) (items : List Item) → IsHeld e.sheet → is_sound e.word ≡ true → laid_items e items ≡ steps.laid_items e items
@@ -75,11 +109,6 @@ pub items-law : (e : Edge) (items : List Item) → IsHeld e.sheet → is_sound e
 items-law e items h s = by-piece e items h s ∙ steps-law e items h s
 
 -- ---- words that are taken at once
-
-laid-pieces : (e : Edge) (pieces : List (Piece (List ℕ))) → steps.laid_items e (map shown pieces) ≡ laid e pieces
-unfolding laid steps.laid_items
-laid-pieces e [] = refl
-laid-pieces e (p ∷ pieces) = ap (λ (l : Laid Edge). seq (laid_piece e p) (λ _. l)) (laid-pieces (laid_piece e p).edge pieces)
 
 word-items : (e : Edge) (font : Font) (place : Place) (words : List (List ℕ)) → steps.laid_items e (word_items font place words) ≡ laid e (word_pieces font place words)
 unfolding word_items

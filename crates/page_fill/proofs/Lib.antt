@@ -15,3 +15,4 @@ pub mod WordLemmas
 pub mod PlainWordLemmas
 pub mod WordRunLemmas
 pub mod TakenWordLemmas
+pub mod BlankTextLemmas

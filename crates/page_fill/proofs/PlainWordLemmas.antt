@@ -1,16 +1,14 @@
 -- A plain text, one that goes on with the last word of the open row, a plain word that goes into that row, and one before which the row ends.
-use Rattle.std.proofs.Common.{◌≡◌, ℕ, suc, ◌+◌, ◌-◌, ◌≤◌, true, false, ◌==◌, List, [], ◌∷◌, length, replicate, append-nil, refl, ap, ◌∙◌, arith}
+use Rattle.std.proofs.Common.{◌≡◌, ℕ, suc, ◌+◌, ◌-◌, ◌≤◌, true, false, ◌==◌, List, [], ◌∷◌, length, append-nil, refl, ap, ◌∙◌, arith}
 use Rattle.std.proofs.lemmas.Bool.Decides.{nat_tests}
-use Rattle.std.proofs.lemmas.List.{length-replicate}
 use Rattle.page_core_base.specs.declared.cells.Font.{Font}
 use Rattle.page_core_base.specs.declared.places.Place.{Place}
 use Rattle.page_core_base.specs.Laid.{nothing, join}
 use Rattle.page_core_base.specs.declared.limits.TheConstants.{CELLS}
 use Rattle.page_fill_rows.specs.machine.Sheets.{columns, letters, opens, over, space, spaces}
-use Rattle.page_fill_rows.specs.Characters.{cell_of, cells_of, character, characters, characters_of}
+use Rattle.page_fill_rows.specs.Characters.{cells_of, character, characters}
 use Rattle.page_fill_rows.specs.machine.Plain.{ends_before, has_part_room, has_room, has_word_room, is_printable_ascii, spaced_by, taken, wraps_plain}
-use Rattle.page_fill_rows.proofs.BlankRunLemmas.{blanks-plain, count-blank, count-cells}
-use Rattle.page_fill_rows.proofs.PlainLemmas.{characters_of-plain, characters-plain, letters-fits, spaced-room, spaces-fit}
+use Rattle.page_fill_rows.proofs.PlainLemmas.{characters-plain, letters-fits, spaced-room, spaces-fit}
 use Rattle.page_fill_rows.proofs.WrapLemmas.{both-plain}
 use Rattle.page_fill.specs.machine.Fill.{Edge, text, one_character, opening, on_sheet, begun_word, stands}
 use Rattle.page_fill.specs.machine.PlainWords.{takes_word, wraps_word}
@@ -31,17 +29,6 @@ unfolding opening
 text-part e bytes font place plain some joined room =
     let fits : has_room e.sheet (length bytes) ≡ true = grind (arith, room) in
     rw (text-plain e bytes font place plain some, joined, letters-fits e.sheet bytes font place some plain fits) refl
-
--- blanks alone, of which there is a count
-pub text-blanks : (e : Edge) (count : ℕ) (font : Font) (place : Place) → (count == 0) ≡ false → e.word.is_joined ≡ true → has_part_room e.sheet count ≡ true
-    → text e (characters_of (replicate count 32)) font place ≡ nothing (on_sheet e (taken e.sheet (replicate count (cell_of font 32))))
-text-blanks e count font place some joined room =
-    let bytes = replicate {A = ℕ} count 32 in
-    let plain = blanks-plain bytes (count-blank count) in
-    let len = length-replicate {A = ℕ} count 32 in
-    rw (characters_of-plain bytes plain)
-    (text-part e bytes font place plain (rw len some) joined (rw len room)
-    ∙ ap (λ cells. nothing (on_sheet e (taken e.sheet cells))) (count-cells font count))
 
 -- ---- a character
 

@@ -1,15 +1,14 @@
 //! Words, breaks and tags: what is held between two pieces.
 
 ghost use Rattle.std.specs.Prelude.{◌≡◌, ◌≤◌, ◌==◌, length, replicate, Some, true, false, []};
-ghost use Rattle.std.specs.List.{list_all};
 ghost use Rattle.std.specs.Str.{chars};
 ghost use Rattle.page_core_base.specs.Laid.{nothing};
 ghost use Rattle.page_core_base.specs.Latches.{CameRows, LaysOut};
 ghost use Rattle.page_core_base.specs.declared.blank_texts.TheConstants.{BLANK_TEXT};
 ghost use Rattle.page_core_base.specs.declared.cells.Font.TheVariants.{R};
+ghost use Rattle.page_core_base.specs.declared.pieces.Piece.TheVariants.{Text};
 ghost use Rattle.page_core_base.specs.declared.places.Place.{Place};
 ghost use Rattle.page_fill_rows.specs.Characters.{characters_of};
-ghost use Rattle.page_fill_rows.specs.machine.BlankRuns.{is_blank_byte};
 ghost use Rattle.page_fill_rows.specs.machine.Plain as plain;
 ghost use Rattle.page_fill.specs.Caps.{is_sound};
 ghost use Rattle.page_fill.specs.Edges.{counted_tag};
@@ -20,13 +19,13 @@ ghost use Rattle.page_fill.specs.machine.TakenWords.{TakesFirstWords};
 use crate::characters::{put_character, put_characters, put_glyph};
 use crate::taken_words::whole_words;
 use crate::{HANG_MAX, TAB_STOP};
-use page_core_base::{
-    BLANK_TEXT, Cell, Font, Note, NoteKind, Output, Place, RowOut, TagForm, blank_text,
-    last_part_start,
-};
+use page_core_base::{Cell, Font, Note, NoteKind, Output, Place, RowOut, TagForm, last_part_start};
 use page_fill_rows::{
     OpenRow, is_long_run, is_printable_ascii, printable_len, put_plain, word_start,
 };
+
+// The texts of blanks that are put together.
+const TOGETHER: usize = 4096;
 
 /// The open word, and what waits before the next one.
 #[derive(Clone, Copy)]
@@ -255,19 +254,6 @@ impl Edge {
         }
     }
 
-    /// The same of a count of blanks that go on with the row's last word: none of them is looked at.
-    pub(crate) fn takes_blanks(&mut self, count: usize, font: Font) -> bool
-        ensures taken { result ≡ true → (place : Place)
-            → fill.text self.old (characters_of (replicate count 32)) font place ≡ nothing self.new }
-        ensures same { result ≡ false → self.new ≡ self.old }
-    {
-        if count == 0 || !self.word.is_joined || !self.sheet.has_part_room(count) {
-            return false;
-        }
-        self.sheet.add_blanks(count, font);
-        true
-    }
-
     /// The same of a character.
     #[inline(never)]
     pub(crate) fn takes_character(&mut self, c: char, font: Font) -> bool
@@ -311,19 +297,11 @@ impl Edge {
         }
     }
 
-    // Takes a plain text, which may be known to be blanks alone.
+    // Takes a plain text.
     #[inline(always)]
     #[tactic(auto, unfolding(crate::specs::machine::Fill::text))]
-    fn plain<O: RowOut>(
-        &mut self,
-        bytes: &[u8],
-        is_blank: bool,
-        font: Font,
-        place: Place,
-        out: &mut O,
-    )
-        requires plain { plain.is_printable_ascii bytes.now ≡ true }
-        requires blanks { is_blank ≡ true → list_all is_blank_byte bytes.now ≡ true }
+    fn plain<O: RowOut>(&mut self, bytes: &[u8], font: Font, place: Place, out: &mut O)
+        requires { plain.is_printable_ascii bytes.now ≡ true }
         ensures { LaysOut O.left out.old (fill.text self.old bytes.now font place) out.new self.new }
     {
         if bytes.is_empty() {
@@ -331,22 +309,47 @@ impl Edge {
             return;
         }
         if self.wraps_word(bytes.len()) {
-            self.sheet.wrap_plain(bytes, is_blank, font, out);
+            self.sheet.wrap_plain(bytes, font, out);
             self.word = OpenWord::begun(false);
             return;
         }
         self.open_word(place, out);
-        put_plain(&mut self.sheet, bytes, is_blank, font, place, out);
+        put_plain(&mut self.sheet, bytes, font, place, out);
     }
 
-    /// Takes a text of a count of blanks. It is a call, since few texts are blanks alone.
+    // Takes a text of a count of blanks. It is a call, since few texts are blanks alone.
     #[inline(never)]
-    pub(crate) fn blanks<O: RowOut>(&mut self, count: usize, font: Font, place: Place, out: &mut O)
-        requires { count ≤ BLANK_TEXT }
-        ensures { LaysOut O.left out.old (fill.text self.old
-            (characters_of (replicate count 32)) font place) out.new self.new }
+    #[tactic(auto, unfolding(crate::specs::machine::Fill::text))]
+    fn blanks<O: RowOut>(&mut self, count: usize, font: Font, place: Place, out: &mut O)
+        ensures { LaysOut O.left out.old (fill.text self.old (replicate count 32) font place) out.new self.new }
     {
-        self.plain(blank_text(count), true, font, place, out);
+        if count == 0 {
+            self.word.is_open = true;
+            return;
+        }
+        self.open_word(place, out);
+        self.sheet.put_blanks(count, font, place, out);
+    }
+
+    /// Takes as many texts of a count of blanks, of which many are put together.
+    pub(crate) fn blank_texts<O: RowOut>(
+        &mut self,
+        count: usize,
+        times: usize,
+        font: Font,
+        place: Place,
+        out: &mut O,
+    )
+        requires { count ≤ BLANK_TEXT }
+        ensures { LaysOut O.left out.old (fill.laid self.old
+            (replicate times (Text (replicate count 32) font place))) out.new self.new }
+    {
+        let mut left = times;
+        while left > 0 {
+            let part = left.min(TOGETHER);
+            self.blanks(part * count, font, place, out);
+            left -= part;
+        }
     }
 
     /// Takes bytes that are a text.
@@ -354,9 +357,11 @@ impl Edge {
         ensures { LaysOut O.left out.old (fill.text self.old
             (characters_of bytes.now) font place) out.new self.new }
     {
-        let is_blank = is_long_run(bytes);
-        if is_blank || is_printable_ascii(bytes) {
-            return self.plain(bytes, is_blank, font, place, out);
+        if is_long_run(bytes) {
+            return self.blanks(bytes.len(), font, place, out);
+        }
+        if is_printable_ascii(bytes) {
+            return self.plain(bytes, font, place, out);
         }
         match str::from_utf8(bytes) {
             Ok(text) => self.text(text, font, place, out),
@@ -387,7 +392,7 @@ impl Edge {
         ensures { LaysOut O.left out.old (fill.fixed_tab self.old place) out.new self.new }
     {
         let blanks = TAB_STOP - self.sheet.columns() % TAB_STOP;
-        self.sheet.put_blanks(blanks, place, out);
+        self.sheet.put_blanks(blanks as usize, Font::R, place, out);
     }
 
     // A tab in a filled row.

@@ -199,12 +199,13 @@ impl Filler {
         result
     }
 
-    /// Takes a count of blanks that are cells, at most [`BLANK_TEXT`](page_core_base::BLANK_TEXT), as [`piece`](Filler::piece) takes a text of them.
+    /// Takes as many texts of a count of blanks that are cells, at most [`BLANK_TEXT`](page_core_base::BLANK_TEXT) of them in each.
     ///
     /// Its faults are those of the sinks; after one, and after [`finish`](Filler::finish), it is [`Fault::Failed`].
     pub fn take_blanks<R: RowSink, N: NoteSink>(
         &mut self,
         count: usize,
+        times: usize,
         font: Font,
         place: Place,
         rows: &mut R,
@@ -213,9 +214,9 @@ impl Filler {
         requires { count ≤ BLANK_TEXT }
         ensures gets { (e : Edge) → self.old ≡ Some e
             → Gets result R.gave R.within N.gave N.within rows.old rows.new notes.old notes.new
-            (filled e (shown (Text (replicate count 32) font place) ∷ [])) }
+            (filled e (replicate times (shown (Text (replicate count 32) font place)))) }
         ensures edge { (e : Edge) → self.old ≡ Some e
-            → OnOk result (self.new ≡ Some (filled e (shown (Text (replicate count 32) font place) ∷ [])).edge) }
+            → OnOk result (self.new ≡ Some (filled e (replicate times (shown (Text (replicate count 32) font place)))).edge) }
         ensures faults { (e : Edge) → self.old ≡ Some e
             → FailsBySink result (R.failed rows.old) (R.failed rows.new)
             (N.failed notes.old) (N.failed notes.new) }
@@ -228,7 +229,9 @@ impl Filler {
         if !self.is_going {
             return Err(Fault::Failed);
         }
-        let taken = self.edge.take_blanks(count, font, place, rows, notes);
+        let taken = self
+            .edge
+            .take_blanks(count, times, font, place, rows, notes);
         if taken.is_err() {
             self.is_going = false;
         }

@@ -8,7 +8,6 @@ ghost use Rattle.page_core_base.specs.Pieces.{piece_of};
 ghost use Rattle.page_core_base.specs.declared.blank_texts.TheConstants.{BLANK_TEXT};
 ghost use Rattle.page_core_base.specs.declared.limits.TheConstants.{CELLS};
 ghost use Rattle.page_core_base.specs.declared.pieces.Piece.TheVariants.{Text};
-ghost use Rattle.page_fill_rows.specs.Characters.{characters_of};
 ghost use Rattle.page_fill.specs.Caps.{FillFits, IsHeld};
 ghost use Rattle.page_fill.specs.Edges.{under};
 ghost use Rattle.page_fill.specs.machine.Fill as fill;
@@ -85,29 +84,6 @@ fn fill_piece<R: RowSink, N: NoteSink>(
 {
     let mut latch = RowLatch::new(rows, notes);
     take_piece(edge, piece, &mut latch);
-    latch.done()
-}
-
-// Takes a count of blanks over two sinks.
-fn fill_blanks<R: RowSink, N: NoteSink>(
-    edge: &mut Edge,
-    count: usize,
-    font: Font,
-    place: Place,
-    rows: &mut R,
-    notes: &mut N,
-) -> Result<(), Fault>
-    requires { count ≤ BLANK_TEXT }
-    ensures gets { Gets result R.gave R.within N.gave N.within rows.old rows.new notes.old notes.new
-        (fill.text edge.old (characters_of (replicate count 32)) font place) }
-    ensures edge { edge.new ≡ (fill.text edge.old (characters_of (replicate count 32)) font place).edge }
-    ensures faults { FailsBySink result (R.failed rows.old) (R.failed rows.new) (N.failed notes.old)
-        (N.failed notes.new) }
-    ensures rows_same { R.loans rows.new ≡ R.loans rows.old }
-    ensures notes_same { N.loans notes.new ≡ N.loans notes.old }
-{
-    let mut latch = RowLatch::new(rows, notes);
-    edge.blanks(count, font, place, &mut latch);
     latch.done()
 }
 
@@ -208,11 +184,11 @@ impl Edge {
         fill_piece(self, piece, rows, notes)
     }
 
-    /// Takes a count of blanks that are cells, at most [`BLANK_TEXT`], as [`piece`](Edge::piece) takes a text of them.
-    #[tactic(auto, unfolding(crate::specs::machine::Fill::laid_piece))]
+    /// Takes as many texts of a count of blanks that are cells, at most [`BLANK_TEXT`] of them in each. Its faults are those of the sinks.
     pub fn take_blanks<R: RowSink, N: NoteSink>(
         &mut self,
         count: usize,
+        times: usize,
         font: Font,
         place: Place,
         rows: &mut R,
@@ -220,17 +196,16 @@ impl Edge {
     ) -> Result<(), Fault>
         requires { count ≤ BLANK_TEXT }
         ensures gets { Gets result R.gave R.within N.gave N.within rows.old rows.new notes.old notes.new
-            (fill.laid_piece self.old (Text (replicate count 32) font place)) }
-        ensures edge { self.new ≡ (fill.laid_piece self.old (Text (replicate count 32) font place)).edge }
+            (fill.laid self.old (replicate times (Text (replicate count 32) font place))) }
+        ensures edge { self.new ≡ (fill.laid self.old (replicate times (Text (replicate count 32) font place))).edge }
         ensures faults { FailsBySink result (R.failed rows.old) (R.failed rows.new) (N.failed notes.old)
             (N.failed notes.new) }
         ensures rows_same { R.loans rows.new ≡ R.loans rows.old }
         ensures notes_same { N.loans notes.new ≡ N.loans notes.old }
     {
-        if self.takes_blanks(count, font) {
-            return Ok(());
-        }
-        fill_blanks(self, count, font, place, rows, notes)
+        let mut latch = RowLatch::new(rows, notes);
+        self.blank_texts(count, times, font, place, &mut latch);
+        latch.done()
     }
 
     /// Ends the open row. Its faults are those of the sinks.

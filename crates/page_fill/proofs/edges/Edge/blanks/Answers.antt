@@ -1,15 +1,13 @@
-use Rattle.std.proofs.Common.{ℕ, replicate}
-use Rattle.page_fill_rows.proofs.BlankRunLemmas.{blanks-plain, count-blank}
-use Rattle.page_fill_rows.proofs.PlainLemmas.{characters_of-plain}
+use Rattle.std.proofs.Common.{◌≡◌, ◌==◌, false, append_assoc, ap, arith}
+use Rattle.std.proofs.lemmas.Bool.Decides.{nat_tests}
+use Rattle.page_fill.specs.machine.Fill.{on_sheet}
+use Rattle.page_fill.proofs.BlankTextLemmas.{blanks-some}
 use Rattle.page_fill.proofs.edges.Edge.blanks.Goals as goal
-
-pub plain-requires-clause-plain : goal.plain-requires-clause-plain
-plain-requires-clause-plain g c = rw c.blank_text.ensures (blanks-plain (replicate {A = ℕ} c.args.count 32) (count-blank c.args.count))
-
-pub plain-requires-clause-blanks : goal.plain-requires-clause-blanks
-plain-requires-clause-blanks g c = λ is. rw c.blank_text.ensures (count-blank c.args.count)
 
 pub returns : goal.returns
 returns g c =
-    let plain = blanks-plain (replicate {A = ℕ} c.args.count 32) (count-blank c.args.count) in
-    rw (characters_of-plain (replicate {A = ℕ} c.args.count 32) plain) (rw c.blank_text.ensures at c.plain.ensures)
+    let o = c.open_word.ensures in
+    let p = c.put_blanks.ensures in
+    let some : (c.args.count == 0) ≡ false = grind (arith, nat_tests) in
+    rw (blanks-some c.args.self.now c.args.count c.args.font c.args.place some, ← o.1)
+    ((λ plan rows notes h. p.0 plan _ _ (o.0 plan _ _ (rw (append_assoc, append_assoc) at h))), ap (on_sheet c.open_word.new.self) p.1)

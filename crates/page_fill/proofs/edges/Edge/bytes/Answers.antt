@@ -1,18 +1,19 @@
-use Rattle.std.proofs.Common.{◌≡◌, true, sym, ◌∙◌}
+use Rattle.std.proofs.Common.{sym, ◌∙◌}
 use Rattle.std.proofs.lemmas.Str.{chars-nil}
-use Rattle.page_fill_rows.specs.machine.Plain.{is_printable_ascii}
 use Rattle.page_fill_rows.proofs.CharacterLemmas.{characters_of-text, characters_of-none}
 use Rattle.page_fill_rows.proofs.PlainLemmas.{characters_of-plain}
+use Rattle.page_fill.proofs.BlankTextLemmas.{blanks-bytes}
 use Rattle.page_fill.proofs.edges.Edge.bytes.Goals as goal
-use Rattle.page_fill.proofs.edges.Edge.bytes.Goals.{then-is_blank-via-then-is_blank, then-is_blank-via-else-is_blank+then-is_printable_ascii}
 
-pub returns-then-is_blank : goal.returns-then-is_blank
-returns-then-is_blank g c =
-    let printable : is_printable_ascii c.args.bytes.now ≡ true = elim c.then-is_blank.branch [
-      | then-is_blank-via-then-is_blank w ↦ c.is_long_run-is_blank.ensures.printable w.if-is_blank.true
-      | then-is_blank-via-else-is_blank+then-is_printable_ascii w ↦ sym w.is_printable_ascii.ensures ∙ w.if-is_printable_ascii.true
-    ] in
-    rw (characters_of-plain c.args.bytes.now printable) c.plain.ensures
+pub returns-then-is_long_run : goal.returns-then-is_long_run
+returns-then-is_long_run g c =
+    let run = c.is_long_run.ensures in
+    let same = blanks-bytes c.args.bytes.now (run.blanks c.if-is_long_run.true) in
+    rw (characters_of-plain c.args.bytes.now (run.printable c.if-is_long_run.true), same) c.blanks.ensures
+
+pub returns-then-is_printable_ascii : goal.returns-then-is_printable_ascii
+returns-then-is_printable_ascii g c =
+    rw (characters_of-plain c.args.bytes.now (sym c.is_printable_ascii.ensures ∙ c.if-is_printable_ascii.true)) c.plain.ensures
 
 pub returns-in-Ok : goal.returns-in-Ok
 returns-in-Ok g c = rw (characters_of-text c.args.bytes.now c.in-Ok.ensures.cases.1, ← c.in-Ok.ensures.cases.0) c.text.ensures

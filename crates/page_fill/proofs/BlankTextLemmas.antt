@@ -1,0 +1,141 @@
+-- Texts of blanks next to one another, which are put together.
+use Rattle.std.proofs.Common.{◌≡◌, ◌⊎◌, ℕ, zero, suc, ◌+◌, ◌*◌, ◌-◌, ◌<◌, ◌≤◌, true, false, ◌==◌, List, [], ◌∷◌, ◌++◌, length, replicate, inl, inr, refl, sym, ap, ◌∙◌, arith}
+use Rattle.std.specs.List.{list_all}
+use Rattle.std.proofs.lemmas.Bool.{cases_Bool}
+use Rattle.std.proofs.lemmas.Bool.Decides.{nat_tests}
+use Rattle.std.proofs.lemmas.List.{length-replicate, replicate-append-replicate}
+use Rattle.page_core_base.specs.declared.cells.Font.{Font}
+use Rattle.page_core_base.specs.declared.pieces.Piece.{Piece}
+use Rattle.page_core_base.specs.declared.pieces.Piece.TheVariants.{Text}
+use Rattle.page_core_base.specs.declared.places.Place.{Place}
+use Rattle.page_core_base.specs.Laid.{Laid, nothing, join, join_assoc, seq}
+use Rattle.page_fill_rows.specs.Characters.{cell_of}
+use Rattle.page_fill_rows.specs.machine.BlankRuns.{is_blank_byte}
+use Rattle.page_fill_rows.specs.machine.Sheets.{Sheet, letters, over}
+use Rattle.page_fill_rows.proofs.BlankRunLemmas.{blanks-plain, count-blank, count-cells}
+use Rattle.page_fill_rows.proofs.CharacterLemmas.{letters-append}
+use Rattle.page_fill_rows.proofs.PlainLemmas.{characters_of-plain}
+use Rattle.page_fill.specs.machine.Fill.{Edge, laid, laid_piece, on_sheet, opening, text}
+use Rattle.page_fill.proofs.GlueLaw.{seq-nothing}
+use Rattle.page_fill.proofs.PlainWordLemmas.{text-plain}
+
+-- bytes that are blanks are a count of them
+pub blanks-bytes : (bytes : List ℕ) → list_all is_blank_byte bytes ≡ true → bytes ≡ replicate (length bytes) 32
+blanks-bytes [] all = refl
+blanks-bytes (b ∷ bytes) all =
+    let first : b ≡ 32 = grind (arith, nat_tests, all) in
+    let others : list_all is_blank_byte bytes ≡ true = grind (arith, all) in
+    rw first (ap (λ rest. 32 ∷ rest) (blanks-bytes bytes others))
+
+-- a text of a count of blanks
+pub blanks-some : (e : Edge) (n : ℕ) (font : Font) (place : Place) → (n == 0) ≡ false
+    → text e (replicate n 32) font place
+    ≡ join (opening e place) (over (letters (opening e place).edge.sheet (replicate n (cell_of font 32)) place) (on_sheet (opening e place).edge))
+blanks-some e n font place some =
+    let bytes = replicate {A = ℕ} n 32 in
+    let len = length-replicate {A = ℕ} n 32 in
+    rw (← count-cells font n) (text-plain e bytes font place (blanks-plain bytes (count-blank n)) (rw len some))
+
+-- ---- one text after another
+
+joined-then : (e : Edge) (place : Place) → (opening e place).edge.word.is_joined ≡ true
+unfolding opening
+joined-then e place = elim (cases_Bool e.word.is_joined) [ inl is ↦ rw is refl | inr new ↦ rw new refl ]
+
+goes-on : (e : Edge) (place : Place) → e.word.is_joined ≡ true → opening e place ≡ nothing e
+unfolding opening
+goes-on e place is = rw is refl
+
+-- the second of two texts of blanks goes on with the word of the first
+blanks-after : (e : Edge) (cells : ℕ) (font : Font) (place : Place) → (cells == 0) ≡ false → e.word.is_joined ≡ true
+    → text e (replicate cells 32) font place ≡ over (letters e.sheet (replicate cells (cell_of font 32)) place) (on_sheet e)
+blanks-after e cells font place some is = blanks-some e cells font place some ∙ rw (goes-on e place is) refl
+
+both-texts : (e : Edge) (m n : ℕ) (font : Font) (place : Place) → (m == 0) ≡ false → (n == 0) ≡ false
+    → text e (replicate (m + n) 32) font place
+    ≡ join (text e (replicate m 32) font place) (text (text e (replicate m 32) font place).edge (replicate n 32) font place)
+both-texts e m n font place some more =
+    let o = opening e place in
+    let f = o.edge in
+    let cell = cell_of font 32 in
+    let first = letters f.sheet (replicate m cell) place in
+    let second = letters first.edge (replicate n cell) place in
+    let sum : (m + n == 0) ≡ false = grind (arith, nat_tests, some, more) in
+    let cells : letters f.sheet (replicate (m + n) cell) place ≡ join first second =
+    ap (λ cs. letters f.sheet cs place) (sym (replicate-append-replicate m n cell)) ∙ letters-append f.sheet (replicate m cell) (replicate n cell) place in
+    let whole : text e (replicate (m + n) 32) font place ≡ join o (over (join first second) (on_sheet f)) =
+    blanks-some e (m + n) font place sum ∙ ap (λ (l : Laid Sheet). join o (over l (on_sheet f))) cells in
+    let next : text (on_sheet f first.edge) (replicate n 32) font place ≡ over second (on_sheet f) =
+    blanks-after (on_sheet f first.edge) n font place more (joined-then e place) in
+    let front = blanks-some e m font place some in
+    rw (front, next) (whole ∙ sym (join_assoc o (over first (on_sheet f)) (over second (on_sheet f))))
+
+-- ---- as many texts
+
+-- without a blank they are the first one
+twice-none : (e : Edge) (font : Font) (place : Place) → join (text e [] font place) (text (text e [] font place).edge [] font place) ≡ text e [] font place
+unfolding text
+twice-none e font place = refl
+
+abbrev blanks_piece : ℕ → Font → Place → Piece (List ℕ)
+blanks_piece count font place = Text (replicate count 32) font place
+
+one-piece : (e : Edge) (count : ℕ) (font : Font) (place : Place) → laid_piece e (blanks_piece count font place) ≡ text e (replicate count 32) font place
+unfolding laid_piece
+one-piece e count font place =
+    ap (λ cs. text e cs font place) (characters_of-plain (replicate count 32) (blanks-plain (replicate count 32) (count-blank count)))
+
+one-more : (k count : ℕ) → suc k * count ≡ count + k * count
+one-more k count = grind arith
+
+first-others : (e : Edge) (k count : ℕ) (font : Font) (place : Place) → ((count == 0) ≡ true) ⊎ ((count == 0) ≡ false)
+    → join (text e (replicate count 32) font place) (text (text e (replicate count 32) font place).edge (replicate (suc k * count) 32) font place)
+    ≡ text e (replicate (suc (suc k) * count) 32) font place
+first-others e k count font place (inl none) =
+    let zero_count : count ≡ 0 = grind (arith, nat_tests, none) in
+    let zero_others : suc k * count ≡ 0 = grind (arith, zero_count) in
+    let zero_all : suc (suc k) * count ≡ 0 = grind (arith, zero_count) in
+    rw (zero_others, zero_all, zero_count) (twice-none e font place)
+first-others e k count font place (inr some) =
+    let more : (suc k * count == 0) ≡ false = grind (arith, nat_tests, some, one-more k count) in
+    let sum : count + suc k * count ≡ suc (suc k) * count = sym (one-more (suc k) count) in
+    sym (both-texts e count (suc k * count) font place some more) ∙ ap (λ (n : ℕ). text e (replicate n 32) font place) sum
+
+pub texts-together : (e : Edge) (k count : ℕ) (font : Font) (place : Place)
+    → laid e (replicate (suc k) (blanks_piece count font place)) ≡ text e (replicate (suc k * count) 32) font place
+unfolding laid
+texts-together e zero count font place =
+    let once : 1 * count ≡ count = grind arith in
+    rw once (seq-nothing (laid_piece e (blanks_piece count font place)) ∙ one-piece e count font place)
+texts-together e (suc k) count font place =
+    let first = text e (replicate count 32) font place in
+    let others = texts-together first.edge k count font place in
+    let step : laid e (replicate (suc (suc k)) (blanks_piece count font place)) ≡ join first (text first.edge (replicate (suc k * count) 32) font place) =
+    ap (λ (l : Laid Edge). seq l (λ f. laid f (replicate (suc k) (blanks_piece count font place)))) (one-piece e count font place) ∙ ap (λ (l : Laid Edge). join first l) others in
+    step ∙ first-others e k count font place (cases_Bool (count == 0))
+
+-- ---- some of them, and the others
+
+laid-append : (e : Edge) (front back : List (Piece (List ℕ))) → laid e (front ++ back) ≡ join (laid e front) (laid (laid e front).edge back)
+unfolding laid
+laid-append e [] back = refl
+laid-append e (piece ∷ front) back =
+    let first = laid_piece e piece in
+    let others = laid first.edge front in
+    ap (λ (l : Laid Edge). join first l) (laid-append first.edge front back) ∙ sym (join_assoc first others (laid others.edge back))
+
+pub texts-parted : (e : Edge) (times part count : ℕ) (font : Font) (place : Place) → 0 < part → part ≤ times
+    → laid e (replicate times (blanks_piece count font place))
+    ≡ join (text e (replicate (part * count) 32) font place)
+    (laid (text e (replicate (part * count) 32) font place).edge (replicate (times - part) (blanks_piece count font place)))
+texts-parted e times part count font place some within =
+    let piece = blanks_piece count font place in
+    let sum : part + (times - part) ≡ times = omega arith in
+    let is : suc (part - 1) ≡ part = omega arith in
+    let together : laid e (replicate part piece) ≡ text e (replicate (part * count) 32) font place =
+    ap (λ (k : ℕ). laid e (replicate k piece)) (sym is)
+    ∙ (texts-together e (part - 1) count font place ∙ ap (λ (k : ℕ). text e (replicate (k * count) 32) font place) is) in
+    let parts = replicate-append-replicate part (times - part) piece ∙ ap (λ (k : ℕ). replicate k piece) sum in
+    ap (laid e) (sym parts)
+    ∙ (laid-append e (replicate part piece) (replicate (times - part) piece)
+    ∙ ap (λ (l : Laid Edge). join l (laid l.edge (replicate (times - part) piece))) together)
