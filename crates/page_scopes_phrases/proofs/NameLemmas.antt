@@ -1,10 +1,11 @@
 -- The name of the manual, token by token.
-use Rattle.std.proofs.Common.{◌≡◌, ℕ, ◌+◌, ◌<◌, ◌≤◌, Bool, false, ◌||◌, List, [], ◌∷◌, length, map, drop, get_or, Some, add-one, inl, inr, refl, sym, ap, ◌∙◌, arith}
+use Rattle.std.proofs.Common.{◌≡◌, ℕ, ◌+◌, ◌<◌, ◌≤◌, Bool, false, ◌||◌, List, [], ◌∷◌, ◌++◌, append_assoc, length, map, drop, get_or, Some, add-one, inl, inr, refl, sym, ap, ◌∙◌, arith}
 use Rattle.std.proofs.lemmas.Bool.{cases_Bool}
 use Rattle.std.proofs.lemmas.List.{drop_all}
 use Rattle.std.proofs.Math.Seq.{drop-cons}
 use Rattle.page_core_base.specs.declared.cells.Font.{Font}
 use Rattle.page_core_base.specs.declared.places.Place.{Place}
+use Rattle.page_core_base.specs.Pieces.{Item}
 use Rattle.page_core_escapes.specs.Meanings as meanings
 use Rattle.page_core_escapes.specs.Meanings.{Meaning}
 use Rattle.page_core_escapes.specs.Tokens.{TextToken, white, plain, quotes, escaped, begins_word, token_at, token_len, tokens_len, tokens_of}
@@ -46,6 +47,12 @@ token-blank (white bytes) count is = cc
 token-blank (plain bytes) count is = cc
 token-blank (quotes bytes) count is = cc
 token-blank (escaped bytes meaning) count is = escape-blank bytes meaning count is
+
+-- ---- items that wait, those of a token, and the others
+
+pub regroup : (waiting token others rest : List Item) → (waiting ++ (token ++ others)) ++ rest ≡ (waiting ++ token) ++ (others ++ rest)
+regroup waiting token others rest =
+    rw (append_assoc waiting (token ++ others) rest, append_assoc token others rest, append_assoc waiting token (others ++ rest)) refl
 
 -- ---- the first token of a text
 

@@ -121,7 +121,8 @@ impl ManualName {
 
     /// What is known of its tokens.
     pub(crate) fn parts(&self) -> &[NamePart]
-        ensures { result.now ≡ names.parts_of self.now.text }
+        ensures value { result.now ≡ names.parts_of self.now.text }
+        ensures bound { length result.now ≤ 256 }
     {
         self.parts.as_slice()
     }

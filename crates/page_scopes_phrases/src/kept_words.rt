@@ -1,7 +1,7 @@
 //! What a kept text prints, wherever it is printed (man(7), `UR`, `MT`; mdoc(7), `Nm`).
 
-ghost use Rattle.std.specs.Prelude.{◌≡◌, ◌≤◌, ◌<◌, length, false};
-ghost use Rattle.page_core_base.specs.Latches.{Came};
+ghost use Rattle.std.specs.Prelude.{◌≡◌, ◌≤◌, ◌<◌, ◌+◌, ◌++◌, length, false};
+ghost use Rattle.page_core_base.specs.Latches.{Came, CameUpTo};
 ghost use Rattle.page_core_escapes.specs.Tokens.{token_at, token_view, tokens_of};
 ghost use Rattle.page_core_base.specs.declared.limits.TheConstants.{FIELD};
 ghost use Rattle.page_roff_syntax.specs.Arguments.{argument_view};
@@ -14,7 +14,7 @@ use crate::{KeptText, ManualName, Running};
 use page_core_base::{FIELD, Font, LINE, Limit, NoteKind, Piece, PieceOut, Place};
 use page_core_escapes::{Token, Tokens, read_token};
 use page_roff_syntax::Argument;
-use page_scopes_text::{fonts_after, give_blank_cells, give_blank_text, give_token, token_prints};
+use page_scopes_text::{fonts_after, give_blank_cells, give_token, token_prints};
 use page_scopes_words::{Fonts, Setting, give_white_cells, has_tab, report};
 
 /// Reports at a place that what an argument says is not kept whole.
@@ -140,29 +140,46 @@ pub fn give_kept<O: PieceOut>(
     give_parts(out, is_literal, front, place, start, text.text.text())
 }
 
-// Gives the token at the front of a text, of which a part says what is known; the fonts after it.
-#[inline(always)]
-fn give_known<O: PieceOut>(
-    out: &mut O,
-    is_literal: bool,
-    gap: u32,
-    place: Place,
-    fonts: Setting<Fonts>,
-    text: &[u8],
-    part: NamePart,
-) -> Setting<Fonts>
-    requires within { length text.now ≤ LINE }
-    requires known { part ≡ names.part_of (token_at false text.now) }
-    ensures came { Came O.left out.old (kept.part_items is_literal gap place fonts.value.font (token_at false text.now)) out.new }
-    ensures fonts { result ≡ texts.fonts_after (token_at false text.now) fonts }
-{
-    if let Some(count) = part.blanks {
-        give_blank_text(out, u32::from(count), fonts.value.font, place);
-        return fonts;
+// Texts of blanks that wait to be given at once: the blanks of each, and how many texts there are. Without a blank they print nothing.
+#[derive(Clone, Copy)]
+struct BlankTexts {
+    count: u16,
+    times: usize,
+}
+
+// No text of blanks waits.
+const NO_BLANKS: BlankTexts = BlankTexts { count: 0, times: 0 };
+
+impl BlankTexts {
+    // Gives them.
+    fn give<O: PieceOut>(self, out: &mut O, font: Font, place: Place)
+        requires { self.count ≤ 1000 }
+        ensures { Came O.left out.old (names.blank_texts self.count self.times font place) out.new }
+    {
+        if self.count != 0 {
+            out.give_blanks(self.count as usize, self.times, font, place);
+        }
     }
-    let token = read_token(false, text);
-    give_part(out, is_literal, gap, place, fonts.value.font, &token);
-    fonts_after(&token, fonts)
+
+    // What waits with one more text, of a count of blanks. Those with another count are given before it.
+    fn with<O: PieceOut>(self, out: &mut O, count: u16, font: Font, place: Place) -> BlankTexts
+        requires count { self.count ≤ 1000 }
+        requires times { self.times < 256 }
+        ensures came { CameUpTo O.left out.old
+            (names.blank_texts self.count self.times font place ++ texts.blank_text count font place)
+            (names.blank_texts result.count result.times font place) out.new }
+        ensures count { result.count ≡ count }
+        ensures times { result.times ≤ self.times + 1 }
+    {
+        if count == self.count {
+            return BlankTexts {
+                count,
+                times: self.times + 1,
+            };
+        }
+        self.give(out, font, place);
+        BlankTexts { count, times: 1 }
+    }
 }
 
 // Gives what a text prints without its messages, all at one place, where parts say what is known of its tokens.
@@ -177,16 +194,27 @@ fn give_known_parts<O: PieceOut>(
 )
     requires within { length text.now ≤ LINE }
     requires known { parts.now ≡ names.parts_of text.now }
+    requires count { length parts.now ≤ 256 }
     ensures { Came O.left out.old (kept.parts_items is_literal front place start (tokens_of false text.now)) out.new }
 {
     let mut rest = text;
     let mut fonts = start;
     let mut gap = front;
+    let mut blanks = NO_BLANKS;
     for part in parts {
-        fonts = give_known(out, is_literal, gap, place, fonts, rest, *part);
+        if let Some(count) = part.blanks {
+            blanks = blanks.with(out, count, fonts.value.font, place);
+        } else {
+            blanks.give(out, fonts.value.font, place);
+            blanks = NO_BLANKS;
+            let token = read_token(false, rest);
+            give_part(out, is_literal, gap, place, fonts.value.font, &token);
+            fonts = fonts_after(&token, fonts);
+        }
         rest = &rest[part.len as usize..];
         gap = 1;
     }
+    blanks.give(out, fonts.value.font, place);
 }
 
 /// Gives what a name prints without its messages, all at one place; white space at its front is this many blanks.

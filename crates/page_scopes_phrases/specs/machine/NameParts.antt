@@ -1,5 +1,9 @@
 -- A machine: what is known of the tokens of a manual's name, so that a name that is printed again is not read anew (`ManualName`).
-use Rattle.std.specs.Prelude.{◌≡◌, ℕ, Bool, true, false, List, length, map, Option, None, Some}
+use Rattle.std.specs.Prelude.{◌≡◌, ℕ, Bool, true, false, ◌==◌, List, [], length, map, replicate, Option, None, Some, if◌then◌else◌}
+use Rattle.page_core_base.specs.Pieces.{Item, shown}
+use Rattle.page_core_base.specs.declared.cells.Font.{Font}
+use Rattle.page_core_base.specs.declared.pieces.Piece.TheVariants.{Text}
+use Rattle.page_core_base.specs.declared.places.Place.{Place}
 use Rattle.page_core_escapes.specs.Meanings as meanings
 use Rattle.page_core_escapes.specs.Meanings.{Meaning}
 use Rattle.page_core_escapes.specs.Tokens.{TextToken, escaped, token_bytes, tokens_of}
@@ -21,6 +25,10 @@ part_of token = record { len = length (token_bytes token); blanks = token_blanks
 
 abbrev pub parts_of : List ℕ → List NamePart
 parts_of text = map part_of (tokens_of false text)
+
+-- texts of blanks next to one another, with as many blanks each
+abbrev pub blank_texts : ℕ → ℕ → Font → Place → List Item
+blank_texts count times font place = if count == 0 then [] else replicate times (shown (Text (replicate count 32) font place))
 
 -- what is held is what a reading of the text says
 pub record IsRead (text : List ℕ) (parts : List NamePart) (prints_filled prints_literal : Bool) : Type 0 where

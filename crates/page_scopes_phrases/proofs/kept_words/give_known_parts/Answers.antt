@@ -1,17 +1,17 @@
-use Rattle.std.proofs.Common.{None, get_or, append_assoc, arith}
+use Rattle.std.proofs.Common.{◌≡◌, ◌≤◌, ◌++◌, List, None, Some, drop, false, get_or, append-nil, append_assoc, ap, sym, ◌∙◌, arith}
 use Rattle.std.proofs.lemmas.List.{length-drop, take_rest}
+use Rattle.page_core_base.specs.Pieces.{Item}
+use Rattle.page_core_escapes.specs.Tokens.{token_at, tokens_of}
+use Rattle.page_scopes_phrases.specs.KeptTexts.{parts_items, part_items}
 use Rattle.page_scopes_phrases.specs.declared.kept_names.NamePart.{NamePart}
-use Rattle.page_scopes_phrases.proofs.NameLemmas.{next-part, no-part}
+use Rattle.page_scopes_phrases.specs.machine.NameParts.{blank_texts, token_blanks}
+use Rattle.page_scopes_text.specs.Words.{blank_text, fonts_after}
+use Rattle.page_scopes_phrases.proofs.NameLemmas.{next-part, no-part, regroup, token-blank}
 use Rattle.page_scopes_phrases.proofs.kept_words.give_known_parts.Goals as goal
+use Rattle.page_scopes_phrases.proofs.kept_words.give_known_parts.Goals.{in-Some, in_default}
 
 no_blank : NamePart
 no_blank = record { len = 0; blanks = None }
-
-pub give_known-fonts-requires-clause-known : goal.give_known-fonts-requires-clause-known
-unfolding no_blank
-give_known-fonts-requires-clause-known g c =
-    let l = c.loop-part in
-    (next-part l.rest.now c.args.parts.now l.part-index no_blank c.loop-part-test.true l.invariant.known).known
 
 pub slice_bounds-rest-count : goal.slice_bounds-rest-count
 unfolding no_blank
@@ -29,17 +29,49 @@ pub loop-part-preserved : goal.loop-part-preserved
 unfolding no_blank
 loop-part-preserved g c =
     let l = c.loop-part in
+    let i = l.invariant in
     let part : NamePart = get_or c.args.parts.now l.part-index no_blank in
-    let first = next-part l.rest.now c.args.parts.now l.part-index no_blank c.loop-part-test.true l.invariant.known in
-    let given = c.give_known-fonts.ensures in
+    let first = next-part l.rest.now c.args.parts.now l.part-index no_blank c.loop-part-test.true i.known in
+    let token = token_at false l.rest.now in
+    let others = tokens_of false (drop part.len l.rest.now) in
+    let waiting = blank_texts l.blanks.count l.blanks.times l.fonts.value.font c.args.place in
     let len = length-drop part.len l.rest.now in
-    rw (take_rest l.rest.now part.len, given.fonts) (record {
-      came = λ plan rest h. given.came plan _ (rw (first.tokens, append_assoc) at (l.invariant.came plan rest h));
+    rw (take_rest l.rest.now part.len) (record {
+      came = elim c.match-part.branch [
+        | in-Some w ↦ λ plan rest h.
+            let known : token_blanks token ≡ Some w.in-Some.count = ap (λ (p : NamePart). p.blanks) (sym first.known) ∙ w.in-Some.is in
+            let b = token-blank token w.in-Some.count known in
+            let text = blank_text w.in-Some.count l.fonts.value.font c.args.place in
+            let items = parts_items c.args.is_literal 1 c.args.place l.fonts others in
+            let came : g.O.PieceOut.left plan l.out ((waiting ++ (text ++ items)) ++ rest) =
+            rw (first.tokens, b.items c.args.is_literal l.gap c.args.place l.fonts.value.font, b.fonts l.fonts) at (i.came plan rest h) in
+            let given = w.with-blanks.ensures.came plan (items ++ rest) (rw (regroup waiting text items rest) at came) in
+            rw (w.out-is, w.fonts-is, w.blanks-is, append_assoc) given
+        | in_default w ↦ λ plan rest h.
+            let text = part_items c.args.is_literal l.gap c.args.place l.fonts.value.font token in
+            let items = parts_items c.args.is_literal 1 c.args.place (fonts_after token l.fonts) others in
+            let came : g.O.PieceOut.left plan l.out ((waiting ++ (text ++ items)) ++ rest) = rw first.tokens at (i.came plan rest h) in
+            let regrouped : g.O.PieceOut.left plan l.out (waiting ++ (text ++ (items ++ rest))) = rw (regroup waiting text items rest, append_assoc) at came in
+            let given = w.give.ensures plan (text ++ (items ++ rest)) regrouped in
+            rw (w.out-is, w.fonts-is, w.blanks-is, w.fonts_after-fonts.ensures, w.read_token-token.ensures.value)
+            (w.give_part.ensures plan (items ++ rest) (rw w.read_token-token.ensures.value given))
+      ];
       known = first.others;
-      within = omega (arith, len, l.invariant.within);
+      within = omega (arith, len, i.within);
+      count = elim c.match-part.branch [
+        | in-Some w ↦
+            let known : token_blanks token ≡ Some w.in-Some.count = ap (λ (p : NamePart). p.blanks) (sym first.known) ∙ w.in-Some.is in
+            rw (w.blanks-is, w.with-blanks.ensures.count) (token-blank token w.in-Some.count known).within
+        | in_default w ↦ rw w.blanks-is (omega arith)
+      ];
+      times = elim c.match-part.branch [
+        | in-Some w ↦ let more = w.with-blanks.ensures.times in rw w.blanks-is (omega (arith, more, i.times))
+        | in_default w ↦ rw w.blanks-is (omega arith)
+      ];
     })
 
 pub returns : goal.returns
 returns g c = λ plan rest h.
     let l = c.loop-part in
-    rw (no-part l.rest.now c.args.parts.now l.part-index (omega (arith, c.loop-part-test.false)) l.invariant.known) at (l.invariant.came plan rest h)
+    let none = no-part l.rest.now c.args.parts.now l.part-index (omega (arith, c.loop-part-test.false)) l.invariant.known in
+    c.give-2.ensures plan rest (rw (none, append-nil) at (l.invariant.came plan rest h))
