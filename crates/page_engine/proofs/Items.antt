@@ -5,7 +5,6 @@ use Rattle.page_core_base.specs.Messages.{Message}
 use Rattle.page_core_base.specs.Rows.{LaidRow}
 use Rattle.page_core_base.specs.declared.faults.Fault.{Fault}
 use Rattle.page_core_base.specs.declared.faults.Fault.TheVariants.{Memory, Read, WriteText, WriteNotes, TooLong, Settings, Failed, Ended, BadIndex}
-use Rattle.page_core_base.specs.declared.pieces.Piece.{Piece}
 use Rattle.page_core_base.specs.Laid.{Laid, Gave, Gets, join}
 use Rattle.page_core_base.specs.Fails.{FailsAs, FailsBySink, IsPieceFault, IsSinkFault}
 use Rattle.page_fill.specs.declared.edges.Edge.{Edge as FillEdge}
@@ -30,21 +29,21 @@ sink_cause Failed r r' n n' cause = absurd cause
 sink_cause Ended r r' n n' cause = absurd cause
 sink_cause (BadIndex m) r r' n n' cause = absurd cause
 
--- what a filler says of a piece is what is asked of a sink
-pub piece_passes : {R N : Type 0} (rg rw_ : R → List LaidRow → R → Type 0) (rf : R → ℕ) (ng nw : N → List Message → N → Type 0) (nf : N → ℕ)
-    (res : Result (Unit {0}) Fault) (f f' : Option FillEdge) (r r' : R) (n n' : N) (piece : Piece (List ℕ))
-    → ((e : FillEdge) → f ≡ Some e → Gets res rg rw_ ng nw r r' n n' (filled e (shown piece ∷ [])))
-    → ((e : FillEdge) → f ≡ Some e → OnOk res (f' ≡ Some (filled e (shown piece ∷ [])).edge))
+-- what a filler says of items is what is asked of a sink, where it lays them one by one
+pub items_pass : {R N : Type 0} (rg rw_ : R → List LaidRow → R → Type 0) (rf : R → ℕ) (ng nw : N → List Message → N → Type 0) (nf : N → ℕ)
+    (res : Result (Unit {0}) Fault) (f f' : Option FillEdge) (r r' : R) (n n' : N) (items : List Item)
+    → ((e : FillEdge) → f ≡ Some e → laid_items e items ≡ filled e items)
+    → ((e : FillEdge) → f ≡ Some e → Gets res rg rw_ ng nw r r' n n' (filled e items))
+    → ((e : FillEdge) → f ≡ Some e → OnOk res (f' ≡ Some (filled e items).edge))
     → ((e : FillEdge) → f ≡ Some e → FailsBySink res (rf r) (rf r') (nf n) (nf n'))
     → (f ≡ None → (res ≡ Err Failed) × (r' ≡ r) × (n' ≡ n))
     → MatchResult res
-    (λ _. ((row : FillEdge) → f ≡ Some row → Passed rg rf ng nf f f' r r' n n' (laid_items row (shown piece ∷ []))) × Quiet rf nf r r' n n')
-    (λ fault. IsPieceFault fault (rf r) (rf r') (nf n) (nf n')
-    × ((row : FillEdge) → f ≡ Some row → Broken rw_ rf nw nf r r' n n' fault (laid_items row (shown piece ∷ []))))
-piece_passes rg rw_ rf ng nw nf (Ok x) None f' r r' n n' piece gets edge faults closed =
+    (λ _. ((row : FillEdge) → f ≡ Some row → Passed rg rf ng nf f f' r r' n n' (laid_items row items)) × Quiet rf nf r r' n n')
+    (λ fault. IsPieceFault fault (rf r) (rf r') (nf n) (nf n') × ((row : FillEdge) → f ≡ Some row → Broken rw_ rf nw nf r r' n n' fault (laid_items row items)))
+items_pass rg rw_ rf ng nw nf (Ok x) None f' r r' n n' items laid gets edge faults closed =
     let c = (closed refl).0 in let never : ⊥ = cc in absurd never
-piece_passes rg rw_ rf ng nw nf (Ok x) (Some e) f' r r' n n' piece gets edge faults closed = (
-  λ row is. rw laid_items_one record {
+items_pass rg rw_ rf ng nw nf (Ok x) (Some e) f' r r' n n' items laid gets edge faults closed = (
+  λ row is. rw (laid row is) record {
     filler = edge row is;
     rows = (gets row is).rows;
     notes = (gets row is).notes;
@@ -53,13 +52,13 @@ piece_passes rg rw_ rf ng nw nf (Ok x) (Some e) f' r r' n n' piece gets edge fau
   },
   record { rows = (faults e refl).0; notes = (faults e refl).1 },
 )
-piece_passes rg rw_ rf ng nw nf (Err x) None f' r r' n n' piece gets edge faults closed =
+items_pass rg rw_ rf ng nw nf (Err x) None f' r r' n n' items laid gets edge faults closed =
     let c = closed refl in
     let over : x ≡ Failed = let same = c.0 in cc in
     (rw (over, c.1, c.2) (refl, refl), λ row is. let never : ⊥ = cc in absurd never)
-piece_passes rg rw_ rf ng nw nf (Err x) (Some e) f' r r' n n' piece gets edge faults closed = (
+items_pass rg rw_ rf ng nw nf (Err x) (Some e) f' r r' n n' items laid gets edge faults closed = (
   sink_cause x (rf r) (rf r') (nf n) (nf n') (faults e refl),
-  λ row is. rw laid_items_one record { rows = (gets row is).rows; notes = (gets row is).notes; cause = faults row is },
+  λ row is. rw (laid row is) record { rows = (gets row is).rows; notes = (gets row is).notes; cause = faults row is },
 )
 
 -- a message passes the filler by, and goes to its sink

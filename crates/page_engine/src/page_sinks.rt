@@ -98,10 +98,16 @@ impl<R: RowSink, N: NoteSink> PieceSink for PageSink<'_, '_, '_, R, N> {
         self.filler.piece(piece, &mut self.rows, &mut self.notes)
     }
 
-    #[tactic(auto, unfolding(page_fill::specs::machine::ByPiece::laid_items))]
-    fn take_blanks(&mut self, count: usize, font: Font, place: Place) -> Result<(), Fault> {
+    fn take_blanks(
+        &mut self,
+        count: usize,
+        times: usize,
+        font: Font,
+        place: Place,
+    ) -> Result<(), Fault> {
+        self.filler.held_law();
         self.filler
-            .take_blanks(count, font, place, &mut self.rows, &mut self.notes)
+            .take_blanks(count, times, font, place, &mut self.rows, &mut self.notes)
     }
 
     #[inline(always)]
