@@ -1,5 +1,5 @@
 -- What ends a function, of `Fn` or of `Fo`. Source: mdoc(7), "MACRO REFERENCE".
-use Rattle.std.specs.Prelude.{List, [], ◌∷◌, None, if◌then◌else◌}
+use Rattle.std.specs.Prelude.{[], ◌∷◌, None, if◌then◌else◌}
 use Rattle.page_core_base.specs.Pieces.{shown}
 use Rattle.page_core_base.specs.declared.pieces.Piece.TheVariants as pieces
 use Rattle.page_core_base.specs.declared.places.Place.{Place}

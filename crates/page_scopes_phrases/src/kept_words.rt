@@ -197,7 +197,7 @@ fn give_known_parts<O: PieceOut>(
     requires count { length parts.now ≤ 256 }
     ensures { Came O.left out.old (kept.parts_items is_literal front place start (tokens_of false text.now)) out.new }
 {
-    let mut rest = text;
+    let mut at = 0;
     let mut fonts = start;
     let mut gap = front;
     let mut blanks = NO_BLANKS;
@@ -207,11 +207,11 @@ fn give_known_parts<O: PieceOut>(
         } else {
             blanks.give(out, fonts.value.font, place);
             blanks = NO_BLANKS;
-            let token = read_token(false, rest);
+            let token = read_token(false, &text[at..]);
             give_part(out, is_literal, gap, place, fonts.value.font, &token);
             fonts = fonts_after(&token, fonts);
         }
-        rest = &rest[part.len as usize..];
+        at += part.len as usize;
         gap = 1;
     }
     blanks.give(out, fonts.value.font, place);

@@ -1,6 +1,5 @@
-use Rattle.std.proofs.Common.{◌≡◌, ◌≤◌, ◌++◌, List, None, Some, drop, false, get_or, append-nil, append_assoc, ap, sym, ◌∙◌, arith}
-use Rattle.std.proofs.lemmas.List.{length-drop, take_rest}
-use Rattle.page_core_base.specs.Pieces.{Item}
+use Rattle.std.proofs.Common.{◌≡◌, ◌+◌, ◌++◌, None, Some, drop, false, get_or, append-nil, append_assoc, ap, sym, ◌∙◌, arith}
+use Rattle.std.proofs.lemmas.List.{drop-drop, length-drop, take_rest}
 use Rattle.page_core_escapes.specs.Tokens.{token_at, tokens_of}
 use Rattle.page_scopes_phrases.specs.KeptTexts.{parts_items, part_items}
 use Rattle.page_scopes_phrases.specs.declared.kept_names.NamePart.{NamePart}
@@ -13,30 +12,19 @@ use Rattle.page_scopes_phrases.proofs.kept_words.give_known_parts.Goals.{in-Some
 no_blank : NamePart
 no_blank = record { len = 0; blanks = None }
 
-pub slice_bounds-rest-count : goal.slice_bounds-rest-count
-unfolding no_blank
-slice_bounds-rest-count g c =
-    let l = c.loop-part in
-    (next-part l.rest.now c.args.parts.now l.part-index no_blank c.loop-part-test.true l.invariant.known).within
-
-pub slice_bounds-rest-start : goal.slice_bounds-rest-start
-unfolding no_blank
-slice_bounds-rest-start g c =
-    let l = c.loop-part in
-    (next-part l.rest.now c.args.parts.now l.part-index no_blank c.loop-part-test.true l.invariant.known).within
-
 pub loop-part-preserved : goal.loop-part-preserved
 unfolding no_blank
 loop-part-preserved g c =
     let l = c.loop-part in
     let i = l.invariant in
     let part : NamePart = get_or c.args.parts.now l.part-index no_blank in
-    let first = next-part l.rest.now c.args.parts.now l.part-index no_blank c.loop-part-test.true i.known in
-    let token = token_at false l.rest.now in
-    let others = tokens_of false (drop part.len l.rest.now) in
+    let first = next-part (drop l.at c.args.text.now) c.args.parts.now l.part-index no_blank c.loop-part-test.true i.known in
+    let token = token_at false (drop l.at c.args.text.now) in
+    let next : drop part.len (drop l.at c.args.text.now) ≡ drop (l.at + part.len) c.args.text.now = drop-drop part.len l.at c.args.text.now in
+    let others = tokens_of false (drop part.len (drop l.at c.args.text.now)) in
     let waiting = blank_texts l.blanks.count l.blanks.times l.fonts.value.font c.args.place in
-    let len = length-drop part.len l.rest.now in
-    rw (take_rest l.rest.now part.len) (record {
+    let len = length-drop l.at c.args.text.now in
+    rw (← next) (record {
       came = elim c.match-part.branch [
         | in-Some w ↦ λ plan rest h.
             let known : token_blanks token ≡ Some w.in-Some.count = ap (λ (p : NamePart). p.blanks) (sym first.known) ∙ w.in-Some.is in
@@ -53,11 +41,12 @@ loop-part-preserved g c =
             let came : g.O.PieceOut.left plan l.out ((waiting ++ (text ++ items)) ++ rest) = rw first.tokens at (i.came plan rest h) in
             let regrouped : g.O.PieceOut.left plan l.out (waiting ++ (text ++ (items ++ rest))) = rw (regroup waiting text items rest, append_assoc) at came in
             let given = w.give.ensures plan (text ++ (items ++ rest)) regrouped in
-            rw (w.out-is, w.fonts-is, w.blanks-is, w.fonts_after-fonts.ensures, w.read_token-token.ensures.value)
-            (w.give_part.ensures plan (items ++ rest) (rw w.read_token-token.ensures.value given))
+            let read = rw (take_rest c.args.text.now l.at) at w.read_token-token.ensures.value in
+            rw (w.out-is, w.fonts-is, w.blanks-is, w.fonts_after-fonts.ensures, read)
+            (w.give_part.ensures plan (items ++ rest) (rw read given))
       ];
       known = first.others;
-      within = omega (arith, len, i.within);
+      within = omega (arith, len, i.within, first.within);
       count = elim c.match-part.branch [
         | in-Some w ↦
             let known : token_blanks token ≡ Some w.in-Some.count = ap (λ (p : NamePart). p.blanks) (sym first.known) ∙ w.in-Some.is in
@@ -73,5 +62,5 @@ loop-part-preserved g c =
 pub returns : goal.returns
 returns g c = λ plan rest h.
     let l = c.loop-part in
-    let none = no-part l.rest.now c.args.parts.now l.part-index (omega (arith, c.loop-part-test.false)) l.invariant.known in
+    let none = no-part (drop l.at c.args.text.now) c.args.parts.now l.part-index (omega (arith, c.loop-part-test.false)) l.invariant.known in
     c.give-2.ensures plan rest (rw (none, append-nil) at (l.invariant.came plan rest h))
