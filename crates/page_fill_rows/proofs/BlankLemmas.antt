@@ -10,13 +10,20 @@ before-blank : (cell : Cell) (cells : List Cell) → (length (trimmed_before cel
 before-blank cell [] = elim (cases_Bool (is_blank cell)) [ inl t ↦ rw t refl | inr f ↦ rw f refl ]
 before-blank cell (next ∷ cells) = elim (cases_Bool (is_blank cell)) [ inl t ↦ rw t (grind (arith, nat_tests)) | inr f ↦ rw f (grind (arith, nat_tests)) ]
 
-blank-append : (front back : List Cell) → is_blank_row (row_of 0 (front ++ back)) ≡ (is_blank_row (row_of 0 front) && is_blank_row (row_of 0 back))
+pub blank-append : (front back : List Cell) → is_blank_row (row_of 0 (front ++ back)) ≡ (is_blank_row (row_of 0 front) && is_blank_row (row_of 0 back))
 blank-append [] back = refl
 blank-append (cell ∷ front) back =
     let all = before-blank cell (trimmed (front ++ back)) in
     let some = before-blank cell (trimmed front) in
     let both = blank-append front back in
     elim (cases_Bool (is_blank cell)) [ inl t ↦ rw (all, some, both, t) refl | inr f ↦ rw (all, some, both, f) refl ]
+
+-- the first cells of a blank row are blank
+pub part-blank : (cells : List Cell) (n : ℕ) → is_blank_row (row_of 0 cells) ≡ true → is_blank_row (row_of 0 (take n cells)) ≡ true
+part-blank cells n blank =
+    let whole : is_blank_row (row_of 0 (take n cells ++ drop n cells)) ≡ true = ap (λ row. is_blank_row (row_of 0 row)) (take-append-drop n cells) ∙ blank in
+    let both : (is_blank_row (row_of 0 (take n cells)) && is_blank_row (row_of 0 (drop n cells))) ≡ true = sym (blank-append (take n cells) (drop n cells)) ∙ whole in
+    grind (arith, both)
 
 -- the first cells of a row are blank
 pub rest-blank : (cells : List Cell) (n : ℕ) → is_blank_row (row_of 0 (take n cells)) ≡ true → is_blank_row (row_of 0 cells) ≡ is_blank_row (row_of 0 (drop n cells))

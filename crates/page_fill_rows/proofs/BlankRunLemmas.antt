@@ -15,7 +15,7 @@ use Rattle.page_fill_rows.specs.machine.BlankRuns.{HasRun, is_blank_byte}
 use Rattle.page_fill_rows.specs.machine.Plain.{is_printable_ascii}
 use Rattle.page_fill_rows.specs.declared.TheConstants.{TAG_COLUMNS}
 use Rattle.page_fill_rows.specs.machine.Room.{IsSound}
-use Rattle.page_fill_rows.proofs.BlankLemmas.{blanks-blank}
+use Rattle.page_fill_rows.proofs.BlankLemmas.{blank-append, blanks-blank, part-blank}
 use Rattle.page_fill_rows.proofs.PlainLemmas.{sound-more}
 
 -- ---- bytes that are blanks
@@ -163,3 +163,19 @@ pub blank-front : (places : List Cell) (first last len end : ℕ) (font : Font) 
 blank-front places first last len end font run begins to within room =
     ap (λ cells. is_blank_row (row_of 0 cells)) (take-take end len places within)
     ∙ blank-places places last end font (rw begins at run) to (omega (arith, within, room))
+
+-- some of the first places that are known to have blanks, as cells of the row
+pub known-front : (places : List Cell) (known len end : ℕ) → is_blank_row (row_of 0 (take known places)) ≡ true → end ≤ known → end ≤ len
+    → is_blank_row (row_of 0 (take end (take len places))) ≡ true
+known-front places known len end blank to within =
+    ap (λ cells. is_blank_row (row_of 0 cells)) (take-take end len places within ∙ sym (take-take end known places to)) ∙ part-blank (take known places) end blank
+
+-- blanks were put behind places that are known to have blanks
+pub grown-front : (old new : List Cell) (start count known : ℕ) (font : Font) → is_blank_row (row_of 0 (take known old)) ≡ true → start ≤ known
+    → take (start + count) new ≡ take start old ++ replicate count (cell_of font 32) → is_blank_row (row_of 0 (take (start + count) new)) ≡ true
+grown-front old new start count known font blank within put =
+    let cell = cell_of font 32 in
+    let front : is_blank_row (row_of 0 (take start old)) ≡ true =
+    ap (λ cells. is_blank_row (row_of 0 cells)) (sym (take-take start known old within)) ∙ part-blank (take known old) start blank in
+    let back : is_blank_row (row_of 0 (replicate count cell)) ≡ true = blanks-blank count cell refl in
+    ap (λ cells. is_blank_row (row_of 0 cells)) put ∙ (blank-append (take start old) (replicate count cell) ∙ rw (front, back) refl)

@@ -30,10 +30,13 @@ pub(crate) struct RowCells {
     len: usize,
     // Places that have blanks, be they of the row or of an earlier one.
     run: BlankRun,
+    // How many of the first places have blanks, in whatever fonts.
+    blanks: usize,
 }
 
 impl Model for RowCells {
-    ghost use Rattle.std.specs.Prelude.{◌≡◌, ◌≤◌, List, length, take};
+    ghost use Rattle.std.specs.Prelude.{◌≡◌, ◌≤◌, List, length, take, true};
+    ghost use Rattle.page_core_base.specs.Rows.{is_blank_row, row_of};
     ghost use Rattle.page_core_base.specs.declared.cells.Cell.{Cell};
     ghost use Rattle.page_core_base.specs.declared.limits.TheConstants.{CELLS};
     ghost use Rattle.page_fill_rows.specs.machine.BlankRuns.{HasRun};
@@ -42,7 +45,9 @@ impl Model for RowCells {
 
     ghost view = { λ r. take r.len r.places.items };
 
-    ghost invariant = { λ r. (length r.places.items ≡ CELLS) × (r.len ≤ CELLS) × HasRun r.places.items r.run.start r.run.end r.run.font };
+    ghost invariant = { λ r. (length r.places.items ≡ CELLS) × (r.len ≤ CELLS)
+        × HasRun r.places.items r.run.start r.run.end r.run.font
+        × (is_blank_row (row_of 0 (take r.blanks r.places.items)) ≡ true) };
 }
 
 impl RowCells {
@@ -56,6 +61,7 @@ impl RowCells {
             places,
             len: 0,
             run: NO_RUN,
+            blanks: 0,
         })
     }
 
@@ -67,6 +73,7 @@ impl RowCells {
             places: Vec::from_slice(alloc, &self.places)?,
             len: self.len,
             run: self.run,
+            blanks: self.blanks,
         })
     }
 
@@ -98,6 +105,9 @@ impl RowCells {
         requires { end ≤ length self.now }
         ensures { result ≡ is_blank_row (row_of 0 (take end self.now)) }
     {
+        if end <= self.blanks {
+            return true;
+        }
         if self.run.start == 0 && end <= self.run.end {
             return true;
         }
@@ -120,6 +130,7 @@ impl RowCells {
         self.len += 1;
         // (a word of letters that come one by one costs the least if nothing is known after it)
         self.run.end = 0;
+        self.blanks = 0;
     }
 
     /// Takes all cells away, and appends a cell.
@@ -129,6 +140,7 @@ impl RowCells {
         self.places[0] = cell;
         self.len = 1;
         self.run = self.run.after_first(cell);
+        self.blanks = usize::from(cell.c == ' ');
     }
 
     /// Takes the cells before a start away.
@@ -137,6 +149,7 @@ impl RowCells {
         ensures { self.new ≡ drop start self.old }
     {
         self.run = NO_RUN;
+        self.blanks = 0;
         move_to_front(&mut self.places, start, self.len);
         self.len -= start;
     }
@@ -154,6 +167,7 @@ impl RowCells {
         }
         put_blanks(&mut self.places, start, count, font);
         self.run = self.run.with(start, end, font);
+        self.blanks = if start <= self.blanks { end } else { 0 };
         self.len = end;
     }
 
@@ -165,6 +179,7 @@ impl RowCells {
         let end = self.len + bytes.len();
         put_cells(&mut self.places, self.len, bytes, font);
         self.run.cut(end);
+        self.blanks = 0;
         self.len = end;
     }
 
@@ -192,6 +207,7 @@ impl RowCells {
         let start = self.len + blanks as usize;
         let end = start + bytes.len();
         self.run.cut(end);
+        self.blanks = 0;
         put_blanks(&mut self.places, self.len, blanks as usize, Font::R);
         if !put_printable(&mut self.places, start, bytes, font) {
             return false;
@@ -227,12 +243,13 @@ fn put_blanks(places: &mut [Cell], start: usize, count: usize, font: Font)
     ensures after { (k : ℕ) (d : Cell) → start + count ≤ k → get_or places.new k d ≡ get_or places.old k d }
     ensures len { length places.new ≡ length places.old }
 {
+    let blank = Cell { c: ' ', font };
     if count == 1 {
-        places[start] = Cell { c: ' ', font };
+        places[start] = blank;
         return;
     }
     for i in 0..count {
-        places[start + i] = Cell { c: ' ', font };
+        let _place = mem::replace(&mut places[start + i], blank);
     }
 }
 
