@@ -2,7 +2,7 @@
 """Times ./mandoc on hostile pages (usage: bench/run hostile [COUNT]), each with COUNT macros or columns (default 100,000).
 
 Each page is formatted once at a quarter, a half and the whole of its size: where the time is linear, each column is about twice the one
-before. Next to them are the peak of our memory at the whole size, and the time of the `mandoc` on the PATH, if there is one: a run that takes
+before. Next to them are the peak of our memory at the whole size with what of it is the program's own, and the time of the `mandoc` on the PATH, if there is one: a run that takes
 more than a minute is ended, and one that a signal ends is reported.
 
 Then the dearest lines that are known: what one line of each kind takes, in milliseconds of the processor, at a quarter, a half and all of the
@@ -175,14 +175,14 @@ def main():
     other = shutil.which("mandoc")
     with tempfile.TemporaryDirectory() as room:
         name = f"{room}/page"
-        print(f"{'page':34} {'bytes':>10} {'seconds at a quarter, a half and all':>38} {'peak in kB':>10}" + (f"   of {other}" if other else ""))
+        print(f"{'page':34} {'bytes':>10} {'seconds at a quarter, a half and all':>38} {'peak in kB (own)':>17}" + (f"   of {other}" if other else ""))
         for kind, made in HOSTILE:
             times = []
             for part in (count // 4, count // 2, count):
                 with open(name, "w", encoding="ascii") as file:
                     file.write(HEAD + made(part))
                 times.append(timed(["./mandoc"], name))
-            line = f"{kind:34} {os.path.getsize(name):10} " + "".join(f"{seconds:>13}" for seconds in times) + f"{peak_of(['./mandoc'], name):>10}"
+            line = f"{kind:34} {os.path.getsize(name):10} " + "".join(f"{seconds:>13}" for seconds in times) + f"{peak_of(['./mandoc'], name):>17}"
             print(line + (f"   {timed([other, '-T', 'ascii'], name)}" if other else ""), flush=True)
         line_times(name)
 

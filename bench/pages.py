@@ -68,15 +68,23 @@ def timed(words, name):
 
 
 def peak_of(words, name):
-    """Returns the peak of memory in kB, as the system reports it while the program runs: the last byte of the page is kept back until then."""
+    """Returns the peak of memory in kB and, in parentheses, what the program itself holds of it: the rest are pages of its file and of the C
+    library, of which the kernel maps as many as it likes. Both are read while the program runs: the last byte of the page is kept back until then.
+    """
     with open(name, "rb") as file:
         text = file.read()
     with subprocess.Popen(words, stdin=subprocess.PIPE, stdout=subprocess.DEVNULL) as run:
         run.stdin.write(text)
         run.stdin.flush()
         time.sleep(0.05)
-        with open(f"/proc/{run.pid}/status") as status:
-            return next(int(line.split()[1]) for line in status if line.startswith("VmHWM"))
+        peak, own = (kilobytes(f"/proc/{run.pid}/{file}", field) for file, field in (("status", "VmHWM"), ("smaps_rollup", "Anonymous")))
+    return f"{peak} ({own})"
+
+
+def kilobytes(name, field):
+    """Returns what a line of a file of the system says, in kB."""
+    with open(name) as lines:
+        return next(int(line.split()[1]) for line in lines if line.startswith(field))
 
 
 def given_page(name):
@@ -99,7 +107,7 @@ def pages(names):
 def main():
     runs = int(sys.argv[1]) if len(sys.argv) > 1 else 5
     other = shutil.which("mandoc")
-    print("         bytes     MB/s   peak kB" + (f"   least: time, processor   median: time, processor   peak kB of {other}" if other else ""))
+    print("         bytes     MB/s  peak kB (own)" + (f"   least: time, processor   median: time, processor   peak kB (own) of {other}" if other else ""))
     with tempfile.TemporaryDirectory() as room:
         start = starter(room)
         for kind, text in pages(sys.argv[2:]):
@@ -107,11 +115,11 @@ def main():
             with open(name, "wb") as file:
                 written = file.write(text)
             ours, *others = times_in_turn(start, runs, name, [["./mandoc"]] + ([[other, "-T", "ascii"]] if other else []))
-            line = f"{kind} {written:8} {written / ours[0] / 1e3:8.1f} {peak_of(['./mandoc'], name):9}"
+            line = f"{kind} {written:8} {written / ours[0] / 1e3:8.1f} {peak_of(['./mandoc'], name):>14}"
             for theirs in others:
                 passed, median, used, median_used = (their / our for their, our in zip(theirs, ours))
                 line += f" {passed:13.2f} {used:10.2f} {median:14.2f} {median_used:10.2f}"
-                line += f" {peak_of([other, '-T', 'ascii'], name):14}"
+                line += f" {peak_of([other, '-T', 'ascii'], name):>20}"
             print(line)
 
 
