@@ -17,8 +17,7 @@ use page_scopes_layout::Context;
 use page_scopes_words::report;
 use page_sets_lines::Join;
 
-/// Where the first cell of a text ends, in bytes from its front, and where the tab after it is; both at the text's end where no
-/// tab is.
+/// Where the first cell of a text ends, in bytes from its front, and where the tab after it is; both at the text's end where no tab is.
 #[derive(Clone, Copy)]
 pub(crate) struct CellSpan {
     pub(crate) end: usize,

@@ -123,8 +123,7 @@ pub(crate) fn prints_cell(is_literal: bool, text: &[u8]) -> bool
     false
 }
 
-/// Gives what a kept text prints without its messages, all at one place; white space at its front is this many blanks. The fonts
-/// after it.
+/// Gives what a kept text prints without its messages, all at one place; white space at its front is this many blanks. The fonts after it.
 pub fn give_kept<O: PieceOut>(
     out: &mut O,
     is_literal: bool,
@@ -147,7 +146,6 @@ struct BlankTexts {
     times: usize,
 }
 
-// No text of blanks waits.
 const NO_BLANKS: BlankTexts = BlankTexts { count: 0, times: 0 };
 
 impl BlankTexts {
