@@ -2,8 +2,8 @@
 """Times ./mandoc on hostile pages (usage: bench/run hostile [COUNT]), each with COUNT macros or columns (default 100,000).
 
 Each page is formatted once at a quarter, a half and the whole of its size: where the time is linear, each column is about twice the one
-before. Next to them are the peak of our memory at the whole size with what of it is the program's own, and the time of the `mandoc` on the PATH, if there is one: a run that takes
-more than a minute is ended, and one that a signal ends is reported.
+before. Next to them are the peak of our memory at the whole size with what of it is the program's own, and the time of the `mandoc` on the
+PATH, if there is one: a run that takes more than a minute is ended, and one that a signal ends is reported.
 
 Then the dearest lines that are known: what one line of each kind takes, in milliseconds of the processor, at a quarter, a half and all of the
 size that the limits allow, and how often 1 MB of plain text, measured in the same run, would fit in the last. A line of three bytes that calls a macro
@@ -98,11 +98,14 @@ def between_registers(size, at):
     return "".join("\\w" + part + ("\\\\n[x]" if k % 100 == 99 else "") for k, part in enumerate(parts))
 
 
-def names_of_blanks(part):
-    """A name of many blank cells, printed as often as a line has room for it."""
-    count = 36 * part // 4
-    head = HEAD.replace(".Nm bench\n", ".Nm " + "\\h'999'" * count + "\n")
-    return head + ".ds a " + "Nm " * 5400 + "\n", ".No \\*a\\*a\\*a\\*a\n"
+def names_of(word, times):
+    """A name of many cells, printed as often as a line has room for it."""
+
+    def made(part):
+        head = HEAD.replace(".Nm bench\n", ".Nm " + word * (times * part // 4) + "\n")
+        return head + ".ds a " + "Nm " * 5400 + "\n", ".No \\*a\\*a\\*a\\*a\n"
+
+    return made
 
 
 def blanks(part):
@@ -126,7 +129,12 @@ LINES_OF = [
     ("widths of glyphs, all different", in_different_widths(lambda size: "\\(bu" * (size // 4))),
     ("widths of \\h, all different", in_different_widths(lambda size: "\\h'1'" * (size // 5))),
     ("widths of plain letters", in_widths(lambda size, at: "x" * size)),
-    ("Nm of blanks", names_of_blanks),
+    ("Nm of blanks", names_of("\\h'999'", 36)),
+    ("Nm of blanks in two fonts", names_of("\\h'999'\\fB\\h'999'\\fI", 12)),
+    ("Nm of plain letters", names_of("x", 256)),
+    ("Nm of CJK letters", names_of(chr(0x4E00), 84)),
+    ("Nm of glyphs", names_of("\\(bu", 64)),
+    ("Nm of tabs", names_of("\\t", 128)),
     ("\\h'999'", blanks),
     ("tabs of columns", tabs_of_columns),
 ]
