@@ -1,1 +1,3 @@
+pub mod Marked
+pub mod MarkedLaws
 pub mod Nested

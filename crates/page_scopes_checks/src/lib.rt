@@ -1,5 +1,6 @@
 //! Tests of the scopes of a page on public calls, layer by layer: which scopes an event ends and opens, over a small layout (`nested.rt`), what they
-//! are laid out by, and what texts, leaves, tags and words of lines give.
+//! are laid out by, what texts, leaves, tags and words of lines give, and the scopes over several sets of macros: those of man(7) and mdoc(7), either
+//! of them, and a small third one (`marked.rt`).
 #![tactic(auto)]
 
 #[cfg(test)]
@@ -8,10 +9,17 @@ mod context_tests;
 mod leaf_pages;
 #[cfg(test)]
 mod leaf_tests;
+mod marked;
 pub mod nested;
 #[cfg(test)]
 mod scope_tests;
 #[cfg(test)]
+mod set_tests;
+mod shown;
+#[cfg(test)]
 mod tag_tests;
 #[cfg(test)]
 mod text_tests;
+
+pub use marked::{Marked, MarkedPlace};
+pub use shown::Pieces;

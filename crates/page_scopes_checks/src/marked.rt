@@ -5,7 +5,7 @@ ghost use Rattle.page_core_base.specs.LinesTaken.{line_view};
 ghost use Rattle.page_roff_syntax.specs.Arguments.{argument_view};
 ghost use Rattle.page_sets_lines.specs.Events.{event_view, kind_view};
 ghost use Rattle.page_sets_lines.specs.PlainLines.{event_at};
-ghost use Rattle.page_scopes_sets_checks.specs.Marked as marked;
+ghost use Rattle.page_scopes_checks.specs.Marked as marked;
 
 use page_core_base::{Font, LINE, NoteKind, Place, Taken};
 use page_roff_syntax::{Argument, has_arguments};
@@ -108,8 +108,8 @@ fn unknown<'a>(line: Taken<'a>) -> Event<&'a [u8]>
 }
 
 impl MacroSet for Marked {
-    ghost use Rattle.page_scopes_sets_checks.specs.Marked.{marked_events, events_from, FitsPlace};
-    ghost use Rattle.page_scopes_sets_checks.specs.MarkedLaws.{marked_slices, place_slices, marked_in_order, marked_few};
+    ghost use Rattle.page_scopes_checks.specs.Marked.{marked_events, events_from, FitsPlace};
+    ghost use Rattle.page_scopes_checks.specs.MarkedLaws.{marked_slices, place_slices, marked_in_order, marked_few};
 
     type Place = MarkedPlace;
 

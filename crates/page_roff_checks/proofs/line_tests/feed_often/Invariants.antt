@@ -1,5 +1,5 @@
 use Rattle.std.proofs.Common.{◌≡◌, ◌≤◌, false}
-use Rattle.page_roff_checks.proofs.tests.feed_often.Given as goal
+use Rattle.page_roff_checks.proofs.line_tests.feed_often.Given as goal
 
 -- no line waits, and no more bytes came than these
 abbrev pub invariant-chunks : goal.invariant-chunks

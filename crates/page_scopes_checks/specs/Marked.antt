@@ -19,8 +19,8 @@ use Rattle.page_sets_lines.specs.declared.events.EventKind.TheVariants as kinds
 use Rattle.page_sets_lines.specs.declared.events.Event.{Event}
 use Rattle.page_sets_lines.specs.ControlLines.{name_end, name_of, name_place, is_nameless, arguments_after}
 use Rattle.page_sets_lines.specs.PlainLines.{event_at, line_end, plain_line, plain_events, word_place}
-use Rattle.page_scopes_sets_checks.specs.declared.marked.MarkedPlace.{MarkedPlace}
-use Rattle.page_scopes_sets_checks.specs.declared.marked.MarkedPlace.TheVariants as places
+use Rattle.page_scopes_checks.specs.declared.marked.MarkedPlace.{MarkedPlace}
+use Rattle.page_scopes_checks.specs.declared.marked.MarkedPlace.TheVariants as places
 
 -- a word in italic, and all of them
 abbrev pub italic : ℕ → Argument (List ℕ) → Event (List ℕ)

@@ -10,9 +10,9 @@ use Rattle.page_sets_lines.specs.ControlLines.{name_end, name_of, is_nameless, a
 use Rattle.page_sets_lines.specs.PlainLines.{plain_line}
 use Rattle.page_sets_lines.proofs.ArgumentLaws.{ArgumentsFrom, all_after, earlier, few_after}
 use Rattle.page_sets_lines.proofs.LawLemmas.{end_within, name_part, line_slices, line_order}
-use Rattle.page_scopes_sets_checks.specs.declared.marked.MarkedPlace.{MarkedPlace}
-use Rattle.page_scopes_sets_checks.specs.declared.marked.MarkedPlace.TheVariants as places
-use Rattle.page_scopes_sets_checks.specs.Marked.{italic_words, quotation, events_from, FitsPlace, macro_place, control_place, place_of, marked_events}
+use Rattle.page_scopes_checks.specs.declared.marked.MarkedPlace.{MarkedPlace}
+use Rattle.page_scopes_checks.specs.declared.marked.MarkedPlace.TheVariants as places
+use Rattle.page_scopes_checks.specs.Marked.{italic_words, quotation, events_from, FitsPlace, macro_place, control_place, place_of, marked_events}
 
 -- ---- a place is of its line
 

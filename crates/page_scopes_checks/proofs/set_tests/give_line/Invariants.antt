@@ -1,6 +1,6 @@
 use Rattle.std.proofs.Common.{length}
 use Rattle.page_core_base.specs.LinesTaken.{line_view}
-use Rattle.page_scopes_sets_checks.proofs.tests.give_line.Given as goal
+use Rattle.page_scopes_checks.proofs.set_tests.give_line.Given as goal
 
 abbrev pub invariant-loop-event : goal.invariant-loop-event
 invariant-loop-event g l = g.S.MacroSet.IsPlaceOf l.set (line_view l.line) l.place
