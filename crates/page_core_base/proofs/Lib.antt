@@ -1,7 +1,7 @@
 pub mod SinkLemmas
 pub mod LatchLemmas
 pub mod PieceLatchLemmas
-pub mod RowLatchLemmas
 pub mod TextLemmas
 pub mod WordPartLemmas
 pub mod RowLemmas
+pub mod AsciiLemmas

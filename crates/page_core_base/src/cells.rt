@@ -1,8 +1,8 @@
 //! Cells: the characters of a row with their fonts.
 
-ghost use Rattle.std.specs.Prelude.{◌≡◌};
+ghost use Rattle.std.specs.Prelude.{◌≡◌, ◌≤◌, length, vec_capacity};
 ghost use Rattle.std.specs.List.{list_all};
-ghost use Rattle.page_core_base.specs.Rows.{is_blank, is_blank_row, row_of};
+ghost use Rattle.page_core_base.specs.Rows.{cells_in, is_blank, is_blank_row, row_of};
 
 /// The font of a cell: roman, bold, italic, or bold and italic (mandoc_char(7), roff(7) `ft`).
 #[derive(Clone, Copy, Debug, PartialEq, Eq)]
@@ -37,4 +37,19 @@ pub fn are_blank(cells: &[Cell]) -> bool
         all &= cell.c == ' ';
     }
     all
+}
+
+/// Puts the cells of characters of ASCII, each in its font, in the place of the cells that are there.
+pub fn put_ascii(cells: &mut Vec<Cell>, bytes: &[u8], fonts: &[Font])
+    requires { (length fonts.now ≡ length bytes.now) × (length bytes.now ≤ vec_capacity cells.old) }
+    ensures cells { cells.new.items ≡ cells_in bytes.now fonts.now }
+    ensures room { vec_capacity cells.new ≡ vec_capacity cells.old }
+{
+    cells.clear();
+    for i in 0..bytes.len() {
+        cells.push_reserved(Cell {
+            c: bytes[i] as char,
+            font: fonts[i],
+        });
+    }
 }

@@ -30,14 +30,14 @@ mod page_settings;
 mod piece_latches;
 mod pieces;
 mod places;
-mod row_latches;
+mod row_outs;
 mod row_sinks;
 mod texts;
 mod word_parts;
 
 pub use blank_texts::{BLANK_TEXT, blank_text};
 pub use bounded_texts::BoundedText;
-pub use cells::{BLANK_GROUP, Cell, Font, LONG_ROW, are_blank};
+pub use cells::{BLANK_GROUP, Cell, Font, LONG_ROW, are_blank, put_ascii};
 pub use faults::Fault;
 pub use limits::{
     ARGS, BLANKS, BODY, CALLS, CELLS, COLUMNS, CONDS, DEFS, EXPAND, FIELD, LINE, Limit, NAME,
@@ -53,7 +53,7 @@ pub use page_settings::{Encoding, Language, Output, SettingFault, Settings};
 pub use piece_latches::{PieceLatch, PieceOut};
 pub use pieces::{Piece, PieceSink, TagForm};
 pub use places::Place;
-pub use row_latches::{RowLatch, RowOut};
+pub use row_outs::RowOut;
 pub use row_sinks::RowSink;
 pub use texts::is_line;
 pub use word_parts::{first_part_len, last_part_start};

@@ -1,11 +1,11 @@
 //! Sinks that take finished rows.
 
-ghost use Rattle.std.specs.Prelude.{◌≡◌, ℕ, List, [], ◌∷◌, true};
+ghost use Rattle.std.specs.Prelude.{◌≡◌, ◌≤◌, ℕ, List, [], ◌∷◌, length, true, vec_capacity};
 ghost use Rattle.page_core_base.specs.Sinks.{IsSink, Gives};
 ghost use Rattle.page_core_base.specs.Fails.{FailsAs};
-ghost use Rattle.page_core_base.specs.Rows.{LaidRow, is_blank_row, row_of};
+ghost use Rattle.page_core_base.specs.Rows.{AreAscii, LaidRow, cells_in, is_blank_row, row_of};
 
-use crate::{Cell, Fault};
+use crate::{Cell, Fault, Font, put_ascii};
 
 /// Takes finished rows.
 pub trait RowSink {
@@ -38,6 +38,26 @@ pub trait RowSink {
         ensures same { loans self.new ≡ loans self.old }
     {
         self.row(margin, cells)
+    }
+
+    /// Takes a row of characters of ASCII, each in its font, as [`row`](RowSink::row) does. A sink that looks at cells makes them in `places`, which
+    /// has room for them; what is there before and after means nothing. Where `is_blank`, all of them are blanks.
+    fn ascii_row(
+        &mut self,
+        margin: u32,
+        bytes: &[u8],
+        fonts: &[Font],
+        is_blank: bool,
+        places: &mut Vec<Cell>,
+    ) -> Result<(), Fault>
+        requires { AreAscii bytes.now fonts.now is_blank × (length bytes.now ≤ vec_capacity places.old) }
+        ensures gives { Gives result gave within self.old (row_of margin (cells_in bytes.now fonts.now) ∷ []) self.new }
+        ensures fault { FailsAs Fault.WriteText result (failed self.old) (failed self.new) }
+        ensures same { loans self.new ≡ loans self.old }
+        ensures room { vec_capacity places.new ≡ vec_capacity places.old }
+    {
+        put_ascii(places, bytes, fonts);
+        self.row(margin, places)
     }
 
     /// How often a call failed, up to 2^64 - 1.

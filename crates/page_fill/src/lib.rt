@@ -19,6 +19,7 @@ mod edges;
 mod fillers;
 mod laws;
 mod pieces;
+mod row_latches;
 mod stops;
 mod taken_words;
 

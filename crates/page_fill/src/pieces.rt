@@ -13,9 +13,9 @@ ghost use Rattle.page_fill.specs.Edges.{under};
 ghost use Rattle.page_fill.specs.machine.Fill as fill;
 
 use crate::edges::{Edge, NO_WORD};
+use crate::row_latches::RowLatch;
 use page_core_base::{
-    BLANK_TEXT, Cell, Fault, Font, NoteSink, Output, Piece, Place, RowLatch, RowOut, RowSink,
-    Settings,
+    BLANK_TEXT, Cell, Fault, Font, NoteSink, Output, Piece, Place, RowOut, RowSink, Settings,
 };
 use page_fill_rows::OpenRow;
 use std::alloc::{AllocError, Global};
