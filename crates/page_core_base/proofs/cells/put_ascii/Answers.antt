@@ -11,8 +11,7 @@ loop-i-preserved c =
     let fonts = c.args.fonts.now in
     let e = c.push_reserved.ensures in
     let before = c.loop-i.invariant in
-    let cell : Cell = record { c = slice_index_or bytes i 0; font = slice_index_or fonts i R } in
-    (
+    let cell : Cell = record { c = slice_index_or bytes i 0; font = slice_index_or fonts i R } in (
       e.items ∙ (ap (λ cells. cells ++ cell ∷ []) before.0 ∙ sym (cells-more bytes fonts i 0 R c.loop-i-test.true c.requires.0)),
       e.capacity ∙ before.1,
       e.len ∙ ap (λ n. n + 1) before.2,
