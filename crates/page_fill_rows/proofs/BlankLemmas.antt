@@ -6,7 +6,7 @@ use Rattle.std.proofs.lemmas.List.{take-append-drop}
 use Rattle.page_core_base.specs.declared.cells.Cell.{Cell}
 use Rattle.page_core_base.specs.Rows.{is_blank, is_blank_row, row_of, trimmed, trimmed_before}
 
-before-blank : (cell : Cell) (cells : List Cell) → (length (trimmed_before cell cells) == 0) ≡ (is_blank cell && (length cells == 0))
+pub before-blank : (cell : Cell) (cells : List Cell) → (length (trimmed_before cell cells) == 0) ≡ (is_blank cell && (length cells == 0))
 before-blank cell [] = elim (cases_Bool (is_blank cell)) [ inl t ↦ rw t refl | inr f ↦ rw f refl ]
 before-blank cell (next ∷ cells) = elim (cases_Bool (is_blank cell)) [ inl t ↦ rw t (grind (arith, nat_tests)) | inr f ↦ rw f (grind (arith, nat_tests)) ]
 

@@ -8,3 +8,4 @@ pub mod PlainLaw
 pub mod BlankLemmas
 pub mod BlankRunLemmas
 pub mod PutBlankLemmas
+pub mod PlaceLemmas

@@ -13,10 +13,13 @@
 ghost use Rattle.std.specs.Prelude.{◌≡◌};
 ghost use Rattle.page_fill_rows.specs.OpenRows as rows;
 
+mod ascii_places;
 mod blank_runs;
+mod cell_places;
 mod cell_widths;
 mod laws;
 mod open_rows;
+mod places;
 mod plain_texts;
 mod row_cells;
 

@@ -11,7 +11,7 @@ ghost use Rattle.page_fill_rows.specs.machine.BlankRuns.{is_blank_byte};
 ghost use Rattle.page_fill_rows.specs.machine.Plain as plain;
 ghost use Rattle.page_fill_rows.specs.machine.Sheets as sheet;
 
-use crate::cell_widths::{BLANK, cell_columns, columns};
+use crate::cell_widths::{BLANK, cell_columns};
 use crate::row_cells::RowCells;
 use crate::{BLANK_ROWS, TAG_COLUMNS};
 use arrayvec::ArrayString;
@@ -127,12 +127,30 @@ impl OpenRow {
         self.width
     }
 
-    /// The cells of the open row.
-    pub fn cells(&self) -> &[Cell]
-        ensures cells { result.now ≡ self.now.cells }
-        ensures bound { length result.now ≤ CELLS }
+    /// Whether the open row has no cell.
+    pub fn is_empty(&self) -> bool
+        ensures { result ≡ (length self.now.cells == 0) }
     {
-        self.row.as_slice()
+        self.row.is_empty()
+    }
+
+    /// How many cells the open row has.
+    pub fn len(&self) -> usize
+        ensures value { result ≡ length self.now.cells }
+        ensures bound { result ≤ CELLS }
+    {
+        self.row.len()
+    }
+
+    /// Puts the cells of the open row in the first places, and answers how many they are.
+    pub fn copy_cells(&self, places: &mut [Cell]) -> usize
+        requires { CELLS ≤ length places.old }
+        ensures cells { take result places.new ≡ self.now.cells }
+        ensures bound { result ≤ CELLS }
+        ensures len { length places.new ≡ length places.old }
+    {
+        self.row.copy_cells(places);
+        self.row.len()
     }
 
     /// The columns of the open row's cells.
@@ -245,14 +263,11 @@ impl OpenRow {
         requires { end ≤ length self.old.cells }
         ensures { LaysOut O.left out.old (sheet.gives self.old (take end self.old.cells)) out.new self.new }
     {
-        let cells = &self.row.as_slice()[..end];
-        if self.row.is_blank(end) {
-            out.give_blank(self.margin, cells);
-            self.blank_rows = self.blank_rows.saturating_add(1).min(BLANK_ROWS);
+        self.blank_rows = if self.row.give(end, self.margin, out) {
+            self.blank_rows.saturating_add(1).min(BLANK_ROWS)
         } else {
-            out.give(self.margin, cells);
-            self.blank_rows = 0;
-        }
+            0
+        };
         self.has_heading = false;
     }
 
@@ -273,7 +288,7 @@ impl OpenRow {
     {
         self.row.keep_from(self.word);
         self.row.push(cell);
-        self.columns = columns(self.row.as_slice());
+        self.columns = self.row.columns();
         self.margin = self.first;
         self.first = self.rest;
         self.gap = 0;

@@ -8,21 +8,21 @@ pub returns-then-end-self : goal.returns-then-end-self
 returns-then-end-self c =
     let row = c.self.inside in
     let held = c.self.invariant in
-    let len = length-take-le row.len row.places.items (omega (arith, held.0, held.1)) in
-    let front : c.args.end ≤ length (take row.len row.places.items) = rw (← c.self.view_is) at c.requires in
+    let len = length-take-le row.len row.places (omega (arith, held.0, held.1)) in
+    let front : c.args.end ≤ length (take row.len row.places) = rw (← c.self.view_is) at c.requires in
     sym (
     ap (λ cells. is_blank_row (row_of 0 (take c.args.end cells))) (sym c.self.view_is)
-    ∙ known-front row.places.items row.blanks row.len c.args.end held.3 c.if-end-self.true (omega (arith, len, front))
+    ∙ known-front row.places row.blanks row.len c.args.end held.3 c.if-end-self.true (omega (arith, len, front))
     )
 
 pub returns-then-end-self-2 : goal.returns-then-end-self-2
 returns-then-end-self-2 c =
     let row = c.self.inside in
     let held = c.self.invariant in
-    let room : row.len ≤ length row.places.items = omega (arith, held.0, held.1) in
-    let len = length-take-le row.len row.places.items room in
-    let front : c.args.end ≤ length (take row.len row.places.items) = rw (← c.self.view_is) at c.requires in
+    let room : row.len ≤ length row.places = omega (arith, held.0, held.1) in
+    let len = length-take-le row.len row.places room in
+    let front : c.args.end ≤ length (take row.len row.places) = rw (← c.self.view_is) at c.requires in
     sym (
     ap (λ cells. is_blank_row (row_of 0 (take c.args.end cells))) (sym c.self.view_is)
-    ∙ blank-front row.places.items row.run.start row.run.end row.len c.args.end row.run.font held.2 c.if-self-eq0.true c.if-end-self-2.true (omega (arith, len, front)) room
+    ∙ blank-front row.places row.run.start row.run.end row.len c.args.end row.run.font held.2 c.if-self-eq0.true c.if-end-self-2.true (omega (arith, len, front)) room
     )
