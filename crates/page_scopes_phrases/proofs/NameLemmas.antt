@@ -1,5 +1,5 @@
 -- The name of the manual, token by token.
-use Rattle.std.proofs.Common.{◌≡◌, ℕ, ◌+◌, ◌<◌, ◌≤◌, Bool, false, ◌||◌, List, [], ◌∷◌, ◌++◌, append_assoc, length, map, drop, get_or, Some, add-one, inl, inr, refl, sym, ap, ◌∙◌, arith}
+use Rattle.std.proofs.Common.{◌≡◌, ℕ, ◌+◌, ◌<◌, ◌≤◌, Bool, false, ◌||◌, List, [], ◌∷◌, ◌++◌, append_assoc, length, map, drop, get_or, add-one, inl, inr, refl, sym, ap, ◌∙◌, arith}
 use Rattle.std.proofs.lemmas.Bool.{cases_Bool}
 use Rattle.std.proofs.lemmas.List.{drop_all}
 use Rattle.std.proofs.Math.Seq.{drop-cons}
@@ -16,8 +16,9 @@ use Rattle.page_scopes_text.specs.Words.{blank_count, blank_text, fonts_after}
 use Rattle.page_scopes_text.proofs.BlankCountLemmas.{count-within}
 use Rattle.page_scopes_text.proofs.PartedLemmas.{white_front, white_some, word_some}
 use Rattle.page_scopes_phrases.specs.KeptTexts.{part_items}
+use Rattle.page_scopes_phrases.specs.declared.kept_names.Known.TheVariants.{Blanks, Nothing}
 use Rattle.page_scopes_phrases.specs.declared.kept_names.NamePart.{NamePart}
-use Rattle.page_scopes_phrases.specs.machine.NameParts.{meaning_blanks, part_of, parts_of, token_blanks}
+use Rattle.page_scopes_phrases.specs.machine.NameParts.{meaning_known, part_of, parts_of, token_known}
 
 -- ---- a token that is a `\h`
 
@@ -32,7 +33,7 @@ none-set fonts =
     let with_set : Bool → Setting Fonts = λ b. record { value = fonts.value; is_set = b } in
     ap with_set same
 
-escape-blank : (bytes : List ℕ) (meaning : Meaning) (count : ℕ) → meaning_blanks meaning ≡ Some count → IsBlank (escaped bytes meaning) count
+escape-blank : (bytes : List ℕ) (meaning : Meaning) (count : ℕ) → meaning_known meaning ≡ Blanks count → IsBlank (escaped bytes meaning) count
 escape-blank bytes (meanings.blanks expression) count is =
     let same : blank_count expression ≡ count = cc in
     record {
@@ -42,11 +43,30 @@ escape-blank bytes (meanings.blanks expression) count is =
     }
 escape-blank bytes _ count is = cc
 
-pub token-blank : (token : TextToken) (count : ℕ) → token_blanks token ≡ Some count → IsBlank token count
+pub token-blank : (token : TextToken) (count : ℕ) → token_known token ≡ Blanks count → IsBlank token count
 token-blank (white bytes) count is = cc
 token-blank (plain bytes) count is = cc
 token-blank (quotes bytes) count is = cc
 token-blank (escaped bytes meaning) count is = escape-blank bytes meaning count is
+
+-- ---- a token that prints nothing
+
+pub record IsQuiet (token : TextToken) : Type 0 where
+  pub items : (literal : Bool) (gap : ℕ) (place : Place) (font : Font) → part_items literal gap place font token ≡ []
+  pub fonts : (fonts : Setting Fonts) → fonts_after token fonts ≡ fonts
+
+escape-quiet : (bytes : List ℕ) (meaning : Meaning) → meaning_known meaning ≡ Nothing → IsQuiet (escaped bytes meaning)
+escape-quiet bytes meanings.nothing is = record { items = λ literal gap place font. refl; fonts = none-set }
+escape-quiet bytes meanings.glue is = record { items = λ literal gap place font. refl; fonts = none-set }
+escape-quiet bytes meanings.unsupported is = record { items = λ literal gap place font. refl; fonts = none-set }
+escape-quiet bytes meanings.bad is = record { items = λ literal gap place font. refl; fonts = none-set }
+escape-quiet bytes _ is = cc
+
+pub token-quiet : (token : TextToken) → token_known token ≡ Nothing → IsQuiet token
+token-quiet (white bytes) is = cc
+token-quiet (plain bytes) is = cc
+token-quiet (quotes bytes) is = cc
+token-quiet (escaped bytes meaning) is = escape-quiet bytes meaning is
 
 -- ---- items that wait, those of a token, and the others
 

@@ -13,11 +13,23 @@ use page_roff_syntax::Argument;
 use page_scopes_text::blank_count;
 use std::marker::Model;
 
-/// What is known of a token of a name: how many bytes it has, and its count of blanks, where it is a `\h`.
+/// What a token of a name prints, as far as it is known.
+#[derive(Clone, Copy, Default)]
+pub(crate) enum Known {
+    /// This many blanks in one text, at most 1000, where it is a `\h`.
+    Blanks(u16),
+    /// Nothing, and the fonts stay as they are.
+    Nothing,
+    /// It is read when it is printed.
+    #[default]
+    Unread,
+}
+
+/// What is known of a token of a name: how many bytes it has, and what it prints.
 #[derive(Clone, Copy, Default)]
 pub(crate) struct NamePart {
     pub(crate) len: u16,
-    pub(crate) blanks: Option<u16>,
+    pub(crate) known: Known,
 }
 
 /// The name of the manual as it is kept. Contracts see what is kept.
@@ -41,16 +53,17 @@ impl Model for ManualName {
     ghost invariant = { λ m. IsRead m.kept.text m.parts.items m.prints_filled m.prints_literal };
 }
 
-// The count of blanks of a token, where it is a `\h`.
-fn token_blanks(token: &Token<'_>) -> Option<u16>
-    ensures { result ≡ names.token_blanks (token_view token.now) }
+// What a token prints, where it is known by its meaning.
+fn token_known(token: &Token<'_>) -> Known
+    ensures { result ≡ names.token_known (token_view token.now) }
 {
-    match *token {
-        Token::Escaped {
-            meaning: Escape::Blanks(expression),
-            ..
-        } => Some(blank_count(expression) as u16),
-        _ => None,
+    let Token::Escaped { meaning, .. } = *token else {
+        return Known::Unread;
+    };
+    match meaning {
+        Escape::Blanks(expression) => Known::Blanks(blank_count(expression) as u16),
+        Escape::Nothing | Escape::Glue | Escape::Unsupported | Escape::Bad => Known::Nothing,
+        _ => Known::Unread,
     }
 }
 
@@ -61,7 +74,7 @@ fn part_of(token: &Token<'_>) -> NamePart
 {
     NamePart {
         len: token.len() as u16,
-        blanks: token_blanks(token),
+        known: token_known(token),
     }
 }
 

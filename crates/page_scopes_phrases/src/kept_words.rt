@@ -9,7 +9,7 @@ ghost use Rattle.page_scopes_phrases.specs.KeptTexts as kept;
 ghost use Rattle.page_scopes_phrases.specs.machine.NameParts as names;
 ghost use Rattle.page_scopes_text.specs.Words as texts;
 
-use crate::kept_names::NamePart;
+use crate::kept_names::{Known, NamePart};
 use crate::{KeptText, ManualName, Running};
 use page_core_base::{FIELD, Font, LINE, Limit, NoteKind, Piece, PieceOut, Place};
 use page_core_escapes::{Token, Tokens, read_token};
@@ -74,31 +74,6 @@ fn give_part<O: PieceOut>(
     }
 }
 
-// Gives what a text prints without its messages, all at one place; the fonts after it.
-fn give_parts<O: PieceOut>(
-    out: &mut O,
-    is_literal: bool,
-    front: u32,
-    place: Place,
-    start: Setting<Fonts>,
-    text: &[u8],
-) -> Setting<Fonts>
-    requires { length text.now ≤ LINE }
-    ensures came { Came O.left out.old
-        (kept.parts_items is_literal front place start (tokens_of false text.now)) out.new }
-    ensures fonts { result ≡ kept.fonts_through start (tokens_of false text.now) }
-{
-    let mut tokens = Tokens::new(false, text);
-    let mut fonts = start;
-    let mut gap = front;
-    while let Some(token) = tokens.read() {
-        give_part(out, is_literal, gap, place, fonts.value.font, &token);
-        fonts = fonts_after(&token, fonts);
-        gap = 1;
-    }
-    fonts
-}
-
 // Whether a token of a kept text prints a cell.
 fn part_prints(is_literal: bool, token: &Token<'_>) -> bool
     ensures { result ≡ kept.part_prints is_literal (token_view token.now) }
@@ -136,7 +111,15 @@ pub fn give_kept<O: PieceOut>(
         (kept.kept_items is_literal front place start text.now) out.new }
     ensures fonts { result ≡ kept.fonts_through start (kept.kept_tokens text.now) }
 {
-    give_parts(out, is_literal, front, place, start, text.text.text())
+    let mut tokens = Tokens::new(false, text.text.text());
+    let mut fonts = start;
+    let mut gap = front;
+    while let Some(token) = tokens.read() {
+        give_part(out, is_literal, gap, place, fonts.value.font, &token);
+        fonts = fonts_after(&token, fonts);
+        gap = 1;
+    }
+    fonts
 }
 
 // Texts of blanks that wait to be given at once: the blanks of each, and how many texts there are. Without a blank they print nothing.
@@ -200,14 +183,16 @@ fn give_known_parts<O: PieceOut>(
     let mut gap = front;
     let mut blanks = NO_BLANKS;
     for part in parts {
-        if let Some(count) = part.blanks {
-            blanks = blanks.with(out, count, fonts.value.font, place);
-        } else {
-            blanks.give(out, fonts.value.font, place);
-            blanks = NO_BLANKS;
-            let token = read_token(false, &text[at..]);
-            give_part(out, is_literal, gap, place, fonts.value.font, &token);
-            fonts = fonts_after(&token, fonts);
+        match part.known {
+            Known::Blanks(count) => blanks = blanks.with(out, count, fonts.value.font, place),
+            Known::Nothing => {}
+            Known::Unread => {
+                blanks.give(out, fonts.value.font, place);
+                blanks = NO_BLANKS;
+                let token = read_token(false, &text[at..]);
+                give_part(out, is_literal, gap, place, fonts.value.font, &token);
+                fonts = fonts_after(&token, fonts);
+            }
         }
         at += part.len as usize;
         gap = 1;

@@ -1,5 +1,5 @@
 -- A machine: what is known of the tokens of a manual's name, so that a name that is printed again is not read anew (`ManualName`).
-use Rattle.std.specs.Prelude.{◌≡◌, ℕ, Bool, true, false, ◌==◌, List, [], length, map, replicate, Option, None, Some, if◌then◌else◌}
+use Rattle.std.specs.Prelude.{◌≡◌, ℕ, Bool, true, false, ◌==◌, List, [], length, map, replicate, if◌then◌else◌}
 use Rattle.page_core_base.specs.Pieces.{Item, shown}
 use Rattle.page_core_base.specs.declared.cells.Font.{Font}
 use Rattle.page_core_base.specs.declared.pieces.Piece.TheVariants.{Text}
@@ -8,20 +8,26 @@ use Rattle.page_core_escapes.specs.Meanings as meanings
 use Rattle.page_core_escapes.specs.Meanings.{Meaning}
 use Rattle.page_core_escapes.specs.Tokens.{TextToken, escaped, token_bytes, tokens_of}
 use Rattle.page_scopes_phrases.specs.KeptTexts.{prints_cell}
+use Rattle.page_scopes_phrases.specs.declared.kept_names.Known.{Known}
+use Rattle.page_scopes_phrases.specs.declared.kept_names.Known.TheVariants.{Blanks, Nothing, Unread}
 use Rattle.page_scopes_phrases.specs.declared.kept_names.NamePart.{NamePart}
 use Rattle.page_scopes_text.specs.Words.{blank_count}
 
--- the count of blanks of an escape, and of a token, where it is a `\h`
-abbrev pub meaning_blanks : Meaning → Option ℕ
-meaning_blanks (meanings.blanks expression) = Some (blank_count expression)
-meaning_blanks _ = None
+-- what an escape prints, and a token, as far as it is known: its blanks, where it is a `\h`, or nothing
+abbrev pub meaning_known : Meaning → Known
+meaning_known (meanings.blanks expression) = Blanks (blank_count expression)
+meaning_known meanings.nothing = Nothing
+meaning_known meanings.glue = Nothing
+meaning_known meanings.unsupported = Nothing
+meaning_known meanings.bad = Nothing
+meaning_known _ = Unread
 
-abbrev pub token_blanks : TextToken → Option ℕ
-token_blanks (escaped bytes meaning) = meaning_blanks meaning
-token_blanks _ = None
+abbrev pub token_known : TextToken → Known
+token_known (escaped bytes meaning) = meaning_known meaning
+token_known _ = Unread
 
 abbrev pub part_of : TextToken → NamePart
-part_of token = record { len = length (token_bytes token); blanks = token_blanks token }
+part_of token = record { len = length (token_bytes token); known = token_known token }
 
 abbrev pub parts_of : List ℕ → List NamePart
 parts_of text = map part_of (tokens_of false text)

@@ -1,16 +1,17 @@
-use Rattle.std.proofs.Common.{◌≡◌, ◌+◌, ◌++◌, None, Some, drop, false, get_or, append-nil, append_assoc, ap, sym, ◌∙◌, arith}
+use Rattle.std.proofs.Common.{◌≡◌, ◌+◌, ◌++◌, drop, false, get_or, append-nil, append_assoc, ap, sym, ◌∙◌, arith}
 use Rattle.std.proofs.lemmas.List.{drop-drop, length-drop, take_rest}
 use Rattle.page_core_escapes.specs.Tokens.{token_at, tokens_of}
 use Rattle.page_scopes_phrases.specs.KeptTexts.{parts_items, part_items}
+use Rattle.page_scopes_phrases.specs.declared.kept_names.Known.TheVariants.{Blanks, Nothing}
 use Rattle.page_scopes_phrases.specs.declared.kept_names.NamePart.{NamePart}
-use Rattle.page_scopes_phrases.specs.machine.NameParts.{blank_texts, token_blanks}
+use Rattle.page_scopes_phrases.specs.machine.NameParts.{blank_texts, token_known}
 use Rattle.page_scopes_text.specs.Words.{blank_text, fonts_after}
-use Rattle.page_scopes_phrases.proofs.NameLemmas.{next-part, no-part, regroup, token-blank}
+use Rattle.page_scopes_phrases.proofs.NameLemmas.{next-part, no-part, regroup, token-blank, token-quiet}
 use Rattle.page_scopes_phrases.proofs.kept_words.give_known_parts.Goals as goal
-use Rattle.page_scopes_phrases.proofs.kept_words.give_known_parts.Goals.{in-Some, in_default}
+use Rattle.page_scopes_phrases.proofs.kept_words.give_known_parts.Goals.{in-Blanks, in-Nothing, in-Unread}
 
 no_blank : NamePart
-no_blank = record { len = 0; blanks = None }
+no_blank = record { len = 0; known = Blanks 0 }
 
 pub loop-part-preserved : goal.loop-part-preserved
 unfolding no_blank
@@ -26,16 +27,23 @@ loop-part-preserved g c =
     let len = length-drop l.at c.args.text.now in
     rw (← next) (record {
       came = elim c.match-part.branch [
-        | in-Some w ↦ λ plan rest h.
-            let known : token_blanks token ≡ Some w.in-Some.count = ap (λ (p : NamePart). p.blanks) (sym first.known) ∙ w.in-Some.is in
-            let b = token-blank token w.in-Some.count known in
-            let text = blank_text w.in-Some.count l.fonts.value.font c.args.place in
+        | in-Blanks w ↦ λ plan rest h.
+            let known : token_known token ≡ Blanks w.in-Blanks.count = ap (λ (p : NamePart). p.known) (sym first.known) ∙ w.in-Blanks.is in
+            let b = token-blank token w.in-Blanks.count known in
+            let text = blank_text w.in-Blanks.count l.fonts.value.font c.args.place in
             let items = parts_items c.args.is_literal 1 c.args.place l.fonts others in
             let came : g.O.PieceOut.left plan l.out ((waiting ++ (text ++ items)) ++ rest) =
             rw (first.tokens, b.items c.args.is_literal l.gap c.args.place l.fonts.value.font, b.fonts l.fonts) at (i.came plan rest h) in
             let given = w.with-blanks.ensures.came plan (items ++ rest) (rw (regroup waiting text items rest) at came) in
             rw (w.out-is, w.fonts-is, w.blanks-is, append_assoc) given
-        | in_default w ↦ λ plan rest h.
+        | in-Nothing w ↦ λ plan rest h.
+            let known : token_known token ≡ Nothing = ap (λ (p : NamePart). p.known) (sym first.known) ∙ w.in-Nothing.is in
+            let q = token-quiet token known in
+            let items = parts_items c.args.is_literal 1 c.args.place l.fonts others in
+            let came : g.O.PieceOut.left plan l.out ((waiting ++ items) ++ rest) =
+            rw (first.tokens, q.items c.args.is_literal l.gap c.args.place l.fonts.value.font, q.fonts l.fonts) at (i.came plan rest h) in
+            rw (w.out-is, w.fonts-is, w.blanks-is) came
+        | in-Unread w ↦ λ plan rest h.
             let text = part_items c.args.is_literal l.gap c.args.place l.fonts.value.font token in
             let items = parts_items c.args.is_literal 1 c.args.place (fonts_after token l.fonts) others in
             let came : g.O.PieceOut.left plan l.out ((waiting ++ (text ++ items)) ++ rest) = rw first.tokens at (i.came plan rest h) in
@@ -48,14 +56,16 @@ loop-part-preserved g c =
       known = first.others;
       within = omega (arith, len, i.within, first.within);
       count = elim c.match-part.branch [
-        | in-Some w ↦
-            let known : token_blanks token ≡ Some w.in-Some.count = ap (λ (p : NamePart). p.blanks) (sym first.known) ∙ w.in-Some.is in
-            rw (w.blanks-is, w.with-blanks.ensures.count) (token-blank token w.in-Some.count known).within
-        | in_default w ↦ rw w.blanks-is (omega arith)
+        | in-Blanks w ↦
+            let known : token_known token ≡ Blanks w.in-Blanks.count = ap (λ (p : NamePart). p.known) (sym first.known) ∙ w.in-Blanks.is in
+            rw (w.blanks-is, w.with-blanks.ensures.count) (token-blank token w.in-Blanks.count known).within
+        | in-Nothing w ↦ rw w.blanks-is i.count
+        | in-Unread w ↦ rw w.blanks-is (omega arith)
       ];
       times = elim c.match-part.branch [
-        | in-Some w ↦ let more = w.with-blanks.ensures.times in rw w.blanks-is (omega (arith, more, i.times))
-        | in_default w ↦ rw w.blanks-is (omega arith)
+        | in-Blanks w ↦ let more = w.with-blanks.ensures.times in rw w.blanks-is (omega (arith, more, i.times))
+        | in-Nothing w ↦ rw w.blanks-is (omega (arith, i.times))
+        | in-Unread w ↦ rw w.blanks-is (omega arith)
       ];
     })
 
