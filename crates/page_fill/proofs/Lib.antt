@@ -1,3 +1,4 @@
+pub mod RowLatchLemmas
 pub mod Marks
 pub mod MarkRuns
 pub mod MarkedPieces

@@ -5,3 +5,4 @@ pub mod Fill
 pub mod Items
 pub mod PlainWords
 pub mod TakenWords
+pub mod RowPlans

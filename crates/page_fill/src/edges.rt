@@ -148,7 +148,7 @@ impl Edge {
     fn blanks_stand(&self) -> bool
         ensures { result ≡ fill.stands self.now }
     {
-        self.sheet.is_literal() || self.word.is_placed && self.sheet.cells().is_empty()
+        self.sheet.is_literal() || self.word.is_placed && self.sheet.is_empty()
     }
 
     // A word begins, with the blanks that wait.
@@ -450,7 +450,7 @@ impl Edge {
     pub(crate) fn end_line<O: RowOut>(&mut self, out: &mut O)
         ensures { LaysOut O.left out.old (fill.row_ended self.old) out.new self.new }
     {
-        if self.sheet.cells().is_empty() {
+        if self.sheet.is_empty() {
             self.space(1, out);
         } else {
             self.end_row(out);
@@ -462,7 +462,7 @@ impl Edge {
     pub(crate) fn heading<O: RowOut>(&mut self, out: &mut O)
         ensures { LaysOut O.left out.old (fill.heading self.old) out.new self.new }
     {
-        let is_empty = self.sheet.cells().is_empty();
+        let is_empty = self.sheet.is_empty();
         self.end_row(out);
         if !is_empty {
             self.sheet.set_heading();
@@ -510,7 +510,7 @@ impl Edge {
         ensures { self.new ≡ (fill.tag_end self.old (Some blanks)).edge }
     {
         self.set_in = None;
-        self.word = if self.sheet.cells().is_empty() {
+        self.word = if self.sheet.is_empty() {
             OpenWord::placed(0)
         } else {
             OpenWord::placed(blanks)
@@ -553,7 +553,7 @@ impl Edge {
     pub(crate) fn column(&mut self, column: u32)
         ensures { self.new ≡ (fill.placed self.old (fill.to_column self.old.sheet.cells column)).edge }
     {
-        let blanks = if self.sheet.cells().is_empty() {
+        let blanks = if self.sheet.is_empty() {
             column
         } else {
             column.saturating_sub(self.sheet.columns()).max(1)

@@ -1,4 +1,4 @@
-//! The filler of a page.
+//! The filler of a page, alone or with what it keeps of its open row.
 
 ghost use Rattle.std.specs.Prelude.{◌≡◌, ◌≤◌, true, [], ◌∷◌, length, replicate, IfOk, IfErr, IfSome, OnOk, OnErr, Some, None, Err, MatchResult};
 ghost use Rattle.page_core_base.specs.Fails.{FailsBySink};
@@ -14,6 +14,7 @@ ghost use Rattle.page_fill.specs.Filling.{filled, row_end};
 ghost use Rattle.page_fill.specs.TakenWords.{TakesFirstWords};
 
 use crate::Edge;
+use crate::kept_rows::{KeepsRow, NoCells, OpenCells};
 use page_core_base::{Cell, Fault, Font, NoteSink, Output, Piece, Place, RowSink, Settings};
 use std::alloc::{AllocError, Global};
 use std::marker::Model;
@@ -24,12 +25,19 @@ use std::marker::Model;
 /// as what it holds between two pieces ([`Edge`]): the open row with its margins, the open word and the blanks that wait before the next
 /// one, and the open tag; or as none, where it is of no use.
 #[derive(Drop)]
-pub struct Filler {
+pub struct FillerWith<K: KeepsRow> {
     edge: Edge,
     is_going: bool,
+    kept: K,
 }
 
-impl Model for Filler {
+/// A filler that holds its open row and nothing beside it, as a page does.
+pub type PieceFiller = FillerWith<NoCells>;
+
+/// A filler that shows the cells of its open row, which are made anew after each call that changes it.
+pub type Filler = FillerWith<OpenCells>;
+
+impl<K: KeepsRow> Model for FillerWith<K> {
     ghost use Rattle.std.specs.Prelude.{◌≡◌, true, Option, None, Some, if◌then◌else◌};
     ghost use Rattle.page_fill.specs.Caps.{IsHeld, is_sound};
     ghost use Rattle.page_fill.specs.declared.edges.Edge.{Edge};
@@ -38,7 +46,8 @@ impl Model for Filler {
 
     ghost view = { λ f. if f.is_going then Some f.edge else None };
 
-    ghost invariant = { λ f. f.is_going ≡ true → IsHeld f.edge.sheet × (is_sound f.edge.word ≡ true) };
+    ghost invariant = { λ f. (f.is_going ≡ true → IsHeld f.edge.sheet × (is_sound f.edge.word ≡ true))
+        × K.shows f.kept f.edge };
 }
 
 /// What a filler holds between two pieces.
@@ -64,24 +73,37 @@ impl FillerPart {
     pub fn output(&self) -> Output
         ensures { result ≡ self.now.output }
     {
-        self.edge.output()
+        self.edge.output
     }
 
     /// A filler that holds this, under the settings from which it came. It reserves all memory that it will ever hold.
-    pub fn filler(&self, alloc: Global) -> Result<Filler, AllocError>
+    pub fn filler<K: KeepsRow>(&self, alloc: Global) -> Result<FillerWith<K>, AllocError>
         ensures { IfOk result (λ f. f ≡ Some self.now) }
     {
-        let edge = self
-            .edge
-            .copy(alloc, self.edge.width(), self.edge.output())?;
-        Ok(Filler {
-            edge,
-            is_going: true,
-        })
+        FillerWith::copy_of(alloc, &self.edge, self.edge.sheet.width(), self.edge.output)
     }
 }
 
-impl Filler {
+impl<K: KeepsRow> FillerWith<K> {
+    // A filler that goes on where this is held, on a page of this width in columns, of an output.
+    fn copy_of(
+        alloc: Global,
+        edge: &Edge,
+        width: u32,
+        output: Output,
+    ) -> Result<FillerWith<K>, AllocError>
+        requires { IsHeld edge.now.sheet × (is_sound edge.now.word ≡ true) }
+        ensures { IfOk result (λ f. f ≡ Some (fill.under width output edge.now)) }
+    {
+        let edge = edge.copy(alloc, width, output)?;
+        let kept = K::of(alloc, &edge)?;
+        Ok(FillerWith {
+            edge,
+            is_going: true,
+            kept,
+        })
+    }
+
     /// What is held between two pieces, in memory of its own.
     ///
     /// Its fault is [`Fault::Failed`] after a failure and after the end; else [`Fault::Memory`].
@@ -93,7 +115,10 @@ impl Filler {
         if !self.is_going {
             return Err(Fault::Failed);
         }
-        match self.edge.copy(alloc, self.edge.width(), self.edge.output()) {
+        match self
+            .edge
+            .copy(alloc, self.edge.sheet.width(), self.edge.output)
+        {
             Ok(edge) => Ok(FillerPart { edge }),
             Err(_) => Err(Fault::Memory),
         }
@@ -104,55 +129,50 @@ impl Filler {
         alloc: Global,
         settings: &Settings,
         part: FillerPart,
-    ) -> Result<Filler, (FillerPart, Fault)>
+    ) -> Result<FillerWith<K>, (FillerPart, Fault)>
         ensures { MatchResult result
             (λ f. f ≡ Some (fill.under settings.now.width settings.now.output part))
             (λ refused. (refused.0 ≡ part) × (refused.1 ≡ Fault.Memory)) }
     {
-        match part.edge.copy(alloc, settings.width, settings.output) {
-            Ok(edge) => Ok(Filler {
-                edge,
-                is_going: true,
-            }),
+        match FillerWith::copy_of(alloc, &part.edge, settings.width, settings.output) {
+            Ok(filler) => Ok(filler),
             Err(_) => Err((part, Fault::Memory)),
         }
     }
 
     /// A filler for a page of these settings, below its header, with one blank row. It reserves all memory that it will ever
     /// hold, and its fault is [`Fault::Memory`].
-    pub fn new(alloc: Global, settings: &Settings) -> Result<Filler, Fault>
+    pub fn new(alloc: Global, settings: &Settings) -> Result<FillerWith<K>, Fault>
         ensures ok { IfOk result (λ f. f ≡ Some (fill.start settings.now)) }
         ensures fault { IfErr result (λ fault. fault ≡ Fault.Memory) }
     {
         let Ok(edge) = Edge::new(alloc, settings) else {
             return Err(Fault::Memory);
         };
-        Ok(Filler {
+        let Ok(kept) = K::of(alloc, &edge) else {
+            return Err(Fault::Memory);
+        };
+        Ok(FillerWith {
             edge,
             is_going: true,
+            kept,
         })
-    }
-
-    /// The open row's cells, at most `CELLS`.
-    pub fn pending(&self) -> &[Cell]
-        ensures cells { IfSome self.now (λ e. result.now ≡ fill.open_cells e) }
-        ensures bound { length result.now ≤ CELLS }
-    {
-        self.edge.cells()
     }
 
     /// How many blank rows are at the end of the rows that were given, the open row left aside.
     pub fn blank_rows(&self) -> u32
         ensures { IfSome self.now (λ e. result ≡ fill.blank_rows_at_end e) }
     {
-        self.edge.blank_rows()
+        self.edge.sheet.blank_rows()
     }
 
     /// What is held between two pieces is within its limits. Nothing is done: the open row shows it.
     pub fn caps_law(&self)
         ensures { IfSome self.now FillFits }
     {
-        self.edge.caps_law();
+        self.edge.sheet.held_law();
+        self.edge.sheet.tag_columns();
+        self.edge.sheet.blank_rows();
     }
 
     /// The places of the row's last word lie within the row, and what waits before the next word holds together. Nothing is done: a filler
@@ -167,7 +187,7 @@ impl Filler {
 
     /// Takes a piece, and gives the rows and messages that it settles. It succeeds if the sinks do.
     ///
-    /// Its faults are those of the sinks; after one, and after [`finish`](Filler::finish), it is [`Fault::Failed`].
+    /// Its faults are those of the sinks; after one, and after [`finish`](FillerWith::finish), it is [`Fault::Failed`].
     #[inline(always)]
     pub fn piece<R: RowSink, N: NoteSink>(
         &mut self,
@@ -181,10 +201,8 @@ impl Filler {
         ensures edge { (e : Edge) → self.old ≡ Some e
             → OnOk result (self.new ≡ Some (filled e (shown (piece_of piece.entry) ∷ [])).edge) }
         ensures faults { (e : Edge) → self.old ≡ Some e
-            → FailsBySink result (R.failed rows.old) (R.failed rows.new)
-            (N.failed notes.old) (N.failed notes.new) }
-        ensures closed { self.old ≡ None → (result ≡ Err Fault.Failed)
-            × (rows.new ≡ rows.old) × (notes.new ≡ notes.old) }
+            → FailsBySink result (R.failed rows.old) (R.failed rows.new) (N.failed notes.old) (N.failed notes.new) }
+        ensures closed { self.old ≡ None → (result ≡ Err Fault.Failed) × (rows.new ≡ rows.old) × (notes.new ≡ notes.old) }
         ensures stops { OnErr result (self.new ≡ None) }
         ensures rows_same { R.loans rows.new ≡ R.loans rows.old }
         ensures notes_same { N.loans notes.new ≡ N.loans notes.old }
@@ -193,6 +211,7 @@ impl Filler {
             return Err(Fault::Failed);
         }
         let result = self.edge.piece(piece, rows, notes);
+        self.kept.keep(&self.edge);
         if result.is_err() {
             self.is_going = false;
         }
@@ -201,7 +220,7 @@ impl Filler {
 
     /// Takes as many texts of a count of blanks that are cells, at most [`BLANK_TEXT`](page_core_base::BLANK_TEXT) of them in each.
     ///
-    /// Its faults are those of the sinks; after one, and after [`finish`](Filler::finish), it is [`Fault::Failed`].
+    /// Its faults are those of the sinks; after one, and after [`finish`](FillerWith::finish), it is [`Fault::Failed`].
     pub fn take_blanks<R: RowSink, N: NoteSink>(
         &mut self,
         count: usize,
@@ -218,10 +237,8 @@ impl Filler {
         ensures edge { (e : Edge) → self.old ≡ Some e
             → OnOk result (self.new ≡ Some (filled e (replicate times (shown (Text (replicate count 32) font place)))).edge) }
         ensures faults { (e : Edge) → self.old ≡ Some e
-            → FailsBySink result (R.failed rows.old) (R.failed rows.new)
-            (N.failed notes.old) (N.failed notes.new) }
-        ensures closed { self.old ≡ None → (result ≡ Err Fault.Failed)
-            × (rows.new ≡ rows.old) × (notes.new ≡ notes.old) }
+            → FailsBySink result (R.failed rows.old) (R.failed rows.new) (N.failed notes.old) (N.failed notes.new) }
+        ensures closed { self.old ≡ None → (result ≡ Err Fault.Failed) × (rows.new ≡ rows.old) × (notes.new ≡ notes.old) }
         ensures stops { OnErr result (self.new ≡ None) }
         ensures rows_same { R.loans rows.new ≡ R.loans rows.old }
         ensures notes_same { N.loans notes.new ≡ N.loans notes.old }
@@ -232,6 +249,7 @@ impl Filler {
         let taken = self
             .edge
             .take_blanks(count, times, font, place, rows, notes);
+        self.kept.keep(&self.edge);
         if taken.is_err() {
             self.is_going = false;
         }
@@ -250,7 +268,8 @@ impl Filler {
             return 0;
         }
         let taken = self.edge.take_words(text, font);
-        self.edge.held_law();
+        self.edge.sheet.held_law();
+        self.kept.keep(&self.edge);
         taken
     }
 
@@ -265,10 +284,8 @@ impl Filler {
         ensures gets { (e : Edge) → self.old ≡ Some e
             → Gets result R.gave R.within N.gave N.within rows.old rows.new notes.old notes.new (row_end e) }
         ensures faults { (e : Edge) → self.old ≡ Some e
-            → FailsBySink result (R.failed rows.old) (R.failed rows.new)
-            (N.failed notes.old) (N.failed notes.new) }
-        ensures closed { self.old ≡ None → (result ≡ Err Fault.Failed)
-            × (rows.new ≡ rows.old) × (notes.new ≡ notes.old) }
+            → FailsBySink result (R.failed rows.old) (R.failed rows.new) (N.failed notes.old) (N.failed notes.new) }
+        ensures closed { self.old ≡ None → (result ≡ Err Fault.Failed) × (rows.new ≡ rows.old) × (notes.new ≡ notes.old) }
         ensures ended { self.new ≡ None }
         ensures rows_same { R.loans rows.new ≡ R.loans rows.old }
         ensures notes_same { N.loans notes.new ≡ N.loans notes.old }
@@ -277,6 +294,18 @@ impl Filler {
             return Err(Fault::Failed);
         }
         self.is_going = false;
-        self.edge.end(rows, notes)
+        let ended = self.edge.end(rows, notes);
+        self.kept.keep(&self.edge);
+        ended
+    }
+}
+
+impl FillerWith<OpenCells> {
+    /// The open row's cells, at most `CELLS`.
+    pub fn pending(&self) -> &[Cell]
+        ensures cells { IfSome self.now (λ e. result.now ≡ fill.open_cells e) }
+        ensures bound { length result.now ≤ CELLS }
+    {
+        self.kept.as_slice()
     }
 }

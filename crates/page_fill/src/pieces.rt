@@ -1,21 +1,19 @@
 //! Pieces, one by one, over two sinks.
 
-ghost use Rattle.std.specs.Prelude.{◌≡◌, ◌≤◌, length, replicate, IfOk, true, false};
+ghost use Rattle.std.specs.Prelude.{◌≡◌, ◌≤◌, replicate, IfOk, true, false};
 ghost use Rattle.page_core_base.specs.Fails.{FailsBySink};
 ghost use Rattle.page_core_base.specs.Laid.{Gets, nothing};
 ghost use Rattle.page_core_base.specs.Latches.{LaysOut};
 ghost use Rattle.page_core_base.specs.Pieces.{piece_of};
 ghost use Rattle.page_core_base.specs.declared.blank_texts.TheConstants.{BLANK_TEXT};
-ghost use Rattle.page_core_base.specs.declared.limits.TheConstants.{CELLS};
 ghost use Rattle.page_core_base.specs.declared.pieces.Piece.TheVariants.{Text};
-ghost use Rattle.page_fill.specs.Caps.{FillFits, IsHeld};
 ghost use Rattle.page_fill.specs.Edges.{under};
 ghost use Rattle.page_fill.specs.machine.Fill as fill;
 
 use crate::edges::{Edge, NO_WORD};
 use crate::row_latches::RowLatch;
 use page_core_base::{
-    BLANK_TEXT, Cell, Fault, Font, NoteSink, Output, Piece, Place, RowOut, RowSink, Settings,
+    BLANK_TEXT, Fault, Font, NoteSink, Output, Piece, Place, RowOut, RowSink, Settings,
 };
 use page_fill_rows::OpenRow;
 use std::alloc::{AllocError, Global};
@@ -114,52 +112,6 @@ impl Edge {
             set_in: self.set_in,
             output,
         })
-    }
-
-    /// The columns of a row with its margin.
-    pub fn width(&self) -> u32
-        ensures { result ≡ self.now.sheet.width }
-    {
-        self.sheet.width()
-    }
-
-    /// What characters and glyphs print.
-    pub fn output(&self) -> Output
-        ensures { result ≡ self.now.output }
-    {
-        self.output
-    }
-
-    /// The open row's cells.
-    pub fn cells(&self) -> &[Cell]
-        ensures cells { result.now ≡ fill.open_cells self.now }
-        ensures bound { length result.now ≤ CELLS }
-    {
-        self.sheet.cells()
-    }
-
-    /// How many blank rows are at the end of the rows that were given, the open row left aside.
-    pub fn blank_rows(&self) -> u32
-        ensures { result ≡ fill.blank_rows_at_end self.now }
-    {
-        self.sheet.blank_rows()
-    }
-
-    /// What is held is within its limits. Nothing is done: the open row shows it.
-    pub fn caps_law(&self)
-        ensures { FillFits self.now }
-    {
-        self.sheet.cells();
-        self.sheet.tag_columns();
-        self.sheet.blank_rows();
-    }
-
-    /// The places of the row's last word lie within the row. Nothing is done: the open row shows it.
-    #[inline(always)]
-    pub fn held_law(&self)
-        ensures { IsHeld self.now.sheet }
-    {
-        self.sheet.held_law();
     }
 
     /// Takes a piece, and gives the rows and messages that it settles. Its faults are those of the sinks.
