@@ -19,7 +19,7 @@ use crate::page_sinks::PageSink;
 use crate::shown::{Shown, is_silent};
 use page_core_base::{Fault, Level, NoteSink, Output, RowSink, Settings};
 use page_engine_lines::PageLines;
-use page_fill::Filler;
+use page_fill::PieceFiller;
 use page_roff_lines::Cutter;
 use page_roff_source::Counts;
 use std::alloc::{AllocError, Global};
@@ -27,7 +27,7 @@ use std::alloc::{AllocError, Global};
 /// The layers of a page, and what it keeps beside them.
 #[derive(Drop)]
 pub(crate) struct Layers {
-    pub(crate) filler: Filler,
+    pub(crate) filler: PieceFiller,
     pub(crate) lines: PageLines,
     pub(crate) output: Output,
     pub(crate) least: Option<Level>,
@@ -128,7 +128,7 @@ impl Layers {
         ensures ok { IfOk result (λ p. IsAt p (start settings.now)) }
         ensures fault { IfErr result (λ fault. fault ≡ Fault.Memory) }
     {
-        let filler = Filler::new(alloc, settings)?;
+        let filler = PieceFiller::new(alloc, settings)?;
         let lines = PageLines::new(alloc, settings)?;
         Ok(Layers {
             filler,

@@ -9,12 +9,12 @@ ghost use Rattle.page_engine.specs.machine.PageSinks.{PageSinkTook, PageSinkBrok
 use crate::level_filters::LevelFilter;
 use crate::shown::Shown;
 use page_core_base::{Fault, Font, Note, NoteSink, Piece, PieceSink, Place, RowSink};
-use page_fill::Filler;
+use page_fill::PieceFiller;
 
 /// Fills pieces, and passes rows and messages on: rows unless the output is lint, messages by their level.
 #[derive(Drop)]
 pub struct PageSink<'f, 'r, 'n, R, N> {
-    pub(crate) filler: &'f mut Filler,
+    pub(crate) filler: &'f mut PieceFiller,
     pub(crate) rows: Shown<'r, R>,
     pub(crate) notes: LevelFilter<'n, N>,
 }

@@ -4,7 +4,7 @@ ghost use Rattle.std.specs.Prelude.{◌≡◌};
 ghost use Rattle.std.specs.Borrow.{GName};
 ghost use Rattle.page_engine.specs.Shown.{is_silent, ShownGave, ShownWithin, shown-sink, shown-whole};
 
-use page_core_base::{Cell, Fault, Output, RowSink};
+use page_core_base::{Cell, Fault, Font, Output, RowSink};
 
 /// Passes on rows, or none (mandoc(1), -T lint).
 #[derive(Drop)]
@@ -52,6 +52,21 @@ impl<R: RowSink> RowSink for Shown<'_, R> {
             return Ok(());
         }
         self.rows.blank_row(margin, cells)
+    }
+
+    #[tactic(auto, unfolding(crate::specs::Shown::shown_rows))]
+    fn ascii_row(
+        &mut self,
+        margin: u32,
+        bytes: &[u8],
+        fonts: &[Font],
+        is_blank: bool,
+        places: &mut Vec<Cell>,
+    ) -> Result<(), Fault> {
+        if self.is_silent {
+            return Ok(());
+        }
+        self.rows.ascii_row(margin, bytes, fonts, is_blank, places)
     }
 
     fn failures(&self) -> u64 {
