@@ -3,3 +3,4 @@ pub mod GrowsLemmas
 pub mod PlainLemmas
 pub mod RowLemmas
 pub mod FailureLemmas
+pub mod AsciiLemmas

@@ -29,7 +29,7 @@ pub fn cell_bytes(cell: Cell) -> ArrayVec<u8, 16>
 
 // A number that is 0 for roman alone.
 #[inline(always)]
-fn font_bits(font: Font) -> u8
+pub(crate) fn font_bits(font: Font) -> u8
     ensures zero { result ≡ 0 → is_roman font ≡ true }
     ensures roman { is_roman font ≡ true → result ≡ 0 }
 {
@@ -89,19 +89,8 @@ pub(crate) fn write_group(bytes: &mut [u8], start: usize, cells: &[Cell]) -> usi
     write_cells(bytes, start, cells)
 }
 
-// Writes the bytes of two halves of a group, each of which may be plain though the other is not: the letters of a word in a font come together.
-#[inline(always)]
-fn write_halves(bytes: &mut [u8], start: usize, cells: &[Cell]) -> usize
-    requires { start + 16 * length cells.now ≤ length bytes.old }
-    ensures front { take result bytes.new ≡ take start bytes.old ++ flat_map cell_bytes_of cells.now }
-    ensures end { result ≤ start + 16 * length cells.now }
-{
-    let (front, back) = cells.split_at(cells.len() / 2);
-    let middle = write_group(bytes, start, front);
-    write_group(bytes, middle, back)
-}
-
-/// Writes the bytes of a group of cells, of which most are plain, from `start` on, and answers where they end.
+/// Writes the bytes of a group of cells from `start` on, and answers where they end: quickly where all of them are plain, or those of a half, since
+/// the letters of a word in a font come together.
 #[inline(always)]
 pub(crate) fn write_mixed(bytes: &mut [u8], start: usize, cells: &[Cell]) -> usize
     requires { start + 16 * length cells.now ≤ length bytes.old }
@@ -111,7 +100,9 @@ pub(crate) fn write_mixed(bytes: &mut [u8], start: usize, cells: &[Cell]) -> usi
     if are_plain(cells) {
         return write_plain(bytes, start, cells);
     }
-    write_halves(bytes, start, cells)
+    let (front, back) = cells.split_at(cells.len() / 2);
+    let middle = write_group(bytes, start, front);
+    write_group(bytes, middle, back)
 }
 
 /// Writes the bytes of cells from `start` on, and answers where they end.
@@ -124,7 +115,7 @@ pub(crate) fn write_cells(bytes: &mut [u8], start: usize, cells: &[Cell]) -> usi
     let mut end = start;
     for cell in cells {
         end = if cell.c.is_ascii() {
-            write_ascii(bytes, end, *cell)
+            write_ascii(bytes, end, cell.c as u8, cell.font)
         } else {
             write_wide(bytes, end, *cell)
         };
@@ -132,24 +123,24 @@ pub(crate) fn write_cells(bytes: &mut [u8], start: usize, cells: &[Cell]) -> usi
     end
 }
 
-// Writes the bytes of a cell of ASCII. Each byte that such a cell may have is written, and the next cell begins after those that it has: where
-// fonts change within a row, that costs less than branches for them.
+/// Writes the bytes of a character of ASCII in a font. Each byte that it may have is written, and the next cell begins after those that it has:
+/// where fonts change within a row, that costs less than branches for them.
 #[inline(always)]
-fn write_ascii(bytes: &mut [u8], start: usize, cell: Cell) -> usize
-    requires ascii { cell.c < 128 }
-    requires room { start + 16 ≤ length bytes.old }
-    ensures front { take result bytes.new ≡ take start bytes.old ++ cell_bytes_of cell }
-    ensures end { result ≤ start + 16 }
+pub(crate) fn write_ascii(bytes: &mut [u8], start: usize, c: u8, font: Font) -> usize
+    requires ascii { c < 128 }
+    requires room { start + 5 ≤ length bytes.old }
+    ensures front { take result bytes.new ≡ take start bytes.old ++ cell_bytes_of (record { c = c; font = font }) }
+    ensures end { result ≤ start + 5 }
 {
-    let is_marked = cell.c != ' ';
-    let is_italic = is_marked & matches!(cell.font, Font::I | Font::BI);
-    let is_bold = is_marked & matches!(cell.font, Font::B | Font::BI);
+    let is_marked = c != b' ';
+    let is_italic = is_marked & matches!(font, Font::I | Font::BI);
+    let is_bold = is_marked & matches!(font, Font::B | Font::BI);
     bytes[start] = b'_';
     bytes[start + 1] = BACKSPACE;
     let start = start + 2 * usize::from(is_italic);
-    bytes[start] = cell.c as u8;
+    bytes[start] = c;
     bytes[start + 1] = BACKSPACE;
-    bytes[start + 2] = cell.c as u8;
+    bytes[start + 2] = c;
     start + 1 + 2 * usize::from(is_bold)
 }
 

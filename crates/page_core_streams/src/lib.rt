@@ -12,6 +12,7 @@
 //! fault, a front of them.
 #![tactic(auto)]
 
+mod ascii_rows;
 mod cells;
 mod chunks;
 mod inputs;

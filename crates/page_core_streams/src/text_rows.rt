@@ -1,24 +1,28 @@
 //! Rows as bytes of a writer (mandoc(1), "ASCII Output").
 
-ghost use Rattle.std.specs.Prelude.{◌≡◌, ◌+◌, ◌<◌, ◌≤◌, ◌++◌, [], ◌∷◌, MatchOption, length, take, true, replicate};
+ghost use Rattle.std.specs.Prelude.{◌≡◌, ◌+◌, ◌<◌, ◌≤◌, ◌++◌, [], ◌∷◌, MatchOption, length, take, true, false, replicate};
 ghost use Rattle.std.specs.Borrow.{GName};
-ghost use Rattle.std.specs.List.{flat_map, list_all};
+ghost use Rattle.std.specs.List.{flat_map};
+ghost use Rattle.page_core_base.specs.Rows.{AreAscii, cells_in};
 ghost use Rattle.page_core_streams.specs.Failures.{FailsBy, StopsBy, count_of};
 ghost use Rattle.page_core_streams.specs.Grows.{GrowsInto, GrowsUpTo, Writes};
 ghost use Rattle.page_core_streams.specs.Grows.{Adds, AddsInto, adds-sink, adds-whole};
-ghost use Rattle.page_core_streams.specs.machine.PlainCells.{is_plain};
 ghost use Rattle.page_core_streams.specs.RowBytes.{row_bytes, printed, cell_bytes_of};
 
+use crate::ascii_rows::{shown_len, write_part, write_text};
 use crate::cells::{without_blanks_at_end, write_group, write_mixed};
 use crate::targets::Target;
 use crate::writing::{BUFFER, put};
-use page_core_base::{Cell, Fault, RowSink};
+use page_core_base::{Cell, Fault, Font, RowSink};
 
 // The bytes of a row that may wait before more of its cells come.
 const WAITING: usize = 256;
 
 // The cells of a row that are written at a time: a number that the compiler knows, so that it needs no loop over them.
 const GROUP: usize = 8;
+
+// The same of characters of ASCII.
+const TEXT_GROUP: usize = 16;
 
 /// Writes rows as bytes (mandoc(1), "ASCII Output").
 #[derive(Drop)]
@@ -44,11 +48,11 @@ impl<'a, W: Target> TextRows<'a, W> {
     }
 }
 
-// Writes a margin in blanks, but for a few that wait, and answers how many.
-fn put_margin<W: Target>(out: &mut W, margin: u32) -> Option<usize>
+// Writes a margin in blanks, but for a few that wait in the bytes, and answers where the next one goes.
+fn put_margin<W: Target>(out: &mut W, bytes: &mut [u8; BUFFER], margin: u32) -> Option<usize>
     ensures writes { MatchOption result
         (GrowsInto (W.contents out.old) (W.contents out.new) (replicate margin 32))
-        (λ left. (left ≤ 256) × GrowsUpTo (W.contents out.old) (W.contents out.new) (replicate margin 32) (replicate left 32)) }
+        (λ at. (at ≤ 256) × GrowsUpTo (W.contents out.old) (W.contents out.new) (replicate margin 32) (take at bytes.new)) }
     ensures fails { StopsBy W.counts result (W.failures out.old) (W.failures out.new) }
 {
     let mut left = margin as usize;
@@ -59,6 +63,7 @@ fn put_margin<W: Target>(out: &mut W, margin: u32) -> Option<usize>
         }
         left -= WAITING;
     }
+    bytes[..left].fill(b' ');
     Some(left)
 }
 
@@ -121,11 +126,42 @@ fn put_row<W: Target>(out: &mut W, bytes: &mut [u8; BUFFER], margin: u32, cells:
     if cells.is_empty() {
         return put(out, b"\n");
     }
-    let Some(left) = put_margin(out, margin) else {
+    let Some(start) = put_margin(out, bytes, margin) else {
         return false;
     };
-    bytes[..left].fill(b' ');
-    put_cells(out, bytes, left, cells)
+    put_cells(out, bytes, start, cells)
+}
+
+// Writes the same of characters, a group of them after another.
+fn put_text<W: Target>(
+    out: &mut W,
+    bytes: &mut [u8; BUFFER],
+    margin: u32,
+    text: &[u8],
+    fonts: &[Font],
+) -> bool
+    requires { AreAscii text.now fonts.now false }
+    ensures writes { Writes result (W.contents out.old) (W.contents out.new) (printed margin (cells_in text.now fonts.now)) }
+    ensures fails { FailsBy W.counts result (W.failures out.old) (W.failures out.new) }
+{
+    if text.is_empty() {
+        return put(out, b"\n");
+    }
+    let Some(mut end) = put_margin(out, bytes, margin) else {
+        return false;
+    };
+    let mut i = 0;
+    while text.len() - i >= TEXT_GROUP {
+        let Some(room) = room_after(out, bytes, end) else {
+            return false;
+        };
+        let next = i + TEXT_GROUP;
+        end = write_text(bytes, room, &text[i..next], &fonts[i..next]);
+        i = next;
+    }
+    end = write_part(bytes, end, &text[i..], &fonts[i..]);
+    bytes[end] = b'\n';
+    put(out, &bytes[..end + 1])
 }
 
 impl<W: Target> RowSink for TextRows<'_, W> {
@@ -144,12 +180,25 @@ impl<W: Target> RowSink for TextRows<'_, W> {
     ghost whole = { adds-whole (λ s. W.contents s.out.now) row_bytes };
 
     fn row(&mut self, margin: u32, cells: &[Cell]) -> Result<(), Fault> {
-        if put_row(
-            self.out,
-            &mut self.bytes,
-            margin,
-            without_blanks_at_end(cells),
-        ) {
+        let cells = without_blanks_at_end(cells);
+        if put_row(self.out, &mut self.bytes, margin, cells) {
+            return Ok(());
+        }
+        self.failures = self.failures.saturating_add(1);
+        Err(Fault::WriteText)
+    }
+
+    fn ascii_row(
+        &mut self,
+        margin: u32,
+        bytes: &[u8],
+        fonts: &[Font],
+        is_blank: bool,
+        _places: &mut Vec<Cell>,
+    ) -> Result<(), Fault> {
+        let len = shown_len(bytes, is_blank);
+        let (text, fonts) = (&bytes[..len], &fonts[..len]);
+        if put_text(self.out, &mut self.bytes, margin, text, fonts) {
             return Ok(());
         }
         self.failures = self.failures.saturating_add(1);
