@@ -3,6 +3,8 @@
 #![tactic(auto)]
 
 #[cfg(test)]
+mod ascii_rows;
+#[cfg(test)]
 mod checks;
 #[cfg(test)]
 mod escapes;
