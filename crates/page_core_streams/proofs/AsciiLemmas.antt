@@ -5,7 +5,8 @@ use Rattle.std.proofs.lemmas.Bool.{cases_Bool, and_parts, eqb-true}
 use Rattle.std.proofs.lemmas.Bool.Decides.{nat_tests}
 use Rattle.std.proofs.lemmas.Grind.{flat_map-append}
 use Rattle.std.proofs.lemmas.List.{take-append-drop, drop-drop, length-take, length-drop}
-use Rattle.std.proofs.lemmas.List.Folds.{list_all_more, list_all-append, list_all_at}
+use Rattle.std.proofs.Math.Seq.{take-add}
+use Rattle.std.proofs.lemmas.List.Folds.{list_all_more, list_all-append}
 use Rattle.page_core_base.specs.declared.cells.Cell.{Cell}
 use Rattle.page_core_base.specs.declared.cells.Font.{Font}
 use Rattle.page_core_base.specs.declared.cells.Font.TheVariants.{R, B, I, BI}
@@ -78,13 +79,6 @@ module _ (cs : List ℕ) (fonts : List Font) (blank : Bool) (n : ℕ) (are : Are
     letters = λ no. cc;
   }
 
-pub ascii-at : (cs : List ℕ) (i : ℕ) → i < length cs → list_all is_ascii cs ≡ true → get_or cs i 0 < 128
-ascii-at cs i within all =
-    elim (cases_Bool (is_ascii (get_or cs i 0))) [
-      | inl few ↦ grind (arith, nat_tests, few)
-      | inr many ↦ absurd (let no : false ≡ true = sym (list_all_at is_ascii cs i 0 within many) ∙ all in cc)
-    ]
-
 -- ---- fonts
 
 pub roman-more : (fonts : List Font) (i : ℕ) → i < length fonts → list_all is_roman (take i fonts) ≡ true → is_roman (get_or fonts i R) ≡ true
@@ -139,6 +133,14 @@ bytes-parts cs fonts n =
     let cells = cells_in cs fonts in
     rw (cells-front cs fonts n, cells-back cs fonts n)
     (ap (flat_map cell_bytes_of) (sym (take-append-drop n cells)) ∙ flat_map-append cell_bytes_of (take n cells) (drop n cells))
+
+-- a front, and as much of what follows it as makes a longer one
+pub bytes-next : (cs : List ℕ) (fonts : List Font) (i n : ℕ) → flat_map cell_bytes_of (cells_in (take (i + n) cs) (take (i + n) fonts))
+    ≡ flat_map cell_bytes_of (cells_in (take i cs) (take i fonts)) ++ flat_map cell_bytes_of (cells_in (take n (drop i cs)) (take n (drop i fonts)))
+bytes-next cs fonts i n =
+    let cells = cells_in cs fonts in
+    rw (cells-front cs fonts (i + n), cells-front cs fonts i, cells-front (drop i cs) (drop i fonts) n, cells-back cs fonts i)
+    (ap (flat_map cell_bytes_of) (take-add i n cells) ∙ flat_map-append cell_bytes_of (take i cells) (take n (drop i cells)))
 
 -- the first characters of those from a place on come before the others
 pub text-moved : (front cs : List ℕ) (fonts : List Font) (i n : ℕ)

@@ -10,6 +10,9 @@ ghost use Rattle.page_core_streams.specs.RowBytes.{cell_bytes_of};
 use crate::cells::{font_bits, write_ascii};
 use page_core_base::{BLANK_GROUP, Font, LONG_ROW};
 
+// The characters of a group that are looked at together where they are not all in roman: a number that the compiler knows.
+const PART: usize = 4;
+
 // Whether all fonts are roman. They are joined bit by bit: one test at the end costs less than one at each of them.
 #[inline(always)]
 fn are_roman(fonts: &[Font]) -> bool
@@ -34,9 +37,24 @@ fn write_roman(bytes: &mut [u8], start: usize, text: &[u8]) -> usize
     end
 }
 
-/// Writes the bytes of a few characters from `start` on, and answers where they end: quickly where all fonts are roman.
+// Writes the bytes of characters one by one from `start` on, and answers where they end.
 #[inline(always)]
-pub(crate) fn write_part(bytes: &mut [u8], start: usize, text: &[u8], fonts: &[Font]) -> usize
+fn write_each(bytes: &mut [u8], start: usize, text: &[u8], fonts: &[Font]) -> usize
+    requires ascii { AreAscii text.now fonts.now false }
+    requires room { start + 5 * length text.now ≤ length bytes.old }
+    ensures front { take result bytes.new ≡ take start bytes.old ++ flat_map cell_bytes_of (cells_in text.now fonts.now) }
+    ensures end { result ≤ start + 5 * length text.now }
+{
+    let mut end = start;
+    for i in 0..text.len() {
+        end = write_ascii(bytes, end, text[i], fonts[i]);
+    }
+    end
+}
+
+// Writes the bytes of a part from `start` on, and answers where they end: quickly where all fonts are roman.
+#[inline(always)]
+fn write_part(bytes: &mut [u8], start: usize, text: &[u8], fonts: &[Font]) -> usize
     requires ascii { AreAscii text.now fonts.now false }
     requires room { start + 5 * length text.now ≤ length bytes.old }
     ensures front { take result bytes.new ≡ take start bytes.old ++ flat_map cell_bytes_of (cells_in text.now fonts.now) }
@@ -45,14 +63,27 @@ pub(crate) fn write_part(bytes: &mut [u8], start: usize, text: &[u8], fonts: &[F
     if are_roman(fonts) {
         return write_roman(bytes, start, text);
     }
-    let mut end = start;
-    for i in 0..text.len() {
-        end = write_ascii(bytes, end, text[i], fonts[i]);
-    }
-    end
+    write_each(bytes, start, text, fonts)
 }
 
-/// Writes the bytes of a group of characters from `start` on, and answers where they end: quickly where all fonts are roman, or those of a half.
+/// Writes the bytes of characters part by part from `start` on, and answers where they end: the letters of a word in a font come together.
+#[inline(always)]
+pub(crate) fn write_parts(bytes: &mut [u8], start: usize, text: &[u8], fonts: &[Font]) -> usize
+    requires ascii { AreAscii text.now fonts.now false }
+    requires room { start + 5 * length text.now ≤ length bytes.old }
+    ensures front { take result bytes.new ≡ take start bytes.old ++ flat_map cell_bytes_of (cells_in text.now fonts.now) }
+    ensures end { result ≤ start + 5 * length text.now }
+{
+    let mut end = start;
+    let mut i = 0;
+    while text.len() - i >= PART {
+        end = write_part(bytes, end, &text[i..i + PART], &fonts[i..i + PART]);
+        i += PART;
+    }
+    write_each(bytes, end, &text[i..], &fonts[i..])
+}
+
+/// Writes the bytes of a group of characters from `start` on, and answers where they end: quickly where all fonts are roman.
 #[inline(always)]
 pub(crate) fn write_text(bytes: &mut [u8], start: usize, text: &[u8], fonts: &[Font]) -> usize
     requires ascii { AreAscii text.now fonts.now false }
@@ -63,9 +94,7 @@ pub(crate) fn write_text(bytes: &mut [u8], start: usize, text: &[u8], fonts: &[F
     if are_roman(fonts) {
         return write_roman(bytes, start, text);
     }
-    let half = text.len() / 2;
-    let middle = write_part(bytes, start, &text[..half], &fonts[..half]);
-    write_part(bytes, middle, &text[half..], &fonts[half..])
+    write_parts(bytes, start, text, fonts)
 }
 
 // Whether a few characters are blanks. All of them are read.

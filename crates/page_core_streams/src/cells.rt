@@ -212,10 +212,7 @@ fn len_before_groups(cells: &[Cell]) -> usize
         return cells.len();
     }
     let mut len = cells.len();
-    while len >= BLANK_GROUP {
-        if !are_blank(&cells[len - BLANK_GROUP..len]) {
-            return len;
-        }
+    while len >= BLANK_GROUP && are_blank(&cells[len - BLANK_GROUP..len]) {
         len -= BLANK_GROUP;
     }
     len

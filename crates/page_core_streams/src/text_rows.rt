@@ -9,7 +9,7 @@ ghost use Rattle.page_core_streams.specs.Grows.{GrowsInto, GrowsUpTo, Writes};
 ghost use Rattle.page_core_streams.specs.Grows.{Adds, AddsInto, adds-sink, adds-whole};
 ghost use Rattle.page_core_streams.specs.RowBytes.{row_bytes, printed, cell_bytes_of};
 
-use crate::ascii_rows::{shown_len, write_part, write_text};
+use crate::ascii_rows::{shown_len, write_parts, write_text};
 use crate::cells::{without_blanks_at_end, write_group, write_mixed};
 use crate::targets::Target;
 use crate::writing::{BUFFER, put};
@@ -78,44 +78,7 @@ fn room_after<W: Target>(out: &mut W, bytes: &[u8], end: usize) -> Option<usize>
     if end <= WAITING {
         return Some(end);
     }
-    if put(out, &bytes[..end]) {
-        Some(0)
-    } else {
-        None
-    }
-}
-
-// Writes the bytes before a place, and then fewer cells than a group and a line feed.
-fn put_end<W: Target>(out: &mut W, bytes: &mut [u8; BUFFER], start: usize, cells: &[Cell]) -> bool
-    requires few { length cells.now < 8 }
-    requires room { start ≤ 384 }
-    ensures writes { Writes result (W.contents out.old) (W.contents out.new)
-        (take start bytes.old ++ (flat_map cell_bytes_of cells.now ++ 10 ∷ [])) }
-    ensures fails { FailsBy W.counts result (W.failures out.old) (W.failures out.new) }
-{
-    let end = write_group(bytes, start, cells);
-    bytes[end] = b'\n';
-    put(out, &bytes[..end + 1])
-}
-
-// Writes the bytes before a place, and then cells, a group of them after another, and a line feed.
-fn put_cells<W: Target>(out: &mut W, bytes: &mut [u8; BUFFER], start: usize, cells: &[Cell]) -> bool
-    requires { start ≤ 256 }
-    ensures writes { Writes result (W.contents out.old) (W.contents out.new)
-        (take start bytes.old ++ (flat_map cell_bytes_of cells.now ++ 10 ∷ [])) }
-    ensures fails { FailsBy W.counts result (W.failures out.old) (W.failures out.new) }
-{
-    let mut rest = cells;
-    let mut end = start;
-    while rest.len() >= GROUP {
-        let Some(room) = room_after(out, bytes, end) else {
-            return false;
-        };
-        let (group, later) = rest.split_at(GROUP);
-        end = write_mixed(bytes, room, group);
-        rest = later;
-    }
-    put_end(out, bytes, end, rest)
+    put(out, &bytes[..end]).then_some(0)
 }
 
 // Writes a margin, cells and a line feed, or the line feed alone where there is no cell; the bytes have room for what waits.
@@ -126,10 +89,21 @@ fn put_row<W: Target>(out: &mut W, bytes: &mut [u8; BUFFER], margin: u32, cells:
     if cells.is_empty() {
         return put(out, b"\n");
     }
-    let Some(start) = put_margin(out, bytes, margin) else {
+    let Some(mut end) = put_margin(out, bytes, margin) else {
         return false;
     };
-    put_cells(out, bytes, start, cells)
+    let mut rest = cells;
+    while rest.len() >= GROUP {
+        let Some(room) = room_after(out, bytes, end) else {
+            return false;
+        };
+        let (group, later) = rest.split_at(GROUP);
+        end = write_mixed(bytes, room, group);
+        rest = later;
+    }
+    end = write_group(bytes, end, rest);
+    bytes[end] = b'\n';
+    put(out, &bytes[..end + 1])
 }
 
 // Writes the same of characters, a group of them after another.
@@ -159,7 +133,7 @@ fn put_text<W: Target>(
         end = write_text(bytes, room, &text[i..next], &fonts[i..next]);
         i = next;
     }
-    end = write_part(bytes, end, &text[i..], &fonts[i..]);
+    end = write_parts(bytes, end, &text[i..], &fonts[i..]);
     bytes[end] = b'\n';
     put(out, &bytes[..end + 1])
 }

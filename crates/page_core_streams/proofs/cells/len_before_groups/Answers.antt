@@ -14,5 +14,5 @@ pub loop-len-preserved : goal.loop-len-preserved
 loop-len-preserved c =
     let l = c.loop-len in (
       omega (arith, l.invariant.0),
-      l.invariant.1 ∙ trimmed-group c.args.cells.now l.len 64 c.loop-len-test.true (sym c.are_blank.ensures.cells ∙ c.if-not-are_blank.false),
+      l.invariant.1 ∙ trimmed-group c.args.cells.now l.len 64 c.loop-len-test.true (sym c.are_blank.ensures.cells ∙ c.if-are_blank.true),
     )

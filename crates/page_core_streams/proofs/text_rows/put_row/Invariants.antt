@@ -1,12 +1,11 @@
 use Rattle.std.proofs.Common.{◌≡◌, ◌++◌, ◌≤◌, [], ◌∷◌, take, length}
 use Rattle.std.specs.List.{flat_map}
-use Rattle.page_core_streams.specs.RowBytes.{cell_bytes_of}
+use Rattle.page_core_streams.specs.RowBytes.{cell_bytes_of, printed}
 use Rattle.page_core_streams.specs.Grows.{GrowsUpTo}
-use Rattle.page_core_streams.proofs.text_rows.put_cells.Given as goal
+use Rattle.page_core_streams.proofs.text_rows.put_row.Given as goal
 
 abbrev pub invariant-loop-rest : goal.invariant-loop-rest
-invariant-loop-rest g l = (l.end ≤ 384) × GrowsUpTo (g.W.Target.contents l.fn.out) (g.W.Target.contents l.out)
-    (take l.fn.start l.fn.bytes ++ (flat_map cell_bytes_of l.cells ++ 10 ∷ []))
+invariant-loop-rest g l = (l.end ≤ 384) × GrowsUpTo (g.W.Target.contents l.fn.out) (g.W.Target.contents l.out) (printed l.margin l.cells)
     (take l.end l.bytes ++ (flat_map cell_bytes_of l.rest ++ 10 ∷ []))
     × (g.W.Target.failures l.out ≡ g.W.Target.failures l.fn.out)
 

@@ -1,0 +1,47 @@
+use Rattle.std.proofs.Common.{◌≡◌, ◌++◌, ◌+◌, ◌-◌, ◌∙◌, take, drop, sym, ap, append_assoc, arith}
+use Rattle.std.specs.List.{flat_map}
+use Rattle.std.proofs.lemmas.List.{take_rest}
+use Rattle.page_core_base.specs.Rows.{cells_in}
+use Rattle.page_core_streams.specs.RowBytes.{cell_bytes_of}
+use Rattle.page_core_streams.proofs.AsciiLemmas.{ascii-front, ascii-back, bytes-parts, bytes-next}
+use Rattle.page_core_streams.proofs.ascii_rows.write_parts.Goals as goal
+
+pub write_part-end-requires-clause-ascii : goal.write_part-end-requires-clause-ascii
+write_part-end-requires-clause-ascii c =
+    let i = c.loop-i.i in
+    let count : i + 4 - i ≡ 4 = omega arith in
+    rw count (ascii-front (drop i c.args.text.now) (drop i c.args.fonts.now) _ 4 (ascii-back c.args.text.now c.args.fonts.now _ i c.requires.ascii))
+
+pub loop-i-preserved : goal.loop-i-preserved
+loop-i-preserved c =
+    let l = c.loop-i in
+    let text = c.args.text.now in
+    let fonts = c.args.fonts.now in
+    let front = take c.args.start c.args.bytes.now in
+    let before = flat_map cell_bytes_of (cells_in (take l.i text) (take l.i fonts)) in
+    let part = flat_map cell_bytes_of (cells_in (take 4 (drop l.i text)) (take 4 (drop l.i fonts))) in
+    let count : l.i + 4 - l.i ≡ 4 = omega arith in
+    let e = c.write_part-end.ensures in
+    (
+      omega (arith, c.loop-i-test.true),
+      omega (arith, e.end, l.invariant.1),
+      (rw count at e.front) ∙ (ap (λ bytes. bytes ++ part) l.invariant.2 ∙ (append_assoc front before part
+          ∙ ap (λ bytes. front ++ bytes) (sym (bytes-next text fonts l.i 4)))),
+    )
+
+pub write_each-requires-clause-ascii : goal.write_each-requires-clause-ascii
+write_each-requires-clause-ascii c =
+    let i = c.loop-i.i in
+    rw (take_rest c.args.text.now i, take_rest c.args.fonts.now i) (ascii-back c.args.text.now c.args.fonts.now _ i c.requires.ascii)
+
+pub returns-clause-front : goal.returns-clause-front
+returns-clause-front c =
+    let l = c.loop-i in
+    let text = c.args.text.now in
+    let fonts = c.args.fonts.now in
+    let front = take c.args.start c.args.bytes.now in
+    let before = flat_map cell_bytes_of (cells_in (take l.i text) (take l.i fonts)) in
+    let rest = flat_map cell_bytes_of (cells_in (drop l.i text) (drop l.i fonts)) in
+    (rw (take_rest text l.i, take_rest fonts l.i) at c.write_each.ensures.front)
+    ∙ (ap (λ bytes. bytes ++ rest) l.invariant.2
+    ∙ (append_assoc front before rest ∙ ap (λ bytes. front ++ bytes) (sym (bytes-parts text fonts l.i))))

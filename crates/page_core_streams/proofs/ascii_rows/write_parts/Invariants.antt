@@ -1,0 +1,12 @@
+use Rattle.std.proofs.Common.{◌≡◌, ◌++◌, ◌+◌, ◌-◌, ◌*◌, ◌≤◌, length, take}
+use Rattle.std.specs.List.{flat_map}
+use Rattle.page_core_base.specs.Rows.{cells_in}
+use Rattle.page_core_streams.specs.RowBytes.{cell_bytes_of}
+use Rattle.page_core_streams.proofs.ascii_rows.write_parts.Given as goal
+
+abbrev pub invariant-loop-i : goal.invariant-loop-i
+invariant-loop-i l = (l.i ≤ length l.text) × (l.end ≤ l.fn.start + 5 * l.i)
+    × (take l.end l.bytes ≡ take l.fn.start l.fn.bytes ++ flat_map cell_bytes_of (cells_in (take l.i l.text) (take l.i l.fonts)))
+
+abbrev pub decreases-loop-i : goal.decreases-loop-i
+decreases-loop-i l = length l.text - l.i
