@@ -66,9 +66,9 @@ fn write_part(bytes: &mut [u8], start: usize, text: &[u8], fonts: &[Font]) -> us
     write_each(bytes, start, text, fonts)
 }
 
-/// Writes the bytes of characters part by part from `start` on, and answers where they end: the letters of a word in a font come together.
+// Writes the bytes of characters part by part from `start` on, and answers where they end: the letters of a word in a font come together.
 #[inline(always)]
-pub(crate) fn write_parts(bytes: &mut [u8], start: usize, text: &[u8], fonts: &[Font]) -> usize
+fn write_parts(bytes: &mut [u8], start: usize, text: &[u8], fonts: &[Font]) -> usize
     requires ascii { AreAscii text.now fonts.now false }
     requires room { start + 5 * length text.now ≤ length bytes.old }
     ensures front { take result bytes.new ≡ take start bytes.old ++ flat_map cell_bytes_of (cells_in text.now fonts.now) }

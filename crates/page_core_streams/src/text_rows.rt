@@ -9,7 +9,7 @@ ghost use Rattle.page_core_streams.specs.Grows.{GrowsInto, GrowsUpTo, Writes};
 ghost use Rattle.page_core_streams.specs.Grows.{Adds, AddsInto, adds-sink, adds-whole};
 ghost use Rattle.page_core_streams.specs.RowBytes.{row_bytes, printed, cell_bytes_of};
 
-use crate::ascii_rows::{shown_len, write_parts, write_text};
+use crate::ascii_rows::{shown_len, write_text};
 use crate::cells::{without_blanks_at_end, write_group, write_mixed};
 use crate::targets::Target;
 use crate::writing::{BUFFER, put};
@@ -133,7 +133,7 @@ fn put_text<W: Target>(
         end = write_text(bytes, room, &text[i..next], &fonts[i..next]);
         i = next;
     }
-    end = write_parts(bytes, end, &text[i..], &fonts[i..]);
+    end = write_text(bytes, end, &text[i..], &fonts[i..]);
     bytes[end] = b'\n';
     put(out, &bytes[..end + 1])
 }

@@ -54,8 +54,8 @@ loop-i-preserved g c =
       c.in-Some-room_after.ensures.fails ∙ l.invariant.3,
     )
 
-pub write_parts-end-requires-clause-ascii : goal.write_parts-end-requires-clause-ascii
-write_parts-end-requires-clause-ascii g c =
+pub write_text-end-requires-2-clause-ascii : goal.write_text-end-requires-2-clause-ascii
+write_text-end-requires-2-clause-ascii g c =
     let i = c.loop-i.i in
     rw (take_rest c.args.text.now i, take_rest c.args.fonts.now i) (ascii-back c.args.text.now c.args.fonts.now _ i c.requires)
 
@@ -66,9 +66,9 @@ returns-clause-writes g c =
     let fonts = c.args.fonts.now in
     let before = take l.end l.bytes in
     let rest = flat_map cell_bytes_of (cells_in (drop l.i text) (drop l.i fonts)) in
-    let bytes = c.write_parts-end.new.bytes in
-    let end = c.write_parts-end.result in
-    let front : take end bytes ≡ before ++ rest = rw (take_rest text l.i, take_rest fonts l.i) at c.write_parts-end.ensures.front in
+    let bytes = c.write_text-end-2.new.bytes in
+    let end = c.write_text-end-2.result in
+    let front : take end bytes ≡ before ++ rest = rw (take_rest text l.i, take_rest fonts l.i) at c.write_text-end-2.ensures.front in
     let line : take (end + 1) (set bytes end 10) ≡ take end bytes ++ 10 ∷ [] = take_more_set bytes end 10 (omega arith) in
     let all = sym (line ∙ (ap (λ front. front ++ 10 ∷ []) front ∙ append_assoc before rest (10 ∷ []))) in
     GrowsUpTo-last _ (take (end + 1) (set bytes end 10)) _ l.invariant.2 all c.put-2.ensures.writes
