@@ -83,7 +83,7 @@ fn write_parts(bytes: &mut [u8], start: usize, text: &[u8], fonts: &[Font]) -> u
     write_each(bytes, end, &text[i..], &fonts[i..])
 }
 
-/// Writes the bytes of a group of characters from `start` on, and answers where they end: quickly where all fonts are roman.
+/// Writes the bytes of a group of characters, or of fewer, from `start` on, and answers where they end: quickly where all fonts are roman.
 #[inline(always)]
 pub(crate) fn write_text(bytes: &mut [u8], start: usize, text: &[u8], fonts: &[Font]) -> usize
     requires ascii { AreAscii text.now fonts.now false }

@@ -106,7 +106,7 @@ fn put_row<W: Target>(out: &mut W, bytes: &mut [u8; BUFFER], margin: u32, cells:
     put(out, &bytes[..end + 1])
 }
 
-// Writes the same of characters, a group of them after another.
+// Writes a row of characters of ASCII in the same way.
 fn put_text<W: Target>(
     out: &mut W,
     bytes: &mut [u8; BUFFER],

@@ -21,8 +21,7 @@ loop-i-preserved c =
     let before = flat_map cell_bytes_of (cells_in (take l.i text) (take l.i fonts)) in
     let part = flat_map cell_bytes_of (cells_in (take 4 (drop l.i text)) (take 4 (drop l.i fonts))) in
     let count : l.i + 4 - l.i ≡ 4 = omega arith in
-    let e = c.write_part-end.ensures in
-    (
+    let e = c.write_part-end.ensures in (
       omega (arith, c.loop-i-test.true),
       omega (arith, e.end, l.invariant.1),
       (rw count at e.front) ∙ (ap (λ bytes. bytes ++ part) l.invariant.2 ∙ (append_assoc front before part

@@ -34,8 +34,7 @@ loop-rest-preserved g c =
     let room = c.in-Some-room_after.room in
     let rest = flat_map cell_bytes_of l.rest.now ++ 10 ∷ [] in
     let f = GrowsUpTo-flow _ (take l.end l.bytes) (take room l.bytes) rest l.invariant.1 refl c.in-Some-room_after.ensures.writes.1 in
-    let e = cells_moved (take room l.bytes) l.rest.now 8 in
-    (
+    let e = cells_moved (take room l.bytes) l.rest.now 8 in (
       search rules,
       rw (c.split_at.ensures.back, c.write_mixed-end.ensures.front, c.split_at.ensures.front) (rw e at f),
       c.in-Some-room_after.ensures.fails ∙ l.invariant.2,
