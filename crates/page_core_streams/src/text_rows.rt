@@ -5,14 +5,13 @@ ghost use Rattle.std.specs.Borrow.{GName};
 ghost use Rattle.std.specs.List.{flat_map};
 ghost use Rattle.page_core_base.specs.Rows.{AreAscii, cells_in};
 ghost use Rattle.page_core_streams.specs.Failures.{FailsBy, StopsBy, count_of};
-ghost use Rattle.page_core_streams.specs.Grows.{GrowsInto, GrowsUpTo, Writes};
-ghost use Rattle.page_core_streams.specs.Grows.{Adds, AddsInto, adds-sink, adds-whole};
+ghost use Rattle.page_core_streams.specs.Grows.{Adds, AddsInto, GrowsInto, GrowsUpTo, Writes, adds-sink, adds-whole};
 ghost use Rattle.page_core_streams.specs.RowBytes.{row_bytes, printed, cell_bytes_of};
 
 use crate::ascii_rows::{shown_len, write_text};
 use crate::cells::{without_blanks_at_end, write_group, write_mixed};
 use crate::targets::Target;
-use crate::writing::{BUFFER, put};
+use crate::writing::put;
 use page_core_base::{Cell, Fault, Font, RowSink};
 
 // The bytes of a row that may wait before more of its cells come.
@@ -21,8 +20,9 @@ const WAITING: usize = 256;
 // The cells of a row that are written at a time: a number that the compiler knows, so that it needs no loop over them.
 const GROUP: usize = 8;
 
-// The same of characters of ASCII.
-const TEXT_GROUP: usize = 16;
+// The same of characters of ASCII. There is room for the bytes that wait, for those of a group, and for a row's end.
+const TEXT_GROUP: usize = 32;
+const ROW_BYTES: usize = 640;
 
 /// Writes rows as bytes (mandoc(1), "ASCII Output").
 #[derive(Drop)]
@@ -30,7 +30,7 @@ pub struct TextRows<'a, W> {
     out: &'a mut W,
     failures: u64,
     // The bytes of a row that wait; what they are between two rows means nothing.
-    bytes: [u8; BUFFER],
+    bytes: [u8; ROW_BYTES],
 }
 
 impl<'a, W: Target> TextRows<'a, W> {
@@ -43,13 +43,13 @@ impl<'a, W: Target> TextRows<'a, W> {
         TextRows {
             out,
             failures: 0,
-            bytes: [b' '; BUFFER],
+            bytes: [b' '; ROW_BYTES],
         }
     }
 }
 
 // Writes a margin in blanks, but for a few that wait in the bytes, and answers where the next one goes.
-fn put_margin<W: Target>(out: &mut W, bytes: &mut [u8; BUFFER], margin: u32) -> Option<usize>
+fn put_margin<W: Target>(out: &mut W, bytes: &mut [u8; ROW_BYTES], margin: u32) -> Option<usize>
     ensures writes { MatchOption result
         (GrowsInto (W.contents out.old) (W.contents out.new) (replicate margin 32))
         (λ at. (at ≤ 256) × GrowsUpTo (W.contents out.old) (W.contents out.new) (replicate margin 32) (take at bytes.new)) }
@@ -82,7 +82,7 @@ fn room_after<W: Target>(out: &mut W, bytes: &[u8], end: usize) -> Option<usize>
 }
 
 // Writes a margin, cells and a line feed, or the line feed alone where there is no cell; the bytes have room for what waits.
-fn put_row<W: Target>(out: &mut W, bytes: &mut [u8; BUFFER], margin: u32, cells: &[Cell]) -> bool
+fn put_row<W: Target>(out: &mut W, bytes: &mut [u8; ROW_BYTES], margin: u32, cells: &[Cell]) -> bool
     ensures writes { Writes result (W.contents out.old) (W.contents out.new) (printed margin cells.now) }
     ensures fails { FailsBy W.counts result (W.failures out.old) (W.failures out.new) }
 {
@@ -109,7 +109,7 @@ fn put_row<W: Target>(out: &mut W, bytes: &mut [u8; BUFFER], margin: u32, cells:
 // Writes a row of characters of ASCII in the same way.
 fn put_text<W: Target>(
     out: &mut W,
-    bytes: &mut [u8; BUFFER],
+    bytes: &mut [u8; ROW_BYTES],
     margin: u32,
     text: &[u8],
     fonts: &[Font],

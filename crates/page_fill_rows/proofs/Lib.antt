@@ -5,7 +5,4 @@ pub mod WordStartLemmas
 pub mod GroupLemmas
 pub mod WrapLemmas
 pub mod PlainLaw
-pub mod BlankLemmas
-pub mod BlankRunLemmas
 pub mod PutBlankLemmas
-pub mod PlaceLemmas

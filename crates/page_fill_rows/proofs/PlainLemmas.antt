@@ -1,8 +1,8 @@
 -- A plain text that the open row has room for.
-use Rattle.std.proofs.Common.{◌≡◌, ℕ, ◌+◌, ◌<◌, ◌≤◌, zero, suc, true, false, ◌==◌, List, [], ◌∷◌, ◌++◌, length, replicate, min, take, drop, set, get_or, append_assoc, append-nil, length-append, ◌&&◌, ◌||◌, length-drop, ◌-◌, nat_lt, ◌<◌, refl, ap, sym, ◌∙◌, arith}
+use Rattle.std.proofs.Common.{◌≡◌, ℕ, ◌+◌, ◌<◌, ◌≤◌, zero, suc, true, false, ◌==◌, List, [], ◌∷◌, ◌++◌, length, replicate, min, take, drop, append_assoc, append-nil, length-append, ◌&&◌, ◌||◌, nat_lt, ◌<◌, refl, ap, sym, ◌∙◌, arith}
 use Rattle.std.proofs.lemmas.Bool.Decides.{nat_tests}
 use Rattle.std.proofs.lemmas.List.Folds.{list_all-append}
-use Rattle.std.proofs.lemmas.List.{take-append-drop, length-map, length-replicate, length-take-le, get_or-append_right, get_or-drop, take_more, drop_more, set_at}
+use Rattle.std.proofs.lemmas.List.{take-append-drop, length-map, length-replicate}
 use Rattle.std.proofs.lemmas.List.Sums.{sum_by-append}
 use Rattle.unicode_width.specs.Width.{char_width}
 use Rattle.page_core_base.specs.declared.cells.Cell.{Cell}
@@ -20,18 +20,8 @@ use Rattle.page_core_base.specs.declared.page_settings.Output.{Output}
 use Rattle.std.proofs.lemmas.Str.{chars-IsAscii, IsUtf8-from_ascii}
 use Rattle.std.proofs.lemmas.Str.Ascii.{IsAscii-nil, IsAscii-cons}
 use Rattle.std.specs.Str.{IsAscii}
+pub use Rattle.page_fill_cells.proofs.PrintableLemmas.{columns-plain, first-plain, plain-columns, rest-plain}
 use Rattle.page_fill_rows.specs.machine.Plain.{is_printable, is_printable_ascii, has_room, taken, has_word_room, spaced_by}
-
--- a plain byte has a column
-pub plain-columns : (font : Font) (b : ℕ) → is_printable b ≡ true → cell_columns (cell_of font b) ≡ 1
-unfolding char_width
-plain-columns font b h = grind (arith, nat_tests)
-
-pub first-plain : (b : ℕ) (bytes : List ℕ) → is_printable_ascii (b ∷ bytes) ≡ true → is_printable b ≡ true
-first-plain b bytes h = grind (arith, h)
-
-pub rest-plain : (b : ℕ) (bytes : List ℕ) → is_printable_ascii (b ∷ bytes) ≡ true → is_printable_ascii bytes ≡ true
-rest-plain b bytes h = grind (arith, h)
 
 -- both parts of a plain text are plain
 pub parts-plain : (n : ℕ) (bytes : List ℕ) → is_printable_ascii bytes ≡ true → (is_printable_ascii (take n bytes) ≡ true) × (is_printable_ascii (drop n bytes) ≡ true)
@@ -109,16 +99,6 @@ pub letters-fits : (s : Sheet) (bytes : List ℕ) (font : Font) (place : Place) 
     → letters s (cells_of font bytes) place ≡ nothing (taken s (cells_of font bytes))
 letters-fits s [] font place some plain room = absurd (grind (arith, some))
 letters-fits s (b ∷ bytes) font place some plain room = letters-fit s b bytes font place plain room
-
--- ---- its columns
-
-pub columns-plain : (font : Font) (bytes : List ℕ) → is_printable_ascii bytes ≡ true → columns (cells_of font bytes) ≡ length bytes
-columns-plain font [] plain = refl
-columns-plain font (b ∷ bytes) plain =
-    let one : cell_columns (cell_of font b) ≡ 1 = plain-columns font b (first-plain b bytes plain) in
-    let others : columns (cells_of font bytes) ≡ length bytes = columns-plain font bytes (rest-plain b bytes plain) in
-    let last : columns (cell_of font b ∷ []) ≡ 1 = omega (arith, one) in
-    sum_by-append cell_columns (cell_of font b ∷ []) (cells_of font bytes) ∙ omega (arith, last, others)
 
 -- a sound row with the cells of a plain text is sound
 pub sound-more : {blanks : ℕ} (cells : List Cell) (bytes : List ℕ) (font : Font) (count gap word tag tag-now : ℕ) → IsSound cells count gap word tag blanks
@@ -260,19 +240,3 @@ spaced-room s blanks n room =
     rw (sum, len) (grind (arith, nat_tests, room))
 
 -- ---- a word that goes on in the next row
-
--- one more cell came to the front
-pub moved-more : (old now : List Cell) (start i : ℕ) (d : Cell) → start + i < length old → now ≡ take i (drop start old) ++ drop i old
-    → set now i (get_or now (start + i) d) ≡ take (i + 1) (drop start old) ++ drop (i + 1) old
-moved-more old now start i d within is =
-    let dropped = length-drop start old in
-    let room : i < length (drop start old) = omega (arith, dropped) in
-    let len : length (take i (drop start old)) ≡ i = length-take-le i (drop start old) (omega arith) in
-    let from : get_or now (start + i) d ≡ get_or old (start + i) d =
-    rw is (get_or-append_right (take i (drop start old)) (drop i old) i (start + i) d len (omega arith) ∙ (get_or-drop i old (start + i - i) d ∙ ap (λ k. get_or old k d) (omega arith))) in
-    let front : take (i + 1) (drop start old) ≡ take i (drop start old) ++ get_or old (start + i) d ∷ [] =
-    take_more (drop start old) i d room ∙ ap (λ x. take i (drop start old) ++ x ∷ []) (get_or-drop start old i d) in
-    let back : drop i old ≡ get_or old i d ∷ drop (i + 1) old = drop_more old i d (omega arith) in
-    rw (from, front, append_assoc (take i (drop start old)) (get_or old (start + i) d ∷ []) (drop (i + 1) old))
-    (ap (λ l. set l i (get_or old (start + i) d)) (is ∙ ap (λ l. take i (drop start old) ++ l) back)
-    ∙ set_at (take i (drop start old)) (get_or old i d) (drop (i + 1) old) (get_or old (start + i) d) i len)

@@ -1,16 +1,20 @@
 -- Blanks of a row's last word, those together that the row has room for.
-use Rattle.std.proofs.Common.{◌≡◌, ℕ, ◌+◌, ◌-◌, ◌<◌, ◌≤◌, true, false, ◌==◌, replicate, ap, sym, ◌∙◌, arith}
+use Rattle.std.proofs.Common.{◌≡◌, ℕ, ◌+◌, ◌-◌, ◌<◌, ◌≤◌, true, false, ◌==◌, List, ◌++◌, length, replicate, ap, sym, ◌∙◌, arith}
 use Rattle.std.proofs.lemmas.Bool.Decides.{nat_tests}
 use Rattle.std.proofs.lemmas.List.{length-replicate, replicate-append-replicate}
+use Rattle.page_core_base.specs.declared.cells.Cell.{Cell}
 use Rattle.page_core_base.specs.declared.cells.Font.{Font}
+use Rattle.page_core_base.specs.declared.limits.TheConstants.{CELLS}
 use Rattle.page_core_base.specs.declared.places.Place.{Place}
 use Rattle.page_core_base.specs.Laid.{Laid, join, nothing}
 use Rattle.page_fill_rows.specs.Characters.{cell_of}
+use Rattle.page_fill_rows.specs.declared.TheConstants.{TAG_COLUMNS}
+use Rattle.page_fill_rows.specs.machine.Room.{IsSound}
 use Rattle.page_fill_rows.specs.machine.Plain.{has_room, room, taken}
 use Rattle.page_fill_rows.specs.machine.Sheets.{Sheet, letters}
-use Rattle.page_fill_rows.proofs.BlankRunLemmas.{blanks-plain, count-blank, count-cells}
+use Rattle.page_fill_cells.proofs.BlankRunLemmas.{blanks-plain, count-blank, count-cells}
 use Rattle.page_fill_rows.proofs.CharacterLemmas.{letters-append}
-use Rattle.page_fill_rows.proofs.PlainLemmas.{letters-fits}
+use Rattle.page_fill_rows.proofs.PlainLemmas.{letters-fits, sound-more}
 
 room-part : (s : Sheet) (n : ℕ) → 0 < n → n ≤ room s → has_room s n ≡ true
 room-part s n some within = grind (arith, nat_tests, some, within)
@@ -36,3 +40,12 @@ blanks-parted s n part font place some less within =
     ap (λ cells. letters s cells place) (sym parts)
     ∙ (letters-append s (replicate part cell) (replicate (n - part) cell) place
     ∙ ap others (blanks-fit s part font place some within))
+
+-- a sound row with blanks is sound
+pub sound-blanks : {blanks : ℕ} (cells : List Cell) (n : ℕ) (font : Font) (count gap word tag tag-now : ℕ) → IsSound cells count gap word tag blanks
+    → length cells + n ≤ CELLS → tag-now ≤ TAG_COLUMNS → IsSound (cells ++ replicate n (cell_of font 32)) (count + n) gap word tag-now blanks
+sound-blanks cells n font count gap word tag tag-now sound room tagged =
+    let len = length-replicate {A = ℕ} n 32 in
+    let plain = blanks-plain (replicate n 32) (count-blank n) in
+    let more = sound-more cells (replicate n 32) font count gap word tag tag-now sound plain (omega (arith, len, room)) tagged in
+    rw (count-cells font n, len) at more

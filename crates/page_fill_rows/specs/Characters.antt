@@ -1,7 +1,6 @@
 -- What a character and a glyph print, as cells of the open row. Source: mandoc_char(7); mandoc(1), -T ascii and -T utf8.
-use Rattle.std.specs.Prelude.{ℕ, List, [], ◌∷◌, ◌++◌, map, Option, None, Some, if◌then◌else◌}
+use Rattle.std.specs.Prelude.{ℕ, List, [], ◌∷◌, ◌++◌, Option, None, Some, if◌then◌else◌}
 use Rattle.std.specs.Str.{chars, is_utf8}
-use Rattle.page_core_base.specs.declared.cells.Cell.{Cell}
 use Rattle.page_core_base.specs.declared.cells.Font.{Font}
 use Rattle.page_core_base.specs.declared.note_kinds.NoteKind.TheVariants.{NoGlyph}
 use Rattle.page_core_base.specs.declared.page_settings.Output.{Output}
@@ -9,17 +8,12 @@ use Rattle.page_core_base.specs.declared.places.Place.{Place}
 use Rattle.page_core_base.specs.Messages.{Message, message_about}
 use Rattle.page_core_base.specs.Laid.{Laid, nothing, seq}
 use Rattle.page_core_tables.specs.Printed.{Printing, char_printed, glyph_printed}
+pub use Rattle.page_fill_cells.specs.Cells.{cell_of, cells_of}
 use Rattle.page_fill_rows.specs.machine.Sheets.{Sheet, letters}
 
 -- messages come before what is laid
 abbrev pub with_notes : {E : Type 0} → List Message → Laid E → Laid E
 with_notes notes l = record { rows = l.rows; notes = notes ++ l.notes; edge = l.edge }
-
-abbrev pub cell_of : Font → ℕ → Cell
-cell_of font c = record { c = c; font = font }
-
-abbrev pub cells_of : Font → List ℕ → List Cell
-cells_of font cs = map (cell_of font) cs
 
 -- the characters of a text; bytes that are not UTF-8 have none
 unfoldable pub characters_of : List ℕ → List ℕ

@@ -1,15 +1,14 @@
 -- The open row, and what is known of the rows above it. Source: roff(7), "Filling and adjusting"; mandoc(1), "ASCII Output".
-use Rattle.std.specs.Prelude.{ℕ, ◌+◌, ◌≤◌, Bool, false, min, List, [], length, sum_by}
+use Rattle.std.specs.Prelude.{ℕ, ◌+◌, ◌≤◌, Bool, false, min, List, [], length}
 use Rattle.page_core_base.specs.declared.cells.Cell.{Cell}
-use Rattle.page_core_base.specs.declared.cells.Font.TheVariants.{R}
 use Rattle.page_core_base.specs.declared.note_kinds.NoteKind.TheVariants.{Limit}
 use Rattle.page_core_base.specs.declared.places.Place.{Place}
 use Rattle.page_core_base.specs.Messages.{Message, message_about}
 use Rattle.page_core_base.specs.Laid.{Laid}
-use Rattle.page_core_tables.specs.Printed.{char_columns}
 use Rattle.page_core_base.specs.Limits.{name_of}
 use Rattle.page_core_base.specs.Limits.{CELLS}
 use Rattle.page_core_base.specs.declared.limits.Limit.TheVariants.{Cells}
+pub use Rattle.page_fill_cells.specs.Cells.{blank, cell_columns, columns}
 
 -- the columns up to which those of a tag are counted: no hang is as great, so more of them make no difference
 abbrev pub TAG_COLUMNS : ℕ
@@ -18,17 +17,6 @@ TAG_COLUMNS = 1002
 -- the count up to which blank rows are counted: no macro asks for more, so more of them make no difference
 abbrev pub BLANK_ROWS : ℕ
 BLANK_ROWS = 100
-
--- the columns of a cell, and of cells
-abbrev pub cell_columns : Cell → ℕ
-cell_columns cell = char_columns cell.c
-
-abbrev pub columns : List Cell → ℕ
-columns cells = sum_by cell_columns cells
-
--- the cell of a blank
-abbrev pub blank : Cell
-blank = record { c = 32; font = R }
 
 -- The open row, and what is known of the rows above it.
 pub record Sheet : Type 0 where

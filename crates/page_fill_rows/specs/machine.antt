@@ -1,6 +1,4 @@
 -- The code's own steps and fast ways. Trust needs no reading of them.
-pub mod BlankRuns
-pub mod Places
 pub mod Plain
 pub mod Room
 pub mod Sheets

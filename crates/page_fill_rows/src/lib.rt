@@ -13,15 +13,9 @@
 ghost use Rattle.std.specs.Prelude.{◌≡◌};
 ghost use Rattle.page_fill_rows.specs.OpenRows as rows;
 
-mod ascii_places;
-mod blank_runs;
-mod cell_places;
-mod cell_widths;
 mod laws;
 mod open_rows;
-mod places;
 mod plain_texts;
-mod row_cells;
 
 /// The columns up to which those of a tag are counted. The greatest hang is 1,000 columns, so more of them make no difference.
 pub const TAG_COLUMNS: u32 = 1002;
@@ -34,8 +28,7 @@ pub fn constants_law()
     ensures { (TAG_COLUMNS ≡ rows.TAG_COLUMNS) × (BLANK_ROWS ≡ rows.BLANK_ROWS) }
 {}
 
-pub use blank_runs::is_long_run;
-pub use cell_widths::columns;
 pub use laws::plain_law;
 pub use open_rows::OpenRow;
-pub use plain_texts::{is_printable_ascii, printable_len, put_bytes, put_plain, word_start};
+pub use page_fill_cells::{columns, is_long_run, is_printable_ascii};
+pub use plain_texts::{printable_len, put_bytes, put_plain, word_start};

@@ -7,15 +7,14 @@ ghost use Rattle.page_core_base.specs.Messages.{message_of};
 ghost use Rattle.page_core_base.specs.Rows.{row_of};
 ghost use Rattle.page_fill_rows.specs.Characters as shown;
 ghost use Rattle.page_fill_rows.specs.OpenRows.{IsHeld};
-ghost use Rattle.page_fill_rows.specs.machine.BlankRuns.{is_blank_byte};
+ghost use Rattle.page_fill_cells.specs.machine.BlankRuns.{is_blank_byte};
 ghost use Rattle.page_fill_rows.specs.machine.Plain as plain;
 ghost use Rattle.page_fill_rows.specs.machine.Sheets as sheet;
 
-use crate::cell_widths::{BLANK, cell_columns};
-use crate::row_cells::RowCells;
 use crate::{BLANK_ROWS, TAG_COLUMNS};
 use arrayvec::ArrayString;
 use page_core_base::{CELLS, Cell, Font, Limit, Note, NoteKind, Place, RowOut};
+use page_fill_cells::{BLANK, RowCells, cell_columns};
 use std::alloc::{AllocError, Global};
 use std::marker::Model;
 

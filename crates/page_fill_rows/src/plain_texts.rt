@@ -9,6 +9,7 @@ ghost use Rattle.page_fill_rows.specs.machine.Sheets as sheet;
 
 use crate::open_rows::OpenRow;
 use page_core_base::{Cell, Font, Place, RowOut};
+use page_fill_cells::is_printable_ascii;
 use std::simd::prelude::*;
 
 // The characters of a plain text that are put together, be there room for them or not.
@@ -16,48 +17,6 @@ const PART: usize = 64;
 
 // The bytes that are searched for a blank at a time.
 const LANES: usize = 16;
-
-// Whether bytes are printable ASCII. All of them are read, so that the compiler can test many at once.
-#[inline(always)]
-fn are_printable(bytes: &[u8]) -> bool
-    ensures { result ≡ plain.is_printable_ascii bytes.now }
-{
-    let mut all = true;
-    for byte in bytes {
-        all &= b' ' <= *byte && *byte <= b'~';
-    }
-    all
-}
-
-// The same, in groups of one size, for which the compiler needs no loop. The last group may overlap the one before.
-#[inline(always)]
-fn groups_printable<const GROUP: usize>(bytes: &[u8]) -> bool
-    requires some { 0 < GROUP }
-    requires long { GROUP ≤ length bytes.now }
-    ensures { result ≡ plain.is_printable_ascii bytes.now }
-{
-    let last = bytes.len() - GROUP;
-    let mut at = 0;
-    while at < last {
-        if !are_printable(&bytes[at..at + GROUP]) {
-            return false;
-        }
-        at += GROUP;
-    }
-    are_printable(&bytes[last..])
-}
-
-/// Whether bytes are printable ASCII, of a column each: in the largest groups that have room in the text.
-#[inline(always)]
-pub fn is_printable_ascii(bytes: &[u8]) -> bool
-    ensures { result ≡ plain.is_printable_ascii bytes.now }
-{
-    match bytes.len() {
-        0..8 => are_printable(bytes),
-        8..16 => groups_printable::<8>(bytes),
-        _ => groups_printable::<16>(bytes),
-    }
-}
 
 /// How many bytes at the front of a text are printable ASCII.
 pub fn printable_len(bytes: &[u8]) -> usize

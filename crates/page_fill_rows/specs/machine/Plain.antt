@@ -2,22 +2,15 @@
 -- (`take_words` of page_fill). They are bytes of printable ASCII, each a cell of one column, so that an open row with room for them takes them as
 -- a whole.
 use Rattle.std.specs.Prelude.{ℕ, ◌+◌, Bool, true, not, ◌&&◌, ◌||◌, ◌==◌, ◌-◌, nat_le, nat_lt, min, List, [], ◌∷◌, ◌++◌, length, drop, replicate, if◌then◌else◌}
-use Rattle.std.specs.List.{list_all}
 use Rattle.page_core_base.specs.declared.cells.Cell.{Cell}
 use Rattle.page_core_base.specs.declared.cells.Font.TheVariants.{R}
 use Rattle.page_core_base.specs.Laid.{Laid}
 use Rattle.page_core_base.specs.Words.{last_start, parts_of}
+pub use Rattle.page_fill_cells.specs.Cells.{is_printable, is_printable_ascii}
 use Rattle.page_fill_rows.specs.Characters.{cells_of}
 use Rattle.page_fill_rows.specs.machine.Sheets.{Sheet, begins, columns, blank, counted, emptied, gives, opens, over, passes}
 use Rattle.page_core_base.specs.Limits.{CELLS}
 use Rattle.page_fill_rows.specs.OpenRows.{TAG_COLUMNS}
-
--- a byte from ' ' to '~'
-abbrev pub is_printable : ℕ → Bool
-is_printable b = nat_le 32 b && nat_le b 126
-
-abbrev pub is_printable_ascii : List ℕ → Bool
-is_printable_ascii bytes = list_all is_printable bytes
 
 -- neither the width nor the row's end comes before the end of this count of cells of a column each
 abbrev pub has_room : Sheet → ℕ → Bool

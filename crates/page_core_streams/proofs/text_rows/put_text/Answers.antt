@@ -34,8 +34,8 @@ returns-in_default-room_after-clause-writes g c =
 pub write_text-end-requires-clause-ascii : goal.write_text-end-requires-clause-ascii
 write_text-end-requires-clause-ascii g c =
     let i = c.loop-i.i in
-    let count : i + 16 - i ≡ 16 = omega arith in
-    rw count (ascii-front (drop i c.args.text.now) (drop i c.args.fonts.now) _ 16 (ascii-back c.args.text.now c.args.fonts.now _ i c.requires))
+    let count : i + 32 - i ≡ 32 = omega arith in
+    rw count (ascii-front (drop i c.args.text.now) (drop i c.args.fonts.now) _ 32 (ascii-back c.args.text.now c.args.fonts.now _ i c.requires))
 
 pub loop-i-preserved : goal.loop-i-preserved
 loop-i-preserved g c =
@@ -46,11 +46,11 @@ loop-i-preserved g c =
     let w = c.in-Some-room_after.ensures.writes in
     let rest = flat_map cell_bytes_of (cells_in (drop l.i text) (drop l.i fonts)) ++ 10 ∷ [] in
     let f = GrowsUpTo-flow _ (take l.end l.bytes) (take room l.bytes) rest l.invariant.2 refl w.1 in
-    let count : l.i + 16 - l.i ≡ 16 = omega arith in
+    let count : l.i + 32 - l.i ≡ 32 = omega arith in
     let written = c.write_text-end.ensures in (
       omega (arith, c.loop-i-test.true, l.invariant.0),
       omega (arith, written.end, w.0),
-      rw (written.front, count) (rw (text-moved (take room l.bytes) text fonts l.i 16) at f),
+      rw (written.front, count) (rw (text-moved (take room l.bytes) text fonts l.i 32) at f),
       c.in-Some-room_after.ensures.fails ∙ l.invariant.3,
     )
 

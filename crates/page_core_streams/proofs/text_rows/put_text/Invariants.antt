@@ -6,7 +6,7 @@ use Rattle.page_core_streams.specs.Grows.{GrowsUpTo}
 use Rattle.page_core_streams.proofs.text_rows.put_text.Given as goal
 
 abbrev pub invariant-loop-i : goal.invariant-loop-i
-invariant-loop-i g l = (l.i ≤ length l.text) × (l.end ≤ 336) × GrowsUpTo (g.W.Target.contents l.fn.out) (g.W.Target.contents l.out)
+invariant-loop-i g l = (l.i ≤ length l.text) × (l.end ≤ 416) × GrowsUpTo (g.W.Target.contents l.fn.out) (g.W.Target.contents l.out)
     (printed l.margin (cells_in l.text l.fonts))
     (take l.end l.bytes ++ (flat_map cell_bytes_of (cells_in (drop l.i l.text) (drop l.i l.fonts)) ++ 10 ∷ []))
     × (g.W.Target.failures l.out ≡ g.W.Target.failures l.fn.out)

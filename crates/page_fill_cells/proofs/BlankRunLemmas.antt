@@ -1,0 +1,165 @@
+-- Places of a row that are known to have blanks.
+use Rattle.std.proofs.Common.{◌≡◌, ℕ, zero, suc, ◌+◌, ◌-◌, ◌<◌, ◌≤◌, max, nat_lt, true, List, [], ◌∷◌, ◌++◌, length, take, get_or, replicate, set, append_assoc, append-nil, add-one, inl, inr, refl, sym, ap, ◌∙◌, arith}
+use Rattle.std.specs.List.{list_all}
+use Rattle.std.proofs.Math.Nat.{le-max_left, le-max_right}
+use Rattle.std.proofs.lemmas.Bool.{cases_Bool}
+use Rattle.std.proofs.lemmas.Bool.Decides.{nat_tests}
+use Rattle.std.proofs.lemmas.List.{get_or-take, get_or-append_right, get_or-replicate, get_or-set_other, length-take-le, replicate-append-replicate, take-take, take_more}
+use Rattle.page_core_base.specs.declared.cells.Cell.{Cell}
+use Rattle.page_core_base.specs.declared.cells.Font.{Font}
+use Rattle.page_core_base.specs.Rows.{is_blank_row, row_of}
+use Rattle.page_fill_cells.specs.Cells.{cell_of, cells_of}
+use Rattle.page_fill_cells.specs.machine.BlankRuns.{HasRun, is_blank_byte}
+use Rattle.page_fill_cells.specs.Cells.{is_printable_ascii}
+use Rattle.page_fill_cells.proofs.BlankLemmas.{blank-append, blanks-blank, part-blank}
+
+-- ---- bytes that are blanks
+
+first-blank : (b : ℕ) (bytes : List ℕ) → list_all is_blank_byte (b ∷ bytes) ≡ true → b ≡ 32
+first-blank b bytes all = grind (arith, nat_tests, all)
+
+rest-blanks : (b : ℕ) (bytes : List ℕ) → list_all is_blank_byte (b ∷ bytes) ≡ true → list_all is_blank_byte bytes ≡ true
+rest-blanks b bytes all = grind (arith, all)
+
+pub blanks-cells : (font : Font) (bytes : List ℕ) → list_all is_blank_byte bytes ≡ true → cells_of font bytes ≡ replicate (length bytes) (cell_of font 32)
+blanks-cells font [] all = refl
+blanks-cells font (b ∷ bytes) all =
+    ap (λ k. cell_of font k ∷ cells_of font bytes) (first-blank b bytes all)
+    ∙ ap (λ cells. cell_of font 32 ∷ cells) (blanks-cells font bytes (rest-blanks b bytes all))
+
+pub blanks-plain : (bytes : List ℕ) → list_all is_blank_byte bytes ≡ true → is_printable_ascii bytes ≡ true
+blanks-plain [] all = refl
+blanks-plain (b ∷ bytes) all = rw (first-blank b bytes all, blanks-plain bytes (rest-blanks b bytes all)) refl
+
+-- their cells, added to others
+pub blanks-added : (cells new : List Cell) (font : Font) (bytes : List ℕ) → list_all is_blank_byte bytes ≡ true
+    → new ≡ cells ++ replicate (length bytes) (cell_of font 32) → new ≡ cells ++ cells_of font bytes
+blanks-added cells new font bytes all added = added ∙ ap (λ more. cells ++ more) (sym (blanks-cells font bytes all))
+
+-- a count of blanks
+pub count-blank : (count : ℕ) → list_all is_blank_byte (replicate count 32) ≡ true
+count-blank zero = refl
+count-blank (suc count) = count-blank count
+
+pub count-cells : (font : Font) (count : ℕ) → cells_of font (replicate count 32) ≡ replicate count (cell_of font 32)
+count-cells font zero = refl
+count-cells font (suc count) = ap (λ cells. cell_of font 32 ∷ cells) (count-cells font count)
+
+-- ---- places
+
+one-more : (n : ℕ) (cell : Cell) → replicate n cell ++ cell ∷ [] ≡ replicate (suc n) cell
+one-more n cell = replicate-append-replicate n 1 cell ∙ ap (λ k. replicate k cell) (add-one n)
+
+-- places that have one cell each
+same-cells : (places : List Cell) (start n : ℕ) (cell : Cell) → ((k : ℕ) → start ≤ k → k < start + n → get_or places k cell ≡ cell)
+    → start + n ≤ length places → take (start + n) places ≡ take start places ++ replicate n cell
+same-cells places start zero cell all room =
+    let none : start + zero ≡ start = omega arith in
+    ap (λ k. take k places) none ∙ sym (append-nil (take start places))
+same-cells places start (suc n) cell all room =
+    let fewer = same-cells places start n cell (λ k h g. all k h (omega (arith, g))) (omega (arith, room)) in
+    let more : start + suc n ≡ (start + n) + 1 = omega arith in
+    let last : get_or places (start + n) cell ≡ cell = all (start + n) (omega arith) (omega arith) in
+    ap (λ k. take k places) more
+    ∙ (take_more places (start + n) cell (omega (arith, room))
+    ∙ (ap (λ c. take (start + n) places ++ c ∷ []) last
+    ∙ (ap (λ cells. cells ++ cell ∷ []) fewer
+    ∙ (append_assoc (take start places) (replicate n cell) (cell ∷ [])
+    ∙ ap (λ cells. take start places ++ cells) (one-more n cell)))))
+
+-- blanks that are there already
+pub run-cells : (places : List Cell) (first last start count : ℕ) (font : Font) → HasRun places first last font
+    → first ≤ start → start + count ≤ last → start + count ≤ length places
+    → take (start + count) places ≡ take start places ++ replicate count (cell_of font 32)
+run-cells places first last start count font run from to room =
+    same-cells places start count (cell_of font 32) (λ k h g. run.at k (omega (arith, h, from)) (omega (arith, g, to))) room
+
+-- ---- what is known after places were put
+
+-- places were put up to an end
+pub cut-run : (old new : List Cell) (first last end : ℕ) (font : Font) → HasRun old first last font
+    → ((k : ℕ) (d : Cell) → end ≤ k → get_or new k d ≡ get_or old k d) → HasRun new (max first end) last font
+cut-run old new first last end font run after = record {
+  at = λ k h g.
+      let from : first ≤ k = omega (arith, h, le-max_left first end) in
+      let past : end ≤ k = omega (arith, h, le-max_right first end) in
+      after k (cell_of font 32) past ∙ run.at k from g;
+}
+
+-- a blank was put in the first place, before others
+pub first-run : (places : List Cell) (first last : ℕ) (font : Font) (cell : Cell) → HasRun places first last font → first ≤ 1 → font ≡ cell.font → cell.c ≡ 32
+    → HasRun (set places 0 cell) 0 last font
+first-run [] first last font cell run from same is = record { at = λ k h g. refl }
+first-run (old ∷ places) first last font cell run from same is = record { at = λ k h g. place k g } where
+  place : (k : ℕ) → k < last → get_or (cell ∷ places) k (cell_of font 32) ≡ cell_of font 32
+  place zero g = ap (λ c. cell_of cell.font c) is ∙ ap (λ f. cell_of f 32) (sym same)
+  place (suc k) g = run.at (suc k) (omega (arith, from)) g
+
+-- another cell was
+pub other-first : (places : List Cell) (first last : ℕ) (font : Font) (cell : Cell) → HasRun places first last font → HasRun (set places 0 cell) (max first 1) last font
+other-first places first last font cell run = record {
+  at = λ k h g.
+      let from : first ≤ k = omega (arith, h, le-max_left first 1) in
+      let behind : 1 ≤ k = omega (arith, h, le-max_right first 1) in
+      get_or-set_other places 0 k cell (cell_of font 32) (λ is. omega (arith, behind, is)) ∙ run.at k from g;
+}
+
+-- blanks were put
+pub put-run : (old new : List Cell) (start count : ℕ) (font : Font) → take (start + count) new ≡ take start old ++ replicate count (cell_of font 32)
+    → start ≤ length old → HasRun new start (start + count) font
+put-run old new start count font put within = record {
+  at = λ k h g.
+      let cell = cell_of font 32 in
+      let behind : k - start < count = omega (arith, h, g) in
+      sym (get_or-take (start + count) new k cell g)
+      ∙ (ap (λ cells. get_or cells k cell) put
+      ∙ (get_or-append_right (take start old) (replicate count cell) start k cell (length-take-le start old within) h
+      ∙ get_or-replicate count (k - start) cell cell behind));
+}
+
+-- blanks were put behind others
+pub grown-run : (old new : List Cell) (first last start end : ℕ) (font : Font) → HasRun old first last font → start ≤ last
+    → take start new ≡ take start old → HasRun new start end font → HasRun new first end font
+grown-run old new first last start end font run within before put = record {
+  at = λ k h g. elim (cases_Bool (nat_lt k start)) [
+    | inl t ↦ kept k h (grind (arith, nat_tests, t))
+    | inr f ↦ put.at k (grind (arith, nat_tests, f)) g
+  ];
+} where
+  kept : (k : ℕ) → first ≤ k → k < start → get_or new k (cell_of font 32) ≡ cell_of font 32
+  kept k h g =
+      sym (get_or-take start new k (cell_of font 32) g)
+      ∙ (ap (λ cells. get_or cells k (cell_of font 32)) before
+      ∙ (get_or-take start old k (cell_of font 32) g ∙ run.at k h (omega (arith, g, within))))
+
+-- ---- a row of blanks
+
+pub blank-places : (places : List Cell) (last end : ℕ) (font : Font) → HasRun places 0 last font → end ≤ last → end ≤ length places
+    → is_blank_row (row_of 0 (take end places)) ≡ true
+blank-places places last end font run to room =
+    let none : 0 + end ≡ end = omega arith in
+    let cells = ap (λ k. take k places) (sym none) ∙ same-cells places 0 end (cell_of font 32) (λ k h g. run.at k h (omega (arith, g, to))) (omega (arith, room)) in
+    ap (λ row. is_blank_row (row_of 0 row)) cells ∙ blanks-blank end (cell_of font 32) refl
+
+-- the same of the first cells of a row
+pub blank-front : (places : List Cell) (first last len end : ℕ) (font : Font) → HasRun places first last font → first ≡ 0 → end ≤ last → end ≤ len → len ≤ length places
+    → is_blank_row (row_of 0 (take end (take len places))) ≡ true
+blank-front places first last len end font run begins to within room =
+    ap (λ cells. is_blank_row (row_of 0 cells)) (take-take end len places within)
+    ∙ blank-places places last end font (rw begins at run) to (omega (arith, within, room))
+
+-- some of the first places that are known to have blanks, as cells of the row
+pub known-front : (places : List Cell) (known len end : ℕ) → is_blank_row (row_of 0 (take known places)) ≡ true → end ≤ known → end ≤ len
+    → is_blank_row (row_of 0 (take end (take len places))) ≡ true
+known-front places known len end blank to within =
+    ap (λ cells. is_blank_row (row_of 0 cells)) (take-take end len places within ∙ sym (take-take end known places to)) ∙ part-blank (take known places) end blank
+
+-- blanks were put behind places that are known to have blanks
+pub grown-front : (old new : List Cell) (start count known : ℕ) (font : Font) → is_blank_row (row_of 0 (take known old)) ≡ true → start ≤ known
+    → take (start + count) new ≡ take start old ++ replicate count (cell_of font 32) → is_blank_row (row_of 0 (take (start + count) new)) ≡ true
+grown-front old new start count known font blank within put =
+    let cell = cell_of font 32 in
+    let front : is_blank_row (row_of 0 (take start old)) ≡ true =
+    ap (λ cells. is_blank_row (row_of 0 cells)) (sym (take-take start known old within)) ∙ part-blank (take known old) start blank in
+    let back : is_blank_row (row_of 0 (replicate count cell)) ≡ true = blanks-blank count cell refl in
+    ap (λ cells. is_blank_row (row_of 0 cells)) put ∙ (blank-append (take start old) (replicate count cell) ∙ rw (front, back) refl)

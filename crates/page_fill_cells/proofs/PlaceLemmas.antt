@@ -1,0 +1,271 @@
+-- Places of a row of which some are put anew, and characters with a font each.
+use Rattle.std.proofs.Common.{◌≡◌, ℕ, zero, suc, ◌+◌, ◌-◌, ◌<◌, ◌≤◌, ◌==◌, Bool, true, ◌&&◌, List, [], ◌∷◌, ◌++◌, length, take, drop, set, get_or, replicate, if◌then◌else◌, false, append_assoc, length-append, length-drop, refl, sym, ap, ◌∙◌, arith}
+use Rattle.std.specs.List.{list_all}
+use Rattle.std.proofs.lemmas.Bool.Decides.{nat_tests}
+use Rattle.std.proofs.lemmas.List.{drop-take, drop_more, get_or-append_right, get_or-drop, length-map, length-replicate, length-take-le, map-append, replicate-append-replicate, set_at, take-append-drop, take-append-le, take_at, take_more}
+use Rattle.std.proofs.lemmas.List.Folds.{list_all-append}
+use Rattle.std.proofs.lemmas.List.Sums.{sum_by-append}
+use Rattle.page_core_base.specs.declared.cells.Cell.{Cell}
+use Rattle.page_core_base.specs.declared.cells.Font.{Font}
+use Rattle.page_core_base.specs.declared.limits.TheConstants.{CELLS}
+use Rattle.page_core_base.specs.Rows.{cells_in, is_ascii, is_blank_row, row_of, trimmed}
+use Rattle.page_fill_cells.specs.Cells.{cell_of, cells_of}
+use Rattle.page_fill_cells.specs.machine.BlankRuns.{is_blank_byte}
+use Rattle.page_fill_cells.specs.machine.Places.{put_at}
+use Rattle.page_fill_cells.specs.Cells.{is_printable, is_printable_ascii}
+use Rattle.page_fill_cells.specs.Cells.{cell_columns, columns}
+use Rattle.page_fill_cells.proofs.BlankLemmas.{before-blank}
+use Rattle.page_fill_cells.proofs.PrintableLemmas.{first-plain, rest-plain, plain-columns}
+
+-- ---- places put anew
+
+pub put-none : {A : Type 0} (old : List A) (start : ℕ) → put_at old start [] ≡ old
+put-none old start =
+    let none : start + 0 ≡ start = omega arith in
+    ap (λ n. take start old ++ ([] ++ drop n old)) none ∙ take-append-drop start old
+
+-- one more
+pub put-more : {A : Type 0} (old added : List A) (start : ℕ) (y : A) → start + length added < length old
+    → set (put_at old start added) (start + length added) y ≡ put_at old start (added ++ y ∷ [])
+put-more old added start y room =
+    let at = start + length added in
+    let front = take start old ++ added in
+    let before : length (take start old) ≡ start = length-take-le start old (omega (arith, room)) in
+    let len : length front ≡ at = length-append (take start old) added ∙ ap (λ n. n + length added) before in
+    let more : start + length (added ++ y ∷ []) ≡ at + 1 = ap (λ n. start + n) (length-append added (y ∷ [])) ∙ omega arith in
+    ap (λ l. set l at y) (sym (append_assoc (take start old) added (drop at old)) ∙ ap (λ l. front ++ l) (drop_more old at y room))
+    ∙ (set_at front (get_or old at y) (drop (at + 1) old) y at len
+    ∙ (append_assoc (take start old) added (y ∷ drop (at + 1) old)
+    ∙ ap (λ l. take start old ++ l) (sym (append_assoc added (y ∷ []) (drop (at + 1) old)) ∙ ap (λ n. (added ++ y ∷ []) ++ drop n old) (sym more))))
+
+pub put-front : {A : Type 0} (old added : List A) (start : ℕ) → start ≤ length old → take (start + length added) (put_at old start added) ≡ take start old ++ added
+put-front old added start within =
+    let before : length (take start old) ≡ start = length-take-le start old within in
+    let len : length (take start old ++ added) ≡ start + length added = length-append (take start old) added ∙ ap (λ n. n + length added) before in
+    ap (take (start + length added)) (sym (append_assoc (take start old) added (drop (start + length added) old)))
+    ∙ take_at (take start old ++ added) (drop (start + length added) old) (start + length added) len
+
+pub put-before : {A : Type 0} (old added : List A) (start k : ℕ) → k ≤ start → start ≤ length old → take k (put_at old start added) ≡ take k old
+put-before old added start k to within =
+    let before : length (take start old) ≡ start = length-take-le start old within in
+    take-append-le k (take start old) (added ++ drop (start + length added) old) (omega (arith, before, to))
+    ∙ (sym (take-append-le k (take start old) (drop start old) (omega (arith, before, to))) ∙ ap (take k) (take-append-drop start old))
+
+pub put-after : {A : Type 0} (old added : List A) (start k : ℕ) (d : A) → start ≤ length old → start + length added ≤ k → get_or (put_at old start added) k d ≡ get_or old k d
+put-after old added start k d within from =
+    let at = start + length added in
+    let before : length (take start old) ≡ start = length-take-le start old within in
+    let len : length (take start old ++ added) ≡ at = length-append (take start old) added ∙ ap (λ n. n + length added) before in
+    let back : at + (k - at) ≡ k = omega (arith, from) in
+    ap (λ l. get_or l k d) (sym (append_assoc (take start old) added (drop at old)))
+    ∙ (get_or-append_right (take start old ++ added) (drop at old) at k d len from
+    ∙ (get_or-drop at old (k - at) d ∙ ap (λ n. get_or old n d) back))
+
+pub put-length : {A : Type 0} (old added : List A) (start : ℕ) → start + length added ≤ length old → length (put_at old start added) ≡ length old
+put-length old added start within =
+    let at = start + length added in
+    let before : length (take start old) ≡ start = length-take-le start old (omega (arith, within)) in
+    let back = length-drop at old in
+    let parts = length-append added (drop at old) in
+    length-append (take start old) (added ++ drop at old) ∙ omega (arith, before, back, parts, within)
+
+-- ---- cells of one text, one after another
+
+pub put-cell : (old : List Cell) (bytes : List ℕ) (start i b : ℕ) (font : Font) → i < length bytes → start + length bytes ≤ length old
+    → set (put_at old start (cells_of font (take i bytes))) (start + i) (cell_of font (get_or bytes i b)) ≡ put_at old start (cells_of font (take (i + 1) bytes))
+put-cell old bytes start i b font within room =
+    let len : length (cells_of font (take i bytes)) ≡ i = length-map (take i bytes) (cell_of font) ∙ length-take-le i bytes (omega (arith, within)) in
+    let cell = cell_of font (get_or bytes i b) in
+    let more : cells_of font (take (i + 1) bytes) ≡ cells_of font (take i bytes) ++ cell ∷ [] =
+    ap (cells_of font) (take_more bytes i b within) ∙ map-append (cell_of font) (take i bytes) (get_or bytes i b ∷ []) in
+    let at : start + i ≡ start + length (cells_of font (take i bytes)) = ap (λ n. start + n) (sym len) in
+    ap (λ n. set (put_at old start (cells_of font (take i bytes))) n cell) at
+    ∙ (put-more old (cells_of font (take i bytes)) start cell (omega (arith, len, within, room)) ∙ ap (put_at old start) (sym more))
+
+one-more : {A : Type 0} (n : ℕ) (y : A) → replicate n y ++ y ∷ [] ≡ replicate (n + 1) y
+one-more n y = replicate-append-replicate n 1 y
+
+pub put-same : {A : Type 0} (old : List A) (start i : ℕ) (y : A) → start + i < length old
+    → set (put_at old start (replicate i y)) (start + i) y ≡ put_at old start (replicate (i + 1) y)
+put-same old start i y room =
+    let len : length (replicate i y) ≡ i = length-replicate i y in
+    let at : start + i ≡ start + length (replicate i y) = ap (λ n. start + n) (sym len) in
+    ap (λ n. set (put_at old start (replicate i y)) n y) at
+    ∙ (put-more old (replicate i y) start y (omega (arith, len, room)) ∙ ap (put_at old start) (one-more i y))
+
+-- one more came to the front
+pub put-moved : {A : Type 0} (old : List A) (start i : ℕ) (d : A) → start + i < length old
+    → set (put_at old 0 (take i (drop start old))) i (get_or (put_at old 0 (take i (drop start old))) (start + i) d) ≡ put_at old 0 (take (i + 1) (drop start old))
+put-moved old start i d within =
+    let dropped = length-drop start old in
+    let len : length (take i (drop start old)) ≡ i = length-take-le i (drop start old) (omega (arith, dropped, within)) in
+    let from : get_or (put_at old 0 (take i (drop start old))) (start + i) d ≡ get_or old (start + i) d =
+    put-after old (take i (drop start old)) 0 (start + i) d (omega arith) (omega (arith, len)) in
+    let more : take (i + 1) (drop start old) ≡ take i (drop start old) ++ get_or old (start + i) d ∷ [] =
+    take_more (drop start old) i d (omega (arith, dropped, within)) ∙ ap (λ x. take i (drop start old) ++ x ∷ []) (get_or-drop start old i d) in
+    let at : i ≡ 0 + length (take i (drop start old)) = omega (arith, len) in
+    ap (λ x. set (put_at old 0 (take i (drop start old))) i x) from
+    ∙ (ap (λ n. set (put_at old 0 (take i (drop start old))) n (get_or old (start + i) d)) at
+    ∙ (put-more old (take i (drop start old)) 0 (get_or old (start + i) d) (omega (arith, len, within)) ∙ ap (put_at old 0) (sym more)))
+
+-- ---- characters, each in its font
+
+pub in-length : (bytes : List ℕ) (fonts : List Font) → length fonts ≡ length bytes → length (cells_in bytes fonts) ≡ length bytes
+in-length [] fonts same = refl
+in-length (b ∷ bytes) [] same = absurd (omega (arith, same))
+in-length (b ∷ bytes) (f ∷ fonts) same = ap suc (in-length bytes fonts (omega (arith, same)))
+
+pub in-take : (n : ℕ) (bytes : List ℕ) (fonts : List Font) → take n (cells_in bytes fonts) ≡ cells_in (take n bytes) (take n fonts)
+in-take zero bytes fonts = refl
+in-take (suc n) [] fonts = refl
+in-take (suc n) (b ∷ bytes) [] = refl
+in-take (suc n) (b ∷ bytes) (f ∷ fonts) = ap (λ cells. record { c = b; font = f } ∷ cells) (in-take n bytes fonts)
+
+pub in-drop : (n : ℕ) (bytes : List ℕ) (fonts : List Font) → length fonts ≡ length bytes → drop n (cells_in bytes fonts) ≡ cells_in (drop n bytes) (drop n fonts)
+in-drop zero bytes fonts same = refl
+in-drop (suc n) [] fonts same = refl
+in-drop (suc n) (b ∷ bytes) [] same = absurd (omega (arith, same))
+in-drop (suc n) (b ∷ bytes) (f ∷ fonts) same = in-drop n bytes fonts (omega (arith, same))
+
+in-append : (bytes more : List ℕ) (fonts others : List Font) → length fonts ≡ length bytes
+    → cells_in (bytes ++ more) (fonts ++ others) ≡ cells_in bytes fonts ++ cells_in more others
+in-append [] more [] others same = refl
+in-append [] more (f ∷ fonts) others same = absurd (omega (arith, same))
+in-append (b ∷ bytes) more [] others same = absurd (omega (arith, same))
+in-append (b ∷ bytes) more (f ∷ fonts) others same = ap (λ cells. record { c = b; font = f } ∷ cells) (in-append bytes more fonts others (omega (arith, same)))
+
+in-font : (bytes : List ℕ) (font : Font) → cells_in bytes (replicate (length bytes) font) ≡ cells_of font bytes
+in-font [] font = refl
+in-font (b ∷ bytes) font = ap (λ cells. cell_of font b ∷ cells) (in-font bytes font)
+
+pub in-put : (bytes text : List ℕ) (fonts : List Font) (start : ℕ) (font : Font) → length fonts ≡ length bytes → start + length text ≤ length bytes
+    → cells_in (put_at bytes start text) (put_at fonts start (replicate (length text) font)) ≡ put_at (cells_in bytes fonts) start (cells_of font text)
+in-put bytes text fonts start font same room =
+    let len : length (replicate (length text) font) ≡ length text = length-replicate (length text) font in
+    let cells : length (cells_of font text) ≡ length text = length-map text (cell_of font) in
+    let end = start + length text in
+    let front : length (take start fonts) ≡ length (take start bytes) =
+    length-take-le start fonts (omega (arith, same, room)) ∙ sym (length-take-le start bytes (omega (arith, room))) in
+    ap (λ n. cells_in (put_at bytes start text) (take start fonts ++ (replicate (length text) font ++ drop (start + n) fonts))) len
+    ∙ (in-append (take start bytes) (text ++ drop end bytes) (take start fonts) (replicate (length text) font ++ drop end fonts) front
+    ∙ (ap (λ c. c ++ cells_in (text ++ drop end bytes) (replicate (length text) font ++ drop end fonts)) (sym (in-take start bytes fonts))
+    ∙ ap (λ c. take start (cells_in bytes fonts) ++ c)
+    (in-append text (drop end bytes) (replicate (length text) font) (drop end fonts) len
+    ∙ (ap (λ c. c ++ cells_in (drop end bytes) (drop end fonts)) (in-font text font)
+    ∙ ap (λ c. cells_of font text ++ c) (sym (in-drop end bytes fonts same) ∙ ap (λ n. drop (start + n) (cells_in bytes fonts)) (sym cells))))))
+
+pub in-set : (bytes : List ℕ) (fonts : List Font) (i b : ℕ) (font : Font) → length fonts ≡ length bytes
+    → cells_in (set bytes i b) (set fonts i font) ≡ set (cells_in bytes fonts) i (cell_of font b)
+in-set [] [] i b font same = refl
+in-set [] (f ∷ fonts) i b font same = absurd (omega (arith, same))
+in-set (c ∷ bytes) [] i b font same = absurd (omega (arith, same))
+in-set (c ∷ bytes) (f ∷ fonts) zero b font same = refl
+in-set (c ∷ bytes) (f ∷ fonts) (suc i) b font same = ap (λ cells. cell_of f c ∷ cells) (in-set bytes fonts i b font (omega (arith, same)))
+
+-- those of both parts, moved to the front
+pub in-moved : (bytes : List ℕ) (fonts : List Font) (start n : ℕ) → length fonts ≡ length bytes → start + n ≤ length bytes
+    → cells_in (put_at bytes 0 (take n (drop start bytes))) (put_at fonts 0 (take n (drop start fonts))) ≡ put_at (cells_in bytes fonts) 0 (take n (drop start (cells_in bytes fonts)))
+in-moved bytes fonts start n same room =
+    let cells = cells_in bytes fonts in
+    let all = in-length bytes fonts same in
+    let b : length (take n (drop start bytes)) ≡ n = length-take-le n (drop start bytes) (let l = length-drop start bytes in omega (arith, l, room)) in
+    let f : length (take n (drop start fonts)) ≡ n = length-take-le n (drop start fonts) (let l = length-drop start fonts in omega (arith, l, room, same)) in
+    let c : length (take n (drop start cells)) ≡ n = length-take-le n (drop start cells) (let l = length-drop start cells in omega (arith, l, room, all)) in
+    let part : cells_in (take n (drop start bytes)) (take n (drop start fonts)) ≡ take n (drop start cells) =
+    sym (ap (take n) (in-drop start bytes fonts same) ∙ in-take n (drop start bytes) (drop start fonts)) in
+    ap (λ k. cells_in (take n (drop start bytes) ++ drop (0 + k) bytes) (put_at fonts 0 (take n (drop start fonts)))) b
+    ∙ (ap (λ k. cells_in (take n (drop start bytes) ++ drop (0 + n) bytes) (take n (drop start fonts) ++ drop (0 + k) fonts)) f
+    ∙ (in-append (take n (drop start bytes)) (drop (0 + n) bytes) (take n (drop start fonts)) (drop (0 + n) fonts) (f ∙ sym b)
+    ∙ (ap (λ l. l ++ cells_in (drop (0 + n) bytes) (drop (0 + n) fonts)) part
+    ∙ ap (λ l. take n (drop start cells) ++ l) (sym (in-drop (0 + n) bytes fonts same) ∙ ap (λ k. drop (0 + k) cells) (sym c)))))
+
+-- ---- bytes that pass a test
+
+part-passes : (p : ℕ → Bool) (n : ℕ) (bytes : List ℕ) → list_all p bytes ≡ true → (list_all p (take n bytes) ≡ true) × (list_all p (drop n bytes) ≡ true)
+part-passes p n bytes pass =
+    let both = ap (list_all p) (sym (take-append-drop n bytes)) ∙ list_all-append p (take n bytes) (drop n bytes) in
+    let all : (list_all p (take n bytes) && list_all p (drop n bytes)) ≡ true = sym both ∙ pass in
+    (grind (arith, all), grind (arith, all))
+
+pub put-passes : (p : ℕ → Bool) (bytes text : List ℕ) (start : ℕ) → list_all p bytes ≡ true → list_all p text ≡ true → list_all p (put_at bytes start text) ≡ true
+put-passes p bytes text start pass all =
+    let front = (part-passes p start bytes pass).0 in
+    let back = (part-passes p (start + length text) bytes pass).1 in
+    list_all-append p (take start bytes) (text ++ drop (start + length text) bytes)
+    ∙ rw front (list_all-append p text (drop (start + length text) bytes) ∙ rw (all, back) refl)
+
+pub set-passes : (p : ℕ → Bool) (bytes : List ℕ) (i b : ℕ) → list_all p bytes ≡ true → p b ≡ true → list_all p (set bytes i b) ≡ true
+set-passes p [] i b pass one = refl
+set-passes p (c ∷ bytes) zero b pass one = rw one (grind (arith, pass))
+set-passes p (c ∷ bytes) (suc i) b pass one =
+    let first : p c ≡ true = grind (arith, pass) in
+    let rest : list_all p bytes ≡ true = grind (arith, pass) in
+    rw first (set-passes p bytes i b rest one)
+
+pub moved-passes : (p : ℕ → Bool) (bytes : List ℕ) (start n : ℕ) → list_all p bytes ≡ true → list_all p (put_at bytes 0 (take n (drop start bytes))) ≡ true
+moved-passes p bytes start n pass = put-passes p bytes (take n (drop start bytes)) 0 pass (part-passes p n (drop start bytes) (part-passes p start bytes pass).1).0
+
+pub same-passes : (p : ℕ → Bool) (n b : ℕ) → p b ≡ true → list_all p (replicate n b) ≡ true
+same-passes p zero b one = refl
+same-passes p (suc n) b one = rw one (same-passes p n b one)
+
+-- printable bytes are ASCII
+pub printable-ascii : (bytes : List ℕ) (n : ℕ) → is_printable_ascii bytes ≡ true → list_all is_ascii (take n bytes) ≡ true
+printable-ascii bytes zero all = refl
+printable-ascii [] (suc n) all = refl
+printable-ascii (b ∷ bytes) (suc n) all =
+    let rest = printable-ascii bytes n (rest-plain b bytes all) in
+    let first = first-plain b bytes all in
+    rw rest (grind (arith, nat_tests, first))
+
+-- their columns and their blanks
+pub in-columns : (bytes : List ℕ) (fonts : List Font) → length fonts ≡ length bytes → is_printable_ascii bytes ≡ true → columns (cells_in bytes fonts) ≡ length bytes
+in-columns [] fonts same all = refl
+in-columns (b ∷ bytes) [] same all = absurd (omega (arith, same))
+in-columns (b ∷ bytes) (f ∷ fonts) same all =
+    let one : cell_columns (cell_of f b) ≡ 1 = plain-columns f b (first-plain b bytes all) in
+    let others : columns (cells_in bytes fonts) ≡ length bytes = in-columns bytes fonts (omega (arith, same)) (rest-plain b bytes all) in
+    let last : columns (cell_of f b ∷ []) ≡ 1 = omega (arith, one) in
+    sum_by-append cell_columns (cell_of f b ∷ []) (cells_in bytes fonts) ∙ omega (arith, last, others)
+
+pub in-blank : (bytes : List ℕ) (fonts : List Font) → length fonts ≡ length bytes → is_blank_row (row_of 0 (cells_in bytes fonts)) ≡ list_all is_blank_byte bytes
+in-blank [] fonts same = refl
+in-blank (b ∷ bytes) [] same = absurd (omega (arith, same))
+in-blank (b ∷ bytes) (f ∷ fonts) same = before-blank (cell_of f b) (trimmed (cells_in bytes fonts)) ∙ ap (λ rest. (b == 32) && rest) (in-blank bytes fonts (omega (arith, same)))
+
+-- ---- the places of a row, of either kind
+
+pub all-places : (has : Bool) (cells : List Cell) (bytes : List ℕ) (fonts : List Font) → length bytes ≡ CELLS → length fonts ≡ CELLS → (has ≡ true → length cells ≡ CELLS)
+    → length (if has then cells else cells_in bytes fonts) ≡ CELLS
+all-places true cells bytes fonts b f c = c refl
+all-places false cells bytes fonts b f c = in-length bytes fonts (f ∙ sym b) ∙ b
+
+-- what a slice of a vector gave back
+pub given-back : {A : Type 0} (new old : List A) (n : ℕ) → length new ≡ n → take n (new ++ drop (length new) old) ≡ new
+given-back new old n len = take_at new (drop (length new) old) n len
+
+pub front-columns : (bytes : List ℕ) (fonts : List Font) (n : ℕ) → length fonts ≡ length bytes → n ≤ length bytes → is_printable_ascii bytes ≡ true
+    → columns (take n (cells_in bytes fonts)) ≡ n
+front-columns bytes fonts n same within all =
+    let b : length (take n bytes) ≡ n = length-take-le n bytes within in
+    let f : length (take n fonts) ≡ n = length-take-le n fonts (omega (arith, same, within)) in
+    ap columns (in-take n bytes fonts) ∙ (in-columns (take n bytes) (take n fonts) (f ∙ sym b) (part-passes is_printable n bytes all).0 ∙ b)
+
+pub front-blank : (bytes : List ℕ) (fonts : List Font) (n : ℕ) → length fonts ≡ length bytes → n ≤ length bytes
+    → is_blank_row (row_of 0 (take n (cells_in bytes fonts))) ≡ list_all is_blank_byte (take n bytes)
+front-blank bytes fonts n same within =
+    let b : length (take n bytes) ≡ n = length-take-le n bytes within in
+    let f : length (take n fonts) ≡ n = length-take-le n fonts (omega (arith, same, within)) in
+    ap (λ cells. is_blank_row (row_of 0 cells)) (in-take n bytes fonts) ∙ in-blank (take n bytes) (take n fonts) (f ∙ sym b)
+
+-- the cells from a start on, which came to the front
+pub moved-front : {A : Type 0} (old : List A) (start len : ℕ) → start ≤ len → len ≤ length old
+    → take (len - start) (put_at old 0 (take (len - start) (drop start old))) ≡ drop start (take len old)
+moved-front old start len to within =
+    let n = len - start in
+    let moved = take n (drop start old) in
+    let size : length moved ≡ n = length-take-le n (drop start old) (let l = length-drop start old in omega (arith, l, to, within)) in
+    let all : start + n ≡ len = omega (arith, to) in
+    let end : n ≡ 0 + length moved = omega (arith, size) in
+    ap (λ k. take k (put_at old 0 moved)) end
+    ∙ (put-front old moved 0 (omega arith) ∙ (sym (drop-take start n old) ∙ ap (λ k. drop start (take k old)) all))

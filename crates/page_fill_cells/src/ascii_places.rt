@@ -1,0 +1,74 @@
+//! Printable characters of ASCII and their fonts, apart: the places of a row in which there is nothing else.
+
+ghost use Rattle.std.specs.Prelude.{◌≡◌, ◌+◌, ◌<◌, ◌≤◌, length, take, set, replicate};
+ghost use Rattle.std.specs.List.{list_all};
+ghost use Rattle.page_core_base.specs.Rows.{cells_in};
+ghost use Rattle.page_fill_cells.specs.machine.BlankRuns.{is_blank_byte};
+ghost use Rattle.page_fill_cells.specs.machine.Places.{put_at};
+
+use page_core_base::{Cell, Font};
+use std::mem;
+
+/// Puts bytes at a start and after it, all in one font.
+pub(crate) fn put_text(bytes: &mut [u8], fonts: &mut [Font], start: usize, text: &[u8], font: Font)
+    requires { (start + length text.now ≤ length bytes.old) × (length fonts.old ≡ length bytes.old) }
+    ensures bytes { bytes.new ≡ put_at bytes.old start text.now }
+    ensures fonts { fonts.new ≡ put_at fonts.old start (replicate (length text.now) font) }
+{
+    let end = start + text.len();
+    bytes[start..end].copy_from_slice(text);
+    fonts[start..end].fill(font);
+}
+
+/// Puts a count of blanks at a start and after it, all in one font.
+pub(crate) fn put_blank_text(
+    bytes: &mut [u8],
+    fonts: &mut [Font],
+    start: usize,
+    count: usize,
+    font: Font,
+)
+    requires { (start + count ≤ length bytes.old) × (length fonts.old ≡ length bytes.old) }
+    ensures bytes { bytes.new ≡ put_at bytes.old start (replicate count 32) }
+    ensures fonts { fonts.new ≡ put_at fonts.old start (replicate count font) }
+{
+    let end = start + count;
+    bytes[start..end].fill(b' ');
+    fonts[start..end].fill(font);
+}
+
+/// Puts a byte in its font at a place.
+pub(crate) fn put_byte(bytes: &mut [u8], fonts: &mut [Font], place: usize, byte: u8, font: Font)
+    requires { (place < length bytes.old) × (length fonts.old ≡ length bytes.old) }
+    ensures bytes { bytes.new ≡ set bytes.old place byte }
+    ensures fonts { fonts.new ≡ set fonts.old place font }
+{
+    bytes[place] = byte;
+    fonts[place] = font;
+}
+
+/// Puts the cells of bytes, each in its font, in the first places.
+pub(crate) fn put_cells_in(places: &mut [Cell], bytes: &[u8], fonts: &[Font])
+    requires { (length fonts.now ≡ length bytes.now) × (length bytes.now ≤ length places.old) }
+    ensures { take (length bytes.now) places.new ≡ cells_in bytes.now fonts.now }
+{
+    for i in 0..bytes.len() {
+        let cell = Cell {
+            c: bytes[i] as char,
+            font: fonts[i],
+        };
+        let _place = mem::replace(&mut places[i], cell);
+    }
+}
+
+/// Whether there are blanks alone.
+pub(crate) fn is_blank_text(bytes: &[u8]) -> bool
+    ensures { result ≡ list_all is_blank_byte bytes.now }
+{
+    for byte in bytes {
+        if *byte != b' ' {
+            return false;
+        }
+    }
+    true
+}

@@ -1,9 +1,0 @@
-use Rattle.std.proofs.Common.{◌≡◌, ◌-◌, ◌+◌, ◌≤◌, take, true}
-use Rattle.page_fill_rows.specs.machine.Plain as plain
-use Rattle.page_fill_rows.proofs.plain_texts.groups_printable.Given as goal
-
-abbrev pub invariant-loop-at : goal.invariant-loop-at
-invariant-loop-at g l = (plain.is_printable_ascii (take l.at l.bytes) ≡ true) × (l.at ≤ l.last + g.row.GROUP)
-
-abbrev pub decreases-loop-at : goal.decreases-loop-at
-decreases-loop-at g l = l.last - l.at
