@@ -84,7 +84,7 @@ fn check_parts(
 
 #[test]
 fn characters_are_marked_by_their_font(rt: HostRuntime) -> Result<(), Fail> {
-    let cases: [(u32, &[Part], &str); 9] = [
+    let cases: [(u32, &[Part], &str); 6] = [
         (0, &[("a", Font::R)], "a\n"),
         (
             3,
@@ -119,6 +119,16 @@ fn characters_are_marked_by_their_font(rt: HostRuntime) -> Result<(), Fail> {
             &[("the file", Font::R), ("path/man", Font::I)],
             "the file_\u{8}p_\u{8}a_\u{8}t_\u{8}h_\u{8}/_\u{8}m_\u{8}a_\u{8}n\n",
         ),
+    ];
+    for (margin, parts, want) in cases {
+        check_parts(&rt, rt.alloc(), margin, parts, want)?;
+    }
+    Ok(())
+}
+
+#[test]
+fn blanks_alone_are_not_printed(rt: HostRuntime) -> Result<(), Fail> {
+    let cases: [(u32, &[Part], &str); 3] = [
         (7, &[], "\n"),
         (7, &[("   ", Font::R)], "\n"),
         (

@@ -1,5 +1,0 @@
-pub mod PrintedLemmas
-pub mod OperationLemmas
-pub mod CellLemmas
-pub mod RoomLemmas
-pub mod GlyphLemmas

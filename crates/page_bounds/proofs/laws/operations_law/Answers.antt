@@ -1,8 +1,0 @@
-use Rattle.page_bounds.proofs.OperationLemmas.{first-is, next-is}
-use Rattle.page_bounds.proofs.laws.operations_law.Goals as goal
-
-pub returns-clause-first : goal.returns-clause-first
-returns-clause-first c = first-is
-
-pub returns-clause-next : goal.returns-clause-next
-returns-clause-next c = next-is

@@ -1,0 +1,5 @@
+use Rattle.page_laws.proofs.CellLemmas.{cells-next}
+use Rattle.page_laws.proofs.bounds.cells_law.Goals as goal
+
+pub returns : goal.returns
+returns c = cells-next

@@ -1,0 +1,4 @@
+pub mod Contents
+pub mod Operations
+pub mod Fronts
+pub mod Fed
