@@ -22,6 +22,7 @@ const GROUP: usize = 8;
 
 // The same of characters of ASCII. There is room for the bytes that wait, for those of a group, and for a row's end.
 const TEXT_GROUP: usize = 32;
+
 const ROW_BYTES: usize = 640;
 
 /// Writes rows as bytes (mandoc(1), "ASCII Output").
