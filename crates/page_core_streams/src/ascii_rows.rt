@@ -52,16 +52,19 @@ fn write_each(bytes: &mut [u8], start: usize, text: &[u8], fonts: &[Font]) -> us
     end
 }
 
-// Writes the bytes of a part from `start` on, and answers where they end: quickly where all fonts are roman.
+// Writes the bytes of a part from `start` on, and answers where they end: quickly where all fonts are roman. All is read before it is written.
 #[inline(always)]
 fn write_part(bytes: &mut [u8], start: usize, text: &[u8], fonts: &[Font]) -> usize
     requires ascii { AreAscii text.now fonts.now false }
     requires room { start + 5 * length text.now ≤ length bytes.old }
+    requires size { length text.now ≡ 4 }
     ensures front { take result bytes.new ≡ take start bytes.old ++ flat_map cell_bytes_of (cells_in text.now fonts.now) }
     ensures end { result ≤ start + 5 * length text.now }
 {
     if are_roman(fonts) {
-        return write_roman(bytes, start, text);
+        let mut part = [0u8; PART];
+        part.copy_from_slice(text);
+        return write_roman(bytes, start, &part);
     }
     write_each(bytes, start, text, fonts)
 }

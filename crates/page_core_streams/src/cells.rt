@@ -15,8 +15,7 @@ const CELL_BYTES: usize = 16;
 // What is between a character and its mark.
 const BACKSPACE: u8 = 8;
 
-/// The bytes that a cell is printed as: a backspace between a character and itself is bold, and between an underscore and a character
-/// italic; a blank is never marked (mandoc(1), "ASCII Output").
+/// The bytes that a cell is printed as: a bold character over itself, an italic one over an underscore; a blank is never marked (mandoc(1), "ASCII Output").
 pub fn cell_bytes(cell: Cell) -> ArrayVec<u8, 16>
     ensures { result.items ≡ cell_bytes_of cell }
 {
@@ -89,8 +88,7 @@ pub(crate) fn write_group(bytes: &mut [u8], start: usize, cells: &[Cell]) -> usi
     write_cells(bytes, start, cells)
 }
 
-/// Writes the bytes of a group of cells from `start` on, and answers where they end: quickly where all of them are plain, or those of a half, since
-/// the letters of a word in a font come together.
+/// Writes the bytes of a group of cells from `start` on, and answers where they end: quickly where all of them are plain, or those of a half.
 #[inline(always)]
 pub(crate) fn write_mixed(bytes: &mut [u8], start: usize, cells: &[Cell]) -> usize
     requires { start + 16 * length cells.now ≤ length bytes.old }
@@ -124,7 +122,7 @@ pub(crate) fn write_cells(bytes: &mut [u8], start: usize, cells: &[Cell]) -> usi
 }
 
 /// Writes the bytes of a character of ASCII in a font. Each byte that it may have is written, and the next cell begins after those that it has:
-/// where fonts change within a row, that costs less than branches for them.
+/// where fonts change within a row, that costs less than branches for them. A font's number has bit 1 where it is italic, and bit 0 where it is bold.
 #[inline(always)]
 pub(crate) fn write_ascii(bytes: &mut [u8], start: usize, c: u8, font: Font) -> usize
     requires ascii { c < 128 }
@@ -132,16 +130,14 @@ pub(crate) fn write_ascii(bytes: &mut [u8], start: usize, c: u8, font: Font) -> 
     ensures front { take result bytes.new ≡ take start bytes.old ++ cell_bytes_of (record { c = c; font = font }) }
     ensures end { result ≤ start + 5 }
 {
-    let is_marked = c != b' ';
-    let is_italic = is_marked & matches!(font, Font::I | Font::BI);
-    let is_bold = is_marked & matches!(font, Font::B | Font::BI);
+    let marks = if c == b' ' { 0 } else { font as usize };
     bytes[start] = b'_';
     bytes[start + 1] = BACKSPACE;
-    let start = start + 2 * usize::from(is_italic);
+    let start = start + (marks & 2);
     bytes[start] = c;
     bytes[start + 1] = BACKSPACE;
     bytes[start + 2] = c;
-    start + 1 + 2 * usize::from(is_bold)
+    start + 1 + 2 * (marks & 1)
 }
 
 // Writes the bytes of a cell that is not of ASCII.
