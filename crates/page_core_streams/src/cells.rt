@@ -121,8 +121,7 @@ pub(crate) fn write_cells(bytes: &mut [u8], start: usize, cells: &[Cell]) -> usi
     end
 }
 
-/// Writes the bytes of a character of ASCII in a font. Each byte that it may have is written, and the next cell begins after those that it has:
-/// where fonts change within a row, that costs less than branches for them. A font's number has bit 1 where it is italic, and bit 0 where it is bold.
+/// Writes each byte that a character of ASCII in a font may have, with no branch, and answers where those that it has end. Italic fonts alone have bit 1.
 #[inline(always)]
 pub(crate) fn write_ascii(bytes: &mut [u8], start: usize, c: u8, font: Font) -> usize
     requires ascii { c < 128 }
@@ -130,14 +129,19 @@ pub(crate) fn write_ascii(bytes: &mut [u8], start: usize, c: u8, font: Font) -> 
     ensures front { take result bytes.new ≡ take start bytes.old ++ cell_bytes_of (record { c = c; font = font }) }
     ensures end { result ≤ start + 5 }
 {
-    let marks = if c == b' ' { 0 } else { font as usize };
+    let font = if c == b' ' { Font::R } else { font };
     bytes[start] = b'_';
     bytes[start + 1] = BACKSPACE;
-    let start = start + (marks & 2);
-    bytes[start] = c;
-    bytes[start + 1] = BACKSPACE;
-    bytes[start + 2] = c;
-    start + 1 + 2 * (marks & 1)
+    let place = start + (font as usize & 2);
+    bytes[place] = c;
+    bytes[place + 1] = BACKSPACE;
+    bytes[place + 2] = c;
+    let len = match font {
+        Font::R => 1,
+        Font::B | Font::I => 3,
+        Font::BI => 5,
+    };
+    start + len
 }
 
 // Writes the bytes of a cell that is not of ASCII.

@@ -7,8 +7,7 @@ ghost use Rattle.page_core_streams.specs.Inputs.{HasReadIf};
 use crate::{Counted, Reading, SliceSource, Source};
 use std::io::{ErrorKind, Read};
 
-/// What bytes are read from. Each reader is one, whose calls are not counted; of [`Counted`] and [`SliceSource`] they are, and so a call over them can
-/// be held to its reasons.
+/// What bytes are read from. Each reader is one, whose calls are not counted; of [`Counted`] and [`SliceSource`] they are, which holds a call to its reasons.
 pub trait Input {
     ghost use Rattle.page_core_streams.specs.Sources.{SourceState};
 

@@ -8,8 +8,7 @@
 //!
 //! Proved: `Counted`, `SliceSource`: a source counts its calls and its failures, and gives the bytes of its reader, or of its slice, in their order
 //! (`specs/Sources.antt`). `Chunks`: the chunks of a source are its bytes, up to both bounds, and why there are no more
-//! (`specs/Chunks.antt`). `write_note`, `cell_bytes`, `TextRows`, `TextNotes`: a writer gets exactly the bytes of each message, cell and row; with a
-//! fault, a front of them.
+//! (`specs/Chunks.antt`). `write_note`, `cell_bytes`, `TextRows`, `TextNotes`: a writer gets exactly the bytes of each message, cell and row; at a fault, a front.
 #![tactic(auto)]
 
 mod ascii_rows;

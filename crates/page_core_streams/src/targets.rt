@@ -7,8 +7,7 @@ ghost use Rattle.page_core_streams.specs.Failures.{FailsBy};
 use crate::writing::write_bytes;
 use std::io::Write;
 
-/// What bytes are written to. Each writer is one, whose failures are not counted; of a [`CountedWriter`] they are, and so a call over it can be held
-/// to its reasons.
+/// What bytes are written to. Each writer is one, whose failures are not counted; of a [`CountedWriter`] they are, which holds a call to its reasons.
 pub trait Target {
     // The bytes that it holds, where they are known.
     ghost contents: { Self → Option (List ℕ) };

@@ -84,8 +84,7 @@ fn send<W: Target>(out: &mut W, unsent: &mut Unsent) -> bool
     true
 }
 
-/// Writes texts one after another, and says whether that succeeded; else a front of them was written. Short ones are collected to be written
-/// at once. A write of 0 bytes is a failure.
+/// Writes texts one after another, short ones at once, and says whether that succeeded; else a front was written. A write of 0 bytes is a failure.
 pub fn put_all<W: Target>(out: &mut W, texts: &[&[u8]]) -> bool
     ensures writes { Writes result (W.contents out.old) (W.contents out.new)
         (flat_map (λ text. text.now) texts.now) }
