@@ -4,3 +4,9 @@ pub mod CellLemmas
 pub mod RoomLemmas
 pub mod GlyphLemmas
 mod FeedLemmas
+pub mod PlaceLemmas
+pub mod ManPlaceLemmas
+pub mod MdocWordPlaceLemmas
+pub mod MdocPlaceLemmas
+pub mod SetPlaceLemmas
+pub mod FlagLemmas

@@ -2,3 +2,4 @@ pub mod Contents
 pub mod Operations
 pub mod Fronts
 pub mod Fed
+pub mod Places

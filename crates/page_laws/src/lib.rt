@@ -1,7 +1,7 @@
-//! Laws above the page: of lists of lines, of runs over streams that never fail, and of numbers that are no limits.
+//! Laws above the page: of lists of lines, of runs over streams that never fail, of numbers that are no limits, and of the places of events.
 //!
-//! Nothing of the program depends on it. Read `specs/Fronts.antt` and `Fed.antt` (lists of lines, for a caller who has many at once), `src/causes.rt`
-//! and `src/bounds.rt`.
+//! Nothing of the program depends on it. Read `specs/Fronts.antt` and `Fed.antt` (lists of lines, for a caller who has many at once), `src/causes.rt`,
+//! `src/bounds.rt`, and `specs/Places.antt` with `src/places.rt`.
 //!
 //! Proved: `front_law`: what lines settle is a front of what they settle with any lines below them, and of the page (`specs/Fronts.antt`).
 //! `feed_lines`: the rows and messages of a list of lines are what the list settles, and only a sink that fails stops it (`specs/Fed.antt`).
@@ -11,13 +11,16 @@
 //! (`page_core_escapes`). `printed_law`: a text prints what its front prints, and then what the rest prints (`page_core_numbers`). `operations_law`: an
 //! expression goes on as long as an operator follows (`page_core_numbers`). `cells_law`: a text in columns has a cell for each of its tabs, and one more
 //! (`page_scopes_phrases`). `names_law`, `glyphs_law`, `expansions_law`: the room that a name or a count has leaves nothing out (`page_roff_syntax`,
-//! `page_core_tables`, `page_roff_effects`).
+//! `page_core_tables`, `page_roff_effects`). `places_law`: each event of a line is at one of its bytes, or, where it prints, right after a quote
+//! that is the last one; so the limit of a line in `own_phrase` (`page_scopes_phrases`) changes a column only in a line of as many bytes as a line may
+//! have that ends in a quote, and by one (`specs/Places.antt`).
 #![tactic(auto)]
 
 mod bounds;
 mod causes;
 mod feeding;
 mod fronts;
+mod places;
 
 pub use bounds::{
     cells_law, content_law, expansions_law, glyphs_law, names_law, operations_law, printed_law,
@@ -25,3 +28,4 @@ pub use bounds::{
 pub use causes::{any, quiet, quiet_bytes, quiet_note, quiet_record, quiet_search};
 pub use feeding::{Numbered, feed_lines};
 pub use fronts::front_law;
+pub use places::places_law;

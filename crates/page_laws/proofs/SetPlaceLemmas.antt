@@ -1,0 +1,54 @@
+-- The events of each set of macros are in their line: helpers of proofs.
+use Rattle.std.proofs.Common.{◌≢◌, ℕ, ◌+◌, ◌≤◌, ◌<◌, min, ◌&&◌, List, [], ◌∷◌, length, inl, inr, arith}
+use Rattle.std.proofs.lemmas.Bool.{cases_Bool}
+use Rattle.page_core_base.specs.Limits.{LINE}
+use Rattle.page_core_base.specs.LinesTaken.{Line}
+use Rattle.page_sets.specs.Either.{either_events}
+use Rattle.page_sets.specs.declared.either.Either.{Either}
+use Rattle.page_sets.specs.declared.either.Either.TheVariants as sets
+use Rattle.page_sets_lines.specs.declared.events.Event.{Event}
+use Rattle.page_laws.specs.Places.{ends_in_quote, prints_text, IsInLine, IsAfterFullLine, AreAll}
+use Rattle.page_laws.proofs.ManPlaceLemmas.{man_at}
+use Rattle.page_laws.proofs.MdocPlaceLemmas.{mdoc_at}
+
+pub all_in_line : (set : Either) (line : Line) → AreAll (IsInLine line) (either_events set line)
+all_in_line sets.Man line = man_at line
+all_in_line sets.Mdoc line = mdoc_at line
+
+-- ---- each event of a list
+
+each_then : (IsSo IsThen : Event (List ℕ) → Type 0) (events : List (Event (List ℕ))) → ((event : Event (List ℕ)) → IsSo event → IsThen event)
+    → AreAll IsSo events → AreAll IsThen events
+each_then IsSo IsThen [] f h = tt
+each_then IsSo IsThen (event ∷ events) f h = (f event h.0, each_then IsSo IsThen events f h.1)
+
+-- ---- by the limit of a line
+
+one_more : (line : Line) (event : Event (List ℕ)) → length line.text ≤ LINE → IsInLine line event → event.place.column ≤ LINE + 1
+one_more line event l h =
+    let e = h.ends in
+    elim (cases_Bool (prints_text event.kind && ends_in_quote line.text)) [
+      | inl t ↦ let k = rw t at e in omega (arith, l, k)
+      | inr t ↦ let k = rw t at e in omega (arith, l, k)
+    ]
+
+pub all_one_more : (set : Either) (line : Line) → length line.text ≤ LINE → AreAll (λ event. event.place.column ≤ LINE + 1) (either_events set line)
+all_one_more set line l = each_then (IsInLine line) _ (either_events set line) (λ event h. one_more line event l h) (all_in_line set line)
+
+beyond : (line : Line) (event : Event (List ℕ)) → length line.text ≤ LINE → IsInLine line event → min event.place.column LINE ≢ event.place.column
+    → IsAfterFullLine line event
+beyond line event l h m =
+    let b : LINE < event.place.column = omega (arith, m) in
+    let e = h.ends in
+    elim (cases_Bool (prints_text event.kind)) [
+      | inl p ↦
+          elim (cases_Bool (ends_in_quote line.text)) [
+            | inl q ↦ let k = rw (p, q) at e in record { prints = p; full = omega (arith, l, k, b); quote = q; column = omega (arith, l, k, b) }
+            | inr q ↦ let k = rw (p, q) at e in absurd (omega (arith, l, k, b))
+          ]
+      | inr p ↦ let k = rw p at e in absurd (omega (arith, l, k, b))
+    ]
+
+pub all_beyond : (set : Either) (line : Line) → length line.text ≤ LINE
+    → AreAll (λ event. min event.place.column LINE ≢ event.place.column → IsAfterFullLine line event) (either_events set line)
+all_beyond set line l = each_then (IsInLine line) _ (either_events set line) (λ event h. beyond line event l h) (all_in_line set line)

@@ -1,0 +1,15 @@
+use Rattle.page_laws.proofs.FlagLemmas.{flag_reached}
+use Rattle.page_laws.proofs.SetPlaceLemmas.{all_in_line, all_one_more, all_beyond}
+use Rattle.page_laws.proofs.places.places_law.Goals as goal
+
+pub returns-clause-places : goal.returns-clause-places
+returns-clause-places c = all_in_line
+
+pub returns-clause-bound : goal.returns-clause-bound
+returns-clause-bound c = all_one_more
+
+pub returns-clause-limit : goal.returns-clause-limit
+returns-clause-limit c = all_beyond
+
+pub returns-clause-last : goal.returns-clause-last
+returns-clause-last c = flag_reached

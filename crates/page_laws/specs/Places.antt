@@ -1,0 +1,74 @@
+-- Where the events of a line are in it. Source: man(7), mdoc(7); roff(7), "LANGUAGE SYNTAX".
+use Rattle.std.specs.Prelude.{◌≡◌, ℕ, zero, suc, ◌+◌, ◌≤◌, max, ◌==◌, ◌&&◌, Bool, false, true, List, [], ◌∷◌, ◌++◌, length, if◌then◌else◌, Some, codes}
+use Rattle.page_core_base.specs.Limits.{LINE}
+use Rattle.page_core_base.specs.LinesTaken.{Line}
+use Rattle.page_core_base.specs.declared.cells.Font.TheVariants.{B}
+use Rattle.page_core_base.specs.declared.lines_taken.Form.TheVariants.{Control}
+use Rattle.page_roff_syntax.specs.declared.quotes.Argument.{Argument}
+use Rattle.page_roff_syntax.specs.declared.quotes.Quoting.TheVariants.{Unclosed}
+use Rattle.page_sets_lines.specs.PlainLines.{generated_word, line_end, word_event, word_place}
+use Rattle.page_sets_lines.specs.declared.events.Event.{Event}
+use Rattle.page_sets_lines.specs.declared.events.EventKind.{EventKind}
+use Rattle.page_sets_lines.specs.declared.events.EventKind.TheVariants as kinds
+use Rattle.page_sets_lines.specs.declared.leaves.Leaf.TheVariants as leaves
+use Rattle.page_sets_lines.specs.declared.events.Join.TheVariants.{Apart, Glued}
+use Rattle.page_sets_lines.specs.declared.events.Role.TheVariants as roles
+use Rattle.page_sets_names.specs.declared.generated_texts.GeneratedText.TheVariants.{Dash}
+
+-- the last byte of a text is a quote (34)
+abbrev pub ends_in_quote : List ℕ → Bool
+ends_in_quote [] = false
+ends_in_quote (byte ∷ []) = byte == 34
+ends_in_quote (byte ∷ next ∷ bytes) = ends_in_quote (next ∷ bytes)
+
+-- an event prints an argument, or a text of the macro's own
+abbrev pub prints_text : EventKind (List ℕ) → Bool
+prints_text (kinds.Word word) = true
+prints_text (kinds.Leaf (leaves.Generated word)) = true
+prints_text _ = false
+
+-- the last column at which an event of a text may be: that of its last byte, or, of what prints, the next one where that byte is a quote, after which
+-- an argument without bytes begins; of a text without bytes it is the first column
+abbrev pub last_column : Bool → List ℕ → ℕ
+last_column prints text = max 1 (if prints && ends_in_quote text then length text + 1 else length text)
+
+-- an event is in a line
+pub record IsInLine (line : Line) (event : Event (List ℕ)) : Type 0 where
+  pub number : event.place.line ≡ line.number
+  pub begins : 1 ≤ event.place.column
+  pub ends : event.place.column ≤ last_column (prints_text event.kind) line.text
+
+-- an event prints, and is at the column after the last byte of a line that is as long as a line may be and ends in a quote
+pub record IsAfterFullLine (line : Line) (event : Event (List ℕ)) : Type 0 where
+  pub prints : prints_text event.kind ≡ true
+  pub full : length line.text ≡ LINE
+  pub quote : ends_in_quote line.text ≡ true
+  pub column : event.place.column ≡ LINE + 1
+
+-- the same of each event
+abbrev pub AreAll : (Event (List ℕ) → Type 0) → List (Event (List ℕ)) → Type 0
+AreAll IsSo [] = Unit {0}
+AreAll IsSo (event ∷ events) = IsSo event × AreAll IsSo events
+
+-- ---- a line that has an event at the column after its last byte
+
+-- a quote (34) after so many blanks (32)
+abbrev pub quote_after : ℕ → List ℕ
+quote_after zero = 34 ∷ []
+quote_after (suc blanks) = 32 ∷ quote_after blanks
+
+-- `Fl` with an argument that lacks its last quote, and has no byte
+abbrev pub flag_line : (number blanks : ℕ) → Line
+flag_line number blanks = record { form = Control; text = codes ".Fl" ++ quote_after blanks; number = number; name_end = 3 }
+
+-- it is in the column after the quote
+abbrev pub last_argument : Line → Argument (List ℕ)
+last_argument line = record { text = []; column = length line.text + 1; quoting = Unclosed }
+
+-- the dash before it is there, too
+abbrev pub flag_events : Line → List (Event (List ℕ))
+flag_events line =
+    generated_word (word_place line.number (last_argument line)) Dash (Some B) Apart Glued
+    ∷ word_event line.number roles.Argument (Some B) Apart Apart (last_argument line)
+    ∷ line_end line.number true
+    ∷ []
