@@ -1,20 +1,17 @@
 -- What lines so far, and one more, did.
-use Rattle.std.proofs.Common.{◌≡◌, ◌<◌, ◌≤◌, ◌+◌, ◌-◌, ◌^◌, ℕ, List, [], ◌∷◌, ◌++◌, length, map, take, drop, get_or, refl, sym, ◌∙◌, ap, subst, arith, None, lt-ltb}
+use Rattle.std.proofs.Common.{◌≡◌, ◌<◌, ◌≤◌, ◌+◌, ◌-◌, ◌^◌, ℕ, List, [], ◌∷◌, ◌++◌, length, take, drop, get_or, refl, sym, ◌∙◌, ap, subst, arith, None, lt-ltb}
 use Rattle.std.proofs.lemmas.List.{take_more, drop_more, take-append-drop, length-map, length-take-le}
 use mathlib.Core.List.{map-append}
 use Rattle.page_core_base.specs.declared.faults.Fault.{Fault}
-use Rattle.page_core_base.specs.declared.faults.Fault.TheVariants.{Memory, Read, WriteText, WriteNotes, TooLong, Settings, Failed, Ended, BadIndex}
 use Rattle.page_core_base.specs.Fails.{IsSinkFault}
 use Rattle.page_core_base.specs.Laid.{Laid, join, nothing}
-use Rattle.page_core_base.specs.Messages.{Message}
-use Rattle.page_core_base.specs.Rows.{LaidRow}
 use Rattle.page_core_base.specs.Sinks.{IsSink}
 use Rattle.page_roff_lines.specs.Decoding.{Line}
 use Rattle.page_engine.specs.machine.ByLine as by_line
 use Rattle.page_engine.specs.Page.{Edge, IsReached, settled, edge, counts_at}
 use Rattle.page_engine.specs.States.{PageState, IsOpenAt, line_fault}
 use Rattle.page_roff_source.specs.declared.counts.Counts.{Counts}
-use Rattle.page_engine.specs.Streams.{Sinks, Came, Front, AreWell}
+use Rattle.page_engine.specs.Streams.{Sinks, Came, Front}
 use Rattle.page_laws.specs.declared.feeding.Numbered.{Numbered}
 use Rattle.page_laws.specs.Fed.{line_given, lines_given}
 

@@ -1,10 +1,7 @@
-use Rattle.std.proofs.Common.{◌≡◌, ◌<◌, ◌++◌, ◌∷◌, [], ℕ, List, refl, sym, ◌∙◌, ap, subst, arith, length, map, take, drop, get_or}
-use Rattle.std.proofs.lemmas.List.{take_all}
+use Rattle.std.proofs.Common.{[], refl, ◌∙◌, take}
 use Rattle.std.proofs.lemmas.Result.{err_from_is_err_and}
-use Rattle.page_core_base.specs.Laid.{Laid, join}
-use Rattle.page_roff_lines.specs.Decoding.{Line}
-use Rattle.page_engine.specs.Page.{Edge, settled, edge}
-use Rattle.page_engine.specs.Streams.{sinks, Front}
+use Rattle.page_engine.specs.Page.{edge}
+use Rattle.page_engine.specs.Streams.{sinks}
 use Rattle.page_laws.specs.declared.feeding.Numbered.{Numbered}
 use Rattle.page_laws.specs.Fed.{lines_given}
 use Rattle.page_laws.proofs.FeedLemmas.{none_fed, one_fed, takes_one, part_fed}
