@@ -135,6 +135,7 @@ LINES_OF = [
     ("Nm of CJK letters", names_of(chr(0x4E00), 84)),
     ("Nm of glyphs", names_of("\\(bu", 64)),
     ("Nm of tabs", names_of("\\t", 128)),
+    ("Nm of \\&", names_of("\\&", 128)),
     ("\\h'999'", blanks),
     ("tabs of columns", tabs_of_columns),
 ]
