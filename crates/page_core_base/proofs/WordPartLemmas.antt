@@ -5,7 +5,7 @@ use Rattle.std.specs.List.{list_all, list_any}
 use Rattle.std.proofs.lemmas.List.{drop-drop, drop_all, drop_more, take_all, take_more}
 use Rattle.std.proofs.lemmas.Bool.{cases_Bool}
 use Rattle.std.proofs.lemmas.Bool.Decides.{nat_tests}
-use Rattle.page_core_base.specs.Words.{starts_with_letter, ends_part, hyphen, in_first, last_start, parts_after, parts_of}
+use Rattle.page_core_base.specs.Words.{starts_with_letter, ends_part, hyphen, in_first, parts_after, parts_of}
 
 pub parts-end : (before b : ℕ) (bytes : List ℕ) → ends_part before b bytes ≡ true → parts_after before (b ∷ bytes) ≡ (b ∷ []) ∷ parts_after b bytes
 unfolding parts_after
@@ -47,11 +47,6 @@ whole-first (b ∷ bytes) some none =
     let all : take (length (b ∷ bytes)) (b ∷ bytes) ≡ b ∷ bytes = take_all (length (b ∷ bytes)) (b ∷ bytes) (omega arith) in
     let rest : drop (length (b ∷ bytes)) (b ∷ bytes) ≡ [] = drop_all (length (b ∷ bytes)) (b ∷ bytes) (omega arith) in
     rw (all, rest) (whole-after hyphen b bytes none)
-
-pub whole-start : (word : List ℕ) → list_any (λ byte. byte == hyphen) word ≡ false → 0 ≡ last_start (parts_of word)
-unfolding parts_after
-whole-start [] none = refl
-whole-start (b ∷ bytes) none = rw (whole-after hyphen b bytes none) refl
 
 -- ---- what is after a place
 
@@ -147,115 +142,6 @@ goes-all word len before some end goes =
     let all : take len word ≡ word = take_all len word end in
     let none : drop len word ≡ [] = drop_all len word end in
     goes.parts ∙ (rw (all, none) (put-word word some))
-
--- ---- the last part, byte by byte
-
-abbrev HasFirst : List (List ℕ) → Type 0
-HasFirst [] = ⊤
-HasFirst (part ∷ parts) = 0 < length part
-
-parts-first : (before : ℕ) (bytes : List ℕ) → HasFirst (parts_after before bytes)
-unfolding parts_after
-parts-first before [] = tt
-parts-first before (b ∷ bytes) = elim (cases_Bool (ends_part before b bytes)) [
-  | inl ends ↦ rw ends (omega arith)
-  | inr goes ↦ rw goes (front-first b (parts_after b bytes))
-]
-  where
-    front-first : (b : ℕ) (parts : List (List ℕ)) → HasFirst (in_first b parts)
-    front-first b [] = omega arith
-    front-first b (part ∷ parts) = omega arith
-
-front-start : (b : ℕ) (parts : List (List ℕ)) → HasFirst parts → last_start (in_first b parts) ≡ (if last_start parts == 0 then 0 else 1 + last_start parts)
-front-start b [] first = refl
-front-start b (part ∷ []) first = refl
-front-start b (part ∷ next ∷ parts) first =
-    let two : (length (next ∷ parts) == 0) ≡ false = grind (arith, nat_tests) in
-    let later = if length parts == 0 then 0 else length next + last_start parts in
-    let some : (length part + later == 0) ≡ false = grind (arith, nat_tests, first) in
-    rw (two, some) (omega arith)
-
-parts-more : (before : ℕ) (bytes : List ℕ) → starts_with_letter bytes ≡ true → (length (parts_after before bytes) == 0) ≡ false
-parts-more before [] letter = absurd (never letter)
-  where
-    never : false ≡ true → ⊥
-    never e = cc
-parts-more before (b ∷ bytes) letter = parts-some before b bytes
-
-start-ends : (before b : ℕ) (bytes : List ℕ) → ends_part before b bytes ≡ true → last_start (parts_after before (b ∷ bytes)) ≡ 1 + last_start (parts_after b bytes)
-start-ends before b bytes ends =
-    let letter : starts_with_letter bytes ≡ true = grind (arith, ends) in
-    rw (parts-end before b bytes ends, parts-more b bytes letter) refl
-
-start-goes : (before b : ℕ) (bytes : List ℕ) → ends_part before b bytes ≡ false
-    → last_start (parts_after before (b ∷ bytes)) ≡ (if last_start (parts_after b bytes) == 0 then 0 else 1 + last_start (parts_after b bytes))
-start-goes before b bytes goes = rw (parts-go before b bytes goes) (front-start b (parts_after b bytes) (parts-first b bytes))
-
--- the last part begins in what is after a place, or at a place before that
-abbrev pub begun : (start len later : ℕ) → ℕ
-begun start len later = if later == 0 then start else len + later
-
-pub record StartsBy (word : List ℕ) (len before start : ℕ) : Type 0 where
-  pub within : len ≤ length word
-  pub start_within : start ≤ len
-  pub is : last_start (parts_of word) ≡ begun start len (last_start (parts_after before (drop len word)))
-
-pub starts-first : (word : List ℕ) → StartsBy word 0 hyphen 0
-starts-first word = record { within = omega arith; start_within = omega arith; is = first (last_start (parts_of word)) }
-  where
-    first : (n : ℕ) → n ≡ begun 0 0 n
-    first zero = refl
-    first (suc n) = let some : (suc n == 0) ≡ false = grind (arith, nat_tests) in rw some (omega arith)
-
-begun-ends : (start len later : ℕ) → begun start len (1 + later) ≡ begun (len + 1) (len + 1) later
-begun-ends start len later =
-    let one : (1 + later == 0) ≡ false = grind (arith, nat_tests) in
-    elim (cases_Bool (later == 0)) [
-      | inl none ↦ rw (one, none) (grind (arith, nat_tests, none))
-      | inr some ↦ rw (one, some) (omega arith)
-    ]
-
-begun-goes : (start len later : ℕ) → begun start len (if later == 0 then 0 else 1 + later) ≡ begun start (len + 1) later
-begun-goes start len later =
-    let one : (1 + later == 0) ≡ false = grind (arith, nat_tests) in
-    elim (cases_Bool (later == 0)) [
-      | inl none ↦ rw none refl
-      | inr some ↦ rw (some, one) (omega arith)
-    ]
-
-pub starts-ends : (word : List ℕ) (len before start : ℕ) → len < length word → StartsBy word len before start
-    → ends_part before (get_or word len 0) (drop (len + 1) word) ≡ true → StartsBy word (len + 1) (get_or word len 0) (len + 1)
-starts-ends word len before start within starts ends =
-    let b = get_or word len 0 in
-    let rest = drop (len + 1) word in
-    record {
-      within = omega (arith, within);
-      start_within = omega arith;
-      is =
-          starts.is ∙ ap (λ (bs : List ℕ). begun start len (last_start (parts_after before bs))) (drop_more word len 0 within)
-          ∙ ap (begun start len) (start-ends before b rest ends)
-          ∙ begun-ends start len (last_start (parts_after b rest));
-    }
-
-pub starts-goes : (word : List ℕ) (len before start : ℕ) → len < length word → StartsBy word len before start
-    → ends_part before (get_or word len 0) (drop (len + 1) word) ≡ false → StartsBy word (len + 1) (get_or word len 0) start
-starts-goes word len before start within starts goes =
-    let b = get_or word len 0 in
-    let rest = drop (len + 1) word in
-    record {
-      within = omega (arith, within);
-      start_within = omega (arith, starts.start_within);
-      is =
-          starts.is ∙ ap (λ (bs : List ℕ). begun start len (last_start (parts_after before bs))) (drop_more word len 0 within)
-          ∙ ap (begun start len) (start-goes before b rest goes)
-          ∙ begun-goes start len (last_start (parts_after b rest));
-    }
-
-pub starts-all : (word : List ℕ) (len before start : ℕ) → length word ≤ len → StartsBy word len before start → start ≡ last_start (parts_of word)
-unfolding parts_after
-starts-all word len before start end starts =
-    let none : drop len word ≡ [] = drop_all len word end in
-    sym (rw none at starts.is)
 
 -- ---- all parts
 

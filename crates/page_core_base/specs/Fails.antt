@@ -38,5 +38,5 @@ IsPieceFault (Settings s) rows rows' notes notes' = ⊥
 IsPieceFault Ended rows rows' notes notes' = ⊥
 IsPieceFault (BadIndex n) rows rows' notes notes' = ⊥
 
-abbrev pub FailsByPieces : Result (Unit {0}) Fault → ℕ → ℕ → ℕ → ℕ → Type 0
+abbrev pub FailsByPieces : {A : Type 0} → Result A Fault → ℕ → ℕ → ℕ → ℕ → Type 0
 FailsByPieces r rows rows' notes notes' = MatchResult r (λ _. (rows' ≡ rows) × (notes' ≡ notes)) (λ e. IsPieceFault e rows rows' notes notes')

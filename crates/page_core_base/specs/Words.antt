@@ -1,11 +1,14 @@
 -- Words of a text, each after one blank, as the pieces that they are, and the parts of a word between which a row may end.
 -- Source: roff(7), "Filling and adjusting".
-use Rattle.std.specs.Prelude.{◌≡◌, ℕ, ◌+◌, Bool, true, false, not, ◌&&◌, ◌==◌, nat_lt, List, [], ◌∷◌, ◌++◌, length, map, take, if◌then◌else◌}
+use Rattle.std.specs.Prelude.{◌≡◌, ℕ, ◌+◌, Bool, true, false, not, ◌&&◌, ◌==◌, nat_lt, List, [], ◌∷◌, ◌++◌, length, map, if◌then◌else◌}
 use Rattle.std.specs.Char.{is_ascii_alphabetic}
 use Rattle.std.specs.List.{list_all}
+use Rattle.page_core_base.specs.Rows.{cells_in}
+use Rattle.page_core_base.specs.declared.cells.Cell.{Cell}
 use Rattle.page_core_base.specs.declared.cells.Font.{Font}
+use Rattle.page_core_base.specs.declared.cells.Font.TheVariants.{R}
 use Rattle.page_core_base.specs.declared.pieces.Piece.{Piece}
-use Rattle.page_core_base.specs.declared.pieces.Piece.TheVariants.{Text, Blank, Split}
+use Rattle.page_core_base.specs.declared.pieces.Piece.TheVariants.{Text, Char, Blank, Split}
 use Rattle.page_core_base.specs.declared.places.Place.{Place}
 use Rattle.page_core_base.specs.Pieces.{Item, shown}
 
@@ -45,11 +48,6 @@ parts_after before (b ∷ bytes) = if ends_part before b bytes then (b ∷ []) �
 abbrev pub parts_of : List ℕ → List (List ℕ)
 parts_of word = parts_after hyphen word
 
--- where the last of some parts begins
-abbrev pub last_start : List (List ℕ) → ℕ
-last_start [] = 0
-last_start (part ∷ parts) = if length parts == 0 then 0 else length part + last_start parts
-
 -- parts after another one, and parts: the row may end between them
 abbrev pub later_pieces : Font → Place → List (List ℕ) → List (Piece (List ℕ))
 later_pieces font place [] = []
@@ -73,8 +71,39 @@ unfoldable pub word_items : Font → Place → List (List ℕ) → List Item
 unfolding word_pieces
 word_items font place words = map shown (word_pieces font place words)
 
--- of these bytes, which are words with a blank before each, a call took the first words: this number of bytes
-abbrev pub TakesWords : {S : Type 0} → List ℕ → Font → Place → ℕ → (S → List Item → S → Type 0) → S → S → Type 0
-TakesWords {S} bytes font place taken gave s t =
-    (words : List (List ℕ)) → list_all is_word words ≡ true → bytes ≡ blank_words words
-    → (count : ℕ) × (taken ≡ length (blank_words (take count words))) × gave s (word_items font place (take count words)) t
+-- ---- words of letters: each letter is a cell
+
+-- a piece of a word of letters, which are no blanks
+abbrev pub is_lettered : Piece (List ℕ) → Bool
+is_lettered (Text text font place) = is_word text
+is_lettered (Char c font place) = not (c == 32)
+is_lettered other = false
+
+-- the cells of its letters
+abbrev pub letters_of : Piece (List ℕ) → List Cell
+letters_of (Text text font place) = map (λ c. record { c = c; font = font }) text
+letters_of (Char c font place) = record { c = c; font = font } ∷ []
+letters_of other = []
+
+-- the cells of a word
+abbrev pub word_letters : List (Piece (List ℕ)) → List Cell
+word_letters [] = []
+word_letters (piece ∷ pieces) = letters_of piece ++ word_letters pieces
+
+abbrev pub is_lettered_word : List (Piece (List ℕ)) → Bool
+is_lettered_word word = nat_lt 0 (length word) && list_all is_lettered word
+
+-- words with a blank before each: their cells, and their pieces
+unfoldable pub lettered_cells : List (List (Piece (List ℕ))) → List Cell
+lettered_cells [] = []
+lettered_cells (word ∷ words) = record { c = 32; font = R } ∷ (word_letters word ++ lettered_cells words)
+
+unfoldable pub lettered_pieces : List (List (Piece (List ℕ))) → List (Piece (List ℕ))
+lettered_pieces [] = []
+lettered_pieces (word ∷ words) = Blank 1 false ∷ (word ++ lettered_pieces words)
+
+-- these characters, each in its font, are words of letters with a blank before each, and a call took all of them, or none
+abbrev pub TakesWords : {S : Type 0} → List ℕ → List Font → Bool → (S → List Item → S → Type 0) → S → S → Type 0
+TakesWords {S} text fonts taken gave s t =
+    (words : List (List (Piece (List ℕ)))) → list_all is_lettered_word words ≡ true → cells_in text fonts ≡ lettered_cells words
+    → gave s (if taken then map shown (lettered_pieces words) else []) t

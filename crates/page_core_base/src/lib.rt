@@ -56,4 +56,4 @@ pub use places::Place;
 pub use row_outs::RowOut;
 pub use row_sinks::RowSink;
 pub use texts::is_line;
-pub use word_parts::{first_part_len, last_part_start};
+pub use word_parts::first_part_len;

@@ -35,11 +35,16 @@ pub trait PieceOut {
         }
     }
 
-    /// Takes as many of the first words of a text, with one blank before each, as it can take at once; answers how many bytes
-    /// these are, which may be none. The blank before the first word is at a place. Of any other text nothing is promised.
-    fn give_words(&mut self, text: &[u8], font: Font, place: Place) -> usize
-        ensures takes { TakesWords text.now font place result (Came left) self.old self.new }
-        ensures within { result ≤ length text.now };
+    /// Takes words at once, each after one blank: each byte is a letter of them, in the font beside it. Says whether it took them; else nothing
+    /// changes. Of any other text nothing is promised.
+    fn give_words(&mut self, text: &[u8], fonts: &[Font]) -> bool
+        requires { length fonts.now ≡ length text.now }
+        ensures { TakesWords text.now fonts.now result (Came left) self.old self.new }
+    {
+        let _ = text;
+        let _ = fonts;
+        false
+    }
 
     /// Takes a message.
     fn report(&mut self, note: &Note)
@@ -96,12 +101,19 @@ impl<O: PieceSink> PieceOut for PieceLatch<'_, O> {
         }
     }
 
+    // After a fault all words count as taken.
     #[inline(always)]
-    fn give_words(&mut self, text: &[u8], font: Font, place: Place) -> usize {
+    fn give_words(&mut self, text: &[u8], fonts: &[Font]) -> bool {
         if self.fault.is_some() {
-            return 0;
+            return true;
         }
-        self.out.take_words(text, font, place)
+        match self.out.take_words(text, fonts) {
+            Ok(taken) => taken,
+            Err(fault) => {
+                self.fault = Some(fault);
+                true
+            }
+        }
     }
 
     fn report(&mut self, note: &Note) {

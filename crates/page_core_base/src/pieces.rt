@@ -1,6 +1,6 @@
 //! Pieces: what a page's scopes give to be filled, in the order of the page.
 
-ghost use Rattle.std.specs.Prelude.{◌≡◌, ◌≤◌, ℕ, List, [], ◌∷◌, length, replicate};
+ghost use Rattle.std.specs.Prelude.{◌≡◌, ◌≤◌, ℕ, List, true, [], ◌∷◌, length, replicate, MatchResult};
 ghost use Rattle.page_core_base.specs.Sinks.{IsSink};
 ghost use Rattle.page_core_base.specs.Fails.{Rose, IsPieceFault, FailsByPieces};
 ghost use Rattle.page_core_base.specs.Latches.{Emits};
@@ -100,17 +100,18 @@ pub trait PieceSink: NoteSink {
         Ok(())
     }
 
-    /// Takes as many of the first words of a text, with one blank before each, as it can take at once; answers how many bytes these are. The
-    /// blank before the first word is at a place. Of any other text nothing is promised. A sink that says nothing of it takes none.
-    fn take_words(&mut self, text: &[u8], font: Font, place: Place) -> usize
-        ensures takes { TakesWords text.now font place result took self.old self.new }
-        ensures within { result ≤ length text.now }
+    /// Takes words at once, each after one blank: each byte is a letter of them, in the font beside it. Says whether it took them; else nothing
+    /// changes. Of any other text nothing is promised. A sink that says nothing of it takes none. Its faults are those of [`PieceSink::piece`].
+    fn take_words(&mut self, text: &[u8], fonts: &[Font]) -> Result<bool, Fault>
+        requires { length fonts.now ≡ length text.now }
+        ensures takes { MatchResult result (λ taken. TakesWords text.now fonts.now taken took self.old self.new)
+            (λ fault. TakesWords text.now fonts.now true (λ s items t. broke s fault items t) self.old self.new) }
+        ensures faults { FailsByPieces result (row_failed self.old) (row_failed self.new) (Self.failed self.old) (Self.failed self.new) }
         ensures same { Self.loans self.new ≡ Self.loans self.old }
     {
         let _ = text;
-        let _ = font;
-        let _ = place;
-        0
+        let _ = fonts;
+        Ok(false)
     }
 
     /// How often rows failed, up to 2^64 - 1.

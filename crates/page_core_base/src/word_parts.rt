@@ -2,12 +2,9 @@
 
 ghost use Rattle.std.specs.Prelude.{◌≡◌, ◌+◌, ◌<◌, ◌≤◌, false, true, ◌==◌, ◌∷◌, length, take, drop};
 ghost use Rattle.std.specs.List.{list_any};
-ghost use Rattle.page_core_base.specs.Words.{starts_with_letter, ends_part, hyphen, last_start, parts_of};
+ghost use Rattle.page_core_base.specs.Words.{starts_with_letter, ends_part, hyphen, parts_of};
 
 const HYPHEN: u8 = b'-';
-
-// The bytes that are searched for a hyphen at a time.
-const GROUP: usize = 16;
 
 // Whether a text begins with a letter.
 #[inline(always)]
@@ -100,53 +97,4 @@ pub fn first_part_len(word: &[u8]) -> usize
         return word.len();
     }
     hyphened_part_len(word)
-}
-
-// Where the last part of a word begins, hyphen by hyphen.
-#[inline(never)]
-fn hyphened_part_start(word: &[u8]) -> usize
-    ensures value { result ≡ last_start (parts_of word.now) }
-    ensures within { result ≤ length word.now }
-{
-    let mut start = 0;
-    let mut len = 0;
-    let mut before = HYPHEN;
-    while len < word.len() {
-        let byte = word[len];
-        len += 1;
-        if ends_part(before, byte, &word[len..]) {
-            start = len;
-        }
-        before = byte;
-    }
-    start
-}
-
-// Whether the last bytes of a text show that there is no hyphen after a place.
-#[inline(always)]
-fn is_free_after(text: &[u8], start: usize) -> bool
-    ensures { result ≡ true → list_any (λ byte. byte == hyphen) (drop start text.now) ≡ false }
-{
-    if text.len() < GROUP || start < text.len() - GROUP {
-        return false;
-    }
-    !holds_hyphen(&text[text.len() - GROUP..])
-}
-
-/// Where the last part of a word begins, in bytes from the word's first. The word begins at a place of a text and goes on to its end; what is
-/// before it is looked at with it, since a vector of bytes is read at once.
-#[inline(always)]
-pub fn last_part_start(text: &[u8], start: usize) -> usize
-    requires { start ≤ length text.now }
-    ensures value { result ≡ last_start (parts_of (drop start text.now)) }
-    ensures within { start + result ≤ length text.now }
-{
-    if is_free_after(text, start) {
-        return 0;
-    }
-    let word = &text[start..];
-    if !has_hyphen(word) {
-        return 0;
-    }
-    hyphened_part_start(word)
 }
