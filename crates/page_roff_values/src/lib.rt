@@ -6,7 +6,7 @@
 //!
 //! Proved: `Expansion::expand`, `expand_more`, `CallArguments::set`: a text once strings, registers, arguments and widths are interpolated, with its
 //! messages at their columns and the count of interpolations, is `value` (`specs/Values.antt`), a recursion in which a value is expanded by itself
-//! before the rest. `gives_itself`: such a line is its own value. `is_bounded`, `keeps_texts`: no line makes more interpolations, and none grows
+//! before the rest. `is_bounded`, `keeps_texts`: no line makes more interpolations, and none grows
 //! longer, than the limits say; what is expanded from lines is a line.
 #![tactic(auto)]
 
@@ -16,7 +16,6 @@ mod environments;
 mod expansions;
 mod known_widths;
 mod laws;
-mod lines;
 mod numbers;
 mod sources;
 
@@ -24,5 +23,4 @@ pub use call_arguments::CallArguments;
 pub use environments::Environment;
 pub use expansions::Expansion;
 pub use laws::{is_bounded, keeps_texts};
-pub use lines::gives_itself;
 pub use numbers::expression;
