@@ -1,5 +1,5 @@
 -- The events of each set of macros are in their line: helpers of proofs.
-use Rattle.std.proofs.Common.{◌≢◌, ℕ, ◌+◌, ◌≤◌, ◌<◌, min, ◌&&◌, List, [], ◌∷◌, length, inl, inr, arith}
+use Rattle.std.proofs.Common.{◌≡◌, ℕ, ◌+◌, ◌≤◌, min, ◌&&◌, List, [], ◌∷◌, length, inl, inr, arith}
 use Rattle.std.proofs.lemmas.Bool.{cases_Bool}
 use Rattle.page_core_base.specs.Limits.{LINE}
 use Rattle.page_core_base.specs.LinesTaken.{Line}
@@ -7,7 +7,7 @@ use Rattle.page_sets.specs.Either.{either_events}
 use Rattle.page_sets.specs.declared.either.Either.{Either}
 use Rattle.page_sets.specs.declared.either.Either.TheVariants as sets
 use Rattle.page_sets_lines.specs.declared.events.Event.{Event}
-use Rattle.page_laws.specs.Places.{ends_in_quote, prints_text, IsInLine, IsAfterFullLine, AreAll}
+use Rattle.page_laws.specs.Places.{ends_in_quote, prints_text, IsInLine, AreAll}
 use Rattle.page_laws.proofs.ManPlaceLemmas.{man_at}
 use Rattle.page_laws.proofs.MdocPlaceLemmas.{mdoc_at}
 
@@ -35,20 +35,6 @@ one_more line event l h =
 pub all_one_more : (set : Either) (line : Line) → length line.text ≤ LINE → AreAll (λ event. event.place.column ≤ LINE + 1) (either_events set line)
 all_one_more set line l = each_then (IsInLine line) _ (either_events set line) (λ event h. one_more line event l h) (all_in_line set line)
 
-beyond : (line : Line) (event : Event (List ℕ)) → length line.text ≤ LINE → IsInLine line event → min event.place.column LINE ≢ event.place.column
-    → IsAfterFullLine line event
-beyond line event l h m =
-    let b : LINE < event.place.column = omega (arith, m) in
-    let e = h.ends in
-    elim (cases_Bool (prints_text event.kind)) [
-      | inl p ↦
-          elim (cases_Bool (ends_in_quote line.text)) [
-            | inl q ↦ let k = rw (p, q) at e in record { prints = p; full = omega (arith, l, k, b); quote = q; column = omega (arith, l, k, b) }
-            | inr q ↦ let k = rw (p, q) at e in absurd (omega (arith, l, k, b))
-          ]
-      | inr p ↦ let k = rw p at e in absurd (omega (arith, l, k, b))
-    ]
-
-pub all_beyond : (set : Either) (line : Line) → length line.text ≤ LINE
-    → AreAll (λ event. min event.place.column LINE ≢ event.place.column → IsAfterFullLine line event) (either_events set line)
-all_beyond set line l = each_then (IsInLine line) _ (either_events set line) (λ event h. beyond line event l h) (all_in_line set line)
+-- so no limit above it changes a column
+pub all_same : (set : Either) (line : Line) → length line.text ≤ LINE → AreAll (λ event. min event.place.column (LINE + 1) ≡ event.place.column) (either_events set line)
+all_same set line l = each_then _ _ (either_events set line) (λ event h. omega (arith, h)) (all_one_more set line l)

@@ -1,6 +1,5 @@
 -- Where the events of a line are in it. Source: man(7), mdoc(7); roff(7), "LANGUAGE SYNTAX".
 use Rattle.std.specs.Prelude.{◌≡◌, ℕ, zero, suc, ◌+◌, ◌≤◌, max, ◌==◌, ◌&&◌, Bool, false, true, List, [], ◌∷◌, ◌++◌, length, if◌then◌else◌, Some, codes}
-use Rattle.page_core_base.specs.Limits.{LINE}
 use Rattle.page_core_base.specs.LinesTaken.{Line}
 use Rattle.page_core_base.specs.declared.cells.Font.TheVariants.{B}
 use Rattle.page_core_base.specs.declared.lines_taken.Form.TheVariants.{Control}
@@ -37,13 +36,6 @@ pub record IsInLine (line : Line) (event : Event (List ℕ)) : Type 0 where
   pub number : event.place.line ≡ line.number
   pub begins : 1 ≤ event.place.column
   pub ends : event.place.column ≤ last_column (prints_text event.kind) line.text
-
--- an event prints, and is at the column after the last byte of a line that is as long as a line may be and ends in a quote
-pub record IsAfterFullLine (line : Line) (event : Event (List ℕ)) : Type 0 where
-  pub prints : prints_text event.kind ≡ true
-  pub full : length line.text ≡ LINE
-  pub quote : ends_in_quote line.text ≡ true
-  pub column : event.place.column ≡ LINE + 1
 
 -- the same of each event
 abbrev pub AreAll : (Event (List ℕ) → Type 0) → List (Event (List ℕ)) → Type 0

@@ -12,8 +12,7 @@
 //! expression goes on as long as an operator follows (`page_core_numbers`). `cells_law`: a text in columns has a cell for each of its tabs, and one more
 //! (`page_scopes_phrases`). `names_law`, `glyphs_law`, `expansions_law`: the room that a name or a count has leaves nothing out (`page_roff_syntax`,
 //! `page_core_tables`, `page_roff_effects`). `places_law`: each event of a line is at one of its bytes, or, where it prints, right after a quote
-//! that is the last one; so the limit of a line in `own_phrase` (`page_scopes_phrases`) changes a column only in a line of as many bytes as a line may
-//! have that ends in a quote, and by one (`specs/Places.antt`).
+//! that is the last one; so the limit of a column in `own_phrase` (`page_scopes_phrases`) never changes one (`specs/Places.antt`).
 #![tactic(auto)]
 
 mod bounds;

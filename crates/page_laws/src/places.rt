@@ -1,25 +1,24 @@
 //! Laws of places: where the events of a line are in it.
 
-ghost use Rattle.std.specs.Prelude.{◌≡◌, ◌≢◌, ◌≤◌, ◌+◌, ℕ, List, length, min};
+ghost use Rattle.std.specs.Prelude.{◌≡◌, ◌≤◌, ◌+◌, ℕ, List, length, min};
 ghost use Rattle.page_core_base.specs.Limits.{LINE};
 ghost use Rattle.page_core_base.specs.LinesTaken.{Line};
 ghost use Rattle.page_sets.specs.Either.{either_events};
 ghost use Rattle.page_sets.specs.declared.either.Either.{Either};
 ghost use Rattle.page_sets.specs.declared.either.Either.TheVariants.{Mdoc};
-ghost use Rattle.page_laws.specs.Places.{AreAll, IsAfterFullLine, IsInLine, flag_events, flag_line};
+ghost use Rattle.page_laws.specs.Places.{AreAll, IsInLine, flag_events, flag_line};
 
 /// Each event of a line has the line's number, and the column of one of its bytes, from 1 (the first where the line has none); only an event that prints
 /// may be in the column after the last byte, and only where that byte is a quote (man(7), mdoc(7)). `last`: the dash that `Fl` prints before an argument
 /// that is only a quote is there.
 ///
-/// So of a line within the limit no column is more than one above it (`bound`). `limit`: the lesser of the two, which the phrase of a macro's own text
-/// takes (`own_phrase` of `page_scopes_phrases`), is the column itself, but in a line of as many bytes as a line may have that ends in a quote; there
-/// the column after the last byte becomes that of the last byte.
+/// So of a line within the limit no column is more than one above it (`bound`), and `limit`: that number, which bounds the column of a macro's own text
+/// (`own_phrase` of `page_scopes_phrases`), never changes one.
 pub fn places_law()
     ensures places { (set : Either) (line : Line) → AreAll (IsInLine line) (either_events set line) }
     ensures bound { (set : Either) (line : Line) → length line.text ≤ LINE
         → AreAll (λ event. event.place.column ≤ LINE + 1) (either_events set line) }
     ensures limit { (set : Either) (line : Line) → length line.text ≤ LINE
-        → AreAll (λ event. min event.place.column LINE ≢ event.place.column → IsAfterFullLine line event) (either_events set line) }
+        → AreAll (λ event. min event.place.column (LINE + 1) ≡ event.place.column) (either_events set line) }
     ensures last { (number blanks : ℕ) → either_events Mdoc (flag_line number blanks) ≡ flag_events (flag_line number blanks) }
 {}

@@ -128,7 +128,9 @@ pub(crate) fn give_coming<O: PieceOut>(
     ensures begun { has_begun.new ≡ bodies.begun_after (kind_view kind.now) has_begun.old }
 {
     if begins(kind, *has_begun) {
-        give_front(out, place, kind, context);
+        // (a copy, so that the event that comes stays in registers; so below)
+        let begun_by = *kind;
+        give_front(out, place, &begun_by, context);
         *has_begun = true;
     }
     report_number(out, place, kind);
@@ -190,7 +192,10 @@ fn give_kind_standing<O: PieceOut>(
     ensures name { name.new ≡ name_after (kind_view kind.now) name.old }
 {
     match kind {
-        EventKind::Close(closer) => give_suffix(out, place.line, closer, context, running),
+        EventKind::Close(closer) => {
+            let closer = *closer;
+            give_suffix(out, place.line, &closer, context, running);
+        }
         EventKind::Leaf(leaf) => {
             if !is_early(leaf, has_begun) {
                 give_kind(out, place, kind, name, context, running);

@@ -74,7 +74,8 @@ pub fn count_name(
     };
     match kind {
         EventKind::Word(word) if !matches!(word.role, Role::Delimiter) => {
-            count_word(output, word, so_far, running);
+            let word = *word;
+            count_word(output, &word, so_far, running);
         }
         EventKind::Leaf(Leaf::Step(LineStep::ManualName)) => {
             count_manual_name(output, name, so_far, running);

@@ -33,9 +33,14 @@ pub fn give_kind<O: PieceOut>(
     match kind {
         EventKind::Word(word) => {
             keep_name(out, place.line, word.role, word.arg, name);
-            give_line_word(out, place.line, word, context, running);
+            // (a copy, so that the event stays in registers; so below)
+            let word = *word;
+            give_line_word(out, place.line, &word, context, running);
         }
-        EventKind::Leaf(leaf) => give_leaf(out, place, leaf, name, context, running),
+        EventKind::Leaf(leaf) => {
+            let leaf = *leaf;
+            give_leaf(out, place, &leaf, name, context, running);
+        }
         EventKind::Raw(text) => give_raw_line(out, place, text, context, running),
         EventKind::End { .. } => end_line(out, context, running),
         EventKind::Note {

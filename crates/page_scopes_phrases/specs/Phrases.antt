@@ -55,12 +55,11 @@ abbrev pub is_tag : PagePart → Bool
 is_tag parts.Tag = true
 is_tag _ = false
 
--- where rows are filled, a row may end within the words of what is written in the page, but for tags
--- what a macro prints itself is at the macro, which is in a line
+-- what a macro prints itself is at the macro, which is in a line: no column of a line is beyond that limit
 abbrev pub own_phrase : Place → List ℕ → Option Font → (before after : Join) → Phrase (List ℕ)
 own_phrase place text font before after = record {
   text = text;
-  column = min place.column LINE;
+  column = min place.column (LINE + 1);
   is_quoted = false;
   is_line = false;
   is_written = false;
@@ -69,6 +68,7 @@ own_phrase place text font before after = record {
   after = after;
 }
 
+-- where rows are filled, a row may end within the words of what is written in the page, but for tags
 abbrev pub splits : Phrase (List ℕ) → Context → Bool
 splits p c = p.is_written && (not c.is_literal.value && not (is_tag c.part))
 

@@ -49,7 +49,7 @@ impl<'a> Phrase<&'a [u8]> {
     {
         Phrase {
             text,
-            column: place.column.min(LINE as u32),
+            column: place.column.min(LINE as u32 + 1),
             is_quoted: false,
             is_line: false,
             is_written: false,

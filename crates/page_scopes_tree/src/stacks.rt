@@ -222,6 +222,32 @@ fn take_idle<Y: Renderer, O: PieceOut>(
         (record { mode = skips; scopes = reverse scopes.now; state = state.now }) out.now }
 {}
 
+// The same with an event of its own, so that the event that is asked about stays in registers.
+#[inline(always)]
+fn take_nested<Y: Renderer, O: PieceOut>(
+    scopes: &mut Vec<Scope<Label, Y::Kept>>,
+    skips: &mut bool,
+    state: &mut Y,
+    act: &Act<&Event<&[u8]>>,
+    out: &mut O,
+)
+    requires depth { vec_len scopes.old ≤ SCOPES }
+    requires reserved { SCOPES ≤ vec_capacity scopes.old }
+    requires takes { TakesAct Y.Takes (act_view act.now) }
+    ensures stepped { TakesStep O.left Y.tables (does (act_view act.now))
+        (stack_edge skips.old scopes.old state.old) out.old
+        (stack_edge skips.new scopes.new state.new) out.new }
+    ensures kept { vec_capacity scopes.new ≡ vec_capacity scopes.old }
+{
+    match act {
+        Act::Event(event) => {
+            let event = **event;
+            take_nesting(scopes, skips, state, &Act::Event(&event), out);
+        }
+        Act::PageEnd(_) => take_nesting(scopes, skips, state, act, out),
+    }
+}
+
 /// An act ends what it ends, and then opens a scope or is a leaf.
 #[inline(always)]
 pub(crate) fn take_act<Y: Renderer, O: PieceOut>(
@@ -244,7 +270,7 @@ pub(crate) fn take_act<Y: Renderer, O: PieceOut>(
     } else if is_idle(act, scopes.as_slice()) {
         take_idle(scopes.as_slice(), *skips, state, act, out);
     } else {
-        take_nesting(scopes, skips, state, act, out);
+        take_nested(scopes, skips, state, act, out);
     }
 }
 

@@ -1,5 +1,5 @@
 use Rattle.page_laws.proofs.FlagLemmas.{flag_reached}
-use Rattle.page_laws.proofs.SetPlaceLemmas.{all_in_line, all_one_more, all_beyond}
+use Rattle.page_laws.proofs.SetPlaceLemmas.{all_in_line, all_one_more, all_same}
 use Rattle.page_laws.proofs.places.places_law.Goals as goal
 
 pub returns-clause-places : goal.returns-clause-places
@@ -9,7 +9,7 @@ pub returns-clause-bound : goal.returns-clause-bound
 returns-clause-bound c = all_one_more
 
 pub returns-clause-limit : goal.returns-clause-limit
-returns-clause-limit c = all_beyond
+returns-clause-limit c = all_same
 
 pub returns-clause-last : goal.returns-clause-last
 returns-clause-last c = flag_reached
