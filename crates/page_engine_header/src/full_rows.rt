@@ -5,9 +5,9 @@ ghost use Rattle.page_core_base.specs.Pieces.{Item};
 ghost use Rattle.page_core_base.specs.declared.limits.TheConstants.{CELLS};
 ghost use Rattle.page_engine_header.specs.machine.RowPlans.{RowPlanned, RowLeft};
 
-use page_core_base::{CELLS, Font, Note, Piece, PieceOut, Place};
+use page_core_base::{CELLS, Note, Piece, PieceOut};
 
-/// Hands on the characters of a row, and ends the row before one that it has no room for.
+/// Hands on the characters of a row, each a piece, and ends the row before one that it has no room for.
 #[derive(Drop)]
 pub(crate) struct FullRows<'a, O> {
     out: &'a mut O,
@@ -39,11 +39,6 @@ impl<O: PieceOut> PieceOut for FullRows<'_, O> {
             self.out.give(Piece::Break);
             self.out.give(piece);
         }
-    }
-
-    // Words are given piece by piece, so that each is counted.
-    fn give_words(&mut self, _text: &[u8], _font: Font, _place: Place) -> usize {
-        0
     }
 
     fn report(&mut self, note: &Note) {

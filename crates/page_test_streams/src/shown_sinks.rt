@@ -1,6 +1,6 @@
 //! The sink of tests.
 
-use page_core_base::{Font, Note, Piece, PieceOut, Place};
+use page_core_base::{Note, Piece, PieceOut};
 
 /// How pieces and messages are shown.
 pub trait Notation {
@@ -24,11 +24,6 @@ impl<N: Notation> PieceOut for ShownBy<N> {
 
     fn give(&mut self, piece: Piece<&[u8]>) {
         self.notation.show_piece(piece);
-    }
-
-    // Words come one by one.
-    fn give_words(&mut self, _text: &[u8], _font: Font, _place: Place) -> usize {
-        0
     }
 
     fn report(&mut self, note: &Note) {
