@@ -29,6 +29,16 @@ sink_cause Failed r r' n n' cause = absurd cause
 sink_cause Ended r r' n n' cause = absurd cause
 sink_cause (BadIndex m) r r' n n' cause = absurd cause
 
+-- where no item came nothing did
+pub nothing_passes : {R N : Type 0} {rg rw_ : R → List LaidRow → R → Type 0} {rf : R → ℕ} {ng nw : N → List Message → N → Type 0} {nf : N → ℕ}
+    → IsSink rg rw_ → IsSink ng nw → (f : Option FillEdge) (r : R) (n : N)
+    → ((row : FillEdge) → f ≡ Some row → Passed rg rf ng nf f f r r n n (laid_items row [])) × Quiet rf nf r r n n
+unfolding laid_items
+nothing_passes k l f r n = (
+  λ row is. record { filler = is; rows = k.none r; notes = l.none n; rows_failed = refl; notes_failed = refl },
+  record { rows = refl; notes = refl },
+)
+
 -- what a filler says of items is what is asked of a sink, where it lays them one by one
 pub items_pass : {R N : Type 0} (rg rw_ : R → List LaidRow → R → Type 0) (rf : R → ℕ) (ng nw : N → List Message → N → Type 0) (nf : N → ℕ)
     (res : Result (Unit {0}) Fault) (f f' : Option FillEdge) (r r' : R) (n n' : N) (items : List Item)

@@ -1,7 +1,6 @@
 pub mod Items
 pub mod Fixed
 pub mod LayerEdges
-pub mod TakenWords
 pub mod Feeds
 pub mod Cuts
 pub mod Phases

@@ -111,9 +111,14 @@ impl<R: RowSink, N: NoteSink> PieceSink for PageSink<'_, '_, '_, R, N> {
     }
 
     #[inline(always)]
-    fn take_words(&mut self, text: &[u8], font: Font, _place: Place) -> usize {
+    fn take_words(&mut self, text: &[u8], fonts: &[Font]) -> Result<bool, Fault> {
+        if !self.filler.takes_words(text) {
+            return Ok(false);
+        }
         self.filler.held_law();
-        self.filler.take_words(text, font)
+        self.filler
+            .words(text, fonts, &mut self.rows, &mut self.notes)?;
+        Ok(true)
     }
 
     fn row_failures(&self) -> u64 {
