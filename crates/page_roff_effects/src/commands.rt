@@ -1,9 +1,10 @@
 //! What the name of a control line stands for (roff(7), "MACRO SYNTAX" and "REQUEST REFERENCE").
 
-ghost use Rattle.std.specs.Prelude.{◌≡◌, ◌≤◌, [], length, IfSome, is_some, unwrap_or};
+ghost use Rattle.std.specs.Prelude.{◌≡◌, ◌≤◌, [], length, true, IfSome, is_some, unwrap_or};
 ghost use Rattle.page_core_base.specs.declared.limits.TheConstants.{BODY};
 ghost use Rattle.page_roff_syntax.specs.RegionHeads.{text_view};
 ghost use Rattle.page_roff_effects.specs.Commands as named;
+ghost use Rattle.page_roff_effects.specs.machine.Acting.{IsPassed};
 
 use page_core_base::BODY;
 use page_roff_definitions::is_in_copy_mode;
@@ -81,6 +82,15 @@ fn is_called(name: &[u8], names: &mut Names) -> bool
         Some(len) => len <= BODY,
         None => false,
     }
+}
+
+/// Whether a name is left to the set of macros, and heads nothing.
+#[tactic(auto, unfolding(crate::specs::Commands::command_of))]
+pub(crate) fn is_passed(name: &[u8], names: &mut Names) -> bool
+    ensures passed { result ≡ true → IsPassed name.now names.old }
+    ensures same { names.new ≡ names.old }
+{
+    !is_called(name, names) && matches!(Request::of(name), None | Some(Request::Layout(_)))
 }
 
 impl Command {

@@ -16,6 +16,7 @@ mod actions;
 mod answers;
 mod at_once;
 mod commands;
+mod free_lines;
 mod laws;
 mod leaves;
 mod loops;

@@ -1,6 +1,6 @@
 -- What the code's object holds, and what its calls do, in terms of the effects of parts. Trust needs no reading of it.
 -- Source: roff(7), "LANGUAGE SYNTAX".
-use Rattle.std.specs.Prelude.{◌≡◌, ℕ, ◌≤◌, Bool, true, false, List, [], ◌∷◌, length, Option, Some, None, if◌then◌else◌}
+use Rattle.std.specs.Prelude.{◌≡◌, ℕ, ◌≤◌, Bool, true, false, List, [], ◌∷◌, length, Option, None, if◌then◌else◌}
 use Rattle.page_core_base.specs.Limits.{ARGS, BODY}
 use Rattle.page_core_base.specs.Messages.{Message}
 use Rattle.page_core_base.specs.LinesTaken.{Line}
@@ -9,6 +9,7 @@ use Rattle.page_core_base.specs.declared.lines_taken.Form.TheVariants.{Text, Bla
 use Rattle.page_core_base.specs.declared.page_settings.Output.{Output}
 use Rattle.page_roff_blocks.specs.declared.line_parts.LinePart.TheVariants.{Leaf}
 use Rattle.page_roff_blocks.specs.LineParts.{line_parts}
+use Rattle.page_roff_blocks.specs.Parts.{keyword_in, keyword_of}
 use Rattle.page_roff_syntax.specs.LineForms.{has_word}
 use Rattle.page_core_base.specs.Latches.{Came}
 use Rattle.page_roff_values.specs.Values.{Spot, Laid, expanded}
@@ -152,10 +153,9 @@ pub record Takes (old : Acting) (o : Outcome) (result : ProductKind) (new : Acti
   pub kind : result ≡ kind_of o.product
   pub lends : Lends o.product new
 
--- a raw line whose name is left to the set of macros, and which is one part then, where it has a name
-abbrev pub IsPassed : List ℕ → Option (List ℕ) → Definitions → Type 0
-IsPassed raw None d = Unit {0}
-IsPassed raw (Some name) d = (command_of name d ≡ Pass) × (line_parts raw ≡ Leaf raw ∷ [])
+-- a name that is left to the set of macros, and heads nothing, as one that is no request
+abbrev pub IsPassed : List ℕ → Definitions → Type 0
+IsPassed name d = (command_of name d ≡ Pass) × (keyword_of name ≡ keyword_in None)
 
 -- a raw line that is one part was taken without a message, whether one more macro may run or not; or nothing was done
 pub record IsTaken (old : Acting) (raw : List ℕ) (outcome : Bool → Outcome) (new : Acting) : Type 0 where
