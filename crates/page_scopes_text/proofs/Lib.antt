@@ -3,6 +3,7 @@ pub mod TextLemmas
 pub mod BlankCountLemmas
 pub mod PlainWordLemmas
 pub mod RunLemmas
+pub mod RomanRunLemmas
 pub mod RunEndLemmas
 pub mod RunWordLemmas
 pub mod FontWordLemmas

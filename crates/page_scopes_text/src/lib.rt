@@ -16,6 +16,7 @@ mod names;
 mod numbers;
 mod parts;
 mod pens;
+mod roman_fonts;
 mod run_ends;
 mod runs;
 mod texts;
