@@ -7,4 +7,7 @@ pub mod RomanRunLemmas
 pub mod RunEndLemmas
 pub mod RunWordLemmas
 pub mod FontWordLemmas
+pub mod LetterCellLemmas
+pub mod LetterLemmas
+pub mod LetteredWordLemmas
 mod PartLemmas

@@ -62,14 +62,14 @@ run_lettered font place (word ∷ words) h =
     let first = (both (is_word word) (list_all (λ b. not (b == hyphen)) word) is.0).0 in
     rw (first, run_lettered font (record place { column = place.column + (1 + length word) }) words is.1) refl
 
-abbrev roman : ℕ → Cell
+abbrev pub roman : ℕ → Cell
 roman c = record { c = c; font = R }
 
-roman_cells : (bytes : List ℕ) → cells_in bytes (replicate (length bytes) R) ≡ map roman bytes
+pub roman_cells : (bytes : List ℕ) → cells_in bytes (replicate (length bytes) R) ≡ map roman bytes
 roman_cells [] = refl
 roman_cells (b ∷ bytes) = ap (λ (cells : List Cell). roman b ∷ cells) (roman_cells bytes)
 
-words_cells : (place : Place) (words : List (List ℕ)) → map roman (blank_words words) ≡ lettered_cells (run_words R place words)
+pub words_cells : (place : Place) (words : List (List ℕ)) → map roman (blank_words words) ≡ lettered_cells (run_words R place words)
 unfolding blank_words lettered_cells
 words_cells place [] = refl
 words_cells place (word ∷ words) =

@@ -12,6 +12,8 @@
 #![tactic(auto)]
 
 mod font_words;
+mod lettered_words;
+mod letters;
 mod names;
 mod numbers;
 mod parts;

@@ -30,15 +30,18 @@ fn blank_before(text: &[u8], place: usize) -> usize
     at
 }
 
-/// How many bytes at a text's front are words that print themselves, with one blank before each, and without a hyphen.
+/// How many bytes at a text's front, at most a number, are words that print themselves, with one blank before each, and without a hyphen.
 #[inline(always)]
-pub(crate) fn run_len(quoted: bool, text: &[u8]) -> usize
+pub(crate) fn run_len(quoted: bool, text: &[u8], most: usize) -> usize
     requires short { length text.now ≤ LINE }
     requires word { begins_word text.now ≡ false }
     ensures within { result ≤ length text.now }
     ensures run { BeginsRun quoted text.now (take result text.now) (drop result text.now) }
 {
     let len = going_len(quoted, text);
+    if most < len {
+        return blank_before(text, most);
+    }
     if len == text.len() || text[len] == b' ' {
         return len;
     }
