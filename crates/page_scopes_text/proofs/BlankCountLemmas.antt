@@ -1,7 +1,7 @@
 -- How many blanks a `\h` is.
-use Rattle.std.proofs.Common.{◌≡◌, ℕ, ◌≤◌, ◌/◌, min, ℤ, pos, negsuc, List, replicate, arith}
+use Rattle.std.proofs.Common.{ℕ, ◌≤◌, ◌/◌, ℤ, pos, negsuc, List, arith}
 use Rattle.std.proofs.Math.Nat.{min-le_right}
-use Rattle.page_core_numbers.specs.Columns.{blanks_in, characters_columns}
+use Rattle.page_core_numbers.specs.Columns.{blanks_in}
 use Rattle.page_core_numbers.specs.Expressions.{expression_of}
 use Rattle.page_core_numbers.specs.declared.scales.Scale.TheVariants.{Em}
 use Rattle.page_core_numbers.proofs.ColumnLemmas.{blanks-columns}

@@ -1,9 +1,8 @@
 -- Words of two escapes that ask for fonts, each before a text that prints itself.
-use Rattle.std.proofs.Common.{◌≡◌, ℕ, zero, suc, ◌<◌, ◌≤◌, Bool, true, false, List, [], ◌∷◌, ◌++◌, length, take, drop, refl, ap, ap₂, ◌∙◌, arith, sym, length-drop, append-nil, get_or, inl, inr}
+use Rattle.std.proofs.Common.{◌≡◌, ℕ, zero, suc, ◌<◌, ◌≤◌, Bool, true, false, List, [], ◌∷◌, ◌++◌, length, take, drop, refl, ap, ap₂, ◌∙◌, arith, sym, length-drop, append-nil}
 use Rattle.std.specs.List.{prefix_len}
 use Rattle.std.proofs.lemmas.List.Folds.{length-prefix_len}
 use Rattle.std.proofs.lemmas.List.{length-take-le}
-use Rattle.std.proofs.lemmas.Bool.{cases_Bool}
 use Rattle.page_core_base.specs.Pieces.{Item}
 use Rattle.page_core_base.specs.declared.places.Place.{Place}
 use Rattle.page_core_escapes.specs.Meanings as meanings
@@ -12,8 +11,7 @@ use Rattle.page_core_escapes.specs.machine.ShortEscapes.{ShortFont}
 use Rattle.page_core_escapes.specs.Tokens.{TextToken, plain, escaped, begins_word, prints_itself, token_at, token_len, token_view}
 use Rattle.page_scopes_words.specs.Words.{at, face_notes}
 use Rattle.page_scopes_text.proofs.PartedLemmas.{no_word, plain_begins, plain_token, words_more}
-use Rattle.page_scopes_text.proofs.PlainWordLemmas.{blank_len}
-use Rattle.page_scopes_text.specs.machine.FontWords.{ReadsBlankFontWord, ReadsFont, ReadsFontWord, ReadsPart, Silent, font_tokens, part_tokens}
+use Rattle.page_scopes_text.specs.machine.FontWords.{ReadsFont, ReadsFontWord, ReadsPart, Silent, font_tokens, part_tokens}
 use Rattle.page_scopes_text.specs.Parted.{Parted}
 use Rattle.page_scopes_text.specs.Words.{body_items, empty_items, gap_after, gap_items, pen_after, pen_through, plain_items, tokens_items, word_begun, word_items, word_notes}
 use Rattle.page_scopes_text.specs.declared.font_words.FontWord.{FontWord}
@@ -43,7 +41,7 @@ reads_part quoted text (suc n) e h = some_part quoted text (suc n) e h (omega ar
 
 -- ---- an escape that asks for a font
 
-known_notes : (quoted : Bool) (place : Place) (font : Face) → is_known font ≡ true → face_notes quoted place font ≡ []
+pub known_notes : (quoted : Bool) (place : Place) (font : Face) → is_known font ≡ true → face_notes quoted place font ≡ []
 known_notes quoted place meanings.roman h = refl
 known_notes quoted place meanings.italic h = refl
 known_notes quoted place meanings.bold h = refl
@@ -99,30 +97,6 @@ reads_font_word quoted text inner later last rest word a b c d ends =
       others = sym (ap (λ (t : Parted). t.others) (a.words quoted) ∙ ap (λ (t : Parted). t.others) b.words ∙ ap (λ (t : Parted). t.others) (c.words quoted) ∙ ap (λ (t : Parted). t.others) d.words);
       before = a.silent;
       after = c.silent;
-    }
-
-font_word_begins : (quoted : Bool) (text rest : List ℕ) (word : FontWord) → ReadsFontWord quoted text word rest → begins_word text ≡ true
-font_word_begins quoted text rest word r = elim (cases_Bool (begins_word text)) [ inl t ↦ t | inr f ↦ absurd (never (sym (no_word quoted text f) ∙ r.only)) ]
-  where
-    never : [] ≡ font_tokens word → ⊥
-    never e = cc
-
-pub reads_blank_font_word : (quoted : Bool) (text rest : List ℕ) (word : FontWord) → 0 < length text → get_or text 0 0 ≡ 32
-    → ReadsFontWord quoted (drop 1 text) word rest → ReadsBlankFontWord quoted text word rest
-reads_blank_font_word quoted [] rest word some e r = absurd (omega (arith, some))
-reads_blank_font_word quoted (b ∷ bs) rest word some e r =
-    let blank : b ≡ 32 = e in
-    let begins = font_word_begins quoted bs rest word r in
-    record {
-      len = omega (arith, r.len);
-      one = rw blank (sym (blank_len quoted bs begins));
-      blank = rw blank refl;
-      begins = begins;
-      only = r.only;
-      ends = r.ends;
-      others = r.others;
-      before = r.before;
-      after = r.after;
     }
 
 -- ---- what it gives

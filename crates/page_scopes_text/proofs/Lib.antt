@@ -3,7 +3,11 @@ pub mod TextLemmas
 pub mod BlankCountLemmas
 pub mod PlainWordLemmas
 pub mod RunLemmas
+pub mod RomanRunLemmas
 pub mod RunEndLemmas
 pub mod RunWordLemmas
 pub mod FontWordLemmas
+pub mod LetterCellLemmas
+pub mod LetterLemmas
+pub mod LetteredWordLemmas
 mod PartLemmas

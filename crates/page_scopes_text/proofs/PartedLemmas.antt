@@ -190,7 +190,7 @@ some_less : (n : ℕ) → 0 < n → nat_lt 0 n ≡ true
 some_less n h = grind (arith, nat_tests, h)
 
 -- some bytes that print themselves are a word
-plain_word : (quoted : Bool) (text : List ℕ) (n : ℕ) → n ≡ prefix_len (prints_itself quoted) text → 0 < length (take n text) → is_word (take n text) ≡ true
+pub plain_word : (quoted : Bool) (text : List ℕ) (n : ℕ) → n ≡ prefix_len (prints_itself quoted) text → 0 < length (take n text) → is_word (take n text) ≡ true
 plain_word quoted text n e some =
     let front = all_before (prints_itself quoted) (λ b. not (b == 32)) (λ b h. no_blank (b == 32) (b == 9) (b == 92 || (quoted && b == 34)) h) text n (omega (arith, e)) in
     rw (some_less (length (take n text)) some) front

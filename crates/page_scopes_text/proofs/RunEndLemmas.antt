@@ -28,16 +28,22 @@ top_lane : (a : Bool) → top 7 (cond a 255 0) ≡ a
 top_lane true = refl
 top_lane false = refl
 
--- what is computed of each lane but for blanks, and of blanks
+-- what is computed of each lane of hyphens, of others but for blanks, and of blanks
+abbrev pub hyphen_lane : ℕ → ℕ
+hyphen_lane x = cond (eqb x 45) 255 0
+
 abbrev pub other_lane : ℕ → ℕ → ℕ
 other_lane mark x = bit_or (cond (eqb x 9) 255 0) (bit_or (cond (eqb x 92) 255 0) (cond (eqb x mark) 255 0))
 
 abbrev pub blank_lane : ℕ → ℕ
 blank_lane x = cond (eqb x 32) 255 0
 
-tests_lane : (a b m k n : Bool)
-    → top 7 (bit_or (bit_or (cond a 255 0) (bit_or (cond b 255 0) (cond m 255 0))) (bit_and (cond k 255 0) (cond n 255 0))) ≡ ((a || (b || m)) || (k && n))
-tests_lane a b m k n = rw (or_lanes b m, or_lanes a (b || m), and_lanes k n, or_lanes (a || (b || m)) (k && n)) (top_lane ((a || (b || m)) || (k && n)))
+tests_lane : (h a b m k n : Bool)
+    → top 7 (bit_or (cond h 255 0) (bit_or (bit_or (cond a 255 0) (bit_or (cond b 255 0) (cond m 255 0))) (bit_and (cond k 255 0) (cond n 255 0))))
+    ≡ (h || ((a || (b || m)) || (k && n)))
+tests_lane h a b m k n =
+    rw (or_lanes b m, or_lanes a (b || m), and_lanes k n, or_lanes (a || (b || m)) (k && n), or_lanes h ((a || (b || m)) || (k && n)))
+    (top_lane (h || ((a || (b || m)) || (k && n))))
 
 or_same : (b : Bool) → (b || b) ≡ (b || false)
 or_same true = refl
@@ -47,21 +53,23 @@ marked : (quoted : Bool) (mark x : ℕ) → mark ≡ (if quoted then 34 else 92)
 marked true mark x e = rw e refl
 marked false mark x e = rw e (or_same (x == 92))
 
-lane : (quoted : Bool) (mark x y : ℕ) → mark ≡ (if quoted then 34 else 92) → top 7 (bit_or (other_lane mark x) (bit_and (blank_lane x) (blank_lane y))) ≡ ends_run quoted x y
+lane : (quoted : Bool) (mark x y : ℕ) → mark ≡ (if quoted then 34 else 92)
+    → top 7 (bit_or (hyphen_lane x) (bit_or (other_lane mark x) (bit_and (blank_lane x) (blank_lane y)))) ≡ ends_run quoted x y
 lane quoted mark x y e =
-    tests_lane (x == 9) (x == 92) (x == mark) (x == 32) (y == 32) ∙ ap (λ (t : Bool). (x == 9 || t) || (x == 32 && y == 32)) (marked quoted mark x e)
+    tests_lane (x == 45) (x == 9) (x == 92) (x == mark) (x == 32) (y == 32)
+    ∙ ap (λ (t : Bool). x == 45 || ((x == 9 || t) || (x == 32 && y == 32))) (marked quoted mark x e)
 
 lanes : (quoted : Bool) (mark : ℕ) → mark ≡ (if quoted then 34 else 92) → (v w : List ℕ)
-    → map (top 7) (zip2 bit_or (map (other_lane mark) v) (zip2 bit_and (map blank_lane v) (map blank_lane w))) ≡ zip2 (ends_run quoted) v w
+    → map (top 7) (zip2 bit_or (map hyphen_lane v) (zip2 bit_or (map (other_lane mark) v) (zip2 bit_and (map blank_lane v) (map blank_lane w)))) ≡ zip2 (ends_run quoted) v w
 lanes quoted mark e [] w = refl
 lanes quoted mark e (x ∷ xs) [] = refl
 lanes quoted mark e (x ∷ xs) (y ∷ ys) = ap₂ (λ (b : Bool) (bs : List Bool). b ∷ bs) (lane quoted mark x y e) (lanes quoted mark e xs ys)
 
-pub ends_mask : (quoted : Bool) (mark : ℕ) (v w others here next : List ℕ) → mark ≡ (if quoted then 34 else 92) → length v ≡ 16 → length w ≡ 16
-    → others ≡ map (other_lane mark) v → here ≡ map blank_lane v → next ≡ map blank_lane w
-    → mask_l (map (top 7) (zip2 bit_or others (zip2 bit_and here next))) % 2 ^ 64 ≡ mask_l (zip2 (ends_run quoted) v w)
-ends_mask quoted mark v w others here next e long same a b c =
-    rw (a, b, c, lanes quoted mark e v w) (mask_l-mod (zip2 (ends_run quoted) v w) 64 (omega (arith, length-zip2 (ends_run quoted) v w (long ∙ sym same), long)))
+pub ends_mask : (quoted : Bool) (mark : ℕ) (v w hyphens others here next : List ℕ) → mark ≡ (if quoted then 34 else 92) → length v ≡ 16 → length w ≡ 16
+    → hyphens ≡ map hyphen_lane v → others ≡ map (other_lane mark) v → here ≡ map blank_lane v → next ≡ map blank_lane w
+    → mask_l (map (top 7) (zip2 bit_or hyphens (zip2 bit_or others (zip2 bit_and here next)))) % 2 ^ 64 ≡ mask_l (zip2 (ends_run quoted) v w)
+ends_mask quoted mark v w hyphens others here next e long same h a b c =
+    rw (h, a, b, c, lanes quoted mark e v w) (mask_l-mod (zip2 (ends_run quoted) v w) 64 (omega (arith, length-zip2 (ends_run quoted) v w (long ∙ sym same), long)))
 
 -- ---- from lanes to places
 

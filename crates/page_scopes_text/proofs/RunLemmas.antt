@@ -7,7 +7,7 @@ use Rattle.std.proofs.lemmas.List.{map-append, take-append-drop}
 use Rattle.std.proofs.lemmas.List.Folds.{list_all-append}
 use Rattle.page_core_base.specs.Pieces.{Item, shown}
 use Rattle.page_core_base.specs.Latches.{Came, CameUpTo}
-use Rattle.page_core_base.specs.Words.{TakesWords, blank_words, is_word, part_pieces, parts_of, word_items, word_pieces}
+use Rattle.page_core_base.specs.Words.{blank_words, hyphen, is_word, part_pieces, parts_of, word_items, word_pieces}
 use Rattle.page_core_base.specs.declared.cells.Font.{Font}
 use Rattle.page_core_base.specs.declared.pieces.Piece.TheVariants.{Blank}
 use Rattle.page_core_base.specs.declared.places.Place.{Place}
@@ -17,7 +17,7 @@ use Rattle.page_scopes_words.specs.Words.{at}
 use Rattle.page_scopes_text.proofs.PlainWordLemmas.{blank_word_after, blank_word_items, moved}
 use Rattle.page_scopes_text.specs.Parted.{Spaced, words_of}
 use Rattle.page_scopes_text.specs.machine.Reads.{resting}
-use Rattle.page_scopes_text.specs.machine.Runs.{BeginsRun, BeginsWith, blank_word}
+use Rattle.page_scopes_text.specs.machine.Runs.{BeginsRun, BeginsWith, TakesFront, blank_word, is_whole_word}
 use Rattle.page_scopes_text.specs.Texts.{others_after, others_items}
 use Rattle.page_scopes_text.specs.Words.{parts_items}
 use Rattle.page_scopes_text.specs.declared.pens.Pen.{Pen}
@@ -30,12 +30,12 @@ unfolding blank_words
 blank_words-append [] ys = refl
 blank_words-append (x ∷ xs) ys = rw (blank_words-append xs ys, append_assoc x (blank_words xs) (blank_words ys)) refl
 
-no_first : (font : Font) (place : Place) → word_items font place [] ≡ []
+pub no_first : (font : Font) (place : Place) → word_items font place [] ≡ []
 unfolding word_items word_pieces
 no_first font place = refl
 
 -- the pieces of a word, and those of the others
-next_items : (font : Font) (place : Place) (word : List ℕ) (words : List (List ℕ))
+pub next_items : (font : Font) (place : Place) (word : List ℕ) (words : List (List ℕ))
     → word_items font place (word ∷ words)
     ≡ shown (Blank 1 false) ∷ (parts_items font (record place { column = place.column + 1 }) word ++ word_items font (record place { column = place.column + (1 + length word) }) words)
 unfolding word_items word_pieces
@@ -100,26 +100,26 @@ unfolding blank_words
 no_words text [] h e = refl
 no_words text (word ∷ words) h e = absurd (omega (arith, h, ap (λ (bytes : List ℕ). length bytes) e))
 
-pub first_word : (text : List ℕ) (words : List (List ℕ)) (n : ℕ) → 0 < length text → list_all is_word words ≡ true → text ≡ blank_words words
+pub first_word : (text : List ℕ) (words : List (List ℕ)) (n : ℕ) → 0 < length text → list_all is_whole_word words ≡ true → text ≡ blank_words words
     → n ≡ prefix_len (λ b. not (b == 32)) (drop 1 text) → BeginsWith words (take n (drop 1 text)) (drop n (drop 1 text))
 unfolding blank_words
 first_word text [] n some are e k = absurd (omega (arith, some, ap (λ (bytes : List ℕ). length bytes) e))
 first_word text (word ∷ words) n some are e k =
-    let is = and_true (is_word word) (list_all is_word words) are in
-    let letters = and_true (nat_lt 0 (length word)) (list_all (λ b. not (b == 32)) word) is.0 in
+    let is = and_true (is_whole_word word) (list_all is_whole_word words) are in
+    let letters = and_true (nat_lt 0 (length word)) (list_all (λ b. not (b == 32)) word) (and_true (is_word word) (list_all (λ b. not (b == hyphen)) word) is.0).0 in
     let rest : drop 1 text ≡ word ++ blank_words words = ap (λ (bytes : List ℕ). drop 1 bytes) e in
     let len : n ≡ length word = k ∙ ap (prefix_len (λ b. not (b == 32))) rest ∙ word_end word words letters.1 in
     rw (rest, len) (words, ap (λ (w : List ℕ). w ∷ words) (sym (take-append_seam word (blank_words words))), drop-append_seam word (blank_words words))
 
 -- ---- the rest of some words
 
-pub are-append : (xs ys : List (List ℕ)) → list_all is_word (xs ++ ys) ≡ true → list_all is_word ys ≡ true
-are-append xs ys h = (and_true (list_all is_word xs) (list_all is_word ys) (sym (list_all-append is_word xs ys) ∙ h)).1
+pub are-append : (xs ys : List (List ℕ)) → list_all is_whole_word (xs ++ ys) ≡ true → list_all is_whole_word ys ≡ true
+are-append xs ys h = (and_true (list_all is_whole_word xs) (list_all is_whole_word ys) (sym (list_all-append is_whole_word xs ys) ∙ h)).1
 
 -- where some words are taken, the others are left
-pub words_left : (words : List (List ℕ)) (count taken : ℕ) (text : List ℕ) → list_all is_word words ≡ true → text ≡ blank_words words
+pub words_left : (words : List (List ℕ)) (count taken : ℕ) (text : List ℕ) → list_all is_whole_word words ≡ true → text ≡ blank_words words
     → taken ≡ length (blank_words (take count words))
-    → (list_all is_word (drop count words) ≡ true) × (drop taken text ≡ blank_words (drop count words))
+    → (list_all is_whole_word (drop count words) ≡ true) × (drop taken text ≡ blank_words (drop count words))
 words_left words count taken text are e k =
     let parts = take-append-drop count words in
     let bytes : text ≡ blank_words (take count words) ++ blank_words (drop count words) = e ∙ ap blank_words (sym parts) ∙ blank_words-append (take count words) (drop count words) in (
@@ -133,8 +133,8 @@ pub items_left : (font : Font) (place : Place) (words : List (List ℕ)) (count 
 items_left font place words count taken k =
     ap (word_items font place) (sym (take-append-drop count words)) ∙ word_items-append font place (take count words) (drop count words) ∙ rw k refl
 
-pub are-tail : (word : List ℕ) (words : List (List ℕ)) → list_all is_word (word ∷ words) ≡ true → list_all is_word words ≡ true
-are-tail word words h = (and_true (is_word word) (list_all is_word words) h).1
+pub are-tail : (word : List ℕ) (words : List (List ℕ)) → list_all is_whole_word (word ∷ words) ≡ true → list_all is_whole_word words ≡ true
+are-tail word words h = (and_true (is_whole_word word) (list_all is_whole_word words) h).1
 
 -- the pieces of the next word, and those of the others
 pub items_next : (font : Font) (place : Place) (words : List (List ℕ)) (word : List ℕ) (others : List (List ℕ)) → words ≡ word ∷ others
@@ -152,14 +152,14 @@ no_items font place words e = ap (word_items font place) e ∙ no_first font pla
 -- of some words these others are still to come
 abbrev pub Comes : {P S : Type 0} → (P → S → List Item → Type 0) → Font → S → Place → List ℕ → S → Place → List ℕ → Type 0
 Comes {P} left font start first text now place rest =
-    (words : List (List ℕ)) → list_all is_word words ≡ true → text ≡ blank_words words
-    → (others : List (List ℕ)) × (list_all is_word others ≡ true) × (rest ≡ blank_words others)
+    (words : List (List ℕ)) → list_all is_whole_word words ≡ true → text ≡ blank_words words
+    → (others : List (List ℕ)) × (list_all is_whole_word others ≡ true) × (rest ≡ blank_words others)
     × CameUpTo left start (word_items font first words) (word_items font place others) now
 
 taken_of : {P S : Type 0} (left : P → S → List Item → Type 0) (font : Font) (start : S) (items : List Item) (s : S) (place : Place) (rest : List ℕ) (taken : ℕ) (t : S)
-    (others : List (List ℕ)) (count : ℕ) → list_all is_word others ≡ true → rest ≡ blank_words others → CameUpTo left start items (word_items font place others) s
+    (others : List (List ℕ)) (count : ℕ) → list_all is_whole_word others ≡ true → rest ≡ blank_words others → CameUpTo left start items (word_items font place others) s
     → taken ≡ length (blank_words (take count others)) → Came left s (word_items font place (take count others)) t
-    → (later : List (List ℕ)) × (list_all is_word later ≡ true) × (drop taken rest ≡ blank_words later)
+    → (later : List (List ℕ)) × (list_all is_whole_word later ≡ true) × (drop taken rest ≡ blank_words later)
     × CameUpTo left start items (word_items font (record place { column = place.column + taken }) later) t
 taken_of left font start items s place rest taken t others count are bytes came k given =
     let l = words_left others count taken rest are bytes k in (
@@ -171,7 +171,7 @@ taken_of left font start items s place rest taken t others count are bytes came 
     )
 
 pub comes_taken : {P S : Type 0} (left : P → S → List Item → Type 0) (font : Font) (start : S) (first : Place) (text : List ℕ) (s : S) (place : Place) (rest : List ℕ)
-    (taken : ℕ) (t : S) → Comes left font start first text s place rest → TakesWords rest font place taken (Came left) s t
+    (taken : ℕ) (t : S) → Comes left font start first text s place rest → TakesFront rest font place taken (Came left) s t
     → Comes left font start first text t (record place { column = place.column + taken }) (drop taken rest)
 comes_taken left font start first text s place rest taken t h took = λ words are bytes.
     let b = h words are bytes in
@@ -179,10 +179,10 @@ comes_taken left font start first text s place rest taken t h took = λ words ar
     taken_of left font start (word_items font first words) s place rest taken t b.0 g.0 b.1 b.2 b.3 g.1 g.2
 
 word_of : {P S : Type 0} (left : P → S → List Item → Type 0) (font : Font) (start : S) (items : List Item) (s : S) (place : Place) (word after : List ℕ) (t : S)
-    (words others : List (List ℕ)) → list_all is_word words ≡ true → CameUpTo left start items (word_items font place words) s
+    (words others : List (List ℕ)) → list_all is_whole_word words ≡ true → CameUpTo left start items (word_items font place words) s
     → words ≡ word ∷ others → after ≡ blank_words others
     → Came left s (shown (Blank 1 false) ∷ parts_items font (record place { column = place.column + 1 }) word) t
-    → (later : List (List ℕ)) × (list_all is_word later ≡ true) × (after ≡ blank_words later)
+    → (later : List (List ℕ)) × (list_all is_whole_word later ≡ true) × (after ≡ blank_words later)
     × CameUpTo left start items (word_items font (record place { column = place.column + 1 + length word }) later) t
 word_of left font start items s place word after t words others are came e bytes given = (
   others,
@@ -193,7 +193,7 @@ word_of left font start items s place word after t words others are came e bytes
 
 pub comes_word : {P S : Type 0} (left : P → S → List Item → Type 0) (font : Font) (start : S) (first : Place) (text : List ℕ) (s : S) (place : Place) (rest word after : List ℕ)
     (t : S) → Comes left font start first text s place rest
-    → ((words : List (List ℕ)) → list_all is_word words ≡ true → rest ≡ blank_words words → BeginsWith words word after)
+    → ((words : List (List ℕ)) → list_all is_whole_word words ≡ true → rest ≡ blank_words words → BeginsWith words word after)
     → Came left s (shown (Blank 1 false) ∷ parts_items font (record place { column = place.column + 1 }) word) t
     → Comes left font start first text t (record place { column = place.column + 1 + length word }) after
 comes_word left font start first text s place rest word after t h begins given = λ words are bytes.
@@ -204,7 +204,7 @@ comes_word left font start first text s place rest word after t h begins given =
 -- where nothing is left all came
 pub comes_all : {P S : Type 0} (left : P → S → List Item → Type 0) (font : Font) (start : S) (first : Place) (text : List ℕ) (s : S) (place : Place) (rest : List ℕ)
     → length rest ≤ 0 → Comes left font start first text s place rest
-    → (words : List (List ℕ)) → list_all is_word words ≡ true → text ≡ blank_words words → Came left start (word_items font first words) s
+    → (words : List (List ℕ)) → list_all is_whole_word words ≡ true → text ≡ blank_words words → Came left start (word_items font first words) s
 comes_all left font start first text s place rest none h words are bytes = λ plan more k.
     let b = h words are bytes in
     rw (no_items font place b.0 (no_words rest b.0 none b.2)) at (b.3 plan more k)
@@ -213,7 +213,7 @@ comes_all left font start first text s place rest none h words are bytes = λ pl
 
 pub run_came : {P S : Type 0} (left : P → S → List Item → Type 0) (style : TextStyle) (line : ℕ) (pen : Pen) (text run rest : List ℕ) (s t : S)
     → style.is_literal ≡ false → pen ≡ resting pen.fonts pen.column → BeginsRun style.is_quoted text run rest
-    → ((words : List (List ℕ)) → list_all is_word words ≡ true → run ≡ blank_words words → Came left s (word_items pen.fonts.value.font (at line pen.column) words) t)
+    → ((words : List (List ℕ)) → list_all is_whole_word words ≡ true → run ≡ blank_words words → Came left s (word_items pen.fonts.value.font (at line pen.column) words) t)
     → CameUpTo left s (others_items style line pen (words_of style.is_quoted text).others)
     (others_items style line (record pen { column = pen.column + length run }) (words_of style.is_quoted rest).others) t
 run_came left style line pen text run rest s t literal e begins gives = λ plan more h.

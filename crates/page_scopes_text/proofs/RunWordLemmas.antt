@@ -1,10 +1,10 @@
 -- The words of a text up to a place before which no run of words ends.
 use Rattle.std.proofs.Common.{◌≡◌, ℕ, zero, suc, ◌+◌, ◌-◌, ◌<◌, ◌≤◌, ◌==◌, ◌&&◌, ◌||◌, Bool, true, false, not, cond, eqb-true, List, [], ◌∷◌, ◌++◌, length, take, drop, get_or, refl, sym, ap, ap₂, ◌∙◌, arith}
-use Rattle.std.specs.List.{prefix_len}
+use Rattle.std.specs.List.{list_all, prefix_len}
 use Rattle.std.proofs.Math.Seq.{take-add}
 use Rattle.std.proofs.lemmas.List.{drop-drop, get_or-drop, get_or_default, get_or_past, length-drop, length-take-le}
 use Rattle.std.proofs.lemmas.List.Sums.{prefix_len-le-length}
-use Rattle.page_core_base.specs.Words.{blank_words}
+use Rattle.page_core_base.specs.Words.{blank_words, hyphen}
 use Rattle.page_core_escapes.specs.Tokens.{begins_word, is_white, prints_itself}
 use Rattle.page_scopes_text.proofs.PartedLemmas.{reads_front}
 use Rattle.page_scopes_text.proofs.PlainWordLemmas.{ReadsBlankWord, reads_blank_word}
@@ -29,17 +29,26 @@ one_blank true k n h e = let no : ⊥ = cc in absurd no
 one_blank false true n h e = e
 one_blank false false n h e = let no : ⊥ = cc in absurd no
 
+neither : (h y : Bool) → (h || y) ≡ false → (h ≡ false) × (y ≡ false)
+neither true y e = let no : ⊥ = cc in absurd no
+neither false y e = (refl, e)
+
+-- a byte that ends no run is no hyphen, and nothing else that ends one
+no_end : (quoted : Bool) (x next : ℕ) → ends_run quoted x next ≡ false
+    → ((x == 45) ≡ false) × (((x == 9 || (x == 92 || (quoted && x == 34))) || (x == 32 && next == 32)) ≡ false)
+no_end quoted x next e = neither (x == 45) ((x == 9 || (x == 92 || (quoted && x == 34))) || (x == 32 && next == 32)) e
+
 -- what does not print itself and ends no run is a blank
 blank_byte : (quoted : Bool) (x next : ℕ) → prints_itself quoted x ≡ false → ends_run quoted x next ≡ false → x ≡ 32
-blank_byte quoted x next p e = eqb-true x 32 (blank_of (x == 32) (x == 9) (x == 92 || (quoted && x == 34)) (next == 32) p e)
+blank_byte quoted x next p e = eqb-true x 32 (blank_of (x == 32) (x == 9) (x == 92 || (quoted && x == 34)) (next == 32) p (no_end quoted x next e).1)
 
 -- the same of white space
 front_blank : (quoted : Bool) (x next : ℕ) → not (is_white x) ≡ false → ends_run quoted x next ≡ false → x ≡ 32
-front_blank quoted x next p e = eqb-true x 32 (white_blank (x == 32) (x == 9) (x == 92 || (quoted && x == 34)) (next == 32) p e)
+front_blank quoted x next p e = eqb-true x 32 (white_blank (x == 32) (x == 9) (x == 92 || (quoted && x == 34)) (next == 32) p (no_end quoted x next e).1)
 
 -- after a blank that ends no run no blank comes
 after_blank : (quoted : Bool) (x next : ℕ) → x ≡ 32 → ends_run quoted x next ≡ false → (next == 32) ≡ false
-after_blank quoted x next b e = one_blank (x == 9 || (x == 92 || (quoted && x == 34))) (x == 32) (next == 32) (rw b refl) e
+after_blank quoted x next b e = one_blank (x == 9 || (x == 92 || (quoted && x == 34))) (x == 32) (next == 32) (rw b refl) (no_end quoted x next e).1
 
 -- ---- one word
 
@@ -57,6 +66,14 @@ not_printed quoted x e = rw e refl
 
 goes_after : (quoted : Bool) (x : ℕ) (xs : List ℕ) (n : ℕ) → GoesOn quoted (x ∷ xs) 0 (suc n) → GoesOn quoted xs 0 n
 goes_after quoted x xs n h = λ k low high. h (suc k) (omega arith) (omega (arith, high))
+
+-- no hyphen is among bytes of which none ends a run
+free_word : (quoted : Bool) (text : List ℕ) (n m : ℕ) → m ≤ n → GoesOn quoted text 0 n → list_all (λ b. not (b == hyphen)) (take m text) ≡ true
+free_word quoted text n zero le h = refl
+free_word quoted [] n (suc m) le h = refl
+free_word quoted (x ∷ xs) zero (suc m) le h = absurd (omega (arith, le))
+free_word quoted (x ∷ xs) (suc n) (suc m) le h =
+    rw ((no_end quoted x (get_or xs 0 32) (h 0 (omega arith) (omega arith))).0) (free_word quoted xs n m (omega (arith, le)) (goes_after quoted x xs n h))
 
 -- the bytes that print themselves at a text's front end before a blank, or the text
 word_to : (quoted : Bool) (text : List ℕ) (n : ℕ) → GoesOn quoted text 0 n → get_or text n 32 ≡ 32
@@ -82,7 +99,7 @@ word_some text (suc n) e f = omega arith
 
 -- the blank at a text's front, and the word after it
 front_word : (quoted : Bool) (x : ℕ) (xs : List ℕ) (n m : ℕ) → m ≡ prefix_len (prints_itself quoted) xs → begins_word (x ∷ xs) ≡ false → GoesOn quoted (x ∷ xs) 0 (suc n)
-    → get_or xs n 32 ≡ 32 → (x ≡ 32) × (m ≤ n) × ReadsBlankWord quoted (x ∷ xs) (take m xs) (drop m xs)
+    → get_or xs n 32 ≡ 32 → (x ≡ 32) × (m ≤ n) × ReadsBlankWord quoted (x ∷ xs) (take m xs) (drop m xs) × (list_all (λ b. not (b == hyphen)) (take m xs) ≡ true)
 front_word quoted x xs n m is begins h e =
     let first = h 0 (omega arith) (omega arith) in
     let blank = front_blank quoted x (get_or xs 0 32) begins first in
@@ -92,7 +109,8 @@ front_word quoted x xs n m is begins h e =
     let long : length (take m xs) ≡ m = length-take-le m xs (omega (arith, le, is)) in
     let some = word_some xs m last (after_blank quoted x (get_or xs 0 32) blank first) in
     let reads = reads_front quoted xs m is (omega (arith, le, is)) (omega (arith, some, long)) (word_ends xs m last) in
-    (blank, omega (arith, word.0, is), reads_blank_word quoted x xs (take m xs) (drop m xs) blank reads)
+    let within : m ≤ n = omega (arith, word.0, is) in
+    (blank, within, reads_blank_word quoted x xs (take m xs) (drop m xs) blank reads, free_word quoted xs n m within (goes_after quoted x xs n h))
 
 -- ---- words, one after another
 
@@ -101,12 +119,13 @@ unfolding blank_words
 no_run quoted text h = record { are = refl; bytes = refl; others = refl; ends = h }
 
 -- a word before a run
-run_more : (quoted : Bool) (text word mid run rest : List ℕ) (words : List (List ℕ)) → ReadsBlankWord quoted text word mid → RunOf quoted mid run rest words
+run_more : (quoted : Bool) (text word mid run rest : List ℕ) (words : List (List ℕ)) → ReadsBlankWord quoted text word mid
+    → list_all (λ b. not (b == hyphen)) word ≡ true → RunOf quoted mid run rest words
     → RunOf quoted text (32 ∷ (word ++ run)) rest (word ∷ words)
 unfolding blank_words
-run_more quoted text word mid run rest words w r =
+run_more quoted text word mid run rest words w free r =
     record {
-      are = rw (w.is_a_word, r.are) refl;
+      are = rw (w.is_a_word, free, r.are) refl;
       bytes = ap (λ (bytes : List ℕ). 32 ∷ (word ++ bytes)) r.bytes;
       others = w.front ∙ ap (λ (o : List Spaced). blank_word word ∷ o) r.others;
       ends = r.ends;
@@ -138,7 +157,7 @@ run_up_to (suc most) quoted (x ∷ xs) (suc n) le short begins e h =
       take m xs ∷ more.0,
       run_same quoted (x ∷ xs) (x ∷ take n xs) (drop n xs) (32 ∷ (take m xs ++ take k (drop m xs))) (drop k (drop m xs)) (take m xs ∷ more.0)
           (ap₂ (λ (b : ℕ) (bs : List ℕ). b ∷ bs) w.0 front) back
-          (run_more quoted (x ∷ xs) (take m xs) (drop m xs) (take k (drop m xs)) (drop k (drop m xs)) more.0 w.2 more.1),
+          (run_more quoted (x ∷ xs) (take m xs) (drop m xs) (take k (drop m xs)) (drop k (drop m xs)) more.0 w.2 w.3 more.1),
     )
 
 pub run_to_end : (quoted : Bool) (text : List ℕ) (n : ℕ) → begins_word text ≡ false → n ≤ length text → length text ≤ n → GoesOn quoted text 0 n

@@ -2,4 +2,5 @@
 pub mod FontWords
 pub mod Parts
 pub mod Reads
+pub mod Letters
 pub mod Runs

@@ -12,10 +12,13 @@
 #![tactic(auto)]
 
 mod font_words;
+mod lettered_words;
+mod letters;
 mod names;
 mod numbers;
 mod parts;
 mod pens;
+mod roman_fonts;
 mod run_ends;
 mod runs;
 mod texts;

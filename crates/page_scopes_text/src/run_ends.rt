@@ -1,4 +1,4 @@
-//! How far a text goes on as words that print themselves, with one blank before each, many bytes at a time (roff(7), "LANGUAGE SYNTAX").
+//! How far a text goes on as words that print themselves, with one blank before each and no hyphen, many bytes at a time (roff(7), "LANGUAGE SYNTAX").
 
 ghost use Rattle.std.specs.Prelude.{◌≡◌, ◌≤◌, ◌<◌, ◌+◌, length, if◌then◌else◌, true};
 ghost use Rattle.std.specs.Simd.Lanes.{mask_l, zip2};
@@ -9,7 +9,7 @@ use std::simd::prelude::*;
 // The bytes that are tested at a time.
 const LANES: usize = 16;
 
-// What ends a run besides white space and escapes: in a quoted argument a quote, else nothing more.
+// What ends a run besides white space, hyphens and escapes: in a quoted argument a quote, else nothing more.
 fn mark(quoted: bool) -> u8
     ensures { result ≡ (if quoted then 34 else 92) }
 {
@@ -24,7 +24,7 @@ fn ends(quoted: bool, bytes: u8x16, next: u8x16) -> u64
     let escapes = bytes.simd_eq(u8x16::splat(b'\\')) | bytes.simd_eq(u8x16::splat(mark(quoted)));
     let others = bytes.simd_eq(u8x16::splat(b'\t')) | escapes;
     let blanks = bytes.simd_eq(u8x16::splat(b' ')) & next.simd_eq(u8x16::splat(b' '));
-    (others | blanks).to_bitmask()
+    (bytes.simd_eq(u8x16::splat(b'-')) | (others | blanks)).to_bitmask()
 }
 
 // How many of the `LANES` places from this one on come before one at which a run ends.
@@ -70,7 +70,7 @@ fn ends_at(quoted: bool, text: &[u8], at: usize) -> bool
 {
     let byte = text[at];
     if byte > b'"' {
-        return byte == b'\\';
+        return byte == b'-' || byte == b'\\';
     }
     if byte == b' ' {
         return at + 1 == text.len() || text[at + 1] == b' ';

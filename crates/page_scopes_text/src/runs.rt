@@ -3,13 +3,16 @@
 ghost use Rattle.std.specs.Prelude.{◌≡◌, ◌≤◌, ◌<◌, ◌+◌, ◌^◌, ℕ, List, false, true, [], ◌∷◌, ◌==◌, not, length, take, drop, slice_index, MatchOption};
 ghost use Rattle.std.specs.List.{list_all, prefix_len};
 ghost use Rattle.page_core_base.specs.Latches.{Came};
+ghost use Rattle.page_core_base.specs.declared.cells.Font.TheVariants.{R};
+ghost use Rattle.page_core_base.specs.declared.places.Place.{Place};
 ghost use Rattle.page_core_base.specs.Pieces.{shown};
-ghost use Rattle.page_core_base.specs.Words.{blank_words, is_word, word_items};
+ghost use Rattle.page_core_base.specs.Words.{blank_words, word_items};
 ghost use Rattle.page_core_escapes.specs.Tokens.{begins_word};
-ghost use Rattle.page_scopes_text.specs.machine.Runs.{BeginsRun, BeginsWith};
+ghost use Rattle.page_scopes_text.specs.machine.Runs.{BeginsRun, BeginsWith, TakesFront, is_whole_word};
 ghost use Rattle.page_scopes_text.specs.Words as words;
 
 use crate::parts::give_parts;
+use crate::roman_fonts::{ROOM, roman_fonts};
 use crate::run_ends::going_len;
 use page_core_base::{Font, LINE, Piece, PieceOut, Place};
 
@@ -27,15 +30,18 @@ fn blank_before(text: &[u8], place: usize) -> usize
     at
 }
 
-/// How many bytes at a text's front are words that print themselves, with one blank before each.
+/// How many bytes at a text's front, at most a number, are words that print themselves, with one blank before each, and without a hyphen.
 #[inline(always)]
-pub(crate) fn run_len(quoted: bool, text: &[u8]) -> usize
+pub(crate) fn run_len(quoted: bool, text: &[u8], most: usize) -> usize
     requires short { length text.now ≤ LINE }
     requires word { begins_word text.now ≡ false }
     ensures within { result ≤ length text.now }
     ensures run { BeginsRun quoted text.now (take result text.now) (drop result text.now) }
 {
     let len = going_len(quoted, text);
+    if most < len {
+        return blank_before(text, most);
+    }
     if len == text.len() || text[len] == b' ' {
         return len;
     }
@@ -65,7 +71,7 @@ fn word_len(text: &[u8]) -> usize
 
 // The first of some words with a blank before each, and what is left after it.
 fn split_word(text: &[u8]) -> Option<(&[u8], &[u8])>
-    ensures first { (words : List (List ℕ)) → list_all is_word words ≡ true → text.now ≡ blank_words words
+    ensures first { (words : List (List ℕ)) → list_all is_whole_word words ≡ true → text.now ≡ blank_words words
         → MatchOption result (words ≡ []) (λ parts. BeginsWith words parts.0.now parts.1.now) }
     ensures less { MatchOption result (length text.now ≡ 0)
         (λ parts. (1 + length parts.0.now) + length parts.1.now ≡ length text.now) }
@@ -77,18 +83,56 @@ fn split_word(text: &[u8]) -> Option<(&[u8], &[u8])>
     Some(words.split_at(word_len(words)))
 }
 
-/// Gives words that print themselves, with a blank before each, of which the first is at a place: as many at once as the row takes, and
+// How many bytes at a text's front are words for one call: all, or those before a blank that has room.
+#[inline(always)]
+fn front_len(text: &[u8]) -> usize
+    ensures within { result ≤ length text.now }
+    ensures room { result ≤ ROOM }
+    ensures blank { 0 < result → result < length text.now → slice_index text.now result ≡ 32 }
+{
+    if text.len() <= ROOM {
+        return text.len();
+    }
+    blank_before(text, ROOM)
+}
+
+// Gives roman words at a text's front in one call, where it takes them: how many bytes these are.
+#[inline(always)]
+fn give_roman<O: PieceOut>(out: &mut O, text: &[u8]) -> usize
+    ensures within { result ≤ length text.now }
+    ensures takes { (place : Place) → TakesFront text.now R place result (Came O.left) out.old out.new }
+{
+    let len = front_len(text);
+    if out.give_words(&text[..len], roman_fonts(len)) {
+        return len;
+    }
+    0
+}
+
+// Gives words at a text's front in one call, where they are roman and it takes them: how many bytes these are.
+#[inline(always)]
+fn give_front<O: PieceOut>(out: &mut O, font: Font, text: &[u8]) -> usize
+    ensures within { result ≤ length text.now }
+    ensures takes { (place : Place) → TakesFront text.now font place result (Came O.left) out.old out.new }
+{
+    match font {
+        Font::R => give_roman(out, text),
+        Font::I | Font::B | Font::BI => 0,
+    }
+}
+
+/// Gives words that print themselves, with a blank before each, of which the first is at a place: many at once where they are taken, and
 /// then one, after another.
 #[inline(always)]
 pub(crate) fn give_run<O: PieceOut>(out: &mut O, font: Font, place: Place, text: &[u8])
     requires { place.column + length text.now < 2 ^ 32 }
-    ensures { (words : List (List ℕ)) → list_all is_word words ≡ true → text.now ≡ blank_words words
+    ensures { (words : List (List ℕ)) → list_all is_whole_word words ≡ true → text.now ≡ blank_words words
         → Came O.left out.old (word_items font place words) out.new }
 {
     let mut rest = text;
     let mut place = place;
     while !rest.is_empty() {
-        let taken = out.give_words(rest, font, place);
+        let taken = give_front(out, font, rest);
         place.column += taken as u32;
         rest = &rest[taken..];
         if let Some((word, after)) = split_word(rest) {

@@ -1,18 +1,17 @@
 //! Texts: words, and the white space between them (roff(7), "LANGUAGE SYNTAX").
 
-ghost use Rattle.std.specs.Prelude.{◌≡◌, ◌≤◌, ◌<◌, ◌+◌, ◌^◌, true, false, length, IfSome};
+ghost use Rattle.std.specs.Prelude.{◌≡◌, ◌≤◌, ◌<◌, ◌+◌, ◌^◌, true, false, length};
 ghost use Rattle.page_core_base.specs.Latches.{Came, CameUpTo};
 ghost use Rattle.page_core_escapes.specs.Tokens.{begins_white, begins_word};
-ghost use Rattle.page_scopes_text.specs.machine.FontWords.{ReadsBlankFontWord};
 ghost use Rattle.page_scopes_text.specs.Parted.{spaced_front, words_of};
 ghost use Rattle.page_scopes_text.specs.machine.Reads.{Fits, ReadsSpaced, Within};
 ghost use Rattle.page_scopes_text.specs.Texts as texts;
 ghost use Rattle.page_scopes_text.specs.Words.{body_after};
 
-use crate::font_words::{FontWord, read_font_word};
+use crate::lettered_words::give_lettered_words;
 use crate::runs::{give_run, run_len};
 use crate::tokens::give_blank_cells;
-use crate::words::{give_body, give_font_word, give_word, report_word};
+use crate::words::{give_body, give_word, report_word};
 use crate::{Pen, TextStyle};
 use page_core_base::{Font, LINE, Piece, PieceOut, Place};
 use page_core_escapes::{begins_word, read_token};
@@ -36,19 +35,7 @@ fn give_white<O: PieceOut>(out: &mut O, style: TextStyle, line: u32, pen: &mut P
     }
 }
 
-// The word after the one blank at a text's front, and what is left after it, where the word has fonts of its own.
-#[inline(always)]
-fn read_blank_font_word(quoted: bool, text: &[u8]) -> Option<(FontWord<'_>, &[u8])>
-    ensures { IfSome result (λ parts. ReadsBlankFontWord quoted text.now parts.0 parts.1.now) }
-{
-    if text.is_empty() || text[0] != b' ' {
-        return None;
-    }
-    read_font_word(quoted, &text[1..])
-}
-
-// Gives the white space at a text's front, and the word after it; what is left of the text. The first look is for one blank and a word in a
-// font of its own.
+// Gives the white space at a text's front, and the word after it; what is left of the text.
 #[inline(always)]
 fn give_spaced<'a, O: PieceOut>(
     out: &mut O,
@@ -64,11 +51,6 @@ fn give_spaced<'a, O: PieceOut>(
     ensures pen { pen.new ≡ texts.spaced_after style pen.old (spaced_front style.is_quoted text.now) }
     ensures rest { ReadsSpaced style.is_quoted pen.old text.now pen.new result.now }
 {
-    if let Some((word, rest)) = read_blank_font_word(style.is_quoted, text) {
-        give_white(out, style, line, pen, b" ");
-        give_font_word(out, style, line, false, pen, &word);
-        return rest;
-    }
     let (white, rest) = text.split_at(read_token(style.is_quoted, text).len());
     give_white(out, style, line, pen, white);
     if begins_word(rest) {
@@ -78,13 +60,15 @@ fn give_spaced<'a, O: PieceOut>(
     }
 }
 
-// Gives the words at a text's front that print themselves, with one blank before each: in rows that are filled they only move the pen's
-// column. What is left of the text.
+// Gives the words at a text's front that print themselves, with one blank before each, or none if the text goes on after them and only a `whole` one is to
+// be given: in rows that are filled they only move the pen's column. What is left of the text.
+#[inline(always)]
 fn give_plain_words<'a, O: PieceOut>(
     out: &mut O,
     style: TextStyle,
     line: u32,
     pen: &mut Pen,
+    whole: bool,
     text: &'a [u8],
 ) -> &'a [u8]
     requires fits { Fits pen.old text.now }
@@ -100,7 +84,10 @@ fn give_plain_words<'a, O: PieceOut>(
     if style.is_literal || !pen.is_resting() {
         return text;
     }
-    let (run, rest) = text.split_at(run_len(style.is_quoted, text));
+    let (run, rest) = text.split_at(run_len(style.is_quoted, text, LINE));
+    if whole && !rest.is_empty() {
+        return text;
+    }
     let place = Place {
         line,
         column: pen.column,
@@ -108,6 +95,33 @@ fn give_plain_words<'a, O: PieceOut>(
     give_run(out, pen.fonts.value.font, place, run);
     pen.column += run.len() as u32;
     rest
+}
+
+// Gives words at a text's front, with one blank before each, many at once: those of letters until these are not taken, and then those that print
+// themselves. What is left of the text.
+fn give_many<'a, O: PieceOut>(
+    out: &mut O,
+    style: TextStyle,
+    line: u32,
+    pen: &mut Pen,
+    tries: &mut bool,
+    text: &'a [u8],
+) -> &'a [u8]
+    requires fits { Fits pen.old text.now }
+    requires word { begins_word text.now ≡ false }
+    ensures came { CameUpTo O.left out.old
+        (texts.others_items style line pen.old (words_of style.is_quoted text.now).others)
+        (texts.others_items style line pen.new (words_of style.is_quoted result.now).others) out.new }
+    ensures pen { texts.others_after style pen.new (words_of style.is_quoted result.now).others
+        ≡ texts.others_after style pen.old (words_of style.is_quoted text.now).others }
+    ensures within { Within pen.old text.now pen.new result.now }
+    ensures ends { begins_word result.now ≡ false }
+{
+    if *tries {
+        give_lettered_words(out, style, line, pen, tries, text)
+    } else {
+        give_plain_words(out, style, line, pen, false, text)
+    }
 }
 
 // Gives the words at a text's front, each with white space before it. It is a call, since most texts have only words that print themselves, with one
@@ -126,10 +140,11 @@ fn give_spaced_words<O: PieceOut>(
         (texts.others_items style line pen.old (words_of style.is_quoted text.now).others) out.new }
     ensures pen { pen.new ≡ texts.others_after style pen.old (words_of style.is_quoted text.now).others }
 {
-    let mut rest = text;
+    let mut tries = true;
+    let mut rest = give_many(out, style, line, pen, &mut tries, text);
     while !rest.is_empty() {
         let after = give_spaced(out, style, line, pen, rest);
-        rest = give_plain_words(out, style, line, pen, after);
+        rest = give_many(out, style, line, pen, &mut tries, after);
     }
 }
 
@@ -145,7 +160,7 @@ fn give_others<O: PieceOut>(out: &mut O, style: TextStyle, line: u32, pen: &mut 
     if text.is_empty() {
         return;
     }
-    let rest = give_plain_words(out, style, line, pen, text);
+    let rest = give_plain_words(out, style, line, pen, true, text);
     if !rest.is_empty() {
         give_spaced_words(out, style, line, pen, rest);
     }

@@ -155,9 +155,9 @@ fn give_plain<O: PieceOut>(
     pen.pass_plain(word);
 }
 
-/// Gives a word in a font of its own, after the blanks before it.
+// Gives a word in a font of its own, after the blanks before it.
 #[inline(always)]
-pub(crate) fn give_font_word<O: PieceOut>(
+fn give_font_word<O: PieceOut>(
     out: &mut O,
     style: TextStyle,
     line: u32,

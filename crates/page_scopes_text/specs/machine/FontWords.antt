@@ -1,9 +1,9 @@
 -- A fast way of the code, which no public clause cites: words of two escapes that ask for fonts, each before a text that prints itself.
 -- Source: roff(7), `\f`.
-use Rattle.std.specs.Prelude.{◌≡◌, ℕ, ◌+◌, Bool, false, true, List, [], ◌∷◌, ◌++◌, length, take, drop}
+use Rattle.std.specs.Prelude.{◌≡◌, ℕ, ◌+◌, Bool, false, List, [], ◌∷◌, ◌++◌, length}
 use Rattle.page_core_base.specs.declared.cells.Font.{Font}
 use Rattle.page_core_base.specs.declared.places.Place.{Place}
-use Rattle.page_core_escapes.specs.Tokens.{TextToken, plain, begins_word, token_bytes, token_len, token_view}
+use Rattle.page_core_escapes.specs.Tokens.{TextToken, plain, begins_word, token_bytes, token_view}
 use Rattle.page_scopes_text.specs.Parted.{words_of}
 use Rattle.page_scopes_text.specs.Words.{printed_items, token_notes}
 use Rattle.page_scopes_text.specs.declared.font_words.FontWord.{FontWord}
@@ -42,17 +42,5 @@ pub record ReadsFontWord (quoted : Bool) (text : List ℕ) (word : FontWord) (re
   pub only : (words_of quoted text).word ≡ font_tokens word
   pub ends : begins_word rest ≡ false
   pub others : (words_of quoted rest).others ≡ (words_of quoted text).others
-  pub before : Silent (token_view word.before)
-  pub after : Silent (token_view word.after)
-
--- the one blank at a text's front was read, and such a word after it
-pub record ReadsBlankFontWord (quoted : Bool) (text : List ℕ) (word : FontWord) (rest : List ℕ) : Type 0 where
-  pub len : (1 + word_len word) + length rest ≡ length text
-  pub one : 1 ≡ token_len quoted text
-  pub blank : 32 ∷ [] ≡ take 1 text
-  pub begins : begins_word (drop 1 text) ≡ true
-  pub only : (words_of quoted (drop 1 text)).word ≡ font_tokens word
-  pub ends : begins_word rest ≡ false
-  pub others : (words_of quoted rest).others ≡ (words_of quoted (drop 1 text)).others
   pub before : Silent (token_view word.before)
   pub after : Silent (token_view word.after)

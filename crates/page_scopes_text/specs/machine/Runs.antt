@@ -1,9 +1,16 @@
 -- Runs of words that print themselves, with one blank before each: a fast way of the code, which no public clause cites.
-use Rattle.std.specs.Prelude.{◌≡◌, ℕ, suc, ◌≤◌, ◌<◌, ◌==◌, ◌&&◌, ◌||◌, Bool, true, false, List, [], ◌∷◌, ◌++◌, map, get_or}
+use Rattle.std.specs.Prelude.{◌≡◌, ℕ, suc, ◌≤◌, ◌<◌, ◌==◌, ◌&&◌, ◌||◌, not, Bool, true, false, List, [], ◌∷◌, ◌++◌, length, map, take, get_or}
 use Rattle.std.specs.List.{list_all}
-use Rattle.page_core_base.specs.Words.{blank_words, is_word}
+use Rattle.page_core_base.specs.Pieces.{Item}
+use Rattle.page_core_base.specs.Words.{blank_words, hyphen, is_word, word_items}
+use Rattle.page_core_base.specs.declared.cells.Font.{Font}
+use Rattle.page_core_base.specs.declared.places.Place.{Place}
 use Rattle.page_core_escapes.specs.Tokens.{begins_word, plain}
 use Rattle.page_scopes_text.specs.Parted.{Spaced, words_of}
+
+-- bytes, and neither a blank nor a hyphen among them: a word of one part
+abbrev pub is_whole_word : List ℕ → Bool
+is_whole_word word = is_word word && list_all (λ b. not (b == hyphen)) word
 
 -- one blank, and a word that prints itself
 abbrev pub blank_word : List ℕ → Spaced
@@ -11,7 +18,7 @@ blank_word word = record { white = 32 ∷ []; word = plain word ∷ [] }
 
 -- a text begins with these bytes, which are these words with a blank before each, and no word goes on after them
 pub record RunOf (quoted : Bool) (text run rest : List ℕ) (words : List (List ℕ)) : Type 0 where
-  pub are : list_all is_word words ≡ true
+  pub are : list_all is_whole_word words ≡ true
   pub bytes : run ≡ blank_words words
   pub others : (words_of quoted text).others ≡ map blank_word words ++ (words_of quoted rest).others
   pub ends : begins_word rest ≡ false
@@ -23,9 +30,15 @@ BeginsRun quoted text run rest = (words : List (List ℕ)) × RunOf quoted text 
 abbrev pub BeginsWith : List (List ℕ) → List ℕ → List ℕ → Type 0
 BeginsWith words word rest = (others : List (List ℕ)) × (words ≡ word ∷ others) × (rest ≡ blank_words others)
 
--- whether a run ends at a byte, by the one after it: a tab, a backslash, in a quoted argument a quote, or a blank before a blank
+-- of these bytes, which are words with a blank before each, a call took the first words: this number of bytes
+abbrev pub TakesFront : {S : Type 0} → List ℕ → Font → Place → ℕ → (S → List Item → S → Type 0) → S → S → Type 0
+TakesFront {S} bytes font place taken gave s t =
+    (words : List (List ℕ)) → list_all is_whole_word words ≡ true → bytes ≡ blank_words words
+    → (count : ℕ) × (taken ≡ length (blank_words (take count words))) × gave s (word_items font place (take count words)) t
+
+-- whether a run ends at a byte, by the one after it: a hyphen, a tab, a backslash, in a quoted argument a quote, or a blank before a blank
 abbrev pub ends_run : Bool → ℕ → ℕ → Bool
-ends_run quoted byte next = (byte == 9 || (byte == 92 || (quoted && byte == 34))) || (byte == 32 && next == 32)
+ends_run quoted byte next = byte == hyphen || ((byte == 9 || (byte == 92 || (quoted && byte == 34))) || (byte == 32 && next == 32))
 
 -- the same at a place of a text; after its end there is taken to be a blank
 abbrev pub ends_run_at : Bool → List ℕ → ℕ → Bool

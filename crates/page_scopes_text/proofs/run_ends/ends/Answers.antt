@@ -13,4 +13,4 @@ returns c =
     let test = λ (a b : ℕ). cond (eqb a b) 255 0 in
     let escapes = zip2_of_maps bit_or _ _ v (zip2_splat test v 16 92 long) (zip2_splat test v 16 c.mark.result long) in
     let others = zip2_of_maps bit_or _ _ v (zip2_splat test v 16 9 long) escapes in
-    ends_mask c.args.quoted c.mark.result v w _ _ _ c.mark.ensures long same others (zip2_splat test v 16 32 long) (zip2_splat test w 16 32 same)
+    ends_mask c.args.quoted c.mark.result v w _ _ _ _ c.mark.ensures long same (zip2_splat test v 16 45 long) others (zip2_splat test v 16 32 long) (zip2_splat test w 16 32 same)

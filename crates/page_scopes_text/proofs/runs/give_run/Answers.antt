@@ -10,11 +10,11 @@ loop-rest-init g c = record { comes = λ words are bytes. (words, are, bytes, λ
 pub loop-rest-preserved-in-Some : goal.loop-rest-preserved-in-Some
 loop-rest-preserved-in-Some g c =
     let l = c.loop-rest in
-    let n = c.give_words-taken.result in
-    let took = c.give_words-taken.ensures in
+    let n = c.give_front-taken.result in
+    let took = c.give_front-taken.ensures in
     let left = take_rest l.rest.now n in
     let parts = rw left at c.in-Some.ensures in
-    let taken = comes_taken g.O.PieceOut.left c.args.font c.args.out.now c.args.place c.args.text.now l.out l.place l.rest.now n _ l.invariant.comes took.takes in
+    let taken = comes_taken g.O.PieceOut.left c.args.font c.args.out.now c.args.place c.args.text.now l.out l.place l.rest.now n _ l.invariant.comes (took.takes l.place) in
     record {
       comes = comes_word g.O.PieceOut.left c.args.font c.args.out.now c.args.place c.args.text.now _ _ (drop n l.rest.now) c.in-Some.word.now c.in-Some.after.now _ taken parts.first c.give_blank_word.ensures;
       column = omega (arith, parts.less, length-drop n l.rest.now, took.within, l.invariant.column);
@@ -23,10 +23,10 @@ loop-rest-preserved-in-Some g c =
 pub loop-rest-preserved : goal.loop-rest-preserved
 loop-rest-preserved g c =
     let l = c.loop-rest in
-    let n = c.give_words-taken.result in
-    let took = c.give_words-taken.ensures in
+    let n = c.give_front-taken.result in
+    let took = c.give_front-taken.ensures in
     rw (take_rest l.rest.now n) (record {
-      comes = comes_taken g.O.PieceOut.left c.args.font c.args.out.now c.args.place c.args.text.now l.out l.place l.rest.now n _ l.invariant.comes took.takes;
+      comes = comes_taken g.O.PieceOut.left c.args.font c.args.out.now c.args.place c.args.text.now l.out l.place l.rest.now n _ l.invariant.comes (took.takes l.place);
       column = omega (arith, length-drop n l.rest.now, took.within, l.invariant.column);
     })
 

@@ -3,6 +3,11 @@ use Rattle.page_scopes_text.proofs.RunWordLemmas.{run_to_blank, run_to_end}
 use Rattle.page_scopes_text.proofs.runs.run_len.Goals as goal
 use Rattle.page_scopes_text.proofs.runs.run_len.Goals.{then-len-text-via-then-len-text, then-len-text-via-else-len-text+then-text-len-eq32}
 
+pub returns-then-most-len-clause-run : goal.returns-then-most-len-clause-run
+returns-then-most-len-clause-run c =
+    let before = c.blank_before.ensures in
+    run_to_blank c.args.quoted c.args.text.now c.blank_before.result c.going_len-len.result c.requires.word (omega arith) before.blank (omega arith) c.going_len-len.ensures.goes
+
 pub returns-then-len-text-clause-run : goal.returns-then-len-text-clause-run
 returns-then-len-text-clause-run c =
     let quoted = c.args.quoted in
@@ -16,5 +21,5 @@ returns-then-len-text-clause-run c =
 
 pub returns-clause-run : goal.returns-clause-run
 returns-clause-run c =
-    let before = c.blank_before.ensures in
-    run_to_blank c.args.quoted c.args.text.now c.blank_before.result c.going_len-len.result c.requires.word (omega arith) before.blank before.within c.going_len-len.ensures.goes
+    let before = c.blank_before-2.ensures in
+    run_to_blank c.args.quoted c.args.text.now c.blank_before-2.result c.going_len-len.result c.requires.word (omega arith) before.blank before.within c.going_len-len.ensures.goes

@@ -12,7 +12,7 @@ loop-rest-preserved g c =
     let some : 0 < length l.rest.now = grind (arith, nat_tests) in
     let white = white_front l.rest.now some i.ends in
     let h = c.give_spaced-after.ensures in
-    let w = c.give_plain_words-rest.ensures in
+    let w = c.give_many-rest-in-loop-rest.ensures in
     let items = others_more c.args.style c.args.line l.pen l.rest.now white in
     let pens = after_others_more c.args.style l.pen l.rest.now white in
     record {

@@ -1,0 +1,181 @@
+-- Letters of a word, token by token.
+use Rattle.std.proofs.Common.{◌≡◌, ℕ, ◌+◌, ◌-◌, ◌<◌, ◌≤◌, ◌==◌, ◌&&◌, ◌||◌, nat_lt, Bool, true, false, List, [], ◌∷◌, ◌++◌, length, map, take, drop, refl, ap, ap₂, sym, ◌∙◌, append-nil, append_assoc, length-append, length-drop, inl, inr, arith}
+use Rattle.std.specs.List.{prefix_len}
+use Rattle.std.proofs.lemmas.List.{drop_all, length-map, map-append, take_all}
+use Rattle.std.proofs.lemmas.List.Folds.{list_all-append}
+use Rattle.std.proofs.lemmas.Bool.{cases_Bool}
+use Rattle.std.proofs.lemmas.Bool.Decides.{nat_tests}
+use Rattle.page_core_base.specs.Pieces.{Item, shown}
+use Rattle.page_core_base.specs.Words.{is_lettered, is_word, letters_of, parts_after, parts_of, word_letters}
+use Rattle.page_core_base.specs.declared.cells.Cell.{Cell}
+use Rattle.page_core_base.specs.declared.cells.Font.{Font}
+use Rattle.page_core_base.specs.declared.pieces.Piece.{Piece}
+use Rattle.page_core_base.specs.declared.pieces.Piece.TheVariants.{Char, Text}
+use Rattle.page_core_escapes.specs.Meanings as meanings
+use Rattle.page_core_escapes.specs.Meanings.{Face, is_known}
+use Rattle.page_core_escapes.specs.Tokens.{TextToken, begins_word, escaped, is_white, plain, prints_itself, quotes, token_at, token_bytes, token_len}
+use Rattle.page_scopes_words.specs.Words.{is_glue}
+use Rattle.page_scopes_words.specs.declared.settings.Setting.{Setting}
+use Rattle.page_scopes_words.specs.declared.fonts.Fonts.{Fonts}
+use Rattle.page_scopes_text.proofs.FontWordLemmas.{known_notes}
+use Rattle.page_scopes_text.proofs.PartedLemmas.{others_same, pen_more, plain_word, tokens_more, words_more}
+use Rattle.page_scopes_text.specs.Parted.{Parted, words_of}
+use Rattle.page_scopes_text.specs.Words.{fonts_after, pen_after, pen_through, token_prints, tokens_items, word_notes}
+use Rattle.page_scopes_text.specs.machine.Letters.{Lettered, ReadsLetters, inside, letters_in}
+use Rattle.page_scopes_text.specs.declared.pens.Pen.{Pen}
+
+-- ---- tokens that are letters
+
+pub plain_lettered : (bytes : List ℕ) → is_word bytes ≡ true → parts_of bytes ≡ bytes ∷ [] → Lettered (plain bytes) bytes
+plain_lettered [] is one = let no : ⊥ = cc in absurd no
+plain_lettered (b ∷ bytes) is one = record {
+  notes = λ quoted place. refl;
+  glues = refl;
+  prints = grind (arith, nat_tests);
+  items = λ quoted font place. (Text (b ∷ bytes) font place ∷ [], rw one refl, rw is refl, append-nil (letters_in font (b ∷ bytes)));
+}
+
+pub quote_lettered : (bytes : List ℕ) → Lettered (quotes bytes) (34 ∷ [])
+quote_lettered bytes = record {
+  notes = λ quoted place. refl;
+  glues = refl;
+  prints = refl;
+  items = λ quoted font place. (Char 34 font place ∷ [], refl, refl, refl);
+}
+
+pub char_lettered : (bytes : List ℕ) (c : ℕ) → (c == 32) ≡ false → Lettered (escaped bytes (meanings.character c)) (c ∷ [])
+char_lettered bytes c h = record {
+  notes = λ quoted place. refl;
+  glues = refl;
+  prints = refl;
+  items = λ quoted font place. (Char c font place ∷ [], refl, rw h refl, refl);
+}
+
+pub nothing_lettered : (bytes : List ℕ) → Lettered (escaped bytes meanings.nothing) []
+nothing_lettered bytes = record {
+  notes = λ quoted place. refl;
+  glues = refl;
+  prints = refl;
+  items = λ quoted font place. ([], refl, refl, refl);
+}
+
+pub font_lettered : (bytes : List ℕ) (font : Face) → is_known font ≡ true → Lettered (escaped bytes (meanings.face font)) []
+font_lettered bytes font h = record {
+  notes = λ quoted place. known_notes quoted place font h;
+  glues = refl;
+  prints = refl;
+  items = λ quoted f place. ([], refl, refl, refl);
+}
+
+-- the bytes of a token that print themselves are a word
+pub plain_letters : (quoted : Bool) (text bytes : List ℕ) → token_at quoted text ≡ plain bytes → 0 < length bytes → is_word bytes ≡ true
+unfolding token_at
+plain_letters quoted [] bytes e some =
+    elim (cases_Bool quoted) [
+      | inl q ↦ absurd (omega (arith, some, ap (λ (t : TextToken). length (token_bytes t)) (rw q at e)))
+      | inr q ↦ absurd (omega (arith, some, ap (λ (t : TextToken). length (token_bytes t)) (rw q at e)))
+    ]
+plain_letters quoted (b ∷ bs) bytes e some =
+    elim (cases_Bool (is_white b)) [
+      | inl t ↦ let is = rw t at e in let no : ⊥ = cc in absurd no
+      | inr t ↦ elim (cases_Bool (b == 92)) [
+        | inl k ↦ let is = rw (t, k) at e in let no : ⊥ = cc in absurd no
+        | inr k ↦ elim (cases_Bool (quoted && b == 34)) [
+          | inl q ↦ let is = rw (t, k, q) at e in let no : ⊥ = cc in absurd no
+          | inr q ↦ printed quoted b bs bytes t k q (rw (t, k, q) at e) some
+        ]
+      ]
+    ]
+  where
+    printed : (quoted : Bool) (b : ℕ) (bs bytes : List ℕ) → is_white b ≡ false → (b == 92) ≡ false → (quoted && b == 34) ≡ false
+        → plain (take (1 + prefix_len (prints_itself quoted) bs) (b ∷ bs)) ≡ plain bytes → 0 < length bytes → is_word bytes ≡ true
+    printed quoted b bs bytes t k q e some =
+        let n = 1 + prefix_len (prints_itself quoted) bs in
+        let is : take n (b ∷ bs) ≡ bytes = ap token_bytes e in
+        let len : n ≡ prefix_len (prints_itself quoted) (b ∷ bs) = rw (t, k, q) refl in
+        let has : 0 < length (take n (b ∷ bs)) = omega (arith, some, ap (λ (l : List ℕ). length l) is) in
+        rw is at (plain_word quoted (b ∷ bs) n len has)
+
+-- ---- some tokens, and one more
+
+pub letters_none : (quoted : Bool) (fonts : Setting Fonts) (text : List ℕ) → ReadsLetters quoted fonts text fonts text []
+letters_none quoted fonts text = record {
+  less = omega arith;
+  others = refl;
+  notes = λ place. refl;
+  items = λ place column after e. let same : after ≡ column = omega (arith, e) in ([], refl, refl, rw same refl);
+  pens = λ column after e. let same : after ≡ column = omega (arith, e) in rw same refl;
+}
+
+word_letters-append : (xs ys : List (Piece (List ℕ))) → word_letters (xs ++ ys) ≡ word_letters xs ++ word_letters ys
+word_letters-append [] ys = refl
+word_letters-append (x ∷ xs) ys = ap (λ (cells : List Cell). letters_of x ++ cells) (word_letters-append xs ys) ∙ sym (append_assoc (letters_of x) (word_letters xs) (word_letters ys))
+
+some_more : (m n : ℕ) → (nat_lt 0 m || nat_lt 0 n) ≡ nat_lt 0 (m + n)
+some_more m n = grind (arith, nat_tests)
+
+has_more : (font : Font) (cells : List Cell) (bytes : List ℕ) (b : Bool) → b ≡ nat_lt 0 (length bytes)
+    → (nat_lt 0 (length cells) || b) ≡ nat_lt 0 (length (cells ++ letters_in font bytes))
+has_more font cells bytes b e =
+    let size : length (cells ++ letters_in font bytes) ≡ length cells + length bytes =
+    length-append cells (letters_in font bytes) ∙ ap (λ (n : ℕ). length cells + n) (length-map bytes (λ (c : ℕ). record { c = c; font = font })) in
+    ap (λ (t : Bool). nat_lt 0 (length cells) || t) e ∙ some_more (length cells) (length bytes) ∙ ap (nat_lt 0) (sym size)
+
+inside_after : (fonts : Setting Fonts) (column after : ℕ) (has more : Bool) (token : TextToken) → is_glue token ≡ false → column + length (token_bytes token) ≡ after
+    → (has || token_prints token) ≡ more → pen_after (inside fonts column has) token ≡ inside (fonts_after token fonts) after more
+inside_after fonts column after has more token glues columns cell = rw (glues, columns, cell) refl
+
+joined_items : (xs ys : List (Piece (List ℕ))) (items : List Item) → map shown xs ++ (map shown ys ++ items) ≡ map shown (xs ++ ys) ++ items
+joined_items xs ys items = sym (append_assoc (map shown xs) (map shown ys) items) ∙ ap (λ (front : List Item). front ++ items) (sym (map-append shown xs ys))
+
+pub letters_more : (quoted : Bool) (fonts : Setting Fonts) (text : List ℕ) (mid : Setting Fonts) (rest : List ℕ) (cells : List Cell) (bytes : List ℕ) (n : ℕ)
+    → ReadsLetters quoted fonts text mid rest cells → begins_word rest ≡ true → 0 < n → n ≡ token_len quoted rest → n ≤ length rest
+    → Lettered (token_at quoted rest) bytes
+    → ReadsLetters quoted fonts text (fonts_after (token_at quoted rest) mid) (drop n rest) (cells ++ letters_in mid.value.font bytes)
+letters_more quoted fonts text mid rest cells bytes n r begins some is within t =
+    let token = token_at quoted rest in
+    let font = mid.value.font in
+    let left = length-drop n rest in
+    let words = words_more quoted rest n begins some is in
+    let later = (words_of quoted (drop n rest)).word in
+    let has = nat_lt 0 (length cells) in
+    let more = nat_lt 0 (length (cells ++ letters_in font bytes)) in
+    record {
+      less = omega (arith, r.less, left);
+      others = others_same quoted rest n begins some is ∙ r.others;
+      notes = λ place.
+          r.notes place ∙ ap (λ (p : Parted). word_notes quoted place p.word) words
+          ∙ ap (λ (items : List Item). items ++ word_notes quoted place later) (t.notes quoted place);
+      items = λ place column after e.
+          let here : (after - n) + length rest ≡ column + length text = omega (arith, e, left, within, r.less) in
+          let columns : (after - n) + length (token_bytes token) ≡ after = omega (arith, e, left, within, r.less, is) in
+          let pen = inside_after mid (after - n) after has more token t.glues columns (has_more font cells bytes (token_prints token) t.prints) in
+          let i = r.items place column (after - n) here in
+          let p = t.items quoted font place in (
+            i.0 ++ p.0,
+            list_all-append is_lettered i.0 p.0 ∙ ap₂ (λ (a b : Bool). a && b) i.1 p.2,
+            word_letters-append i.0 p.0 ∙ ap₂ (λ (a b : List Cell). a ++ b) i.2 p.3,
+            i.3 ∙ ap (λ (items : List Item). map shown i.0 ++ items)
+                (tokens_more quoted place (inside mid (after - n) has) rest n begins some is
+                ∙ ap₂ (λ (items : List Item) (q : Pen). items ++ tokens_items quoted place q later) p.1 pen)
+                ∙ joined_items i.0 p.0 (tokens_items quoted place (inside (fonts_after token mid) after more) later),
+          );
+      pens = λ column after e.
+          let here : (after - n) + length rest ≡ column + length text = omega (arith, e, left, within, r.less) in
+          let columns : (after - n) + length (token_bytes token) ≡ after = omega (arith, e, left, within, r.less, is) in
+          let pen = inside_after mid (after - n) after has more token t.glues columns (has_more font cells bytes (token_prints token) t.prints) in
+          r.pens column (after - n) here ∙ pen_more quoted (inside mid (after - n) has) rest n begins some is ∙ ap (λ (q : Pen). pen_through q later) pen;
+    }
+
+-- ---- a token that is taken
+
+pub one_part_of : (bytes : List ℕ) (n : ℕ) → parts_of bytes ≡ take n bytes ∷ parts_of (drop n bytes) → n ≡ length bytes → parts_of bytes ≡ bytes ∷ []
+unfolding parts_after
+one_part_of bytes n e k =
+    let all : take n bytes ≡ bytes = take_all n bytes (omega (arith, k)) in
+    let none : drop n bytes ≡ [] = drop_all n bytes (omega (arith, k)) in
+    rw (all, none) at e
+
+pub begins_some : (text : List ℕ) → begins_word text ≡ true → 0 < length text
+begins_some [] h = let no : ⊥ = cc in absurd no
+begins_some (b ∷ bs) h = omega arith

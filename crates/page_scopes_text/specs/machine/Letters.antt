@@ -1,0 +1,100 @@
+-- Words of letters in their fonts, which are read once and given at once: a fast way of the code, which no public clause cites.
+-- Source: roff(7), `\f`.
+use Rattle.std.specs.Prelude.{◌≡◌, ℕ, ◌≤◌, ◌+◌, Bool, true, false, nat_lt, List, [], ◌++◌, length, map, take, drop, if◌then◌else◌}
+use Rattle.std.specs.List.{list_all}
+use Rattle.page_core_base.specs.Pieces.{Item, shown}
+use Rattle.page_core_base.specs.Words.{is_lettered, is_lettered_word, lettered_cells, lettered_pieces, word_letters}
+use Rattle.page_core_base.specs.declared.cells.Cell.{Cell}
+use Rattle.page_core_base.specs.declared.cells.Font.{Font}
+use Rattle.page_core_base.specs.declared.pieces.Piece.{Piece}
+use Rattle.page_core_base.specs.declared.places.Place.{Place}
+use Rattle.page_core_escapes.specs.Tokens.{TextToken, begins_word}
+use Rattle.page_scopes_words.specs.Words.{is_glue}
+use Rattle.page_scopes_words.specs.declared.settings.Setting.{Setting}
+use Rattle.page_scopes_words.specs.declared.fonts.Fonts.{Fonts}
+use Rattle.page_scopes_text.specs.Parted.{Spaced, words_of}
+use Rattle.page_scopes_text.specs.Texts.{others_after, others_items}
+use Rattle.page_scopes_text.specs.Words.{pen_through, printed_items, token_notes, token_prints, tokens_items, word_notes}
+use Rattle.page_scopes_text.specs.machine.Reads.{resting}
+use Rattle.page_scopes_text.specs.declared.pens.Pen.{Pen}
+use Rattle.page_scopes_text.specs.declared.pens.TextStyle.{TextStyle}
+
+-- letters in one font
+abbrev pub letters_in : Font → List ℕ → List Cell
+letters_in font bytes = map (λ c. record { c = c; font = font }) bytes
+
+-- what stood at a start and after it is put anew
+abbrev pub put_at : {A : Type 0} → List A → ℕ → List A → List A
+put_at old start others = take start old ++ (others ++ drop (start + length others) old)
+
+-- a token that prints these letters or nothing, and has no message
+pub record Lettered (token : TextToken) (letters : List ℕ) : Type 0 where
+  pub notes : (quoted : Bool) (place : Place) → token_notes quoted place token ≡ []
+  pub glues : is_glue token ≡ false
+  pub prints : token_prints token ≡ nat_lt 0 (length letters)
+  pub items : (quoted : Bool) (font : Font) (place : Place) → (pieces : List (Piece (List ℕ)))
+      × (printed_items quoted true font place token ≡ map shown pieces) × (list_all is_lettered pieces ≡ true) × (word_letters pieces ≡ letters_in font letters)
+
+-- a pen inside a word that is filled, after one blank
+abbrev pub inside : Setting Fonts → ℕ → Bool → Pen
+inside fonts column has_cell = record {
+  fonts = fonts;
+  column = column;
+  gap = 1;
+  is_after_word = true;
+  has_cell = has_cell;
+  is_cut = false;
+  ends_blank = true;
+  splits = true;
+}
+
+-- a part of the word at a text's front was read as letters, which are these cells; what is left is the text's rest
+pub record ReadsLetters (quoted : Bool) (fonts : Setting Fonts) (text : List ℕ) (next : Setting Fonts) (rest : List ℕ) (cells : List Cell) : Type 0 where
+  pub less : length rest ≤ length text
+  pub others : (words_of quoted rest).others ≡ (words_of quoted text).others
+  pub notes : (place : Place) → word_notes quoted place (words_of quoted text).word ≡ word_notes quoted place (words_of quoted rest).word
+  pub items : (place : Place) (column after : ℕ) → after + length rest ≡ column + length text → (pieces : List (Piece (List ℕ)))
+      × (list_all is_lettered pieces ≡ true) × (word_letters pieces ≡ cells)
+      × (tokens_items quoted place (inside fonts column false) (words_of quoted text).word
+      ≡ map shown pieces ++ tokens_items quoted place (inside next after (nat_lt 0 (length cells))) (words_of quoted rest).word)
+  pub pens : (column after : ℕ) → after + length rest ≡ column + length text
+      → pen_through (inside fonts column false) (words_of quoted text).word ≡ pen_through (inside next after (nat_lt 0 (length cells))) (words_of quoted rest).word
+
+-- words of letters, which are these cells, are given between two places of a text
+abbrev pub GivesWords : TextStyle → ℕ → Pen → List Spaced → Pen → List Spaced → List Cell → Type 0
+GivesWords style line pen parts next others cells =
+    (words : List (List (Piece (List ℕ)))) × (list_all is_lettered_word words ≡ true) × (lettered_cells words ≡ cells)
+    × (others_items style line pen parts ≡ map shown (lettered_pieces words) ++ others_items style line next others)
+
+-- words of letters at a text's front were read, each after one blank
+pub record ReadsWords (style : TextStyle) (fonts : Setting Fonts) (text : List ℕ) (next : Setting Fonts) (rest : List ℕ) (cells : List Cell) : Type 0 where
+  pub less : length rest ≤ length text
+  pub ends : begins_word rest ≡ false
+  pub gives : (line column after : ℕ) → after + length rest ≡ column + length text
+      → GivesWords style line (resting fonts column) (words_of style.is_quoted text).others (resting next after) (words_of style.is_quoted rest).others cells
+  pub pens : (column after : ℕ) → after + length rest ≡ column + length text
+      → others_after style (resting next after) (words_of style.is_quoted rest).others ≡ others_after style (resting fonts column) (words_of style.is_quoted text).others
+
+-- letters were added, by which a token was taken
+abbrev pub TakesToken : TextToken → Font → List Cell → List Cell → Type 0
+TakesToken token font before after = (letters : List ℕ) × Lettered token letters × (after ≡ before ++ letters_in font letters)
+
+-- letters were added
+abbrev pub Grows : List Cell → List Cell → Type 0
+Grows before after = (cells : List Cell) × (after ≡ before ++ cells)
+
+-- letters were added, as which the word at a text's front was read
+abbrev pub AddsWord : Bool → Setting Fonts → List Cell → List ℕ → Setting Fonts → List Cell → List ℕ → Type 0
+AddsWord quoted fonts before text next after rest =
+    (cells : List Cell) × (after ≡ before ++ cells) × ReadsLetters quoted fonts text next rest cells
+
+-- letters were added, as which words at a text's front were read
+abbrev pub AddsWords : TextStyle → Setting Fonts → List Cell → List ℕ → Setting Fonts → List Cell → List ℕ → Type 0
+AddsWords style fonts before text next after rest =
+    (cells : List Cell) × (after ≡ before ++ cells) × ReadsWords style fonts text next rest cells
+
+-- these cells are words of letters with a blank before each, and a call took all of them, or none
+abbrev pub GivesLetters : {S : Type 0} → List Cell → Bool → (S → List Item → S → Type 0) → S → S → Type 0
+GivesLetters {S} cells taken gave s t =
+    (words : List (List (Piece (List ℕ)))) → list_all is_lettered_word words ≡ true → cells ≡ lettered_cells words
+    → gave s (if taken then map shown (lettered_pieces words) else []) t

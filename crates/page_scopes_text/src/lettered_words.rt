@@ -1,0 +1,263 @@
+//! Words of letters in their fonts, as `\fBword\fR` is: they are read once, and given at once (roff(7), `\f`).
+
+ghost use Rattle.std.specs.Prelude.{◌≡◌, ◌≤◌, ◌<◌, ◌+◌, ◌^◌, ◌==◌, ℕ, List, false, true, [], ◌∷◌, ◌++◌, length, IfSome, MatchOption};
+ghost use Rattle.page_core_base.specs.Latches.{CameUpTo};
+ghost use Rattle.page_core_base.specs.Words.{is_word};
+ghost use Rattle.page_core_base.specs.declared.cells.Font.TheVariants.{R};
+ghost use Rattle.page_core_escapes.specs.Escapes.{meaning_view};
+ghost use Rattle.page_core_escapes.specs.Tokens.{begins_word, escaped, plain, token_view};
+ghost use Rattle.page_scopes_text.specs.Parted.{words_of};
+ghost use Rattle.page_scopes_text.specs.Texts as texts;
+ghost use Rattle.page_scopes_text.specs.machine.Letters.{AddsWord, AddsWords, Grows, TakesToken, letters_in};
+ghost use Rattle.page_scopes_text.specs.machine.Reads.{Fits, Within};
+
+use crate::letters::Letters;
+use crate::roman_fonts::ROOM;
+use crate::runs::run_len;
+use crate::tokens::fonts_after;
+use crate::{Pen, TextStyle};
+use page_core_base::{Font, LINE, PieceOut, first_part_len};
+use page_core_escapes::{Escape, Token, begins_word, read_token};
+use page_scopes_words::{Fonts, Setting};
+
+// Takes bytes that print themselves, if they are one part, and there is room: whether it did.
+#[inline(always)]
+fn take_part(letters: &mut Letters, font: Font, bytes: &[u8]) -> bool
+    requires { is_word bytes.now ≡ true }
+    ensures taken { result ≡ true → TakesToken (plain bytes.now) font letters.old letters.new }
+    ensures kept { result ≡ false → letters.new ≡ letters.old }
+{
+    first_part_len(bytes) == bytes.len() && letters.add(font, bytes)
+}
+
+// Takes a character of ASCII that is no blank, if there is room: whether it did.
+#[inline(always)]
+fn take_char(letters: &mut Letters, font: Font, c: char) -> bool
+    ensures letter { result ≡ true → (c == 32) ≡ false }
+    ensures taken { result ≡ true → letters.new ≡ letters.old ++ letters_in font (c ∷ []) }
+    ensures kept { result ≡ false → letters.new ≡ letters.old }
+{
+    if !c.is_ascii() || c == ' ' {
+        return false;
+    }
+    letters.add(font, &[c as u8])
+}
+
+// Takes an escape that prints a character of ASCII, or that asks for a font that there is, or that prints nothing: whether it did.
+#[inline(always)]
+fn take_escape(letters: &mut Letters, font: Font, meaning: Escape<'_>) -> bool
+    ensures taken { result ≡ true → (bytes : List ℕ) → TakesToken (escaped bytes (meaning_view meaning.entry)) font letters.old letters.new }
+    ensures kept { result ≡ false → letters.new ≡ letters.old }
+{
+    match meaning {
+        Escape::Nothing => true,
+        Escape::Font(name) => name.is_known(),
+        Escape::Char(c) => take_char(letters, font, c),
+        Escape::Glyph(_)
+        | Escape::Tab
+        | Escape::Blank
+        | Escape::Blanks(_)
+        | Escape::Glue
+        | Escape::Undefined(_)
+        | Escape::Unsupported
+        | Escape::Bad => false,
+    }
+}
+
+// Takes a token of a word as letters, if it is no more than that: whether it did.
+#[inline(always)]
+fn take_token(letters: &mut Letters, font: Font, token: &Token<'_>) -> bool
+    requires { (bytes : List ℕ) → token_view token.now ≡ plain bytes → is_word bytes ≡ true }
+    ensures taken { result ≡ true → TakesToken (token_view token.now) font letters.old letters.new }
+    ensures kept { result ≡ false → letters.new ≡ letters.old }
+{
+    match *token {
+        Token::White(_) => false,
+        Token::Plain(bytes) => take_part(letters, font, bytes),
+        Token::Quotes(_) => letters.add(font, b"\""),
+        Token::Escaped { meaning, .. } => take_escape(letters, font, meaning),
+    }
+}
+
+// Reads the word at a text's front as letters: the fonts after it, and what is left of the text.
+#[inline(always)]
+fn read_letters<'a>(
+    quoted: bool,
+    fonts: Setting<Fonts>,
+    letters: &mut Letters,
+    text: &'a [u8],
+) -> Option<(Setting<Fonts>, &'a [u8])>
+    requires { length text.now ≤ LINE }
+    ensures grows { Grows letters.old letters.new }
+    ensures reads { IfSome result (λ found.
+        AddsWord quoted fonts letters.old text.now found.0 letters.new found.1.now × (begins_word found.1.now ≡ false)) }
+{
+    let mut fonts = fonts;
+    let mut rest = text;
+    while begins_word(rest) {
+        let token = read_token(quoted, rest);
+        if !take_token(letters, fonts.value.font, &token) {
+            return None;
+        }
+        fonts = fonts_after(&token, fonts);
+        rest = &rest[token.len()..];
+    }
+    Some((fonts, rest))
+}
+
+// Reads one blank at a text's front, and the word after it as letters.
+#[inline(always)]
+fn read_blank_letters<'a>(
+    style: TextStyle,
+    fonts: Setting<Fonts>,
+    letters: &mut Letters,
+    text: &'a [u8],
+) -> Option<(Setting<Fonts>, &'a [u8])>
+    requires literal { style.is_literal ≡ false }
+    requires short { length text.now ≤ LINE }
+    ensures grows { Grows letters.old letters.new }
+    ensures less { IfSome result (λ found. length found.1.now < length text.now) }
+    ensures reads { IfSome result (λ found. AddsWords style fonts letters.old text.now found.0 letters.new found.1.now) }
+{
+    if text.is_empty() || text[0] != b' ' || !begins_word(&text[1..]) {
+        return None;
+    }
+    let start = letters.len();
+    if !letters.add(Font::R, b" ") {
+        return None;
+    }
+    let found = read_letters(style.is_quoted, fonts, letters, &text[1..])?;
+    if letters.len() == start + 1 {
+        return None;
+    }
+    Some(found)
+}
+
+// Reads one blank and a word at a text's front as letters, or takes nothing.
+#[inline(always)]
+fn read_word<'a>(
+    style: TextStyle,
+    fonts: Setting<Fonts>,
+    letters: &mut Letters,
+    text: &'a [u8],
+) -> Option<(Setting<Fonts>, &'a [u8])>
+    requires literal { style.is_literal ≡ false }
+    requires short { length text.now ≤ LINE }
+    ensures none { MatchOption result (letters.new ≡ letters.old) (λ found. length found.1.now < length text.now) }
+    ensures reads { IfSome result (λ found. AddsWords style fonts letters.old text.now found.0 letters.new found.1.now) }
+{
+    let start = letters.len();
+    if let Some(found) = read_blank_letters(style, fonts, letters, text) {
+        return Some(found);
+    }
+    letters.cut(start);
+    None
+}
+
+// Whether a text may go on with roman words that print themselves: else no look is taken for them.
+#[inline(always)]
+fn may_run(fonts: Setting<Fonts>, text: &[u8]) -> bool
+    ensures { result ≡ true → fonts.value.font ≡ R }
+{
+    matches!(fonts.value.font, Font::R) && text.len() > 1 && text[1] != b'\\'
+}
+
+// Reads roman words that print themselves at a text's front, with one blank before each: what is left of the text.
+#[inline(always)]
+fn read_run<'a>(
+    style: TextStyle,
+    fonts: Setting<Fonts>,
+    letters: &mut Letters,
+    text: &'a [u8],
+) -> Option<&'a [u8]>
+    requires literal { style.is_literal ≡ false }
+    requires short { length text.now ≤ LINE }
+    requires word { begins_word text.now ≡ false }
+    ensures none { MatchOption result (letters.new ≡ letters.old) (λ rest. length rest.now < length text.now) }
+    ensures reads { IfSome result (λ rest. AddsWords style fonts letters.old text.now fonts letters.new rest.now) }
+{
+    if !may_run(fonts, text) {
+        return None;
+    }
+    let (run, rest) = text.split_at(run_len(style.is_quoted, text, ROOM - letters.len()));
+    if run.is_empty() || !letters.add(Font::R, run) {
+        return None;
+    }
+    Some(rest)
+}
+
+// Reads a run of roman words, or one word: the fonts after it, and what is left of the text.
+#[inline(always)]
+fn read_some<'a>(
+    style: TextStyle,
+    fonts: Setting<Fonts>,
+    letters: &mut Letters,
+    text: &'a [u8],
+) -> Option<(Setting<Fonts>, &'a [u8])>
+    requires literal { style.is_literal ≡ false }
+    requires short { length text.now ≤ LINE }
+    requires word { begins_word text.now ≡ false }
+    ensures none { MatchOption result (letters.new ≡ letters.old) (λ found. length found.1.now < length text.now) }
+    ensures reads { IfSome result (λ found. AddsWords style fonts letters.old text.now found.0 letters.new found.1.now) }
+{
+    if let Some(rest) = read_run(style, fonts, letters, text) {
+        return Some((fonts, rest));
+    }
+    read_word(style, fonts, letters, text)
+}
+
+// Reads words of letters at a text's front, as many as there is room for: the fonts after them, and what is left of the text.
+#[inline(always)]
+fn read_words<'a>(
+    style: TextStyle,
+    fonts: Setting<Fonts>,
+    letters: &mut Letters,
+    text: &'a [u8],
+) -> (Setting<Fonts>, &'a [u8])
+    requires literal { style.is_literal ≡ false }
+    requires short { length text.now ≤ LINE }
+    requires word { begins_word text.now ≡ false }
+    ensures { AddsWords style fonts letters.old text.now result.0 letters.new result.1.now }
+{
+    let mut fonts = fonts;
+    let mut rest = text;
+    while let Some((next, after)) = read_some(style, fonts, letters, rest) {
+        fonts = next;
+        rest = after;
+    }
+    (fonts, rest)
+}
+
+/// Gives the words of letters at a text's front, with one blank before each, in rows that are filled: what is left of the text. Where they are
+/// not taken no more are to be tried.
+pub(crate) fn give_lettered_words<'a, O: PieceOut>(
+    out: &mut O,
+    style: TextStyle,
+    line: u32,
+    pen: &mut Pen,
+    tries: &mut bool,
+    text: &'a [u8],
+) -> &'a [u8]
+    requires fits { Fits pen.old text.now }
+    requires word { begins_word text.now ≡ false }
+    ensures came { CameUpTo O.left out.old
+        (texts.others_items style line pen.old (words_of style.is_quoted text.now).others)
+        (texts.others_items style line pen.new (words_of style.is_quoted result.now).others) out.new }
+    ensures pen { texts.others_after style pen.new (words_of style.is_quoted result.now).others
+        ≡ texts.others_after style pen.old (words_of style.is_quoted text.now).others }
+    ensures within { Within pen.old text.now pen.new result.now }
+    ensures ends { begins_word result.now ≡ false }
+{
+    if style.is_literal || !pen.is_resting() {
+        return text;
+    }
+    let mut letters = Letters::new();
+    let (fonts, rest) = read_words(style, pen.fonts, &mut letters, text);
+    *tries = letters.give(out);
+    if !*tries {
+        return text;
+    }
+    pen.fonts = fonts;
+    pen.column += (text.len() - rest.len()) as u32;
+    rest
+}
