@@ -174,6 +174,16 @@ has-front cells more some = let len = length-append cells more in grind (arith, 
 counts-both : (columns blanks n : ℕ) → min (min (columns + blanks) TAG_COLUMNS + n) TAG_COLUMNS ≡ min (columns + (blanks + n)) TAG_COLUMNS
 counts-both columns blanks n = omega arith
 
+pub taken-cells : (s : Sheet) (blanks : ℕ) (cells : List Cell) → (length s.cells == 0) ≡ false
+    → taken (spaced_by s blanks) cells ≡ record s {
+      cells = s.cells ++ replicate blanks blank ++ cells;
+      gap = length s.cells;
+      word = length s.cells + blanks;
+      tag_columns = min (s.tag_columns + (blanks + length cells)) TAG_COLUMNS;
+      tag_begun = true;
+    }
+taken-cells s blanks cells some = rw (has-front s.cells (replicate blanks blank) some, counts-both s.tag_columns blanks (length cells)) refl
+
 pub taken-word : (s : Sheet) (blanks : ℕ) (bytes : List ℕ) (font : Font) → (length s.cells == 0) ≡ false
     → taken (spaced_by s blanks) (cells_of font bytes) ≡ record s {
       cells = s.cells ++ replicate blanks blank ++ cells_of font bytes;
@@ -182,8 +192,7 @@ pub taken-word : (s : Sheet) (blanks : ℕ) (bytes : List ℕ) (font : Font) →
       tag_columns = min (s.tag_columns + (blanks + length bytes)) TAG_COLUMNS;
       tag_begun = true;
     }
-taken-word s blanks bytes font some =
-    rw (has-front s.cells (replicate blanks blank) some, length-map bytes (cell_of font), counts-both s.tag_columns blanks (length bytes)) refl
+taken-word s blanks bytes font some = rw (taken-cells s blanks (cells_of font bytes) some, length-map bytes (cell_of font)) refl
 
 -- a sound row with blanks and the cells of a plain text is sound
 pub sound-word : {held : ℕ} (cells : List Cell) (blanks : ℕ) (bytes : List ℕ) (font : Font) (count gap word tag tag-now : ℕ) → IsSound cells count gap word tag held
@@ -241,7 +250,7 @@ characters-plain output s (b ∷ bytes) font place plain =
 
 -- ---- a word after blanks
 
-space-fits : (s : Sheet) (place : Place) → s.literal ≡ false → (length s.cells == 0) ≡ false → length s.cells < CELLS
+pub space-fits : (s : Sheet) (place : Place) → s.literal ≡ false → (length s.cells == 0) ≡ false → length s.cells < CELLS
     → s.margin + columns s.cells + 1 ≤ s.width
     → space s place ≡ nothing (record s { cells = s.cells ++ blank ∷ []; word = length s.cells + 1; tag_columns = min (s.tag_columns + 1) TAG_COLUMNS; tag_begun = true })
 unfolding space

@@ -498,6 +498,21 @@ impl OpenRow {
         self.add_plain(bytes, font);
     }
 
+    // A row begins with cells of bytes that are a column each, in the fonts beside them.
+    fn begin_letters(&mut self, bytes: &[u8], fonts: &[Font])
+        requires plain { plain.is_printable_ascii bytes.now ≡ true }
+        requires fonts { length fonts.now ≡ length bytes.now }
+        requires room { length bytes.now ≤ CELLS }
+        ensures { self.new ≡ plain.taken (sheet.emptied self.old) (cells_in bytes.now fonts.now) }
+    {
+        self.open_row();
+        self.row.add_letters(bytes, fonts);
+        let count = bytes.len() as u32;
+        self.columns = count;
+        self.tag_columns = self.tag_columns.saturating_add(count).min(TAG_COLUMNS);
+        self.has_tag_cell = true;
+    }
+
     /// The same of a word of bytes, each in the font beside it.
     pub fn wrap_letters<O: RowOut>(&mut self, bytes: &[u8], fonts: &[Font], out: &mut O)
         requires plain { plain.is_printable_ascii bytes.now ≡ true }
@@ -507,12 +522,7 @@ impl OpenRow {
             (plain.wraps_plain self.old (cells_in bytes.now fonts.now)) out.new self.new }
     {
         self.end_before_word(out);
-        self.open_row();
-        self.row.add_letters(bytes, fonts);
-        let count = bytes.len() as u32;
-        self.columns = count;
-        self.tag_columns = self.tag_columns.saturating_add(count).min(TAG_COLUMNS);
-        self.has_tag_cell = true;
+        self.begin_letters(bytes, fonts);
     }
 
     /// The row, which has a cell and room, takes blanks and after them a word of bytes, if these are printable ASCII; says whether they are.
