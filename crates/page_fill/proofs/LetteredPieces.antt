@@ -88,9 +88,6 @@ lettered (Column n) is = absurd (grind (arith, is))
 abbrev pub word_bytes : List (Piece (List ℕ)) → List ℕ
 word_bytes word = bytes_of (word_letters word)
 
-no_blanks : List ℕ → Bool
-no_blanks bytes = list_all (λ b. not (b == 32)) bytes
-
 pieces-letters : (word : List (Piece (List ℕ))) → list_all is_lettered word ≡ true → list_all (λ b. not (b == 32)) (word_bytes word) ≡ true
 pieces-letters [] all = refl
 pieces-letters (p ∷ word) all =
