@@ -45,7 +45,7 @@ record IsLettered (p : Piece (List ℕ)) : Type 0 where
   pub word : is_word (bytes_of (letters_of p)) ≡ true
   pub place : Place
   pub laid : (e : Edge) → are_plain (letters_of p) ≡ true
-    → laid_piece e p ≡ join (opening e place) (over (letters (opening e place).edge.sheet (letters_of p) place) (on_sheet (opening e place).edge))
+      → laid_piece e p ≡ join (opening e place) (over (letters (opening e place).edge.sheet (letters_of p) place) (on_sheet (opening e place).edge))
 
 text-laid : (e : Edge) (bytes : List ℕ) (font : Font) (place : Place) → is_word bytes ≡ true → are_plain (cells_of font bytes) ≡ true
     → laid_piece e (Text bytes font place)

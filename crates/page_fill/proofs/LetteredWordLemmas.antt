@@ -1,8 +1,8 @@
 -- Words of letters: those that the open row has room for go into it together, and one before which it ends begins the next row.
-use Rattle.std.proofs.Common.{◌≡◌, ℕ, zero, suc, ◌+◌, ◌-◌, ◌<◌, ◌≤◌, Bool, true, false, not, ◌&&◌, ◌==◌, min, List, [], ◌∷◌, ◌++◌, length, map, take, drop, append-nil, append_assoc, length-append, refl, sym, ap, ◌∙◌, arith, inl, inr}
+use Rattle.std.proofs.Common.{◌≡◌, ℕ, zero, suc, ◌+◌, ◌-◌, ◌<◌, ◌≤◌, Bool, true, false, not, ◌&&◌, ◌==◌, min, List, [], ◌∷◌, ◌++◌, length, map, take, drop, append-nil, append_assoc, length-append, length-drop, refl, sym, ap, ◌∙◌, arith, inl, inr}
 use Rattle.std.specs.List.{list_all}
 use Rattle.std.proofs.Math.Seq.{take-append_seam, drop-append_seam}
-use Rattle.std.proofs.lemmas.List.{length-map, length-take-le, map-append, take-append-drop, take-map}
+use Rattle.std.proofs.lemmas.List.{length-map, length-take-le, map-append, take-append-drop, take-map, take_all}
 use Rattle.std.proofs.lemmas.List.Folds.{list_all-append}
 use Rattle.std.proofs.lemmas.List.Sums.{sum_by-append}
 use Rattle.std.proofs.lemmas.Bool.{cases_Bool}
@@ -302,8 +302,7 @@ wraps-first e text fonts end same plain some room none is (word ∷ words) are r
     let there = word-some word first in
     let laid_is : laid e (Blank 1 false ∷ word) ≡ over (wraps_plain e.sheet cells) (begun_on e) =
     word-laid e word anywhere placed filled begun first printable within
-    ∙ ap (λ (l : Laid Sheet). over l (begun_on e)) (wraps-cells e.sheet cells there printable ends) in
-    (
+    ∙ ap (λ (l : Laid Sheet). over l (begun_on e)) (wraps-cells e.sheet cells there printable ends) in (
       1,
       len ∙ sym (rw (append-nil cells) (omega arith)),
       rw (own, append-nil word) (sym laid_is),
@@ -324,6 +323,9 @@ LaysUpTo e text fonts rest own given =
     → (left : List (List (Piece (List ℕ)))) × AreWords rest own left × (is_in_row given.edge ≡ true)
     × (laid e (lettered_pieces words) ≡ join given (laid given.edge (lettered_pieces left)))
 
+pub tail-all : {A : Type 0} (n : ℕ) (l : List A) → take (length l - n) (drop n l) ≡ drop n l
+tail-all n l = let len = length-drop n l in take_all (length l - n) (drop n l) (omega (arith, len))
+
 pub lays-none : (e : Edge) (text : List ℕ) (fonts : List Font) → LaysUpTo e text fonts text fonts (nothing e)
 lays-none e text fonts = λ words are ready. (words, are, ready, refl)
 
@@ -343,8 +345,7 @@ lays-more e text fonts rest own given more end same lays front = λ words are re
     let laid_is : laid given.edge (lettered_pieces left) ≡ join more (laid more.edge (lettered_pieces (drop n left))) =
     ap (laid given.edge) (pieces-split left n)
     ∙ (laid-append given.edge (lettered_pieces (take n left)) (lettered_pieces (drop n left))
-    ∙ ap (λ (l : Laid Edge). join l (laid l.edge (lettered_pieces (drop n left)))) (sym f.2)) in
-    (
+    ∙ ap (λ (l : Laid Edge). join l (laid l.edge (lettered_pieces (drop n left)))) (sym f.2)) in (
       drop n left,
       (all, cells),
       f.3,

@@ -6,7 +6,7 @@ use Rattle.page_fill_cells.specs.Cells.{is_printable_ascii}
 use Rattle.page_fill_rows.proofs.PlainLemmas.{parts-plain}
 use Rattle.page_fill.specs.machine.Fill.{Edge}
 use Rattle.page_fill.specs.machine.LetteredWords.{LaysFront}
-use Rattle.page_fill.proofs.LetteredWordLemmas.{lays-all, lays-more, lays-none}
+use Rattle.page_fill.proofs.LetteredWordLemmas.{lays-all, lays-more, lays-none, tail-all}
 use Rattle.page_fill.proofs.edges.Edge.put_words.Goals as goal
 
 pub loop-rest-init : goal.loop-rest-init
@@ -29,7 +29,8 @@ loop-rest-preserved g c =
     let own = l.own.now in
     let t = length-drop end rest in
     let f = length-drop end own in
-    let front : LaysFront given.edge rest own end more = rw held.1.1 at gave.2 in (
+    let front : LaysFront given.edge rest own end more = rw held.1.1 at gave.2 in
+    rw (tail-all end rest, tail-all end own) (
       (parts-plain end rest l.invariant.0).1,
       omega (arith, t, f, l.invariant.1),
       omega (arith, t, c.put_front-end.ensures.room),
