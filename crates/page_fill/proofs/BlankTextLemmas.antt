@@ -42,7 +42,7 @@ joined-then : (e : Edge) (place : Place) → (opening e place).edge.word.is_join
 unfolding opening
 joined-then e place = elim (cases_Bool e.word.is_joined) [ inl is ↦ rw is refl | inr new ↦ rw new refl ]
 
-goes-on : (e : Edge) (place : Place) → e.word.is_joined ≡ true → opening e place ≡ nothing e
+pub goes-on : (e : Edge) (place : Place) → e.word.is_joined ≡ true → opening e place ≡ nothing e
 unfolding opening
 goes-on e place is = rw is refl
 
@@ -116,7 +116,7 @@ texts-together e (suc k) count font place =
 
 -- ---- some of them, and the others
 
-laid-append : (e : Edge) (front back : List (Piece (List ℕ))) → laid e (front ++ back) ≡ join (laid e front) (laid (laid e front).edge back)
+pub laid-append : (e : Edge) (front back : List (Piece (List ℕ))) → laid e (front ++ back) ≡ join (laid e front) (laid (laid e front).edge back)
 unfolding laid
 laid-append e [] back = refl
 laid-append e (piece ∷ front) back =

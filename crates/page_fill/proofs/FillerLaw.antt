@@ -1,21 +1,16 @@
 -- What the steps lay of one piece is filling in words; and so is what a filler lays piece by piece.
-use Rattle.std.proofs.Common.{◌≡◌, ℕ, zero, suc, Bool, true, List, [], ◌∷◌, map, replicate, take, Option, None, Some, Result, Ok, Err, OnOk, refl, sym, ap, ◌∙◌}
+use Rattle.std.proofs.Common.{◌≡◌, ℕ, zero, suc, Bool, true, List, [], ◌∷◌, map, replicate, Option, None, Some, Result, Ok, Err, OnOk, refl, sym, ap, ◌∙◌}
 use Rattle.std.specs.Prelude.{if◌then◌else◌}
 use Rattle.page_core_base.specs.declared.faults.Fault.{Fault}
 use Rattle.page_core_base.specs.Laid.{Laid, join, seq}
 use Rattle.page_core_base.specs.Pieces.{Item, shown, noted}
-use Rattle.page_core_base.specs.Words.{word_items, word_pieces}
-use Rattle.page_core_base.specs.declared.cells.Font.{Font}
 use Rattle.page_core_base.specs.declared.pieces.Piece.{Piece}
-use Rattle.page_core_base.specs.declared.places.Place.{Place}
 use Rattle.page_fill.specs.Caps.{IsHeld, is_sound}
 use Rattle.page_fill.specs.declared.edges.Edge.{Edge}
 use Rattle.page_fill.specs.machine.Fill.{laid_piece, laid, ended}
 use Rattle.page_fill.specs.machine.Items as steps
-use Rattle.page_fill.specs.machine.TakenWords as taken_steps
 use Rattle.page_fill.specs.machine.ByPiece.{laid_items}
 use Rattle.page_fill.specs.Filling.{filled, row_end}
-use Rattle.page_fill.specs.TakenWords.{TakesFirstWords}
 use Rattle.page_fill.proofs.FillingLaw.{steps-law, held-law, end-law}
 use Rattle.page_fill.proofs.GlueLaw.{seq-nothing}
 use Rattle.page_fill.proofs.HeldSheets.{piece-held}
@@ -72,11 +67,24 @@ again-items : (times : ℕ) (p : Piece (List ℕ)) → map shown (replicate time
 again-items zero p = refl
 again-items (suc times) p = ap (λ (items : List Item). shown p ∷ items) (again-items times p)
 
+pieces-law : (e : Edge) (pieces : List (Piece (List ℕ))) → IsHeld e.sheet → is_sound e.word ≡ true → laid e pieces ≡ filled e (map shown pieces)
+pieces-law e pieces h s = sym (laid-pieces e pieces) ∙ steps-law e (map shown pieces) h s
+
+pub pieces-at : (is_going : Bool) (held e : Edge) (pieces : List (Piece (List ℕ))) → is_going ≡ true → (is_going ≡ true → IsHeld held.sheet × (is_sound held.word ≡ true))
+    → (if is_going then Some held else None) ≡ Some e → laid held pieces ≡ filled e (map shown pieces)
+pieces-at is_going held e pieces goes kept is =
+    let k = kept goes in
+    pieces-law held pieces k.0 k.1 ∙ ap (λ (f : Edge). filled f (map shown pieces)) (same-edge is_going held e goes is)
+
+pub pieces-edge : (res : Result (Unit {0}) Fault) (is_going : Bool) (new held e : Edge) (pieces : List (Piece (List ℕ))) → is_going ≡ true
+    → (is_going ≡ true → IsHeld held.sheet × (is_sound held.word ≡ true)) → (if is_going then Some held else None) ≡ Some e
+    → new ≡ (laid held pieces).edge → OnOk res ((if is_going then Some new else None) ≡ Some (filled e (map shown pieces)).edge)
+pieces-edge (Ok x) is_going new held e pieces goes kept is next = rw (goes, next, pieces-at is_going held e pieces goes kept is) refl
+pieces-edge (Err x) is_going new held e pieces goes kept is next = tt
+
 again-law : (e : Edge) (times : ℕ) (p : Piece (List ℕ)) → IsHeld e.sheet → is_sound e.word ≡ true
     → laid e (replicate times p) ≡ filled e (replicate times (shown p))
-again-law e times p h s =
-    let items = replicate times (shown p) in
-    sym (laid-pieces e (replicate times p)) ∙ (ap (steps.laid_items e) (again-items times p) ∙ steps-law e items h s)
+again-law e times p h s = pieces-law e (replicate times p) h s ∙ ap (filled e) (again-items times p)
 
 pub again-kept : (e : Edge) (times : ℕ) (p : Piece (List ℕ)) → IsHeld e.sheet × (is_sound e.word ≡ true)
     → IsHeld (laid e (replicate times p)).edge.sheet × (is_sound (laid e (replicate times p)).edge.word ≡ true)
@@ -107,23 +115,3 @@ by-piece e (shown p ∷ items) h s =
 
 pub items-law : (e : Edge) (items : List Item) → IsHeld e.sheet → is_sound e.word ≡ true → laid_items e items ≡ filled e items
 items-law e items h s = by-piece e items h s ∙ steps-law e items h s
-
--- ---- words that are taken at once
-
-word-items : (e : Edge) (font : Font) (place : Place) (words : List (List ℕ)) → steps.laid_items e (word_items font place words) ≡ laid e (word_pieces font place words)
-unfolding word_items
-word-items e font place words = laid-pieces e (word_pieces font place words)
-
-pub words-taken : (bytes : List ℕ) (font : Font) (taken : ℕ) (e new : Edge) → IsHeld e.sheet → is_sound e.word ≡ true
-    → taken_steps.TakesFirstWords bytes font taken e new → TakesFirstWords bytes font taken e (Some new)
-words-taken bytes font taken e new h s took = λ place words all is.
-    let t = took place words all is in
-    let items = word_items font place (take t.0 words) in
-    (t.0, new, t.1, refl, sym (steps-law e items h s) ∙ (word-items e font place (take t.0 words) ∙ t.2))
-
-pub words-at : (bytes : List ℕ) (font : Font) (taken : ℕ) (is_going : Bool) (held new e : Edge) → is_going ≡ true
-    → (is_going ≡ true → IsHeld held.sheet × (is_sound held.word ≡ true)) → (if is_going then Some held else None) ≡ Some e
-    → taken_steps.TakesFirstWords bytes font taken held new → TakesFirstWords bytes font taken e (if is_going then Some new else None)
-words-at bytes font taken is_going held new e goes kept is took =
-    let k = kept goes in
-    rw (goes, ← same-edge is_going held e goes is) (words-taken bytes font taken held new k.0 k.1 took)

@@ -15,5 +15,6 @@ pub mod FillerLaw
 pub mod WordLemmas
 pub mod PlainWordLemmas
 pub mod WordRunLemmas
-pub mod TakenWordLemmas
 pub mod BlankTextLemmas
+pub mod LetteredPieces
+pub mod LetteredWordLemmas

@@ -65,9 +65,15 @@ text-word e bytes font place plain some takes =
 
 -- ---- a word before which the row ends
 
+pub opening-one : (e : Edge) (place : Place) → e.word.is_joined ≡ false → e.word.has_tab ≡ false → e.word.blanks ≡ 1 → e.sheet.literal ≡ false
+    → (length e.sheet.cells == 0) ≡ false → opening e place ≡ over (space (opens e.sheet) place) (λ s. record e { sheet = s; word = begun_word false })
+unfolding opening spaces
+opening-one e place joined tab one literal some =
+    let stood : stands e ≡ false = grind (arith, literal, some) in
+    rw (joined, tab, one, stood, append-nil (space (opens e.sheet) place).rows, append-nil (space (opens e.sheet) place).notes) refl
+
 opening-wraps : (e : Edge) (n : ℕ) (place : Place) → wraps_word e n ≡ true
     → opening e place ≡ over (space (opens e.sheet) place) (λ s. record e { sheet = s; word = begun_word false })
-unfolding opening spaces
 opening-wraps e n place wraps =
     let joined : e.word.is_joined ≡ false = grind (arith, wraps) in
     let tab : e.word.has_tab ≡ false = grind (arith, wraps) in
@@ -75,8 +81,7 @@ opening-wraps e n place wraps =
     let ends : ends_before e.sheet n ≡ true = grind (arith, wraps) in
     let literal : e.sheet.literal ≡ false = grind (arith, ends) in
     let some : (length e.sheet.cells == 0) ≡ false = grind (arith, nat_tests, ends) in
-    let stood : stands e ≡ false = grind (arith, literal, some) in
-    rw (joined, tab, one, stood, append-nil (space (opens e.sheet) place).rows, append-nil (space (opens e.sheet) place).notes) refl
+    opening-one e place joined tab one literal some
 
 pub text-wrap : (e : Edge) (bytes : List ℕ) (font : Font) (place : Place) → is_printable_ascii bytes ≡ true → (length bytes == 0) ≡ false
     → wraps_word e (length bytes) ≡ true

@@ -1,6 +1,6 @@
 -- Words of a text, each after one blank.
 use Rattle.std.proofs.Common.{◌≡◌, ℕ, zero, suc, ◌+◌, ◌-◌, ◌<◌, ◌≤◌, Bool, true, false, not, ◌==◌, nat_le, List, [], ◌∷◌, ◌++◌, length, take, drop, append-nil, append_assoc, length-append, refl, sym, ap, ◌∙◌, arith, inl, inr}
-use Rattle.std.specs.List.{list_all}
+use Rattle.std.specs.List.{list_all, prefix_len}
 use Rattle.std.proofs.Math.Seq.{take-append_seam, take-append-add}
 use Rattle.std.proofs.lemmas.List.{take-append-le, take_all}
 use Rattle.std.proofs.lemmas.Bool.{cases_Bool, cases_lt}
@@ -8,14 +8,11 @@ use Rattle.std.proofs.lemmas.Bool.Decides.{nat_tests}
 use Rattle.page_core_base.specs.Words.{is_word, blank_words}
 use Rattle.page_fill_rows.specs.machine.Plain.{word_start}
 use Rattle.page_fill_rows.proofs.WordStartLemmas.{start-append}
-use Rattle.page_fill.specs.machine.PlainWords.{whole_words}
+use Rattle.page_fill.specs.machine.PlainWords.{first_word, whole_words}
 
 -- no byte of these is a blank
 abbrev pub is_letters : List ℕ → Bool
 is_letters bytes = list_all (λ b. not (b == 32)) bytes
-
-pub word-some : (word : List ℕ) → is_word word ≡ true → (length word == 0) ≡ false
-word-some word is = grind (arith, nat_tests, is)
 
 pub word-letters : (word : List ℕ) → is_word word ≡ true → is_letters word ≡ true
 word-letters word is = grind (arith, is)
@@ -25,14 +22,6 @@ words-first word words all = grind (arith, all)
 
 pub words-rest : (word : List ℕ) (words : List (List ℕ)) → list_all is_word (word ∷ words) ≡ true → list_all is_word words ≡ true
 words-rest word words all = grind (arith, all)
-
-pub words-front : (words : List (List ℕ)) (count : ℕ) → list_all is_word words ≡ true → list_all is_word (take count words) ≡ true
-words-front [] zero all = refl
-words-front [] (suc count) all = refl
-words-front (word ∷ words) zero all = refl
-words-front (word ∷ words) (suc count) all =
-    let others = words-front words count (words-rest word words all) in
-    rw (words-first word words all) others
 
 -- ---- where the last word begins
 
@@ -148,3 +137,65 @@ whole-words words room all = elim (cases_Bool (nat_le (length (blank_words words
   | inl fits ↦ (length words, rw (fits, take_all (length words) words (omega arith)) refl)
   | inr more ↦ let cut = cut-words words (room + 1) all in (cut.0, rw more cut.1)
 ]
+
+-- ---- the first word
+
+-- where there is room for it, it is among the whole words
+first-whole : (word : List ℕ) (words : List (List ℕ)) (room : ℕ) → length (32 ∷ word) ≤ room → 0 < whole_words (blank_words (word ∷ words)) room
+unfolding blank_words
+first-whole word [] room fits =
+    let all : nat_le (length (32 ∷ word)) room ≡ true = grind (arith, nat_tests, fits) in
+    rw (append-nil word, all) (omega arith)
+first-whole word (next ∷ words) room fits = elim (cases_Bool (nat_le (length (blank_words (word ∷ next ∷ words))) room)) [
+  | inl all ↦ rw all (omega arith)
+  | inr more ↦
+      let n = room - length (32 ∷ word) in
+      let is : length (32 ∷ word) + suc n ≡ room + 1 = omega (arith, fits) in
+      let back = take (suc n) (blank_words (next ∷ words)) in
+      let some : (word_start back == 0) ≡ false = start-some (take n (next ++ blank_words words)) in
+      let sum = start-append (32 ∷ word) back some in
+      let above : 0 < word_start back = grind (arith, nat_tests, some) in
+      let front = take-append-add (32 ∷ word) (blank_words (next ∷ words)) (suc n) in
+      let start : word_start (take (room + 1) (blank_words (word ∷ next ∷ words))) ≡ length (32 ∷ word) + word_start back =
+      ap (λ (k : ℕ). word_start (take k (blank_words (word ∷ next ∷ words)))) (sym is) ∙ (ap word_start front ∙ sum) in
+      rw more (omega (arith, start, above))
+]
+
+start-words : (words : List (List ℕ)) → 0 < length (blank_words words) → (word_start (blank_words words) == 0) ≡ false
+unfolding blank_words
+start-words [] some = absurd (omega (arith, some))
+start-words (word ∷ words) some = start-some (word ++ blank_words words)
+
+-- where no whole word is, there is no room for it
+pub none-whole : (word : List ℕ) (words : List (List ℕ)) (room : ℕ) → list_all is_word (word ∷ words) ≡ true
+    → word_start (take (whole_words (blank_words (word ∷ words)) room) (blank_words (word ∷ words))) ≡ 0 → room < length (32 ∷ word)
+none-whole word words room all none = elim (cases_lt room (length (32 ∷ word))) [
+  | inl short ↦ short
+  | inr fits ↦
+      let whole = whole-words (word ∷ words) room all in
+      let front = take whole.0 (word ∷ words) in
+      let above = first-whole word words room fits in
+      let some : 0 < length (blank_words front) = rw whole.1 at above in
+      let is : take (whole_words (blank_words (word ∷ words)) room) (blank_words (word ∷ words)) ≡ blank_words front =
+      ap (λ (k : ℕ). take k (blank_words (word ∷ words))) whole.1 ∙ front-words (word ∷ words) whole.0 in
+      let start : word_start (blank_words front) ≡ 0 = sym (ap word_start is) ∙ none in
+      let other = start-words front some in
+      absurd (grind (arith, nat_tests, start, other))
+]
+
+letters-first : (word back : List ℕ) → is_letters word ≡ true → prefix_len (λ b. not (b == 32)) back ≡ 0 → prefix_len (λ b. not (b == 32)) (word ++ back) ≡ length word
+letters-first [] back letters none = none
+letters-first (b ∷ word) back letters none =
+    let other : (b == 32) ≡ false = grind (arith, letters) in
+    let others : is_letters word ≡ true = grind (arith, letters) in
+    rw (other, letters-first word back others none) (omega arith)
+
+none-first : (words : List (List ℕ)) → prefix_len (λ b. not (b == 32)) (blank_words words) ≡ 0
+unfolding blank_words
+none-first [] = refl
+none-first (word ∷ words) = refl
+
+-- so many bytes it has with its blank
+pub first-length : (word : List ℕ) (words : List (List ℕ)) → is_letters word ≡ true → first_word (blank_words (word ∷ words)) ≡ 1 + length word
+unfolding blank_words
+first-length word words letters = ap (λ (n : ℕ). 1 + n) (letters-first word (blank_words words) letters (none-first words))

@@ -1,7 +1,7 @@
 pub mod Filled
 pub mod PieceWords
 pub mod Filling
-pub mod TakenWords
+pub mod LetteredWords
 pub mod machine
 pub mod Edges
 pub mod Caps

@@ -4,5 +4,5 @@ pub mod Words
 pub mod Fill
 pub mod Items
 pub mod PlainWords
-pub mod TakenWords
+pub mod LetteredWords
 pub mod RowPlans

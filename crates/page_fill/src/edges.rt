@@ -5,24 +5,18 @@ ghost use Rattle.std.specs.Str.{chars};
 ghost use Rattle.page_core_base.specs.Laid.{nothing};
 ghost use Rattle.page_core_base.specs.Latches.{CameRows, LaysOut};
 ghost use Rattle.page_core_base.specs.declared.blank_texts.TheConstants.{BLANK_TEXT};
-ghost use Rattle.page_core_base.specs.declared.cells.Font.TheVariants.{R};
 ghost use Rattle.page_core_base.specs.declared.pieces.Piece.TheVariants.{Text};
 ghost use Rattle.page_core_base.specs.declared.places.Place.{Place};
 ghost use Rattle.page_fill_rows.specs.Characters.{characters_of};
 ghost use Rattle.page_fill_rows.specs.machine.Plain as plain;
-ghost use Rattle.page_fill.specs.Caps.{is_sound};
 ghost use Rattle.page_fill.specs.Edges.{counted_tag};
 ghost use Rattle.page_fill.specs.machine.Fill as fill;
 ghost use Rattle.page_fill.specs.machine.PlainWords as plain_words;
-ghost use Rattle.page_fill.specs.machine.TakenWords.{TakesFirstWords};
 
 use crate::characters::{put_character, put_characters, put_glyph};
-use crate::taken_words::whole_words;
 use crate::{HANG_MAX, TAB_STOP};
-use page_core_base::{Cell, Font, Note, NoteKind, Output, Place, RowOut, TagForm, last_part_start};
-use page_fill_rows::{
-    OpenRow, is_long_run, is_printable_ascii, printable_len, put_plain, word_start,
-};
+use page_core_base::{Cell, Font, Note, NoteKind, Output, Place, RowOut, TagForm};
+use page_fill_rows::{OpenRow, is_long_run, is_printable_ascii, put_plain};
 
 // The texts of blanks that are put together.
 const TOGETHER: usize = 4096;
@@ -80,7 +74,7 @@ pub(crate) const NO_WORD: OpenWord = OpenWord {
 
 impl OpenWord {
     /// The word has a cell, and goes on.
-    fn begun(is_told: bool) -> OpenWord
+    pub(crate) fn begun(is_told: bool) -> OpenWord
         ensures { result ≡ fill.begun_word is_told }
     {
         OpenWord {
@@ -262,39 +256,6 @@ impl Edge {
         ensures same { result ≡ false → self.new ≡ self.old }
     {
         c.is_ascii() && self.takes_at_once(&[c as u8], font)
-    }
-
-    // Takes the first words of a roman text, with one blank before each, as far as the row has room for them; answers how many
-    // bytes of the text these are.
-    fn take_roman(&mut self, text: &[u8]) -> usize
-        ensures takes { TakesFirstWords text.now R result self.old self.new }
-        ensures within { result ≤ length text.now }
-        ensures sound { is_sound self.old.word ≡ true → is_sound self.new.word ≡ true }
-    {
-        let room = self.sheet.free_cells().min(text.len());
-        let end = whole_words(text, printable_len(&text[..room]));
-        let words = &text[..end];
-        let start = word_start(words);
-        if self.word.is_placed || start == 0 {
-            return 0;
-        }
-        self.sheet.add_words(words, start);
-        self.sheet.part_word(last_part_start(words, start));
-        self.word = OpenWord::begun(false);
-        end
-    }
-
-    /// Takes the first words of a text, with one blank before each, as far as the row has room for them; answers how many bytes
-    /// of the text these are. They are roman, as the blanks are.
-    pub fn take_words(&mut self, text: &[u8], font: Font) -> usize
-        ensures takes { TakesFirstWords text.now font result self.old self.new }
-        ensures within { result ≤ length text.now }
-        ensures sound { is_sound self.old.word ≡ true → is_sound self.new.word ≡ true }
-    {
-        match font {
-            Font::R => self.take_roman(text),
-            _ => 0,
-        }
     }
 
     // Takes a plain text.

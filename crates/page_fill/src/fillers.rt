@@ -1,17 +1,19 @@
 //! The filler of a page, alone or with what it keeps of its open row.
 
-ghost use Rattle.std.specs.Prelude.{◌≡◌, ◌≤◌, true, [], ◌∷◌, length, replicate, IfOk, IfErr, IfSome, OnOk, OnErr, Some, None, Err, MatchResult};
+ghost use Rattle.std.specs.Prelude.{◌≡◌, ◌≤◌, ℕ, true, false, List, [], ◌∷◌, length, map, replicate, IfOk, IfErr, IfSome, OnOk, OnErr, Some, None, Err, MatchResult};
 ghost use Rattle.page_core_base.specs.Fails.{FailsBySink};
 ghost use Rattle.page_core_base.specs.Laid.{Gets};
 ghost use Rattle.page_core_base.specs.Pieces.{piece_of, shown};
+ghost use Rattle.page_core_base.specs.Words.{lettered_pieces};
 ghost use Rattle.page_core_base.specs.declared.blank_texts.TheConstants.{BLANK_TEXT};
 ghost use Rattle.page_core_base.specs.declared.limits.TheConstants.{CELLS};
+ghost use Rattle.page_core_base.specs.declared.pieces.Piece.{Piece};
 ghost use Rattle.page_core_base.specs.declared.pieces.Piece.TheVariants.{Text};
 ghost use Rattle.page_fill.specs.Caps.{FillFits, IsHeld, is_sound};
 ghost use Rattle.page_fill.specs.Edges as fill;
 ghost use Rattle.page_fill.specs.declared.edges.Edge.{Edge};
 ghost use Rattle.page_fill.specs.Filling.{filled, row_end};
-ghost use Rattle.page_fill.specs.TakenWords.{TakesFirstWords};
+ghost use Rattle.page_fill.specs.LetteredWords.{AreWords, can_take};
 
 use crate::Edge;
 use crate::kept_rows::{KeepsRow, NoCells, OpenCells};
@@ -256,20 +258,50 @@ impl<K: KeepsRow> FillerWith<K> {
         taken
     }
 
-    /// Takes the first words of a text, with one blank before each, as far as the open row has room for them; answers how many
-    /// bytes of the text these are. They settle nothing.
+    /// Whether the open row takes words of a text at once: it is filled, has a cell and as much room, and the text is printable ASCII.
     #[inline(always)]
-    pub fn take_words(&mut self, text: &[u8], font: Font) -> usize
-        ensures words { (e : Edge) → self.old ≡ Some e → TakesFirstWords text.now font result e self.new }
-        ensures within { result ≤ length text.now }
-        ensures closed { self.old ≡ None → (result ≡ 0) × (self.new ≡ None) }
+    pub fn takes_words(&self, text: &[u8]) -> bool
+        ensures takes { IfSome self.now (λ e. can_take e text.now ≡ result) }
+        ensures closed { self.now ≡ None → result ≡ false }
+    {
+        self.is_going && self.edge.takes_words(text)
+    }
+
+    /// Takes words that the open row takes at once, each after one blank: each byte is a letter of them, in the font beside it. Gives the rows
+    /// that end among them. Of any other text nothing is promised.
+    ///
+    /// Its faults are those of the sinks; after one, and after [`finish`](FillerWith::finish), it is [`Fault::Failed`].
+    #[inline(always)]
+    pub fn words<R: RowSink, N: NoteSink>(
+        &mut self,
+        text: &[u8],
+        fonts: &[Font],
+        rows: &mut R,
+        notes: &mut N,
+    ) -> Result<(), Fault>
+        requires takes { IfSome self.old (λ e. can_take e text.now ≡ true) }
+        requires fonts { length fonts.now ≡ length text.now }
+        ensures gets { (e : Edge) (words : List (List (Piece (List ℕ)))) → self.old ≡ Some e → AreWords text.now fonts.now words
+            → Gets result R.gave R.within N.gave N.within rows.old rows.new notes.old notes.new
+            (filled e (map shown (lettered_pieces words))) }
+        ensures edge { (e : Edge) (words : List (List (Piece (List ℕ)))) → self.old ≡ Some e → AreWords text.now fonts.now words
+            → OnOk result (self.new ≡ Some (filled e (map shown (lettered_pieces words))).edge) }
+        ensures faults { (e : Edge) → self.old ≡ Some e
+            → FailsBySink result (R.failed rows.old) (R.failed rows.new) (N.failed notes.old) (N.failed notes.new) }
+        ensures closed { self.old ≡ None → (result ≡ Err Fault.Failed) × (rows.new ≡ rows.old) × (notes.new ≡ notes.old) }
+        ensures stops { OnErr result (self.new ≡ None) }
+        ensures rows_same { R.loans rows.new ≡ R.loans rows.old }
+        ensures notes_same { N.loans notes.new ≡ N.loans notes.old }
     {
         if !self.is_going {
-            return 0;
+            return Err(Fault::Failed);
         }
-        let taken = self.edge.take_words(text, font);
+        let taken = self.edge.words(text, fonts, rows, notes);
         self.edge.sheet.held_law();
         self.kept.keep(&self.edge);
+        if taken.is_err() {
+            self.is_going = false;
+        }
         taken
     }
 

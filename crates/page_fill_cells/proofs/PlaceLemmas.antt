@@ -8,6 +8,7 @@ use Rattle.std.proofs.lemmas.List.Sums.{sum_by-append}
 use Rattle.page_core_base.specs.declared.cells.Cell.{Cell}
 use Rattle.page_core_base.specs.declared.cells.Font.{Font}
 use Rattle.page_core_base.specs.declared.limits.TheConstants.{CELLS}
+use Rattle.page_core_base.proofs.AsciiLemmas.{cells-more}
 use Rattle.page_core_base.specs.Rows.{cells_in, is_ascii, is_blank_row, row_of, trimmed}
 use Rattle.page_fill_cells.specs.Cells.{cell_of, cells_of}
 use Rattle.page_fill_cells.specs.machine.BlankRuns.{is_blank_byte}
@@ -69,7 +70,16 @@ put-length old added start within =
     let parts = length-append added (drop at old) in
     length-append (take start old) (added ++ drop at old) ∙ omega (arith, before, back, parts, within)
 
+-- other places begin with what was put there
+pub put-first : {A : Type 0} (old added : List A) (n : ℕ) → length added ≡ n → take n (put_at old 0 added) ≡ added
+put-first old added n len = take_at added (drop (0 + length added) old) n len
+
 -- ---- cells of one text, one after another
+
+pub in-length : (bytes : List ℕ) (fonts : List Font) → length fonts ≡ length bytes → length (cells_in bytes fonts) ≡ length bytes
+in-length [] fonts same = refl
+in-length (b ∷ bytes) [] same = absurd (omega (arith, same))
+in-length (b ∷ bytes) (f ∷ fonts) same = ap suc (in-length bytes fonts (omega (arith, same)))
 
 pub put-cell : (old : List Cell) (bytes : List ℕ) (start i b : ℕ) (font : Font) → i < length bytes → start + length bytes ≤ length old
     → set (put_at old start (cells_of font (take i bytes))) (start + i) (cell_of font (get_or bytes i b)) ≡ put_at old start (cells_of font (take (i + 1) bytes))
@@ -81,6 +91,21 @@ put-cell old bytes start i b font within room =
     let at : start + i ≡ start + length (cells_of font (take i bytes)) = ap (λ n. start + n) (sym len) in
     ap (λ n. set (put_at old start (cells_of font (take i bytes))) n cell) at
     ∙ (put-more old (cells_of font (take i bytes)) start cell (omega (arith, len, within, room)) ∙ ap (put_at old start) (sym more))
+
+-- of letters, each in its font
+pub put-letter : (old : List Cell) (bytes : List ℕ) (fonts : List Font) (start i b : ℕ) (font : Font) → i < length bytes → length fonts ≡ length bytes
+    → start + length bytes ≤ length old
+    → set (put_at old start (cells_in (take i bytes) (take i fonts))) (start + i) (record { c = get_or bytes i b; font = get_or fonts i font })
+    ≡ put_at old start (cells_in (take (i + 1) bytes) (take (i + 1) fonts))
+put-letter old bytes fonts start i b font within same room =
+    let front = cells_in (take i bytes) (take i fonts) in
+    let some : length (take i bytes) ≡ i = length-take-le i bytes (omega (arith, within)) in
+    let own : length (take i fonts) ≡ i = length-take-le i fonts (omega (arith, within, same)) in
+    let len : length front ≡ i = in-length (take i bytes) (take i fonts) (own ∙ sym some) ∙ some in
+    let cell : Cell = record { c = get_or bytes i b; font = get_or fonts i font } in
+    let at : start + i ≡ start + length front = ap (λ n. start + n) (sym len) in
+    ap (λ n. set (put_at old start front) n cell) at
+    ∙ (put-more old front start cell (omega (arith, len, within, room)) ∙ ap (put_at old start) (sym (cells-more bytes fonts i b font within same)))
 
 one-more : {A : Type 0} (n : ℕ) (y : A) → replicate n y ++ y ∷ [] ≡ replicate (n + 1) y
 one-more n y = replicate-append-replicate n 1 y
@@ -110,11 +135,6 @@ put-moved old start i d within =
 
 -- ---- characters, each in its font
 
-pub in-length : (bytes : List ℕ) (fonts : List Font) → length fonts ≡ length bytes → length (cells_in bytes fonts) ≡ length bytes
-in-length [] fonts same = refl
-in-length (b ∷ bytes) [] same = absurd (omega (arith, same))
-in-length (b ∷ bytes) (f ∷ fonts) same = ap suc (in-length bytes fonts (omega (arith, same)))
-
 pub in-take : (n : ℕ) (bytes : List ℕ) (fonts : List Font) → take n (cells_in bytes fonts) ≡ cells_in (take n bytes) (take n fonts)
 in-take zero bytes fonts = refl
 in-take (suc n) [] fonts = refl
@@ -138,21 +158,25 @@ in-font : (bytes : List ℕ) (font : Font) → cells_in bytes (replicate (length
 in-font [] font = refl
 in-font (b ∷ bytes) font = ap (λ cells. cell_of font b ∷ cells) (in-font bytes font)
 
-pub in-put : (bytes text : List ℕ) (fonts : List Font) (start : ℕ) (font : Font) → length fonts ≡ length bytes → start + length text ≤ length bytes
-    → cells_in (put_at bytes start text) (put_at fonts start (replicate (length text) font)) ≡ put_at (cells_in bytes fonts) start (cells_of font text)
-in-put bytes text fonts start font same room =
-    let len : length (replicate (length text) font) ≡ length text = length-replicate (length text) font in
-    let cells : length (cells_of font text) ≡ length text = length-map text (cell_of font) in
+pub in-put-letters : (bytes text : List ℕ) (fonts own : List Font) (start : ℕ) → length fonts ≡ length bytes → length own ≡ length text → start + length text ≤ length bytes
+    → cells_in (put_at bytes start text) (put_at fonts start own) ≡ put_at (cells_in bytes fonts) start (cells_in text own)
+in-put-letters bytes text fonts own start same len room =
+    let cells : length (cells_in text own) ≡ length text = in-length text own len in
     let end = start + length text in
     let front : length (take start fonts) ≡ length (take start bytes) =
     length-take-le start fonts (omega (arith, same, room)) ∙ sym (length-take-le start bytes (omega (arith, room))) in
-    ap (λ n. cells_in (put_at bytes start text) (take start fonts ++ (replicate (length text) font ++ drop (start + n) fonts))) len
-    ∙ (in-append (take start bytes) (text ++ drop end bytes) (take start fonts) (replicate (length text) font ++ drop end fonts) front
-    ∙ (ap (λ c. c ++ cells_in (text ++ drop end bytes) (replicate (length text) font ++ drop end fonts)) (sym (in-take start bytes fonts))
+    ap (λ n. cells_in (put_at bytes start text) (take start fonts ++ (own ++ drop (start + n) fonts))) len
+    ∙ (in-append (take start bytes) (text ++ drop end bytes) (take start fonts) (own ++ drop end fonts) front
+    ∙ (ap (λ c. c ++ cells_in (text ++ drop end bytes) (own ++ drop end fonts)) (sym (in-take start bytes fonts))
     ∙ ap (λ c. take start (cells_in bytes fonts) ++ c)
-    (in-append text (drop end bytes) (replicate (length text) font) (drop end fonts) len
-    ∙ (ap (λ c. c ++ cells_in (drop end bytes) (drop end fonts)) (in-font text font)
-    ∙ ap (λ c. cells_of font text ++ c) (sym (in-drop end bytes fonts same) ∙ ap (λ n. drop (start + n) (cells_in bytes fonts)) (sym cells))))))
+    (in-append text (drop end bytes) own (drop end fonts) len
+    ∙ ap (λ c. cells_in text own ++ c) (sym (in-drop end bytes fonts same) ∙ ap (λ n. drop (start + n) (cells_in bytes fonts)) (sym cells)))))
+
+pub in-put : (bytes text : List ℕ) (fonts : List Font) (start : ℕ) (font : Font) → length fonts ≡ length bytes → start + length text ≤ length bytes
+    → cells_in (put_at bytes start text) (put_at fonts start (replicate (length text) font)) ≡ put_at (cells_in bytes fonts) start (cells_of font text)
+in-put bytes text fonts start font same room =
+    in-put-letters bytes text fonts (replicate (length text) font) start same (length-replicate (length text) font) room
+    ∙ ap (put_at (cells_in bytes fonts) start) (in-font text font)
 
 pub in-set : (bytes : List ℕ) (fonts : List Font) (i b : ℕ) (font : Font) → length fonts ≡ length bytes
     → cells_in (set bytes i b) (set fonts i font) ≡ set (cells_in bytes fonts) i (cell_of font b)

@@ -1,13 +1,11 @@
 //! Printable characters of ASCII and their fonts, apart: the places of a row in which there is nothing else.
 
-ghost use Rattle.std.specs.Prelude.{◌≡◌, ◌+◌, ◌<◌, ◌≤◌, length, take, set, replicate};
+ghost use Rattle.std.specs.Prelude.{◌≡◌, ◌+◌, ◌<◌, ◌≤◌, length, set, replicate};
 ghost use Rattle.std.specs.List.{list_all};
-ghost use Rattle.page_core_base.specs.Rows.{cells_in};
 ghost use Rattle.page_fill_cells.specs.machine.BlankRuns.{is_blank_byte};
 ghost use Rattle.page_fill_cells.specs.machine.Places.{put_at};
 
-use page_core_base::{Cell, Font};
-use std::mem;
+use page_core_base::Font;
 
 /// Puts bytes at a start and after it, all in one font.
 pub(crate) fn put_text(bytes: &mut [u8], fonts: &mut [Font], start: usize, text: &[u8], font: Font)
@@ -18,6 +16,24 @@ pub(crate) fn put_text(bytes: &mut [u8], fonts: &mut [Font], start: usize, text:
     let end = start + text.len();
     bytes[start..end].copy_from_slice(text);
     fonts[start..end].fill(font);
+}
+
+/// Puts bytes at a start and after it, each in the font beside it.
+pub(crate) fn put_letters(
+    bytes: &mut [u8],
+    fonts: &mut [Font],
+    start: usize,
+    text: &[u8],
+    own: &[Font],
+)
+    requires within { (start + length text.now ≤ length bytes.old) × (length fonts.old ≡ length bytes.old) }
+    requires own { length own.now ≡ length text.now }
+    ensures bytes { bytes.new ≡ put_at bytes.old start text.now }
+    ensures fonts { fonts.new ≡ put_at fonts.old start own.now }
+{
+    let end = start + text.len();
+    bytes[start..end].copy_from_slice(text);
+    fonts[start..end].copy_from_slice(own);
 }
 
 /// Puts a count of blanks at a start and after it, all in one font.
@@ -45,20 +61,6 @@ pub(crate) fn put_byte(bytes: &mut [u8], fonts: &mut [Font], place: usize, byte:
 {
     bytes[place] = byte;
     fonts[place] = font;
-}
-
-/// Puts the cells of bytes, each in its font, in the first places.
-pub(crate) fn put_cells_in(places: &mut [Cell], bytes: &[u8], fonts: &[Font])
-    requires { (length fonts.now ≡ length bytes.now) × (length bytes.now ≤ length places.old) }
-    ensures { take (length bytes.now) places.new ≡ cells_in bytes.now fonts.now }
-{
-    for i in 0..bytes.len() {
-        let cell = Cell {
-            c: bytes[i] as char,
-            font: fonts[i],
-        };
-        let _place = mem::replace(&mut places[i], cell);
-    }
 }
 
 /// Whether there are blanks alone.

@@ -1,6 +1,7 @@
 //! Cells in places that are reserved for good: a loop over the bytes of a text writes its cells and nothing else.
 
 ghost use Rattle.std.specs.Prelude.{◌≡◌, ◌+◌, ◌-◌, ◌≤◌, ◌++◌, length, take, drop, replicate};
+ghost use Rattle.page_core_base.specs.Rows.{cells_in};
 ghost use Rattle.page_fill_cells.specs.Cells as cells;
 ghost use Rattle.page_fill_cells.specs.machine.Places.{put_at};
 
@@ -16,6 +17,21 @@ pub(crate) fn put_cells(places: &mut [Cell], start: usize, bytes: &[u8], font: F
         let cell = Cell {
             c: bytes[i] as char,
             font,
+        };
+        let _place = mem::replace(&mut places[start + i], cell);
+    }
+}
+
+/// Puts a cell of each byte, in the font beside it, at a start and after it.
+pub(crate) fn put_cells_in(places: &mut [Cell], start: usize, bytes: &[u8], fonts: &[Font])
+    requires room { start + length bytes.now ≤ length places.old }
+    requires fonts { length fonts.now ≡ length bytes.now }
+    ensures { places.new ≡ put_at places.old start (cells_in bytes.now fonts.now) }
+{
+    for i in 0..bytes.len() {
+        let cell = Cell {
+            c: bytes[i] as char,
+            font: fonts[i],
         };
         let _place = mem::replace(&mut places[start + i], cell);
     }

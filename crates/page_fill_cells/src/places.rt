@@ -6,8 +6,8 @@ ghost use Rattle.page_core_base.specs.Rows.{cells_in, is_blank_row, row_of};
 ghost use Rattle.page_fill_cells.specs.Cells as cells;
 ghost use Rattle.page_fill_cells.specs.machine.Places.{put_at};
 
-use crate::ascii_places::{is_blank_text, put_blank_text, put_byte, put_cells_in, put_text};
-use crate::cell_places::{move_to_front, put_blanks, put_cells};
+use crate::ascii_places::{is_blank_text, put_blank_text, put_byte, put_letters, put_text};
+use crate::cell_places::{move_to_front, put_blanks, put_cells, put_cells_in};
 use crate::cell_widths::{BLANK, columns, is_blank};
 use page_core_base::{CELLS, Cell, Font, RowOut};
 use std::alloc::{AllocError, Global};
@@ -60,7 +60,7 @@ fn make_cells(places: &mut Vec<Cell>, bytes: &[u8], fonts: &[Font])
     while places.len() < CELLS {
         places.push_reserved(BLANK);
     }
-    put_cells_in(places, bytes, fonts);
+    put_cells_in(places, 0, bytes, fonts);
 }
 
 impl Places {
@@ -146,6 +146,20 @@ impl Places {
         }
     }
 
+    /// Puts a cell of each byte, in the font beside it, at a start and after it.
+    pub(crate) fn put_letters(&mut self, start: usize, bytes: &[u8], fonts: &[Font])
+        requires plain { cells.is_printable_ascii bytes.now ≡ true }
+        requires fonts { length fonts.now ≡ length bytes.now }
+        requires room { start + length bytes.now ≤ length self.old }
+        ensures { self.new ≡ put_at self.old start (cells_in bytes.now fonts.now) }
+    {
+        if self.has_cells {
+            put_cells_in(&mut self.cells, start, bytes, fonts);
+        } else {
+            put_letters(&mut self.bytes, &mut self.fonts, start, bytes, fonts);
+        }
+    }
+
     /// Puts a count of blanks at a start and after it.
     pub(crate) fn put_blanks(&mut self, start: usize, count: usize, font: Font)
         requires { start + count ≤ length self.old }
@@ -204,7 +218,7 @@ impl Places {
         if self.has_cells {
             places[..end].copy_from_slice(&self.cells[..end]);
         } else {
-            put_cells_in(places, &self.bytes[..end], &self.fonts[..end]);
+            put_cells_in(places, 0, &self.bytes[..end], &self.fonts[..end]);
         }
     }
 

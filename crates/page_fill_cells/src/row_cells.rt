@@ -2,7 +2,7 @@
 
 ghost use Rattle.std.specs.Prelude.{◌≡◌, ◌+◌, ◌*◌, ◌<◌, ◌≤◌, [], ◌∷◌, ◌++◌, ◌==◌, length, take, drop, replicate, IfOk, true, if◌then◌else◌};
 ghost use Rattle.page_core_base.specs.Latches.{CameRows};
-ghost use Rattle.page_core_base.specs.Rows.{is_blank_row, row_of};
+ghost use Rattle.page_core_base.specs.Rows.{cells_in, is_blank_row, row_of};
 ghost use Rattle.page_fill_cells.specs.Cells as cells;
 ghost use Rattle.page_fill_cells.specs.machine.BlankRuns.{HasRun};
 
@@ -200,6 +200,20 @@ impl RowCells {
     {
         let end = self.len + bytes.len();
         self.places.put_plain(self.len, bytes, font);
+        self.run.cut(end);
+        self.blanks = 0;
+        self.len = end;
+    }
+
+    /// Appends a cell of each byte, in the font beside it.
+    pub fn add_letters(&mut self, bytes: &[u8], fonts: &[Font])
+        requires plain { cells.is_printable_ascii bytes.now ≡ true }
+        requires fonts { length fonts.now ≡ length bytes.now }
+        requires room { length self.old + length bytes.now ≤ CELLS }
+        ensures { self.new ≡ self.old ++ cells_in bytes.now fonts.now }
+    {
+        let end = self.len + bytes.len();
+        self.places.put_letters(self.len, bytes, fonts);
         self.run.cut(end);
         self.blanks = 0;
         self.len = end;

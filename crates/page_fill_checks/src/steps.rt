@@ -26,10 +26,10 @@ pub enum Step {
     Cells(&'static str),
     /// A word of 4,096 cells comes in 64 parts, each of 63 accents and a hyphen.
     Parts,
-    /// Words in a font come with a blank before each, of which so many bytes are taken at once, and the others come one by one.
-    Words(&'static str, Font, usize),
-    /// Of words in roman so many bytes are taken at once, and the others do not come.
-    Takes(&'static str, usize),
+    /// Words, with a blank before each, are taken at once, in the fonts of letters beside them.
+    Words(&'static str, &'static str),
+    /// Words are not taken at once.
+    Refused(&'static str),
     /// The page ends.
     End,
     /// Nothing more is taken.
@@ -170,36 +170,39 @@ fn give_parts<R: RowSink, N: NoteSink>(
     Ok(())
 }
 
-// Takes words at once, and answers the others.
-fn take_words<'a>(
-    rt: &impl Abort,
-    filler: &mut Filler,
-    words: &'a [u8],
-    font: Font,
-    taken: usize,
-) -> &'a [u8] {
-    let got = filler.take_words(words, font);
-    assert!(rt; got == taken, "{got} bytes are taken");
-    &words[got..]
+// The font that a letter stands for.
+fn font_named(letter: u8) -> Font {
+    match letter {
+        b'B' => Font::B,
+        b'I' => Font::I,
+        b'X' => Font::BI,
+        _ => Font::R,
+    }
 }
 
+fn fonts_named(letters: &[u8]) -> [Font; 32] {
+    let mut fonts = [Font::R; 32];
+    for i in 0..letters.len().min(32) {
+        fonts[i] = font_named(letters[i]);
+    }
+    fonts
+}
+
+// Takes words at once.
 fn give_words<R: RowSink, N: NoteSink>(
+    rt: &impl Abort,
     filler: &mut Filler,
     words: &[u8],
-    font: Font,
+    letters: &[u8],
     rows: &mut R,
     notes: &mut N,
 ) -> Result<(), Fault> {
-    for word in words.split(|byte| *byte == b' ').skip(1) {
-        let piece = Piece::Text {
-            text: word,
-            font,
-            place: HERE,
-        };
-        give(filler, blank(1), rows, notes)?;
-        give(filler, piece, rows, notes)?;
+    let fonts = fonts_named(letters);
+    assert!(rt; filler.takes_words(words), "they are taken");
+    if words.len() > 32 {
+        return Ok(());
     }
-    Ok(())
+    filler.words(words, &fonts[..words.len()], rows, notes)
 }
 
 fn check_answer(rt: &impl Abort, got: Result<(), Fault>, wanted: Result<(), Fault>) {
@@ -218,8 +221,8 @@ fn check_count(rt: &impl Abort, got: u32, wanted: u32, of: &str) {
 // What is done with the filler alone.
 fn look(rt: &impl Abort, filler: &mut Filler, step: Step) {
     match step {
-        Step::Takes(words, taken) => {
-            let _ = take_words(rt, filler, words.as_bytes(), Font::R, taken);
+        Step::Refused(words) => {
+            assert!(rt; !filler.takes_words(words.as_bytes()), "they are refused");
         }
         Step::Open(cells) => assert!(rt; filler.pending().len() == cells, "{cells} cells"),
         Step::BlankRows(count) => check_count(rt, filler.blank_rows(), count, "blank rows"),
@@ -241,9 +244,8 @@ fn take_step(
         Step::Blanks(count, font) => give(filler, blank_text(count, font), rows, notes),
         Step::Cells(cell) => give_cells(filler, cell, rows, notes),
         Step::Parts => give_parts(filler, rows, notes),
-        Step::Words(words, font, taken) => {
-            let left = take_words(rt, filler, words.as_bytes(), font, taken);
-            give_words(filler, left, font, rows, notes)
+        Step::Words(words, fonts) => {
+            give_words(rt, filler, words.as_bytes(), fonts.as_bytes(), rows, notes)
         }
         Step::End => end(filler, rows, notes),
         Step::Closed => {

@@ -156,14 +156,11 @@ fn check_scripts(
 }
 
 const WORDS: &[Case<'static>] = &[
+    // They fill the row, or just fit.
     (
         6,
         ASCII,
-        &[
-            Step::Script("a"),
-            Step::Words(" b c", Font::R, 4),
-            Step::End,
-        ],
+        &[Step::Script("a"), Step::Words(" b c", "RRRR"), Step::End],
         Some("a b c\n"),
         "",
     ),
@@ -172,7 +169,33 @@ const WORDS: &[Case<'static>] = &[
         ASCII,
         &[
             Step::Script("a"),
-            Step::Words(" bcd ef", Font::R, 4),
+            Step::Words(" bcde", "RRRRR"),
+            Step::Rows(0),
+            Step::End,
+        ],
+        Some("a bcde\n"),
+        "",
+    ),
+    // The word passes the width.
+    (
+        6,
+        ASCII,
+        &[
+            Step::Script("a"),
+            Step::Words(" bcdef", "RRRRRR"),
+            Step::Rows(1),
+            Step::Open(5),
+            Step::End,
+        ],
+        Some("a\nbcdef\n"),
+        "",
+    ),
+    (
+        6,
+        ASCII,
+        &[
+            Step::Script("a"),
+            Step::Words(" bcd ef", "RRRRRRR"),
             Step::End,
         ],
         Some("a bcd\nef\n"),
@@ -183,10 +206,44 @@ const WORDS: &[Case<'static>] = &[
         ASCII,
         &[
             Step::Script("a"),
-            Step::Words(" b cdef", Font::R, 2),
+            Step::Words(" b cdef g", "RRRRRRRRR"),
             Step::End,
         ],
-        Some("a b\ncdef\n"),
+        Some("a b\ncdef g\n"),
+        "",
+    ),
+    // A word that passes the width alone is in a row of its own.
+    (
+        6,
+        ASCII,
+        &[
+            Step::Script("a"),
+            Step::Words(" bcdefghi j", "RRRRRRRRRRR"),
+            Step::End,
+        ],
+        Some("a\nbcdefghi\nj\n"),
+        "",
+    ),
+    // Several rows.
+    (
+        6,
+        ASCII,
+        &[
+            Step::Script("a"),
+            Step::Words(" bc def gh ij klm", "RRRRRRRRRRRRRRRRR"),
+            Step::Rows(2),
+            Step::Open(6),
+            Step::End,
+        ],
+        Some("a bc\ndef gh\nij klm\n"),
+        "",
+    ),
+    // Each letter in its font.
+    (
+        6,
+        ASCII,
+        &[Step::Script("a"), Step::Words(" bc", "RBI"), Step::End],
+        Some("a b\u{8}b_\u{8}c\n"),
         "",
     ),
     (
@@ -194,84 +251,116 @@ const WORDS: &[Case<'static>] = &[
         ASCII,
         &[
             Step::Script("a"),
-            Step::Words(" bcdefg", Font::R, 0),
+            Step::Words(" bcd ef", "RRBBRIX"),
             Step::End,
         ],
-        Some("a\nbcdefg\n"),
+        Some("a bc\u{8}cd\u{8}d\n_\u{8}e_\u{8}f\u{8}f\n"),
         "",
     ),
-    // Up to a byte that is not printable ASCII.
+    // With margins.
+    (
+        6,
+        ASCII,
+        &[
+            Step::Script("Ma"),
+            Step::Words(" bcd ef", "RRRRRRR"),
+            Step::End,
+        ],
+        Some(" a bcd\n  ef\n"),
+        "",
+    ),
+    // What follows goes on with the last word.
     (
         6,
         ASCII,
         &[
             Step::Script("a"),
-            Step::Words(" b \u{4e00}", Font::R, 2),
+            Step::Words(" bcd", "RRRR"),
+            Step::Script("e_f"),
             Step::End,
         ],
-        Some("a b\n<?>\n"),
-        NO_IDEOGRAPH,
-    ),
-    // The first word of a row, one that is placed, and rows that are kept come one by one; so does what is not roman.
-    (
-        6,
-        ASCII,
-        &[Step::Words(" b c", Font::R, 0), Step::End],
-        Some("b c\n"),
+        Some("a bcde\nf\n"),
         "",
     ),
     (
         6,
         ASCII,
         &[
-            Step::Script("NaE"),
-            Step::Words(" b", Font::R, 0),
+            Step::Script("a"),
+            Step::Words(" bcd", "RRRR"),
+            Step::Script("ef"),
             Step::End,
         ],
-        Some("a   b\n"),
+        Some("a\nbcdef\n"),
         "",
     ),
     (
         6,
         ASCII,
         &[
-            Step::Script("La"),
-            Step::Words(" b c", Font::R, 0),
+            Step::Script("a"),
+            Step::Words(" b cd ef", "RRRRRRRR"),
+            Step::Script("gh"),
             Step::End,
         ],
-        Some("a b c\n"),
+        Some("a b cd\nefgh\n"),
+        "",
+    ),
+    // A blank that waits is not another one; nor is a word that is open.
+    (
+        6,
+        ASCII,
+        &[Step::Script("a_+"), Step::Words(" b", "RR"), Step::End],
+        Some("a b\n"),
         "",
     ),
     (
         6,
         ASCII,
-        &[Step::Script("a"), Step::Words(" b", Font::B, 0), Step::End],
-        Some("a b\u{8}b\n"),
+        &[Step::Script("a="), Step::Words(" b", "RR"), Step::End],
+        Some("a b\n"),
         "",
     ),
-    // The last word that is taken at once goes on after its last part.
+    // They come one by one where the row has no cell, at a place, where rows are kept, and if one byte is no printable ASCII.
     (
         6,
         ASCII,
         &[
-            Step::Text("a"),
-            Step::Takes(" bc-d", 5),
-            Step::Text(""),
+            Step::Refused(" b"),
+            Step::Script("a/"),
+            Step::Refused(" b"),
             Step::End,
         ],
-        Some("a bc-d\n"),
+        Some("a\n"),
         "",
     ),
     (
         6,
         ASCII,
-        &[
-            Step::Text("a"),
-            Step::Takes(" bc-d", 5),
-            Step::Text("e"),
-            Step::End,
-        ],
-        Some("a bc-\nde\n"),
+        &[Step::Script("NaE"), Step::Refused(" b"), Step::End],
+        Some("a\n"),
+        "",
+    ),
+    (
+        6,
+        ASCII,
+        &[Step::Script("La"), Step::Refused(" b"), Step::End],
+        Some("a\n"),
+        "",
+    ),
+    (
+        6,
+        ASCII,
+        &[Step::Script("a"), Step::Refused(" b\u{e9}"), Step::End],
+        Some("a\n"),
+        "",
+    ),
+    // Nothing is taken after the end.
+    (
+        6,
+        ASCII,
+        &[Step::Script("a"), Step::End, Step::Refused(" b")],
+        Some("a\n"),
         "",
     ),
     // The columns of a tag are counted over its rows: 7 here.

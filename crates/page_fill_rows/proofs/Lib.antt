@@ -6,3 +6,4 @@ pub mod GroupLemmas
 pub mod WrapLemmas
 pub mod PlainLaw
 pub mod PutBlankLemmas
+pub mod AnywhereLemmas

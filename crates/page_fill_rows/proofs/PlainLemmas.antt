@@ -1,6 +1,7 @@
 -- A plain text that the open row has room for.
-use Rattle.std.proofs.Common.{◌≡◌, ℕ, ◌+◌, ◌<◌, ◌≤◌, zero, suc, true, false, ◌==◌, List, [], ◌∷◌, ◌++◌, length, replicate, min, take, drop, append_assoc, append-nil, length-append, ◌&&◌, ◌||◌, nat_lt, ◌<◌, refl, ap, sym, ◌∙◌, arith}
+use Rattle.std.proofs.Common.{◌≡◌, ℕ, ◌+◌, ◌<◌, ◌≤◌, zero, suc, true, false, ◌==◌, Bool, List, [], ◌∷◌, ◌++◌, length, replicate, min, take, drop, append_assoc, append-nil, length-append, ◌&&◌, ◌||◌, nat_lt, ◌<◌, refl, ap, sym, ◌∙◌, arith}
 use Rattle.std.proofs.lemmas.Bool.Decides.{nat_tests}
+use Rattle.std.specs.List.{list_all}
 use Rattle.std.proofs.lemmas.List.Folds.{list_all-append}
 use Rattle.std.proofs.lemmas.List.{take-append-drop, length-map, length-replicate}
 use Rattle.std.proofs.lemmas.List.Sums.{sum_by-append}
@@ -9,6 +10,7 @@ use Rattle.page_core_base.specs.declared.cells.Cell.{Cell}
 use Rattle.page_core_base.specs.declared.cells.Font.{Font}
 use Rattle.page_core_base.specs.declared.places.Place.{Place}
 use Rattle.page_core_base.specs.Laid.{nothing}
+use Rattle.page_core_base.specs.Rows.{cells_in}
 use Rattle.page_core_tables.specs.Printed.{char_printed, known}
 use Rattle.page_fill_rows.specs.machine.Sheets.{Sheet, cell_columns, columns, counted, passes, blank, letter, letters, space, spaces}
 use Rattle.page_core_base.specs.declared.limits.TheConstants.{CELLS}
@@ -29,6 +31,33 @@ parts-plain n bytes plain =
     let both = ap is_printable_ascii (sym (take-append-drop n bytes)) ∙ list_all-append is_printable (take n bytes) (drop n bytes) in
     let all : (is_printable_ascii (take n bytes) && is_printable_ascii (drop n bytes)) ≡ true = sym both ∙ plain in
     (grind (arith, all), grind (arith, all))
+
+-- ---- cells of plain bytes
+
+abbrev pub are_plain : List Cell → Bool
+are_plain cells = list_all (λ cell. is_printable cell.c) cells
+
+pub first-column : (cell : Cell) (cells : List Cell) → are_plain (cell ∷ cells) ≡ true → cell_columns cell ≡ 1
+first-column cell cells plain = let byte : is_printable cell.c ≡ true = grind (arith, plain) in plain-columns cell.font cell.c byte
+
+pub others-plain : (cell : Cell) (cells : List Cell) → are_plain (cell ∷ cells) ≡ true → are_plain cells ≡ true
+others-plain cell cells plain = grind (arith, plain)
+
+pub of-plain : (font : Font) (bytes : List ℕ) → is_printable_ascii bytes ≡ true → are_plain (cells_of font bytes) ≡ true
+of-plain font [] plain = refl
+of-plain font (b ∷ bytes) plain = rw (first-plain b bytes plain) (of-plain font bytes (rest-plain b bytes plain))
+
+pub in-plain : (bytes : List ℕ) (fonts : List Font) → is_printable_ascii bytes ≡ true → are_plain (cells_in bytes fonts) ≡ true
+in-plain [] fonts plain = refl
+in-plain (b ∷ bytes) [] plain = refl
+in-plain (b ∷ bytes) (font ∷ fonts) plain = rw (first-plain b bytes plain) (in-plain bytes fonts (rest-plain b bytes plain))
+
+pub columns-cells : (cells : List Cell) → are_plain cells ≡ true → columns cells ≡ length cells
+columns-cells [] plain = refl
+columns-cells (cell ∷ cells) plain =
+    let one : columns (cell ∷ []) ≡ 1 = let c = first-column cell cells plain in omega (arith, c) in
+    let others = columns-cells cells (others-plain cell cells plain) in
+    sum_by-append cell_columns (cell ∷ []) cells ∙ omega (arith, one, others)
 
 -- ---- one cell
 
@@ -83,39 +112,47 @@ taken-more s cell next cells = taken-at s s.cells cell next cells refl
 
 -- ---- a text
 
-pub letters-fit : (s : Sheet) (b : ℕ) (bytes : List ℕ) (font : Font) (place : Place) → is_printable_ascii (b ∷ bytes) ≡ true → has_room s (length (b ∷ bytes)) ≡ true
-    → letters s (cells_of font (b ∷ bytes)) place ≡ nothing (taken s (cells_of font (b ∷ bytes)))
+pub cells-fit : (s : Sheet) (cell : Cell) (cells : List Cell) (place : Place) → are_plain (cell ∷ cells) ≡ true → has_room s (length (cell ∷ cells)) ≡ true
+    → letters s (cell ∷ cells) place ≡ nothing (taken s (cell ∷ cells))
 unfolding letters
-letters-fit s b [] font place plain room =
-    rw (letter-fits s (cell_of font b) 0 place (plain-columns font b (first-plain b [] plain)) room) refl
-letters-fit s b (next ∷ bytes) font place plain room =
-    let one : cell_columns (cell_of font b) ≡ 1 = plain-columns font b (first-plain b (next ∷ bytes) plain) in
-    let less = room-less s (cell_of font b) (suc (length bytes)) one room in
-    let others = letters-fit (taken s (cell_of font b ∷ [])) next bytes font place (rest-plain b (next ∷ bytes) plain) less in
-    rw (letter-fits s (cell_of font b) (suc (length bytes)) place one room) (others ∙ ap nothing (taken-more s (cell_of font b) (cell_of font next) (cells_of font bytes)))
+cells-fit s cell [] place plain room = rw (letter-fits s cell 0 place (first-column cell [] plain) room) refl
+cells-fit s cell (next ∷ cells) place plain room =
+    let one = first-column cell (next ∷ cells) plain in
+    let less = room-less s cell (suc (length cells)) one room in
+    let others = cells-fit (taken s (cell ∷ [])) next cells place (others-plain cell (next ∷ cells) plain) less in
+    rw (letter-fits s cell (suc (length cells)) place one room) (others ∙ ap nothing (taken-more s cell next cells))
 
 -- a text with a byte
 pub letters-fits : (s : Sheet) (bytes : List ℕ) (font : Font) (place : Place) → (length bytes == 0) ≡ false → is_printable_ascii bytes ≡ true → has_room s (length bytes) ≡ true
     → letters s (cells_of font bytes) place ≡ nothing (taken s (cells_of font bytes))
 letters-fits s [] font place some plain room = absurd (grind (arith, some))
-letters-fits s (b ∷ bytes) font place some plain room = letters-fit s b bytes font place plain room
+letters-fits s (b ∷ bytes) font place some plain room =
+    cells-fit s (cell_of font b) (cells_of font bytes) place (of-plain font (b ∷ bytes) plain) (rw (length-map bytes (cell_of font)) room)
 
--- a sound row with the cells of a plain text is sound
-pub sound-more : {blanks : ℕ} (cells : List Cell) (bytes : List ℕ) (font : Font) (count gap word tag tag-now : ℕ) → IsSound cells count gap word tag blanks
-    → is_printable_ascii bytes ≡ true → length cells + length bytes ≤ CELLS → tag-now ≤ TAG_COLUMNS
-    → IsSound (cells ++ cells_of font bytes) (count + length bytes) gap word tag-now blanks
-sound-more cells bytes font count gap word tag tag-now sound plain room tagged =
-    let len : length (cells ++ cells_of font bytes) ≡ length cells + length bytes = length-append cells (cells_of font bytes) ∙ ap (λ k. length cells + k) (length-map bytes (cell_of font)) in
-    let more : columns (cells ++ cells_of font bytes) ≡ columns cells + length bytes = sum_by-append cell_columns cells (cells_of font bytes) ∙ ap (λ k. columns cells + k) (columns-plain font bytes plain) in
+-- a sound row with more cells of plain bytes is sound
+pub sound-cells : {blanks : ℕ} (cells more : List Cell) (count gap word tag tag-now : ℕ) → IsSound cells count gap word tag blanks
+    → are_plain more ≡ true → length cells + length more ≤ CELLS → tag-now ≤ TAG_COLUMNS
+    → IsSound (cells ++ more) (count + length more) gap word tag-now blanks
+sound-cells cells more count gap word tag tag-now sound plain room tagged =
+    let len : length (cells ++ more) ≡ length cells + length more = length-append cells more in
+    let sum : columns (cells ++ more) ≡ columns cells + length more = sum_by-append cell_columns cells more ∙ ap (λ k. columns cells + k) (columns-cells more plain) in
     record {
       bounded = omega (arith, len, room);
-      counted = ap (λ k. k + length bytes) sound.counted ∙ sym more;
+      counted = ap (λ k. k + length more) sound.counted ∙ sym sum;
       narrow = omega (arith, len, sound.narrow);
       gap_within = sound.gap_within;
       word_within = omega (arith, len, sound.word_within);
       tag_within = tagged;
       blanks_within = sound.blanks_within;
     }
+
+-- the same of a plain text
+pub sound-more : {blanks : ℕ} (cells : List Cell) (bytes : List ℕ) (font : Font) (count gap word tag tag-now : ℕ) → IsSound cells count gap word tag blanks
+    → is_printable_ascii bytes ≡ true → length cells + length bytes ≤ CELLS → tag-now ≤ TAG_COLUMNS
+    → IsSound (cells ++ cells_of font bytes) (count + length bytes) gap word tag-now blanks
+sound-more cells bytes font count gap word tag tag-now sound plain room tagged =
+    let len = length-map bytes (cell_of font) in
+    rw len at (sound-cells cells (cells_of font bytes) count gap word tag tag-now sound (of-plain font bytes plain) (rw len room) tagged)
 
 -- ---- blanks and their cells
 
@@ -137,6 +174,16 @@ has-front cells more some = let len = length-append cells more in grind (arith, 
 counts-both : (columns blanks n : ℕ) → min (min (columns + blanks) TAG_COLUMNS + n) TAG_COLUMNS ≡ min (columns + (blanks + n)) TAG_COLUMNS
 counts-both columns blanks n = omega arith
 
+pub taken-cells : (s : Sheet) (blanks : ℕ) (cells : List Cell) → (length s.cells == 0) ≡ false
+    → taken (spaced_by s blanks) cells ≡ record s {
+      cells = s.cells ++ replicate blanks blank ++ cells;
+      gap = length s.cells;
+      word = length s.cells + blanks;
+      tag_columns = min (s.tag_columns + (blanks + length cells)) TAG_COLUMNS;
+      tag_begun = true;
+    }
+taken-cells s blanks cells some = rw (has-front s.cells (replicate blanks blank) some, counts-both s.tag_columns blanks (length cells)) refl
+
 pub taken-word : (s : Sheet) (blanks : ℕ) (bytes : List ℕ) (font : Font) → (length s.cells == 0) ≡ false
     → taken (spaced_by s blanks) (cells_of font bytes) ≡ record s {
       cells = s.cells ++ replicate blanks blank ++ cells_of font bytes;
@@ -145,8 +192,7 @@ pub taken-word : (s : Sheet) (blanks : ℕ) (bytes : List ℕ) (font : Font) →
       tag_columns = min (s.tag_columns + (blanks + length bytes)) TAG_COLUMNS;
       tag_begun = true;
     }
-taken-word s blanks bytes font some =
-    rw (has-front s.cells (replicate blanks blank) some, length-map bytes (cell_of font), counts-both s.tag_columns blanks (length bytes)) refl
+taken-word s blanks bytes font some = rw (taken-cells s blanks (cells_of font bytes) some, length-map bytes (cell_of font)) refl
 
 -- a sound row with blanks and the cells of a plain text is sound
 pub sound-word : {held : ℕ} (cells : List Cell) (blanks : ℕ) (bytes : List ℕ) (font : Font) (count gap word tag tag-now : ℕ) → IsSound cells count gap word tag held
@@ -204,7 +250,7 @@ characters-plain output s (b ∷ bytes) font place plain =
 
 -- ---- a word after blanks
 
-space-fits : (s : Sheet) (place : Place) → s.literal ≡ false → (length s.cells == 0) ≡ false → length s.cells < CELLS
+pub space-fits : (s : Sheet) (place : Place) → s.literal ≡ false → (length s.cells == 0) ≡ false → length s.cells < CELLS
     → s.margin + columns s.cells + 1 ≤ s.width
     → space s place ≡ nothing (record s { cells = s.cells ++ blank ∷ []; word = length s.cells + 1; tag_columns = min (s.tag_columns + 1) TAG_COLUMNS; tag_begun = true })
 unfolding space

@@ -1,17 +1,18 @@
 -- Where the letters after the last blank begin.
-use Rattle.std.proofs.Common.{◌≡◌, ℕ, zero, suc, ◌+◌, ◌-◌, ◌<◌, ◌≤◌, Bool, true, false, ◌==◌, List, [], ◌∷◌, ◌++◌, length, get_or, take, refl, ap, ◌∙◌, arith, inl, inr}
+use Rattle.std.proofs.Common.{◌≡◌, ℕ, zero, suc, ◌+◌, ◌-◌, ◌<◌, ◌≤◌, Bool, true, false, ◌==◌, List, [], ◌∷◌, ◌++◌, length, get_or, take, refl, sym, ap, ◌∙◌, arith, inl, inr}
 use Rattle.std.specs.List.{list_all, prefix_len}
 use Rattle.std.proofs.lemmas.Bool.{cases_Bool}
 use Rattle.std.proofs.lemmas.Bool.Decides.{nat_tests}
-use Rattle.std.proofs.lemmas.List.{length-append, length-map, length-take-le, take_more}
+use Rattle.std.proofs.lemmas.List.{length-append, length-take-le, take_more}
 use Rattle.page_core_base.specs.declared.cells.Cell.{Cell}
-use Rattle.page_core_base.specs.declared.cells.Font.TheVariants.{R}
+use Rattle.page_core_base.specs.declared.cells.Font.{Font}
+use Rattle.page_core_base.specs.Rows.{cells_in}
 use Rattle.page_core_base.specs.declared.limits.TheConstants.{CELLS}
 use Rattle.page_fill_rows.specs.declared.TheConstants.{TAG_COLUMNS}
-use Rattle.page_fill_rows.specs.Characters.{cell_of, cells_of}
 use Rattle.page_fill_rows.specs.machine.Room.{IsSound}
 use Rattle.page_fill_rows.specs.machine.Plain.{is_printable, is_printable_ascii, word_start}
-use Rattle.page_fill_rows.proofs.PlainLemmas.{first-plain, rest-plain, sound-more}
+use Rattle.page_fill_rows.proofs.PlainLemmas.{first-plain, in-plain, rest-plain, sound-cells}
+use Rattle.page_fill_cells.proofs.PlaceLemmas.{in-length}
 
 pub start-append : (front back : List ℕ) → (word_start back == 0) ≡ false → word_start (front ++ back) ≡ length front + word_start back
 unfolding word_start
@@ -64,20 +65,20 @@ pub start-of-none : word_start [] ≡ 0
 unfolding word_start
 start-of-none = refl
 
--- a sound row with roman words is sound
-pub sound-words : {blanks : ℕ} (cells : List Cell) (text : List ℕ) (start count gap word tag tag-now : ℕ) → IsSound cells count gap word tag blanks
-    → is_printable_ascii text ≡ true → length cells + length text ≤ CELLS → tag-now ≤ TAG_COLUMNS → start ≡ word_start text
-    → IsSound (cells ++ cells_of R text) (count + length text) (length cells + start - 1) (length cells + start) tag-now blanks
-sound-words cells text start count gap word tag tag-now sound plain room tagged is =
-    let more = sound-more cells text R count gap word tag tag-now sound plain room tagged in
-    let within = start-within text in
-    let len : length (cells ++ cells_of R text) ≡ length cells + length text = length-append cells (cells_of R text) ∙ ap (λ n. length cells + n) (length-map text (cell_of R)) in
+-- a sound row with words is sound
+pub sound-words : {blanks : ℕ} (cells : List Cell) (text : List ℕ) (fonts : List Font) (start count gap word tag tag-now : ℕ) → IsSound cells count gap word tag blanks
+    → is_printable_ascii text ≡ true → length fonts ≡ length text → length cells + length text ≤ CELLS → tag-now ≤ TAG_COLUMNS → start ≤ length text
+    → IsSound (cells ++ cells_in text fonts) (count + length text) (length cells + start - 1) (length cells + start) tag-now blanks
+sound-words cells text fonts start count gap word tag tag-now sound plain same room tagged within =
+    let size = in-length text fonts same in
+    let more = sound-cells cells (cells_in text fonts) count gap word tag tag-now sound (in-plain text fonts plain) (rw size room) tagged in
+    let len = length-append cells (cells_in text fonts) in
     record {
       bounded = more.bounded;
-      counted = more.counted;
-      narrow = more.narrow;
+      counted = ap (λ n. count + n) (sym size) ∙ more.counted;
+      narrow = let narrow = more.narrow in omega (arith, narrow, size);
       gap_within = omega arith;
-      word_within = omega (arith, len, within, is);
+      word_within = omega (arith, len, size, within);
       tag_within = tagged;
       blanks_within = more.blanks_within;
     }

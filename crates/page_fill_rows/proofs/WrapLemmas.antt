@@ -3,6 +3,7 @@ use Rattle.std.proofs.Common.{◌≡◌, ℕ, suc, ◌+◌, ◌<◌, ◌≤◌, 
 use Rattle.std.proofs.Math.Seq.{take-append_seam, take-length, drop-append-add}
 use Rattle.std.proofs.lemmas.Bool.{cases_Bool}
 use Rattle.std.proofs.lemmas.Bool.Decides.{nat_tests}
+use Rattle.std.proofs.lemmas.List.{length-map}
 use Rattle.std.proofs.lemmas.List.Sums.{sum_by-append}
 use Rattle.page_core_base.specs.declared.cells.Cell.{Cell}
 use Rattle.page_core_base.specs.declared.cells.Font.{Font}
@@ -13,8 +14,8 @@ use Rattle.page_core_base.specs.declared.limits.TheConstants.{CELLS}
 use Rattle.page_fill_rows.specs.declared.TheConstants.{TAG_COLUMNS}
 use Rattle.page_fill_rows.specs.machine.Sheets.{Sheet, blank, cell_columns, columns, counted, emptied, given, gives, letter, letters, opens, over, passes, space, wraps}
 use Rattle.page_fill_rows.specs.Characters.{cell_of, cells_of}
-use Rattle.page_fill_rows.specs.machine.Plain.{ends_before, has_room, is_printable_ascii, spaced, wraps_plain}
-use Rattle.page_fill_rows.proofs.PlainLemmas.{blank-one, counts-more, first-plain, has-more, letters-fit, plain-columns, rest-plain}
+use Rattle.page_fill_rows.specs.machine.Plain.{ends_before, has_room, has_word_room, is_printable_ascii, spaced, spaced_by, taken, wraps_plain}
+use Rattle.page_fill_rows.proofs.PlainLemmas.{are_plain, blank-one, cells-fit, counts-more, first-column, has-more, of-plain, others-plain, space-fits, spaced-room}
 use Rattle.page_fill_rows.proofs.SheetLemmas.{letters-one}
 
 -- the row of some cells was given, and the next one has others
@@ -58,16 +59,16 @@ letter-wraps s base done cell place is gap word one p =
 room-after : (s : Sheet) (n : ℕ) → s.gap ≡ 0 → length s.cells + n ≤ CELLS → has_room s n ≡ true
 room-after s n gap room = grind (arith, nat_tests, gap, room)
 
-others-fit : (s : Sheet) (base done : List Cell) (cell : Cell) (b : ℕ) (bytes : List ℕ) (font : Font) (place : Place)
-    → length done + 1 + length (b ∷ bytes) ≤ CELLS → is_printable_ascii (b ∷ bytes) ≡ true
-    → letters (wrapped s base (done ++ cell ∷ []) 1).edge (cells_of font (b ∷ bytes)) place
-    ≡ nothing (wrapped s base (done ++ cell ∷ cells_of font (b ∷ bytes)) (suc (length (cells_of font (b ∷ bytes))))).edge
-others-fit s base done cell b bytes font place room plain =
+others-fit : (s : Sheet) (base done : List Cell) (cell next : Cell) (cells : List Cell) (place : Place)
+    → length done + 1 + length (next ∷ cells) ≤ CELLS → are_plain (next ∷ cells) ≡ true
+    → letters (wrapped s base (done ++ cell ∷ []) 1).edge (next ∷ cells) place
+    ≡ nothing (wrapped s base (done ++ cell ∷ next ∷ cells) (suc (length (next ∷ cells)))).edge
+others-fit s base done cell next cells place room plain =
     let w = (wrapped s base (done ++ cell ∷ []) 1).edge in
     let len : length (done ++ cell ∷ []) ≡ length done + 1 = length-append done (cell ∷ []) in
-    let within : length w.cells + length (b ∷ bytes) ≤ CELLS = omega (arith, len, room) in
-    letters-fit w b bytes font place plain (room-after w (length (b ∷ bytes)) refl within)
-    ∙ rw (has-more done cell, counts-more s.tag_columns (length (cells_of font bytes)), append_assoc done (cell ∷ []) (cells_of font (b ∷ bytes))) refl
+    let within : length w.cells + length (next ∷ cells) ≤ CELLS = omega (arith, len, room) in
+    cells-fit w next cells place plain (room-after w (length (next ∷ cells)) refl within)
+    ∙ rw (has-more done cell, counts-more s.tag_columns (length cells), append_assoc done (cell ∷ []) (next ∷ cells)) refl
 
 -- ---- a word
 
@@ -89,37 +90,36 @@ unfolding letters
 letters-more s cell cells place = refl
 
 -- a part of it is in the row, after a blank, and all of it passes the width
-letters-wrap : (s : Sheet) (base done : List Cell) (b : ℕ) (bytes : List ℕ) (font : Font) (place : Place)
+letters-wrap : (s : Sheet) (base done : List Cell) (cell : Cell) (cells : List Cell) (place : Place)
     → s.cells ≡ base ++ blank ∷ done → s.gap ≡ length base → s.word ≡ length base + 1 → s.literal ≡ false → 0 < length base
-    → length s.cells + length (b ∷ bytes) ≤ CELLS → s.width < s.margin + columns s.cells + length (b ∷ bytes)
-    → is_printable_ascii (b ∷ bytes) ≡ true
-    → letters s (cells_of font (b ∷ bytes)) place ≡ wrapped s base (done ++ cells_of font (b ∷ bytes)) (length (cells_of font (b ∷ bytes)))
-letters-wrap s base done b [] font place is gap word literal some room wide plain =
-    let one : cell_columns (cell_of font b) ≡ 1 = plain-columns font b (first-plain b [] plain) in
-    elim (cases_Bool (passes (counted s (cell_of font b)) (cell_of font b))) [
-      | inl p ↦ letters-one s (cell_of font b) place ∙ letter-wraps s base done (cell_of font b) place is gap word one p
-      | inr p ↦ absurd (never-stays s (cell_of font b) literal (omega (arith, gap, some)) one wide p)
-    ]
-letters-wrap s base done b (next ∷ bytes) font place is gap word literal some room wide plain =
-    let cell = cell_of font b in
-    let one : cell_columns cell ≡ 1 = plain-columns font b (first-plain b (next ∷ bytes) plain) in
-    let others = rest-plain b (next ∷ bytes) plain in
-    let len : length (base ++ blank ∷ done) ≡ length base + suc (length done) = length-append base (blank ∷ done) in
-    let cells : length s.cells ≡ length base + suc (length done) = ap length is ∙ len in
+    → length s.cells + length (cell ∷ cells) ≤ CELLS → s.width < s.margin + columns s.cells + length (cell ∷ cells)
+    → are_plain (cell ∷ cells) ≡ true
+    → letters s (cell ∷ cells) place ≡ wrapped s base (done ++ cell ∷ cells) (length (cell ∷ cells))
+letters-wrap s base done cell [] place is gap word literal some room wide plain =
+    let one = first-column cell [] plain in
     elim (cases_Bool (passes (counted s cell) cell)) [
-      | inl p ↦ letters-more s cell (cells_of font (next ∷ bytes)) place
-          ∙ rw (letter-wraps s base done cell place is gap word one p, others-fit s base done cell next bytes font place (omega (arith, cells, room)) others) refl
+      | inl p ↦ letters-one s cell place ∙ letter-wraps s base done cell place is gap word one p
+      | inr p ↦ absurd (never-stays s cell literal (omega (arith, gap, some)) one wide p)
+    ]
+letters-wrap s base done cell (next ∷ cells) place is gap word literal some room wide plain =
+    let one = first-column cell (next ∷ cells) plain in
+    let others = others-plain cell (next ∷ cells) plain in
+    let len : length (base ++ blank ∷ done) ≡ length base + suc (length done) = length-append base (blank ∷ done) in
+    let count : length s.cells ≡ length base + suc (length done) = ap length is ∙ len in
+    elim (cases_Bool (passes (counted s cell) cell)) [
+      | inl p ↦ letters-more s cell (next ∷ cells) place
+          ∙ rw (letter-wraps s base done cell place is gap word one p, others-fit s base done cell next cells place (omega (arith, count, room)) others) refl
       | inr p ↦
           let full : (length s.cells == CELLS) ≡ false = grind (arith, nat_tests, room) in
-          let begun : (length s.cells == 0) ≡ false = grind (arith, nat_tests, cells) in
+          let begun : (length s.cells == 0) ≡ false = grind (arith, nat_tests, count) in
           let more = length-append s.cells (cell ∷ []) in
           let wider = columns-more s cell one in
           let t = record (counted s cell) { cells = s.cells ++ cell ∷ [] } in
-          let rest = letters-wrap t base (done ++ cell ∷ []) next bytes font place (cells-more s base done cell is) gap word literal some
+          let rest = letters-wrap t base (done ++ cell ∷ []) next cells place (cells-more s base done cell is) gap word literal some
           (omega (arith, more, room)) (omega (arith, wider, wide)) others in
-          letters-more s cell (cells_of font (next ∷ bytes)) place
+          letters-more s cell (next ∷ cells) place
           ∙ rw (letter-stays s cell place p full begun)
-          (rest ∙ rw (one, counts-more s.tag_columns (length (cells_of font bytes)), append_assoc done (cell ∷ []) (cells_of font (next ∷ bytes))) refl)
+          (rest ∙ rw (one, counts-more s.tag_columns (length cells), append_assoc done (cell ∷ []) (next ∷ cells)) refl)
     ]
 
 -- ---- the blank before it
@@ -140,24 +140,41 @@ space-stays s place some p full = rw (some, p, full) refl
 abbrev pub both : Sheet → List Cell → Place → Laid Sheet
 both s cells place = join (space (opens s) place) (letters (space (opens s) place).edge cells place)
 
-pub both-plain : (s : Sheet) (b : ℕ) (bytes : List ℕ) (font : Font) (place : Place) → is_printable_ascii (b ∷ bytes) ≡ true
-    → ends_before s (length (b ∷ bytes)) ≡ true → both s (cells_of font (b ∷ bytes)) place ≡ wraps_plain s (cells_of font (b ∷ bytes))
-both-plain s b bytes font place plain ends =
+-- the row has room for them
+pub both-fit : (s : Sheet) (cell : Cell) (cells : List Cell) (place : Place) → are_plain (cell ∷ cells) ≡ true
+    → has_word_room s 1 (length (cell ∷ cells)) ≡ true → both s (cell ∷ cells) place ≡ nothing (taken (spaced_by s 1) (cell ∷ cells))
+both-fit s cell cells place plain room =
+    let literal : s.literal ≡ false = grind (arith, room) in
+    let some : (length s.cells == 0) ≡ false = grind (arith, nat_tests, room) in
+    let within : length s.cells < CELLS = grind (arith, nat_tests, room) in
+    let narrow : s.margin + columns s.cells + 1 ≤ s.width = grind (arith, nat_tests, room) in
+    rw (space-fits (opens s) place literal some within narrow) (cells-fit (spaced_by s 1) cell cells place plain (spaced-room s 1 (length (cell ∷ cells)) room))
+
+-- it ends before them
+pub both-cells : (s : Sheet) (cell : Cell) (cells : List Cell) (place : Place) → are_plain (cell ∷ cells) ≡ true
+    → ends_before s (length (cell ∷ cells)) ≡ true → both s (cell ∷ cells) place ≡ wraps_plain s (cell ∷ cells)
+both-cells s cell cells place plain ends =
     let literal : s.literal ≡ false = grind (arith, ends) in
     let some : (length s.cells == 0) ≡ false = grind (arith, nat_tests, ends) in
-    let room : length s.cells + 1 + length (b ∷ bytes) ≤ CELLS = grind (arith, nat_tests, ends) in
-    let wide : s.width < s.margin + columns s.cells + 1 + length (b ∷ bytes) = grind (arith, nat_tests, ends) in
-    let cells : 0 < length s.cells = grind (arith, nat_tests, some) in
+    let room : length s.cells + 1 + length (cell ∷ cells) ≤ CELLS = grind (arith, nat_tests, ends) in
+    let wide : s.width < s.margin + columns s.cells + 1 + length (cell ∷ cells) = grind (arith, nat_tests, ends) in
+    let held : 0 < length s.cells = grind (arith, nat_tests, some) in
     elim (cases_Bool (passes (opens s) blank)) [
       | inl p ↦
           let t = emptied (given (opens s) s.cells) in
-          let fits = letters-fit t b bytes font place plain (room-after t (length (b ∷ bytes)) refl (omega (arith, room))) in
+          let fits = cells-fit t cell cells place plain (room-after t (length (cell ∷ cells)) refl (omega (arith, room))) in
           rw (space-passes s place some p, p, fits) refl
       | inr p ↦
           let full : (length s.cells == CELLS) ≡ false = grind (arith, nat_tests, room) in
           let t = spaced s in
           let len = length-append s.cells (blank ∷ []) in
           let sum = columns-more s blank blank-one in
-          let wraps = letters-wrap t s.cells [] b bytes font place refl refl refl literal cells (omega (arith, len, room)) (omega (arith, sum, wide)) plain in
+          let wraps = letters-wrap t s.cells [] cell cells place refl refl refl literal held (omega (arith, len, room)) (omega (arith, sum, wide)) plain in
           rw (space-stays s place some p full, p, wraps) refl
     ]
+
+-- the same of a plain text
+pub both-plain : (s : Sheet) (b : ℕ) (bytes : List ℕ) (font : Font) (place : Place) → is_printable_ascii (b ∷ bytes) ≡ true
+    → ends_before s (length (b ∷ bytes)) ≡ true → both s (cells_of font (b ∷ bytes)) place ≡ wraps_plain s (cells_of font (b ∷ bytes))
+both-plain s b bytes font place plain ends =
+    both-cells s (cell_of font b) (cells_of font bytes) place (of-plain font (b ∷ bytes) plain) (rw (length-map bytes (cell_of font)) ends)

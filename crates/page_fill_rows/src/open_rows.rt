@@ -4,7 +4,7 @@ ghost use Rattle.std.specs.Prelude.{◌≡◌, ◌+◌, ◌-◌, ◌<◌, ◌≤
 ghost use Rattle.std.specs.List.{list_all};
 ghost use Rattle.page_core_base.specs.Latches.{CameRows, LaysOut};
 ghost use Rattle.page_core_base.specs.Messages.{message_of};
-ghost use Rattle.page_core_base.specs.Rows.{row_of};
+ghost use Rattle.page_core_base.specs.Rows.{cells_in, row_of};
 ghost use Rattle.page_fill_rows.specs.Characters as shown;
 ghost use Rattle.page_fill_rows.specs.OpenRows.{IsHeld};
 ghost use Rattle.page_fill_cells.specs.machine.BlankRuns.{is_blank_byte};
@@ -475,6 +475,18 @@ impl OpenRow {
         }
     }
 
+    // The row ends before a word after one blank.
+    fn end_before_word<O: RowOut>(&mut self, out: &mut O)
+        ensures { LaysOut O.left out.old
+            (sheet.over (sheet.gives (plain.blank_counted self.old) self.old.cells) sheet.emptied)
+            out.new self.new }
+    {
+        self.count_blank();
+        let end = self.row.len();
+        self.give(end, out);
+        self.empty();
+    }
+
     /// The row ends, and a word of bytes, printable ASCII that fits a row, begins the next one.
     pub fn wrap_plain<O: RowOut>(&mut self, bytes: &[u8], font: Font, out: &mut O)
         requires plain { plain.is_printable_ascii bytes.now ≡ true }
@@ -482,11 +494,35 @@ impl OpenRow {
         ensures { LaysOut O.left out.old
             (plain.wraps_plain self.old (shown.cells_of font bytes.now)) out.new self.new }
     {
-        self.count_blank();
-        let end = self.row.len();
-        self.give(end, out);
-        self.empty();
+        self.end_before_word(out);
         self.add_plain(bytes, font);
+    }
+
+    // A row begins with cells of bytes that are a column each, in the fonts beside them.
+    fn begin_letters(&mut self, bytes: &[u8], fonts: &[Font])
+        requires plain { plain.is_printable_ascii bytes.now ≡ true }
+        requires fonts { length fonts.now ≡ length bytes.now }
+        requires room { length bytes.now ≤ CELLS }
+        ensures { self.new ≡ plain.taken (sheet.emptied self.old) (cells_in bytes.now fonts.now) }
+    {
+        self.open_row();
+        self.row.add_letters(bytes, fonts);
+        let count = bytes.len() as u32;
+        self.columns = count;
+        self.tag_columns = self.tag_columns.saturating_add(count).min(TAG_COLUMNS);
+        self.has_tag_cell = true;
+    }
+
+    /// The same of a word of bytes, each in the font beside it.
+    pub fn wrap_letters<O: RowOut>(&mut self, bytes: &[u8], fonts: &[Font], out: &mut O)
+        requires plain { plain.is_printable_ascii bytes.now ≡ true }
+        requires fonts { length fonts.now ≡ length bytes.now }
+        requires room { length bytes.now ≤ CELLS }
+        ensures { LaysOut O.left out.old
+            (plain.wraps_plain self.old (cells_in bytes.now fonts.now)) out.new self.new }
+    {
+        self.end_before_word(out);
+        self.begin_letters(bytes, fonts);
     }
 
     /// The row, which has a cell and room, takes blanks and after them a word of bytes, if these are printable ASCII; says whether they are.
@@ -561,31 +597,21 @@ impl OpenRow {
         (CELLS - self.row.len()).min(free as usize)
     }
 
-    /// The row, which has room, takes roman words with a blank before each, where the last one starts at a place of the text.
-    pub fn add_words(&mut self, text: &[u8], start: usize)
+    /// The row, which has room, takes words of letters in fonts, with a blank before each, where the last one starts at a place of the text.
+    pub fn add_words(&mut self, text: &[u8], fonts: &[Font], start: usize)
         requires plain { plain.is_printable_ascii text.now ≡ true }
+        requires fonts { length fonts.now ≡ length text.now }
         requires room { length self.old.cells + length text.now ≤ CELLS }
-        requires start { (start ≡ plain.word_start text.now) × (0 < start) }
-        ensures { self.new ≡ plain.words_taken self.old text.now }
+        requires start { (0 < start) × (start ≤ length text.now) }
+        ensures { self.new ≡ plain.words_taken self.old (cells_in text.now fonts.now) start }
     {
         self.word = self.row.len() + start;
         self.gap = self.word - 1;
-        self.row.add_plain(text, Font::R);
+        self.row.add_letters(text, fonts);
         let count = text.len() as u32;
         self.columns += count;
         self.tag_columns = self.tag_columns.saturating_add(count).min(TAG_COLUMNS);
         self.has_tag_cell = true;
-    }
-
-    /// The row's last word is parted: its last part begins after a count of its cells.
-    pub fn part_word(&mut self, start: usize)
-        requires { self.old.word + start ≤ length self.old.cells }
-        ensures { self.new ≡ plain.parted_at self.old start }
-    {
-        if start > 0 {
-            self.word += start;
-            self.gap = self.word;
-        }
     }
 
     /// The row takes cells of bytes that are a column each.

@@ -1,13 +1,10 @@
 -- A machine, which settles what the steps of Sheets settle: the fast way for plain texts (plain_law), and for words that a row takes at once
--- (`take_words` of page_fill). They are bytes of printable ASCII, each a cell of one column, so that an open row with room for them takes them as
+-- (`Edge::put_words` of page_fill). They are characters of printable ASCII, each a cell of one column, so that an open row with room for them takes them as
 -- a whole.
-use Rattle.std.specs.Prelude.{ℕ, ◌+◌, Bool, true, not, ◌&&◌, ◌||◌, ◌==◌, ◌-◌, nat_le, nat_lt, min, List, [], ◌∷◌, ◌++◌, length, drop, replicate, if◌then◌else◌}
+use Rattle.std.specs.Prelude.{ℕ, ◌+◌, Bool, true, not, ◌&&◌, ◌||◌, ◌==◌, ◌-◌, nat_le, nat_lt, min, List, [], ◌∷◌, ◌++◌, length, replicate, if◌then◌else◌}
 use Rattle.page_core_base.specs.declared.cells.Cell.{Cell}
-use Rattle.page_core_base.specs.declared.cells.Font.TheVariants.{R}
 use Rattle.page_core_base.specs.Laid.{Laid}
-use Rattle.page_core_base.specs.Words.{last_start, parts_of}
 pub use Rattle.page_fill_cells.specs.Cells.{is_printable, is_printable_ascii}
-use Rattle.page_fill_rows.specs.Characters.{cells_of}
 use Rattle.page_fill_rows.specs.machine.Sheets.{Sheet, begins, columns, blank, counted, emptied, gives, opens, over, passes}
 use Rattle.page_core_base.specs.Limits.{CELLS}
 use Rattle.page_fill_rows.specs.OpenRows.{TAG_COLUMNS}
@@ -88,20 +85,12 @@ unfoldable pub word_start : List ℕ → ℕ
 word_start [] = 0
 word_start (b ∷ bytes) = if not (word_start bytes == 0) then word_start bytes + 1 else if b == 32 then 1 else 0
 
--- the row took roman words with a blank before each, one after another: the bytes of a text
-abbrev pub words_taken : Sheet → List ℕ → Sheet
-words_taken s text = record s {
-  cells = s.cells ++ cells_of R text;
-  gap = length s.cells + (word_start text - 1);
-  word = length s.cells + word_start text;
-  tag_columns = min (s.tag_columns + length text) TAG_COLUMNS;
+-- the row took words with a blank before each, one after another: cells of a column each, of which the last word starts at a place
+abbrev pub words_taken : Sheet → List Cell → ℕ → Sheet
+words_taken s cells start = record s {
+  cells = s.cells ++ cells;
+  gap = length s.cells + (start - 1);
+  word = length s.cells + start;
+  tag_columns = min (s.tag_columns + length cells) TAG_COLUMNS;
   tag_begun = true;
 }
-
--- the row's last word is parted: its last part begins after this count of the word's cells
-abbrev pub parted_at : Sheet → ℕ → Sheet
-parted_at s start = if start == 0 then s else record s { gap = s.word + start; word = s.word + start }
-
--- the same where the row may end within the last one of these words
-abbrev pub words_parted : Sheet → List ℕ → Sheet
-words_parted s text = parted_at (words_taken s text) (last_start (parts_of (drop (word_start text) text)))

@@ -1,7 +1,7 @@
 use Rattle.std.proofs.Common.{◌≡◌, length, take, sym, ap, ◌∙◌, arith}
 use Rattle.std.proofs.lemmas.List.{length-take-le}
 use Rattle.page_core_base.specs.Rows.{cells_in}
-use Rattle.page_fill_cells.proofs.PlaceLemmas.{in-length, in-take}
+use Rattle.page_fill_cells.proofs.PlaceLemmas.{in-length, in-take, put-first}
 use Rattle.page_fill_cells.proofs.places.Places.copy_cells.Goals as goal
 
 pub slice_bounds-put_cells_in-end : goal.slice_bounds-put_cells_in-end
@@ -37,8 +37,12 @@ returns-else-self c =
     let front : length (take c.args.end c.deref-else-self.result.now) ≡ c.args.end =
     length-take-le c.args.end c.deref-else-self.result.now (let l = ap length db.value in omega (arith, l, len, c.requires.0)) in
     let df = c.deref-else-self-2.ensures in
-    ap (λ n. take n c.put_cells_in.new.places) (sym front)
-    ∙ (c.put_cells_in.ensures
+    let fonts : length (take c.args.end c.deref-else-self-2.result.now) ≡ c.args.end =
+    length-take-le c.args.end c.deref-else-self-2.result.now (let l = ap length df.value in omega (arith, l, len, sizes, c.requires.0)) in
+    let put = cells_in (take c.args.end c.deref-else-self.result.now) (take c.args.end c.deref-else-self-2.result.now) in
+    let count : length put ≡ c.args.end = in-length (take c.args.end c.deref-else-self.result.now) (take c.args.end c.deref-else-self-2.result.now) (fonts ∙ sym front) ∙ front in
+    ap (take c.args.end) c.put_cells_in.ensures
+    ∙ (put-first c.args.places.now put c.args.end count
     ∙ (ap (λ l. cells_in (take c.args.end l) (take c.args.end c.deref-else-self-2.result.now)) db.value
     ∙ (ap (λ l. cells_in (take c.args.end p.bytes.items) (take c.args.end l)) df.value
     ∙ (sym (in-take c.args.end p.bytes.items p.fonts.items) ∙ ap (take c.args.end) view))))

@@ -1,0 +1,189 @@
+-- The pieces of a word of letters: what they lay, one after another, is what their cells lay.
+use Rattle.std.proofs.Common.{◌≡◌, ℕ, ◌+◌, ◌≤◌, Bool, true, false, not, ◌&&◌, ◌==◌, List, [], ◌∷◌, ◌++◌, length, map, append_assoc, length-append, refl, sym, ap, ◌∙◌, arith}
+use Rattle.std.specs.List.{list_all}
+use Rattle.std.proofs.lemmas.List.{length-map, map-append}
+use Rattle.std.proofs.lemmas.List.Folds.{list_all-append}
+use Rattle.std.proofs.lemmas.Bool.Decides.{nat_tests}
+use Rattle.page_core_base.specs.declared.cells.Cell.{Cell}
+use Rattle.page_core_base.specs.declared.cells.Font.{Font}
+use Rattle.page_core_base.specs.declared.pieces.Piece.{Piece}
+use Rattle.page_core_base.specs.declared.pieces.Piece.TheVariants.{Text, Glyph, Char, Tab, Blank, Glue, Split, Break, RowEnd, Para, Space, Indent, Literal, Tag, TagEnd, Heading, Column}
+use Rattle.page_core_base.specs.declared.places.Place.{Place}
+use Rattle.page_core_base.specs.declared.limits.TheConstants.{CELLS}
+use Rattle.page_core_base.specs.Laid.{Laid, nothing, join, join_assoc, seq}
+use Rattle.page_core_base.specs.Words.{is_lettered, is_lettered_word, is_word, letters_of, word_letters}
+use Rattle.page_fill_cells.specs.Cells.{is_printable, is_printable_ascii}
+use Rattle.page_fill_rows.specs.Characters.{cell_of, cells_of}
+use Rattle.page_fill_rows.specs.machine.Sheets.{Sheet, letters, opens, over, space}
+use Rattle.page_fill_rows.proofs.AnywhereLemmas.{both-anywhere, letters-anywhere, letters-length, space-length}
+use Rattle.page_fill_rows.proofs.CharacterLemmas.{letters-append}
+use Rattle.page_fill_rows.proofs.PlainLemmas.{are_plain, characters_of-plain}
+use Rattle.page_fill_rows.proofs.WrapLemmas.{both}
+use Rattle.page_fill.specs.machine.Fill.{Edge, begun_word, laid, laid_piece, on_sheet, opening, text}
+use Rattle.page_fill.proofs.BlankTextLemmas.{goes-on}
+use Rattle.page_fill.proofs.PlainWordLemmas.{character-text, opening-one, text-plain}
+
+-- the characters of cells
+abbrev pub bytes_of : List Cell → List ℕ
+bytes_of cells = map (λ cell. cell.c) cells
+
+text-bytes : (font : Font) (text : List ℕ) → bytes_of (cells_of font text) ≡ text
+text-bytes font [] = refl
+text-bytes font (b ∷ text) = ap (λ (bytes : List ℕ). b ∷ bytes) (text-bytes font text)
+
+text-printable : (font : Font) (text : List ℕ) → are_plain (cells_of font text) ≡ true → is_printable_ascii text ≡ true
+text-printable font [] plain = refl
+text-printable font (b ∷ text) plain =
+    let first : is_printable b ≡ true = grind (arith, plain) in
+    let others : are_plain (cells_of font text) ≡ true = grind (arith, plain) in
+    rw first (text-printable font text others)
+
+-- ---- one piece
+
+-- it has bytes, none of which is a blank, and lays its cells where it is
+record IsLettered (p : Piece (List ℕ)) : Type 0 where
+  pub word : is_word (bytes_of (letters_of p)) ≡ true
+  pub place : Place
+  pub laid : (e : Edge) → are_plain (letters_of p) ≡ true
+      → laid_piece e p ≡ join (opening e place) (over (letters (opening e place).edge.sheet (letters_of p) place) (on_sheet (opening e place).edge))
+
+text-laid : (e : Edge) (bytes : List ℕ) (font : Font) (place : Place) → is_word bytes ≡ true → are_plain (cells_of font bytes) ≡ true
+    → laid_piece e (Text bytes font place)
+    ≡ join (opening e place) (over (letters (opening e place).edge.sheet (cells_of font bytes) place) (on_sheet (opening e place).edge))
+unfolding laid_piece
+text-laid e bytes font place word plain =
+    let printable = text-printable font bytes plain in
+    let some : (length bytes == 0) ≡ false = grind (arith, nat_tests, word) in
+    ap (λ cs. text e cs font place) (characters_of-plain bytes printable) ∙ text-plain e bytes font place printable some
+
+char-laid : (e : Edge) (c : ℕ) (font : Font) (place : Place) → are_plain (cell_of font c ∷ []) ≡ true
+    → laid_piece e (Char c font place)
+    ≡ join (opening e place) (over (letters (opening e place).edge.sheet (cell_of font c ∷ []) place) (on_sheet (opening e place).edge))
+unfolding laid_piece
+char-laid e c font place plain =
+    character-text e c font place ∙ text-plain e (c ∷ []) font place (text-printable font (c ∷ []) plain) refl
+
+lettered : (p : Piece (List ℕ)) → is_lettered p ≡ true → IsLettered p
+lettered (Text bytes font place) is = record { word = rw (text-bytes font bytes) is; place = place; laid = λ e plain. text-laid e bytes font place is plain }
+lettered (Char c font place) is = record { word = grind (arith, nat_tests, is); place = place; laid = λ e plain. char-laid e c font place plain }
+lettered (Glyph name font place) is = absurd (grind (arith, is))
+lettered (Tab font place) is = absurd (grind (arith, is))
+lettered (Blank count has_tab) is = absurd (grind (arith, is))
+lettered Glue is = absurd (grind (arith, is))
+lettered Split is = absurd (grind (arith, is))
+lettered Break is = absurd (grind (arith, is))
+lettered RowEnd is = absurd (grind (arith, is))
+lettered (Para n) is = absurd (grind (arith, is))
+lettered (Space n) is = absurd (grind (arith, is))
+lettered (Indent first rest) is = absurd (grind (arith, is))
+lettered (Literal literal) is = absurd (grind (arith, is))
+lettered (Tag hang form) is = absurd (grind (arith, is))
+lettered TagEnd is = absurd (grind (arith, is))
+lettered Heading is = absurd (grind (arith, is))
+lettered (Column n) is = absurd (grind (arith, is))
+
+-- ---- a word
+
+-- its bytes
+abbrev pub word_bytes : List (Piece (List ℕ)) → List ℕ
+word_bytes word = bytes_of (word_letters word)
+
+pieces-letters : (word : List (Piece (List ℕ))) → list_all is_lettered word ≡ true → list_all (λ b. not (b == 32)) (word_bytes word) ≡ true
+pieces-letters [] all = refl
+pieces-letters (p ∷ word) all =
+    let is : is_lettered p ≡ true = grind (arith, all) in
+    let first : list_all (λ b. not (b == 32)) (bytes_of (letters_of p)) ≡ true = let w = (lettered p is).word in grind (arith, w) in
+    let others = pieces-letters word (grind (arith, all)) in
+    rw (map-append (λ (cell : Cell). cell.c) (letters_of p) (word_letters word))
+    (list_all-append (λ b. not (b == 32)) (bytes_of (letters_of p)) (word_bytes word) ∙ rw (first, others) refl)
+
+pub word-is : (word : List (Piece (List ℕ))) → is_lettered_word word ≡ true → is_word (word_bytes word) ≡ true
+word-is [] is = absurd (grind (arith, nat_tests, is))
+word-is (p ∷ word) is =
+    let all : list_all is_lettered (p ∷ word) ≡ true = grind (arith, is) in
+    let one : is_lettered p ≡ true = grind (arith, is) in
+    let first = (lettered p one).word in
+    let letters = pieces-letters (p ∷ word) all in
+    let len : length (word_bytes (p ∷ word)) ≡ length (bytes_of (letters_of p)) + length (word_bytes word) =
+    ap (λ (bytes : List ℕ). length bytes) (map-append (λ (cell : Cell). cell.c) (letters_of p) (word_letters word)) ∙ length-append (bytes_of (letters_of p)) (word_bytes word) in
+    grind (arith, nat_tests, first, letters, len)
+
+parts-of-plain : (front back : List Cell) → are_plain (front ++ back) ≡ true → (are_plain front && are_plain back) ≡ true
+parts-of-plain front back plain = sym (list_all-append (λ (cell : Cell). is_printable cell.c) front back) ∙ plain
+
+pub front-is-plain : (front back : List Cell) → are_plain (front ++ back) ≡ true → are_plain front ≡ true
+front-is-plain front back plain = let both = parts-of-plain front back plain in grind (arith, both)
+
+pub back-is-plain : (front back : List Cell) → are_plain (front ++ back) ≡ true → are_plain back ≡ true
+back-is-plain front back plain = let both = parts-of-plain front back plain in grind (arith, both)
+
+-- ---- what they lay
+
+-- pieces of the row's last word
+pieces-go-on : (e : Edge) (word : List (Piece (List ℕ))) (place : Place) → e.word.is_joined ≡ true → list_all is_lettered word ≡ true
+    → are_plain (word_letters word) ≡ true → length e.sheet.cells + length (word_letters word) ≤ CELLS
+    → laid e word ≡ over (letters e.sheet (word_letters word) place) (on_sheet e)
+unfolding laid letters
+pieces-go-on e [] place joined all plain room = refl
+pieces-go-on e (p ∷ word) place joined all plain room =
+    let is : is_lettered p ≡ true = grind (arith, all) in
+    let more : list_all is_lettered word ≡ true = grind (arith, all) in
+    let l = lettered p is in
+    let own = letters_of p in
+    let rest = word_letters word in
+    let len = length-append own rest in
+    let within : length e.sheet.cells + length own ≤ CELLS = omega (arith, len, room) in
+    let here : laid_piece e p ≡ over (letters e.sheet own place) (on_sheet e) =
+    l.laid e (front-is-plain own rest plain)
+    ∙ (rw (goes-on e l.place joined) refl
+    ∙ ap (λ (m : Laid Sheet). over m (on_sheet e)) (letters-anywhere e.sheet own l.place place within)) in
+    let first = letters e.sheet own place in
+    let grown = letters-length e.sheet own place within in
+    let f = on_sheet e first.edge in
+    let others = pieces-go-on f word place joined more (back-is-plain own rest plain) (omega (arith, len, grown, room)) in
+    ap (λ (m : Laid Edge). seq m (λ g. laid g word)) here
+    ∙ (ap (λ (m : Laid Edge). join (over first (on_sheet e)) m) others
+    ∙ ap (λ (m : Laid Sheet). over m (on_sheet e)) (sym (letters-append e.sheet own rest place)))
+
+-- one blank waits
+abbrev waiting : Edge → Edge
+waiting e = record e { word = record { is_joined = false; is_open = false; is_placed = false; blanks = 1; has_tab = false; is_told = e.word.is_told } }
+
+-- a word was begun
+abbrev pub begun_on : Edge → Sheet → Edge
+begun_on e s = record e { sheet = s; word = begun_word false }
+
+blank-waits : (e : Edge) → e.word.is_placed ≡ false → laid_piece e (Blank 1 false) ≡ nothing (waiting e)
+unfolding laid_piece
+blank-waits e placed = rw placed refl
+
+-- a word after a blank
+pub word-laid : (e : Edge) (word : List (Piece (List ℕ))) (place : Place) → e.word.is_placed ≡ false → e.sheet.literal ≡ false → (length e.sheet.cells == 0) ≡ false
+    → is_lettered_word word ≡ true → are_plain (word_letters word) ≡ true → length e.sheet.cells + 1 + length (word_letters word) ≤ CELLS
+    → laid e (Blank 1 false ∷ word) ≡ over (both e.sheet (word_letters word) place) (begun_on e)
+unfolding laid
+word-laid e [] place placed filled some is plain room = absurd (grind (arith, nat_tests, is))
+word-laid e (p ∷ word) place placed filled some is plain room =
+    let one : is_lettered p ≡ true = grind (arith, is) in
+    let more : list_all is_lettered word ≡ true = grind (arith, is) in
+    let l = lettered p one in
+    let own = letters_of p in
+    let rest = word_letters word in
+    let len = length-append own rest in
+    let within : length e.sheet.cells + 1 + length own ≤ CELLS = omega (arith, len, room) in
+    let here : laid_piece (waiting e) p ≡ over (both e.sheet own place) (begun_on e) =
+    l.laid (waiting e) (front-is-plain own rest plain)
+    ∙ (rw (opening-one (waiting e) l.place refl refl refl filled some) refl
+    ∙ ap (λ (m : Laid Sheet). over m (begun_on e)) (both-anywhere e.sheet own l.place place within)) in
+    let blank_laid = space (opens e.sheet) place in
+    let first = letters blank_laid.edge own place in
+    let spaced = space-length (opens e.sheet) place (omega (arith, room)) in
+    let grown = letters-length blank_laid.edge own place (omega (arith, len, spaced, room)) in
+    let f = begun_on e first.edge in
+    let others : laid f word ≡ over (letters first.edge rest place) (begun_on e) =
+    pieces-go-on f word place refl more (back-is-plain own rest plain) (omega (arith, len, spaced, grown, room)) in
+    rw (blank-waits e placed)
+    (ap (λ (m : Laid Edge). seq m (λ g. laid g word)) here
+    ∙ (ap (λ (m : Laid Edge). join (over (join blank_laid first) (begun_on e)) m) others
+    ∙ (ap (λ (m : Laid Sheet). over m (begun_on e)) (join_assoc blank_laid first (letters first.edge rest place))
+    ∙ ap (λ (m : Laid Sheet). over (join blank_laid m) (begun_on e)) (sym (letters-append blank_laid.edge own rest place)))))

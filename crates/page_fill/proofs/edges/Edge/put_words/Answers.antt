@@ -1,0 +1,50 @@
+use Rattle.std.proofs.Common.{◌≡◌, ◌≤◌, ◌+◌, ◌-◌, length, drop, true, append_assoc, length-drop, refl, sym, ap, ◌∙◌, arith, rules}
+use Rattle.std.proofs.lemmas.Bool.Decides.{nat_tests}
+use Rattle.page_core_base.specs.Laid.{Laid, nothing, join}
+use Rattle.page_core_base.specs.declared.limits.TheConstants.{CELLS}
+use Rattle.page_fill_cells.specs.Cells.{is_printable_ascii}
+use Rattle.page_fill_rows.proofs.PlainLemmas.{parts-plain}
+use Rattle.page_fill.specs.machine.Fill.{Edge}
+use Rattle.page_fill.specs.machine.LetteredWords.{LaysFront}
+use Rattle.page_fill.proofs.LetteredWordLemmas.{lays-all, lays-more, lays-none, tail-all}
+use Rattle.page_fill.proofs.edges.Edge.put_words.Goals as goal
+
+pub loop-rest-init : goal.loop-rest-init
+loop-rest-init g c =
+    let e = c.args.self.now in
+    let takes = c.requires.takes in
+    let plain : is_printable_ascii c.args.text.now ≡ true = grind (arith, takes) in
+    let room : length e.sheet.cells + length c.args.text.now ≤ CELLS = grind (arith, nat_tests, takes) in
+    (plain, c.requires.fonts, room, (λ s. s), (nothing e, ((λ plan more said h. h), refl), lays-none e c.args.text.now c.args.fonts.now))
+
+pub loop-rest-preserved : goal.loop-rest-preserved
+loop-rest-preserved g c =
+    let l = c.loop-rest in
+    let held = l.invariant.4 in
+    let given = held.0 in
+    let end = c.put_front-end.result in
+    let gave = c.put_front-end.ensures.gives in
+    let more = gave.0 in
+    let rest = l.rest.now in
+    let own = l.own.now in
+    let t = length-drop end rest in
+    let f = length-drop end own in
+    let front : LaysFront given.edge rest own end more = rw held.1.1 at gave.2 in
+    rw (tail-all end rest, tail-all end own) (
+      (parts-plain end rest l.invariant.0).1,
+      omega (arith, t, f, l.invariant.1),
+      omega (arith, t, c.put_front-end.ensures.room),
+      (λ s. c.put_front-end.ensures.sound),
+      (
+        join given more,
+        ((λ plan rows notes h. gave.1.0 plan _ _ (held.1.0 plan _ _ (rw (append_assoc, append_assoc) at h))), gave.1.1),
+        lays-more c.args.self.now c.args.text.now c.args.fonts.now rest own given more end l.invariant.1 held.2 front,
+      ),
+    )
+
+pub returns-clause-gives : goal.returns-clause-gives
+returns-clause-gives g c =
+    let l = c.loop-rest in
+    let held = l.invariant.4 in
+    let none : length l.rest.now ≡ 0 = let e = c.is_empty.ensures in let t = c.loop-rest-test.false in grind (arith, nat_tests, e, t) in
+    (held.0, held.1, lays-all c.args.self.now c.args.text.now c.args.fonts.now l.rest.now l.own.now held.0 none held.2)

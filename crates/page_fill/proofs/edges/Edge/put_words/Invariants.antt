@@ -1,0 +1,20 @@
+use Rattle.std.proofs.Common.{◌≡◌, ◌≤◌, ◌+◌, length, true}
+use Rattle.page_core_base.specs.Laid.{Laid}
+use Rattle.page_core_base.specs.Latches.{LaysOut}
+use Rattle.page_core_base.specs.declared.limits.TheConstants.{CELLS}
+use Rattle.page_fill_cells.specs.Cells.{is_printable_ascii}
+use Rattle.page_fill.specs.Caps.{is_sound}
+use Rattle.page_fill.specs.machine.Fill.{Edge}
+use Rattle.page_fill.proofs.LetteredWordLemmas.{LaysUpTo}
+use Rattle.page_fill.proofs.edges.Edge.put_words.Given as goal
+
+abbrev pub invariant-loop-rest : goal.invariant-loop-rest
+invariant-loop-rest g l =
+    (is_printable_ascii l.rest ≡ true)
+    × (length l.own ≡ length l.rest)
+    × (length l.self.sheet.cells + length l.rest ≤ CELLS)
+    × (is_sound l.fn.self.word ≡ true → is_sound l.self.word ≡ true)
+    × ((given : Laid Edge) × LaysOut g.O.RowOut.left l.fn.out given l.out l.self × LaysUpTo l.fn.self l.text l.fonts l.rest l.own given)
+
+abbrev pub decreases-loop-rest : goal.decreases-loop-rest
+decreases-loop-rest g l = length l.rest

@@ -1,0 +1,20 @@
+-- The steps of filling over words of letters that are taken at once. Trust needs no reading of it: page_fill says it in words. Source:
+-- roff(7), "Filling and adjusting".
+use Rattle.std.specs.Prelude.{◌≡◌, ℕ, true, List, length, take}
+use Rattle.page_core_base.specs.declared.cells.Font.{Font}
+use Rattle.page_core_base.specs.declared.pieces.Piece.{Piece}
+use Rattle.page_core_base.specs.Laid.{Laid}
+use Rattle.page_core_base.specs.Words.{lettered_cells, lettered_pieces}
+use Rattle.page_fill.specs.LetteredWords.{AreWords, is_in_row}
+use Rattle.page_fill.specs.machine.Fill.{Edge, laid}
+
+-- the pieces of words lay this
+abbrev pub LaysWords : Edge → List ℕ → List Font → Laid Edge → Type 0
+LaysWords e text fonts given =
+    (words : List (List (Piece (List ℕ)))) → AreWords text fonts words → is_in_row e ≡ true → given ≡ laid e (lettered_pieces words)
+
+-- of words the first ones lay this: those of so many characters
+abbrev pub LaysFront : Edge → List ℕ → List Font → ℕ → Laid Edge → Type 0
+LaysFront e text fonts end given =
+    (words : List (List (Piece (List ℕ)))) → AreWords text fonts words → is_in_row e ≡ true
+    → (count : ℕ) × (end ≡ length (lettered_cells (take count words))) × (given ≡ laid e (lettered_pieces (take count words))) × (is_in_row given.edge ≡ true)

@@ -1,6 +1,0 @@
-use Rattle.std.proofs.Common.{◌≡◌, take}
-use Rattle.page_core_base.specs.Rows.{cells_in}
-use Rattle.page_fill_cells.proofs.ascii_places.put_cells_in.Given as goal
-
-abbrev pub invariant-loop-i : goal.invariant-loop-i
-invariant-loop-i l = take l.i l.places ≡ cells_in (take l.i l.bytes) (take l.i l.fonts)
