@@ -1,11 +1,10 @@
 -- Words of letters: those that the open row has room for go into it together, and one before which it ends begins the next row.
-use Rattle.std.proofs.Common.{◌≡◌, ℕ, zero, suc, ◌+◌, ◌-◌, ◌<◌, ◌≤◌, Bool, true, false, not, ◌&&◌, ◌==◌, min, List, [], ◌∷◌, ◌++◌, length, map, take, drop, append-nil, append_assoc, length-append, length-drop, refl, sym, ap, ◌∙◌, arith, inl, inr}
+use Rattle.std.proofs.Common.{◌≡◌, ℕ, zero, suc, ◌+◌, ◌-◌, ◌<◌, ◌≤◌, true, false, ◌&&◌, ◌==◌, min, List, [], ◌∷◌, ◌++◌, length, map, take, drop, append-nil, append_assoc, length-append, length-drop, refl, sym, ap, ◌∙◌, arith}
 use Rattle.std.specs.List.{list_all}
 use Rattle.std.proofs.Math.Seq.{take-append_seam, drop-append_seam}
 use Rattle.std.proofs.lemmas.List.{length-map, length-take-le, map-append, take-append-drop, take-map, take_all}
 use Rattle.std.proofs.lemmas.List.Folds.{list_all-append}
 use Rattle.std.proofs.lemmas.List.Sums.{sum_by-append}
-use Rattle.std.proofs.lemmas.Bool.{cases_Bool}
 use Rattle.std.proofs.lemmas.Bool.Decides.{nat_tests}
 use Rattle.page_core_base.specs.declared.cells.Cell.{Cell}
 use Rattle.page_core_base.specs.declared.cells.Font.{Font}
@@ -24,12 +23,12 @@ use Rattle.page_fill_rows.proofs.PlainLemmas.{are_plain, columns-cells, in-plain
 use Rattle.page_fill_rows.proofs.WordStartLemmas.{start-append, start-of-none}
 use Rattle.page_fill_rows.proofs.WrapLemmas.{both, both-cells, both-fit}
 use Rattle.page_fill.specs.LetteredWords.{AreWords, is_in_row}
-use Rattle.page_fill.specs.machine.Fill.{Edge, begun_word, laid}
+use Rattle.page_fill.specs.machine.Fill.{Edge, laid}
 use Rattle.page_fill.specs.machine.LetteredWords.{LaysFront, LaysWords}
 use Rattle.page_fill.specs.machine.PlainWords.{first_word, whole_words}
 use Rattle.page_fill.proofs.BlankTextLemmas.{laid-append}
 use Rattle.page_fill.proofs.LetteredPieces.{back-is-plain, begun_on, bytes_of, front-is-plain, word-is, word-laid, word_bytes}
-use Rattle.page_fill.proofs.WordRunLemmas.{first-length, none-whole, start-some, start-word, whole-words, word-letters, words-first}
+use Rattle.page_fill.proofs.WordRunLemmas.{first-length, none-whole, start-some, start-word, whole-words, word-letters}
 
 -- ---- the bytes of words
 

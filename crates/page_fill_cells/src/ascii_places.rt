@@ -18,21 +18,21 @@ pub(crate) fn put_text(bytes: &mut [u8], fonts: &mut [Font], start: usize, text:
     fonts[start..end].fill(font);
 }
 
-/// Puts bytes at a start and after it, each in the font beside it.
+/// Puts letters at a start and after it, each in the font beside it.
 pub(crate) fn put_letters(
     bytes: &mut [u8],
     fonts: &mut [Font],
     start: usize,
-    text: &[u8],
+    letters: &[u8],
     own: &[Font],
 )
-    requires within { (start + length text.now ≤ length bytes.old) × (length fonts.old ≡ length bytes.old) }
-    requires own { length own.now ≡ length text.now }
-    ensures bytes { bytes.new ≡ put_at bytes.old start text.now }
+    requires within { (start + length letters.now ≤ length bytes.old) × (length fonts.old ≡ length bytes.old) }
+    requires own { length own.now ≡ length letters.now }
+    ensures bytes { bytes.new ≡ put_at bytes.old start letters.now }
     ensures fonts { fonts.new ≡ put_at fonts.old start own.now }
 {
-    let end = start + text.len();
-    bytes[start..end].copy_from_slice(text);
+    let end = start + letters.len();
+    bytes[start..end].copy_from_slice(letters);
     fonts[start..end].copy_from_slice(own);
 }
 

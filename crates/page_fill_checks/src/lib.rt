@@ -12,3 +12,5 @@ mod sheets;
 mod steps;
 #[cfg(test)]
 mod tests;
+#[cfg(test)]
+mod word_rows;

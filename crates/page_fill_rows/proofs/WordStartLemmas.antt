@@ -1,7 +1,5 @@
 -- Where the letters after the last blank begin.
-use Rattle.std.proofs.Common.{◌≡◌, ℕ, zero, suc, ◌+◌, ◌-◌, ◌<◌, ◌≤◌, Bool, true, false, ◌==◌, List, [], ◌∷◌, ◌++◌, length, get_or, take, refl, sym, ap, ◌∙◌, arith, inl, inr}
-use Rattle.std.specs.List.{list_all, prefix_len}
-use Rattle.std.proofs.lemmas.Bool.{cases_Bool}
+use Rattle.std.proofs.Common.{◌≡◌, ℕ, ◌+◌, ◌-◌, ◌<◌, ◌≤◌, true, false, ◌==◌, List, [], ◌∷◌, ◌++◌, length, get_or, take, refl, sym, ap, ◌∙◌, arith}
 use Rattle.std.proofs.lemmas.Bool.Decides.{nat_tests}
 use Rattle.std.proofs.lemmas.List.{length-append, length-take-le, take_more}
 use Rattle.page_core_base.specs.declared.cells.Cell.{Cell}
@@ -10,8 +8,8 @@ use Rattle.page_core_base.specs.Rows.{cells_in}
 use Rattle.page_core_base.specs.declared.limits.TheConstants.{CELLS}
 use Rattle.page_fill_rows.specs.declared.TheConstants.{TAG_COLUMNS}
 use Rattle.page_fill_rows.specs.machine.Room.{IsSound}
-use Rattle.page_fill_rows.specs.machine.Plain.{is_printable, is_printable_ascii, word_start}
-use Rattle.page_fill_rows.proofs.PlainLemmas.{first-plain, in-plain, rest-plain, sound-cells}
+use Rattle.page_fill_rows.specs.machine.Plain.{is_printable_ascii, word_start}
+use Rattle.page_fill_rows.proofs.PlainLemmas.{in-plain, sound-cells}
 use Rattle.page_fill_cells.proofs.PlaceLemmas.{in-length}
 
 pub start-append : (front back : List ℕ) → (word_start back == 0) ≡ false → word_start (front ++ back) ≡ length front + word_start back
@@ -82,25 +80,3 @@ sound-words cells text fonts start count gap word tag tag-now sound plain same r
       tag_within = tagged;
       blanks_within = more.blanks_within;
     }
-
--- ---- printable bytes
-
--- all of them are at the front
-pub prefix-all : (bytes : List ℕ) → is_printable_ascii bytes ≡ true → prefix_len is_printable bytes ≡ length bytes
-prefix-all [] plain = refl
-prefix-all (b ∷ bytes) plain = rw (first-plain b bytes plain, prefix-all bytes (rest-plain b bytes plain)) (omega arith)
-
-front-passes : (p : ℕ → Bool) (bytes : List ℕ) (k : ℕ) → k ≤ prefix_len p bytes → list_all p (take k bytes) ≡ true
-front-passes p [] zero within = refl
-front-passes p [] (suc k) within = refl
-front-passes p (b ∷ bytes) zero within = refl
-front-passes p (b ∷ bytes) (suc k) within = elim (cases_Bool (p b)) [
-  | inl passes ↦
-      let more : suc k ≤ 1 + prefix_len p bytes = rw passes at within in
-      rw passes (front-passes p bytes k (omega (arith, more)))
-  | inr stops ↦ let none : suc k ≤ 0 = rw stops at within in absurd (omega (arith, none))
-]
-
--- as many bytes at the front as are printable, or fewer
-pub printable-fronts : (bytes : List ℕ) (k : ℕ) → k ≤ prefix_len is_printable bytes → is_printable_ascii (take k bytes) ≡ true
-printable-fronts bytes k within = front-passes is_printable bytes k within

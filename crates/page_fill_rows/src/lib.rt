@@ -4,7 +4,7 @@
 //! gives each row to a sink as soon as no later cell can change it. It knows words only by their places in the row; what a word is is
 //! in `page_fill`. Read `Sheet` in `specs/OpenRows.antt` first, which is all that a row holds, and then `specs/Characters.antt`.
 //!
-//! Proved: `OpenRow`, `put_bytes`, `put_plain`, `printable_len`, `word_start`: what the open row is after each
+//! Proved: `OpenRow`, `put_bytes`, `put_plain`, `word_start`: what the open row is after each
 //! call, and the rows and messages that the call settles (`specs/Characters.antt`, `specs/machine/Sheets.antt` and `Plain.antt`). `plain_law`:
 //! printable ASCII that is put into the row as a whole settles what its cells settle one by one. `constants_law`: the constants are those
 //! that the definitions cite.
@@ -31,4 +31,4 @@ pub fn constants_law()
 pub use laws::plain_law;
 pub use open_rows::OpenRow;
 pub use page_fill_cells::{columns, is_long_run, is_printable_ascii};
-pub use plain_texts::{printable_len, put_bytes, put_plain, word_start};
+pub use plain_texts::{put_bytes, put_plain, word_start};

@@ -487,17 +487,6 @@ impl OpenRow {
         self.empty();
     }
 
-    /// The row ends, and a word of bytes, printable ASCII that fits a row, begins the next one.
-    pub fn wrap_plain<O: RowOut>(&mut self, bytes: &[u8], font: Font, out: &mut O)
-        requires plain { plain.is_printable_ascii bytes.now ≡ true }
-        requires room { length bytes.now ≤ CELLS }
-        ensures { LaysOut O.left out.old
-            (plain.wraps_plain self.old (shown.cells_of font bytes.now)) out.new self.new }
-    {
-        self.end_before_word(out);
-        self.add_plain(bytes, font);
-    }
-
     // A row begins with cells of bytes that are a column each, in the fonts beside them.
     fn begin_letters(&mut self, bytes: &[u8], fonts: &[Font])
         requires plain { plain.is_printable_ascii bytes.now ≡ true }
@@ -511,6 +500,17 @@ impl OpenRow {
         self.columns = count;
         self.tag_columns = self.tag_columns.saturating_add(count).min(TAG_COLUMNS);
         self.has_tag_cell = true;
+    }
+
+    /// The row ends, and a word of bytes, printable ASCII that fits a row, begins the next one.
+    pub fn wrap_plain<O: RowOut>(&mut self, bytes: &[u8], font: Font, out: &mut O)
+        requires plain { plain.is_printable_ascii bytes.now ≡ true }
+        requires room { length bytes.now ≤ CELLS }
+        ensures { LaysOut O.left out.old
+            (plain.wraps_plain self.old (shown.cells_of font bytes.now)) out.new self.new }
+    {
+        self.end_before_word(out);
+        self.add_plain(bytes, font);
     }
 
     /// The same of a word of bytes, each in the font beside it.

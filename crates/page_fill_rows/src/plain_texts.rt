@@ -1,7 +1,6 @@
 //! Plain texts: their bytes are read, and put into the open row, as a whole.
 
 ghost use Rattle.std.specs.Prelude.{◌≡◌, ◌≤◌, ◌<◌, length, true};
-ghost use Rattle.std.specs.List.{prefix_len};
 ghost use Rattle.page_core_base.specs.Latches.{LaysOut};
 ghost use Rattle.page_fill_rows.specs.Characters as shown;
 ghost use Rattle.page_fill_rows.specs.machine.Plain as plain;
@@ -9,7 +8,6 @@ ghost use Rattle.page_fill_rows.specs.machine.Sheets as sheet;
 
 use crate::open_rows::OpenRow;
 use page_core_base::{Cell, Font, Place, RowOut};
-use page_fill_cells::is_printable_ascii;
 use std::simd::prelude::*;
 
 // The characters of a plain text that are put together, be there room for them or not.
@@ -17,22 +15,6 @@ const PART: usize = 64;
 
 // The bytes that are searched for a blank at a time.
 const LANES: usize = 16;
-
-/// How many bytes at the front of a text are printable ASCII.
-pub fn printable_len(bytes: &[u8]) -> usize
-    ensures value { result ≡ prefix_len plain.is_printable bytes.now }
-    ensures within { result ≤ length bytes.now }
-{
-    if is_printable_ascii(bytes) {
-        return bytes.len();
-    }
-    for i in 0..bytes.len() {
-        if bytes[i] < b' ' || b'~' < bytes[i] {
-            return i;
-        }
-    }
-    bytes.len()
-}
 
 // Where the letters after the last blank of a vector begin; 0 if there is no blank.
 #[inline(always)]

@@ -1,8 +1,7 @@
-use Rattle.std.proofs.Common.{◌≡◌, ◌<◌, ◌≤◌, ◌+◌, ◌-◌, length, take, drop, length-append, length-drop, refl, sym, ap, ◌∙◌, arith}
+use Rattle.std.proofs.Common.{◌≡◌, ◌<◌, ◌≤◌, ◌-◌, length, take, drop, length-append, length-drop, refl, sym, ap, ◌∙◌, arith}
 use Rattle.std.proofs.lemmas.List.{length-take-le}
 use Rattle.page_core_base.specs.Laid.{Laid, nothing}
 use Rattle.page_core_base.specs.Rows.{cells_in}
-use Rattle.page_core_base.specs.declared.limits.TheConstants.{CELLS}
 use Rattle.page_fill_cells.proofs.PlaceLemmas.{in-length}
 use Rattle.page_fill_rows.proofs.PlainLemmas.{parts-plain}
 use Rattle.page_fill_rows.specs.machine.Plain.{free_cells, word_start, words_taken, wraps_plain}

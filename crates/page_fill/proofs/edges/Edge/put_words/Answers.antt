@@ -1,10 +1,9 @@
-use Rattle.std.proofs.Common.{◌≡◌, ◌≤◌, ◌+◌, ◌-◌, length, drop, true, append_assoc, length-drop, refl, sym, ap, ◌∙◌, arith, rules}
+use Rattle.std.proofs.Common.{◌≡◌, ◌≤◌, ◌+◌, length, true, append_assoc, length-drop, refl, arith}
 use Rattle.std.proofs.lemmas.Bool.Decides.{nat_tests}
-use Rattle.page_core_base.specs.Laid.{Laid, nothing, join}
+use Rattle.page_core_base.specs.Laid.{nothing, join}
 use Rattle.page_core_base.specs.declared.limits.TheConstants.{CELLS}
 use Rattle.page_fill_cells.specs.Cells.{is_printable_ascii}
 use Rattle.page_fill_rows.proofs.PlainLemmas.{parts-plain}
-use Rattle.page_fill.specs.machine.Fill.{Edge}
 use Rattle.page_fill.specs.machine.LetteredWords.{LaysFront}
 use Rattle.page_fill.proofs.LetteredWordLemmas.{lays-all, lays-more, lays-none, tail-all}
 use Rattle.page_fill.proofs.edges.Edge.put_words.Goals as goal
