@@ -1,5 +1,5 @@
 -- A text that an event prints: its fonts, and how it is beside the words around it. Source: man(7), `B`, `BR`; roff(7), `\f`, `\c`.
-use Rattle.std.specs.Prelude.{ℕ, max, min, Bool, true, false, not, ◌||◌, ◌&&◌, List, Option, None, Some, is_some, if◌then◌else◌}
+use Rattle.std.specs.Prelude.{ℕ, ◌+◌, max, min, Bool, true, false, not, ◌||◌, ◌&&◌, List, Option, None, Some, is_some, if◌then◌else◌}
 use Rattle.std.specs.Borrow.{Bor}
 use Rattle.page_core_base.specs.Limits.{LINE}
 use Rattle.page_core_base.specs.Pieces.{Item}
