@@ -253,6 +253,9 @@ pub(crate) fn give_lettered_words<'a, O: PieceOut>(
     }
     let mut letters = Letters::new();
     let (fonts, rest) = read_words(style, pen.fonts, &mut letters, text);
+    if rest.len() == text.len() {
+        return text;
+    }
     *tries = letters.give(out);
     if !*tries {
         return text;

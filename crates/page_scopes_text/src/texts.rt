@@ -60,8 +60,8 @@ fn give_spaced<'a, O: PieceOut>(
     }
 }
 
-// Gives the words at a text's front that print themselves, with one blank before each, or none if the text goes on after them and only a `whole` one is to
-// be given: in rows that are filled they only move the pen's column. What is left of the text.
+// Gives the words at a text's front that print themselves, with one blank before each: in rows that are filled they only move the pen's column. Where only
+// a `whole` text of roman words is to be given, it gives none of another. What is left of the text.
 #[inline(always)]
 fn give_plain_words<'a, O: PieceOut>(
     out: &mut O,
@@ -82,6 +82,9 @@ fn give_plain_words<'a, O: PieceOut>(
     ensures ends { begins_word result.now ≡ false }
 {
     if style.is_literal || !pen.is_resting() {
+        return text;
+    }
+    if whole && !matches!(pen.fonts.value.font, Font::R) {
         return text;
     }
     let (run, rest) = text.split_at(run_len(style.is_quoted, text, LINE));
