@@ -12,6 +12,8 @@ mod leaf_tests;
 mod marked;
 pub mod nested;
 #[cfg(test)]
+mod lettered_tests;
+#[cfg(test)]
 mod scope_tests;
 #[cfg(test)]
 mod set_tests;

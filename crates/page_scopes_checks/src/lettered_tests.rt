@@ -1,0 +1,148 @@
+//! What texts give where words of letters are taken at once.
+
+use page_core_base::{Font, Note, Piece, PieceOut};
+use page_scopes_layout::Context;
+use page_scopes_text::{Pen, TextStyle, give_text};
+use page_test_streams::Shown;
+use std::alloc::Global;
+use std::process::Abort;
+use std::test::Fail;
+
+// The bytes at most of a text here.
+const MOST: usize = 300;
+
+const LINE: TextStyle = TextStyle {
+    is_quoted: false,
+    is_literal: false,
+    is_line: true,
+};
+
+const QUOTED: TextStyle = TextStyle {
+    is_quoted: true,
+    is_literal: false,
+    is_line: false,
+};
+
+const KEPT: TextStyle = TextStyle {
+    is_quoted: false,
+    is_literal: true,
+    is_line: true,
+};
+
+// Shows pieces, and words that are taken at once in parentheses: each letter after its font, where that is another one than the letter's before.
+#[derive(Drop)]
+struct Taken {
+    shown: Shown,
+    // How often words are taken: from then on none are.
+    times: u32,
+}
+
+// A font as a letter.
+fn font_letter(font: Font) -> &'static [u8] {
+    match font {
+        Font::R => b"R",
+        Font::I => b"I",
+        Font::B => b"B",
+        Font::BI => b"Z",
+    }
+}
+
+impl Taken {
+    // Shows letters, each after its font.
+    fn add_letters(&mut self, text: &[u8], fonts: &[Font]) {
+        let mut before: &[u8] = b"";
+        for (letter, font) in text.chunks(1).zip(fonts) {
+            let name = font_letter(*font);
+            if name != before {
+                self.shown.add(name);
+            }
+            self.shown.add(letter);
+            before = name;
+        }
+    }
+}
+
+impl PieceOut for Taken {
+    ghost Plan = { Unit {0} };
+
+    ghost left = { λ plan s rest. Unit {0} };
+
+    fn give(&mut self, piece: Piece<&[u8]>) {
+        self.shown.give(piece);
+    }
+
+    fn give_words(&mut self, text: &[u8], fonts: &[Font]) -> bool {
+        if self.times == 0 {
+            return false;
+        }
+        self.times -= 1;
+        self.shown.add(b"(");
+        self.add_letters(text, fonts);
+        self.shown.add(b")");
+        true
+    }
+
+    fn report(&mut self, note: &Note) {
+        self.shown.report(note);
+    }
+}
+
+// What a text gives where words are taken so many times, and then the font that is left.
+fn given_by(alloc: Global, style: TextStyle, times: u32, text: &str) -> Taken {
+    let shown = Shown::new(alloc, false);
+    let mut out = Taken { shown, times };
+    let mut pen = Pen {
+        fonts: Context::start(7).fonts,
+        column: 1,
+        gap: 1,
+        is_after_word: true,
+        has_cell: false,
+        is_cut: false,
+        ends_blank: false,
+        splits: !style.is_literal,
+    };
+    if text.len() <= MOST {
+        give_text(&mut out, style, 1, &mut pen, text.as_bytes());
+    }
+    out.shown.add(font_letter(pen.fonts.value.font));
+    out
+}
+
+fn check_bytes(rt: &impl Abort, got: &[u8], wanted: &[u8]) {
+    assert_eq!(rt; got, wanted);
+}
+
+// Texts, how often words of them are taken, and what they give.
+const TEXTS: [(TextStyle, u32, &str, &str); 17] = [
+    (LINE, 9, "a b cd", "1[a](R b cd)R"),
+    (LINE, 0, "a b cd", "1[a]1[b]1[cd]R"),
+    (LINE, 9, "a \\fBb\\fP c", "1[a](R BbR c)R"),
+    (LINE, 0, "a \\fBb\\fP c", "1[a]1B[b]1[c]R"),
+    (LINE, 9, "a \\fBb", "1[a](R Bb)B"),
+    (LINE, 9, "\\fBa b c", "1B[a](R BbR Bc)B"),
+    (LINE, 9, "a b\\-c\\&d \\e", "1[a](R b-cd \\)R"),
+    (LINE, 9, "a b-c d e", "1[a]1[b-]|[c](R d e)R"),
+    (LINE, 9, "a \\fBb-c\\fP d e", "1[a]1B[b-]|B[c](R d e)R"),
+    (LINE, 9, "a \\fB\\fP b", "1[a]1[](R b)R"),
+    (LINE, 9, "a b  c d", "1[a](R b)1[c](R d)R"),
+    (LINE, 9, "a \\(bu b c", "1[a]1bu(R b c)R"),
+    (LINE, 9, "a \\fQb c", "1[a]!UnknownFont Q;1[b](R c)R"),
+    (LINE, 9, "a b\\c", "1[a]1[b]R"),
+    (
+        LINE,
+        1,
+        "a \\fIb\\fP c-d \\fIe\\fP f g",
+        "1[a](R Ib)1[c-]|[d]1I[e]1[f]1[g]R",
+    ),
+    (QUOTED, 9, "a \"\"\\fBb\\fP\"\" c", "1[a](R \"BbR\" c)R"),
+    (KEPT, 9, "a b", "[ ][a][ ][b]R"),
+];
+
+#[test]
+fn words_at_once(rt: HostRuntime) -> Result<(), Fail> {
+    for (style, times, text, wanted) in TEXTS {
+        let given = given_by(rt.alloc(), style, times, text);
+        check_bytes(&rt, given.shown.text(), wanted.as_bytes());
+    }
+    Ok(())
+}
