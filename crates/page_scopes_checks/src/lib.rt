@@ -9,10 +9,10 @@ mod context_tests;
 mod leaf_pages;
 #[cfg(test)]
 mod leaf_tests;
-mod marked;
-pub mod nested;
 #[cfg(test)]
 mod lettered_tests;
+mod marked;
+pub mod nested;
 #[cfg(test)]
 mod scope_tests;
 #[cfg(test)]
