@@ -1,6 +1,14 @@
 -- One item through a filler.
-use Rattle.std.proofs.Common.{◌≡◌, ℕ, List, [], ◌∷◌, Option, None, Some, Result, Ok, Err, MatchResult, OnOk, refl, append-nil, ◌∙◌}
+use Rattle.std.proofs.Common.{◌≡◌, ℕ, List, [], ◌∷◌, Option, None, Some, IfSome, map, true, Result, Ok, Err, MatchResult, OnOk, refl, append-nil, ◌∙◌}
+use Rattle.std.specs.List.{list_all}
+use Rattle.page_core_base.specs.Rows.{cells_in}
 use Rattle.page_core_base.specs.Sinks.{IsSink}
+use Rattle.page_core_base.specs.Words.{is_lettered_word, lettered_cells, lettered_pieces}
+use Rattle.page_core_base.specs.declared.cells.Font.{Font}
+use Rattle.page_core_base.specs.declared.pieces.Piece.{Piece}
+use Rattle.page_fill.specs.Caps.{IsHeld, is_sound}
+use Rattle.page_fill.specs.LetteredWords.{AreWords}
+use Rattle.page_fill.proofs.FillerLaw.{items-law}
 use Rattle.page_core_base.specs.Messages.{Message}
 use Rattle.page_core_base.specs.Rows.{LaidRow}
 use Rattle.page_core_base.specs.declared.faults.Fault.{Fault}
@@ -70,6 +78,46 @@ items_pass rg rw_ rf ng nw nf (Err x) (Some e) f' r r' n n' items laid gets edge
   sink_cause x (rf r) (rf r') (nf n) (nf n') (faults e refl),
   λ row is. rw (laid row is) record { rows = (gets row is).rows; notes = (gets row is).notes; cause = faults row is },
 )
+
+-- the same of words of letters, which all came, or a front of them and then a fault
+pub words_took : {R N : Type 0} (rg rw_ : R → List LaidRow → R → Type 0) (rf : R → ℕ) (ng nw : N → List Message → N → Type 0) (nf : N → ℕ)
+    (res : Result (Unit {0}) Fault) (f f' : Option FillEdge) (r r' : R) (n n' : N) (text : List ℕ) (fonts : List Font)
+    → ((e : FillEdge) (words : List (List (Piece (List ℕ)))) → f ≡ Some e → AreWords text fonts words
+    → Gets res rg rw_ ng nw r r' n n' (filled e (map shown (lettered_pieces words))))
+    → ((e : FillEdge) (words : List (List (Piece (List ℕ)))) → f ≡ Some e → AreWords text fonts words
+    → OnOk res (f' ≡ Some (filled e (map shown (lettered_pieces words))).edge))
+    → ((e : FillEdge) → f ≡ Some e → FailsBySink res (rf r) (rf r') (nf n) (nf n'))
+    → (f ≡ None → (res ≡ Err Failed) × (r' ≡ r) × (n' ≡ n))
+    → IfSome f (λ (e : FillEdge). IsHeld e.sheet) → IfSome f (λ (e : FillEdge). is_sound e.word ≡ true)
+    → (words : List (List (Piece (List ℕ)))) → list_all is_lettered_word words ≡ true → cells_in text fonts ≡ lettered_cells words
+    → (x : Unit {0}) → res ≡ Ok x
+    → ((row : FillEdge) → f ≡ Some row → Passed rg rf ng nf f f' r r' n n' (laid_items row (map shown (lettered_pieces words)))) × Quiet rf nf r r' n n'
+words_took rg rw_ rf ng nw nf res f f' r r' n n' text fonts gets edge faults closed held sound words are cells x ok =
+    rw ok at (
+    items_pass rg rw_ rf ng nw nf res f f' r r' n n' (map shown (lettered_pieces words))
+    (λ e is. items-law e (map shown (lettered_pieces words)) (rw is at held) (rw is at sound))
+    (λ e is. gets e words is (are, cells)) (λ e is. edge e words is (are, cells)) faults closed
+    )
+
+pub words_broke : {R N : Type 0} (rg rw_ : R → List LaidRow → R → Type 0) (rf : R → ℕ) (ng nw : N → List Message → N → Type 0) (nf : N → ℕ)
+    (res : Result (Unit {0}) Fault) (f f' : Option FillEdge) (r r' : R) (n n' : N) (text : List ℕ) (fonts : List Font)
+    → ((e : FillEdge) (words : List (List (Piece (List ℕ)))) → f ≡ Some e → AreWords text fonts words
+    → Gets res rg rw_ ng nw r r' n n' (filled e (map shown (lettered_pieces words))))
+    → ((e : FillEdge) (words : List (List (Piece (List ℕ)))) → f ≡ Some e → AreWords text fonts words
+    → OnOk res (f' ≡ Some (filled e (map shown (lettered_pieces words))).edge))
+    → ((e : FillEdge) → f ≡ Some e → FailsBySink res (rf r) (rf r') (nf n) (nf n'))
+    → (f ≡ None → (res ≡ Err Failed) × (r' ≡ r) × (n' ≡ n))
+    → IfSome f (λ (e : FillEdge). IsHeld e.sheet) → IfSome f (λ (e : FillEdge). is_sound e.word ≡ true)
+    → (words : List (List (Piece (List ℕ)))) → list_all is_lettered_word words ≡ true → cells_in text fonts ≡ lettered_cells words
+    → (fault : Fault) → res ≡ Err fault
+    → IsPieceFault fault (rf r) (rf r') (nf n) (nf n')
+    × ((row : FillEdge) → f ≡ Some row → Broken rw_ rf nw nf r r' n n' fault (laid_items row (map shown (lettered_pieces words))))
+words_broke rg rw_ rf ng nw nf res f f' r r' n n' text fonts gets edge faults closed held sound words are cells fault err =
+    rw err at (
+    items_pass rg rw_ rf ng nw nf res f f' r r' n n' (map shown (lettered_pieces words))
+    (λ e is. items-law e (map shown (lettered_pieces words)) (rw is at held) (rw is at sound))
+    (λ e is. gets e words is (are, cells)) (λ e is. edge e words is (are, cells)) faults closed
+    )
 
 -- a message passes the filler by, and goes to its sink
 pub note_passes : {R N : Type 0} (rg rw_ : R → List LaidRow → R → Type 0) (rf : R → ℕ) (ng nw : N → List Message → N → Type 0) (nf : N → ℕ)

@@ -1,8 +1,7 @@
-use Rattle.std.proofs.Common.{Ok, Err}
-use Rattle.page_fill.proofs.FillerLaw.{items-law}
+use Rattle.std.proofs.lemmas.Result.{err_from_is_err_and}
 use Rattle.page_engine.specs.Levels.{filter-sink}
 use Rattle.page_engine.specs.Shown.{shown-sink}
-use Rattle.page_engine.proofs.Items.{items_pass, nothing_passes}
+use Rattle.page_engine.proofs.Items.{nothing_passes, words_broke, words_took}
 use Rattle.page_engine.proofs.page_sinks.PageSinkPieceSink.take_words.Goals as goal
 
 -- none of the words was taken
@@ -11,3 +10,17 @@ returns-then-not-takes_words-clause-takes g c = λ words are cells.
     let j = shown-sink g.R.RowSink.gave g.R.RowSink.within g.met.R.RowSink.laws (λ s. s.rows.now) (λ s. s.is_silent) in
     let k = filter-sink g.N.NoteSink.gave g.N.NoteSink.within g.met.N.NoteSink.laws (λ s. s.notes.now) (λ s. s.least) (λ s. s.worst) in
     nothing_passes j k _ _ _
+
+pub returns-in_err-words-clause-takes : goal.returns-in_err-words-clause-takes
+returns-in_err-words-clause-takes g c =
+    let p = err_from_is_err_and c.from_residual.result c.from_residual.ensures.1 in
+    let w = c.words.ensures in
+    rw (p.1, p.2) (λ words are cells.
+    words_broke _ _ _ _ _ _ c.words.result _ _ _ _ _ _ c.args.text.now c.args.fonts.now w.gets w.edge w.faults w.closed
+    c.held_law.ensures.row c.held_law.ensures.word words are cells _ c.in_err-words.was)
+
+pub returns-clause-takes : goal.returns-clause-takes
+returns-clause-takes g c = λ words are cells.
+    let w = c.words.ensures in
+    words_took _ _ _ _ _ _ c.words.result _ _ _ _ _ _ c.args.text.now c.args.fonts.now w.gets w.edge w.faults w.closed
+    c.held_law.ensures.row c.held_law.ensures.word words are cells _ c.in_ok-words.was
