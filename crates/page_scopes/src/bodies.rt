@@ -8,6 +8,8 @@ ghost use Rattle.page_sets_lines.specs.Fits.{CloserFits, KindFits};
 ghost use Rattle.page_scopes_phrases.specs.Outcomes.{GivesOutcome};
 ghost use Rattle.page_scopes_tree.specs.Acts.{TakesAct, act_view};
 ghost use Rattle.page_sets_lines.specs.Events.{closer_view, kind_view, given_view, leaf_view, opener_view, step_view};
+ghost use Rattle.page_sets_lines.specs.declared.events.EventKind.TheVariants as kinds;
+ghost use Rattle.page_sets_lines.specs.declared.leaves.Leaf.TheVariants as leaves;
 
 use page_core_base::{NoteKind, Output, Piece, PieceOut, Place};
 use page_core_numbers::Scale;
@@ -25,7 +27,7 @@ use page_sets_lines::{
 
 // Whether a step of a line may begin the body: the address of `Lk`, the name of the manual, and the end of a function.
 fn step_begins(step: &LineStep<&[u8]>) -> bool
-    ensures { result ≡ bodies.step_begins (step_view step.now) }
+    ensures { result ≡ bodies.kind_begins (kinds.Leaf (leaves.Step (step_view step.now))) }
 {
     matches!(
         step,
@@ -35,7 +37,7 @@ fn step_begins(step: &LineStep<&[u8]>) -> bool
 
 // Whether a leaf may begin the body.
 fn leaf_begins(leaf: &Leaf<&[u8]>) -> bool
-    ensures { result ≡ bodies.leaf_begins (leaf_view leaf.now) }
+    ensures { result ≡ bodies.kind_begins (kinds.Leaf (leaf_view leaf.now)) }
 {
     match leaf {
         Leaf::Generated(_) | Leaf::FurtherTag => true,
@@ -46,14 +48,14 @@ fn leaf_begins(leaf: &Leaf<&[u8]>) -> bool
 
 // Whether an opener may begin the body: an item needs a list that has begun it.
 fn opener_begins(opener: &Opener<&[u8]>) -> bool
-    ensures { result ≡ bodies.opener_begins (opener_view opener.now) }
+    ensures { result ≡ bodies.kind_begins (kinds.Open (opener_view opener.now)) }
 {
     !matches!(opener, Opener::Item)
 }
 
 // Whether what opens a line scope may begin the body: the head of an item does not.
 fn line_begins(opener: LineOpener) -> bool
-    ensures { result ≡ bodies.line_begins opener }
+    ensures { result ≡ bodies.kind_begins (kinds.LineScope opener) }
 {
     !matches!(opener, LineOpener::Head)
 }

@@ -11,7 +11,6 @@ use Rattle.page_scopes_phrases.specs.Outcomes.{Outcome, followed_by, nothing}
 use Rattle.page_scopes_phrases.specs.Phrases.{own_phrase}
 use Rattle.page_scopes_phrases.specs.Runnings.{row_ended}
 use Rattle.page_scopes_blocks.specs.Tags.{phrase_tag}
-use Rattle.page_scopes_phrases.specs.declared.phrases.Phrase.{Phrase}
 use Rattle.page_scopes_phrases.specs.declared.runnings.Running.{Running}
 use Rattle.page_scopes_blocks.specs.declared.tags.TagPlace.{TagPlace}
 use Rattle.page_scopes_labels.specs.declared.labels.Label.TheVariants as labels
@@ -29,16 +28,12 @@ mark_of kinds.Hyphen number = Some (codes "-")
 mark_of kinds.Enum number = Some (decimal number ++ codes ".")
 mark_of _ number = None
 
--- it is at its macro
-abbrev pub mark_phrase : Place → List ℕ → Phrase (List ℕ)
-mark_phrase place mark = own_phrase place mark None Apart Apart
-
 abbrev pub mark_place : OpenList → TagPlace
 mark_place list = record { margin = list.head; hang = hold (pos list.hang) }
 
 -- a mark is a tag of its item's text; in other lists the text is at its margin
 abbrev pub given_mark : Place → OpenList → Option (List ℕ) → Context → Running → Outcome
-given_mark place list (Some mark) c r = phrase_tag (mark_place list) place.line (mark_phrase place mark) c r
+given_mark place list (Some mark) c r = phrase_tag (mark_place list) place.line (own_phrase place mark None Apart Apart) c r
 given_mark place list None c r = record { items = margin_items c; context = c; running = r }
 
 abbrev pub mark : Place → Option OpenList → Context → Running → Outcome

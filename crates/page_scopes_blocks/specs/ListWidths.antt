@@ -1,5 +1,5 @@
 -- The widths that the arguments of `Bl` give. Source: mdoc(7), `Bl`.
-use Rattle.std.specs.Prelude.{ℕ, ◌+◌, ◌≤◌, length, Bool, true, false, List, [], ◌∷◌, Option, None, Some, codes, if◌then◌else◌, ℤ, pos}
+use Rattle.std.specs.Prelude.{ℕ, ◌+◌, ◌≤◌, length, Bool, true, false, List, [], ◌∷◌, Option, None, Some, codes, fold, option_map, unwrap_or, if◌then◌else◌, ℤ, pos}
 use Rattle.page_core_base.specs.Pieces.{Item}
 use Rattle.page_core_base.specs.declared.note_kinds.NoteKind.TheVariants.{Limit}
 use Rattle.page_core_base.specs.declared.page_settings.Output.{Output}
@@ -27,10 +27,6 @@ default_width kinds.Hang = 6
 default_width kinds.Enum = 3
 default_width _ = 2
 
-abbrev pub width_of : ListKind → Option ℤ → ℕ
-width_of kind None = default_width kind
-width_of kind (Some width) = hold width
-
 -- lists of these types have a hang
 abbrev pub hangs : ListKind → Bool
 hangs kinds.Bullet = true
@@ -43,7 +39,7 @@ hangs _ = false
 
 -- two columns part the width from the text
 abbrev pub hang_of : ListKind → Option ℤ → ℕ
-hang_of kind width = if hangs kind then width_of kind width + 2 else 0
+hang_of kind width = if hangs kind then unwrap_or (option_map hold width) (default_width kind) + 2 else 0
 
 -- the value of an option is a text of a line
 abbrev pub LengthFits : Option (Argument (List ℕ)) → Type 0
@@ -52,12 +48,10 @@ LengthFits (Some width) = length width.text ≤ LINE
 
 -- the columns of an option's value, and its messages
 abbrev pub given_columns : Output → Option (Argument (List ℕ)) → Option ℤ
-given_columns output None = None
-given_columns output (Some width) = Some (width_columns output width)
+given_columns output value = option_map (width_columns output) value
 
 abbrev pub given_notes : Place → Option (Argument (List ℕ)) → List Item
-given_notes place None = []
-given_notes place (Some width) = width_notes place width
+given_notes place value = unwrap_or (option_map (width_notes place) value) []
 
 -- ---- columns
 
@@ -70,20 +64,12 @@ abbrev pub one_more : Output → GivenWidths → Argument (List ℕ) → GivenWi
 one_more output given word =
     if has_room given.widths then record given { widths = with_width given.widths (column_width output word) } else record given { is_cut = true }
 
-abbrev pub all_given : Output → GivenWidths → List (Argument (List ℕ)) → GivenWidths
-all_given output given [] = given
-all_given output given (word ∷ words) = all_given output (one_more output given word) words
-
 abbrev pub no_widths_given : GivenWidths
 no_widths_given = record { widths = no_widths; is_cut = false }
 
--- of the arguments in a text
-abbrev pub columns_in : Output → List ℕ → GivenWidths
-columns_in output options = all_given output no_widths_given (columns_after no_options (arguments_after 0 options))
-
--- only a list of columns has such widths
+-- of the arguments in a text; only a list of columns has such widths
 abbrev pub columns_of : Output → ListKind → List ℕ → GivenWidths
-columns_of output kinds.Column options = columns_in output options
+columns_of output kinds.Column options = fold (one_more output) no_widths_given (columns_after no_options (arguments_after 0 options))
 columns_of output _ options = no_widths_given
 
 abbrev pub cut_notes : Place → GivenWidths → List Item

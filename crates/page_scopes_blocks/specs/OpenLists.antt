@@ -1,5 +1,5 @@
 -- What lists begin with. Source: mdoc(7), `Bl`.
-use Rattle.std.specs.Prelude.{ℕ, Bool, List, ◌++◌, unwrap_or, pos, ℤ}
+use Rattle.std.specs.Prelude.{ℕ, Bool, List, ◌++◌, unwrap_or, pos}
 use Rattle.page_core_base.specs.Pieces.{Item}
 use Rattle.page_core_base.specs.declared.page_settings.Output.{Output}
 use Rattle.page_core_base.specs.declared.places.Place.{Place}
@@ -8,8 +8,7 @@ use Rattle.page_scopes_layout.specs.Lists.{list_begun}
 use Rattle.page_scopes_layout.specs.declared.contexts.Context.{Context}
 use Rattle.page_scopes_layout.specs.declared.lists.ColumnWidths.{ColumnWidths}
 use Rattle.page_scopes_layout.specs.declared.lists.OpenList.{OpenList}
-use Rattle.page_scopes_phrases.specs.Outcomes.{Outcome, after_notes, row_margin_items}
-use Rattle.page_scopes_phrases.specs.Runnings.{row_ended}
+use Rattle.page_scopes_phrases.specs.Outcomes.{Outcome, after_notes, at_margins}
 use Rattle.page_scopes_phrases.specs.declared.runnings.Running.{Running}
 use Rattle.page_sets_lines.specs.ControlLines.{arguments_after}
 use Rattle.page_sets_lines.specs.Lists.{list_options}
@@ -31,14 +30,6 @@ new_list kind is_compact hang widths = record {
   widths = widths;
 }
 
--- the row ends, and other margins hold
-abbrev pub list_begins : OpenList → ℤ → Context → Running → Outcome
-list_begins list offset c r = record {
-  items = row_margin_items (list_begun list offset c);
-  context = list_begun list offset c;
-  running = row_ended r;
-}
-
 -- what its arguments say, with the messages of its width, of its offset, and of its columns
 abbrev pub said_list : Output → ListKind → Bool → List ℕ → ListOptions (List ℕ) → SaidList
 said_list output kind is_compact text options = record {
@@ -51,7 +42,7 @@ list_notes output place kind text options =
     given_notes place options.width ++ (given_notes place options.offset ++ cut_notes place (columns_of output kind text))
 
 abbrev pub list_by : SaidList → Context → Running → Outcome
-list_by said c r = list_begins said.list (unwrap_or said.offset (pos 0)) (entered_context c) r
+list_by said c r = at_margins (list_begun said.list (unwrap_or said.offset (pos 0)) (entered_context c)) r
 
 -- a list of a type, compact or not, with these arguments
 unfoldable pub list_opened : Output → Place → ListKind → Bool → List ℕ → Context → Running → Outcome

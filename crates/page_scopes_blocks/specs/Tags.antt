@@ -22,10 +22,6 @@ tag_context tag c = record c { first = Some tag.margin; has_row = false; part = 
 abbrev pub after_tag : Context → Context → Context
 after_tag before c = record c { first = None; part = before.part }
 
--- what pads it takes the place of a blank
-abbrev pub padded : Running → Running
-padded r = record r { gap = 0 }
-
 -- it is in front of its text, which hangs
 abbrev pub tag_begun : TagPlace → Context → Running → Outcome
 tag_begun tag c r = record {
@@ -34,23 +30,18 @@ tag_begun tag c r = record {
   running = r;
 }
 
+-- what pads it takes the place of a blank
 abbrev pub tag_ended : Context → Context → Running → Outcome
 tag_ended before c r = record {
   items = shown pieces.TagEnd ∷ margin_items (after_tag before c);
   context = after_tag before c;
-  running = padded r;
+  running = record r { gap = 0 };
 }
-
-abbrev pub tag_words : ℕ → Word (List ℕ) → Context → Context → Running → Outcome
-tag_words line word before c r = followed_by (line_word line word c r) (tag_ended before)
 
 -- a tag of the words of an argument
 unfoldable pub tag : TagPlace → ℕ → Word (List ℕ) → Context → Running → Outcome
-tag place line word c r = followed_by (tag_begun place c r) (tag_words line word c)
+tag place line word c r = followed_by (tag_begun place c r) (λ d s. followed_by (line_word line word d s) (tag_ended c))
 
 -- the same of the words of a phrase
-abbrev pub tag_phrase : ℕ → Phrase (List ℕ) → Context → Context → Running → Outcome
-tag_phrase line phrase before c r = followed_by (phrase_outcome line phrase c r) (tag_ended before)
-
 unfoldable pub phrase_tag : TagPlace → ℕ → Phrase (List ℕ) → Context → Running → Outcome
-phrase_tag place line phrase c r = followed_by (tag_begun place c r) (tag_phrase line phrase c)
+phrase_tag place line phrase c r = followed_by (tag_begun place c r) (λ d s. followed_by (phrase_outcome line phrase d s) (tag_ended c))

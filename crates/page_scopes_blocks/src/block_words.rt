@@ -1,12 +1,19 @@
 //! The words that blocks and line scopes of mdoc(7) print themselves (mdoc(7), "MACRO REFERENCE").
 
-ghost use Rattle.std.specs.Prelude.{◌≡◌};
+ghost use Rattle.std.specs.Prelude.{◌≡◌, None, codes};
 ghost use Rattle.page_roff_syntax.specs.Arguments.{argument_view};
 ghost use Rattle.page_scopes_blocks.specs.BlockWords as words;
+ghost use Rattle.page_scopes_labels.specs.declared.labels.Explicit.TheVariants as explicits;
+ghost use Rattle.page_scopes_labels.specs.declared.labels.Label.TheVariants as labels;
+ghost use Rattle.page_scopes_phrases.specs.LineWords.{argument_word, own_word};
 ghost use Rattle.page_sets_lines.specs.Fits.{ArgumentFits, BlockOpenerFits, FitsAt, GivenFits};
 ghost use Rattle.page_scopes_phrases.specs.Outcomes.{GivesOutcome};
-ghost use Rattle.page_scopes_phrases.specs.Phrases.{phrase_view};
+ghost use Rattle.page_scopes_phrases.specs.Phrases.{own_phrase, phrase_view};
 ghost use Rattle.page_sets_lines.specs.Events.{block_opener_view, given_view, word_view};
+ghost use Rattle.page_sets_lines.specs.declared.blocks.BlockOpener.TheVariants.{Custom};
+ghost use Rattle.page_sets_lines.specs.declared.events.Join.TheVariants.{Apart, Glued};
+ghost use Rattle.page_sets_names.specs.Marks.{closing, opening};
+ghost use Rattle.page_sets_names.specs.declared.generated_texts.GeneratedText.TheVariants.{FullStop, OpenParenthesis};
 
 use page_core_base::{Font, PieceOut, Place};
 use page_roff_syntax::Argument;
@@ -22,7 +29,7 @@ use page_sets_lines::{
 
 // The mark before the words of an enclosure.
 fn opening_word(marks: Marks) -> GeneratedWord
-    ensures { result ≡ words.opening_word marks }
+    ensures { result ≡ own_word (opening marks) Apart Glued }
 {
     GeneratedWord {
         text: marks.opening(),
@@ -34,7 +41,7 @@ fn opening_word(marks: Marks) -> GeneratedWord
 
 // The mark after the words of an enclosure.
 fn closing_word(marks: Marks) -> GeneratedWord
-    ensures { result ≡ words.closing_word marks }
+    ensures { result ≡ own_word (closing marks) Glued Apart }
 {
     GeneratedWord {
         text: marks.closing(),
@@ -46,7 +53,7 @@ fn closing_word(marks: Marks) -> GeneratedWord
 
 // The dash of `Nd`, at its macro.
 fn dash_phrase(place: Place) -> Phrase<&'static [u8]>
-    ensures seen { phrase_view result ≡ words.dash_phrase place }
+    ensures seen { phrase_view result ≡ own_phrase place (codes "\\(en") None Apart Apart }
     ensures fits { FitsAt result.column result.text.now }
 {
     Phrase::own(place, b"\\(en", None, Join::Apart, Join::Apart)
@@ -84,7 +91,7 @@ pub fn give_line_words<O: PieceOut>(
 
 // The mark of `Eo` as a word, to which the next one is glued.
 fn mark_word<'a>(mark: Argument<&'a [u8]>) -> Word<&'a [u8]>
-    ensures { word_view result ≡ words.mark_word (argument_view mark.entry) }
+    ensures { word_view result ≡ record (argument_word None Apart (argument_view mark.entry)) { after = Glued } }
 {
     Word {
         after: Join::Glued,
@@ -95,18 +102,18 @@ fn mark_word<'a>(mark: Argument<&'a [u8]>) -> Word<&'a [u8]>
 // Gives the mark of `Eo`, where it has one.
 fn give_mark<O: PieceOut>(
     out: &mut O,
-    line: u32,
+    place: Place,
     mark: Option<Argument<&[u8]>>,
     context: &mut Context,
     running: &mut Running,
 )
     requires { GivenFits (given_view mark) }
     ensures { GivesOutcome O.left out.old
-        (words.given_mark line (given_view mark.entry) context.old running.old)
+        (words.block_words place (Custom (given_view mark.entry)) context.old running.old)
         out.new context.new running.new }
 {
     if let Some(mark) = mark {
-        give_line_word(out, line, &mark_word(mark), context, running);
+        give_line_word(out, place.line, &mark_word(mark), context, running);
     }
 }
 
@@ -128,14 +135,14 @@ pub(crate) fn give_block_words<O: PieceOut>(
             let word = opening_word(quotation.marks());
             give_generated_word(out, place, word, context, running);
         }
-        BlockOpener::Custom(mark) => give_mark(out, place.line, mark, context, running),
+        BlockOpener::Custom(mark) => give_mark(out, place, mark, context, running),
         _ => {}
     }
 }
 
 // What opens the arguments of a function.
 fn arguments_mark() -> GeneratedWord
-    ensures { result ≡ words.arguments_mark }
+    ensures { result ≡ own_word OpenParenthesis Glued Glued }
 {
     GeneratedWord {
         text: GeneratedText::OpenParenthesis,
@@ -165,7 +172,7 @@ pub(crate) fn give_function_name<O: PieceOut>(
 
 // The full stop after the fields of a reference.
 fn full_stop() -> GeneratedWord
-    ensures { result ≡ words.full_stop }
+    ensures { result ≡ own_word FullStop Glued Apart }
 {
     GeneratedWord {
         text: GeneratedText::FullStop,
@@ -200,7 +207,7 @@ fn give_block_last_words<O: PieceOut>(
     running: &mut Running,
 )
     ensures { GivesOutcome O.left out.old
-        (words.block_last_words place block context.old running.old)
+        (words.last_words place (labels.Explicit (explicits.Block block)) context.old running.old)
         out.new context.new running.new }
 {
     match block {

@@ -1,10 +1,11 @@
 //! What the blocks of mdoc(7) begin with (mdoc(7), "MACRO REFERENCE").
 
-ghost use Rattle.std.specs.Prelude.{◌≡◌};
+ghost use Rattle.std.specs.Prelude.{◌≡◌, pos, unwrap_or};
 ghost use Rattle.page_core_base.specs.Latches.{Came};
 ghost use Rattle.page_roff_syntax.specs.Arguments.{argument_view};
 ghost use Rattle.page_scopes_blocks.specs.BlockWords.{function_name};
 ghost use Rattle.page_scopes_blocks.specs.Blocks as blocks;
+ghost use Rattle.page_scopes_blocks.specs.ListWidths.{given_columns, given_notes};
 ghost use Rattle.page_scopes_layout.specs.Begins.{function_begun};
 ghost use Rattle.page_sets_lines.specs.Fits.{ArgumentFits, BlockOpenerFits, GivenFits};
 ghost use Rattle.page_scopes_phrases.specs.Outcomes.{GivesOutcome};
@@ -26,8 +27,8 @@ fn give_offset<O: PieceOut>(
     offset: Option<Argument<&[u8]>>,
 ) -> i32
     requires { GivenFits (given_view offset) }
-    ensures columns { result ≡ blocks.offset_columns output (given_view offset.entry) }
-    ensures came { Came O.left out.old (blocks.offset_notes place (given_view offset.entry)) out.new }
+    ensures columns { result ≡ unwrap_or (given_columns output (given_view offset.entry)) (pos 0) }
+    ensures came { Came O.left out.old (given_notes place (given_view offset.entry)) out.new }
 {
     match offset {
         Some(offset) => give_width(out, output, place, offset),

@@ -1,10 +1,11 @@
 //! Items of lists: their marks and numbers (mdoc(7), `Bl` and `It`).
 
-ghost use Rattle.std.specs.Prelude.{◌≡◌, ◌≤◌, ◌++◌, length, codes, decimal};
+ghost use Rattle.std.specs.Prelude.{◌≡◌, ◌≤◌, ◌++◌, length, codes, decimal, None};
 ghost use Rattle.page_sets_lines.specs.Fits.{FitsAt};
 ghost use Rattle.page_scopes_phrases.specs.Outcomes.{GivesOutcome};
-ghost use Rattle.page_scopes_phrases.specs.Phrases.{phrase_view};
+ghost use Rattle.page_scopes_phrases.specs.Phrases.{own_phrase, phrase_view};
 ghost use Rattle.page_scopes_blocks.specs.Items as items;
+ghost use Rattle.page_sets_lines.specs.declared.events.Join.TheVariants.{Apart};
 
 use crate::tags::{TagPlace, give_phrase_tag};
 use arrayvec::ArrayVec;
@@ -32,7 +33,7 @@ fn number_text(number: u32) -> NumberText
 // A mark at its macro.
 fn mark_phrase<'a>(place: Place, mark: &'a [u8]) -> Phrase<&'a [u8]>
     requires { length mark.now ≤ 48 }
-    ensures seen { phrase_view result ≡ items.mark_phrase place mark.now }
+    ensures seen { phrase_view result ≡ own_phrase place mark.now None Apart Apart }
     ensures fits { FitsAt result.column result.text.now }
 {
     Phrase::own(place, mark, None, Join::Apart, Join::Apart)

@@ -1,10 +1,15 @@
 //! The columns of the words of `Nm` that begin a row of the SYNOPSIS: later rows are as many further in (mdoc(7), `Nm`).
 
-ghost use Rattle.std.specs.Prelude.{◌≡◌, ◌≤◌, ◌*◌};
+ghost use Rattle.std.specs.Prelude.{◌≡◌, ◌≤◌, ◌*◌, Some};
 ghost use Rattle.page_core_base.specs.declared.limits.TheConstants.{LINE};
+ghost use Rattle.page_roff_syntax.specs.Arguments.{is_quoted};
 ghost use Rattle.page_scopes_blocks.specs.NameHangs as hangs;
+ghost use Rattle.page_scopes_text.specs.Names.{name_columns};
 ghost use Rattle.page_sets_lines.specs.Fits.{KindFits, FitsAt};
 ghost use Rattle.page_sets_lines.specs.Events.{kind_view, word_view};
+ghost use Rattle.page_sets_lines.specs.declared.events.EventKind.TheVariants as kinds;
+ghost use Rattle.page_sets_lines.specs.declared.leaves.Leaf.TheVariants as leaves;
+ghost use Rattle.page_sets_lines.specs.declared.line_steps.LineStep.TheVariants as steps;
 
 use page_core_base::Output;
 use page_scopes_layout::MARGIN;
@@ -23,7 +28,7 @@ fn columns_after(so_far: u16, columns: u32) -> u16
 // Counts a word of this many columns.
 fn count(columns: u32, so_far: u16, running: &mut Running)
     requires { columns ≤ 1000 * LINE }
-    ensures { running.new ≡ hangs.counted (Some so_far) columns running.old }
+    ensures { running.new ≡ hangs.counted (Some so_far) (Some columns) running.old }
 {
     running.line.name_columns = Some(columns_after(so_far, columns));
 }
@@ -32,7 +37,8 @@ fn count(columns: u32, so_far: u16, running: &mut Running)
 #[inline(never)]
 fn count_word(output: Output, word: &Word<&[u8]>, so_far: u16, running: &mut Running)
     requires { FitsAt word.now.arg.column word.now.arg.text.now }
-    ensures { running.new ≡ hangs.counted (Some so_far) (hangs.word_columns output (word_view word.now)) running.old }
+    ensures { let word = word_view word.now
+        in running.new ≡ hangs.counted (Some so_far) (Some (name_columns output (is_quoted word.arg.quoting) word.arg.text)) running.old }
 {
     count(
         name_columns(output, word.arg.is_quoted(), word.arg.text),
@@ -44,7 +50,7 @@ fn count_word(output: Output, word: &Word<&[u8]>, so_far: u16, running: &mut Run
 // Counts the name of the manual.
 #[inline(never)]
 fn count_manual_name(output: Output, name: &Option<ManualName>, so_far: u16, running: &mut Running)
-    ensures { running.new ≡ hangs.counted (Some so_far) (hangs.manual_columns output name.now) running.old }
+    ensures { running.new ≡ hangs.counted (Some so_far) (hangs.kind_columns output (kinds.Leaf (leaves.Step steps.ManualName)) name.now) running.old }
 {
     match name {
         Some(name) => count(

@@ -3,8 +3,9 @@
 ghost use Rattle.std.specs.Prelude.{◌≡◌};
 ghost use Rattle.page_core_base.specs.Latches.{Came};
 ghost use Rattle.page_sets_lines.specs.Fits.{ArgumentFits, FitsAt};
-ghost use Rattle.page_scopes_phrases.specs.Outcomes.{GivesOutcome};
-ghost use Rattle.page_scopes_phrases.specs.Phrases.{phrase_view};
+ghost use Rattle.page_scopes_phrases.specs.Outcomes.{GivesOutcome, followed_by};
+ghost use Rattle.page_scopes_phrases.specs.Phrases.{phrase_outcome, phrase_view};
+ghost use Rattle.page_scopes_phrases.specs.LineWords.{line_word};
 ghost use Rattle.page_scopes_blocks.specs.Tags as tags;
 ghost use Rattle.page_sets_lines.specs.Events.{word_view};
 
@@ -47,7 +48,7 @@ fn after_tag(before: Context, context: Context) -> Context
 
 // What pads a tag takes the place of a blank.
 fn pad(running: &mut Running)
-    ensures { running.new ≡ tags.padded running.old }
+    ensures { running.new ≡ record running.old { gap = 0 } }
 {
     running.gap = 0;
 }
@@ -89,7 +90,7 @@ fn give_tag_phrase<O: PieceOut>(
 )
     requires { FitsAt phrase.now.column phrase.now.text.now }
     ensures { GivesOutcome O.left out.old
-        (tags.tag_phrase line (phrase_view phrase.now) before.now context.old running.old)
+        (followed_by (phrase_outcome line (phrase_view phrase.now) context.old running.old) (tags.tag_ended before.now))
         out.new context.new running.new }
 {
     give_phrase(out, line, phrase, context, running);
@@ -127,7 +128,7 @@ fn give_tag_words<O: PieceOut>(
 )
     requires { ArgumentFits (word_view word.now).arg }
     ensures { GivesOutcome O.left out.old
-        (tags.tag_words line (word_view word.now) before.now context.old running.old)
+        (followed_by (line_word line (word_view word.now) context.old running.old) (tags.tag_ended before.now))
         out.new context.new running.new }
 {
     give_line_word(out, line, word, context, running);

@@ -1,11 +1,13 @@
 //! The widths that the arguments of `Bl` give (mdoc(7), `Bl`).
 
-ghost use Rattle.std.specs.Prelude.{◌≡◌, ◌≤◌, length};
+ghost use Rattle.std.specs.Prelude.{◌≡◌, ◌≤◌, length, option_map, unwrap_or};
 ghost use Rattle.page_core_base.specs.Latches.{Came};
 ghost use Rattle.page_roff_syntax.specs.Arguments.{argument_view};
 ghost use Rattle.page_scopes_blocks.specs.ListWidths as widths;
 ghost use Rattle.page_scopes_blocks.specs.ListWidths.{LengthFits};
+ghost use Rattle.page_scopes_layout.specs.Margins.{hold};
 ghost use Rattle.page_sets_lines.specs.Events.{given_view};
+ghost use Rattle.page_sets_lines.specs.declared.lists.ListKind.TheVariants.{Column};
 
 use page_core_base::{LINE, Limit, NoteKind, Output, PieceOut, Place};
 use page_roff_syntax::{Argument, Arguments};
@@ -51,7 +53,7 @@ fn hangs(kind: ListKind) -> bool
 // The width of a list, in columns.
 #[tactic(auto, using(crate::proofs::ListLemmas::hold_bound))]
 fn width_of(kind: ListKind, width: Option<i32>) -> u32
-    ensures value { result ≡ widths.width_of kind width }
+    ensures value { result ≡ unwrap_or (option_map hold width) (widths.default_width kind) }
     ensures bound { result ≤ 1000 }
 {
     match width {
@@ -123,7 +125,7 @@ impl GivenWidths {
 // The widths of the columns that the arguments in a text give.
 fn columns_in(output: Output, options: &[u8]) -> GivenWidths
     requires { length options.now ≤ LINE }
-    ensures { result ≡ widths.columns_in output options.now }
+    ensures { result ≡ widths.columns_of output Column options.now }
 {
     let mut arguments = Arguments::new(options, 1);
     let mut so_far = ListOptions::new();

@@ -1,6 +1,6 @@
 -- What opens and closes nothing: what each leaf gives, and what it leaves. Source: man(7), mdoc(7); roff(7).
 use Rattle.std.specs.Prelude.{ℕ, nat_lt, Bool, true, false, ◌||◌, ◌&&◌, if◌then◌else◌, List, [], ◌∷◌, length, Option, None, Some, unwrap_or}
-use Rattle.page_core_base.specs.Pieces.{Item, shown}
+use Rattle.page_core_base.specs.Pieces.{shown}
 use Rattle.page_core_base.specs.declared.cells.Font.{Font}
 use Rattle.page_core_base.specs.declared.note_kinds.NoteKind.TheVariants.{BlankFill}
 use Rattle.page_core_base.specs.declared.pieces.Piece.TheVariants as pieces
@@ -10,7 +10,7 @@ use Rattle.page_scopes_words.specs.Settings.{set_to}
 use Rattle.page_scopes_layout.specs.declared.contexts.Context.{Context}
 use Rattle.page_scopes_phrases.specs.Cells.{in_columns, white_columns}
 use Rattle.page_scopes_phrases.specs.LineWords.{generated_word}
-use Rattle.page_scopes_phrases.specs.Outcomes.{Outcome, nothing, row_margin_items}
+use Rattle.page_scopes_phrases.specs.Outcomes.{Outcome, at_margins, nothing, row_break}
 use Rattle.page_scopes_leaves.specs.Requests.{given_rows, given_rows_notes, literal, request}
 use Rattle.page_scopes_phrases.specs.Runnings.{row_ended, with_content}
 use Rattle.page_scopes_leaves.specs.Steps.{step_outcome}
@@ -23,75 +23,44 @@ use Rattle.page_sets_lines.specs.declared.leaves.Leaf.TheVariants as leaves
 -- ---- lines without words
 
 -- a blank line is a row, where rows are kept; else a blank row, which is reported
-abbrev pub blank_items : Bool → Place → List Item
-blank_items true place = shown pieces.RowEnd ∷ []
-blank_items false place = says BlankFill place [] ∷ shown (pieces.Space 1) ∷ []
-
 abbrev pub blank_line : Place → Context → Running → Outcome
 blank_line place c r = record {
-  items = blank_items c.is_literal.value place;
+  items = if c.is_literal.value then shown pieces.RowEnd ∷ [] else says BlankFill place [] ∷ shown (pieces.Space 1) ∷ [];
   context = c;
   running = row_ended (with_content r);
 }
 
 -- blanks and tabs are a row, where rows are kept; in columns each tab begins the next one
-abbrev pub with_row_words : Running → Running
-with_row_words r = record r { line = record r.line { has_row_words = true } }
-
 abbrev pub white_row : Place → List ℕ → Context → Running → Outcome
 white_row place text c r = record {
   items = white_cells place text;
   context = record c { has_row = c.has_row || nat_lt 0 (length text) };
-  running = with_row_words r;
+  running = record r { line = record r.line { has_row_words = true } };
 }
 
 abbrev pub kept_line : Place → List ℕ → Context → Running → Outcome
 kept_line place text c r = if in_columns c && has_tab text then white_columns text c r else white_row place text c r
 
 -- else they end the row; a line of nothing does nothing
-abbrev pub filled_line : List ℕ → Context → Running → Outcome
-filled_line [] c r = nothing c r
-filled_line (byte ∷ bytes) c r = record { items = shown pieces.Break ∷ []; context = c; running = row_ended r }
-
-abbrev pub wordless_line : Bool → Place → List ℕ → Context → Running → Outcome
+abbrev pub wordless_line : (literal : Bool) → Place → List ℕ → Context → Running → Outcome
 wordless_line true place text c r = kept_line place text c r
-wordless_line false place text c r = filled_line text c r
+wordless_line false place [] c r = nothing c r
+wordless_line false place (byte ∷ bytes) c r = row_break c r
 
 -- ---- macros
 
 -- `PD`: the blank rows before a paragraph
-abbrev pub distance_notes : Place → Option (List ℕ) → List Item
-distance_notes place rows = given_rows_notes place rows
-
-abbrev pub with_distance : Option (List ℕ) → Context → Context
-with_distance rows c = record c { distance = set_to (given_rows rows) }
-
 abbrev pub distance : Place → Option (List ℕ) → Context → Running → Outcome
-distance place rows c r = record { items = distance_notes place rows; context = with_distance rows c; running = r }
+distance place rows c r = record { items = given_rows_notes place rows; context = record c { distance = set_to (given_rows rows) }; running = r }
 
 -- the words of a font macro (`B`, `I`, `SM`, `SB`) are in its font; after them the fonts are those before them
 abbrev pub fonts : Option Font → Context → Running → Outcome
-fonts (Some font) c r = record {
-  items = [];
-  context = font_begun font c;
-  running = record r { line = record r.line { fonts_before = Some c.fonts } };
-}
-fonts None c r = record {
-  items = [];
-  context = record c { fonts = unwrap_or r.line.fonts_before c.fonts };
-  running = record r { line = record r.line { fonts_before = None } };
-}
+fonts (Some font) c r = nothing (font_begun font c) (record r { line = record r.line { fonts_before = Some c.fonts } })
+fonts None c r = nothing (record c { fonts = unwrap_or r.line.fonts_before c.fonts }) (record r { line = record r.line { fonts_before = None } })
 
 -- `TQ`: a further tag is in front of text that hangs by the prevailing indent
-abbrev pub hung : Context → Context
-hung c = record c { hang = c.prevailing; first = None }
-
 abbrev pub further_tag : Context → Running → Outcome
-further_tag c r = record {
-  items = row_margin_items (hung c);
-  context = hung c;
-  running = row_ended r;
-}
+further_tag c r = at_margins (record c { hang = c.prevailing; first = None }) r
 
 -- ---- one row for each leaf; the name is that of the manual
 

@@ -22,15 +22,11 @@ cells_after place font part (byte ∷ bytes) =
     if byte == 9 then (part_items place font part ++ shown (pieces.Tab font place) ∷ cells_after place font [] bytes)
     else cells_after place font (part ++ byte ∷ []) bytes
 
--- the characters as they are, in the font in use
-abbrev pub cells : Place → Font → List ℕ → List Item
-cells place font text = cells_after place font [] text
-
--- a row of its own, which is kept
+-- a row of its own, which is kept: the characters as they are, in the font in use
 unfoldable pub raw_line : Place → List ℕ → Context → Running → Outcome
 raw_line place text c r = record {
   items = shown pieces.Break ∷ shown (pieces.Literal true)
-      ∷ (cells place c.fonts.value.font text ++ shown pieces.RowEnd ∷ shown (pieces.Literal c.is_literal.value) ∷ []);
+      ∷ (cells_after place c.fonts.value.font [] text ++ shown pieces.RowEnd ∷ shown (pieces.Literal c.is_literal.value) ∷ []);
   context = record c { has_row = c.has_row || nat_lt 0 (length text) };
   running = row_ended (with_content (record r { heading = heading_broken c.part r.heading }));
 }

@@ -1,5 +1,5 @@
 -- Requests that change rows: what they give, and what they leave. Source: roff(7), "REQUEST REFERENCE".
-use Rattle.std.specs.Prelude.{ℕ, Bool, false, ◌==◌, ◌||◌, List, [], ◌∷◌, ◌++◌, Option, None, Some, if◌then◌else◌, ℤ, pos, ◌+ℤ◌}
+use Rattle.std.specs.Prelude.{ℕ, Bool, false, ◌==◌, ◌||◌, List, [], ◌∷◌, ◌++◌, Option, None, Some, option_map, unwrap_or, if◌then◌else◌, ℤ, pos, ◌+ℤ◌}
 use Rattle.page_core_base.specs.Pieces.{Item, shown}
 use Rattle.page_core_base.specs.declared.pieces.Piece.TheVariants as pieces
 use Rattle.page_core_base.specs.declared.places.Place.{Place}
@@ -11,7 +11,7 @@ use Rattle.page_roff_syntax.specs.declared.quotes.Argument.{Argument}
 use Rattle.page_scopes_words.specs.Settings.{set_to}
 use Rattle.page_scopes_layout.specs.declared.contexts.Context.{Context}
 use Rattle.page_scopes_words.specs.declared.settings.Setting.{Setting}
-use Rattle.page_scopes_phrases.specs.Outcomes.{Outcome, row_margin_items}
+use Rattle.page_scopes_phrases.specs.Outcomes.{Outcome, after_notes, at_margins, row_break}
 use Rattle.page_scopes_phrases.specs.Runnings.{row_ended, with_content}
 use Rattle.page_scopes_phrases.specs.declared.runnings.Running.{Running}
 use Rattle.page_scopes_text.specs.Numbers.{columns_notes, columns_value, rows_notes, rows_value}
@@ -24,15 +24,10 @@ use Rattle.page_sets_lines.specs.declared.leaves.Request.TheVariants as requests
 -- ---- `sp`: rows, one where no number is given
 
 abbrev pub given_rows : Option (List ℕ) → ℕ
-given_rows None = 1
-given_rows (Some text) = rows_value text
+given_rows rows = unwrap_or (option_map rows_value rows) 1
 
 abbrev pub given_rows_notes : Place → Option (List ℕ) → List Item
-given_rows_notes place None = []
-given_rows_notes place (Some text) = rows_notes place text
-
-abbrev pub space_items : Place → Option (List ℕ) → List Item
-space_items place rows = given_rows_notes place rows ++ shown (pieces.Space (given_rows rows)) ∷ []
+given_rows_notes place rows = unwrap_or (option_map (rows_notes place) rows) []
 
 -- ---- `in`: the shift of margins; a number with a sign changes it, one without sets it; none sets it to 0
 
@@ -40,31 +35,20 @@ abbrev pub has_sign : List ℕ → Bool
 has_sign [] = false
 has_sign (byte ∷ bytes) = byte == 43 || byte == 45
 
-abbrev pub shift_by : List ℕ → ℤ → ℤ
-shift_by text shift = if has_sign text then in_range (shift +ℤ columns_value text) else columns_value text
-
 abbrev pub given_shift : Option (List ℕ) → ℤ → ℤ
 given_shift None shift = pos 0
-given_shift (Some text) shift = shift_by text shift
+given_shift (Some text) shift = if has_sign text then in_range (shift +ℤ columns_value text) else columns_value text
 
 abbrev pub given_shift_notes : Place → Option (List ℕ) → List Item
-given_shift_notes place None = []
-given_shift_notes place (Some text) = columns_notes place text
+given_shift_notes place columns = unwrap_or (option_map (columns_notes place) columns) []
 
 abbrev pub shifted : Option (List ℕ) → Context → Context
 shifted columns c = record c { shift = set_to (given_shift columns c.shift.value) }
-
-abbrev pub shift_items : Place → Option (List ℕ) → Context → List Item
-shift_items place columns c = given_shift_notes place columns ++ row_margin_items (shifted columns c)
 
 -- ---- `ft`: fonts; without a name the former one; a name that no font has changes nothing
 
 abbrev pub fonts_named : Face → Setting Fonts → Setting Fonts
 fonts_named face fonts = record { value = face_fonts face fonts.value; is_set = fonts.is_set || is_known face }
-
-abbrev pub given_face : Option (Argument (List ℕ)) → Face
-given_face None = meanings.former
-given_face (Some name) = face_of name.text
 
 -- messages show a pair of quotes in a quoted name as one
 abbrev pub font_notes : Place → Option (Argument (List ℕ)) → List Item
@@ -72,7 +56,7 @@ font_notes place None = []
 font_notes place (Some name) = face_notes (is_quoted name.quoting) place (face_of name.text)
 
 abbrev pub with_font_named : Option (Argument (List ℕ)) → Context → Context
-with_font_named name c = record c { fonts = fonts_named (given_face name) c.fonts }
+with_font_named name c = record c { fonts = fonts_named (unwrap_or (option_map (λ name. face_of name.text) name) meanings.former) c.fonts }
 
 -- ---- rows that are kept (`nf`, `EX`), or filled (`fi`, `EE`)
 
@@ -86,20 +70,12 @@ literal on c r = record {
 -- ---- br, sp, ft, in, nf and fi
 
 abbrev pub request : Place → Request (List ℕ) → Context → Running → Outcome
-request place requests.Break c r = record { items = shown pieces.Break ∷ []; context = c; running = row_ended r }
+request place requests.Break c r = row_break c r
 request place (requests.Space rows) c r = record {
-  items = space_items place rows;
+  items = given_rows_notes place rows ++ shown (pieces.Space (given_rows rows)) ∷ [];
   context = c;
   running = row_ended (with_content r);
 }
-request place (requests.Font name) c r = record {
-  items = font_notes place name;
-  context = with_font_named name c;
-  running = r;
-}
-request place (requests.Shift columns) c r = record {
-  items = shift_items place columns c;
-  context = shifted columns c;
-  running = row_ended r;
-}
+request place (requests.Font name) c r = record { items = font_notes place name; context = with_font_named name c; running = r }
+request place (requests.Shift columns) c r = after_notes (given_shift_notes place columns) (at_margins (shifted columns c) r)
 request place (requests.Literal on) c r = literal on c r

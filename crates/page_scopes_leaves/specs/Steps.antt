@@ -1,5 +1,5 @@
 -- What macros of mdoc(7) change in their line, or print there. Source: mdoc(7), "MACRO REFERENCE".
-use Rattle.std.specs.Prelude.{ℕ, max, Bool, not, List, [], ◌∷◌, Option, None, Some, if◌then◌else◌}
+use Rattle.std.specs.Prelude.{ℕ, max, Bool, not, ◌&&◌, List, [], ◌∷◌, Option, None, Some, unwrap_or, if◌then◌else◌}
 use Rattle.page_core_base.specs.Pieces.{shown}
 use Rattle.page_core_base.specs.declared.note_kinds.NoteKind.TheVariants.{SkipPara}
 use Rattle.page_core_base.specs.declared.pieces.Piece.TheVariants as pieces
@@ -12,11 +12,11 @@ use Rattle.page_scopes_phrases.specs.Cells.{column_step}
 use Rattle.page_scopes_layout.specs.declared.contexts.SeriesSoFar.{SeriesSoFar}
 use Rattle.page_scopes_layout.specs.declared.contexts.SeriesSoFar.TheVariants as series
 use Rattle.page_scopes_phrases.specs.FunctionEnds.{function_end}
-use Rattle.page_scopes_phrases.specs.LineWords.{argument_word, line_word, generated_word}
+use Rattle.page_scopes_phrases.specs.LineWords.{argument_word, line_word, generated_word, own_word}
 use Rattle.page_scopes_phrases.specs.ManualNames.{manual_name}
 use Rattle.page_scopes_layout.specs.Headings.{in_synopsis}
-use Rattle.page_scopes_phrases.specs.Outcomes.{Outcome, nothing, row_margin_items}
-use Rattle.page_scopes_phrases.specs.Phrases.{blanks_part, joined_gap}
+use Rattle.page_scopes_phrases.specs.Outcomes.{Outcome, at_margins, nothing, row_break, with_running}
+use Rattle.page_scopes_phrases.specs.Phrases.{joined_gap}
 use Rattle.page_scopes_phrases.specs.Runnings.{counting, row_ended}
 use Rattle.page_scopes_phrases.specs.declared.kept_texts.KeptText.{KeptText}
 use Rattle.page_scopes_phrases.specs.declared.runnings.Running.{Running}
@@ -25,7 +25,6 @@ use Rattle.page_sets_names.specs.MacroNames.{body_paragraph_name}
 use Rattle.page_sets_lines.specs.declared.events.Join.TheVariants.{Apart, Glued}
 use Rattle.page_sets_names.specs.declared.generated_texts.GeneratedText.TheVariants.{Comma}
 use Rattle.page_sets_names.specs.declared.generated_texts.GeneratedText.TheVariants as owns
-use Rattle.page_sets_lines.specs.declared.leaves.GeneratedWord.{GeneratedWord}
 use Rattle.page_sets_lines.specs.declared.line_steps.LineStep.{LineStep}
 use Rattle.page_sets_lines.specs.declared.line_steps.LineStep.TheVariants as steps
 use Rattle.page_sets_lines.specs.declared.line_steps.SynopsisStep.{SynopsisStep}
@@ -34,7 +33,7 @@ use Rattle.page_sets_names.specs.declared.macro_names.BodyParagraphName.{BodyPar
 
 -- `Ns`: the next word is glued to the one before, unless blanks part them
 abbrev pub glued : Context → Running → Running
-glued c r = record r { gap = joined_gap Glued (blanks_part r.line.ends_blank c) r.gap }
+glued c r = record r { gap = joined_gap Glued (r.line.ends_blank && not c.is_literal.value) r.gap }
 
 -- `Pp`, `Lp`: fonts and the shift stay as they are; skipped where there is nothing before them since the heading
 abbrev pub body_paragraph : Place → BodyParagraphName → Context → Running → Outcome
@@ -46,26 +45,13 @@ body_paragraph place name c r =
     }
     else record { items = says SkipPara place (body_paragraph_name name) ∷ []; context = c; running = r }
 
--- a field of a reference (`%A` and so on): a comma parts it from the one before
-abbrev pub comma : GeneratedWord
-comma = record { text = Comma; font = None; before = Glued; after = Apart }
-
-abbrev pub next_field : SeriesSoFar → Place → Context → Running → Outcome
-next_field series.Outside place c r = nothing c r
-next_field series.Empty place c r = record { items = []; context = record c { fields = series.Begun }; running = r }
-next_field series.Begun place c r = generated_word place comma c r
-
--- so are the arguments of a function parted (`Fo`, `Fa`)
-abbrev pub next_argument : SeriesSoFar → Place → Context → Running → Outcome
-next_argument series.Outside place c r = nothing c r
-next_argument series.Empty place c r = record { items = []; context = record c { arguments = series.Begun }; running = r }
-next_argument series.Begun place c r = generated_word place comma c r
+-- a comma parts a field of a reference (`%A` and so on) from the one before, and an argument of a function too (`Fo`, `Fa`); where it is the first, they have begun
+abbrev pub next_of : SeriesSoFar → (begun : Context) → Place → Context → Running → Outcome
+next_of series.Outside begun place c r = nothing c r
+next_of series.Empty begun place c r = nothing begun r
+next_of series.Begun begun place c r = generated_word place (own_word Comma Glued Apart) c r
 
 -- ---- the section SYNOPSIS
-
--- `In`: this comes before its file
-abbrev pub include_word : GeneratedWord
-include_word = record { text = owns.Include; font = None; before = Apart; after = Apart }
 
 abbrev pub name_hung : Option ℕ → Context → Running → Outcome
 name_hung None c r = nothing c r
@@ -75,44 +61,30 @@ name_hung (Some columns) c r = record {
   running = counting None r;
 }
 
+-- for `In` a word comes before its file
 abbrev pub synopsis_step : Place → SynopsisStep → Context → Running → Outcome
-synopsis_step place Break c r = record { items = shown pieces.Break ∷ []; context = c; running = row_ended r }
-synopsis_step place Include c r = generated_word place include_word c r
-synopsis_step place NameBegins c r = record {
-  items = row_margin_items (name_begun c);
-  context = name_begun c;
-  running = counting (Some 0) (row_ended r);
-}
+synopsis_step place Break c r = row_break c r
+synopsis_step place Include c r = generated_word place (own_word owns.Include Apart Apart) c r
+synopsis_step place NameBegins c r = with_running (counting (Some 0)) (at_margins (name_begun c) r)
 synopsis_step place NameEnds c r = name_hung r.line.name_columns c r
-
-abbrev pub if_synopsis : Place → SynopsisStep → Context → Running → Outcome
-if_synopsis place step c r = if in_synopsis c then synopsis_step place step c r else nothing c r
 
 -- ---- `Sm`
 
-abbrev pub spacing_after : Option Bool → Bool → Bool
-spacing_after None before = not before
-spacing_after (Some on) before = on
-
 -- where there are blanks between words again, there is one here
 abbrev pub spaced : Bool → Context → Running → Outcome
-spaced on c r = record {
-  items = [];
-  context = record c { has_spacing = set_to on };
-  running = record r { gap = if on then max r.gap 1 else r.gap };
-}
+spaced on c r = nothing (record c { has_spacing = set_to on }) (record r { gap = if on then max r.gap 1 else r.gap })
 
 -- ---- all of them
 
 -- the address of `Lk` is a word
 abbrev pub step_outcome : Place → LineStep (List ℕ) → Option KeptText → Context → Running → Outcome
 step_outcome place steps.NextColumn name c r = column_step place c.list c r
-step_outcome place steps.Glue name c r = record { items = []; context = c; running = glued c r }
+step_outcome place steps.Glue name c r = nothing c (glued c r)
 step_outcome place (steps.BodyParagraph paragraph) name c r = body_paragraph place paragraph c r
 step_outcome place (steps.Uri uri) name c r = line_word place.line (argument_word None Apart uri) c r
 step_outcome place steps.ManualName name c r = manual_name place name c r
-step_outcome place steps.NextField name c r = next_field c.fields place c r
-step_outcome place steps.NextArgument name c r = next_argument c.arguments place c r
+step_outcome place steps.NextField name c r = next_of c.fields (record c { fields = series.Begun }) place c r
+step_outcome place steps.NextArgument name c r = next_of c.arguments (record c { arguments = series.Begun }) place c r
 step_outcome place steps.FunctionEnd name c r = function_end place c r
-step_outcome place (steps.Spacing on) name c r = spaced (spacing_after on c.has_spacing.value) c r
-step_outcome place (steps.Synopsis step) name c r = if_synopsis place step c r
+step_outcome place (steps.Spacing on) name c r = spaced (unwrap_or on (not c.has_spacing.value)) c r
+step_outcome place (steps.Synopsis step) name c r = if in_synopsis c then synopsis_step place step c r else nothing c r

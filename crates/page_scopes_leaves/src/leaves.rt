@@ -4,7 +4,9 @@ ghost use Rattle.std.specs.Prelude.{◌≡◌};
 ghost use Rattle.page_core_base.specs.Latches.{Came};
 ghost use Rattle.page_sets_lines.specs.Fits.{LeafFits};
 ghost use Rattle.page_scopes_leaves.specs.Leaves as leaves;
+ghost use Rattle.page_scopes_leaves.specs.Requests.{given_rows, given_rows_notes};
 ghost use Rattle.page_scopes_phrases.specs.Outcomes.{GivesOutcome};
+ghost use Rattle.page_scopes_words.specs.Settings.{set_to};
 ghost use Rattle.page_sets_lines.specs.Events.{leaf_view, text_view};
 
 use crate::margins::give_row_margins;
@@ -76,8 +78,8 @@ fn give_wordless_line<O: PieceOut>(
 
 // Sets the distance of paragraphs: `PD`.
 fn give_distance<O: PieceOut>(out: &mut O, place: Place, rows: Option<&[u8]>, context: &mut Context)
-    ensures came { Came O.left out.old (leaves.distance_notes place (text_view rows.entry)) out.new }
-    ensures context { context.new ≡ leaves.with_distance (text_view rows.entry) context.old }
+    ensures came { Came O.left out.old (given_rows_notes place (text_view rows.entry)) out.new }
+    ensures context { context.new ≡ record context.old { distance = set_to (given_rows (text_view rows.entry)) } }
 {
     let rows = give_given_rows(out, place, rows);
     context.distance = Setting::set_to(rows);

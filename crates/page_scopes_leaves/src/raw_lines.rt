@@ -1,5 +1,6 @@
 //! Lines of tables, equations and pictures: rows of their characters as they are (roff(7), `TS`, `EQ` and `PS`).
 
+ghost use Rattle.std.specs.Prelude.{[]};
 ghost use Rattle.page_core_base.specs.Latches.{Came};
 ghost use Rattle.page_scopes_phrases.specs.Outcomes.{GivesOutcome};
 ghost use Rattle.page_scopes_leaves.specs.RawLines as raw;
@@ -19,7 +20,7 @@ fn give_part<O: PieceOut>(out: &mut O, place: Place, font: Font, text: &[u8])
 
 // Gives characters as they are.
 fn give_cells<O: PieceOut>(out: &mut O, place: Place, font: Font, text: &[u8])
-    ensures { Came O.left out.old (raw.cells place font text.now) out.new }
+    ensures { Came O.left out.old (raw.cells_after place font [] text.now) out.new }
 {
     let mut start = 0;
     for (index, byte) in text.iter().enumerate() {

@@ -1,10 +1,12 @@
 //! Requests that change rows (roff(7), "REQUEST REFERENCE").
 
-ghost use Rattle.std.specs.Prelude.{◌≡◌, Some};
+ghost use Rattle.std.specs.Prelude.{◌≡◌, ◌∷◌, ◌++◌, [], Some};
 ghost use Rattle.page_core_base.specs.Latches.{Came};
+ghost use Rattle.page_core_base.specs.Pieces.{shown};
+ghost use Rattle.page_core_base.specs.declared.pieces.Piece.TheVariants.{Space};
 ghost use Rattle.page_core_escapes.specs.Escapes.{face_view};
 ghost use Rattle.page_roff_syntax.specs.Arguments.{argument_view};
-ghost use Rattle.page_scopes_phrases.specs.Outcomes.{GivesOutcome};
+ghost use Rattle.page_scopes_phrases.specs.Outcomes.{GivesOutcome, row_margin_items};
 ghost use Rattle.page_scopes_leaves.specs.Requests as requests;
 ghost use Rattle.page_scopes_phrases.specs.Runnings.{row_ended, with_content};
 ghost use Rattle.page_scopes_text.specs.Numbers.{columns_notes};
@@ -33,7 +35,8 @@ pub(crate) fn give_given_rows<O: PieceOut>(out: &mut O, place: Place, rows: Opti
 
 // Gives blank rows: `sp`.
 fn give_space<O: PieceOut>(out: &mut O, place: Place, rows: Option<&[u8]>, running: &mut Running)
-    ensures came { Came O.left out.old (requests.space_items place (text_view rows.entry)) out.new }
+    ensures came { Came O.left out.old
+        (requests.given_rows_notes place (text_view rows.entry) ++ shown (Space (requests.given_rows (text_view rows.entry))) ∷ []) out.new }
     ensures running { running.new ≡ row_ended (with_content running.old) }
 {
     let rows = give_given_rows(out, place, rows);
@@ -54,7 +57,7 @@ fn has_sign(text: &[u8]) -> bool
 
 // The shift after `in` with a number of columns.
 fn shift_by<O: PieceOut>(out: &mut O, place: Place, text: &[u8], shift: i32) -> i32
-    ensures value { result ≡ requests.shift_by text.now shift }
+    ensures value { result ≡ requests.given_shift (Some text.now) shift }
     ensures came { Came O.left out.old (columns_notes place text.now) out.new }
 {
     let columns = give_columns(out, place, text);
@@ -99,7 +102,7 @@ fn give_shift<O: PieceOut>(
     running: &mut Running,
 )
     ensures came { Came O.left out.old
-        (requests.shift_items place (text_view columns.entry) context.old) out.new }
+        (requests.given_shift_notes place (text_view columns.entry) ++ row_margin_items (requests.shifted (text_view columns.entry) context.old)) out.new }
     ensures context { context.new ≡ requests.shifted (text_view columns.entry) context.old }
     ensures running { running.new ≡ row_ended running.old }
 {

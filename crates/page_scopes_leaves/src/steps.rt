@@ -1,10 +1,15 @@
 //! What macros of mdoc(7) change in their line, or print there (mdoc(7), "MACRO REFERENCE").
 
-ghost use Rattle.std.specs.Prelude.{◌≡◌};
+ghost use Rattle.std.specs.Prelude.{◌≡◌, not, unwrap_or, if◌then◌else◌};
 ghost use Rattle.page_sets_lines.specs.Fits.{StepFits};
-ghost use Rattle.page_scopes_phrases.specs.Outcomes.{GivesOutcome};
+ghost use Rattle.page_scopes_layout.specs.Headings.{in_synopsis};
+ghost use Rattle.page_scopes_layout.specs.declared.contexts.SeriesSoFar.TheVariants.{Begun};
+ghost use Rattle.page_scopes_phrases.specs.LineWords.{own_word};
+ghost use Rattle.page_scopes_phrases.specs.Outcomes.{GivesOutcome, nothing};
 ghost use Rattle.page_scopes_leaves.specs.Steps as steps;
 ghost use Rattle.page_sets_lines.specs.Events.{step_view};
+ghost use Rattle.page_sets_lines.specs.declared.events.Join.TheVariants.{Apart, Glued};
+ghost use Rattle.page_sets_names.specs.declared.generated_texts.GeneratedText.TheVariants.{Comma, Include};
 
 use crate::margins::give_row_margins;
 use page_core_base::{NoteKind, Piece, PieceOut, Place};
@@ -50,7 +55,7 @@ fn give_body_paragraph<O: PieceOut>(
 
 // The comma between two fields of a reference.
 fn comma() -> GeneratedWord
-    ensures { result ≡ steps.comma }
+    ensures { result ≡ own_word Comma Glued Apart }
 {
     GeneratedWord {
         text: GeneratedText::Comma,
@@ -68,7 +73,7 @@ fn give_next_field<O: PieceOut>(
     running: &mut Running,
 )
     ensures { GivesOutcome O.left out.old
-        (steps.next_field context.old.fields place context.old running.old)
+        (steps.next_of context.old.fields (record context.old { fields = Begun }) place context.old running.old)
         out.new context.new running.new }
 {
     match context.fields {
@@ -86,7 +91,7 @@ fn give_next_argument<O: PieceOut>(
     running: &mut Running,
 )
     ensures { GivesOutcome O.left out.old
-        (steps.next_argument context.old.arguments place context.old running.old)
+        (steps.next_of context.old.arguments (record context.old { arguments = Begun }) place context.old running.old)
         out.new context.new running.new }
 {
     match context.arguments {
@@ -98,7 +103,7 @@ fn give_next_argument<O: PieceOut>(
 
 // What is before the file of `In`.
 fn include_word() -> GeneratedWord
-    ensures { result ≡ steps.include_word }
+    ensures { result ≡ own_word Include Apart Apart }
 {
     GeneratedWord {
         text: GeneratedText::Include,
@@ -158,7 +163,7 @@ fn give_if_synopsis<O: PieceOut>(
     running: &mut Running,
 )
     ensures { GivesOutcome O.left out.old
-        (steps.if_synopsis place step context.old running.old)
+        (if in_synopsis context.old then steps.synopsis_step place step context.old running.old else nothing context.old running.old)
         out.new context.new running.new }
 {
     if in_synopsis(context) {
@@ -168,8 +173,8 @@ fn give_if_synopsis<O: PieceOut>(
 
 // Whether blanks are between words from here on: `Sm`.
 fn set_spacing(on: Option<bool>, context: &mut Context, running: &mut Running)
-    ensures context { context.new ≡ (steps.spaced (steps.spacing_after on context.old.has_spacing.value) context.old running.old).context }
-    ensures running { running.new ≡ (steps.spaced (steps.spacing_after on context.old.has_spacing.value) context.old running.old).running }
+    ensures context { context.new ≡ (steps.spaced (unwrap_or on (not context.old.has_spacing.value)) context.old running.old).context }
+    ensures running { running.new ≡ (steps.spaced (unwrap_or on (not context.old.has_spacing.value)) context.old running.old).running }
 {
     let on = on.unwrap_or(!context.has_spacing.value);
     context.has_spacing = Setting::set_to(on);

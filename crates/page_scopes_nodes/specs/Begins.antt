@@ -23,7 +23,6 @@ use Rattle.page_sets_names.specs.declared.macro_names.HeadingName.{HeadingName}
 use Rattle.page_sets_names.specs.declared.macro_names.HeadingName.TheVariants as headings
 use Rattle.page_sets_lines.specs.declared.openers.LineOpener.{LineOpener}
 use Rattle.page_sets_lines.specs.declared.openers.LineOpener.TheVariants as lines
-use Rattle.page_sets_lines.specs.declared.openers.Opener.{Opener}
 use Rattle.page_sets_lines.specs.declared.openers.Opener.TheVariants as openers
 use Rattle.page_scopes_nodes.specs.Openers.{opened}
 use Rattle.page_scopes_nodes.specs.declared.page_layouts.PageLayout.{PageLayout}
@@ -32,41 +31,32 @@ use Rattle.page_scopes_nodes.specs.declared.page_layouts.PageLayout.{PageLayout}
 -- `SB`), rows that are alone (`D1`, `Dl`), enclosures and descriptions (`Nd`)
 
 abbrev pub heading_column : HeadingName → ℕ
-heading_column headings.SH = 0
 heading_column headings.SS = 3
-heading_column headings.Sh = 0
 heading_column headings.Ss = 3
+heading_column _ = 0
 
 abbrev pub font_of : FontMacro → Font
-font_of fonts.B = faces.B
 font_of fonts.I = faces.I
 font_of fonts.SM = faces.R
-font_of fonts.SB = faces.B
+font_of _ = faces.B
 
 abbrev pub line_context : LineOpener → Context → Context
 line_context lines.Head c = head_begun c.list c
 line_context (lines.Heading name) c = heading_begun (heading_column name) c
 line_context (lines.Tag name) c = tag_begun c
 line_context (lines.FontWords font_macro) c = font_begun (font_of font_macro) c
-line_context (lines.Enclosure marks) c = c
-line_context lines.Description c = c
 line_context (lines.OneLine name) c = one_line_begun c
+line_context _ c = c
 
 abbrev pub line_running : LineOpener → Running → Running
-line_running lines.Head r = r
 line_running (lines.Heading name) r = record r { gap = 1; heading = no_heading }
-line_running (lines.Tag name) r = r
-line_running (lines.FontWords font_macro) r = r
-line_running (lines.Enclosure marks) r = r
-line_running lines.Description r = r
 line_running (lines.OneLine name) r = row_ended r
+line_running _ r = r
 
 abbrev pub line_front : LineOpener → Context → Running → Outcome
-line_front opener c r = record {
-  items = line_begin_items opener (line_context opener (entered_context c));
-  context = line_context opener (entered_context c);
-  running = line_running opener r;
-}
+line_front opener c r =
+    let front = line_context opener (entered_context c) in
+    record { items = line_begin_items opener front; context = front; running = line_running opener r }
 
 -- then what it prints itself
 abbrev pub line_opened : Place → LineOpener → Context → Running → Outcome
@@ -84,10 +74,6 @@ begun_by page event c r = kind_begun page event event.kind c r
 
 -- ---- what a link keeps
 
-abbrev pub opener_target : Opener (List ℕ) → Option KeptText
-opener_target (openers.Target link target) = Some (kept_of target)
-opener_target _ = None
-
 abbrev pub kept_target : EventKind (List ℕ) → Option KeptText
-kept_target (kinds.Open opener) = opener_target opener
+kept_target (kinds.Open (openers.Target link target)) = Some (kept_of target)
 kept_target _ = None

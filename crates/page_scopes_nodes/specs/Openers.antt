@@ -1,5 +1,5 @@
 -- What the scopes that go on after their line begin with, macro by macro. Source: man(7), "MACRO OVERVIEW"; mdoc(7), "MACRO REFERENCE".
-use Rattle.std.specs.Prelude.{ℕ, ◌+◌, List, [], ◌∷◌, Option, None, Some, option_map, ℤ, pos, if◌then◌else◌}
+use Rattle.std.specs.Prelude.{ℕ, ◌+◌, List, [], ◌∷◌, Option, None, Some, option_map, unwrap_or, pos, if◌then◌else◌}
 use Rattle.page_core_base.specs.Pieces.{Item}
 use Rattle.page_core_base.specs.declared.cells.Font.TheVariants.{B}
 use Rattle.page_core_base.specs.declared.note_kinds.NoteKind.TheVariants.{SkipPara}
@@ -35,24 +35,13 @@ use Rattle.page_scopes_text.specs.Names.{name_columns}
 use Rattle.page_scopes_nodes.specs.Targets.{target_notes}
 use Rattle.page_scopes_nodes.specs.declared.page_layouts.PageLayout.{PageLayout}
 
--- the columns of a number that may be given, and its messages
-abbrev pub given_columns : Option (List ℕ) → Option ℤ
-given_columns number = option_map columns_value number
-
+-- the messages of a number that may be given
 abbrev pub given_notes : Place → Option (List ℕ) → List Item
-given_notes place None = []
-given_notes place (Some text) = columns_notes place text
+given_notes place number = unwrap_or (option_map (columns_notes place) number) []
 
 -- a scope begins in the context of its front, and the row ends
 abbrev pub begun : Label → Context → Running → Outcome
 begun label front r = record { items = begin_items label front; context = front; running = row_ended r }
-
--- `SH`, `SS`, `Sh`, `Ss`: at the page's indent
-abbrev pub section : PageLayout → Context → Running → Outcome
-section page c r = begun labels.Section (section_begun page.indent (entered_context c)) r
-
-abbrev pub subsection : PageLayout → Context → Running → Outcome
-subsection page c r = begun labels.Section (subsection_begun page.indent (entered_context c)) r
 
 -- `PP`, `LP`, `P`: skipped where there is nothing before them since the heading
 abbrev pub plain : Place → ParagraphName → Context → Running → Outcome
@@ -62,7 +51,7 @@ plain place name c r =
 
 -- `TP`, `IP`: the text is a number of columns, or the prevailing indent, further in
 abbrev pub indented : Place → Option (List ℕ) → Context → Running → Outcome
-indented place hang c r = after_notes (given_notes place hang) (begun labels.Paragraph (indented_begun (given_columns hang) (entered_context c)) r)
+indented place hang c r = after_notes (given_notes place hang) (begun labels.Paragraph (indented_begun (option_map columns_value hang) (entered_context c)) r)
 
 -- the tag of `IP` is at the margin
 abbrev pub given_tag : ℕ → Option (Argument (List ℕ)) → Context → Running → Outcome
@@ -72,51 +61,42 @@ given_tag line (Some argument) c r =
 
 -- `HP`: the rows after the first are further in
 abbrev pub hanging : Place → Option (List ℕ) → Context → Running → Outcome
-hanging place hang c r = after_notes (given_notes place hang) (begun labels.Paragraph (hanging_begun (given_columns hang) (entered_context c)) r)
+hanging place hang c r = after_notes (given_notes place hang) (begun labels.Paragraph (hanging_begun (option_map columns_value hang) (entered_context c)) r)
 
 -- `RS`: all is further in
 abbrev pub margin : Place → Option (List ℕ) → Context → Running → Outcome
 margin place columns c r =
     after_notes (given_notes place columns)
-    (begun (labels.Explicit RelativeMargin) (margin_begun (given_columns columns) (entered_context c)) r)
-
--- `UR`, `MT`: the messages of the target
-abbrev pub link : Place → Argument (List ℕ) → Context → Running → Outcome
-link place target c r = record { items = target_notes place target; context = entered_context c; running = r }
+    (begun (labels.Explicit RelativeMargin) (margin_begun (option_map columns_value columns) (entered_context c)) r)
 
 -- `SY`: the name in bold is a tag at the margin of the text, which hangs by the name's columns and a blank
 abbrev pub name_hang : PageLayout → Argument (List ℕ) → ℕ
 name_hang page name = name_columns page.output (is_quoted name.quoting) name.text + 1
 
-abbrev pub synopsis_begun : PageLayout → Argument (List ℕ) → Context → Running → Outcome
-synopsis_begun page name c r =
-    begun (labels.Explicit Syntax) (syntax_begun (text_margin c) (name_hang page name) (entered_context c)) r
-
-abbrev pub bold_tag : ℕ → TagPlace → Argument (List ℕ) → Context → Running → Outcome
-bold_tag line place name c r = tag place line (argument_word (Some B) Apart name) c r
-
 abbrev pub name_place : PageLayout → ℕ → Argument (List ℕ) → TagPlace
 name_place page at name = record { margin = at; hang = hold (pos (name_hang page name)) }
 
 abbrev pub synopsis : PageLayout → ℕ → Argument (List ℕ) → Context → Running → Outcome
-synopsis page line name c r = followed_by (synopsis_begun page name c r) (bold_tag line (name_place page (text_margin c) name) name)
+synopsis page line name c r =
+    followed_by (begun (labels.Explicit Syntax) (syntax_begun (text_margin c) (name_hang page name) (entered_context c)) r)
+    (tag (name_place page (text_margin c) name) line (argument_word (Some B) Apart name))
 
 -- `Bl`, and the other blocks
 abbrev pub block : PageLayout → Place → BlockOpener (List ℕ) → Context → Running → Outcome
 block page place (block_openers.List kind is_compact options) c r = list_opened page.output place kind is_compact options c r
 block page place opener c r = block_opened page.output place opener c r
 
--- ---- all of them
+-- ---- all of them: `SH`, `SS`, `Sh` and `Ss` are at the page's indent, and a link (`UR`, `MT`) gives the messages of its target
 
 unfoldable pub opened : PageLayout → Place → Opener (List ℕ) → Context → Running → Outcome
 opened page place openers.Item c r = item_opened place c r
-opened page place openers.Section c r = section page c r
-opened page place openers.Subsection c r = subsection page c r
+opened page place openers.Section c r = begun labels.Section (section_begun page.indent (entered_context c)) r
+opened page place openers.Subsection c r = begun labels.Section (subsection_begun page.indent (entered_context c)) r
 opened page place (openers.Paragraph name) c r = plain place name c r
 opened page place (openers.Tagged hang) c r = indented place hang c r
 opened page place (openers.Indented argument hang) c r = followed_by (indented place hang c r) (given_tag place.line argument)
 opened page place (openers.Hanging hang) c r = hanging place hang c r
 opened page place (openers.RelativeMargin columns) c r = margin place columns c r
-opened page place (openers.Target kind target) c r = link place target c r
+opened page place (openers.Target kind target) c r = record { items = target_notes place target; context = entered_context c; running = r }
 opened page place (openers.Syntax name) c r = synopsis page place.line name c r
 opened page place (openers.Block opener) c r = block page place opener c r

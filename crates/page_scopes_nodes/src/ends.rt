@@ -1,8 +1,9 @@
 //! What a scope ends with (man(7), mdoc(7)).
 
-ghost use Rattle.std.specs.Prelude.{◌≡◌};
+ghost use Rattle.std.specs.Prelude.{◌≡◌, if◌then◌else◌};
 ghost use Rattle.page_scopes_layout.specs.Nodes.{is_row};
 ghost use Rattle.page_scopes_phrases.specs.Outcomes.{GivesOutcome};
+ghost use Rattle.page_scopes_phrases.specs.Runnings.{row_ended};
 ghost use Rattle.page_scopes_nodes.specs.Ends as ends;
 
 use crate::targets::give_target;
@@ -34,7 +35,7 @@ fn give_last_word<O: PieceOut>(
 
 // What is known along the page after the head of an item: a head that is a row of its own has ended it; after any other there is no blank.
 fn pass_head(context: &Context, running: &mut Running)
-    ensures { running.new ≡ ends.head_running (is_row context.now.list) running.old }
+    ensures { running.new ≡ (if is_row context.now.list then row_ended running.old else record running.old { gap = 0 }) }
 {
     if context.has_row_heads() {
         running.end_row();

@@ -1,10 +1,17 @@
 //! What the scopes that go on after their line begin with, macro by macro (man(7), mdoc(7)).
 
-ghost use Rattle.std.specs.Prelude.{◌≡◌};
+ghost use Rattle.std.specs.Prelude.{◌≡◌, Some, option_map};
 ghost use Rattle.page_core_base.specs.Latches.{Came};
+ghost use Rattle.page_core_base.specs.declared.cells.Font.TheVariants.{B};
 ghost use Rattle.page_roff_syntax.specs.Arguments.{argument_view};
 ghost use Rattle.page_sets_lines.specs.Fits.{ArgumentFits, BlockOpenerFits, GivenFits, OpenerFits};
+ghost use Rattle.page_scopes_blocks.specs.Tags as tags;
+ghost use Rattle.page_scopes_labels.specs.declared.labels.Label.TheVariants.{Section};
+ghost use Rattle.page_scopes_layout.specs.Begins.{entered_context, section_begun, subsection_begun};
+ghost use Rattle.page_scopes_phrases.specs.LineWords.{argument_word};
 ghost use Rattle.page_scopes_phrases.specs.Outcomes.{GivesOutcome};
+ghost use Rattle.page_scopes_text.specs.Numbers.{columns_value};
+ghost use Rattle.page_sets_lines.specs.declared.events.Join.TheVariants.{Apart};
 ghost use Rattle.page_scopes_nodes.specs.Openers as openers;
 ghost use Rattle.page_sets_lines.specs.Events.{block_opener_view, given_view, opener_view, text_view};
 
@@ -23,7 +30,7 @@ use page_sets_lines::{BlockOpener, Join, Opener, ParagraphName};
 // The columns of a number that may be given, with its messages.
 fn give_given<O: PieceOut>(out: &mut O, place: Place, number: Option<&[u8]>) -> Option<i32>
     ensures came { Came O.left out.old (openers.given_notes place (text_view number.entry)) out.new }
-    ensures columns { result ≡ openers.given_columns (text_view number.entry) }
+    ensures columns { result ≡ option_map columns_value (text_view number.entry) }
 {
     match number {
         None => None,
@@ -57,7 +64,7 @@ fn begin_section<O: PieceOut>(
     running: &mut Running,
 )
     ensures { GivesOutcome O.left out.old
-        (openers.section page.now context.old running.old)
+        (openers.begun Section (section_begun page.now.indent (entered_context context.old)) running.old)
         out.new context.new running.new }
 {
     let front = context.entered().section_begun(page.indent);
@@ -72,7 +79,7 @@ fn begin_subsection<O: PieceOut>(
     running: &mut Running,
 )
     ensures { GivesOutcome O.left out.old
-        (openers.subsection page.now context.old running.old)
+        (openers.begun Section (subsection_begun page.now.indent (entered_context context.old)) running.old)
         out.new context.new running.new }
 {
     let front = context.entered().subsection_begun(page.indent);
@@ -199,7 +206,7 @@ fn give_name<O: PieceOut>(
 )
     requires { ArgumentFits (argument_view name) }
     ensures { GivesOutcome O.left out.old
-        (openers.bold_tag line tag (argument_view name.entry) context.old running.old)
+        (tags.tag tag line (argument_word (Some B) Apart (argument_view name.entry)) context.old running.old)
         out.new context.new running.new }
 {
     let word = argument_word(Some(Font::B), Join::Apart, name);

@@ -1,12 +1,12 @@
 -- Texts in the columns of a list. Source: mdoc(7), `Bl -column`, `Ta`.
-use Rattle.std.specs.Prelude.{ℕ, zero, suc, ◌+◌, ◌-◌, ◌==◌, nat_lt, Bool, false, not, ◌&&◌, ◌||◌, List, [], ◌∷◌, length, take, drop, Option, None, Some, is_some, position, unwrap_or, if◌then◌else◌}
+use Rattle.std.specs.Prelude.{ℕ, zero, suc, ◌+◌, ◌-◌, ◌==◌, nat_lt, Bool, false, not, ◌&&◌, ◌||◌, List, [], ◌∷◌, length, take, drop, Option, None, Some, is_some, option_map, position, unwrap_or, if◌then◌else◌}
 use Rattle.std.specs.List.{prefix_len}
 use Rattle.page_core_base.specs.Pieces.{shown}
 use Rattle.page_core_base.specs.declared.note_kinds.NoteKind.TheVariants.{ItemOutside}
 use Rattle.page_core_base.specs.declared.pieces.Piece.TheVariants as pieces
 use Rattle.page_core_base.specs.declared.places.Place.{Place}
-use Rattle.page_core_escapes.specs.Meanings.{Meaning, tab}
-use Rattle.page_core_escapes.specs.Tokens.{TextToken, white, plain, quotes, escaped, is_space, token_bytes, tokens_of}
+use Rattle.page_core_escapes.specs.Meanings.{tab}
+use Rattle.page_core_escapes.specs.Tokens.{TextToken, white, escaped, is_space, token_bytes, tokens_of}
 use Rattle.page_scopes_layout.specs.Lists.{has_columns, next_cell}
 use Rattle.page_scopes_layout.specs.declared.contexts.Context.{Context}
 use Rattle.page_scopes_layout.specs.declared.lists.OpenList.{OpenList}
@@ -20,13 +20,9 @@ use Rattle.page_sets_lines.specs.declared.events.Join.TheVariants.{Apart}
 
 -- ---- columns
 
-abbrev pub has_open_columns : Option OpenList → Bool
-has_open_columns (Some list) = has_columns list
-has_open_columns None = false
-
 -- the innermost list has columns
 abbrev pub in_columns : Context → Bool
-in_columns c = has_open_columns c.list
+in_columns c = unwrap_or (option_map has_columns c.list) false
 
 -- what is before the next word there takes the place of a blank
 abbrev pub column_of : OpenList → Context → Running → Outcome
@@ -47,16 +43,11 @@ column_step place None c r = record { items = says ItemOutside place [] ∷ []; 
 
 -- ---- the first cell of a text
 
-abbrev pub if_tab : Meaning → Option ℕ
-if_tab tab = Some 0
-if_tab _ = None
-
 -- the bytes of a token before its first tab, where it has one
 abbrev pub tab_in : TextToken → Option ℕ
 tab_in (white bytes) = position (λ byte. byte == 9) bytes
-tab_in (escaped bytes meaning) = if_tab meaning
-tab_in (plain bytes) = None
-tab_in (quotes bytes) = None
+tab_in (escaped bytes tab) = Some 0
+tab_in _ = None
 
 -- the bytes before the first tab; all of them where there is none
 abbrev pub before_tab : List TextToken → ℕ
@@ -92,11 +83,10 @@ without_blanks text = drop (prefix_len (λ byte. byte == 32) text) text
 abbrev pub other_cells_text : CellSpan → List ℕ → List ℕ
 other_cells_text span text = without_blanks (after_tab (drop span.tab text))
 
-abbrev pub with_text : Phrase (List ℕ) → List ℕ → Phrase (List ℕ)
-with_text p rest = record p { text = rest; column = p.column + (length p.text - length rest); is_line = false; before = Apart }
-
 abbrev pub other_cells : CellSpan → Phrase (List ℕ) → Phrase (List ℕ)
-other_cells span p = with_text p (other_cells_text span p.text)
+other_cells span p =
+    let rest = other_cells_text span p.text in
+    record p { text = rest; column = p.column + (length p.text - length rest); is_line = false; before = Apart }
 
 -- ---- a text in cells
 
@@ -105,11 +95,8 @@ abbrev pub cell : ℕ → Phrase (List ℕ) → Context → Running → Outcome
 cell line p c r = if length p.text == 0 then nothing c r else phrase_outcome line p c r
 
 -- a tab is a word of its row
-abbrev pub after_cell : Context → Running → Running
-after_cell c r = record r { line = record r.line { has_row_words = r.line.has_row_words || is_text c.part } }
-
 abbrev pub tab_step : Context → Running → Outcome
-tab_step c r = next_column c.list c (after_cell c r)
+tab_step c r = next_column c.list c (record r { line = record r.line { has_row_words = r.line.has_row_words || is_text c.part } })
 
 -- the first cell, and the next column
 abbrev pub first_part : CellSpan → ℕ → Phrase (List ℕ) → Context → Running → Outcome
@@ -132,11 +119,8 @@ abbrev pub cells : ℕ → Phrase (List ℕ) → Context → Running → Outcome
 cells line p c r = cells_within (length p.text) line p c r
 
 -- a text is separated by tabs where columns are open; one without a byte is a word, as everywhere
-abbrev pub is_parted : Phrase (List ℕ) → Context → Bool
-is_parted p c = in_columns c && not (length p.text == 0)
-
 abbrev pub text_outcome : ℕ → Phrase (List ℕ) → Context → Running → Outcome
-text_outcome line p c r = if is_parted p c then cells line p c r else phrase_outcome line p c r
+text_outcome line p c r = if in_columns c && not (length p.text == 0) then cells line p c r else phrase_outcome line p c r
 
 -- ---- white space without a word
 

@@ -1,5 +1,5 @@
 -- Texts that are kept of an argument and printed later: the target of a link, and the name of the manual. Source: man(7), `UR`, `MT`; mdoc(7), `Nm`.
-use Rattle.std.specs.Prelude.{ℕ, Bool, true, false, ◌||◌, ◌==◌, nat_lt, List, [], ◌∷◌, ◌++◌, length, codes, if◌then◌else◌}
+use Rattle.std.specs.Prelude.{ℕ, Bool, true, false, ◌||◌, ◌==◌, nat_lt, List, [], ◌∷◌, ◌++◌, length, codes, fold, if◌then◌else◌}
 use Rattle.std.specs.List.{list_any}
 use Rattle.page_core_base.specs.Messages.{text_front}
 use Rattle.page_core_base.specs.Pieces.{Item, shown}
@@ -8,7 +8,7 @@ use Rattle.page_core_base.specs.declared.cells.Font.TheVariants.{R}
 use Rattle.page_core_base.specs.declared.note_kinds.NoteKind.TheVariants.{Limit}
 use Rattle.page_core_base.specs.declared.pieces.Piece.TheVariants.{Blank}
 use Rattle.page_core_base.specs.declared.places.Place.{Place}
-use Rattle.page_core_escapes.specs.Tokens.{TextToken, white, tokens_of}
+use Rattle.page_core_escapes.specs.Tokens.{TextToken, white}
 use Rattle.page_core_base.specs.Limits.{FIELD}
 use Rattle.page_roff_syntax.specs.Arguments.{argument_value}
 use Rattle.page_roff_syntax.specs.declared.quotes.Argument.{Argument}
@@ -29,27 +29,16 @@ kept_of argument = record { text = text_front FIELD (argument_value argument); f
 abbrev pub cut_notes : Place → Argument (List ℕ) → List Item
 cut_notes place argument = if nat_lt FIELD (length (argument_value argument)) then says Limit place (codes "FIELD") ∷ [] else []
 
-abbrev pub kept_tokens : KeptText → List TextToken
-kept_tokens kept = tokens_of false kept.text
-
 -- ---- where it is printed
 
 -- the blanks before it
-abbrev pub kept_gap : Running → Place → List Item
-kept_gap r place = if r.line.is_after_word then blank_cells (next_gap r) R place else []
-
-abbrev pub filled_gap : ℕ → List Item
-filled_gap gap = if gap == 0 then [] else shown (Blank gap false) ∷ []
-
-abbrev pub gap_items : Bool → Running → Place → List Item
-gap_items literal r place = if literal then kept_gap r place else filled_gap (next_gap r)
+abbrev pub gap_items : (literal : Bool) → Running → Place → List Item
+gap_items true r place = if r.line.is_after_word then blank_cells (next_gap r) R place else []
+gap_items false r place = if next_gap r == 0 then [] else shown (Blank (next_gap r) false) ∷ []
 
 -- its parts are as many blanks apart, which are reported where they stand for a tab, or as they are written
-abbrev pub white_items : Bool → ℕ → Place → List ℕ → List Item
-white_items literal gap place bytes = if literal then white_cells place bytes else shown (Blank gap (has_tab bytes)) ∷ []
-
 abbrev pub part_items : (literal : Bool) → ℕ → Place → Font → TextToken → List Item
-part_items literal gap place font (white bytes) = white_items literal gap place bytes
+part_items literal gap place font (white bytes) = if literal then white_cells place bytes else shown (Blank gap (has_tab bytes)) ∷ []
 part_items literal gap place font token = token_items false font place token
 
 -- without the messages of its escapes, all at one place; white space at its front is this many blanks, and any other one
@@ -58,12 +47,8 @@ parts_items literal gap place fonts [] = []
 parts_items literal gap place fonts (token ∷ tokens) =
     part_items literal gap place fonts.value.font token ++ parts_items literal 1 place (fonts_after token fonts) tokens
 
-abbrev pub kept_items : Bool → ℕ → Place → Setting Fonts → KeptText → List Item
-kept_items literal gap place fonts kept = parts_items literal gap place fonts (kept_tokens kept)
-
 abbrev pub fonts_through : Setting Fonts → List TextToken → Setting Fonts
-fonts_through fonts [] = fonts
-fonts_through fonts (token ∷ tokens) = fonts_through (fonts_after token fonts) tokens
+fonts_through fonts tokens = fold (λ before token. fonts_after token before) fonts tokens
 
 -- whether one of its parts is a cell
 abbrev pub part_prints : Bool → TextToken → Bool

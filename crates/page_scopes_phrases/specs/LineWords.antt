@@ -1,5 +1,5 @@
 -- Words of a line, and words that a macro prints itself. Source: man(7), mdoc(7); roff(7), "Macro syntax".
-use Rattle.std.specs.Prelude.{ℕ, ◌-◌, Bool, true, false, not, ◌&&◌, ◌||◌, List, [], ◌∷◌, ◌++◌, Option}
+use Rattle.std.specs.Prelude.{ℕ, ◌-◌, Bool, true, false, not, ◌&&◌, ◌||◌, List, [], ◌∷◌, Option, None}
 use Rattle.page_core_base.specs.Pieces.{Item}
 use Rattle.page_core_base.specs.declared.cells.Font.{Font}
 use Rattle.page_core_base.specs.declared.note_kinds.NoteKind.TheVariants.{Unterminated}
@@ -10,8 +10,8 @@ use Rattle.page_roff_syntax.specs.declared.quotes.Quoting.{Quoting}
 use Rattle.page_roff_syntax.specs.declared.quotes.Quoting.TheVariants.{Unclosed}
 use Rattle.page_scopes_layout.specs.declared.contexts.Context.{Context}
 use Rattle.page_scopes_phrases.specs.Cells.{text_outcome}
-use Rattle.page_scopes_phrases.specs.Outcomes.{Outcome}
-use Rattle.page_scopes_phrases.specs.Phrases.{own_phrase, phrase_context, phrase_items, phrase_running}
+use Rattle.page_scopes_phrases.specs.Outcomes.{Outcome, after_notes, with_running}
+use Rattle.page_scopes_phrases.specs.Phrases.{own_phrase, phrase_outcome}
 use Rattle.page_scopes_phrases.specs.declared.phrases.Phrase.{Phrase}
 use Rattle.page_scopes_phrases.specs.declared.runnings.Running.{Running}
 use Rattle.page_scopes_words.specs.Sentences.{ends_sentence}
@@ -27,9 +27,7 @@ use Rattle.page_sets_lines.specs.declared.leaves.GeneratedWord.{GeneratedWord}
 
 abbrev pub is_line : Role → Bool
 is_line roles.Line = true
-is_line roles.Argument = false
-is_line roles.Delimiter = false
-is_line (roles.Name column) = false
+is_line _ = false
 
 -- a quote without its end is reported at the quote
 abbrev pub quote_items : ℕ → Quoting → ℕ → List Item
@@ -54,17 +52,17 @@ with_sentence text r = record r { line = record r.line { is_sentence = ends_sent
 
 -- a word of a line
 unfoldable pub line_word : ℕ → Word (List ℕ) → Context → Running → Outcome
-line_word line word c r = record {
-  items = quote_items line word.arg.quoting word.arg.column ++ (text_outcome line (word_phrase word) c r).items;
-  context = (text_outcome line (word_phrase word) c r).context;
-  running = with_sentence word.arg.text (text_outcome line (word_phrase word) c r).running;
-}
+line_word line word c r =
+    after_notes (quote_items line word.arg.quoting word.arg.column) (with_running (with_sentence word.arg.text) (text_outcome line (word_phrase word) c r))
 
 -- an argument as a word
 abbrev pub argument_word : Option Font → Join → Argument (List ℕ) → Word (List ℕ)
 argument_word font before argument = record { arg = argument; role = roles.Argument; font = font; before = before; after = Apart }
 
 -- ---- words of a macro's own
+
+abbrev pub own_word : GeneratedText → (before after : Join) → GeneratedWord
+own_word text before after = record { text = text; font = None; before = before; after = after }
 
 abbrev pub generated_phrase : Place → (spacing : Bool) → GeneratedWord → Phrase (List ℕ)
 generated_phrase place spacing word =
@@ -80,8 +78,5 @@ after_generated own r = record r {
 }
 
 unfoldable pub generated_word : Place → GeneratedWord → Context → Running → Outcome
-generated_word place word c r = record {
-  items = phrase_items place.line (generated_phrase place c.has_spacing.value word) c r;
-  context = phrase_context (generated_phrase place c.has_spacing.value word) c r;
-  running = after_generated word.text (phrase_running (generated_phrase place c.has_spacing.value word) c r);
-}
+generated_word place word c r =
+    with_running (after_generated word.text) (phrase_outcome place.line (generated_phrase place c.has_spacing.value word) c r)

@@ -5,6 +5,7 @@ use Rattle.page_core_base.specs.Pieces.{Item, shown}
 use Rattle.page_core_base.specs.declared.pieces.Piece.TheVariants.{Break}
 use Rattle.page_scopes_layout.specs.Nodes.{margin_items}
 use Rattle.page_scopes_layout.specs.declared.contexts.Context.{Context}
+use Rattle.page_scopes_phrases.specs.Runnings.{row_ended}
 use Rattle.page_scopes_phrases.specs.declared.runnings.Running.{Running}
 
 -- pieces and messages; the context of what follows; and what is then known along the page
@@ -20,22 +21,30 @@ pub record GivesOutcome {P O : Type 0} (left : P → O → List Item → Type 0)
   pub context : c ≡ outcome.context
   pub running : r ≡ outcome.running
 
--- nothing comes of it
+-- it prints nothing, and leaves these
 abbrev pub nothing : Context → Running → Outcome
 nothing c r = record { items = []; context = c; running = r }
+
+-- the row ends
+abbrev pub row_break : Context → Running → Outcome
+row_break c r = record { items = shown Break ∷ []; context = c; running = row_ended r }
 
 -- the row ends, and other margins hold
 abbrev pub row_margin_items : Context → List Item
 row_margin_items c = shown Break ∷ margin_items c
 
--- messages come first
+-- and rows go on in their context
+abbrev pub at_margins : Context → Running → Outcome
+at_margins c r = record { items = row_margin_items c; context = c; running = row_ended r }
+
+-- messages come first, or other items
 abbrev pub after_notes : List Item → Outcome → Outcome
 after_notes notes o = record o { items = notes ++ o.items }
 
+-- then something else is known along the page
+abbrev pub with_running : (Running → Running) → Outcome → Outcome
+with_running change o = record o { running = change o.running }
+
 -- one after the other
 abbrev pub followed_by : Outcome → (Context → Running → Outcome) → Outcome
-followed_by first next = record {
-  items = first.items ++ (next first.context first.running).items;
-  context = (next first.context first.running).context;
-  running = (next first.context first.running).running;
-}
+followed_by first next = after_notes first.items (next first.context first.running)

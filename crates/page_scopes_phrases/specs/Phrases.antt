@@ -2,7 +2,6 @@
 use Rattle.std.specs.Prelude.{ℕ, ◌+◌, max, min, Bool, true, false, not, ◌||◌, ◌&&◌, List, Option, None, Some, is_some, if◌then◌else◌}
 use Rattle.std.specs.Borrow.{Bor}
 use Rattle.page_core_base.specs.Limits.{LINE}
-use Rattle.page_core_base.specs.Pieces.{Item}
 use Rattle.page_core_base.specs.declared.cells.Font.{Font}
 use Rattle.page_core_base.specs.declared.places.Place.{Place}
 use Rattle.page_scopes_layout.specs.declared.contexts.Context.{Context}
@@ -48,9 +47,6 @@ abbrev pub joined_gap : Join → Bool → ℕ → ℕ
 joined_gap Apart parts gap = gap
 joined_gap Glued parts gap = if parts then gap else 0
 
-abbrev pub blanks_part : Bool → Context → Bool
-blanks_part ends_blank c = ends_blank && not c.is_literal.value
-
 abbrev pub is_tag : PagePart → Bool
 is_tag parts.Tag = true
 is_tag _ = false
@@ -79,16 +75,13 @@ abbrev pub phrase_pen : Phrase (List ℕ) → Context → Running → Pen
 phrase_pen p c r = record {
   fonts = own_fonts p.font c.fonts;
   column = p.column;
-  gap = joined_gap p.before (blanks_part r.line.ends_blank c) (next_gap r);
+  gap = joined_gap p.before (r.line.ends_blank && not c.is_literal.value) (next_gap r);
   is_after_word = r.line.is_after_word;
   has_cell = false;
   is_cut = false;
   ends_blank = false;
   splits = splits p c;
 }
-
-abbrev pub phrase_items : ℕ → Phrase (List ℕ) → Context → Running → List Item
-phrase_items line p c r = text_items (phrase_style p c) line (phrase_pen p c r) (words_of p.is_quoted p.text)
 
 -- ---- after its words
 
@@ -114,7 +107,7 @@ is_text _ = false
 abbrev pub running_after : Phrase (List ℕ) → Pen → Context → Running → Running
 running_after p pen c r = record r {
   has_content = true;
-  gap = joined_gap p.after (blanks_part pen.ends_blank c) (end_gap c.has_spacing.value pen);
+  gap = joined_gap p.after (pen.ends_blank && not c.is_literal.value) (end_gap c.has_spacing.value pen);
   line = record r.line {
     has_words = true;
     has_row_words = r.line.has_row_words || is_text c.part;
@@ -125,16 +118,11 @@ running_after p pen c r = record r {
   };
 }
 
--- it may be of a heading
-abbrev pub in_heading : Phrase (List ℕ) → Context → Running → Running
-in_heading p c r = record r { heading = heading_further c.part p.is_quoted (phrase_pen p c r).gap p.text r.heading }
+-- ---- all of it; it may be of a heading
 
-abbrev pub phrase_context : Phrase (List ℕ) → Context → Running → Context
-phrase_context p c r = context_after p (is_some r.line.fonts_before) (phrase_end p c r) c
-
-abbrev pub phrase_running : Phrase (List ℕ) → Context → Running → Running
-phrase_running p c r = running_after p (phrase_end p c r) c (in_heading p c r)
-
--- all three
 abbrev pub phrase_outcome : ℕ → Phrase (List ℕ) → Context → Running → Outcome
-phrase_outcome line p c r = record { items = phrase_items line p c r; context = phrase_context p c r; running = phrase_running p c r }
+phrase_outcome line p c r = record {
+  items = text_items (phrase_style p c) line (phrase_pen p c r) (words_of p.is_quoted p.text);
+  context = context_after p (is_some r.line.fonts_before) (phrase_end p c r) c;
+  running = running_after p (phrase_end p c r) c (record r { heading = heading_further c.part p.is_quoted (phrase_pen p c r).gap p.text r.heading });
+}

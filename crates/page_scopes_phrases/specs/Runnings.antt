@@ -27,11 +27,8 @@ abbrev pub start : Running
 start = record { has_content = false; gap = 1; line = no_line; heading = no_heading }
 
 -- there is one blank after a line with words, two after a sentence, none where it ends in `\c` or where no blanks are between words; what is glued stays glued
-abbrev pub words_gap : (spacing : Bool) → LineSoFar → ℕ → ℕ
-words_gap spacing line gap = if line.is_cut || (gap == 0 || not spacing) then 0 else if line.is_sentence then 2 else 1
-
 abbrev pub line_gap : (spacing : Bool) → LineSoFar → ℕ → ℕ
-line_gap spacing line gap = if line.has_words then words_gap spacing line gap else gap
+line_gap spacing line gap = if not line.has_words then gap else if line.is_cut || (gap == 0 || not spacing) then 0 else if line.is_sentence then 2 else 1
 
 abbrev pub line_ended : (spacing : Bool) → Running → Running
 line_ended spacing r = record r { gap = line_gap spacing r.line r.gap; line = no_line }

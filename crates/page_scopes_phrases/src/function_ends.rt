@@ -2,7 +2,10 @@
 
 ghost use Rattle.std.specs.Prelude.{◌≡◌};
 ghost use Rattle.page_scopes_phrases.specs.FunctionEnds as ends;
-ghost use Rattle.page_scopes_phrases.specs.Outcomes.{GivesOutcome};
+ghost use Rattle.page_scopes_phrases.specs.LineWords.{own_word};
+ghost use Rattle.page_scopes_phrases.specs.Outcomes.{GivesOutcome, row_break};
+ghost use Rattle.page_sets_lines.specs.declared.events.Join.TheVariants.{Apart, Glued};
+ghost use Rattle.page_sets_names.specs.declared.generated_texts.GeneratedText.TheVariants.{CloseParenthesis, Semicolon};
 
 use crate::{Running, give_generated_word};
 use page_core_base::{Piece, PieceOut, Place};
@@ -11,7 +14,7 @@ use page_sets_lines::{GeneratedText, GeneratedWord, Join};
 
 // What closes the arguments of a function.
 fn closing_mark() -> GeneratedWord
-    ensures { result ≡ ends.closing_mark }
+    ensures { result ≡ own_word CloseParenthesis Glued Apart }
 {
     GeneratedWord {
         text: GeneratedText::CloseParenthesis,
@@ -23,7 +26,7 @@ fn closing_mark() -> GeneratedWord
 
 // What ends a declaration of one.
 fn semicolon() -> GeneratedWord
-    ensures { result ≡ ends.semicolon }
+    ensures { result ≡ own_word Semicolon Glued Apart }
 {
     GeneratedWord {
         text: GeneratedText::Semicolon,
@@ -35,7 +38,7 @@ fn semicolon() -> GeneratedWord
 
 // Gives the end of a row.
 fn give_row_break<O: PieceOut>(out: &mut O, context: &Context, running: &mut Running)
-    ensures { GivesOutcome O.left out.old (ends.row_break context.now running.old)
+    ensures { GivesOutcome O.left out.old (row_break context.now running.old)
         out.new context.now running.new }
 {
     out.give(Piece::Break);

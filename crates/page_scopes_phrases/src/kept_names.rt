@@ -1,7 +1,7 @@
 //! The name of the manual as it is kept, with what is known of its tokens: it may be printed many times (mdoc(7), `Nm`).
 
-ghost use Rattle.std.specs.Prelude.{◌≡◌, ◌≤◌, length};
-ghost use Rattle.page_core_escapes.specs.Tokens.{token_bytes, token_view};
+ghost use Rattle.std.specs.Prelude.{◌≡◌, ◌≤◌, length, false};
+ghost use Rattle.page_core_escapes.specs.Tokens.{token_bytes, token_view, tokens_of};
 ghost use Rattle.page_scopes_phrases.specs.KeptTexts as kept;
 ghost use Rattle.page_scopes_phrases.specs.machine.NameParts as names;
 
@@ -141,7 +141,7 @@ impl ManualName {
 
     /// Whether it prints a cell, in rows that are kept as they are or filled.
     pub(crate) fn prints_cell(&self, is_literal: bool) -> bool
-        ensures { result ≡ kept.prints_cell is_literal (kept.kept_tokens self.now) }
+        ensures { result ≡ kept.prints_cell is_literal (tokens_of false self.now.text) }
     {
         if is_literal {
             self.prints_literal

@@ -1,13 +1,16 @@
 //! What a kept text prints, wherever it is printed (man(7), `UR`, `MT`; mdoc(7), `Nm`).
 
-ghost use Rattle.std.specs.Prelude.{◌≡◌, ◌≤◌, ◌<◌, ◌+◌, ◌++◌, length, false};
+ghost use Rattle.std.specs.Prelude.{◌≡◌, ◌≤◌, ◌<◌, ◌+◌, ◌∷◌, ◌++◌, [], length, false, if◌then◌else◌};
 ghost use Rattle.page_core_base.specs.Latches.{Came, CameUpTo};
+ghost use Rattle.page_core_base.specs.Pieces.{shown};
+ghost use Rattle.page_core_base.specs.declared.pieces.Piece.TheVariants.{Blank};
 ghost use Rattle.page_core_escapes.specs.Tokens.{token_at, token_view, tokens_of};
 ghost use Rattle.page_core_base.specs.declared.limits.TheConstants.{FIELD};
 ghost use Rattle.page_roff_syntax.specs.Arguments.{argument_view};
 ghost use Rattle.page_scopes_phrases.specs.KeptTexts as kept;
 ghost use Rattle.page_scopes_phrases.specs.machine.NameParts as names;
 ghost use Rattle.page_scopes_text.specs.Words as texts;
+ghost use Rattle.page_scopes_words.specs.Words as words;
 
 use crate::kept_names::{Known, NamePart};
 use crate::{KeptText, ManualName, Running};
@@ -44,7 +47,7 @@ pub fn give_kept_gap<O: PieceOut>(out: &mut O, is_literal: bool, running: &Runni
 
 // Gives white space in a kept text, as cells or as this many blanks.
 fn give_white<O: PieceOut>(out: &mut O, is_literal: bool, gap: u32, place: Place, white: &[u8])
-    ensures { Came O.left out.old (kept.white_items is_literal gap place white.now) out.new }
+    ensures { Came O.left out.old (if is_literal then words.white_cells place white.now else shown (Blank gap (words.has_tab white.now)) ∷ []) out.new }
 {
     if is_literal {
         give_white_cells(out, place, white);
@@ -108,8 +111,8 @@ pub fn give_kept<O: PieceOut>(
     text: &KeptText,
 ) -> Setting<Fonts>
     ensures came { Came O.left out.old
-        (kept.kept_items is_literal front place start text.now) out.new }
-    ensures fonts { result ≡ kept.fonts_through start (kept.kept_tokens text.now) }
+        (kept.parts_items is_literal front place start (tokens_of false text.now.text)) out.new }
+    ensures fonts { result ≡ kept.fonts_through start (tokens_of false text.now.text) }
 {
     let mut tokens = Tokens::new(false, text.text.text());
     let mut fonts = start;
@@ -209,7 +212,7 @@ pub(crate) fn give_name<O: PieceOut>(
     start: Setting<Fonts>,
     name: &ManualName,
 )
-    ensures { Came O.left out.old (kept.kept_items is_literal front place start name.now) out.new }
+    ensures { Came O.left out.old (kept.parts_items is_literal front place start (tokens_of false name.now.text)) out.new }
 {
     let text = name.kept().text.text();
     give_known_parts(out, is_literal, front, place, start, text, name.parts());

@@ -1,12 +1,15 @@
 //! The name of the manual: the first word of the first `Nm` that has one, which each `Nm` without words prints (mdoc(7), `Nm`).
 
-ghost use Rattle.std.specs.Prelude.{◌≡◌};
+ghost use Rattle.std.specs.Prelude.{◌≡◌, [], Some};
 ghost use Rattle.page_core_base.specs.Latches.{Came};
 ghost use Rattle.page_roff_syntax.specs.Arguments.{argument_view};
 ghost use Rattle.page_sets_lines.specs.Fits.{FitsAt};
 ghost use Rattle.page_scopes_phrases.specs.ManualNames as names;
 ghost use Rattle.page_scopes_phrases.specs.Outcomes.{GivesOutcome};
-ghost use Rattle.page_scopes_phrases.specs.Phrases.{phrase_view};
+ghost use Rattle.page_scopes_phrases.specs.Phrases.{own_phrase, phrase_view};
+ghost use Rattle.page_core_base.specs.declared.cells.Font.TheVariants.{B};
+ghost use Rattle.page_sets_lines.specs.declared.events.Join.TheVariants.{Apart};
+ghost use Rattle.page_sets_lines.specs.declared.events.Role.TheVariants.{Name};
 
 use crate::kept_words::{give_kept_gap, give_name, report_cut};
 use crate::phrases::{Phrase, give_phrase, is_text, own_fonts};
@@ -25,8 +28,8 @@ fn keep_word<O: PieceOut>(
     argument: Argument<&[u8]>,
     name: &mut Option<ManualName>,
 )
-    ensures came { Came O.left out.old (names.first_notes place (argument_view argument.entry) name.old) out.new }
-    ensures name { name.new ≡ names.first_name (argument_view argument.entry) name.old }
+    ensures came { Came O.left out.old (names.name_notes place.line (Name place.column) (argument_view argument.entry) name.old) out.new }
+    ensures name { name.new ≡ names.named (Name place.column) (argument_view argument.entry) name.old }
 {
     if name.is_none() {
         report_cut(out, place, argument);
@@ -53,7 +56,7 @@ pub fn keep_name<O: PieceOut>(
 
 // A word of no bytes, in the place of a name.
 fn nameless(place: Place) -> Phrase<&'static [u8]>
-    ensures seen { phrase_view result ≡ names.nameless place }
+    ensures seen { phrase_view result ≡ own_phrase place [] (Some B) Apart Apart }
     ensures fits { FitsAt result.column result.text.now }
 {
     Phrase::own(place, b"", Some(Font::B), Join::Apart, Join::Apart)

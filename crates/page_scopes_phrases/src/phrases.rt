@@ -1,6 +1,6 @@
 //! Texts that events print: their fonts, and how they are beside the words around them (man(7), `B`, `BR`).
 
-ghost use Rattle.std.specs.Prelude.{◌≡◌, ◌≤◌, length};
+ghost use Rattle.std.specs.Prelude.{◌≡◌, ◌≤◌, ◌&&◌, length, not};
 ghost use Rattle.page_core_base.specs.declared.limits.TheConstants.{LINE};
 ghost use Rattle.page_sets_lines.specs.Fits.{FitsAt};
 ghost use Rattle.page_scopes_phrases.specs.Outcomes.{GivesOutcome};
@@ -88,7 +88,7 @@ pub fn joined_gap(join: Join, parts: bool, gap: u32) -> u32
 
 /// Whether blanks at a text's end part it from a phrase that is glued.
 pub fn blanks_part(ends_blank: bool, context: &Context) -> bool
-    ensures { result ≡ phrases.blanks_part ends_blank context.now }
+    ensures { result ≡ (ends_blank && not context.now.is_literal.value) }
 {
     ends_blank && !context.is_literal.value
 }

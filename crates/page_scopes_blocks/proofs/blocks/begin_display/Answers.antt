@@ -1,6 +1,8 @@
-use Rattle.std.proofs.Common.{◌≡◌, ap, subst, refl, ◌∙◌, rules, w32, FitsSigned}
+use Rattle.std.proofs.Common.{◌≡◌, ap, subst, refl, ◌∙◌, rules, w32, FitsSigned, pos}
+use Rattle.std.specs.Prelude.{unwrap_or}
 use Rattle.std.proofs.lemmas.Int.{to_z-of_z}
 use Rattle.page_scopes_blocks.specs.Blocks as blocks
+use Rattle.page_scopes_blocks.specs.ListWidths.{given_columns, given_notes}
 use Rattle.page_scopes_layout.specs.Begins.{display_begun}
 use Rattle.page_scopes_phrases.specs.Outcomes.{GivesOutcome, after_notes}
 use Rattle.page_sets_lines.specs.Events.{given_view}
@@ -14,9 +16,9 @@ returns g c =
     let last = c.give_display_begin.new in
     let running = c.args.running.now in
     let front = c.display_begun.result in
-    let notes = blocks.offset_notes c.args.place (given_view c.args.offset) in
+    let notes = given_notes c.args.place (given_view c.args.offset) in
     let fits : FitsSigned w32 c.give_offset-columns.result = search rules in
-    let e : front ≡ display_begun c.args.is_literal (blocks.offset_columns c.args.output (given_view c.args.offset)) c.args.context.now =
+    let e : front ≡ display_begun c.args.is_literal (unwrap_or (given_columns c.args.output (given_view c.args.offset)) (pos 0)) c.args.context.now =
     c.display_begun.ensures
     ∙ ap (λ columns. display_begun c.args.is_literal columns c.args.context.now)
     (to_z-of_z w32 c.give_offset-columns.result fits ∙ c.give_offset-columns.ensures.columns) in
