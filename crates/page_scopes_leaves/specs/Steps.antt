@@ -45,7 +45,7 @@ body_paragraph place name c r =
     }
     else record { items = says SkipPara place (body_paragraph_name name) ∷ []; context = c; running = r }
 
--- a comma parts a field of a reference (`%A` and so on) from the one before, and an argument of a function too (`Fo`, `Fa`); where it is the first, they have begun
+-- a comma parts a field of a reference (`%A` and so on) from the one before, and so the arguments of a function (`Fo`, `Fa`); after the first they have begun
 abbrev pub next_of : SeriesSoFar → (begun : Context) → Place → Context → Running → Outcome
 next_of series.Outside begun place c r = nothing c r
 next_of series.Empty begun place c r = nothing begun r
