@@ -91,14 +91,11 @@ abbrev pub suffix : ℕ → Closer (List ℕ) → Context → Running → Outcom
 suffix line closer c r = given_suffix line (closer_suffix closer) c r
 
 -- before the body requests, blank lines and lines without a word give nothing
-abbrev pub leaf_waits : Leaf (List ℕ) → Bool
-leaf_waits leaves.BlankLine = true
-leaf_waits (leaves.Wordless text) = true
-leaf_waits (leaves.Request request) = true
-leaf_waits _ = false
-
 abbrev pub is_early : Leaf (List ℕ) → (has_begun : Bool) → Bool
-is_early leaf has_begun = not has_begun && leaf_waits leaf
+is_early leaves.BlankLine has_begun = not has_begun
+is_early (leaves.Wordless text) has_begun = not has_begun
+is_early (leaves.Request request) has_begun = not has_begun
+is_early _ has_begun = false
 
 abbrev pub kind_stands : Place → EventKind (List ℕ) → Option KeptText → (has_begun : Bool) → Context → Running → Outcome
 kind_stands place (kinds.Close closer) name has_begun c r = suffix place.line closer c r

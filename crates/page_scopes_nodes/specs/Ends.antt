@@ -1,5 +1,5 @@
 -- What a scope ends with: the target of a link or the mark of an enclosure, its own pieces, and what is known after it. Source: man(7), "MACRO OVERVIEW"; mdoc(7), "MACRO REFERENCE".
-use Rattle.std.specs.Prelude.{Option, None, Some, if◌then◌else◌}
+use Rattle.std.specs.Prelude.{false, Option, None, Some, if◌then◌else◌}
 use Rattle.page_core_base.specs.declared.places.Place.{Place}
 use Rattle.page_scopes_layout.specs.Contexts.{restored}
 use Rattle.page_scopes_layout.specs.Nodes.{end_items, is_row}

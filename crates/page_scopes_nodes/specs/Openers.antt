@@ -20,7 +20,6 @@ use Rattle.page_scopes_phrases.specs.Outcomes.{Outcome, after_notes, followed_by
 use Rattle.page_scopes_phrases.specs.Runnings.{row_ended}
 use Rattle.page_scopes_blocks.specs.Tags.{tag}
 use Rattle.page_scopes_phrases.specs.declared.runnings.Running.{Running}
-use Rattle.page_scopes_blocks.specs.declared.tags.TagPlace.{TagPlace}
 use Rattle.page_scopes_text.specs.Numbers.{columns_notes, columns_value}
 use Rattle.page_scopes_labels.specs.declared.labels.Explicit.TheVariants.{RelativeMargin, Syntax}
 use Rattle.page_scopes_labels.specs.declared.labels.Label.{Label}
@@ -73,13 +72,10 @@ margin place columns c r =
 abbrev pub name_hang : PageLayout → Argument (List ℕ) → ℕ
 name_hang page name = name_columns page.output (is_quoted name.quoting) name.text + 1
 
-abbrev pub name_place : PageLayout → ℕ → Argument (List ℕ) → TagPlace
-name_place page at name = record { margin = at; hang = hold (pos (name_hang page name)) }
-
 abbrev pub synopsis : PageLayout → ℕ → Argument (List ℕ) → Context → Running → Outcome
 synopsis page line name c r =
     followed_by (begun (labels.Explicit Syntax) (syntax_begun (text_margin c) (name_hang page name) (entered_context c)) r)
-    (tag (name_place page (text_margin c) name) line (argument_word (Some B) Apart name))
+    (tag (record { margin = text_margin c; hang = hold (pos (name_hang page name)) }) line (argument_word (Some B) Apart name))
 
 -- `Bl`, and the other blocks
 abbrev pub block : PageLayout → Place → BlockOpener (List ℕ) → Context → Running → Outcome

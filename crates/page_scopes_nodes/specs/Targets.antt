@@ -1,10 +1,10 @@
 -- The target of a link: its messages where the link begins, and the target in angles where it ends. Source: man(7), `UR`, `MT`.
-use Rattle.std.specs.Prelude.{ℕ, false, true, List, [], ◌∷◌, ◌++◌, codes, flat_map}
+use Rattle.std.specs.Prelude.{ℕ, Bool, false, true, List, [], ◌∷◌, ◌++◌, codes}
 use Rattle.page_core_base.specs.Pieces.{Item, shown}
 use Rattle.page_core_base.specs.declared.cells.Font.{Font}
 use Rattle.page_core_base.specs.declared.pieces.Piece.TheVariants.{Text}
 use Rattle.page_core_base.specs.declared.places.Place.{Place}
-use Rattle.page_core_escapes.specs.Tokens.{tokens_of}
+use Rattle.page_core_escapes.specs.Tokens.{TextToken, tokens_of}
 use Rattle.page_roff_syntax.specs.Arguments.{is_quoted}
 use Rattle.page_roff_syntax.specs.declared.quotes.Argument.{Argument}
 use Rattle.page_scopes_layout.specs.declared.contexts.Context.{Context}
@@ -21,10 +21,14 @@ use Rattle.page_scopes_words.specs.declared.fonts.Fonts.{Fonts}
 
 -- ---- where the link begins
 
+abbrev pub notes_of : (quoted : Bool) → Place → List TextToken → List Item
+notes_of quoted place [] = []
+notes_of quoted place (token ∷ tokens) = token_notes quoted place token ++ notes_of quoted place tokens
+
 -- its escapes are reported at its column, and that it is cut at the macro
 abbrev pub target_notes : Place → Argument (List ℕ) → List Item
 target_notes place argument =
-    flat_map (token_notes (is_quoted argument.quoting) (at place.line argument.column)) (tokens_of (is_quoted argument.quoting) argument.text)
+    notes_of (is_quoted argument.quoting) (at place.line argument.column) (tokens_of (is_quoted argument.quoting) argument.text)
     ++ cut_notes place argument
 
 -- ---- where it ends

@@ -1,12 +1,11 @@
 //! The target of a link: its messages where the link begins, and the target in angles where it ends (man(7), `UR`, `MT`).
 
-ghost use Rattle.std.specs.Prelude.{◌≡◌, ◌≤◌, ◌<◌, length, false, flat_map};
+ghost use Rattle.std.specs.Prelude.{◌≡◌, ◌≤◌, ◌<◌, length, false};
 ghost use Rattle.page_core_base.specs.Latches.{Came};
 ghost use Rattle.page_core_escapes.specs.Tokens.{token_view, tokens_of};
 ghost use Rattle.page_roff_syntax.specs.Arguments.{argument_view};
 ghost use Rattle.page_scopes_phrases.specs.Outcomes.{GivesOutcome};
 ghost use Rattle.page_scopes_nodes.specs.Targets as targets;
-ghost use Rattle.page_scopes_text.specs.Words.{token_notes};
 
 use page_core_base::{Font, LINE, Piece, PieceOut, Place};
 use page_core_escapes::Tokens;
@@ -18,7 +17,7 @@ use page_scopes_text::report_token;
 // Gives the messages of a text's escapes, all at one place.
 fn report_escapes<O: PieceOut>(out: &mut O, quoted: bool, place: Place, text: &[u8])
     requires { length text.now ≤ LINE }
-    ensures { Came O.left out.old (flat_map (token_notes quoted place) (tokens_of quoted text.now)) out.new }
+    ensures { Came O.left out.old (targets.notes_of quoted place (tokens_of quoted text.now)) out.new }
 {
     let mut tokens = Tokens::new(quoted, text);
     while let Some(token) = tokens.read() {

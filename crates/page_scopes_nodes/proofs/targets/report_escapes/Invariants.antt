@@ -1,14 +1,12 @@
 use Rattle.std.proofs.Common.{length}
-use Rattle.std.specs.Prelude.{flat_map}
 use Rattle.page_core_base.specs.Latches.{CameUpTo}
 use Rattle.page_core_escapes.specs.Tokens.{tokens_of}
-use Rattle.page_scopes_text.specs.Words.{token_notes}
+use Rattle.page_scopes_nodes.specs.Targets.{notes_of}
 use Rattle.page_scopes_nodes.proofs.targets.report_escapes.Given as goal
 
 abbrev pub invariant-loop-token : goal.invariant-loop-token
 invariant-loop-token g l =
-    CameUpTo g.O.PieceOut.left l.fn.out (flat_map (token_notes l.quoted l.place) (tokens_of l.quoted l.text))
-    (flat_map (token_notes l.quoted l.place) l.tokens) l.out
+    CameUpTo g.O.PieceOut.left l.fn.out (notes_of l.quoted l.place (tokens_of l.quoted l.text)) (notes_of l.quoted l.place l.tokens) l.out
 
 abbrev pub decreases-loop-token : goal.decreases-loop-token
 decreases-loop-token g l = length l.tokens
