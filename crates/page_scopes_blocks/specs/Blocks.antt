@@ -12,7 +12,7 @@ use Rattle.page_scopes_layout.specs.declared.contexts.Context.{Context}
 use Rattle.page_scopes_phrases.specs.Outcomes.{Outcome, after_notes}
 use Rattle.page_scopes_phrases.specs.Runnings.{row_ended}
 use Rattle.page_scopes_phrases.specs.declared.runnings.Running.{Running}
-use Rattle.page_scopes_text.specs.Widths.{width_columns, width_notes}
+use Rattle.page_scopes_words.specs.Widths.{width_columns, width_notes}
 use Rattle.page_sets_lines.specs.declared.blocks.BlockOpener.{BlockOpener}
 use Rattle.page_sets_lines.specs.declared.blocks.BlockOpener.TheVariants as openers
 use Rattle.page_scopes_blocks.specs.BlockWords.{block_words, function_name}

@@ -16,7 +16,7 @@ use Rattle.page_scopes_words.specs.declared.settings.Setting.{Setting}
 use Rattle.page_scopes_words.specs.Fonts.{token_fonts}
 use Rattle.page_scopes_words.specs.Words.{at, glyph_name, is_glue, meaning_notes, meaning_piece, piece_items, token_piece}
 use Rattle.page_scopes_words.specs.declared.fonts.Fonts.{Fonts}
-use Rattle.page_scopes_text.specs.Numbers.{number_notes}
+use Rattle.page_scopes_words.specs.Numbers.{number_notes}
 use Rattle.page_scopes_text.specs.declared.pens.Pen.{Pen}
 use Rattle.page_scopes_text.specs.declared.pens.TextStyle.{TextStyle}
 

@@ -8,11 +8,10 @@ ghost use Rattle.page_core_escapes.specs.Tokens.{is_space, token_view};
 ghost use Rattle.page_scopes_text.specs.Words as words;
 ghost use Rattle.page_scopes_words.specs.Words.{is_glue};
 
-use crate::give_number;
 use page_core_base::{Font, Output, Piece, PieceOut, Place};
 use page_core_escapes::{Escape, Token};
 use page_core_numbers::{Scale, escape_columns};
-use page_scopes_words::{Fonts, Setting, give_glyph, report_escape, token_piece};
+use page_scopes_words::{Fonts, Setting, give_glyph, give_number, report_escape, token_piece};
 
 /// Gives the messages of a token; `quoted` says whether it is that of a quoted argument.
 #[inline(always)]
