@@ -7,7 +7,6 @@ use Rattle.page_sets_names.specs.MacroNames.{font_macro_name, heading_name, link
 use Rattle.page_sets_names.specs.Marks.{marks_name}
 use Rattle.page_sets_lines.specs.declared.openers.LineOpener.TheVariants.{Head, Heading, Tag, FontWords, Enclosure, Description, OneLine}
 use Rattle.page_sets_lines.specs.declared.blocks.Block.TheVariants as blocks
-use Rattle.page_sets_lines.specs.declared.lists.ListKind.{ListKind}
 use Rattle.page_sets_lines.specs.declared.lists.ListKind.TheVariants as kinds
 use Rattle.page_scopes_labels.specs.declared.labels.Explicit.{Explicit}
 use Rattle.page_scopes_labels.specs.declared.labels.Explicit.TheVariants.{RelativeMargin, Target, Syntax, Block}
@@ -109,14 +108,10 @@ is_list (labels.Explicit (Block (blocks.List kind))) = true
 is_list _ = false
 
 -- items have heads; the words of `It` in any other list are those of its text
-abbrev pub has_heads : ListKind → Bool
-has_heads kinds.Diag = true
-has_heads kinds.Hang = true
-has_heads kinds.Inset = true
-has_heads kinds.Ohang = true
-has_heads kinds.Tag = true
-has_heads _ = false
-
 abbrev pub is_headed_list : Label → Bool
-is_headed_list (labels.Explicit (Block (blocks.List kind))) = has_heads kind
+is_headed_list (labels.Explicit (Block (blocks.List kinds.Diag))) = true
+is_headed_list (labels.Explicit (Block (blocks.List kinds.Hang))) = true
+is_headed_list (labels.Explicit (Block (blocks.List kinds.Inset))) = true
+is_headed_list (labels.Explicit (Block (blocks.List kinds.Ohang))) = true
+is_headed_list (labels.Explicit (Block (blocks.List kinds.Tag))) = true
 is_headed_list _ = false

@@ -120,7 +120,7 @@ fn line_row(opener: LineOpener) -> LabelRow<&'static str>
 
 // Whether the items of a list have heads; the words of `It` in any other list are those of its text.
 fn has_heads(kind: ListKind) -> bool
-    ensures { result ≡ labels.has_heads kind }
+    ensures { result ≡ labels.is_headed_list (Label.Explicit (Explicit.Block (Block.List kind))) }
 {
     matches!(
         kind,
