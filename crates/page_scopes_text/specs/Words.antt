@@ -8,7 +8,7 @@ use Rattle.page_core_base.specs.declared.pieces.Piece.TheVariants.{Text, Glyph, 
 use Rattle.page_core_base.specs.declared.places.Place.{Place}
 use Rattle.page_core_base.specs.Words.{part_pieces, parts_of}
 use Rattle.page_core_escapes.specs.Meanings as meanings
-use Rattle.page_core_escapes.specs.Meanings.{Meaning, is_known}
+use Rattle.page_core_escapes.specs.Meanings.{is_known}
 use Rattle.page_core_escapes.specs.Tokens.{TextToken, escaped, plain, token_bytes}
 use Rattle.page_core_numbers.specs.Columns.{characters_columns, printed_escape}
 use Rattle.page_core_numbers.specs.declared.scales.Scale.TheVariants.{Em}
@@ -23,12 +23,9 @@ use Rattle.page_scopes_text.specs.declared.pens.TextStyle.{TextStyle}
 -- ---- messages
 
 -- the number in `\h` is in `m` where it has no unit
-abbrev pub escape_notes : (quoted : Bool) → Place → List ℕ → Meaning → List Item
-escape_notes quoted place bytes (meanings.blanks expression) = number_notes Em place expression
-escape_notes quoted place bytes meaning = meaning_notes quoted place bytes meaning
-
 abbrev pub token_notes : (quoted : Bool) → Place → TextToken → List Item
-token_notes quoted place (escaped bytes meaning) = escape_notes quoted place bytes meaning
+token_notes quoted place (escaped bytes (meanings.blanks expression)) = number_notes Em place expression
+token_notes quoted place (escaped bytes meaning) = meaning_notes quoted place bytes meaning
 token_notes quoted place _ = []
 
 abbrev pub word_notes : (quoted : Bool) → Place → List TextToken → List Item
@@ -49,13 +46,9 @@ blank_text count font place = if count == 0 then [] else shown (Text (replicate 
 abbrev pub blank_count : List ℕ → ℕ
 blank_count expression = characters_columns (printed_escape Ascii (meanings.blanks expression))
 
-abbrev pub escape_items : (quoted : Bool) → Font → Place → Meaning → List Item
-escape_items quoted font place (meanings.blanks expression) = blank_text (blank_count expression) font place
-escape_items quoted font place (meanings.glyph name) = shown (Glyph (glyph_name quoted name) font place) ∷ []
-escape_items quoted font place meaning = piece_items (meaning_piece font place meaning)
-
 abbrev pub token_items : (quoted : Bool) → Font → Place → TextToken → List Item
-token_items quoted font place (escaped bytes meaning) = escape_items quoted font place meaning
+token_items quoted font place (escaped bytes (meanings.blanks expression)) = blank_text (blank_count expression) font place
+token_items quoted font place (escaped bytes (meanings.glyph name)) = shown (Glyph (glyph_name quoted name) font place) ∷ []
 token_items quoted font place token = piece_items (token_piece font place token)
 
 -- bytes that print themselves, at whose hyphens a row may end
@@ -71,24 +64,17 @@ abbrev pub printed_items : (quoted splits : Bool) → Font → Place → TextTok
 printed_items quoted splits font place (plain bytes) = plain_items splits font place bytes
 printed_items quoted splits font place token = token_items quoted font place token
 
-abbrev pub escape_prints : Meaning → Bool
-escape_prints (meanings.blanks expression) = nat_lt 0 (blank_count expression)
-escape_prints (meanings.glyph name) = true
-escape_prints meaning = is_some (meaning_piece R (at 0 0) meaning)
-
 abbrev pub token_prints : TextToken → Bool
-token_prints (escaped bytes meaning) = escape_prints meaning
+token_prints (escaped bytes (meanings.blanks expression)) = nat_lt 0 (blank_count expression)
+token_prints (escaped bytes (meanings.glyph name)) = true
+token_prints (escaped bytes meaning) = is_some (meaning_piece R (at 0 0) meaning)
 token_prints token = true
 
 -- ---- fonts
 
 -- whether an escape asks for a font that there is
-abbrev pub escape_sets : Meaning → Bool
-escape_sets (meanings.face face) = is_known face
-escape_sets _ = false
-
 abbrev pub token_sets : TextToken → Bool
-token_sets (escaped bytes meaning) = escape_sets meaning
+token_sets (escaped bytes (meanings.face face)) = is_known face
 token_sets _ = false
 
 abbrev pub fonts_after : TextToken → Setting Fonts → Setting Fonts
@@ -144,12 +130,10 @@ body_after pen word = word_ended pen (pen_through (word_begun pen) word)
 abbrev pub has_gap_cells : TextStyle → Pen → Bool
 has_gap_cells style pen = style.is_literal && (pen.is_after_word && nat_lt 0 pen.gap)
 
-abbrev pub fill_gap_items : Bool → Pen → List Item
-fill_gap_items has_tab pen = if pen.gap == 0 then [] else shown (Blank pen.gap has_tab) ∷ []
-
 abbrev pub gap_items : TextStyle → Bool → Place → Pen → List Item
 gap_items style has_tab place pen =
-    if style.is_literal then (if pen.is_after_word then blank_cells pen.gap R place else []) else fill_gap_items has_tab pen
+    if style.is_literal then (if pen.is_after_word then blank_cells pen.gap R place else [])
+    else if pen.gap == 0 then [] else shown (Blank pen.gap has_tab) ∷ []
 
 abbrev pub gap_after : TextStyle → Pen → Pen
 gap_after style pen = record pen { has_cell = pen.has_cell || has_gap_cells style pen }

@@ -1,10 +1,10 @@
 //! Tokens of words: their messages, what they print, and the fonts after them (roff(7), "ESCAPE SEQUENCES").
 
-ghost use Rattle.std.specs.Prelude.{◌≡◌, ◌≤◌, false, [], ◌∷◌};
+ghost use Rattle.std.specs.Prelude.{◌≡◌, ◌≤◌, ℕ, List, false, [], ◌∷◌};
 ghost use Rattle.page_core_base.specs.Latches.{Came};
 ghost use Rattle.page_core_base.specs.Pieces.{shown};
 ghost use Rattle.page_core_escapes.specs.Escapes.{meaning_view};
-ghost use Rattle.page_core_escapes.specs.Tokens.{is_space, token_view};
+ghost use Rattle.page_core_escapes.specs.Tokens.{escaped, is_space, token_view};
 ghost use Rattle.page_scopes_text.specs.Words as words;
 ghost use Rattle.page_scopes_words.specs.Words.{is_glue};
 
@@ -95,7 +95,7 @@ pub fn give_token<O: PieceOut>(
 
 // Whether an escape prints a cell.
 fn escape_prints(meaning: Escape<'_>) -> bool
-    ensures { result ≡ words.escape_prints (meaning_view meaning.entry) }
+    ensures { (bytes : List ℕ) → result ≡ words.token_prints (escaped bytes (meaning_view meaning.entry)) }
 {
     match meaning {
         Escape::Glyph(_) | Escape::Char(_) | Escape::Tab | Escape::Blank | Escape::Undefined(_) =>

@@ -49,16 +49,12 @@ has_quote bytes = list_any (λ byte. byte == 34) bytes
 abbrev pub glyph_name : (quoted : Bool) → List ℕ → List ℕ
 glyph_name quoted name = if quoted && has_quote name then take 64 (unpaired name) else name
 
--- an undefined escape is its character; that of a tab is a tab
-abbrev pub undefined_piece : Font → Place → ℕ → Piece (List ℕ)
-undefined_piece font place c = if c == 9 then Tab font place else Char c font place
-
--- a glyph, and the blanks of `\h`, are in `page_scopes_text`
+-- an undefined escape is its character; that of a tab is a tab. A glyph, and the blanks of `\h`, are in `page_scopes_text`
 abbrev pub meaning_piece : Font → Place → Meaning → Option (Piece (List ℕ))
 meaning_piece font place (meanings.character c) = Some (Char c font place)
 meaning_piece font place meanings.tab = Some (Tab font place)
 meaning_piece font place meanings.blank = Some (Text (32 ∷ []) font place)
-meaning_piece font place (meanings.undefined c) = Some (undefined_piece font place c)
+meaning_piece font place (meanings.undefined c) = Some (if c == 9 then Tab font place else Char c font place)
 meaning_piece font place _ = None
 
 abbrev pub token_piece : Font → Place → TextToken → Option (Piece (List ℕ))

@@ -1,6 +1,6 @@
 //! Tokens of words: their messages, and what they print (roff(7), "ESCAPE SEQUENCES").
 
-ghost use Rattle.std.specs.Prelude.{◌≡◌, ◌∷◌, [], ◌≤◌, length, take, option_map};
+ghost use Rattle.std.specs.Prelude.{◌≡◌, ◌==◌, ◌∷◌, [], ◌≤◌, length, take, if◌then◌else◌, option_map};
 ghost use Rattle.page_core_base.specs.Latches.{Came};
 ghost use Rattle.page_core_base.specs.Pieces.{piece_of, shown};
 ghost use Rattle.page_core_escapes.specs.Escapes.{face_view, meaning_view};
@@ -144,7 +144,7 @@ fn escape_piece(font: Font, place: Place, meaning: Escape<'_>) -> Option<Piece<&
 
 // What an undefined escape prints.
 fn undefined_piece<'a>(font: Font, place: Place, c: char) -> Piece<&'a [u8]>
-    ensures { piece_of result ≡ words.undefined_piece font place c }
+    ensures { piece_of result ≡ (if c == 9 then Piece.Tab font place else Piece.Char c font place) }
 {
     if c == '\t' {
         return Piece::Tab { font, place };

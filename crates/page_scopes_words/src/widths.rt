@@ -1,9 +1,11 @@
 //! The columns that a width or an offset asks for (mdoc(7), `Bl` and `Bd`).
 
-ghost use Rattle.std.specs.Prelude.{◌≡◌, ◌≤◌, length};
+ghost use Rattle.std.specs.Prelude.{◌≡◌, ◌≤◌, [], length, if◌then◌else◌};
 ghost use Rattle.std.specs.List.{list_any};
 ghost use Rattle.page_core_base.specs.Latches.{Came};
 ghost use Rattle.page_roff_syntax.specs.Arguments.{argument_view};
+ghost use Rattle.page_core_numbers.specs.declared.scales.Scale.TheVariants.{Basic};
+ghost use Rattle.page_scopes_words.specs.Numbers.{number_notes};
 ghost use Rattle.page_scopes_words.specs.Widths as widths;
 
 use crate::give_number;
@@ -64,7 +66,7 @@ fn give_measured<O: PieceOut>(
 ) -> i32
     requires { length width.text.now ≤ LINE }
     ensures columns { result ≡ widths.measured (widths.is_expression width.entry.text.now) output (argument_view width.entry) }
-    ensures came { Came O.left out.old (widths.measured_notes (widths.is_expression width.entry.text.now) place width.entry.text.now) out.new }
+    ensures came { Came O.left out.old (if widths.is_expression width.entry.text.now then number_notes Basic place width.entry.text.now else []) out.new }
 {
     if is_expression(place, width.text) {
         give_number(out, Scale::Basic, place, width.text) / COLUMN

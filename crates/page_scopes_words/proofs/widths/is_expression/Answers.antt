@@ -5,11 +5,12 @@ use Rattle.page_core_base.specs.Messages.{Message}
 use Rattle.page_core_numbers.specs.Expressions.{expression_of, kind_of, messages_at}
 use Rattle.page_core_numbers.specs.declared.scales.Scale.TheVariants.{Basic}
 use Rattle.page_core_numbers.specs.declared.troubles.Trouble.{Trouble}
-use Rattle.page_scopes_words.specs.Widths.{is_expression, is_missing, lacks_operand}
+use Rattle.page_scopes_words.specs.Widths.{is_expression, is_missing}
 use Rattle.page_scopes_words.proofs.widths.is_expression.Goals as goal
 
 -- what is reported of an expression says that an operand is missing
-says_missing : (line column : ℕ) (troubles : List Trouble) → list_any (λ (m : Message). is_missing m.kind) (messages_at line column troubles) ≡ lacks_operand troubles
+says_missing : (line column : ℕ) (troubles : List Trouble)
+    → list_any (λ (m : Message). is_missing m.kind) (messages_at line column troubles) ≡ list_any (λ (t : Trouble). is_missing (kind_of t)) troubles
 says_missing line column [] = refl
 says_missing line column (trouble ∷ troubles) = ap (λ b. is_missing (kind_of trouble) || b) (says_missing line column troubles)
 
