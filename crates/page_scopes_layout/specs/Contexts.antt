@@ -1,6 +1,6 @@
 -- The context of a text, and what stays of it after a scope. Source: man(7), "MACRO OVERVIEW"; mdoc(7), `Bl`, `Rs`, `Fo`, `Sm`.
 use Rattle.std.specs.Prelude.{ℕ, Option, Some, None, ℤ, pos, Bool, true, false, ◌||◌, if◌then◌else◌}
-use Rattle.page_scopes_labels.specs.Labels.{label_row}
+use Rattle.page_scopes_labels.specs.Labels.{is_list, label_row}
 use Rattle.page_scopes_labels.specs.declared.labels.Label.{Label}
 use Rattle.page_scopes_words.specs.Settings.{after_scope, at_first}
 use Rattle.page_scopes_layout.specs.declared.contexts.Context.{Context}
@@ -39,10 +39,6 @@ start page_indent = record {
   has_spacing = at_first true;
   section = Other;
 }
-
-abbrev pub is_list : Label → Bool
-is_list (labels.Explicit (Block (blocks.List kind))) = true
-is_list _ = false
 
 abbrev pub is_diag : ListKind → Bool
 is_diag kinds.Diag = true
