@@ -15,7 +15,7 @@ use Rattle.page_scopes_phrases.specs.LineWords.{argument_word, line_word}
 use Rattle.page_scopes_phrases.specs.Outcomes.{Outcome, nothing, row_break}
 use Rattle.page_scopes_phrases.specs.declared.kept_texts.KeptText.{KeptText}
 use Rattle.page_scopes_phrases.specs.declared.runnings.Running.{Running}
-use Rattle.page_scopes_text.specs.Numbers.{number_notes}
+use Rattle.page_scopes_words.specs.Numbers.{number_notes}
 use Rattle.page_scopes_tree.specs.declared.acts.Act.{Act}
 use Rattle.page_scopes_tree.specs.declared.acts.Act.TheVariants as acts
 use Rattle.page_scopes_words.specs.Words.{at, says}

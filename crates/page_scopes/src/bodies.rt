@@ -18,9 +18,8 @@ use page_scopes_blocks::count_name;
 use page_scopes_layout::{Context, give_margins};
 use page_scopes_leaves::give_kind;
 use page_scopes_phrases::{ManualName, Running, argument_word, give_line_word};
-use page_scopes_text::give_number;
 use page_scopes_tree::Act;
-use page_scopes_words::report;
+use page_scopes_words::{give_number, report};
 use page_sets_lines::{
     BlockCloser, Closer, Event, EventKind, Join, Leaf, LineOpener, LineStep, Opener,
 };

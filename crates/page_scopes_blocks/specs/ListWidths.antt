@@ -9,8 +9,8 @@ use Rattle.page_roff_syntax.specs.Arguments.{is_quoted}
 use Rattle.page_roff_syntax.specs.declared.quotes.Argument.{Argument}
 use Rattle.page_scopes_layout.specs.Lists.{has_room, no_widths, with_width}
 use Rattle.page_scopes_layout.specs.Margins.{hold}
-use Rattle.page_scopes_text.specs.Names.{name_columns}
-use Rattle.page_scopes_text.specs.Widths.{width_columns, width_notes}
+use Rattle.page_scopes_words.specs.Names.{name_columns}
+use Rattle.page_scopes_words.specs.Widths.{width_columns, width_notes}
 use Rattle.page_scopes_words.specs.Words.{says}
 use Rattle.page_sets_lines.specs.ControlLines.{arguments_after}
 use Rattle.page_sets_lines.specs.Lists.{columns_after, no_options}

@@ -6,7 +6,7 @@ use Rattle.page_scopes_layout.specs.Margins.{MARGIN}
 use Rattle.page_scopes_phrases.specs.Runnings.{counting}
 use Rattle.page_scopes_phrases.specs.declared.kept_texts.KeptText.{KeptText}
 use Rattle.page_scopes_phrases.specs.declared.runnings.Running.{Running}
-use Rattle.page_scopes_text.specs.Names.{name_columns}
+use Rattle.page_scopes_words.specs.Names.{name_columns}
 use Rattle.page_sets_lines.specs.declared.events.EventKind.{EventKind}
 use Rattle.page_sets_lines.specs.declared.events.EventKind.TheVariants as kinds
 use Rattle.page_sets_lines.specs.declared.events.Role.TheVariants as roles

@@ -16,7 +16,7 @@ use page_core_base::{Output, Piece, PieceOut, Place};
 use page_roff_syntax::Argument;
 use page_scopes_layout::{Context, give_margins};
 use page_scopes_phrases::Running;
-use page_scopes_text::give_width;
+use page_scopes_words::give_width;
 use page_sets_lines::BlockOpener;
 
 // Gives the columns that a display is further in, with their messages.

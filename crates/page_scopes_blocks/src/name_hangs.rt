@@ -14,7 +14,7 @@ ghost use Rattle.page_sets_lines.specs.declared.line_steps.LineStep.TheVariants 
 use page_core_base::Output;
 use page_scopes_layout::MARGIN;
 use page_scopes_phrases::{ManualName, Running};
-use page_scopes_text::name_columns;
+use page_scopes_words::name_columns;
 use page_sets_lines::{EventKind, Leaf, LineStep, Role, Word};
 
 // The columns with those of a word more, and the blank after it.

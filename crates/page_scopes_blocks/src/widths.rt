@@ -12,8 +12,7 @@ ghost use Rattle.page_sets_lines.specs.declared.lists.ListKind.TheVariants.{Colu
 use page_core_base::{LINE, Limit, NoteKind, Output, PieceOut, Place};
 use page_roff_syntax::{Argument, Arguments};
 use page_scopes_layout::{ColumnWidths, hold};
-use page_scopes_text::{give_width, name_columns};
-use page_scopes_words::report;
+use page_scopes_words::{give_width, name_columns, report};
 use page_sets_lines::{ListKind, ListOptions};
 
 /// The widths of columns that were given.

@@ -5,10 +5,8 @@ use Rattle.std.specs.Str.{bytes_eq}
 use Rattle.page_sets_lines.specs.Blocks.{block_closer_name, block_name}
 use Rattle.page_sets_names.specs.MacroNames.{font_macro_name, heading_name, link_closer_name, link_name, one_line_name, tag_name}
 use Rattle.page_sets_names.specs.Marks.{marks_name}
-use Rattle.page_sets_lines.specs.declared.openers.LineOpener.{LineOpener}
 use Rattle.page_sets_lines.specs.declared.openers.LineOpener.TheVariants.{Head, Heading, Tag, FontWords, Enclosure, Description, OneLine}
 use Rattle.page_sets_lines.specs.declared.blocks.Block.TheVariants as blocks
-use Rattle.page_sets_lines.specs.declared.lists.ListKind.{ListKind}
 use Rattle.page_sets_lines.specs.declared.lists.ListKind.TheVariants as kinds
 use Rattle.page_scopes_labels.specs.declared.labels.Explicit.{Explicit}
 use Rattle.page_scopes_labels.specs.declared.labels.Explicit.TheVariants.{RelativeMargin, Target, Syntax, Block}
@@ -47,15 +45,6 @@ guard_row name = record { name = name; end = Line; is_level = false; owns_prevai
 
 -- ---- the table
 
-abbrev pub line_row : LineOpener → LabelRow (List ℕ)
-line_row Head = plain_row (codes "It") Line
-line_row (Heading name) = guard_row (heading_name name)
-line_row (Tag name) = plain_row (tag_name name) Line
-line_row (FontWords name) = guard_row (font_macro_name name)
-line_row (Enclosure marks) = plain_row (marks_name marks) Line
-line_row Description = plain_row (codes "Nd") Line
-line_row (OneLine name) = plain_row (one_line_name name) Line
-
 abbrev pub label_row : Label → LabelRow (List ℕ)
 label_row labels.Item = plain_row (codes "It") Implied
 label_row labels.Section = level_row (codes "SH") Implied
@@ -65,7 +54,13 @@ label_row (labels.Explicit RelativeMargin) = level_row (codes "RS") (Closer (cod
 label_row (labels.Explicit (Target link)) = plain_row (link_name link) (Closer (link_closer_name link))
 label_row (labels.Explicit Syntax) = plain_row (codes "SY") (Closer (codes "YS"))
 label_row (labels.Explicit (Block block)) = plain_row (block_name block) (Closer (block_closer_name block))
-label_row (labels.Line opener) = line_row opener
+label_row (labels.Line Head) = plain_row (codes "It") Line
+label_row (labels.Line (Heading name)) = guard_row (heading_name name)
+label_row (labels.Line (Tag name)) = plain_row (tag_name name) Line
+label_row (labels.Line (FontWords name)) = guard_row (font_macro_name name)
+label_row (labels.Line (Enclosure marks)) = plain_row (marks_name marks) Line
+label_row (labels.Line Description) = plain_row (codes "Nd") Line
+label_row (labels.Line (OneLine name)) = plain_row (one_line_name name) Line
 
 -- ---- its columns
 
@@ -73,39 +68,29 @@ label_row (labels.Line opener) = line_row opener
 abbrev pub label_name : Label → List ℕ
 label_name label = (label_row label).name
 
--- two scopes have one opener where its name is the same
-abbrev pub same_opener : Label → Label → Bool
-same_opener label other = bytes_eq (label_name label) (label_name other)
-
+-- two scopes have one closer where the name of their openers is the same
 abbrev pub is_explicit : Explicit → Label → Bool
-is_explicit explicit label = same_opener (labels.Explicit explicit) label
+is_explicit explicit label = bytes_eq (label_name (labels.Explicit explicit)) (label_name label)
 
 abbrev pub is_margin : Label → Bool
 is_margin label = is_explicit RelativeMargin label
-
-abbrev pub ends_with_line : ScopeEnd (List ℕ) → Bool
-ends_with_line Line = true
-ends_with_line _ = false
-
-abbrev pub is_line : Label → Bool
-is_line label = ends_with_line (label_row label).end
 
 abbrev pub is_level : Label → Bool
 is_level label = (label_row label).is_level
 
 -- ---- labels by themselves
 
+abbrev pub is_line : Label → Bool
+is_line (labels.Line opener) = true
+is_line _ = false
+
 abbrev pub is_section : Label → Bool
 is_section labels.Section = true
 is_section _ = false
 
 -- an enclosure that ends with a line (`Aq Bq Brq Dq Op Pq Ql Qq Sq`)
-abbrev pub encloses : LineOpener → Bool
-encloses (Enclosure marks) = true
-encloses _ = false
-
 abbrev pub is_enclosure : Label → Bool
-is_enclosure (labels.Line opener) = encloses opener
+is_enclosure (labels.Line (Enclosure marks)) = true
 is_enclosure _ = false
 
 abbrev pub is_paragraph : Label → Bool
@@ -123,14 +108,10 @@ is_list (labels.Explicit (Block (blocks.List kind))) = true
 is_list _ = false
 
 -- items have heads; the words of `It` in any other list are those of its text
-abbrev pub has_heads : ListKind → Bool
-has_heads kinds.Diag = true
-has_heads kinds.Hang = true
-has_heads kinds.Inset = true
-has_heads kinds.Ohang = true
-has_heads kinds.Tag = true
-has_heads _ = false
-
 abbrev pub is_headed_list : Label → Bool
-is_headed_list (labels.Explicit (Block (blocks.List kind))) = has_heads kind
+is_headed_list (labels.Explicit (Block (blocks.List kinds.Diag))) = true
+is_headed_list (labels.Explicit (Block (blocks.List kinds.Hang))) = true
+is_headed_list (labels.Explicit (Block (blocks.List kinds.Inset))) = true
+is_headed_list (labels.Explicit (Block (blocks.List kinds.Ohang))) = true
+is_headed_list (labels.Explicit (Block (blocks.List kinds.Tag))) = true
 is_headed_list _ = false

@@ -105,7 +105,7 @@ fn guard_row(name: &'static str) -> LabelRow<&'static str>
 // The row of a scope that ends with a line.
 #[inline(always)]
 fn line_row(opener: LineOpener) -> LabelRow<&'static str>
-    ensures { labels.row_view result ≡ labels.line_row opener }
+    ensures { labels.row_view result ≡ labels.label_row (Label.Line opener) }
 {
     match opener {
         LineOpener::Head => plain_row("It", ScopeEnd::Line),
@@ -120,7 +120,7 @@ fn line_row(opener: LineOpener) -> LabelRow<&'static str>
 
 // Whether the items of a list have heads; the words of `It` in any other list are those of its text.
 fn has_heads(kind: ListKind) -> bool
-    ensures { result ≡ labels.has_heads kind }
+    ensures { result ≡ labels.is_headed_list (Label.Explicit (Explicit.Block (Block.List kind))) }
 {
     matches!(
         kind,
@@ -158,19 +158,12 @@ impl Label {
         self.row().name
     }
 
-    // Whether two scopes have one opener.
-    fn has_opener_of(self, other: Label) -> bool
-        ensures { result ≡ labels.same_opener other self }
-    {
-        other.name() == self.name()
-    }
-
     /// Whether the scope ends with a line.
     #[inline(always)]
     pub fn is_line(self) -> bool
         ensures { result ≡ labels.is_line self }
     {
-        matches!(self.row().end, ScopeEnd::Line)
+        matches!(self, Label::Line(_))
     }
 
     /// Whether the scope is an enclosure that ends with a line.
@@ -222,7 +215,7 @@ impl Label {
     pub fn is_explicit(self, explicit: Explicit) -> bool
         ensures { result ≡ labels.is_explicit explicit self }
     {
-        self.has_opener_of(Label::Explicit(explicit))
+        Label::Explicit(explicit).name() == self.name()
     }
 
     /// Whether the scope is a relative margin.

@@ -1,6 +1,6 @@
 -- The context of a text, and what stays of it after a scope. Source: man(7), "MACRO OVERVIEW"; mdoc(7), `Bl`, `Rs`, `Fo`, `Sm`.
 use Rattle.std.specs.Prelude.{ℕ, Option, Some, None, ℤ, pos, Bool, true, false, ◌||◌, if◌then◌else◌}
-use Rattle.page_scopes_labels.specs.Labels.{label_row}
+use Rattle.page_scopes_labels.specs.Labels.{is_list, label_row}
 use Rattle.page_scopes_labels.specs.declared.labels.Label.{Label}
 use Rattle.page_scopes_words.specs.Settings.{after_scope, at_first}
 use Rattle.page_scopes_layout.specs.declared.contexts.Context.{Context}
@@ -40,10 +40,6 @@ start page_indent = record {
   section = Other;
 }
 
-abbrev pub is_list : Label → Bool
-is_list (labels.Explicit (Block (blocks.List kind))) = true
-is_list _ = false
-
 abbrev pub is_diag : ListKind → Bool
 is_diag kinds.Diag = true
 is_diag _ = false
@@ -63,7 +59,8 @@ abbrev pub owns_arguments : Label → Bool
 owns_arguments (labels.Explicit (Block blocks.Function)) = true
 owns_arguments _ = false
 
--- margins, hang, part and section are those before the scope, and so are the prevailing indent and the fonts where the label's row says it; a row that has begun has begun; what a request or an escape set stays
+-- Margins, hang, part and section are those before the scope, and so are the prevailing indent and the fonts where the label's row says it; a row that
+-- has begun has begun; what a request or an escape set stays.
 abbrev pub restored : Label → Context → Context → Context
 restored label before now = record {
   list = if is_list label then before.list else now.list;

@@ -1,12 +1,14 @@
 -- How far a heading is `NAME` or `SYNOPSIS`, by what it prints in ASCII. Source: mdoc(7), "MANUAL STRUCTURE"; mandoc_char(7).
 use Rattle.std.specs.Prelude.{ℕ, ◌+◌, min, ◌==◌, nat_lt, Bool, true, false, not, ◌&&◌, List, [], ◌∷◌, length, take, drop, codes, Option, None, Some, if◌then◌else◌, pos, int_lt}
+use Rattle.std.specs.List.{fold}
+use Rattle.std.specs.Option.{option_map_or}
 use Rattle.std.specs.Str.{bytes_eq, chars, is_utf8}
 use Rattle.page_core_escapes.specs.Meanings as escapes
 use Rattle.page_core_escapes.specs.Meanings.{Meaning}
 use Rattle.page_core_escapes.specs.Tokens.{TextToken, white, plain, quotes, escaped, tokens_of}
 use Rattle.page_core_numbers.specs.Expressions.{expression_of}
 use Rattle.page_core_numbers.specs.declared.scales.Scale.TheVariants.{Em}
-use Rattle.page_core_tables.specs.Glyphs.{Symbol, glyph_of, spelling_of}
+use Rattle.page_core_tables.specs.Glyphs.{glyph_of, spelling_of}
 use Rattle.page_scopes_layout.specs.declared.contexts.Context.{Context}
 use Rattle.page_scopes_layout.specs.declared.contexts.PagePart.{PagePart}
 use Rattle.page_scopes_layout.specs.declared.contexts.PagePart.TheVariants as parts
@@ -39,15 +41,16 @@ word_further word printed None = None
 word_further word printed (Some n) =
     if bytes_eq (next_of_word word n printed) printed then Some (min n (length word) + length (next_of_word word n printed)) else None
 
-abbrev pub is_front : Option ℕ → Bool
-is_front None = false
-is_front (Some n) = n == 0
+-- just this many bytes of a word have come
+abbrev pub has_come : ℕ → Option ℕ → Bool
+has_come count None = false
+has_come count (Some n) = n == count
 
 -- what is printed in ASCII, after white space or not: a blank is in neither word
 abbrev pub printed_further : List ℕ → HeadingSoFar → HeadingSoFar
 printed_further [] h = h
 printed_further (c ∷ cs) h =
-    if h.is_parted && not (is_front h.synopsis) then other_heading
+    if h.is_parted && not (has_come 0 h.synopsis) then other_heading
     else record {
       name = word_further name_word (c ∷ cs) h.name;
       synopsis = word_further synopsis_word (c ∷ cs) h.synopsis;
@@ -61,23 +64,12 @@ abbrev pub spelled : List ℕ → List ℕ
 spelled [] = codes "<?>"
 spelled (b ∷ bs) = b ∷ bs
 
-abbrev pub symbol_spelled : Option Symbol → List ℕ
-symbol_spelled None = codes "<?>"
-symbol_spelled (Some symbol) = spelled symbol.spelling
-
 abbrev pub character_further : HeadingSoFar → ℕ → HeadingSoFar
 character_further h c = printed_further (spelled (spelling_of c)) h
 
-abbrev pub characters_further : List ℕ → HeadingSoFar → HeadingSoFar
-characters_further [] h = h
-characters_further (c ∷ cs) h = characters_further cs (character_further h c)
-
-abbrev pub plain_further : List ℕ → HeadingSoFar → HeadingSoFar
-plain_further text h = if is_utf8 text then characters_further (chars text) h else other_heading
-
 -- `\h` prints blanks where it is a column wide, of 24 basic units
 abbrev pub escape_further : Meaning → HeadingSoFar → HeadingSoFar
-escape_further (escapes.glyph name) h = printed_further (symbol_spelled (glyph_of name)) h
+escape_further (escapes.glyph name) h = printed_further (spelled (option_map_or (λ symbol. symbol.spelling) (glyph_of name) [])) h
 escape_further (escapes.character c) h = character_further h c
 escape_further (escapes.undefined c) h = character_further h c
 escape_further escapes.tab h = other_heading
@@ -85,19 +77,11 @@ escape_further escapes.blank h = other_heading
 escape_further (escapes.blanks expression) h = if int_lt (expression_of Em expression).value (pos 24) then h else other_heading
 escape_further _ h = h
 
-abbrev pub token_further : TextToken → HeadingSoFar → HeadingSoFar
-token_further (white bytes) h = record h { is_parted = true }
-token_further (plain text) h = plain_further text h
-token_further (quotes bytes) h = other_heading
-token_further (escaped bytes meaning) h = escape_further meaning h
-
-abbrev pub tokens_further : List TextToken → HeadingSoFar → HeadingSoFar
-tokens_further [] h = h
-tokens_further (token ∷ tokens) h = tokens_further tokens (token_further token h)
-
--- a text, with this many blanks before it
-abbrev pub text_further : (quoted : Bool) → ℕ → List ℕ → HeadingSoFar → HeadingSoFar
-text_further quoted gap text h = tokens_further (tokens_of quoted text) (record h { is_parted = nat_lt 0 gap })
+abbrev pub token_further : HeadingSoFar → TextToken → HeadingSoFar
+token_further h (white bytes) = record h { is_parted = true }
+token_further h (plain text) = if is_utf8 text then fold character_further h (chars text) else other_heading
+token_further h (quotes bytes) = other_heading
+token_further h (escaped bytes meaning) = escape_further meaning h
 
 -- ---- headings
 
@@ -110,23 +94,20 @@ abbrev pub is_heading : PagePart → Bool
 is_heading (parts.Heading column) = true
 is_heading _ = false
 
--- a text may be of such a heading
+-- a text, with this many blanks before it, may be of such a heading
 abbrev pub heading_further : PagePart → (quoted : Bool) → ℕ → List ℕ → HeadingSoFar → HeadingSoFar
-heading_further part quoted gap text h = if is_top_heading part then text_further quoted gap text h else h
+heading_further part quoted gap text h =
+    if is_top_heading part then fold token_further (record h { is_parted = nat_lt 0 gap }) (tokens_of quoted text) else h
 
 -- what is in the heading is no text of one word
 abbrev pub heading_broken : PagePart → HeadingSoFar → HeadingSoFar
 heading_broken part h = if is_top_heading part then other_heading else h
 
-abbrev pub is_whole : List ℕ → Option ℕ → Bool
-is_whole word None = false
-is_whole word (Some n) = n == length word
-
 -- the section that a heading begins
 abbrev pub headed_section : HeadingSoFar → PageSection
 headed_section h =
-    if is_whole synopsis_word h.synopsis then sections.Synopsis
-    else if is_whole name_word h.name then sections.Name
+    if has_come (length synopsis_word) h.synopsis then sections.Synopsis
+    else if has_come (length name_word) h.name then sections.Name
     else sections.Other
 
 -- ---- the section SYNOPSIS

@@ -1,5 +1,5 @@
 -- The margins of rows. Source: man(7), "MACRO OVERVIEW"; roff(7), `in`.
-use Rattle.std.specs.Prelude.{ℕ, Bool, true, false, if◌then◌else◌, Option, None, Some, ℤ, pos, ◌+ℤ◌, int_lt, nat_abs}
+use Rattle.std.specs.Prelude.{ℕ, Bool, false, if◌then◌else◌, Option, Some, ℤ, pos, ◌+ℤ◌, int_lt, nat_abs}
 use Rattle.page_scopes_layout.specs.declared.contexts.Context.{Context}
 use Rattle.page_scopes_layout.specs.declared.contexts.PagePart.{PagePart}
 use Rattle.page_scopes_layout.specs.declared.contexts.PagePart.TheVariants as parts
@@ -28,14 +28,10 @@ abbrev pub same_margins : ℕ → Margins
 same_margins column = record { first = column; rest = column }
 
 -- before its first row has begun a paragraph may have a margin of its own for it
-abbrev pub text_margins : Option ℕ → Bool → Context → Margins
-text_margins None has_row c = same_margins (rest_margin c)
-text_margins (Some first) true c = same_margins (rest_margin c)
-text_margins (Some first) false c = record { first = first_margin c first; rest = rest_margin c }
-
-abbrev pub part_margins : PagePart → Context → Margins
-part_margins (parts.Heading column) c = same_margins column
-part_margins _ c = text_margins c.first c.has_row c
+abbrev pub part_margins : PagePart → Option ℕ → Bool → Context → Margins
+part_margins (parts.Heading column) first has_row c = same_margins column
+part_margins _ (Some first) false c = record { first = first_margin c first; rest = rest_margin c }
+part_margins _ first has_row c = same_margins (rest_margin c)
 
 abbrev pub margins : Context → Margins
-margins c = part_margins c.part c
+margins c = part_margins c.part c.first c.has_row c

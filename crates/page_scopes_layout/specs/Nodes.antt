@@ -1,5 +1,5 @@
 -- What a scope gives where it begins and where it ends, but its words. Source: man(7), "MACRO OVERVIEW"; mdoc(7), "MACRO REFERENCE".
-use Rattle.std.specs.Prelude.{ℕ, List, [], ◌∷◌, ◌++◌, Bool, true, false, if◌then◌else◌, Option, None, Some, pos}
+use Rattle.std.specs.Prelude.{List, [], ◌∷◌, ◌++◌, Bool, true, false, if◌then◌else◌, Option, None, Some, pos}
 use Rattle.page_core_base.specs.Pieces.{Item, shown}
 use Rattle.page_core_base.specs.declared.pieces.Piece.TheVariants as pieces
 use Rattle.page_core_base.specs.declared.pieces.TagForm.{TagForm}
@@ -10,10 +10,7 @@ use Rattle.page_scopes_layout.specs.Lists.{is_close}
 use Rattle.page_scopes_layout.specs.declared.lists.OpenList.{OpenList}
 use Rattle.page_sets_lines.specs.declared.openers.LineOpener.{LineOpener}
 use Rattle.page_sets_lines.specs.declared.openers.LineOpener.TheVariants as lines
-use Rattle.page_scopes_labels.specs.declared.labels.Explicit.{Explicit}
-use Rattle.page_scopes_labels.specs.declared.labels.Explicit.TheVariants.{RelativeMargin, Target, Syntax}
-use Rattle.page_scopes_labels.specs.declared.labels.Explicit.TheVariants as explicits
-use Rattle.page_sets_lines.specs.declared.blocks.Block.{Block}
+use Rattle.page_scopes_labels.specs.declared.labels.Explicit.TheVariants.{RelativeMargin, Syntax, Block}
 use Rattle.page_sets_lines.specs.declared.blocks.Block.TheVariants as blocks
 use Rattle.page_scopes_labels.specs.declared.labels.Label.{Label}
 use Rattle.page_scopes_labels.specs.declared.labels.Label.TheVariants as labels
@@ -53,21 +50,14 @@ is_row (Some list) = is_ohang list.kind
 is_row None = false
 
 -- a head that is set in has blanks after it, whatever is in it
-abbrev pub inset_items : ℕ → List Item
-inset_items blanks = shown (pieces.Tag 0 (Inset blanks)) ∷ []
-
 abbrev pub head_last_items : ListKind → List Item
-head_last_items kinds.Inset = inset_items 1
-head_last_items kinds.Diag = inset_items 2
+head_last_items kinds.Inset = shown (pieces.Tag 0 (Inset 1)) ∷ []
+head_last_items kinds.Diag = shown (pieces.Tag 0 (Inset 2)) ∷ []
 head_last_items _ = []
 
 abbrev pub open_head_last_items : Option OpenList → List Item
 open_head_last_items (Some list) = head_last_items list.kind
 open_head_last_items None = []
-
-abbrev pub head_end_items : Bool → Context → List Item
-head_end_items true c = shown pieces.Break ∷ margin_items c
-head_end_items false c = open_head_last_items c.list ++ (shown pieces.TagEnd ∷ margin_items c)
 
 -- ---- where a scope begins
 
@@ -77,16 +67,8 @@ line_begin_items lines.Head c = head_begin_items c.list c
 line_begin_items (lines.Heading name) c = margin_items c
 line_begin_items (lines.Tag name) c =
     shown (pieces.Indent (margins c).first (margins c).rest) ∷ shown (pieces.Tag (hold c.hang) Row) ∷ []
-line_begin_items (lines.FontWords name) c = []
-line_begin_items (lines.Enclosure marks) c = []
-line_begin_items lines.Description c = []
 line_begin_items (lines.OneLine name) c = shown pieces.Break ∷ margin_items c
-
-abbrev pub explicit_begin_items : Explicit → Context → List Item
-explicit_begin_items RelativeMargin c = shown pieces.Break ∷ margin_items c
-explicit_begin_items (Target link) c = []
-explicit_begin_items Syntax c = shown pieces.Break ∷ []
-explicit_begin_items (explicits.Block block) c = []
+line_begin_items _ c = []
 
 -- in the context of a scope's front: a section is a paragraph, and filled; a relative margin and a synopsis break the row
 abbrev pub begin_items : Label → Context → List Item
@@ -94,35 +76,24 @@ begin_items labels.Item c = item_begin_items c.list c
 begin_items labels.Section c = shown (pieces.Para c.distance.value) ∷ shown (pieces.Literal false) ∷ []
 begin_items labels.Subsection c = shown (pieces.Para c.distance.value) ∷ shown (pieces.Literal false) ∷ []
 begin_items labels.Paragraph c = shown (pieces.Para c.distance.value) ∷ margin_items c
-begin_items (labels.Explicit explicit) c = explicit_begin_items explicit c
+begin_items (labels.Explicit RelativeMargin) c = shown pieces.Break ∷ margin_items c
+begin_items (labels.Explicit Syntax) c = shown pieces.Break ∷ []
 begin_items (labels.Line opener) c = line_begin_items opener c
+begin_items _ c = []
 
-abbrev pub line_end_items : LineOpener → Context → List Item
-line_end_items lines.Head c = head_end_items (is_row c.list) c
-line_end_items (lines.Heading name) c = shown pieces.Heading ∷ margin_items c
-line_end_items (lines.Tag name) c = shown pieces.TagEnd ∷ margin_items c
-line_end_items (lines.FontWords name) c = []
-line_end_items (lines.Enclosure marks) c = margin_items c
-line_end_items lines.Description c = margin_items c
-line_end_items (lines.OneLine name) c = shown pieces.Break ∷ margin_items c
+-- ---- where a scope ends
 
--- after a list (`Bl`) the row ends; after a display (`Bd`) rows are kept or filled as before it
-abbrev pub block_end_items : Block → Context → List Item
-block_end_items (blocks.List kind) c = shown pieces.Break ∷ margin_items c
-block_end_items blocks.Display c = shown pieces.Break ∷ shown (pieces.Literal c.is_literal.value) ∷ margin_items c
-block_end_items _ c = margin_items c
-
-abbrev pub explicit_end_items : Explicit → Context → List Item
-explicit_end_items RelativeMargin c = shown pieces.Break ∷ margin_items c
-explicit_end_items (Target link) c = margin_items c
-explicit_end_items Syntax c = shown pieces.Break ∷ margin_items c
-explicit_end_items (explicits.Block block) c = block_end_items block c
-
--- in the context after a scope: its margins hold again
+-- In the context after a scope: its margins hold again. After a relative margin, a synopsis, a list (`Bl`), a head above its text and a row that is
+-- alone the row ends; after a display (`Bd`) it does, too, and rows are kept or filled as before it.
 abbrev pub end_items : Label → Context → List Item
-end_items labels.Item c = margin_items c
-end_items labels.Section c = margin_items c
-end_items labels.Subsection c = margin_items c
-end_items labels.Paragraph c = margin_items c
-end_items (labels.Explicit explicit) c = explicit_end_items explicit c
-end_items (labels.Line opener) c = line_end_items opener c
+end_items (labels.Explicit RelativeMargin) c = shown pieces.Break ∷ margin_items c
+end_items (labels.Explicit Syntax) c = shown pieces.Break ∷ margin_items c
+end_items (labels.Explicit (Block (blocks.List kind))) c = shown pieces.Break ∷ margin_items c
+end_items (labels.Explicit (Block blocks.Display)) c = shown pieces.Break ∷ shown (pieces.Literal c.is_literal.value) ∷ margin_items c
+end_items (labels.Line lines.Head) c =
+    if is_row c.list then shown pieces.Break ∷ margin_items c else open_head_last_items c.list ++ (shown pieces.TagEnd ∷ margin_items c)
+end_items (labels.Line (lines.Heading name)) c = shown pieces.Heading ∷ margin_items c
+end_items (labels.Line (lines.Tag name)) c = shown pieces.TagEnd ∷ margin_items c
+end_items (labels.Line (lines.FontWords name)) c = []
+end_items (labels.Line (lines.OneLine name)) c = shown pieces.Break ∷ margin_items c
+end_items _ c = margin_items c

@@ -98,13 +98,6 @@ impl Context {
     }
 }
 
-// Whether a scope is a list.
-fn is_list(label: Label) -> bool
-    ensures { result ≡ contexts.is_list label }
-{
-    matches!(label, Label::Explicit(Explicit::Block(Block::List(_))))
-}
-
 // Whether a scope is the head of an item of a list of messages (`-diag`).
 fn is_message(label: Label, list: &Option<OpenList>) -> bool
     ensures { result ≡ contexts.is_message label list.now }
@@ -136,7 +129,7 @@ impl Context {
         ensures { self.new ≡ contexts.restored label before.now self.old }
     {
         let row = label.row();
-        if is_list(label) {
+        if label.is_list() {
             self.list = before.list;
         }
         self.margin = before.margin;

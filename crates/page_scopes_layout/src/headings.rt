@@ -1,9 +1,11 @@
 //! How far a heading is `NAME` or `SYNOPSIS`, by what it prints in ASCII (mdoc(7), "MANUAL STRUCTURE").
 
-ghost use Rattle.std.specs.Prelude.{◌≡◌, ◌≤◌, length};
+ghost use Rattle.std.specs.Prelude.{◌≡◌, ◌≤◌, [], length};
+ghost use Rattle.std.specs.List.{fold};
+ghost use Rattle.std.specs.Option.{option_map_or};
 ghost use Rattle.std.specs.Str.{chars};
 ghost use Rattle.page_core_escapes.specs.Escapes.{meaning_view};
-ghost use Rattle.page_core_escapes.specs.Tokens.{token_view, tokens_of};
+ghost use Rattle.page_core_escapes.specs.Tokens.{plain, token_view, tokens_of};
 ghost use Rattle.page_core_tables.specs.Glyphs.{glyph_of};
 ghost use Rattle.page_scopes_layout.specs.Headings as headings;
 
@@ -57,7 +59,7 @@ fn word_further(word: &[u8], printed: &[u8], so_far: Option<usize>) -> Option<us
 
 // Whether nothing has come of a word.
 fn is_front(so_far: Option<usize>) -> bool
-    ensures { result ≡ headings.is_front so_far }
+    ensures { result ≡ headings.has_come 0 so_far }
 {
     match so_far {
         None => false,
@@ -91,7 +93,7 @@ fn spelled(spelling: &'static str) -> &'static str
 
 // What the glyph of a name prints.
 fn glyph_spelled(name: &[u8]) -> &'static str
-    ensures { result.now ≡ headings.symbol_spelled (glyph_of name.now) }
+    ensures { result.now ≡ headings.spelled (option_map_or (λ symbol. symbol.spelling) (glyph_of name.now) []) }
 {
     match glyph(name) {
         None => "<?>",
@@ -108,7 +110,7 @@ fn character_further(heading: HeadingSoFar, c: char) -> HeadingSoFar
 
 // Goes on after the characters of a text.
 fn characters_further(text: &str, start: HeadingSoFar) -> HeadingSoFar
-    ensures { result ≡ headings.characters_further (chars text.now) start }
+    ensures { result ≡ fold headings.character_further start (chars text.now) }
 {
     let mut heading = start;
     for c in text.chars() {
@@ -119,7 +121,7 @@ fn characters_further(text: &str, start: HeadingSoFar) -> HeadingSoFar
 
 // Goes on after characters that print themselves.
 fn plain_further(text: &[u8], heading: HeadingSoFar) -> HeadingSoFar
-    ensures { result ≡ headings.plain_further text.now heading }
+    ensures { result ≡ headings.token_further heading (plain text.now) }
 {
     match str::from_utf8(text) {
         Ok(text) => characters_further(text, heading),
@@ -149,7 +151,7 @@ fn escape_further(meaning: Escape<'_>, heading: HeadingSoFar) -> HeadingSoFar
 
 // Goes on after a token.
 fn token_further(token: &Token<'_>, heading: HeadingSoFar) -> HeadingSoFar
-    ensures { result ≡ headings.token_further (token_view token.now) heading }
+    ensures { result ≡ headings.token_further heading (token_view token.now) }
 {
     match *token {
         Token::White(_) => HeadingSoFar {
@@ -165,7 +167,7 @@ fn token_further(token: &Token<'_>, heading: HeadingSoFar) -> HeadingSoFar
 // Goes on after the tokens of a text.
 fn tokens_further(quoted: bool, text: &[u8], start: HeadingSoFar) -> HeadingSoFar
     requires { length text.now ≤ LINE }
-    ensures { result ≡ headings.tokens_further (tokens_of quoted text.now) start }
+    ensures { result ≡ fold headings.token_further start (tokens_of quoted text.now) }
 {
     let mut tokens = Tokens::new(quoted, text);
     let mut heading = start;
@@ -201,7 +203,7 @@ pub fn in_synopsis(context: &Context) -> bool
 
 // Whether all bytes of a word have come.
 fn is_whole(word: &[u8], so_far: Option<usize>) -> bool
-    ensures { result ≡ headings.is_whole word.now so_far }
+    ensures { result ≡ headings.has_come (length word.now) so_far }
 {
     match so_far {
         None => false,

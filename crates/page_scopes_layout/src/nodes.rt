@@ -2,6 +2,7 @@
 
 ghost use Rattle.std.specs.Prelude.{◌≡◌, [], ◌∷◌};
 ghost use Rattle.page_core_base.specs.Latches.{Came};
+ghost use Rattle.page_core_base.specs.Pieces.{shown};
 ghost use Rattle.page_scopes_layout.specs.Nodes as nodes;
 
 use crate::{Context, OpenList, hold, margins_of};
@@ -35,7 +36,7 @@ fn give_item_begin<O: PieceOut>(out: &mut O, context: &Context)
 
 // Gives a tag of words that are in their text's row, whatever their columns are.
 fn give_inset<O: PieceOut>(out: &mut O, blanks: u32)
-    ensures { Came O.left out.old (nodes.inset_items blanks) out.new }
+    ensures { Came O.left out.old (shown (Piece.Tag 0 (TagForm.Inset blanks)) ∷ []) out.new }
 {
     out.give(Piece::Tag {
         hang: 0,
@@ -101,7 +102,7 @@ fn give_head_last<O: PieceOut>(out: &mut O, list: &Option<OpenList>)
 
 // Gives what ends a head, and the margins of the context after it.
 fn give_head_end<O: PieceOut>(out: &mut O, context: &Context)
-    ensures { Came O.left out.old (nodes.head_end_items (nodes.is_row context.now.list) context.now) out.new }
+    ensures { Came O.left out.old (nodes.end_items (Label.Line LineOpener.Head) context.now) out.new }
 {
     if context.has_row_heads() {
         out.give(Piece::Break);
@@ -163,7 +164,7 @@ pub fn give_begin<O: PieceOut>(out: &mut O, label: Label, context: &Context)
 
 // Gives what ends a line scope, and the margins of the context after it.
 fn give_line_end<O: PieceOut>(out: &mut O, opener: LineOpener, context: &Context)
-    ensures { Came O.left out.old (nodes.line_end_items opener context.now) out.new }
+    ensures { Came O.left out.old (nodes.end_items (Label.Line opener) context.now) out.new }
 {
     match opener {
         LineOpener::Head => give_head_end(out, context),
@@ -186,7 +187,7 @@ fn give_line_end<O: PieceOut>(out: &mut O, opener: LineOpener, context: &Context
 
 // Gives what ends a block of mdoc(7), and the margins of the context after it.
 fn give_block_end<O: PieceOut>(out: &mut O, block: Block, context: &Context)
-    ensures { Came O.left out.old (nodes.block_end_items block context.now) out.new }
+    ensures { Came O.left out.old (nodes.end_items (Label.Explicit (Explicit.Block block)) context.now) out.new }
 {
     match block {
         Block::List(_) => out.give(Piece::Break),

@@ -14,7 +14,7 @@ use Rattle.page_scopes_words.specs.declared.settings.Setting.{Setting}
 use Rattle.page_scopes_phrases.specs.Outcomes.{Outcome, after_notes, at_margins, row_break}
 use Rattle.page_scopes_phrases.specs.Runnings.{row_ended, with_content}
 use Rattle.page_scopes_phrases.specs.declared.runnings.Running.{Running}
-use Rattle.page_scopes_text.specs.Numbers.{columns_notes, columns_value, rows_notes, rows_value}
+use Rattle.page_scopes_words.specs.Numbers.{columns_notes, columns_value, rows_notes, rows_value}
 use Rattle.page_scopes_words.specs.Fonts.{face_fonts}
 use Rattle.page_scopes_words.specs.Words.{face_notes}
 use Rattle.page_scopes_words.specs.declared.fonts.Fonts.{Fonts}

@@ -9,7 +9,7 @@ ghost use Rattle.page_roff_syntax.specs.Arguments.{argument_view};
 ghost use Rattle.page_scopes_phrases.specs.Outcomes.{GivesOutcome, row_margin_items};
 ghost use Rattle.page_scopes_leaves.specs.Requests as requests;
 ghost use Rattle.page_scopes_phrases.specs.Runnings.{row_ended, with_content};
-ghost use Rattle.page_scopes_text.specs.Numbers.{columns_notes};
+ghost use Rattle.page_scopes_words.specs.Numbers.{columns_notes};
 ghost use Rattle.page_sets_lines.specs.Events.{given_view, request_view, text_view};
 
 use crate::margins::give_row_margins;
@@ -18,8 +18,7 @@ use page_core_escapes::{FontName, read_font};
 use page_roff_syntax::Argument;
 use page_scopes_layout::Context;
 use page_scopes_phrases::Running;
-use page_scopes_text::{give_columns, give_rows};
-use page_scopes_words::{Fonts, Setting, report_font};
+use page_scopes_words::{Fonts, Setting, give_columns, give_rows, report_font};
 use page_sets_lines::Request;
 
 /// The rows that are given, one where they are not, with the messages of their number.

@@ -20,7 +20,7 @@ use Rattle.page_scopes_phrases.specs.Outcomes.{Outcome, after_notes, followed_by
 use Rattle.page_scopes_phrases.specs.Runnings.{row_ended}
 use Rattle.page_scopes_blocks.specs.Tags.{tag}
 use Rattle.page_scopes_phrases.specs.declared.runnings.Running.{Running}
-use Rattle.page_scopes_text.specs.Numbers.{columns_notes, columns_value}
+use Rattle.page_scopes_words.specs.Numbers.{columns_notes, columns_value}
 use Rattle.page_scopes_labels.specs.declared.labels.Explicit.TheVariants.{RelativeMargin, Syntax}
 use Rattle.page_scopes_labels.specs.declared.labels.Label.{Label}
 use Rattle.page_scopes_labels.specs.declared.labels.Label.TheVariants as labels
@@ -30,7 +30,7 @@ use Rattle.page_sets_lines.specs.declared.events.Join.TheVariants.{Apart}
 use Rattle.page_sets_names.specs.declared.macro_names.ParagraphName.{ParagraphName}
 use Rattle.page_sets_lines.specs.declared.openers.Opener.{Opener}
 use Rattle.page_sets_lines.specs.declared.openers.Opener.TheVariants as openers
-use Rattle.page_scopes_text.specs.Names.{name_columns}
+use Rattle.page_scopes_words.specs.Names.{name_columns}
 use Rattle.page_scopes_nodes.specs.Targets.{target_notes}
 use Rattle.page_scopes_nodes.specs.declared.page_layouts.PageLayout.{PageLayout}
 

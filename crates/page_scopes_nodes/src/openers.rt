@@ -23,8 +23,7 @@ use page_scopes_blocks::{TagPlace, give_block, give_item, give_list, give_tag};
 use page_scopes_labels::{Explicit, Label};
 use page_scopes_layout::{Context, give_begin, hold};
 use page_scopes_phrases::{Running, argument_word};
-use page_scopes_text::{give_columns, name_columns};
-use page_scopes_words::report;
+use page_scopes_words::{give_columns, name_columns, report};
 use page_sets_lines::{BlockOpener, Join, Opener, ParagraphName};
 
 // The columns of a number that may be given, with its messages.

@@ -21,7 +21,8 @@ use Rattle.page_scopes_text.proofs.FontWordLemmas.{known_notes}
 use Rattle.page_scopes_text.proofs.PartedLemmas.{others_same, pen_more, plain_word, tokens_more, words_more}
 use Rattle.page_scopes_text.specs.Parted.{Parted, words_of}
 use Rattle.page_scopes_text.specs.Words.{fonts_after, pen_after, pen_through, token_prints, tokens_items, word_notes}
-use Rattle.page_scopes_text.specs.machine.Letters.{Lettered, ReadsLetters, inside, letters_in}
+use Rattle.page_scopes_words.specs.machine.Letters.{letters_in}
+use Rattle.page_scopes_text.specs.machine.Letters.{Lettered, ReadsLetters, inside}
 use Rattle.page_scopes_text.specs.declared.pens.Pen.{Pen}
 
 -- ---- tokens that are letters

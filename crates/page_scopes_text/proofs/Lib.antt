@@ -4,10 +4,8 @@ pub mod BlankCountLemmas
 pub mod PlainWordLemmas
 pub mod RunLemmas
 pub mod RomanRunLemmas
-pub mod RunEndLemmas
 pub mod RunWordLemmas
 pub mod FontWordLemmas
-pub mod LetterCellLemmas
 pub mod LetterLemmas
 pub mod LetteredWordLemmas
 mod PartLemmas

@@ -9,7 +9,8 @@ use Rattle.page_core_escapes.specs.Tokens.{begins_word, is_white, prints_itself}
 use Rattle.page_scopes_text.proofs.PartedLemmas.{reads_front}
 use Rattle.page_scopes_text.proofs.PlainWordLemmas.{ReadsBlankWord, reads_blank_word}
 use Rattle.page_scopes_text.specs.Parted.{Spaced}
-use Rattle.page_scopes_text.specs.machine.Runs.{BeginsRun, GoesOn, RunOf, blank_word, ends_run}
+use Rattle.page_scopes_words.specs.machine.RunEnds.{GoesOn, ends_run}
+use Rattle.page_scopes_text.specs.machine.Runs.{BeginsRun, RunOf, blank_word}
 
 -- ---- one byte
 

@@ -1,25 +1,25 @@
 -- A text, part by part.
-use Rattle.std.proofs.Common.{◌≡◌, ℕ, ◌≤◌, Bool, true, false, List, [], ◌++◌, length, take, drop, refl, ap, append-nil}
+use Rattle.std.proofs.Common.{◌≡◌, ℕ, ◌<◌, ◌≤◌, ◌==◌, Bool, true, false, List, [], ◌++◌, length, take, drop, refl, ap, append-nil, arith}
+use Rattle.std.proofs.lemmas.Bool.Decides.{nat_tests}
 use Rattle.page_core_escapes.specs.Tokens.{begins_white, begins_word, token_len}
 use Rattle.page_scopes_words.specs.Words.{has_tab}
 use Rattle.page_scopes_text.proofs.PartedLemmas.{no_word, spaced_more, white_some, word_some, words_more, words_none}
 use Rattle.page_scopes_text.specs.Parted.{Parted, spaced_front, words_of}
-use Rattle.page_scopes_text.specs.Texts.{leading_after, leading_items, next_word_after, next_word_items, others_after, others_items, place_after, spaced_after, spaced_items, text_after, text_items, white_after, white_items}
+use Rattle.page_scopes_text.specs.Texts.{leading_after, leading_items, others_after, others_items, place_after, spaced_after, spaced_items, text_after, text_items, white_after, white_items}
 use Rattle.page_scopes_text.specs.Words.{word_after, word_items}
 use Rattle.page_scopes_text.specs.declared.pens.Pen.{Pen}
 use Rattle.page_scopes_text.specs.declared.pens.TextStyle.{TextStyle}
 
 -- ---- a word after white space
 
-next_word : (style : TextStyle) (line : ℕ) (tab : Bool) (pen : Pen) (text : List ℕ) → begins_word text ≡ true
-    → next_word_items style line tab pen (words_of style.is_quoted text).word ≡ word_items style line tab pen (words_of style.is_quoted text).word
-next_word style line tab pen text h =
-    rw (words_more style.is_quoted text (token_len style.is_quoted text) h (word_some style.is_quoted text h) refl) refl
+not_none : (n : ℕ) → 0 < n → (n == 0) ≡ false
+not_none n h = grind (arith, nat_tests, h)
 
-after_next_word : (style : TextStyle) (pen : Pen) (text : List ℕ) → begins_word text ≡ true
-    → next_word_after style pen (words_of style.is_quoted text).word ≡ word_after style pen (words_of style.is_quoted text).word
-after_next_word style pen text h =
-    rw (words_more style.is_quoted text (token_len style.is_quoted text) h (word_some style.is_quoted text h) refl) refl
+-- where a word begins it has a token
+next_word : (quoted : Bool) (text : List ℕ) → begins_word text ≡ true → (length (words_of quoted text).word == 0) ≡ false
+next_word quoted text h =
+    let more = ap (λ (t : Parted). length t.word) (words_more quoted text (token_len quoted text) h (word_some quoted text h) refl) in
+    not_none (length (words_of quoted text).word) (omega (arith, more))
 
 pub spaced_word : (style : TextStyle) (line : ℕ) (pen : Pen) (text white rest : List ℕ) (n : ℕ) → n ≡ token_len style.is_quoted text
     → white ≡ take n text → rest ≡ drop n text → begins_word rest ≡ true
@@ -27,13 +27,12 @@ pub spaced_word : (style : TextStyle) (line : ℕ) (pen : Pen) (text white rest 
     ≡ white_items style (place_after line pen white) white
     ++ word_items style line (has_tab white) (white_after style pen white) (words_of style.is_quoted rest).word
 spaced_word style line pen text white rest n e w r h =
-    rw (← e, ← w, ← r) (ap (λ t. white_items style (place_after line pen white) white ++ t)
-    (next_word style line (has_tab white) (white_after style pen white) rest h))
+    rw (← e, ← w, ← r, next_word style.is_quoted rest h) refl
 
 pub after_spaced_word : (style : TextStyle) (pen : Pen) (text white rest : List ℕ) (n : ℕ) → n ≡ token_len style.is_quoted text
     → white ≡ take n text → rest ≡ drop n text → begins_word rest ≡ true
     → spaced_after style pen (spaced_front style.is_quoted text) ≡ word_after style (white_after style pen white) (words_of style.is_quoted rest).word
-after_spaced_word style pen text white rest n e w r h = rw (← e, ← w, ← r) (after_next_word style (white_after style pen white) rest h)
+after_spaced_word style pen text white rest n e w r h = rw (← e, ← w, ← r, next_word style.is_quoted rest h) refl
 
 pub spaced_end : (style : TextStyle) (line : ℕ) (pen : Pen) (text white rest : List ℕ) (n : ℕ) → n ≡ token_len style.is_quoted text
     → white ≡ take n text → rest ≡ drop n text → begins_word rest ≡ false

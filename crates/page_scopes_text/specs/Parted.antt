@@ -13,11 +13,8 @@ pub record Parted : Type 0 where
   pub word : List TextToken
   pub others : List Spaced
 
-abbrev pub after_white : List ℕ → Parted → Parted
-after_white bytes text = record { word = []; others = record { white = bytes; word = text.word } ∷ text.others }
-
 abbrev pub after_token : TextToken → Parted → Parted
-after_token (white bytes) text = after_white bytes text
+after_token (white bytes) text = record { word = []; others = record { white = bytes; word = text.word } ∷ text.others }
 after_token token text = record { word = token ∷ text.word; others = text.others }
 
 abbrev pub parted : List TextToken → Parted

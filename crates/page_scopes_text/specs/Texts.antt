@@ -1,5 +1,5 @@
 -- A text as pieces and messages: its words, and the white space between them. Source: roff(7), "LANGUAGE SYNTAX"; mandoc(1), "DIAGNOSTICS".
-use Rattle.std.specs.Prelude.{ℕ, ◌+◌, max, Bool, true, false, not, ◌||◌, ◌&&◌, List, [], ◌∷◌, ◌++◌, length, if◌then◌else◌}
+use Rattle.std.specs.Prelude.{ℕ, ◌+◌, ◌==◌, max, Bool, true, false, not, ◌||◌, ◌&&◌, List, [], ◌∷◌, ◌++◌, length, if◌then◌else◌}
 use Rattle.page_core_base.specs.Pieces.{Item, shown}
 use Rattle.page_core_base.specs.declared.cells.Font.TheVariants.{R}
 use Rattle.page_core_base.specs.declared.pieces.Piece.TheVariants.{Break}
@@ -30,21 +30,14 @@ white_after style pen white = record pen {
 }
 
 -- at the text's end there is no word
-abbrev pub next_word_items : TextStyle → ℕ → Bool → Pen → List TextToken → List Item
-next_word_items style line tab pen [] = []
-next_word_items style line tab pen (token ∷ tokens) = word_items style line tab pen (token ∷ tokens)
-
-abbrev pub next_word_after : TextStyle → Pen → List TextToken → Pen
-next_word_after style pen [] = pen
-next_word_after style pen (token ∷ tokens) = word_after style pen (token ∷ tokens)
-
 abbrev pub spaced_items : TextStyle → ℕ → Pen → Spaced → List Item
 spaced_items style line pen part =
     white_items style (place_after line pen part.white) part.white
-    ++ next_word_items style line (has_tab part.white) (white_after style pen part.white) part.word
+    ++ (if length part.word == 0 then [] else word_items style line (has_tab part.white) (white_after style pen part.white) part.word)
 
 abbrev pub spaced_after : TextStyle → Pen → Spaced → Pen
-spaced_after style pen part = next_word_after style (white_after style pen part.white) part.word
+spaced_after style pen part =
+    if length part.word == 0 then white_after style pen part.white else word_after style (white_after style pen part.white) part.word
 
 abbrev pub others_items : TextStyle → ℕ → Pen → List Spaced → List Item
 others_items style line pen [] = []
@@ -71,13 +64,10 @@ indented_items quoted line pen part =
     ++ body_items quoted (place_after line pen part.white) (indented_pen pen part.white) part.word))
 
 -- in a row that is kept a blank parts it from the word before it
-abbrev pub front_items : TextStyle → Place → Pen → List Item
-front_items style place pen = if has_gap_cells style pen then blank_cells 1 R place else []
-
 abbrev pub leading_items : TextStyle → ℕ → Pen → Spaced → List Item
 leading_items style line pen part =
     if is_indented style then indented_items style.is_quoted line pen part
-    else front_items style (at line pen.column) pen ++ spaced_items style line pen part
+    else (if has_gap_cells style pen then blank_cells 1 R (at line pen.column) else []) ++ spaced_items style line pen part
 
 abbrev pub leading_after : TextStyle → Pen → Spaced → Pen
 leading_after style pen part =

@@ -1,5 +1,6 @@
 -- A word as pieces and messages, with its fonts. Source: roff(7), "ESCAPE SEQUENCES"; mandoc(1), "DIAGNOSTICS".
 use Rattle.std.specs.Prelude.{ℕ, ◌+◌, nat_lt, ◌==◌, Bool, true, false, ◌||◌, ◌&&◌, List, [], ◌∷◌, ◌++◌, length, map, replicate, if◌then◌else◌, is_some}
+use Rattle.std.specs.Option.{option_to_list}
 use Rattle.page_core_base.specs.Pieces.{Item, shown}
 use Rattle.page_core_base.specs.declared.cells.Font.{Font}
 use Rattle.page_core_base.specs.declared.cells.Font.TheVariants.{R}
@@ -8,27 +9,24 @@ use Rattle.page_core_base.specs.declared.pieces.Piece.TheVariants.{Text, Glyph, 
 use Rattle.page_core_base.specs.declared.places.Place.{Place}
 use Rattle.page_core_base.specs.Words.{part_pieces, parts_of}
 use Rattle.page_core_escapes.specs.Meanings as meanings
-use Rattle.page_core_escapes.specs.Meanings.{Meaning, is_known}
+use Rattle.page_core_escapes.specs.Meanings.{is_known}
 use Rattle.page_core_escapes.specs.Tokens.{TextToken, escaped, plain, token_bytes}
 use Rattle.page_core_numbers.specs.Columns.{characters_columns, printed_escape}
 use Rattle.page_core_numbers.specs.declared.scales.Scale.TheVariants.{Em}
 use Rattle.page_scopes_words.specs.declared.settings.Setting.{Setting}
 use Rattle.page_scopes_words.specs.Fonts.{token_fonts}
-use Rattle.page_scopes_words.specs.Words.{at, glyph_name, is_glue, meaning_notes, meaning_piece, piece_items, token_piece}
+use Rattle.page_scopes_words.specs.Words.{at, glyph_name, is_glue, meaning_notes, token_piece}
 use Rattle.page_scopes_words.specs.declared.fonts.Fonts.{Fonts}
-use Rattle.page_scopes_text.specs.Numbers.{number_notes}
+use Rattle.page_scopes_words.specs.Numbers.{number_notes}
 use Rattle.page_scopes_text.specs.declared.pens.Pen.{Pen}
 use Rattle.page_scopes_text.specs.declared.pens.TextStyle.{TextStyle}
 
 -- ---- messages
 
 -- the number in `\h` is in `m` where it has no unit
-abbrev pub escape_notes : (quoted : Bool) → Place → List ℕ → Meaning → List Item
-escape_notes quoted place bytes (meanings.blanks expression) = number_notes Em place expression
-escape_notes quoted place bytes meaning = meaning_notes quoted place bytes meaning
-
 abbrev pub token_notes : (quoted : Bool) → Place → TextToken → List Item
-token_notes quoted place (escaped bytes meaning) = escape_notes quoted place bytes meaning
+token_notes quoted place (escaped bytes (meanings.blanks expression)) = number_notes Em place expression
+token_notes quoted place (escaped bytes meaning) = meaning_notes quoted place bytes meaning
 token_notes quoted place _ = []
 
 abbrev pub word_notes : (quoted : Bool) → Place → List TextToken → List Item
@@ -49,46 +47,31 @@ blank_text count font place = if count == 0 then [] else shown (Text (replicate 
 abbrev pub blank_count : List ℕ → ℕ
 blank_count expression = characters_columns (printed_escape Ascii (meanings.blanks expression))
 
-abbrev pub escape_items : (quoted : Bool) → Font → Place → Meaning → List Item
-escape_items quoted font place (meanings.blanks expression) = blank_text (blank_count expression) font place
-escape_items quoted font place (meanings.glyph name) = shown (Glyph (glyph_name quoted name) font place) ∷ []
-escape_items quoted font place meaning = piece_items (meaning_piece font place meaning)
-
 abbrev pub token_items : (quoted : Bool) → Font → Place → TextToken → List Item
-token_items quoted font place (escaped bytes meaning) = escape_items quoted font place meaning
-token_items quoted font place token = piece_items (token_piece font place token)
+token_items quoted font place (escaped bytes (meanings.blanks expression)) = blank_text (blank_count expression) font place
+token_items quoted font place (escaped bytes (meanings.glyph name)) = shown (Glyph (glyph_name quoted name) font place) ∷ []
+token_items quoted font place token = map shown (option_to_list (token_piece font place token))
 
 -- bytes that print themselves, at whose hyphens a row may end
 abbrev pub parts_items : Font → Place → List ℕ → List Item
 parts_items font place bytes = map shown (part_pieces font place (parts_of bytes))
 
--- those of a word that is parted or not
-abbrev pub plain_items : (splits : Bool) → Font → Place → List ℕ → List Item
-plain_items splits font place bytes = if splits then parts_items font place bytes else shown (Text bytes font place) ∷ []
-
--- a token of such a word
+-- a token of a word that is parted or not
 abbrev pub printed_items : (quoted splits : Bool) → Font → Place → TextToken → List Item
-printed_items quoted splits font place (plain bytes) = plain_items splits font place bytes
+printed_items quoted splits font place (plain bytes) = if splits then parts_items font place bytes else shown (Text bytes font place) ∷ []
 printed_items quoted splits font place token = token_items quoted font place token
 
-abbrev pub escape_prints : Meaning → Bool
-escape_prints (meanings.blanks expression) = nat_lt 0 (blank_count expression)
-escape_prints (meanings.glyph name) = true
-escape_prints meaning = is_some (meaning_piece R (at 0 0) meaning)
-
 abbrev pub token_prints : TextToken → Bool
-token_prints (escaped bytes meaning) = escape_prints meaning
+token_prints (escaped bytes (meanings.blanks expression)) = nat_lt 0 (blank_count expression)
+token_prints (escaped bytes (meanings.glyph name)) = true
+token_prints (escaped bytes meaning) = is_some (token_piece R (at 0 0) (escaped bytes meaning))
 token_prints token = true
 
 -- ---- fonts
 
 -- whether an escape asks for a font that there is
-abbrev pub escape_sets : Meaning → Bool
-escape_sets (meanings.face face) = is_known face
-escape_sets _ = false
-
 abbrev pub token_sets : TextToken → Bool
-token_sets (escaped bytes meaning) = escape_sets meaning
+token_sets (escaped bytes (meanings.face face)) = is_known face
 token_sets _ = false
 
 abbrev pub fonts_after : TextToken → Setting Fonts → Setting Fonts
@@ -144,12 +127,10 @@ body_after pen word = word_ended pen (pen_through (word_begun pen) word)
 abbrev pub has_gap_cells : TextStyle → Pen → Bool
 has_gap_cells style pen = style.is_literal && (pen.is_after_word && nat_lt 0 pen.gap)
 
-abbrev pub fill_gap_items : Bool → Pen → List Item
-fill_gap_items has_tab pen = if pen.gap == 0 then [] else shown (Blank pen.gap has_tab) ∷ []
-
 abbrev pub gap_items : TextStyle → Bool → Place → Pen → List Item
 gap_items style has_tab place pen =
-    if style.is_literal then (if pen.is_after_word then blank_cells pen.gap R place else []) else fill_gap_items has_tab pen
+    if style.is_literal then (if pen.is_after_word then blank_cells pen.gap R place else [])
+    else if pen.gap == 0 then [] else shown (Blank pen.gap has_tab) ∷ []
 
 abbrev pub gap_after : TextStyle → Pen → Pen
 gap_after style pen = record pen { has_cell = pen.has_cell || has_gap_cells style pen }

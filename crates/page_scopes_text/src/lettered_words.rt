@@ -8,17 +8,16 @@ ghost use Rattle.page_core_escapes.specs.Escapes.{meaning_view};
 ghost use Rattle.page_core_escapes.specs.Tokens.{begins_word, escaped, plain, token_view};
 ghost use Rattle.page_scopes_text.specs.Parted.{words_of};
 ghost use Rattle.page_scopes_text.specs.Texts as texts;
-ghost use Rattle.page_scopes_text.specs.machine.Letters.{AddsWord, AddsWords, Grows, TakesToken, letters_in};
+ghost use Rattle.page_scopes_text.specs.machine.Letters.{AddsWord, AddsWords, Grows, TakesToken};
+ghost use Rattle.page_scopes_words.specs.machine.Letters.{letters_in};
 ghost use Rattle.page_scopes_text.specs.machine.Reads.{Fits, Within};
 
-use crate::letters::Letters;
-use crate::roman_fonts::ROOM;
 use crate::runs::run_len;
 use crate::tokens::fonts_after;
 use crate::{Pen, TextStyle};
 use page_core_base::{Font, LINE, PieceOut, first_part_len};
 use page_core_escapes::{Escape, Token, begins_word, read_token};
-use page_scopes_words::{Fonts, Setting};
+use page_scopes_words::{Fonts, Letters, ROOM, Setting};
 
 // Takes bytes that print themselves, if they are one part, and there is room: whether it did.
 #[inline(always)]

@@ -12,9 +12,8 @@ ghost use Rattle.page_scopes_text.specs.machine.Runs.{BeginsRun, BeginsWith, Tak
 ghost use Rattle.page_scopes_text.specs.Words as words;
 
 use crate::parts::give_parts;
-use crate::roman_fonts::{ROOM, roman_fonts};
-use crate::run_ends::going_len;
 use page_core_base::{Font, LINE, Piece, PieceOut, Place};
+use page_scopes_words::{ROOM, going_len, roman_fonts};
 
 // The last blank up to a place, or the text's front.
 #[inline(always)]

@@ -1,18 +1,17 @@
 //! Tokens of words: their messages, what they print, and the fonts after them (roff(7), "ESCAPE SEQUENCES").
 
-ghost use Rattle.std.specs.Prelude.{◌≡◌, ◌≤◌, false, [], ◌∷◌};
+ghost use Rattle.std.specs.Prelude.{◌≡◌, ◌≤◌, ℕ, List, false, [], ◌∷◌};
 ghost use Rattle.page_core_base.specs.Latches.{Came};
 ghost use Rattle.page_core_base.specs.Pieces.{shown};
 ghost use Rattle.page_core_escapes.specs.Escapes.{meaning_view};
-ghost use Rattle.page_core_escapes.specs.Tokens.{is_space, token_view};
+ghost use Rattle.page_core_escapes.specs.Tokens.{escaped, is_space, token_view};
 ghost use Rattle.page_scopes_text.specs.Words as words;
 ghost use Rattle.page_scopes_words.specs.Words.{is_glue};
 
-use crate::give_number;
 use page_core_base::{Font, Output, Piece, PieceOut, Place};
 use page_core_escapes::{Escape, Token};
 use page_core_numbers::{Scale, escape_columns};
-use page_scopes_words::{Fonts, Setting, give_glyph, report_escape, token_piece};
+use page_scopes_words::{Fonts, Setting, give_glyph, give_number, report_escape, token_piece};
 
 /// Gives the messages of a token; `quoted` says whether it is that of a quoted argument.
 #[inline(always)]
@@ -96,7 +95,7 @@ pub fn give_token<O: PieceOut>(
 
 // Whether an escape prints a cell.
 fn escape_prints(meaning: Escape<'_>) -> bool
-    ensures { result ≡ words.escape_prints (meaning_view meaning.entry) }
+    ensures { (bytes : List ℕ) → result ≡ words.token_prints (escaped bytes (meaning_view meaning.entry)) }
 {
     match meaning {
         Escape::Glyph(_) | Escape::Char(_) | Escape::Tab | Escape::Blank | Escape::Undefined(_) =>

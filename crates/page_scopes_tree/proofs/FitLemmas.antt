@@ -1,5 +1,5 @@
 -- No event ends more scopes than are open, and none opens where too many are.
-use Rattle.std.proofs.Common.{◌≡◌, ℕ, zero, suc, ◌<◌, ◌≤◌, Bool, true, false, not, List, length, if◌then◌else◌, Option, None, Some, refl, arith}
+use Rattle.std.proofs.Common.{◌≡◌, ℕ, zero, suc, ◌<◌, ◌≤◌, ◌&&◌, Bool, true, false, not, List, length, if◌then◌else◌, Option, None, Some, refl, arith}
 use Rattle.std.specs.Prelude.{ℤ, pos, int_lt, nat_abs, reverse}
 use Rattle.std.proofs.lemmas.Bool.Decides.{nat_tests}
 use Rattle.std.proofs.lemmas.List.Sums.{prefix_len-le-length}
@@ -12,7 +12,6 @@ use Rattle.page_sets_lines.specs.declared.events.EventKind.{EventKind}
 use Rattle.page_sets_lines.specs.declared.events.EventKind.TheVariants as kinds
 use Rattle.page_sets_lines.specs.declared.leaves.Leaf.{Leaf}
 use Rattle.page_sets_lines.specs.declared.leaves.Leaf.TheVariants as leaves
-use Rattle.page_sets_lines.specs.declared.leaves.Request.{Request}
 use Rattle.page_sets_lines.specs.declared.openers.Opener.{Opener}
 use Rattle.page_sets_lines.specs.declared.openers.Opener.TheVariants as openers
 use Rattle.page_sets_lines.specs.declared.openers.LineOpener.{LineOpener}
@@ -20,10 +19,11 @@ use Rattle.page_sets_lines.specs.declared.openers.LineOpener.TheVariants as line
 use Rattle.page_sets_lines.specs.declared.openers.Closer.{Closer}
 use Rattle.page_sets_lines.specs.declared.openers.Closer.TheVariants as closers
 use Rattle.page_scopes_tree.specs.Acts.{Step, comes, does}
-use Rattle.page_scopes_tree.specs.Ends.{inside, up_to, line_scopes, up_to_explicit, up_to_item, up_to_paragraph, place_of_margin, but_outside, up_to_margin, opener_ends, closer_ends, leaf_ends, kind_ends, act_ends}
+use Rattle.page_scopes_tree.specs.Ends.{inside, up_to, line_scopes, up_to_explicit, up_to_item, up_to_paragraph, place_of_margin, up_to_margin, opener_ends, closer_ends, kind_ends, act_ends}
+use Rattle.page_scopes_tree.proofs.MarginLemmas.{but_outside}
 use Rattle.page_scopes_labels.specs.Labels.{is_line, is_enclosure, is_section, is_paragraph, is_item, is_list, is_explicit, is_level}
 use Rattle.page_scopes_tree.specs.Nests.{standing_by, step_ends, step_standing, scopes_nesting}
-use Rattle.page_scopes_tree.specs.Placements.{has_room, in_list, in_headed_list, opened, item_placement, opener_placement, head_placement, line_placement, closed, closer_placement, in_line_scope, is_dropped, request_placement, leaf_placement, kind_placement, act_placement, opener_label, is_passed_over}
+use Rattle.page_scopes_tree.specs.Placements.{has_room, in_list, in_headed_list, opened, opener_placement, line_placement, closed, closer_placement, in_line_scope, is_dropped, kind_placement, act_placement, opener_label, is_passed_over}
 use Rattle.page_core_base.specs.declared.limits.TheConstants.{SCOPES}
 use Rattle.page_scopes_tree.specs.declared.acts.Act.{Act}
 use Rattle.page_scopes_tree.specs.declared.acts.Act.TheVariants as acts
@@ -34,7 +34,7 @@ use Rattle.page_scopes_labels.specs.declared.labels.Label.TheVariants as labels
 use Rattle.page_scopes_tree.specs.declared.placements.Placement.{Placement}
 use Rattle.page_scopes_tree.specs.declared.placements.Placement.TheVariants as placements
 use Rattle.page_scopes_tree.specs.declared.placements.Obstacle.{Obstacle}
-use Rattle.page_scopes_tree.specs.declared.placements.Obstacle.TheVariants.{Scopes}
+use Rattle.page_scopes_tree.specs.declared.placements.Obstacle.TheVariants.{OutsideList, Scopes}
 
 up_to-fits : (found end most : ℕ) → end ≤ most → up_to found end ≤ most
 up_to-fits found end most h = grind (arith, nat_tests, h)
@@ -84,7 +84,7 @@ closer-fits closers.Syntax nodes = explicit-fits Syntax nodes
 closer-fits closers.Enclosures nodes = prefix_len-le-length is_enclosure nodes
 closer-fits (closers.Block closer) nodes = explicit-fits (Block (closed_block closer)) nodes
 
-leaf-fits : (leaf : Leaf (List ℕ)) (nodes : List Label) → leaf_ends leaf nodes ≤ length nodes
+leaf-fits : (leaf : Leaf (List ℕ)) (nodes : List Label) → kind_ends (kinds.Leaf leaf) nodes ≤ length nodes
 leaf-fits leaves.BlankLine nodes = prefix_len-le-length is_line nodes
 leaf-fits _ nodes = omega arith
 
@@ -122,7 +122,7 @@ opened-by false remaining label e k = absurd k
 opened-room : (remaining : List Label) (label : Label) → Opens (opened remaining label) → length remaining < SCOPES
 opened-room remaining label h = opened-by (has_room remaining) remaining label refl h
 
-item-room : (test : Bool) (remaining : List Label) → Opens (item_placement test remaining) → length remaining < SCOPES
+item-room : (test : Bool) (remaining : List Label) → Opens (if test then opened remaining labels.Item else placements.Refused OutsideList) → length remaining < SCOPES
 unfolding Opens
 item-room true remaining h = opened-room remaining labels.Item h
 item-room false remaining h = absurd h
@@ -141,7 +141,7 @@ opener-room (openers.Target link target) remaining h = opened-room remaining (op
 opener-room (openers.Syntax name) remaining h = opened-room remaining (opener_label (openers.Syntax name)) h
 opener-room (openers.Block opener) remaining h = opened-room remaining (opener_label (openers.Block opener)) h
 
-head-room : (test : Bool) (remaining : List Label) → Opens (head_placement test remaining) → length remaining < SCOPES
+head-room : (test : Bool) (remaining : List Label) → Opens (if test then opened remaining (labels.Line lines.Head) else placements.Nothing) → length remaining < SCOPES
 unfolding Opens
 head-room true remaining h = opened-room remaining (labels.Line lines.Head) h
 head-room false remaining h = absurd h
@@ -164,7 +164,8 @@ closed-opens obstacle (suc n) h = h
 closer-opens : (closer : Closer (List ℕ)) (n : ℕ) → Opens (closer_placement closer n) → ⊥
 unfolding Opens
 closer-opens closers.Line n h = h
-closer-opens (closers.RelativeMargin number) n h = closed-opens _ n h
+closer-opens (closers.RelativeMargin None) n h = closed-opens _ n h
+closer-opens (closers.RelativeMargin (Some number)) n h = closed-opens _ n h
 closer-opens (closers.Target link suffix) n h = closed-opens _ n h
 closer-opens closers.Syntax n h = closed-opens _ n h
 closer-opens closers.Enclosures n h = h
@@ -175,23 +176,10 @@ unfolding Opens
 dropped-opens true h = h
 dropped-opens false h = h
 
-request-opens : (inner : Bool) (request : Request (List ℕ)) → Opens (request_placement inner request) → ⊥
+leaf-opens : (leaf : Leaf (List ℕ)) (n : ℕ) (remaining : List Label) → Opens (kind_placement (kinds.Leaf leaf) n remaining) → ⊥
 unfolding Opens
-request-opens true request h = dropped-opens (is_dropped request) h
-request-opens false request h = h
-
-leaf-opens : (leaf : Leaf (List ℕ)) (remaining : List Label) → Opens (leaf_placement leaf remaining) → ⊥
-unfolding Opens
-leaf-opens (leaves.Request request) remaining h = request-opens (in_line_scope remaining) request h
-leaf-opens leaves.BlankLine remaining h = h
-leaf-opens (leaves.Wordless text) remaining h = h
-leaf-opens (leaves.Prologue name rest) remaining h = h
-leaf-opens (leaves.Generated word) remaining h = h
-leaf-opens (leaves.Example begins) remaining h = h
-leaf-opens (leaves.Distance rows) remaining h = h
-leaf-opens (leaves.Fonts font) remaining h = h
-leaf-opens leaves.FurtherTag remaining h = h
-leaf-opens (leaves.Step step) remaining h = h
+leaf-opens (leaves.Request request) n remaining h = dropped-opens (in_line_scope remaining && is_dropped request) h
+leaf-opens _ n remaining h = h
 
 kind-room : (kind : EventKind (List ℕ)) (n : ℕ) (remaining : List Label) → Opens (kind_placement kind n remaining) → length remaining < SCOPES
 unfolding Opens
@@ -199,7 +187,7 @@ kind-room (kinds.Word word) n remaining h = absurd h
 kind-room (kinds.Open opener) n remaining h = opener-room opener remaining h
 kind-room (kinds.Close closer) n remaining h = absurd (closer-opens closer n h)
 kind-room (kinds.LineScope opener) n remaining h = line-room opener remaining h
-kind-room (kinds.Leaf leaf) n remaining h = absurd (leaf-opens leaf remaining h)
+kind-room (kinds.Leaf leaf) n remaining h = absurd (leaf-opens leaf n remaining h)
 kind-room (kinds.Raw text) n remaining h = absurd h
 kind-room (kinds.End fills) n remaining h = absurd h
 kind-room (kinds.Note kind detail is_quoted begins_body) n remaining h = absurd h

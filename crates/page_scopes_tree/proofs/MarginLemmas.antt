@@ -3,11 +3,11 @@ use Rattle.std.proofs.Common.{◌≡◌, ℕ, suc, ◌+◌, ◌-◌, ◌<◌, �
 use Rattle.std.proofs.lemmas.List.{drop_more, drop_all, map-append, reverse-reverse, length-reverse}
 use Rattle.std.proofs.lemmas.Grind.{reverse_onto}
 use Rattle.std.specs.Prelude.{ℤ, pos, int_lt, nat_abs}
-use Rattle.std.specs.Option.{option_map}
+use Rattle.std.specs.Option.{option_map, option_map_or}
 use Rattle.page_scopes_tree.specs.declared.nestings.Scope.{Scope}
 use Rattle.page_scopes_tree.specs.Layouts.{labels}
 use Rattle.page_scopes_tree.proofs.RunLemmas.{length-labels}
-use Rattle.page_scopes_tree.specs.Ends.{place_of_margin, but_outside, up_to_margin}
+use Rattle.page_scopes_tree.specs.Ends.{place_of_margin, up_to_margin}
 use Rattle.page_scopes_labels.specs.Labels.{is_margin}
 use Rattle.page_scopes_labels.specs.declared.labels.Label.{Label}
 
@@ -66,6 +66,10 @@ outer_labels scopes = ap reverse (labels-reverse scopes) ∙ reverse-reverse (la
 
 pub length-inner_labels : {B : Type 0} (scopes : List (Scope Label B)) → length (labels (reverse scopes)) ≡ length scopes
 length-inner_labels scopes = length-labels (reverse scopes) ∙ length-reverse scopes
+
+-- all scopes but those outside of a place
+abbrev pub but_outside : Option ℕ → ℕ → ℕ
+but_outside found count = option_map_or (λ outside. count - outside) found 0
 
 pub margin_by_number : {B : Type 0} (scopes : List (Scope Label B)) (number : ℤ) (found : Option ℕ) (result : ℕ)
     → int_lt number (pos 1) ≡ false → found ≡ place_of_margin (nat_abs number) (labels scopes)

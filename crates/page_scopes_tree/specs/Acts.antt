@@ -1,9 +1,9 @@
 -- What happens to the open scopes of a page. Source: man(7).
-use Rattle.std.specs.Prelude.{ℕ, List, [], ◌∷◌}
+use Rattle.std.specs.Prelude.{ℕ, false, List, [], ◌∷◌}
 use Rattle.std.specs.Borrow.{Bor}
-use Rattle.page_core_base.specs.declared.places.Place.{Place}
 use Rattle.page_sets_lines.specs.Events.{event_view}
 use Rattle.page_sets_lines.specs.declared.events.Event.{Event}
+use Rattle.page_sets_lines.specs.declared.events.EventKind.TheVariants.{End}
 use Rattle.page_scopes_tree.specs.declared.acts.Act.{Act}
 use Rattle.page_scopes_tree.specs.declared.acts.Act.TheVariants as acts
 
@@ -12,10 +12,10 @@ abbrev pub act_view : Act (Bor (Event (Bor (List ℕ)))) → Act (Event (List �
 act_view (acts.Event event) = acts.Event (event_view event.now)
 act_view (acts.PageEnd line) = acts.PageEnd line
 
--- the page's end is at the first column of its line
-abbrev pub act_place : Act (Event (List ℕ)) → Place
-act_place (acts.Event event) = event.place
-act_place (acts.PageEnd line) = record { line = line; column = 1 }
+-- the event of an act; the page's end is at the first column of its line, and opens nothing
+abbrev pub event_of : Act (Event (List ℕ)) → Event (List ℕ)
+event_of (acts.Event event) = event
+event_of (acts.PageEnd line) = record { place = record { line = line; column = 1 }; kind = End false }
 
 -- whether an act is taken where events are taken of which something holds
 abbrev pub TakesAct : (Event (List ℕ) → Type 0) → Act (Event (List ℕ)) → Type 0

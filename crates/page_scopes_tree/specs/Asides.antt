@@ -29,11 +29,7 @@ mode_with nests m (act a) n nodes = nests.mode m a n nodes
 mode_with nests m (aside y) n nodes = m
 
 abbrev pub with_asides : {Y M L A F : Type 0} → Nesting M L A F → Nesting M L (With Y A) (With Y F)
-with_asides nests = record {
-  ends = λ m a nodes. ends_with nests m a nodes;
-  standing = λ m a n nodes. standing_with nests m a n nodes;
-  mode = λ m a n nodes. mode_with nests m a n nodes;
-}
+with_asides nests = record { ends = ends_with nests; standing = standing_with nests; mode = mode_with nests }
 
 -- a state that asides have for themselves, beside a layout's
 pub record Beside (H S : Type 0) : Type 0 where

@@ -1,5 +1,6 @@
 -- The message of a scope that ends otherwise than by its own closer, and of an event that is refused. Source: mandoc(1), "DIAGNOSTICS".
-use Rattle.std.specs.Prelude.{ℕ, Bool, List, [], ◌∷◌, Option, None, Some, if◌then◌else◌, codes}
+use Rattle.std.specs.Prelude.{ℕ, Bool, List, [], ◌∷◌, map, Option, None, Some, if◌then◌else◌, codes}
+use Rattle.std.specs.Option.{option_to_list}
 use Rattle.std.specs.Str.{bytes_eq}
 use Rattle.page_core_base.specs.Messages.{message_about}
 use Rattle.page_core_base.specs.Pieces.{Item, noted}
@@ -11,13 +12,12 @@ use Rattle.page_sets_names.specs.MacroNames.{link_closer_name}
 use Rattle.page_sets_lines.specs.declared.events.Event.{Event}
 use Rattle.page_sets_lines.specs.declared.events.EventKind.{EventKind}
 use Rattle.page_sets_lines.specs.declared.events.EventKind.TheVariants as kinds
-use Rattle.page_sets_lines.specs.declared.leaves.Leaf.{Leaf}
 use Rattle.page_sets_lines.specs.declared.leaves.Leaf.TheVariants as leaves
 use Rattle.page_sets_lines.specs.declared.openers.Opener.{Opener}
 use Rattle.page_sets_lines.specs.declared.openers.Opener.TheVariants as openers
 use Rattle.page_sets_lines.specs.declared.openers.Closer.{Closer}
 use Rattle.page_sets_lines.specs.declared.openers.Closer.TheVariants as closers
-use Rattle.page_scopes_tree.specs.Acts.{act_place}
+use Rattle.page_scopes_tree.specs.Acts.{event_of}
 use Rattle.page_scopes_labels.specs.Labels.{label_name, label_row}
 use Rattle.page_scopes_tree.specs.declared.acts.Act.{Act}
 use Rattle.page_scopes_tree.specs.declared.acts.Act.TheVariants as acts
@@ -32,12 +32,11 @@ use Rattle.page_core_base.specs.declared.limits.Limit.TheVariants as limits
 -- ---- the names of closers
 
 abbrev pub closer_name : Closer (List ℕ) → List ℕ
-closer_name closers.Line = []
 closer_name (closers.RelativeMargin number) = codes "RE"
 closer_name (closers.Target link suffix) = link_closer_name link
 closer_name closers.Syntax = codes "YS"
-closer_name closers.Enclosures = []
 closer_name (closers.Block closer) = block_closer_name (closed_block closer)
+closer_name _ = []
 
 -- the next synopsis ends one as its closer does
 abbrev pub opener_closer_name : Opener (List ℕ) → List ℕ
@@ -57,17 +56,9 @@ explicit_broken _ own = Some note_kinds.MissingEnd
 -- ---- a line scope
 
 -- macros that no line scope takes, blank lines and raw lines break line scopes
-abbrev pub leaf_breaks : Leaf (List ℕ) → Option NoteKind
-leaf_breaks leaves.BlankLine = Some note_kinds.LineScope
-leaf_breaks _ = None
-
-abbrev pub closer_breaks : Closer (List ℕ) → Option NoteKind
-closer_breaks closers.Line = Some note_kinds.LineScope
-closer_breaks _ = None
-
 abbrev pub line_broken : EventKind (List ℕ) → Option NoteKind
-line_broken (kinds.Close closer) = closer_breaks closer
-line_broken (kinds.Leaf leaf) = leaf_breaks leaf
+line_broken (kinds.Close closers.Line) = Some note_kinds.LineScope
+line_broken (kinds.Leaf leaves.BlankLine) = Some note_kinds.LineScope
 line_broken (kinds.Raw text) = Some note_kinds.LineScope
 line_broken _ = None
 
@@ -90,13 +81,9 @@ broken (acts.PageEnd line) label = page_end_broken (label_row label).end
 abbrev pub says : NoteKind → Place → List ℕ → Item
 says kind place detail = noted (message_about kind place detail)
 
-abbrev pub note_if : Option NoteKind → Place → List ℕ → List Item
-note_if None place detail = []
-note_if (Some kind) place detail = says kind place detail ∷ []
-
 -- the message of a scope that an act ends
 abbrev pub broken_notes : Act (Event (List ℕ)) → Label → List Item
-broken_notes act label = note_if (broken act label) (act_place act) (label_name label)
+broken_notes act label = map (λ kind. says kind (event_of act).place (label_name label)) (option_to_list (broken act label))
 
 -- ---- refused events
 
@@ -104,12 +91,8 @@ abbrev pub kind_closer_name : EventKind (List ℕ) → List ℕ
 kind_closer_name (kinds.Close closer) = closer_name closer
 kind_closer_name _ = []
 
-abbrev pub act_closer_name : Act (Event (List ℕ)) → List ℕ
-act_closer_name (acts.Event event) = kind_closer_name event.kind
-act_closer_name (acts.PageEnd line) = []
-
 abbrev pub obstacle_notes : Obstacle → Act (Event (List ℕ)) → List Item
-obstacle_notes OutsideList act = says note_kinds.ItemOutside (act_place act) [] ∷ []
-obstacle_notes Scopes act = says note_kinds.Limit (act_place act) (name_of limits.Scopes) ∷ []
-obstacle_notes NotOpen act = says note_kinds.NotOpen (act_place act) (act_closer_name act) ∷ []
-obstacle_notes FewerMargins act = says note_kinds.FewerRs (act_place act) [] ∷ []
+obstacle_notes OutsideList act = says note_kinds.ItemOutside (event_of act).place [] ∷ []
+obstacle_notes Scopes act = says note_kinds.Limit (event_of act).place (name_of limits.Scopes) ∷ []
+obstacle_notes NotOpen act = says note_kinds.NotOpen (event_of act).place (kind_closer_name (event_of act).kind) ∷ []
+obstacle_notes FewerMargins act = says note_kinds.FewerRs (event_of act).place [] ∷ []

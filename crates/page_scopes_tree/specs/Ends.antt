@@ -1,6 +1,6 @@
 -- How many of the open scopes, the innermost first, an event ends. Source: man(7), "MACRO OVERVIEW"; mdoc(7), "MACRO REFERENCE".
 use Rattle.std.specs.Prelude.{ℕ, suc, ◌+◌, ◌-◌, ◌==◌, nat_lt, Bool, not, List, [], ◌∷◌, length, reverse, Option, None, Some, if◌then◌else◌, ℤ, pos, int_lt, nat_abs}
-use Rattle.std.specs.Option.{option_map}
+use Rattle.std.specs.Option.{option_map, option_map_or}
 use Rattle.std.specs.List.{prefix_len}
 use Rattle.page_core_numbers.specs.Expressions.{expression_of}
 use Rattle.page_core_numbers.specs.declared.scales.Scale.TheVariants.{Basic}
@@ -8,7 +8,6 @@ use Rattle.page_sets_lines.specs.Blocks.{closed_block}
 use Rattle.page_sets_lines.specs.declared.events.Event.{Event}
 use Rattle.page_sets_lines.specs.declared.events.EventKind.{EventKind}
 use Rattle.page_sets_lines.specs.declared.events.EventKind.TheVariants as kinds
-use Rattle.page_sets_lines.specs.declared.leaves.Leaf.{Leaf}
 use Rattle.page_sets_lines.specs.declared.leaves.Leaf.TheVariants as leaves
 use Rattle.page_sets_lines.specs.declared.openers.Opener.{Opener}
 use Rattle.page_sets_lines.specs.declared.openers.Opener.TheVariants as openers
@@ -33,14 +32,6 @@ up_to found end = if nat_lt found end then found + 1 else 0
 abbrev pub line_scopes : List Label → ℕ
 line_scopes nodes = prefix_len is_line nodes
 
--- the enclosures that are innermost
-abbrev pub enclosures : List Label → ℕ
-enclosures nodes = prefix_len is_enclosure nodes
-
--- all inside the section
-abbrev pub inside_section : List Label → ℕ
-inside_section nodes = inside is_section nodes
-
 -- up to the innermost scope of a closer
 abbrev pub up_to_explicit : Explicit → List Label → ℕ
 up_to_explicit explicit nodes = up_to (inside (is_explicit explicit) nodes) (length nodes)
@@ -60,54 +51,39 @@ place_of_margin k (label ∷ nodes) =
     if is_margin label then (if k == 1 then Some 0 else option_map suc (place_of_margin (k - 1) nodes))
     else option_map suc (place_of_margin k nodes)
 
--- all but those outside of it, and none where it is not there
-abbrev pub but_outside : Option ℕ → ℕ → ℕ
-but_outside None count = 0
-but_outside (Some outside) count = count - outside
-
--- `RE` with a number: up to the relative margin of that number from the outside
+-- `RE` with a number: up to the relative margin of that number from the outside, and none where it is not there
 abbrev pub up_to_margin : ℤ → List Label → ℕ
 up_to_margin number nodes =
-    if int_lt number (pos 1) then 0 else but_outside (place_of_margin (nat_abs number) (reverse nodes)) (length nodes)
-
-abbrev pub margin_ends : Option (List ℕ) → List Label → ℕ
-margin_ends None nodes = up_to_explicit RelativeMargin nodes
-margin_ends (Some number) nodes = up_to_margin (expression_of Basic number).value nodes
+    if int_lt number (pos 1) then 0
+    else option_map_or (λ outside. length nodes - outside) (place_of_margin (nat_abs number) (reverse nodes)) 0
 
 abbrev pub opener_ends : Opener (List ℕ) → List Label → ℕ
 opener_ends openers.Item nodes = up_to_item nodes
 opener_ends openers.Section nodes = length nodes
-opener_ends openers.Subsection nodes = inside_section nodes
+opener_ends openers.Subsection nodes = inside is_section nodes
 opener_ends (openers.Paragraph name) nodes = up_to_paragraph nodes
 opener_ends (openers.Tagged hang) nodes = up_to_paragraph nodes
 opener_ends (openers.Indented tag hang) nodes = up_to_paragraph nodes
 opener_ends (openers.Hanging hang) nodes = up_to_paragraph nodes
-opener_ends (openers.RelativeMargin columns) nodes = 0
-opener_ends (openers.Target link target) nodes = 0
 opener_ends (openers.Syntax name) nodes = up_to_explicit Syntax nodes
-opener_ends (openers.Block opener) nodes = 0
+opener_ends _ nodes = 0
 
 abbrev pub closer_ends : Closer (List ℕ) → List Label → ℕ
 closer_ends closers.Line nodes = line_scopes nodes
-closer_ends (closers.RelativeMargin number) nodes = margin_ends number nodes
+closer_ends (closers.RelativeMargin None) nodes = up_to_explicit RelativeMargin nodes
+closer_ends (closers.RelativeMargin (Some number)) nodes = up_to_margin (expression_of Basic number).value nodes
 closer_ends (closers.Target link suffix) nodes = up_to_explicit (Target link) nodes
 closer_ends closers.Syntax nodes = up_to_explicit Syntax nodes
-closer_ends closers.Enclosures nodes = enclosures nodes
+closer_ends closers.Enclosures nodes = prefix_len is_enclosure nodes
 closer_ends (closers.Block closer) nodes = up_to_explicit (Block (closed_block closer)) nodes
 
-abbrev pub leaf_ends : Leaf (List ℕ) → List Label → ℕ
-leaf_ends leaves.BlankLine nodes = line_scopes nodes
-leaf_ends _ nodes = 0
-
 abbrev pub kind_ends : EventKind (List ℕ) → List Label → ℕ
-kind_ends (kinds.Word word) nodes = 0
 kind_ends (kinds.Open opener) nodes = opener_ends opener nodes
 kind_ends (kinds.Close closer) nodes = closer_ends closer nodes
-kind_ends (kinds.LineScope opener) nodes = 0
-kind_ends (kinds.Leaf leaf) nodes = leaf_ends leaf nodes
+kind_ends (kinds.Leaf leaves.BlankLine) nodes = line_scopes nodes
 kind_ends (kinds.Raw text) nodes = line_scopes nodes
 kind_ends (kinds.End fills) nodes = if fills then line_scopes nodes else 0
-kind_ends (kinds.Note kind detail is_quoted begins_body) nodes = 0
+kind_ends _ nodes = 0
 
 -- the page's end ends all
 abbrev pub act_ends : Act (Event (List ℕ)) → List Label → ℕ

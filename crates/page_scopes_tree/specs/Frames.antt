@@ -1,12 +1,11 @@
 -- The frame of a layout: messages of scopes that are broken and of events that are refused, before what the layout itself gives.
 -- Source: man(7); mandoc(1), "DIAGNOSTICS".
-use Rattle.std.specs.Prelude.{ℕ, List, ◌++◌, false}
+use Rattle.std.specs.Prelude.{ℕ, List, ◌++◌}
 use Rattle.page_core_base.specs.Pieces.{Item}
 use Rattle.page_core_base.specs.declared.places.Place.{Place}
 use Rattle.page_scopes_tree.specs.Layouts.{Layout}
 use Rattle.page_sets_lines.specs.declared.events.Event.{Event}
-use Rattle.page_sets_lines.specs.declared.events.EventKind.TheVariants.{End}
-use Rattle.page_scopes_tree.specs.Acts.{Step, comes, does, act_place}
+use Rattle.page_scopes_tree.specs.Acts.{Step, comes, does, event_of}
 use Rattle.page_scopes_tree.specs.Broken.{broken_notes, obstacle_notes}
 use Rattle.page_scopes_tree.specs.Nests.{Fact, coming, standing, refused}
 use Rattle.page_scopes_tree.specs.declared.acts.Act.{Act}
@@ -30,11 +29,6 @@ abbrev pub act_of : Step → Act (Event (List ℕ))
 act_of (comes event) = acts.Event event
 act_of (does act) = act
 
--- the event of an act; the page's end opens nothing
-abbrev pub event_of : Act (Event (List ℕ)) → Event (List ℕ)
-event_of (acts.Event event) = event
-event_of (acts.PageEnd line) = record { place = record { line = line; column = 1 }; kind = End false }
-
 abbrev pub fact_items : {S B : Type 0} → Tables S B → Fact → S → List Item
 fact_items tables (coming event) s = tables.coming_items event s
 fact_items tables (standing act) s = tables.leaf_items act s
@@ -45,10 +39,7 @@ fact_state tables (coming event) s = tables.coming_state event s
 fact_state tables (standing act) s = tables.leaf_state act s
 fact_state tables (refused obstacle act) s = s
 
--- what the end of a scope gives: its message, and then what the layout gives
-abbrev pub ending_items : {S B : Type 0} → Tables S B → Label → B → Act (Event (List ℕ)) → S → List Item
-ending_items tables label before act s = broken_notes act label ++ tables.end_items label before (act_place act) s
-
+-- the end of a scope gives its message, and then what the layout gives
 abbrev pub framed : {S B : Type 0} → Tables S B → Layout Label Step Fact S B Item
 framed tables = record {
   keep = λ label step s. tables.keep label (event_of (act_of step)) s;
@@ -56,6 +47,6 @@ framed tables = record {
   begin_state = λ label step s. tables.begin_state label (event_of (act_of step)) s;
   leaf_items = λ fact s. fact_items tables fact s;
   leaf_state = λ fact s. fact_state tables fact s;
-  end_items = λ label before step s. ending_items tables label before (act_of step) s;
-  end_state = λ label before step s. tables.end_state label before (act_place (act_of step)) s;
+  end_items = λ label before step s. broken_notes (act_of step) label ++ tables.end_items label before (event_of (act_of step)).place s;
+  end_state = λ label before step s. tables.end_state label before (event_of (act_of step)).place s;
 }

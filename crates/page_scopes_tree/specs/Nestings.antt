@@ -33,5 +33,4 @@ mode_of nests m a nodes = nests.mode m a (nests.ends m a nodes) (left_by nests m
 -- the nodes that are open after it
 abbrev pub inside : {L F : Type 0} → Standing L F → List L → List L
 inside (as_node l) nodes = l ∷ nodes
-inside (as_leaf f) nodes = nodes
-inside as_nothing nodes = nodes
+inside _ nodes = nodes

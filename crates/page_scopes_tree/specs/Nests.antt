@@ -37,8 +37,4 @@ step_skips skips (does act) n remaining = act_skips skips act remaining
 
 -- the tables of events as a nesting of scopes
 abbrev pub scopes_nesting : Nesting Bool Label Step Fact
-scopes_nesting = record {
-  ends = step_ends;
-  standing = step_standing;
-  mode = step_skips;
-}
+scopes_nesting = record { ends = step_ends; standing = step_standing; mode = step_skips }

@@ -1,10 +1,9 @@
 -- What becomes of an event itself, once it ended what it ends. Source: man(7), "MACRO OVERVIEW"; mdoc(7), "MACRO REFERENCE".
-use Rattle.std.specs.Prelude.{ℕ, zero, suc, Bool, true, false, ◌||◌, ◌&&◌, not, nat_lt, nat_le, List, [], ◌∷◌, length, Option, None, Some, if◌then◌else◌}
+use Rattle.std.specs.Prelude.{ℕ, zero, suc, Bool, true, false, ◌||◌, ◌&&◌, not, nat_lt, nat_le, List, [], ◌∷◌, length, Some, if◌then◌else◌}
 use Rattle.page_sets_lines.specs.Blocks.{opened_block}
 use Rattle.page_sets_lines.specs.declared.events.Event.{Event}
 use Rattle.page_sets_lines.specs.declared.events.EventKind.{EventKind}
 use Rattle.page_sets_lines.specs.declared.events.EventKind.TheVariants as kinds
-use Rattle.page_sets_lines.specs.declared.leaves.Leaf.{Leaf}
 use Rattle.page_sets_lines.specs.declared.leaves.Leaf.TheVariants as leaves
 use Rattle.page_sets_lines.specs.declared.leaves.Request.{Request}
 use Rattle.page_sets_lines.specs.declared.leaves.Request.TheVariants as requests
@@ -33,14 +32,11 @@ abbrev pub opener_label : Opener (List ℕ) → Label
 opener_label openers.Item = labels.Item
 opener_label openers.Section = labels.Section
 opener_label openers.Subsection = labels.Subsection
-opener_label (openers.Paragraph name) = labels.Paragraph
-opener_label (openers.Tagged hang) = labels.Paragraph
-opener_label (openers.Indented tag hang) = labels.Paragraph
-opener_label (openers.Hanging hang) = labels.Paragraph
 opener_label (openers.RelativeMargin columns) = labels.Explicit RelativeMargin
 opener_label (openers.Target link target) = labels.Explicit (Target link)
 opener_label (openers.Syntax name) = labels.Explicit Syntax
 opener_label (openers.Block opener) = labels.Explicit (Block (opened_block opener))
+opener_label _ = labels.Paragraph
 
 abbrev pub has_room : List Label → Bool
 has_room remaining = nat_lt (length remaining) SCOPES
@@ -59,21 +55,13 @@ in_headed_list remaining =
     nat_lt (inside is_headed_list remaining) (length remaining) && nat_le (inside is_headed_list remaining) (inside is_list remaining)
 
 -- an item needs a list
-abbrev pub item_placement : Bool → List Label → Placement
-item_placement true remaining = opened remaining labels.Item
-item_placement false remaining = placements.Refused OutsideList
-
 unfoldable pub opener_placement : Opener (List ℕ) → List Label → Placement
-opener_placement openers.Item remaining = item_placement (in_list remaining) remaining
+opener_placement openers.Item remaining = if in_list remaining then opened remaining labels.Item else placements.Refused OutsideList
 opener_placement opener remaining = opened remaining (opener_label opener)
 
 -- the words of `It` are a head where items have heads, and else those of the item's text
-abbrev pub head_placement : Bool → List Label → Placement
-head_placement true remaining = opened remaining (labels.Line Head)
-head_placement false remaining = placements.Nothing
-
 unfoldable pub line_placement : LineOpener → List Label → Placement
-line_placement Head remaining = head_placement (in_headed_list remaining) remaining
+line_placement Head remaining = if in_headed_list remaining then opened remaining (labels.Line Head) else placements.Nothing
 line_placement opener remaining = opened remaining (labels.Line opener)
 
 -- a closer that ended a scope is a leaf, as its suffix is; one that ended none is refused
@@ -82,17 +70,11 @@ closed obstacle zero = placements.Refused obstacle
 closed obstacle (suc n) = placements.Leaf
 
 -- with a number `RE` speaks of how many there are
-abbrev pub margin_obstacle : Option (List ℕ) → Obstacle
-margin_obstacle None = NotOpen
-margin_obstacle (Some number) = FewerMargins
-
 abbrev pub closer_placement : Closer (List ℕ) → ℕ → Placement
 closer_placement closers.Line n = placements.Nothing
-closer_placement (closers.RelativeMargin number) n = closed (margin_obstacle number) n
-closer_placement (closers.Target link suffix) n = closed NotOpen n
-closer_placement closers.Syntax n = closed NotOpen n
 closer_placement closers.Enclosures n = placements.Nothing
-closer_placement (closers.Block closer) n = closed NotOpen n
+closer_placement (closers.RelativeMargin (Some number)) n = closed FewerMargins n
+closer_placement _ n = closed NotOpen n
 
 -- whether the innermost scope is a line scope
 abbrev pub in_line_scope : List Label → Bool
@@ -110,24 +92,14 @@ is_dropped requests.Break = true
 is_dropped (requests.Space rows) = true
 is_dropped _ = false
 
-abbrev pub request_placement : Bool → Request (List ℕ) → Placement
-request_placement false request = placements.Leaf
-request_placement true request = if is_dropped request then placements.Nothing else placements.Leaf
-
-abbrev pub leaf_placement : Leaf (List ℕ) → List Label → Placement
-leaf_placement (leaves.Request request) remaining = request_placement (in_line_scope remaining) request
-leaf_placement _ remaining = placements.Leaf
-
 -- of an event that ended this many scopes, where these are remaining
 abbrev pub kind_placement : EventKind (List ℕ) → ℕ → List Label → Placement
-kind_placement (kinds.Word word) n remaining = placements.Leaf
 kind_placement (kinds.Open opener) n remaining = opener_placement opener remaining
 kind_placement (kinds.Close closer) n remaining = closer_placement closer n
 kind_placement (kinds.LineScope opener) n remaining = line_placement opener remaining
-kind_placement (kinds.Leaf leaf) n remaining = leaf_placement leaf remaining
-kind_placement (kinds.Raw text) n remaining = placements.Leaf
-kind_placement (kinds.End fills) n remaining = placements.Leaf
-kind_placement (kinds.Note kind detail is_quoted begins_body) n remaining = placements.Leaf
+kind_placement (kinds.Leaf (leaves.Request request)) n remaining =
+    if in_line_scope remaining && is_dropped request then placements.Nothing else placements.Leaf
+kind_placement _ n remaining = placements.Leaf
 
 abbrev pub act_placement : Act (Event (List ℕ)) → ℕ → List Label → Placement
 act_placement (acts.Event event) n remaining = kind_placement event.kind n remaining
@@ -145,16 +117,9 @@ opens_paragraph (openers.Indented tag hang) = true
 opens_paragraph (openers.Hanging hang) = true
 opens_paragraph _ = false
 
-abbrev pub refused_skips : Opener (List ℕ) → List Label → Bool
-refused_skips opener remaining = opens_paragraph opener && not (has_room remaining)
-
-abbrev pub item_skips : Bool → List Label → Bool
-item_skips true remaining = refused_skips openers.Item remaining
-item_skips false remaining = true
-
 unfoldable pub opener_skips : Opener (List ℕ) → List Label → Bool
-opener_skips openers.Item remaining = item_skips (in_list remaining) remaining
-opener_skips opener remaining = refused_skips opener remaining
+opener_skips openers.Item remaining = not (in_list remaining) || not (has_room remaining)
+opener_skips opener remaining = opens_paragraph opener && not (has_room remaining)
 
 -- so does a description (`Nd`), or a row that is alone (`D1`, `Dl`)
 abbrev pub opens_row : LineOpener → Bool

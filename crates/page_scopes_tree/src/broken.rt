@@ -2,7 +2,7 @@
 
 ghost use Rattle.std.specs.Prelude.{◌≡◌, [], ◌∷◌};
 ghost use Rattle.page_core_base.specs.Latches.{Came};
-ghost use Rattle.page_scopes_tree.specs.Acts.{act_view};
+ghost use Rattle.page_scopes_tree.specs.Acts.{act_view, event_of};
 ghost use Rattle.page_scopes_tree.specs.Broken as broken;
 ghost use Rattle.page_scopes_labels.specs.Labels.{end_view};
 ghost use Rattle.page_sets_lines.specs.Events.{closer_view, kind_view, opener_view};
@@ -118,7 +118,7 @@ pub(crate) fn report_broken<O: PieceOut>(out: &mut O, act: &Act<&Event<&[u8]>>, 
 
 // The name of the closer that an act is.
 fn act_closer_name(act: &Act<&Event<&[u8]>>) -> &'static str
-    ensures { result.now ≡ broken.act_closer_name (act_view act.now) }
+    ensures { result.now ≡ broken.kind_closer_name (event_of (act_view act.now)).kind }
 {
     match act {
         Act::Event(event) => match &event.kind {

@@ -88,7 +88,7 @@ fn up_to_margin<B>(number: i32, scopes: &[Scope<Label, B>]) -> usize
 // What `RE` ends.
 fn margin_ends<B>(number: Option<&[u8]>, scopes: &[Scope<Label, B>]) -> usize
     requires { length scopes.now ≤ SCOPES }
-    ensures { result ≡ ends.margin_ends (text_view number.entry) (labels (reverse scopes.now)) }
+    ensures { result ≡ ends.closer_ends (Closer.RelativeMargin (text_view number.entry)) (labels (reverse scopes.now)) }
 {
     match number {
         None => up_to_explicit(Explicit::RelativeMargin, scopes),

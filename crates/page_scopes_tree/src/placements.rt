@@ -5,7 +5,7 @@ ghost use Rattle.page_scopes_tree.specs.Layouts.{labels};
 ghost use Rattle.page_scopes_tree.specs.Acts.{act_view};
 ghost use Rattle.page_scopes_tree.specs.machine.Stacks as stacks;
 ghost use Rattle.page_scopes_tree.specs.Placements as placements;
-ghost use Rattle.page_sets_lines.specs.Events.{closer_view, kind_view, leaf_view, opener_view, request_view, text_view};
+ghost use Rattle.page_sets_lines.specs.Events.{closer_view, kind_view, opener_view, request_view};
 
 use crate::runs::{Run, run_len};
 use crate::{Act, Scope};
@@ -132,16 +132,6 @@ fn closed(obstacle: Obstacle, count: usize) -> Placement
     }
 }
 
-// Why `RE` is refused.
-fn margin_obstacle(number: Option<&[u8]>) -> Obstacle
-    ensures { result ≡ placements.margin_obstacle (text_view number.entry) }
-{
-    match number {
-        None => Obstacle::NotOpen,
-        Some(_) => Obstacle::FewerMargins,
-    }
-}
-
 // What becomes of a closer.
 #[inline(never)]
 fn closer_placement(closer: &Closer<&[u8]>, count: usize) -> Placement
@@ -149,10 +139,8 @@ fn closer_placement(closer: &Closer<&[u8]>, count: usize) -> Placement
 {
     match *closer {
         Closer::Line | Closer::Enclosures => Placement::Nothing,
-        Closer::RelativeMargin(number) => closed(margin_obstacle(number), count),
-        Closer::Target(_, _) | Closer::Syntax | Closer::Block(_) => {
-            closed(Obstacle::NotOpen, count)
-        }
+        Closer::RelativeMargin(Some(_)) => closed(Obstacle::FewerMargins, count),
+        _ => closed(Obstacle::NotOpen, count),
     }
 }
 
@@ -185,24 +173,6 @@ fn is_dropped(request: &Request<&[u8]>) -> bool
     matches!(request, Request::Break | Request::Space(_))
 }
 
-// What becomes of a leaf.
-#[inline(always)]
-fn leaf_placement<B>(leaf: &Leaf<&[u8]>, remaining: &[Scope<Label, B>]) -> Placement
-    requires { length remaining.now ≤ SCOPES }
-    ensures { result ≡ placements.leaf_placement (leaf_view leaf.now) (labels (reverse remaining.now)) }
-{
-    match leaf {
-        Leaf::Request(request) => {
-            if in_line_scope(remaining) && is_dropped(request) {
-                Placement::Nothing
-            } else {
-                Placement::Leaf
-            }
-        }
-        _ => Placement::Leaf,
-    }
-}
-
 // What becomes of an event that ended this many scopes and leaves these.
 #[inline(always)]
 fn kind_placement<B>(
@@ -217,7 +187,8 @@ fn kind_placement<B>(
         EventKind::Open(opener) => opener_placement(opener, remaining),
         EventKind::Close(closer) => closer_placement(closer, count),
         EventKind::LineScope(opener) => line_placement(*opener, remaining),
-        EventKind::Leaf(leaf) => leaf_placement(leaf, remaining),
+        EventKind::Leaf(Leaf::Request(request))
+            if is_dropped(request) && in_line_scope(remaining) => Placement::Nothing,
         _ => Placement::Leaf,
     }
 }

@@ -1,3 +1,5 @@
 pub mod WhiteLemmas
 pub mod UnpairedLemmas
 pub mod FrontLemmas
+pub mod LetterCellLemmas
+pub mod RunEndLemmas

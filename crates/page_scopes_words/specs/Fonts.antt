@@ -2,7 +2,7 @@
 use Rattle.page_core_base.specs.declared.cells.Font.{Font}
 use Rattle.page_core_base.specs.declared.cells.Font.TheVariants.{R, I, B, BI}
 use Rattle.page_core_escapes.specs.Meanings as meanings
-use Rattle.page_core_escapes.specs.Meanings.{Face, Meaning}
+use Rattle.page_core_escapes.specs.Meanings.{Face}
 use Rattle.page_core_escapes.specs.Tokens.{TextToken, escaped}
 use Rattle.page_scopes_words.specs.declared.fonts.Fonts.{Fonts}
 
@@ -23,10 +23,6 @@ face_fonts meanings.bold_italic fonts = with_font BI fonts
 face_fonts meanings.former fonts = with_font fonts.former fonts
 face_fonts (meanings.unknown name) fonts = fonts
 
-abbrev pub meaning_fonts : Meaning → Fonts → Fonts
-meaning_fonts (meanings.face face) fonts = face_fonts face fonts
-meaning_fonts _ fonts = fonts
-
 abbrev pub token_fonts : TextToken → Fonts → Fonts
-token_fonts (escaped bytes meaning) fonts = meaning_fonts meaning fonts
+token_fonts (escaped bytes (meanings.face face)) fonts = face_fonts face fonts
 token_fonts _ fonts = fonts

@@ -1,9 +1,9 @@
 //! The font in use and the former one (roff(7), `ft` and `\f`).
 
 ghost use Rattle.std.specs.Prelude.{◌≡◌};
-ghost use Rattle.page_core_escapes.specs.Escapes.{face_view, meaning_view};
+ghost use Rattle.page_core_escapes.specs.Escapes.{face_view};
 ghost use Rattle.page_core_escapes.specs.Tokens.{token_view};
-ghost use Rattle.page_scopes_words.specs.Fonts.{roman_fonts, with_font, face_fonts, meaning_fonts, token_fonts};
+ghost use Rattle.page_scopes_words.specs.Fonts.{roman_fonts, with_font, face_fonts, token_fonts};
 
 use page_core_base::Font;
 use page_core_escapes::{Escape, FontName, Token};
@@ -47,24 +47,16 @@ impl Fonts {
         }
     }
 
-    // The fonts after an escape.
-    #[inline(always)]
-    fn escaped(self, meaning: Escape<'_>) -> Fonts
-        ensures { result ≡ meaning_fonts (meaning_view meaning.entry) self }
-    {
-        match meaning {
-            Escape::Font(name) => self.named(name),
-            _ => self,
-        }
-    }
-
     /// The fonts after a token.
     #[inline(always)]
     pub fn after(self, token: &Token<'_>) -> Fonts
         ensures { result ≡ token_fonts (token_view token.now) self }
     {
         match *token {
-            Token::Escaped { meaning, .. } => self.escaped(meaning),
+            Token::Escaped {
+                meaning: Escape::Font(name),
+                ..
+            } => self.named(name),
             _ => self,
         }
     }

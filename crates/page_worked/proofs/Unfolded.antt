@@ -81,9 +81,9 @@ unfoldable pub use Rattle.page_scopes_phrases.specs.Cells.{cells_within as u284}
 unfoldable pub use Rattle.page_scopes_phrases.specs.FunctionEnds.{function_end as u285}
 unfoldable pub use Rattle.page_scopes_phrases.specs.LineWords.{line_word as u286, generated_word as u287}
 unfoldable pub use Rattle.page_scopes_phrases.specs.ManualNames.{missing_name as u288, name_word as u289}
-unfoldable pub use Rattle.page_scopes_text.specs.Widths.{named_width as u290, is_expression as u291}
-unfoldable pub use Rattle.page_scopes_tree.specs.Layouts.{settled as u292, edge as u293}
-unfoldable pub use Rattle.page_scopes_tree.specs.Placements.{opener_placement as u294, line_placement as u295, opener_skips as u296}
+unfoldable pub use Rattle.page_scopes_tree.specs.Layouts.{settled as u290, edge as u291}
+unfoldable pub use Rattle.page_scopes_tree.specs.Placements.{opener_placement as u292, line_placement as u293, opener_skips as u294}
+unfoldable pub use Rattle.page_scopes_words.specs.Widths.{named_width as u295, is_expression as u296}
 unfoldable pub use Rattle.page_sets_lines.specs.Lists.{headed_kind as u297, headless_kind as u298, option_named as u299}
 unfoldable pub use Rattle.page_sets_lines.specs.PlainLines.{layout_request as u300}
 unfoldable pub use Rattle.page_sets_man.specs.Man.{man_events as u301}

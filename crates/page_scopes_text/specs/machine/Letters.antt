@@ -1,8 +1,8 @@
 -- Words of letters in their fonts, which are read once and given at once: a fast way of the code, which no public clause cites.
 -- Source: roff(7), `\f`.
-use Rattle.std.specs.Prelude.{◌≡◌, ℕ, ◌≤◌, ◌+◌, Bool, true, false, nat_lt, List, [], ◌++◌, length, map, take, drop, if◌then◌else◌}
+use Rattle.std.specs.Prelude.{◌≡◌, ℕ, ◌≤◌, ◌+◌, Bool, true, false, nat_lt, List, [], ◌++◌, length, map}
 use Rattle.std.specs.List.{list_all}
-use Rattle.page_core_base.specs.Pieces.{Item, shown}
+use Rattle.page_core_base.specs.Pieces.{shown}
 use Rattle.page_core_base.specs.Words.{is_lettered, is_lettered_word, lettered_cells, lettered_pieces, word_letters}
 use Rattle.page_core_base.specs.declared.cells.Cell.{Cell}
 use Rattle.page_core_base.specs.declared.cells.Font.{Font}
@@ -10,6 +10,7 @@ use Rattle.page_core_base.specs.declared.pieces.Piece.{Piece}
 use Rattle.page_core_base.specs.declared.places.Place.{Place}
 use Rattle.page_core_escapes.specs.Tokens.{TextToken, begins_word}
 use Rattle.page_scopes_words.specs.Words.{is_glue}
+use Rattle.page_scopes_words.specs.machine.Letters.{letters_in}
 use Rattle.page_scopes_words.specs.declared.settings.Setting.{Setting}
 use Rattle.page_scopes_words.specs.declared.fonts.Fonts.{Fonts}
 use Rattle.page_scopes_text.specs.Parted.{Spaced, words_of}
@@ -18,14 +19,6 @@ use Rattle.page_scopes_text.specs.Words.{pen_through, printed_items, token_notes
 use Rattle.page_scopes_text.specs.machine.Reads.{resting}
 use Rattle.page_scopes_text.specs.declared.pens.Pen.{Pen}
 use Rattle.page_scopes_text.specs.declared.pens.TextStyle.{TextStyle}
-
--- letters in one font
-abbrev pub letters_in : Font → List ℕ → List Cell
-letters_in font bytes = map (λ c. record { c = c; font = font }) bytes
-
--- what stood at a start and after it is put anew
-abbrev pub put_at : {A : Type 0} → List A → ℕ → List A → List A
-put_at old start others = take start old ++ (others ++ drop (start + length others) old)
 
 -- a token that prints these letters or nothing, and has no message
 pub record Lettered (token : TextToken) (letters : List ℕ) : Type 0 where
@@ -92,9 +85,3 @@ AddsWord quoted fonts before text next after rest =
 abbrev pub AddsWords : TextStyle → Setting Fonts → List Cell → List ℕ → Setting Fonts → List Cell → List ℕ → Type 0
 AddsWords style fonts before text next after rest =
     (cells : List Cell) × (after ≡ before ++ cells) × ReadsWords style fonts text next rest cells
-
--- these cells are words of letters with a blank before each, and a call took all of them, or none
-abbrev pub GivesLetters : {S : Type 0} → List Cell → Bool → (S → List Item → S → Type 0) → S → S → Type 0
-GivesLetters {S} cells taken gave s t =
-    (words : List (List (Piece (List ℕ)))) → list_all is_lettered_word words ≡ true → cells ≡ lettered_cells words
-    → gave s (if taken then map shown (lettered_pieces words) else []) t

@@ -1,5 +1,5 @@
 -- Runs of words that print themselves, with one blank before each: a fast way of the code, which no public clause cites.
-use Rattle.std.specs.Prelude.{◌≡◌, ℕ, suc, ◌≤◌, ◌<◌, ◌==◌, ◌&&◌, ◌||◌, not, Bool, true, false, List, [], ◌∷◌, ◌++◌, length, map, take, get_or}
+use Rattle.std.specs.Prelude.{◌≡◌, ℕ, ◌==◌, ◌&&◌, not, Bool, true, false, List, [], ◌∷◌, ◌++◌, length, map, take}
 use Rattle.std.specs.List.{list_all}
 use Rattle.page_core_base.specs.Pieces.{Item}
 use Rattle.page_core_base.specs.Words.{blank_words, hyphen, is_word, word_items}
@@ -35,15 +35,3 @@ abbrev pub TakesFront : {S : Type 0} → List ℕ → Font → Place → ℕ →
 TakesFront {S} bytes font place taken gave s t =
     (words : List (List ℕ)) → list_all is_whole_word words ≡ true → bytes ≡ blank_words words
     → (count : ℕ) × (taken ≡ length (blank_words (take count words))) × gave s (word_items font place (take count words)) t
-
--- whether a run ends at a byte, by the one after it: a hyphen, a tab, a backslash, in a quoted argument a quote, or a blank before a blank
-abbrev pub ends_run : Bool → ℕ → ℕ → Bool
-ends_run quoted byte next = byte == hyphen || ((byte == 9 || (byte == 92 || (quoted && byte == 34))) || (byte == 32 && next == 32))
-
--- the same at a place of a text; after its end there is taken to be a blank
-abbrev pub ends_run_at : Bool → List ℕ → ℕ → Bool
-ends_run_at quoted text place = ends_run quoted (get_or text place 32) (get_or text (suc place) 32)
-
--- from one place up to another no run ends
-abbrev pub GoesOn : Bool → List ℕ → ℕ → ℕ → Type 0
-GoesOn quoted text from to = (k : ℕ) → from ≤ k → k < to → ends_run_at quoted text k ≡ false

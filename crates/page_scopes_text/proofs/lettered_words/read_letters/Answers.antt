@@ -2,7 +2,8 @@ use Rattle.std.proofs.Common.{◌≡◌, ◌<◌, [], ◌++◌, true, length, sy
 use Rattle.std.proofs.lemmas.List.{take_rest}
 use Rattle.page_core_escapes.specs.Tokens.{begins_word, token_at, token_bytes, token_len}
 use Rattle.page_scopes_text.proofs.LetterLemmas.{begins_some, letters_more, letters_none, plain_letters}
-use Rattle.page_scopes_text.specs.machine.Letters.{TakesToken, letters_in}
+use Rattle.page_scopes_words.specs.machine.Letters.{letters_in}
+use Rattle.page_scopes_text.specs.machine.Letters.{TakesToken}
 use Rattle.page_scopes_text.proofs.lettered_words.read_letters.Goals as goal
 
 pub loop-token-init : goal.loop-token-init

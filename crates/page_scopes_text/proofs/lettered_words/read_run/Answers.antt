@@ -1,7 +1,7 @@
 use Rattle.std.proofs.Common.{◌≡◌, refl, arith}
 use Rattle.page_core_base.specs.declared.cells.Font.TheVariants.{R}
 use Rattle.page_scopes_text.proofs.LetteredWordLemmas.{run_reads}
-use Rattle.page_scopes_text.specs.machine.Letters.{letters_in}
+use Rattle.page_scopes_words.specs.machine.Letters.{letters_in}
 use Rattle.page_scopes_text.specs.machine.Runs.{BeginsRun}
 use Rattle.page_scopes_text.proofs.lettered_words.read_run.Goals as goal
 

@@ -1,0 +1,3 @@
+-- The code's own fast ways. Trust needs no reading of them.
+pub mod Letters
+pub mod RunEnds

@@ -1,0 +1,97 @@
+//! Letters that were read, each in its font.
+
+ghost use Rattle.std.specs.Prelude.{◌≡◌, ◌≤◌, ◌+◌, false, true, [], ◌++◌, length, take, replicate};
+ghost use Rattle.page_core_base.specs.Latches.{Came};
+ghost use Rattle.page_scopes_words.specs.machine.Letters.{GivesLetters, letters_in, put_at};
+
+use crate::letter_fonts::ROOM;
+use page_core_base::{Font, PieceOut};
+use std::marker::Model;
+
+/// Letters that were read, each in its font, at most [`ROOM`].
+#[derive(Drop)]
+pub struct Letters {
+    text: [u8; 256],
+    fonts: [Font; 256],
+    // How many there are: what is after them means nothing.
+    len: usize,
+}
+
+impl Model for Letters {
+    ghost use Rattle.std.specs.Prelude.{◌≡◌, ◌≤◌, List, length, take};
+    ghost use Rattle.page_core_base.specs.Rows.{cells_in};
+    ghost use Rattle.page_core_base.specs.declared.cells.Cell.{Cell};
+
+    ghost Value = { List Cell };
+
+    ghost view = { λ l. take l.len (cells_in l.text l.fonts) };
+
+    ghost invariant = { λ l. (l.len ≤ 256) × (length l.text ≡ 256) × (length l.fonts ≡ 256) };
+}
+
+// Puts bytes at a start and after it, all in one font.
+#[inline(always)]
+fn put_letters(text: &mut [u8], fonts: &mut [Font], start: usize, font: Font, bytes: &[u8])
+    requires { (start + length bytes.now ≤ length text.old) × (length fonts.old ≡ length text.old) }
+    ensures text { text.new ≡ put_at text.old start bytes.now }
+    ensures fonts { fonts.new ≡ put_at fonts.old start (replicate (length bytes.now) font) }
+{
+    let end = start + bytes.len();
+    text[start..end].copy_from_slice(bytes);
+    fonts[start..end].fill(font);
+}
+
+impl Letters {
+    /// No letters.
+    #[inline(always)]
+    pub fn new() -> Letters
+        ensures { result ≡ [] }
+    {
+        Letters {
+            text: [b' '; 256],
+            fonts: [Font::R; 256],
+            len: 0,
+        }
+    }
+
+    /// How many there are.
+    #[inline(always)]
+    pub fn len(&self) -> usize
+        ensures value { result ≡ length self.now }
+        ensures bound { result ≤ ROOM }
+    {
+        self.len
+    }
+
+    /// Takes all but the first letters away.
+    #[inline(always)]
+    pub fn cut(&mut self, len: usize)
+        requires { len ≤ length self.old }
+        ensures { self.new ≡ take len self.old }
+    {
+        self.len = len;
+    }
+
+    /// Adds letters in one font, if there is room: whether there is.
+    #[inline(always)]
+    pub fn add(&mut self, font: Font, bytes: &[u8]) -> bool
+        ensures added { result ≡ true → self.new ≡ self.old ++ letters_in font bytes.now }
+        ensures kept { result ≡ false → self.new ≡ self.old }
+    {
+        let end = self.len + bytes.len();
+        if end > ROOM {
+            return false;
+        }
+        put_letters(&mut self.text, &mut self.fonts, self.len, font, bytes);
+        self.len = end;
+        true
+    }
+
+    /// Gives them as words: whether these were taken.
+    #[inline(always)]
+    pub fn give<O: PieceOut>(&self, out: &mut O) -> bool
+        ensures { GivesLetters self.now result (Came O.left) out.old out.new }
+    {
+        out.give_words(&self.text[..self.len], &self.fonts[..self.len])
+    }
+}
