@@ -1,5 +1,6 @@
 -- Words fill rows as their marks do, one by one.
 use Rattle.std.proofs.Common.{◌≡◌, ℕ, zero, suc, ◌+◌, ◌-◌, ◌<◌, ◌≤◌, ◌==◌, nat_lt, true, false, List, [], ◌∷◌, ◌++◌, length, take, drop, map, replicate, inl, inr, refl, sym, ap, ◌∙◌, arith, append_assoc, length-append, length-drop, lit<}
+use Rattle.std.specs.Prelude.{if◌then◌else◌}
 use Rattle.std.proofs.lemmas.List.{take-append-le, drop-append-le}
 use Rattle.std.proofs.lemmas.Bool.{cases_Bool}
 use Rattle.std.proofs.lemmas.Bool.Decides.{nat_tests}
@@ -12,7 +13,8 @@ use Rattle.page_fill_rows.specs.machine.Sheets.{Sheet, over, blank, passes, lett
 use Rattle.page_fill_rows.specs.machine.Sheets as sheets
 use Rattle.page_fill_rows.specs.Characters.{with_notes}
 use Rattle.page_fill.proofs.Marks.{Mark, told, opened, spaced, lettered}
-use Rattle.page_fill.specs.Filled.{CellOrNote, shown, noted, Word, Frame, Row, counted, with_cell, before_word, of_word, closed, row_begun, row_ended, full_row_ended, first_word, Outcome, fits, too_wide, too_many, after_note, is_wide, outcome, started, by_word, by_blanks, one_word, rest_of_word, filling}
+use Rattle.page_fill.specs.Filled.{CellOrNote, shown, noted, Word, Frame, Row, counted, with_cell, before_word, row_begun, row_ended, full_row_ended, first_word, Outcome, fits, too_wide, too_many, after_note, outcome, by_word, by_blanks, one_word, rest_of_word, filling}
+use Rattle.page_fill.specs.machine.Words.{is_wide}
 use Rattle.page_fill.specs.Caps.{IsHeld}
 use Rattle.page_fill.specs.PieceWords.{frame_of, open_row_of}
 use Rattle.page_fill.proofs.MarkRuns.{step, run, run-append}
@@ -24,6 +26,18 @@ mark_of (noted m) = told m
 
 abbrev pub marks_of : List CellOrNote → List Mark
 marks_of content = map mark_of content
+
+-- no row is open
+abbrev pub closed : Row → Row
+closed row = record row { cells = []; gap = 0; word = 0 }
+
+-- the cells of the last word
+abbrev pub of_word : Row → List Cell
+of_word row = drop row.word row.cells
+
+-- the next row with these cells, none where it has not begun
+abbrev pub started : Frame → Row → List Cell → Row
+started frame row cells = if length cells == 0 then row else row_begun frame row cells
 
 -- ---- a row's first word
 

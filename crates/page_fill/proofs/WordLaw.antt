@@ -12,9 +12,9 @@ use Rattle.page_core_base.specs.Laid.{nothing}
 use Rattle.page_core_base.specs.declared.limits.TheConstants.{CELLS}
 use Rattle.page_fill_rows.specs.declared.TheConstants.{TAG_COLUMNS}
 use Rattle.page_fill_rows.specs.OpenRows.{columns, cell_columns, blank}
-use Rattle.page_fill.specs.Filled.{CellOrNote, shown, Word, Frame, Row, opens, after_blanks, before_word, with_cell, first_word, Outcome, fits, too_wide, is_wide, outcome, by_word, by_blanks, one_word}
+use Rattle.page_fill.specs.Filled.{CellOrNote, shown, Word, Frame, Row, opens, before_word, with_cell, first_word, Outcome, fits, too_wide, outcome, by_word, by_blanks, one_word}
 use Rattle.page_fill.specs.PieceWords.{cell_content}
-use Rattle.page_fill.specs.machine.Words.{tally, has_cell, tallied, fitting, with_word, word_wrapped, word_first}
+use Rattle.page_fill.specs.machine.Words.{is_wide, tally, has_cell, tallied, fitting, with_word, word_wrapped, word_first}
 
 columns-cons : (c : Cell) (cs : List Cell) → columns (c ∷ cs) ≡ cell_columns c + columns cs
 columns-cons c cs = sum_by-cons cell_columns c cs
@@ -158,7 +158,7 @@ word-begun frame row n cells p q o some is = let z = not-empty row some in rw (z
 
 -- the row with the blanks before its next word
 abbrev pub gapped : Row → ℕ → Row
-gapped row n = after_blanks (more (opens row) (replicate n blank))
+gapped row n = let full = more (opens row) (replicate n blank) in record full { word = length full.cells }
 
 blanks-taken : (frame : Frame) (row : Row) (n : ℕ) (cells : List Cell) (p q : Place) → 0 < length row.cells → length row.cells + n ≤ CELLS
     → row.margin + columns row.cells + n ≤ frame.width
