@@ -10,7 +10,7 @@ use Rattle.page_roff_lines.specs.Decoding.{lines}
 use Rattle.page_roff_lines.specs.Whole.{whole_lines, lines_made, line_left}
 use Rattle.page_core_base.specs.Checks.{IsGood, IsFirst}
 use Rattle.page_engine.specs.declared.runs.Outcome.{Outcome}
-use Rattle.page_engine.specs.Page.{Edge, counts_at, settled, page, start}
+use Rattle.page_engine.specs.Page.{Edge, settled, page, start}
 use Rattle.page_core_streams.specs.Sources.{SourceState, HasGiven, IsLean, IsTooLong}
 use Rattle.page_engine.specs.Streams.{Streams, Sinks, AllCame, FrontCame}
 
@@ -29,7 +29,7 @@ pub record Whole {R N : Type 0} (streams : Streams R N) (rows_before rows_after 
   pub gave : AllCame streams rows_before rows_after notes_before notes_after (whole_page settings bytes)
   pub worst : outcome.worst ≡ (whole_page settings bytes).edge.worst
   pub source : outcome.counts.source ≡ length (lines settings.encoding bytes)
-  pub counts : outcome.counts ≡ counts_at (whole_page settings bytes).edge
+  pub counts : outcome.counts ≡ (whole_page settings bytes).edge.roff.counts
   pub good : IsGood settings
   pub all : IsAtEnd after
 
@@ -43,9 +43,7 @@ Stopped came_whole came_front settings bytes WriteText = IsGood settings × came
 Stopped came_whole came_front settings bytes WriteNotes = IsGood settings × came_front (whole_page settings bytes)
 Stopped came_whole came_front settings bytes (Settings fault) =
     IsFirst settings fault × (bytes ≡ []) × came_whole (nothing (start settings))
-Stopped came_whole came_front settings bytes Failed = ⊥
-Stopped came_whole came_front settings bytes Ended = ⊥
-Stopped came_whole came_front settings bytes (BadIndex line) = ⊥
+Stopped came_whole came_front settings bytes _ = ⊥
 
 abbrev pub Runs : {R N : Type 0} → Result Outcome Fault → Streams R N → R → R → N → N
     → PageSettings → List ℕ → Option (List ℕ) → Type 0
@@ -98,9 +96,7 @@ HasCause untouched read_failed breaks asked bytes TooLong = IsTooLong asked byte
 HasCause untouched read_failed breaks asked bytes WriteText = breaks WriteText
 HasCause untouched read_failed breaks asked bytes WriteNotes = breaks WriteNotes
 HasCause untouched read_failed breaks asked bytes (Settings fault) = untouched
-HasCause untouched read_failed breaks asked bytes Failed = ⊥
-HasCause untouched read_failed breaks asked bytes Ended = ⊥
-HasCause untouched read_failed breaks asked bytes (BadIndex line) = ⊥
+HasCause untouched read_failed breaks asked bytes _ = ⊥
 
 -- why a run over a source stopped
 abbrev pub StoppedBy : {R N : Type 0} → Sinks R N → SourceState → SourceState → R → R → N → N

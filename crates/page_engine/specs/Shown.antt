@@ -4,13 +4,12 @@ use Rattle.std.proofs.Common.{◌∙◌, true, false}
 use Rattle.page_core_base.specs.Rows.{LaidRow}
 use Rattle.page_core_base.specs.Sinks.{IsSink}
 use Rattle.page_core_base.specs.declared.page_settings.Output.{Output}
-use Rattle.page_core_base.specs.declared.page_settings.Output.TheVariants.{Ascii, Utf8, Lint}
+use Rattle.page_core_base.specs.declared.page_settings.Output.TheVariants.{Lint}
 
 -- lint gives no row
 abbrev pub is_silent : Output → Bool
-is_silent Ascii = false
-is_silent Utf8 = false
 is_silent Lint = true
+is_silent _ = false
 
 unfoldable pub shown_rows : Bool → List LaidRow → List LaidRow
 shown_rows false rows = rows
