@@ -24,18 +24,6 @@ no_word = record { is_joined = false; is_open = false; is_placed = false; blanks
 abbrev pub begun_word : Bool → OpenWord
 begun_word told = record no_word { is_joined = true; is_open = true; is_told = told }
 
--- blanks wait before the next word; those that a tag or a column placed stay
-abbrev pub blanks_wait : OpenWord → ℕ → Bool → OpenWord
-blanks_wait w count tab = if w.is_placed then record w { has_tab = tab } else record no_word { blanks = count; has_tab = tab; is_told = w.is_told }
-
--- the next text goes on with the open word
-abbrev pub glued_word : OpenWord → OpenWord
-glued_word w = if w.is_open then w else begun_word w.is_told
-
--- a new word is placed after a count of blanks
-abbrev pub placed_word : ℕ → OpenWord
-placed_word count = record no_word { is_open = true; is_placed = true; blanks = count }
-
 -- ---- tags
 
 -- a tag takes the place of the one that is open, and its cells are counted

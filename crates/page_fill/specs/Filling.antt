@@ -10,7 +10,7 @@ use Rattle.page_core_base.specs.Laid.{Laid, nothing, seq}
 use Rattle.page_core_base.specs.Pieces.{Item, shown, noted}
 use Rattle.page_fill.specs.declared.edges.OpenTag.{OpenTag}
 use Rattle.page_fill.specs.declared.edges.Edge.{Edge}
-use Rattle.page_fill.specs.Edges.{no_word, placed_word, with_tag}
+use Rattle.page_fill.specs.Edges.{no_word, with_tag}
 use Rattle.page_fill_rows.specs.OpenRows.{over, blank, columns, more_blank_rows}
 use Rattle.page_fill.specs.Filled.{CellOrNote, row_ended}
 use Rattle.page_fill.specs.PieceWords.{cell_content, open_row_of, next_edge, words_laid, content_laid}
@@ -58,7 +58,7 @@ blank_rows e n = record {
 
 -- a new word is placed after a count of blanks
 abbrev pub placed : Edge → ℕ → Laid Edge
-placed e n = nothing (record e { word = placed_word n })
+placed e n = nothing (record e { word = record no_word { is_open = true; is_placed = true; blanks = n } })
 
 -- the greatest hang of a tag, in columns
 abbrev pub HANG_MAX : ℕ

@@ -1,7 +1,7 @@
 -- The words of pieces between two breaks, and the messages among them: each word with the blanks before it, and what it holds, cells and
 -- messages. Texts that are glued are one word. From an edge they lead to the next one.
 -- Source: roff(7), "Filling and adjusting".
-use Rattle.std.specs.Prelude.{ℕ, Bool, true, not, ◌&&◌, ◌||◌, ◌==◌, List, [], ◌∷◌, ◌++◌, length, map, fold, replicate, if◌then◌else◌}
+use Rattle.std.specs.Prelude.{ℕ, Bool, true, not, ◌&&◌, ◌||◌, ◌==◌, List, [], ◌∷◌, ◌++◌, length, map, flat_map, fold, replicate, if◌then◌else◌}
 use Rattle.page_core_base.specs.declared.cells.Cell.{Cell}
 use Rattle.page_core_base.specs.declared.cells.Font.{Font}
 use Rattle.page_core_base.specs.declared.page_settings.Output.{Output}
@@ -13,7 +13,7 @@ use Rattle.page_fill.specs.declared.edges.OpenWord.{OpenWord}
 use Rattle.page_fill.specs.declared.edges.Edge.{Edge}
 use Rattle.page_fill_rows.specs.OpenRows.{Sheet, over, blank, more_blank_rows}
 use Rattle.page_fill_rows.specs.Characters.{cell_of, cells_of, characters_of, unknown_notes}
-use Rattle.page_fill.specs.Edges.{tab_notes, begun_word, blanks_wait, glued_word}
+use Rattle.page_fill.specs.Edges.{tab_notes, no_word, begun_word}
 use Rattle.page_fill.specs.Filled.{CellOrNote, shown, noted, Word, Frame, Row, rest_of_word, filling}
 use Rattle.page_core_base.specs.Pieces.{Item}
 use Rattle.page_core_base.specs.Pieces as items
@@ -30,8 +30,7 @@ abbrev pub printed_content : Printing → Font → Place → List CellOrNote
 printed_content printing font place = map noted (unknown_notes printing.unknown place) ++ cell_content place (cells_of font printing.characters)
 
 unfoldable pub text_content : Output → List ℕ → Font → Place → List CellOrNote
-text_content output [] font place = []
-text_content output (c ∷ cs) font place = printed_content (char_printed output c) font place ++ text_content output cs font place
+text_content output cs font place = flat_map (λ c. printed_content (char_printed output c) font place) cs
 
 -- a tab is a blank of its word, which is reported once a word
 abbrev pub tab_content : (is_told : Bool) → Font → Place → List CellOrNote
@@ -49,8 +48,11 @@ word_after literal w (Text bytes font place) = if length (characters_of bytes) =
 word_after literal w (Glyph name font place) = after_cell literal w
 word_after literal w (Char c font place) = after_cell literal w
 word_after literal w (Tab font place) = record (after_cell literal w) { is_told = true }
-word_after literal w (Blank count has_tab) = blanks_wait w count has_tab
-word_after literal w Glue = glued_word w
+-- blanks wait before the next word; those that a tag or a column placed stay
+word_after literal w (Blank count has_tab) =
+    if w.is_placed then record w { has_tab = has_tab } else record no_word { blanks = count; has_tab = has_tab; is_told = w.is_told }
+-- the next text goes on with the open word
+word_after literal w Glue = if w.is_open then w else begun_word w.is_told
 word_after literal w _ = w
 
 -- ---- words
