@@ -11,11 +11,8 @@ abbrev pub is_reported_level : Option Level → Level → Bool
 is_reported_level None level = false
 is_reported_level (Some least) level = not (is_below level least)
 
-abbrev pub is_reported : Option Level → Message → Bool
-is_reported least m = is_reported_level least (level_of m.kind)
-
 unfoldable pub reported : Option Level → List Message → List Message
-reported least messages = filter (is_reported least) messages
+reported least messages = filter (λ m. is_reported_level least (level_of m.kind)) messages
 
 -- the greatest level, from a first one
 abbrev pub worse : Option Level → Level → Option Level
@@ -29,7 +26,7 @@ worst_of worst (m ∷ messages) = worst_of (worse worst (level_of m.kind)) messa
 pub reported-append : (least : Option Level) (xs ys : List Message)
     → reported least (xs ++ ys) ≡ reported least xs ++ reported least ys
 unfolding reported
-reported-append least xs ys = filter-append (is_reported least) xs ys
+reported-append least xs ys = filter-append (λ (m : Message). is_reported_level least (level_of m.kind)) xs ys
 
 pub worst_of-append : (worst : Option Level) (xs ys : List Message)
     → worst_of worst (xs ++ ys) ≡ worst_of (worst_of worst xs) ys

@@ -1,5 +1,5 @@
 -- Rows that are given or not. Source: mandoc(1), -T lint.
-use Rattle.std.specs.Prelude.{◌≡◌, Bool, List, [], ◌++◌, refl}
+use Rattle.std.specs.Prelude.{◌≡◌, Bool, List, [], ◌++◌, refl, if◌then◌else◌}
 use Rattle.std.proofs.Common.{◌∙◌, true, false}
 use Rattle.page_core_base.specs.Rows.{LaidRow}
 use Rattle.page_core_base.specs.Sinks.{IsSink}
@@ -12,8 +12,7 @@ is_silent Lint = true
 is_silent _ = false
 
 unfoldable pub shown_rows : Bool → List LaidRow → List LaidRow
-shown_rows false rows = rows
-shown_rows true rows = []
+shown_rows silent rows = if silent then [] else rows
 
 pub shown_rows-append : (silent : Bool) (xs ys : List LaidRow)
     → shown_rows silent (xs ++ ys) ≡ shown_rows silent xs ++ shown_rows silent ys

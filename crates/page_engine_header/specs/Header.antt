@@ -47,19 +47,16 @@ third_start width first second third = max (second_start width first second + se
 abbrev pub part_items : Measure → Place → List TextToken → List Item
 part_items m place part = tokens_items m.output place roman_fonts part
 
-abbrev pub part_columns : Measure → List TextToken → ℕ
-part_columns m part = tokens_columns m.output part
-
 abbrev pub blanks : Place → ℕ → List Item
 blanks place count = in_font R place (replicate count 32)
 
 -- the characters of a row: its parts, and blanks between them up to where the second and the third begin
 unfoldable pub row_characters : Measure → Place → (first second third : List TextToken) → List Item
 row_characters m place first second third =
-    let start = second_start m.width (part_columns m first) (part_columns m second) in
-    let last = third_start m.width (part_columns m first) (part_columns m second) (part_columns m third) in
-    part_items m place first ++ (blanks place (start - part_columns m first)
-    ++ (part_items m place second ++ (blanks place (last - (start + part_columns m second)) ++ part_items m place third)))
+    let start = second_start m.width (tokens_columns m.output first) (tokens_columns m.output second) in
+    let last = third_start m.width (tokens_columns m.output first) (tokens_columns m.output second) (tokens_columns m.output third) in
+    part_items m place first ++ (blanks place (start - tokens_columns m.output first)
+    ++ (part_items m place second ++ (blanks place (last - (start + tokens_columns m.output second)) ++ part_items m place third)))
 
 -- characters where a row has room for so many more: one that is full ends before the next character, which begins another row
 unfoldable pub in_rows : ℕ → List Item → List Item
