@@ -88,25 +88,16 @@ pub record Untouched {R N : Type 0} (source_before source_after : SourceState) (
   pub rows : rows_after ≡ rows_before
   pub notes : notes_after ≡ notes_before
 
--- Why a run stopped, by its fault: whether nothing was touched, whether a read failed, and what broke.
-abbrev pub HasCause : (untouched read_failed : Type 0) → (breaks : Fault → Type 0) → ℕ → List ℕ → Fault → Type 0
-HasCause untouched read_failed breaks asked bytes Memory = untouched
-HasCause untouched read_failed breaks asked bytes Read = read_failed
-HasCause untouched read_failed breaks asked bytes TooLong = IsTooLong asked bytes
-HasCause untouched read_failed breaks asked bytes WriteText = breaks WriteText
-HasCause untouched read_failed breaks asked bytes WriteNotes = breaks WriteNotes
-HasCause untouched read_failed breaks asked bytes (Settings fault) = untouched
-HasCause untouched read_failed breaks asked bytes _ = ⊥
-
--- why a run over a source stopped
-abbrev pub StoppedBy : {R N : Type 0} → Sinks R N → SourceState → SourceState → R → R → N → N
-    → PageSettings → ℕ → List ℕ → Fault → Type 0
-StoppedBy sinks source_before source_after rows_before rows_after notes_before notes_after settings asked bytes fault =
-    HasCause
-    (Untouched source_before source_after rows_before rows_after notes_before notes_after)
-    (Rose source_before.failed source_after.failed)
-    (λ cause. Broken sinks rows_before rows_after notes_before notes_after settings bytes cause)
-    asked bytes fault
+-- Why a run over a source stopped, by its fault: nothing was touched, a read failed, there was too much, or a sink failed.
+abbrev pub StoppedBy : {R N : Type 0} → Sinks R N → (source_before source_after : SourceState) → (rows_before rows_after : R)
+    → (notes_before notes_after : N) → PageSettings → (asked : ℕ) → (bytes : List ℕ) → Fault → Type 0
+StoppedBy k a b r r' n n' settings asked bytes Memory = Untouched a b r r' n n'
+StoppedBy k a b r r' n n' settings asked bytes Read = Rose a.failed b.failed
+StoppedBy k a b r r' n n' settings asked bytes TooLong = IsTooLong asked bytes
+StoppedBy k a b r r' n n' settings asked bytes WriteText = Broken k r r' n n' settings bytes WriteText
+StoppedBy k a b r r' n n' settings asked bytes WriteNotes = Broken k r r' n n' settings bytes WriteNotes
+StoppedBy k a b r r' n n' settings asked bytes (Settings fault) = Untouched a b r r' n n'
+StoppedBy k a b r r' n n' settings asked bytes _ = ⊥
 
 -- nothing failed
 pub record Quiet {R N : Type 0} (sinks : Sinks R N) (source_before source_after : SourceState)
