@@ -1,5 +1,5 @@
 -- What roff gives of a page's lines, as acts of one block tree. Source: mandoc(1), "DIAGNOSTICS".
-use Rattle.std.specs.Prelude.{ℕ, ◌+◌, nat_lt, List, [], ◌∷◌, ◌++◌, length, map, Option, None, Some, is_some, if◌then◌else◌}
+use Rattle.std.specs.Prelude.{ℕ, ◌+◌, nat_lt, List, [], ◌∷◌, ◌++◌, length, map, Option, None, is_some, if◌then◌else◌}
 use Rattle.std.specs.Option.{option_or}
 use Rattle.page_core_base.specs.Messages.{Message, message_about}
 use Rattle.page_core_base.specs.Pieces.{Item}
