@@ -1,5 +1,5 @@
 -- Messages by their levels. Source: mandoc(1), -W and "EXIT STATUS".
-use Rattle.std.specs.Prelude.{◌≡◌, Bool, not, false, List, [], ◌∷◌, ◌++◌, refl, filter, Option, None, Some, if◌then◌else◌}
+use Rattle.std.specs.Prelude.{◌≡◌, Bool, not, false, List, [], ◌∷◌, ◌++◌, refl, filter, fold, Option, None, Some, if◌then◌else◌}
 use Rattle.std.proofs.Common.{◌∙◌}
 use Rattle.std.proofs.lemmas.List.Elements.{filter-append}
 use Rattle.page_core_base.specs.declared.note_kinds.Level.{Level}
@@ -20,8 +20,7 @@ worse None level = Some level
 worse (Some worst) level = if is_below worst level then Some level else Some worst
 
 unfoldable pub worst_of : Option Level → List Message → Option Level
-worst_of worst [] = worst
-worst_of worst (m ∷ messages) = worst_of (worse worst (level_of m.kind)) messages
+worst_of worst messages = fold (λ found (m : Message). worse found (level_of m.kind)) worst messages
 
 pub reported-append : (least : Option Level) (xs ys : List Message)
     → reported least (xs ++ ys) ≡ reported least xs ++ reported least ys

@@ -1,7 +1,7 @@
 -- A page: the rows and messages that its lines settle, and the page to its end. The forest of all lines (roff(7)) gives lines and messages, these are the
 -- acts of one block tree (man(7), mdoc(7)), after that of the lines that leave its language open; its pieces are filled (roff(7), "Filling and
 -- adjusting"), messages go by their levels, and lint has no rows. Source: mandoc(1).
-use Rattle.std.specs.Prelude.{ℕ, Option, Some, List, [], ◌∷◌, map}
+use Rattle.std.specs.Prelude.{ℕ, Option, Some, List, [], map, fold}
 use Rattle.page_core_base.specs.Laid.{Laid, seq}
 use Rattle.page_engine_lines.specs.Acts.{raw_line, lines_items, lines_after, page_items}
 use Rattle.page_engine_lines.specs.Edges.{footer_items}
@@ -32,8 +32,7 @@ raw_lines lines = map raw lines
 
 -- the number of the last of them, or of the one before them
 abbrev pub last_number : Option ℕ → List Line → Option ℕ
-last_number number [] = number
-last_number number (line ∷ lines) = last_number (Some line.number) lines
+last_number number lines = fold (λ last (line : Line). Some line.number) number lines
 
 -- where the forest of lines and the block tree of their acts leave a page
 abbrev pub after : Edge → List Line → Edge
