@@ -10,7 +10,7 @@ use Rattle.page_core_base.specs.Pieces.{Item, shown, noted}
 use Rattle.page_fill.specs.declared.edges.OpenTag.{OpenTag}
 use Rattle.page_fill.specs.declared.edges.Edge.{Edge}
 use Rattle.page_fill.specs.machine.ByPiece.{laid_item, laid_items}
-use Rattle.page_fill.specs.Filling.{Group, words, other, groups, row_end, placed, after_tag, tag_ended, tag_end, other_laid, group_laid, groups_laid, filled}
+use Rattle.page_fill.specs.Filling.{Group, words, other, groups, row_end, placed, after_tag, tag_end, other_laid, groups_laid, filled}
 use Rattle.page_fill.specs.PieceWords.{words_laid, content_laid}
 
 abbrev pub fixed : Edge → Output × ℕ
@@ -27,13 +27,10 @@ heading_fixed false e = refl
 after_tag_fixed : (e : Edge) (tag : OpenTag) → fixed (after_tag e tag).edge ≡ fixed e
 after_tag_fixed e tag = either_fixed _ _ _ (fixed e) refl (either_fixed tag.ends_row (row_end e) (placed e 1) (fixed e) refl refl)
 
-tag_fixed : (e : Edge) (tag : Option OpenTag) → fixed (tag_ended e tag).edge ≡ fixed e
-tag_fixed e None = refl
-tag_fixed e (Some tag) = either_fixed e.sheet.tag_begun _ _ (fixed e) (after_tag_fixed e tag) refl
-
-tag_end_fixed : (e : Edge) (set_in : Option ℕ) → fixed (tag_end e set_in).edge ≡ fixed e
-tag_end_fixed e None = tag_fixed (record e { tag = None }) e.tag
-tag_end_fixed e (Some blanks) = refl
+tag_end_fixed : (e : Edge) (set_in : Option ℕ) (tag : Option OpenTag) → fixed (tag_end e set_in tag).edge ≡ fixed e
+tag_end_fixed e (Some blanks) tag = refl
+tag_end_fixed e None None = refl
+tag_end_fixed e None (Some tag) = either_fixed e.sheet.tag_begun _ _ (fixed e) (after_tag_fixed (record e { tag = None }) tag) refl
 
 words_fixed : (e : Edge) (items : List Item) → fixed (words_laid e items).edge ≡ fixed e
 unfolding words_laid
@@ -57,18 +54,15 @@ other_fixed e (Literal literal) = refl
 other_fixed e (Tag hang forms.Row) = refl
 other_fixed e (Tag hang forms.Hang) = refl
 other_fixed e (Tag hang (forms.Inset n)) = refl
-other_fixed e TagEnd = tag_end_fixed e e.set_in
+other_fixed e TagEnd = tag_end_fixed e e.set_in e.tag
 other_fixed e Heading = heading_fixed (length e.sheet.cells == 0) _
 other_fixed e (Column n) = refl
-
-group_fixed : (e : Edge) (group : Group) → fixed (group_laid e group).edge ≡ fixed e
-group_fixed e (words items) = words_fixed e items
-group_fixed e (other p) = other_fixed e p
 
 groups_fixed : (e : Edge) (all : List Group) → fixed (groups_laid e all).edge ≡ fixed e
 unfolding groups_laid
 groups_fixed e [] = refl
-groups_fixed e (group ∷ more) = groups_fixed (group_laid e group).edge more ∙ group_fixed e group
+groups_fixed e (words items ∷ more) = groups_fixed (words_laid e items).edge more ∙ words_fixed e items
+groups_fixed e (other p ∷ more) = groups_fixed (other_laid e p).edge more ∙ other_fixed e p
 
 pub filled_fixed : (e : Edge) (items : List Item) → fixed (filled e items).edge ≡ fixed e
 filled_fixed e items = groups_fixed e (groups items)

@@ -90,13 +90,10 @@ roff_at e = record {
   to_come = None;
 }
 
--- the indent of text, of the header and of the scopes: that of the settings, else that of the set of macros
-abbrev pub indent_at : Edge → ℕ
-indent_at e = indent_of e.indent e.body.set
-
+-- the header's and the scopes', with the indent of text: that of the settings, else that of the set of macros
 abbrev pub header_at : Edge → HeaderEdge
 header_at e = record {
-  measure = record { width = e.fill.sheet.width; indent = indent_at e; output = e.fill.output };
+  measure = record { width = e.fill.sheet.width; indent = indent_of e.indent e.body.set; output = e.fill.output };
   indent = e.indent;
   set = e.body.set;
   is_decided = e.body.is_decided;
@@ -109,7 +106,7 @@ scopes_at e = record {
   mode = e.body.mode;
   scopes = e.body.scopes;
   state = record {
-    page = record { indent = indent_at e; output = e.fill.output };
+    page = record { indent = indent_of e.indent e.body.set; output = e.fill.output };
     context = e.body.context;
     running = e.body.running;
     has_begun = e.body.has_begun;

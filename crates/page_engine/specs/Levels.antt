@@ -1,5 +1,5 @@
 -- Messages by their levels. Source: mandoc(1), -W and "EXIT STATUS".
-use Rattle.std.specs.Prelude.{◌≡◌, Bool, not, false, List, [], ◌∷◌, ◌++◌, refl, filter, Option, None, Some, if◌then◌else◌}
+use Rattle.std.specs.Prelude.{◌≡◌, Bool, not, false, List, [], ◌∷◌, ◌++◌, refl, filter, fold, Option, None, Some, if◌then◌else◌}
 use Rattle.std.proofs.Common.{◌∙◌}
 use Rattle.std.proofs.lemmas.List.Elements.{filter-append}
 use Rattle.page_core_base.specs.declared.note_kinds.Level.{Level}
@@ -11,11 +11,8 @@ abbrev pub is_reported_level : Option Level → Level → Bool
 is_reported_level None level = false
 is_reported_level (Some least) level = not (is_below level least)
 
-abbrev pub is_reported : Option Level → Message → Bool
-is_reported least m = is_reported_level least (level_of m.kind)
-
 unfoldable pub reported : Option Level → List Message → List Message
-reported least messages = filter (is_reported least) messages
+reported least messages = filter (λ m. is_reported_level least (level_of m.kind)) messages
 
 -- the greatest level, from a first one
 abbrev pub worse : Option Level → Level → Option Level
@@ -23,13 +20,12 @@ worse None level = Some level
 worse (Some worst) level = if is_below worst level then Some level else Some worst
 
 unfoldable pub worst_of : Option Level → List Message → Option Level
-worst_of worst [] = worst
-worst_of worst (m ∷ messages) = worst_of (worse worst (level_of m.kind)) messages
+worst_of worst messages = fold (λ found (m : Message). worse found (level_of m.kind)) worst messages
 
 pub reported-append : (least : Option Level) (xs ys : List Message)
     → reported least (xs ++ ys) ≡ reported least xs ++ reported least ys
 unfolding reported
-reported-append least xs ys = filter-append (is_reported least) xs ys
+reported-append least xs ys = filter-append (λ (m : Message). is_reported_level least (level_of m.kind)) xs ys
 
 pub worst_of-append : (worst : Option Level) (xs ys : List Message)
     → worst_of worst (xs ++ ys) ≡ worst_of (worst_of worst xs) ys

@@ -1,14 +1,11 @@
 -- A page: the rows and messages that its lines settle, and the page to its end. The forest of all lines (roff(7)) gives lines and messages, these are the
 -- acts of one block tree (man(7), mdoc(7)), after that of the lines that leave its language open; its pieces are filled (roff(7), "Filling and
 -- adjusting"), messages go by their levels, and lint has no rows. Source: mandoc(1).
-use Rattle.std.specs.Prelude.{ℕ, Option, Some, List, [], ◌∷◌, map}
+use Rattle.std.specs.Prelude.{ℕ, Option, Some, List, [], map, fold}
 use Rattle.page_core_base.specs.Laid.{Laid, seq}
-use Rattle.page_core_base.specs.Pieces.{Item}
-use Rattle.page_engine_lines.specs.Acts as acts
-use Rattle.page_engine_lines.specs.Acts.{raw_line, lines_items, lines_after}
+use Rattle.page_engine_lines.specs.Acts.{raw_line, lines_items, lines_after, page_items}
 use Rattle.page_engine_lines.specs.Edges.{footer_items}
 use Rattle.page_fill.specs.declared.edges.Edge.{Edge as FillEdge}
-use Rattle.page_fill.specs.Edges as fill
 use Rattle.page_fill.specs.Filling.{filled, row_end}
 use Rattle.page_roff_lines.specs.Decoding.{Line}
 use Rattle.page_roff_source.specs.Edges.{SourceLine}
@@ -35,8 +32,7 @@ raw_lines lines = map raw lines
 
 -- the number of the last of them, or of the one before them
 abbrev pub last_number : Option ℕ → List Line → Option ℕ
-last_number number [] = number
-last_number number (line ∷ lines) = last_number (Some line.number) lines
+last_number number lines = fold (λ last (line : Line). Some line.number) number lines
 
 -- where the forest of lines and the block tree of their acts leave a page
 abbrev pub after : Edge → List Line → Edge
@@ -55,16 +51,13 @@ text_line text number = record { number = number; text = text; notes = [] }
 
 -- ---- the whole page
 
--- the pieces and messages of lines and of the page's end after them: what roff left open, a missing header, the end of all scopes
-abbrev pub page_items : Edge → List Line → List Item
-page_items e lines = acts.page_items (lines_at e) (raw_lines lines) (last_line (after e lines))
-
 -- the footer after a blank row, unless one is there, and the end of the row
 abbrev pub footer_laid : Edge → FillEdge → Laid FillEdge
-footer_laid e f = seq (filled f (footer_items (lines_at e) (last_line e) (fill.blank_rows_at_end f))) row_end
+footer_laid e f = seq (filled f (footer_items (lines_at e) (last_line e) f.sheet.blank_rows)) row_end
 
--- a page from an edge, to its end: its rows and messages, and at its last edge the worst level and the counts
+-- a page from an edge, to its end: its rows and messages, and at its last edge the worst level and the counts. The pieces and messages are those of the
+-- lines and of the page's end after them: what roff left open, a missing header, the end of all scopes.
 unfoldable pub page : Edge → List Line → Laid Edge
 page e lines =
     let f = after e lines in
-    of_page e f (seq (filled e.fill (page_items e lines)) (λ h. footer_laid f h))
+    of_page e f (seq (filled e.fill (page_items (lines_at e) (raw_lines lines) (last_line f))) (λ h. footer_laid f h))

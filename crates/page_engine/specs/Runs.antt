@@ -10,7 +10,7 @@ use Rattle.page_roff_lines.specs.Decoding.{lines}
 use Rattle.page_roff_lines.specs.Whole.{whole_lines, lines_made, line_left}
 use Rattle.page_core_base.specs.Checks.{IsGood, IsFirst}
 use Rattle.page_engine.specs.declared.runs.Outcome.{Outcome}
-use Rattle.page_engine.specs.Page.{Edge, counts_at, settled, page, start}
+use Rattle.page_engine.specs.Page.{Edge, settled, page, start}
 use Rattle.page_core_streams.specs.Sources.{SourceState, HasGiven, IsLean, IsTooLong}
 use Rattle.page_engine.specs.Streams.{Streams, Sinks, AllCame, FrontCame}
 
@@ -29,7 +29,7 @@ pub record Whole {R N : Type 0} (streams : Streams R N) (rows_before rows_after 
   pub gave : AllCame streams rows_before rows_after notes_before notes_after (whole_page settings bytes)
   pub worst : outcome.worst ≡ (whole_page settings bytes).edge.worst
   pub source : outcome.counts.source ≡ length (lines settings.encoding bytes)
-  pub counts : outcome.counts ≡ counts_at (whole_page settings bytes).edge
+  pub counts : outcome.counts ≡ (whole_page settings bytes).edge.roff.counts
   pub good : IsGood settings
   pub all : IsAtEnd after
 
@@ -43,9 +43,7 @@ Stopped came_whole came_front settings bytes WriteText = IsGood settings × came
 Stopped came_whole came_front settings bytes WriteNotes = IsGood settings × came_front (whole_page settings bytes)
 Stopped came_whole came_front settings bytes (Settings fault) =
     IsFirst settings fault × (bytes ≡ []) × came_whole (nothing (start settings))
-Stopped came_whole came_front settings bytes Failed = ⊥
-Stopped came_whole came_front settings bytes Ended = ⊥
-Stopped came_whole came_front settings bytes (BadIndex line) = ⊥
+Stopped came_whole came_front settings bytes _ = ⊥
 
 abbrev pub Runs : {R N : Type 0} → Result Outcome Fault → Streams R N → R → R → N → N
     → PageSettings → List ℕ → Option (List ℕ) → Type 0
@@ -90,27 +88,16 @@ pub record Untouched {R N : Type 0} (source_before source_after : SourceState) (
   pub rows : rows_after ≡ rows_before
   pub notes : notes_after ≡ notes_before
 
--- Why a run stopped, by its fault: whether nothing was touched, whether a read failed, and what broke.
-abbrev pub HasCause : (untouched read_failed : Type 0) → (breaks : Fault → Type 0) → ℕ → List ℕ → Fault → Type 0
-HasCause untouched read_failed breaks asked bytes Memory = untouched
-HasCause untouched read_failed breaks asked bytes Read = read_failed
-HasCause untouched read_failed breaks asked bytes TooLong = IsTooLong asked bytes
-HasCause untouched read_failed breaks asked bytes WriteText = breaks WriteText
-HasCause untouched read_failed breaks asked bytes WriteNotes = breaks WriteNotes
-HasCause untouched read_failed breaks asked bytes (Settings fault) = untouched
-HasCause untouched read_failed breaks asked bytes Failed = ⊥
-HasCause untouched read_failed breaks asked bytes Ended = ⊥
-HasCause untouched read_failed breaks asked bytes (BadIndex line) = ⊥
-
--- why a run over a source stopped
-abbrev pub StoppedBy : {R N : Type 0} → Sinks R N → SourceState → SourceState → R → R → N → N
-    → PageSettings → ℕ → List ℕ → Fault → Type 0
-StoppedBy sinks source_before source_after rows_before rows_after notes_before notes_after settings asked bytes fault =
-    HasCause
-    (Untouched source_before source_after rows_before rows_after notes_before notes_after)
-    (Rose source_before.failed source_after.failed)
-    (λ cause. Broken sinks rows_before rows_after notes_before notes_after settings bytes cause)
-    asked bytes fault
+-- Why a run over a source stopped, by its fault: nothing was touched, a read failed, there was too much, or a sink failed.
+abbrev pub StoppedBy : {R N : Type 0} → Sinks R N → (source_before source_after : SourceState) → (rows_before rows_after : R)
+    → (notes_before notes_after : N) → PageSettings → (asked : ℕ) → (bytes : List ℕ) → Fault → Type 0
+StoppedBy k a b r r' n n' settings asked bytes Memory = Untouched a b r r' n n'
+StoppedBy k a b r r' n n' settings asked bytes Read = Rose a.failed b.failed
+StoppedBy k a b r r' n n' settings asked bytes TooLong = IsTooLong asked bytes
+StoppedBy k a b r r' n n' settings asked bytes WriteText = Broken k r r' n n' settings bytes WriteText
+StoppedBy k a b r r' n n' settings asked bytes WriteNotes = Broken k r r' n n' settings bytes WriteNotes
+StoppedBy k a b r r' n n' settings asked bytes (Settings fault) = Untouched a b r r' n n'
+StoppedBy k a b r r' n n' settings asked bytes _ = ⊥
 
 -- nothing failed
 pub record Quiet {R N : Type 0} (sinks : Sinks R N) (source_before source_after : SourceState)

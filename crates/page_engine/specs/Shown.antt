@@ -1,20 +1,18 @@
 -- Rows that are given or not. Source: mandoc(1), -T lint.
-use Rattle.std.specs.Prelude.{◌≡◌, Bool, List, [], ◌++◌, refl}
+use Rattle.std.specs.Prelude.{◌≡◌, Bool, List, [], ◌++◌, refl, if◌then◌else◌}
 use Rattle.std.proofs.Common.{◌∙◌, true, false}
 use Rattle.page_core_base.specs.Rows.{LaidRow}
 use Rattle.page_core_base.specs.Sinks.{IsSink}
 use Rattle.page_core_base.specs.declared.page_settings.Output.{Output}
-use Rattle.page_core_base.specs.declared.page_settings.Output.TheVariants.{Ascii, Utf8, Lint}
+use Rattle.page_core_base.specs.declared.page_settings.Output.TheVariants.{Lint}
 
 -- lint gives no row
 abbrev pub is_silent : Output → Bool
-is_silent Ascii = false
-is_silent Utf8 = false
 is_silent Lint = true
+is_silent _ = false
 
 unfoldable pub shown_rows : Bool → List LaidRow → List LaidRow
-shown_rows false rows = rows
-shown_rows true rows = []
+shown_rows silent rows = if silent then [] else rows
 
 pub shown_rows-append : (silent : Bool) (xs ys : List LaidRow)
     → shown_rows silent (xs ++ ys) ≡ shown_rows silent xs ++ shown_rows silent ys

@@ -5,7 +5,8 @@ use Rattle.std.specs.Str.Lossy.{utf8_valid_len}
 use Rattle.page_core_base.specs.Messages.{text_front}
 use Rattle.page_core_base.specs.declared.places.Place.{Place}
 use Rattle.page_roff_syntax.specs.declared.quotes.Argument.{Argument}
-use Rattle.page_engine_header.specs.Fields.{argument_cut, bracketed, dt_fields, first_field, or_else, th_fields, volume_of}
+use Rattle.page_sets_names.specs.declared.macro_names.Prologue.TheVariants.{TH, Dt}
+use Rattle.page_engine_header.specs.Fields.{argument_cut, bracketed, fields_after, first_field, or_else, volume_of}
 use Rattle.page_engine_header.specs.declared.fields.Fields.{Fields}
 
 -- ---- a front of a text
@@ -42,7 +43,7 @@ drop_four (x ∷ y ∷ z ∷ zs) = refl
 pub th_read : (os : List ℕ) (all a b c d : List (Argument (List ℕ))) (title section date source volume : List ℕ) (f : Fields)
     → a ≡ drop 1 all → b ≡ drop 1 a → c ≡ drop 1 b → d ≡ drop 1 c → title ≡ first_field all → section ≡ first_field a → date ≡ first_field b
     → source ≡ or_else (first_field c) os → volume ≡ or_else (first_field d) (volume_of section)
-    → record { title = title; section = section; date = date; source = source; volume = volume; os_came = f.os_came } ≡ th_fields os all f
+    → record { title = title; section = section; date = date; source = source; volume = volume; os_came = f.os_came } ≡ fields_after TH os all f
 th_read os all a b c d title section date source volume f p q r s t u v w x =
     let second : b ≡ drop 2 all = q ∙ ap (drop 1) p ∙ drop_two all in
     let third : c ≡ drop 3 all = r ∙ ap (drop 1) second ∙ drop_three all in
@@ -51,7 +52,7 @@ th_read os all a b c d title section date source volume f p q r s t u v w x =
 
 pub dt_read : (all a b : List (Argument (List ℕ))) (title section volume : List ℕ) (f : Fields)
     → a ≡ drop 1 all → b ≡ drop 1 a → title ≡ first_field all → section ≡ first_field a → volume ≡ bracketed (volume_of section) b
-    → record f { title = title; section = section; volume = volume } ≡ dt_fields all f
+    → record f { title = title; section = section; volume = volume } ≡ fields_after Dt [] all f
 dt_read all a b title section volume f p q t u v =
     let second : b ≡ drop 2 all = q ∙ ap (drop 1) p ∙ drop_two all in
     rw (v, u, t, second, p) refl

@@ -75,8 +75,9 @@ in_brackets room argument =
 -- ---- the volume
 
 -- the volume of a section, by its first byte: the digits from 1 (49) on
-abbrev pub volume_at : ℕ → List ℕ
-volume_at byte =
+abbrev pub volume_of : List ℕ → List ℕ
+volume_of [] = []
+volume_of (byte ∷ bytes) =
     if byte == 49 then codes "General Commands Manual"
     else if byte == 50 then codes "System Calls Manual"
     else if byte == 51 then codes "Library Functions Manual"
@@ -88,10 +89,6 @@ volume_at byte =
     else if byte == 57 then codes "Kernel Developer's Manual"
     else []
 
-abbrev pub volume_of : List ℕ → List ℕ
-volume_of [] = []
-volume_of (byte ∷ bytes) = volume_at byte
-
 -- a text, and the next argument in brackets after it, unless it is empty: one field
 abbrev pub bracketed : List ℕ → List (Argument (List ℕ)) → List ℕ
 bracketed text [] = text
@@ -100,30 +97,23 @@ bracketed text (argument ∷ others) =
 
 -- ---- what each macro sets
 
+abbrev pub fields_after : Prologue → List ℕ → List (Argument (List ℕ)) → Fields → Fields
 -- TH title section date source volume: the source is else the operating system's, the volume else the section's
-abbrev pub th_fields : List ℕ → List (Argument (List ℕ)) → Fields → Fields
-th_fields os arguments f = record {
+fields_after TH os arguments f = record f {
   title = nth_field 0 arguments;
   section = nth_field 1 arguments;
   date = nth_field 2 arguments;
   source = or_else (nth_field 3 arguments) os;
   volume = or_else (nth_field 4 arguments) (volume_of (nth_field 1 arguments));
-  os_came = f.os_came;
 }
-
 -- Dt title section [arch]: the volume is the section's, and the architecture in brackets after it
-abbrev pub dt_fields : List (Argument (List ℕ)) → Fields → Fields
-dt_fields arguments f = record f {
+fields_after Dt os arguments f = record f {
   title = nth_field 0 arguments;
   section = nth_field 1 arguments;
   volume = bracketed (volume_of (nth_field 1 arguments)) (drop 2 arguments);
 }
-
 -- Dd date; Os system: all words, and without words the system is that of the settings
-abbrev pub fields_after : Prologue → List ℕ → List (Argument (List ℕ)) → Fields → Fields
-fields_after TH os arguments f = th_fields os arguments f
 fields_after Dd os arguments f = record f { date = without_keyword (joined arguments) }
-fields_after Dt os arguments f = dt_fields arguments f
 fields_after Os os arguments f = record f { source = or_else (joined arguments) os; os_came = true }
 
 -- before any of them
@@ -139,21 +129,10 @@ cut_item place len = if nat_lt FIELD len then says Limit place (codes "FIELD") �
 abbrev pub argument_cut : Place → Argument (List ℕ) → List Item
 argument_cut place argument = cut_item place (said_len argument)
 
--- the fields of TH
-abbrev pub FIELDS : ℕ
-FIELDS = 5
-
--- the volume with the architecture in brackets
-abbrev pub arch_cut : Place → (volume : List ℕ) → List (Argument (List ℕ)) → List Item
-arch_cut place volume [] = []
-arch_cut place volume (arch ∷ others) = cut_item place (length volume + 3 + said_len arch)
-
-abbrev pub dt_cuts : Place → List (Argument (List ℕ)) → List Item
-dt_cuts place arguments =
-    flat_map (argument_cut place) (take 2 arguments) ++ arch_cut place (volume_of (nth_field 1 arguments)) (drop 2 arguments)
-
+-- of TH each field, of Dt the title, the section and the volume with the architecture in brackets, of the others all words
 abbrev pub cut_items : Prologue → Place → List (Argument (List ℕ)) → List Item
-cut_items TH place arguments = flat_map (argument_cut place) (take FIELDS arguments)
-cut_items Dd place arguments = cut_item place (joined_len arguments)
-cut_items Dt place arguments = dt_cuts place arguments
-cut_items Os place arguments = cut_item place (joined_len arguments)
+cut_items TH place arguments = flat_map (argument_cut place) (take 5 arguments)
+cut_items Dt place (title ∷ section ∷ arch ∷ others) =
+    argument_cut place title ++ (argument_cut place section ++ cut_item place (length (volume_of (field section)) + 3 + said_len arch))
+cut_items Dt place arguments = flat_map (argument_cut place) arguments
+cut_items _ place arguments = cut_item place (joined_len arguments)

@@ -47,26 +47,16 @@ third_start width first second third = max (second_start width first second + se
 abbrev pub part_items : Measure → Place → List TextToken → List Item
 part_items m place part = tokens_items m.output place roman_fonts part
 
-abbrev pub part_columns : Measure → List TextToken → ℕ
-part_columns m part = tokens_columns m.output part
-
-abbrev pub second_column : Measure → (first second : List TextToken) → ℕ
-second_column m first second = second_start m.width (part_columns m first) (part_columns m second)
-
-abbrev pub third_column : Measure → (first second third : List TextToken) → ℕ
-third_column m first second third =
-    third_start m.width (part_columns m first) (part_columns m second) (part_columns m third)
-
 abbrev pub blanks : Place → ℕ → List Item
 blanks place count = in_font R place (replicate count 32)
 
 -- the characters of a row: its parts, and blanks between them up to where the second and the third begin
 unfoldable pub row_characters : Measure → Place → (first second third : List TextToken) → List Item
 row_characters m place first second third =
-    part_items m place first
-    ++ (blanks place (second_column m first second - part_columns m first) ++ (part_items m place second
-    ++ (blanks place (third_column m first second third - (second_column m first second + part_columns m second))
-    ++ part_items m place third)))
+    let start = second_start m.width (tokens_columns m.output first) (tokens_columns m.output second) in
+    let last = third_start m.width (tokens_columns m.output first) (tokens_columns m.output second) (tokens_columns m.output third) in
+    part_items m place first ++ (blanks place (start - tokens_columns m.output first)
+    ++ (part_items m place second ++ (blanks place (last - (start + tokens_columns m.output second)) ++ part_items m place third)))
 
 -- characters where a row has room for so many more: one that is full ends before the next character, which begins another row
 unfoldable pub in_rows : ℕ → List Item → List Item
@@ -95,19 +85,11 @@ footer_row m place f =
 abbrev pub if_empty : List ℕ → NoteKind → Place → List ℕ → List Item
 if_empty f kind place detail = if length f == 0 then says kind place detail ∷ [] else []
 
--- a page of mdoc(7) has its section's volume, whatever is in brackets after it
-abbrev pub missing_volume : (is_mdoc : Bool) → Fields → List ℕ
-missing_volume is_mdoc f = if is_mdoc then volume_of f.section else f.volume
-
--- and it has the macro Os, or the settings' system: the source where none came
-abbrev pub missing_os : (is_mdoc : Bool) → Place → Fields → List Item
-missing_os is_mdoc place f = if is_mdoc && not f.os_came then if_empty f.source MissingOs place [] else []
-
+-- a page of mdoc(7) has its section's volume, whatever is in brackets after it; and it has the macro Os, or the settings' system: the source where none came
 abbrev pub missing_items : (is_mdoc : Bool) → Place → Fields → List Item
 missing_items is_mdoc place f =
-    if_empty f.title MissingTitle place []
-    ++ (if_empty (missing_volume is_mdoc f) UnknownSection place f.section
-    ++ (if_empty f.date MissingDate place [] ++ missing_os is_mdoc place f))
+    if_empty f.title MissingTitle place [] ++ (if_empty (if is_mdoc then volume_of f.section else f.volume) UnknownSection place f.section
+    ++ (if_empty f.date MissingDate place [] ++ (if is_mdoc && not f.os_came then if_empty f.source MissingOs place [] else [])))
 
 -- the header, a blank row and what is missing; then text is at the indent
 abbrev pub header_items : (is_mdoc : Bool) → Measure → Place → Fields → List Item

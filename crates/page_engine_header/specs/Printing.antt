@@ -1,6 +1,6 @@
 -- What the text of a field prints: its characters, each in a font. Source: man(7), TH; roff(7), "ESCAPE
 -- SEQUENCES"; mandoc_char(7).
-use Rattle.std.specs.Prelude.{ℕ, ◌+◌, List, [], ◌∷◌, ◌++◌, length, replicate, map, codes, if◌then◌else◌}
+use Rattle.std.specs.Prelude.{ℕ, ◌+◌, List, [], ◌∷◌, ◌++◌, length, replicate, map, flat_map, codes, if◌then◌else◌}
 use Rattle.std.specs.Str.{chars, is_utf8}
 use Rattle.page_core_base.specs.Pieces.{Item, shown}
 use Rattle.page_core_base.specs.declared.cells.Font.{Font}
@@ -19,8 +19,7 @@ characters_of bytes = if is_utf8 bytes then chars bytes else []
 
 -- what characters that print themselves print in an output
 abbrev pub plain_printed : Output → List ℕ → List ℕ
-plain_printed output [] = []
-plain_printed output (c ∷ cs) = (char_printed output c).characters ++ plain_printed output cs
+plain_printed output cs = flat_map (λ c. (char_printed output c).characters) cs
 
 -- the characters that a token prints; a tab is a blank (32)
 abbrev pub token_printed : Output → TextToken → List ℕ

@@ -4,8 +4,9 @@ ghost use Rattle.std.specs.Prelude.{◌≡◌, ◌≤◌, [], ◌∷◌, false, 
 ghost use Rattle.std.specs.List.{flat_map};
 ghost use Rattle.page_core_base.specs.Latches.{Came};
 ghost use Rattle.page_roff_syntax.specs.Arguments.{argument_view};
+ghost use Rattle.page_sets_names.specs.declared.macro_names.Prologue.TheVariants.{TH, Dt};
 ghost use Rattle.page_engine_header.specs.Fields as fields;
-ghost use Rattle.page_engine_header.specs.Fields.{FIELDS, argument_cut, cut_item, no_fields, volume_at, volume_of};
+ghost use Rattle.page_engine_header.specs.Fields.{argument_cut, cut_item, no_fields, volume_of};
 
 use crate::field_texts::Field;
 use page_core_base::{FIELD, Limit, NoteKind, PieceOut, Place};
@@ -26,7 +27,7 @@ pub(crate) fn volume_of(section: &[u8]) -> &'static str
 
 // The volume of a section by its first byte.
 fn volume_at(byte: u8) -> &'static str
-    ensures value { result.now ≡ volume_at byte }
+    ensures value { result.now ≡ volume_of (byte ∷ []) }
     ensures short { length result.now ≤ 64 }
 {
     match byte {
@@ -104,7 +105,7 @@ impl Fields {
     // Takes the fields of `TH`.
     fn take_title(&mut self, os: &[u8], arguments: Arguments<'_>)
         requires { length os.now ≤ 256 }
-        ensures { self.new ≡ fields.th_fields os.now arguments.entry self.old }
+        ensures { self.new ≡ fields.fields_after TH os.now arguments.entry self.old }
     {
         let mut arguments = arguments;
         self.title = Field::next(&mut arguments);
@@ -117,7 +118,7 @@ impl Fields {
 
     // Takes the fields of `Dt`.
     fn take_page_title(&mut self, arguments: Arguments<'_>)
-        ensures { self.new ≡ fields.dt_fields arguments.entry self.old }
+        ensures { self.new ≡ fields.fields_after Dt [] arguments.entry self.old }
     {
         let mut arguments = arguments;
         self.title = Field::next(&mut arguments);
@@ -141,7 +142,7 @@ fn report_cut<O: PieceOut>(out: &mut O, place: Place, len: usize)
 
 // Reports the arguments of `TH` that are cut as fields.
 fn report_title<O: PieceOut>(out: &mut O, place: Place, arguments: Arguments<'_>)
-    ensures { Came O.left out.old (flat_map (argument_cut place) (take FIELDS arguments.entry)) out.new }
+    ensures { Came O.left out.old (flat_map (argument_cut place) (take 5 arguments.entry)) out.new }
 {
     let mut arguments = arguments;
     let mut left = FIELDS;
@@ -156,7 +157,7 @@ fn report_title<O: PieceOut>(out: &mut O, place: Place, arguments: Arguments<'_>
 
 // Reports the arguments of `Dt` that are cut as fields, and its volume.
 fn report_page_title<O: PieceOut>(out: &mut O, place: Place, arguments: Arguments<'_>)
-    ensures { Came O.left out.old (fields.dt_cuts place arguments.entry) out.new }
+    ensures { Came O.left out.old (fields.cut_items Dt place arguments.entry) out.new }
 {
     let mut arguments = arguments;
     let Some(title) = arguments.next_argument() else {

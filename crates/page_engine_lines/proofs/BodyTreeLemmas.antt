@@ -33,7 +33,7 @@ use Rattle.page_sets_lines.specs.declared.leaves.Leaf.{Leaf}
 use Rattle.page_sets_lines.specs.declared.leaves.Leaf.TheVariants as leaves
 use Rattle.page_sets_names.specs.declared.macro_names.Prologue.{Prologue}
 use Rattle.page_engine_lines.specs.Bodies.{BodyEdge, HeaderEdge, begin_items, scope_items, with_scopes, with_title, kind_items, kind_after, event_items, event_after, events_items, events_after, end_items}
-use Rattle.page_engine_lines.specs.Trees.{Aside, reports, titles, closes, kind_steps, event_steps, events_steps, page_end_steps, header_at, body_sides, body_nesting, body_layout, opened, body_of, tree_items, tree_after}
+use Rattle.page_engine_lines.specs.Trees.{Aside, reports, titles, closes, kind_steps, events_steps, page_end_steps, header_at, body_sides, body_nesting, body_layout, opened, body_of, tree_items, tree_after}
 
 sound : IsSound body_nesting SCOPES
 sound = sound_with scopes_nesting SCOPES scopes-sound
@@ -173,6 +173,9 @@ kind_same kind b event = elim (event_kinds kind) [
   | inl t ↦ rw t.2 (aside_items_is b (titles event.place t.0 t.1), aside_after_is b (titles event.place t.0 t.1))
   | inr p ↦ rw (p.steps event, p.items b event, p.after b event) (plain_items b event, plain_after b event)
 ]
+
+abbrev event_steps : Event (List ℕ) → List (With Aside Step)
+event_steps event = kind_steps event.kind event
 
 pub event_tree : (b : BodyEdge) (event : Event (List ℕ)) → (tree_items b (event_steps event) ≡ event_items b event) × (tree_after b (event_steps event) ≡ event_after b event)
 unfolding event_items event_after Same

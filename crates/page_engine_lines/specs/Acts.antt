@@ -1,5 +1,6 @@
 -- What roff gives of a page's lines, as acts of one block tree. Source: mandoc(1), "DIAGNOSTICS".
-use Rattle.std.specs.Prelude.{ℕ, ◌+◌, nat_lt, List, [], ◌∷◌, ◌++◌, length, map, Option, None, Some, is_some, if◌then◌else◌}
+use Rattle.std.specs.Prelude.{ℕ, ◌+◌, nat_lt, List, [], ◌∷◌, ◌++◌, length, map, Option, None, is_some, if◌then◌else◌}
+use Rattle.std.specs.Option.{option_or}
 use Rattle.page_core_base.specs.Messages.{Message, message_about}
 use Rattle.page_core_base.specs.Pieces.{Item}
 use Rattle.page_core_base.specs.declared.note_kinds.NoteKind.TheVariants.{TrailingBlank}
@@ -37,25 +38,15 @@ from_language [] = []
 from_language (says m ∷ more) = from_language more
 from_language (takes line ∷ more) = if is_some (language_of line) then takes line ∷ more else from_language more
 
-abbrev pub or_language : Option Either → Option Either → Option Either
-or_language None other = other
-or_language (Some set) other = Some set
-
 abbrev pub first_language : List Given → Option Either
 first_language [] = None
 first_language (says m ∷ more) = first_language more
-first_language (takes line ∷ more) = or_language (language_of line) (first_language more)
+first_language (takes line ∷ more) = option_or (language_of line) (first_language more)
 
--- a body reads what is given by its own set up to where the language is decided, if it is not decided yet
-abbrev pub front : BodyEdge → List Given → List Given
-front b given = if b.header.is_decided then [] else before_language given
-
-abbrev pub rest : BodyEdge → List Given → List Given
-rest b given = if b.header.is_decided then given else from_language given
-
--- the acts up to there, and the body that reads the rest
+-- A body reads what is given by its own set up to where the language is decided, if it is not decided yet: the acts up to there, and the body that
+-- reads the rest.
 abbrev pub front_steps : BodyEdge → List Given → List (With Aside Step)
-front_steps b given = given_steps b.header.set (front b given)
+front_steps b given = given_steps b.header.set (if b.header.is_decided then [] else before_language given)
 
 abbrev pub reader : BodyEdge → List Given → BodyEdge
 reader b given =
@@ -63,7 +54,7 @@ reader b given =
 
 -- the acts from there on
 abbrev pub rest_steps : BodyEdge → List Given → List (With Aside Step)
-rest_steps b given = given_steps (reader b given).header.set (rest b given)
+rest_steps b given = given_steps (reader b given).header.set (if b.header.is_decided then given else from_language given)
 
 -- the messages of white space at a line's end
 abbrev pub trailing_messages : ℕ → List ℕ → List Message

@@ -9,13 +9,6 @@ use Rattle.page_sets_lines.specs.PlainLines.{layout_request, plain_line}
 use Rattle.page_sets_lines.specs.declared.plain_lines.PlainLine.{PlainLine}
 use Rattle.page_sets_lines.specs.declared.plain_lines.PlainLine.TheVariants as lines
 
--- text with a word, and a line as it is written, are of man(7)
-abbrev pub plain_language : PlainLine → Option Either
-plain_language lines.Words = Some Man
-plain_language lines.Wordless = None
-plain_language lines.Blank = None
-plain_language lines.Raw = Some Man
-
 -- a macro is of man(7), but `Dd` is of mdoc(7)
 abbrev pub macro_language : List ℕ → Either
 macro_language name = if bytes_eq name (codes "Dd") then Mdoc else Man
@@ -25,9 +18,12 @@ abbrev pub control_language : Line → Option Either
 control_language line =
     if is_nameless line || is_some (layout_request (name_of line)) then None else Some (macro_language (name_of line))
 
+-- text with a word, and a line as it is written, are of man(7)
 abbrev pub form_language : Line → Option PlainLine → Option Either
 form_language line None = control_language line
-form_language line (Some plain) = plain_language plain
+form_language line (Some lines.Wordless) = None
+form_language line (Some lines.Blank) = None
+form_language line _ = Some Man
 
 -- the language that a line decides, if it decides one
 unfoldable pub language_of : Line → Option Either

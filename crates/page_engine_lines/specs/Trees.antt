@@ -16,7 +16,7 @@ use Rattle.page_scopes_tree.specs.Layouts.{Layout, Edge, settled, edge}
 use Rattle.page_scopes_tree.specs.Nestings.{Nesting}
 use Rattle.page_scopes_tree.specs.Acts.{Step, does, steps_of}
 use Rattle.page_scopes_tree.specs.Frames.{framed}
-use Rattle.page_scopes_tree.specs.Nests.{Fact, coming, standing, refused, scopes_nesting}
+use Rattle.page_scopes_tree.specs.Nests.{Fact, coming, scopes_nesting}
 use Rattle.page_scopes_tree.specs.declared.acts.Act.TheVariants as acts
 use Rattle.page_scopes_labels.specs.declared.labels.Label.{Label}
 use Rattle.page_scopes_words.specs.Words.{at, says}
@@ -41,11 +41,8 @@ abbrev pub kind_steps : EventKind (List ℕ) → Event (List ℕ) → List (With
 kind_steps (Leaf (Prologue name rest)) event = aside (titles event.place name rest) ∷ []
 kind_steps _ event = map act (steps_of event)
 
-abbrev pub event_steps : Event (List ℕ) → List (With Aside Step)
-event_steps event = kind_steps event.kind event
-
 abbrev pub events_steps : List (Event (List ℕ)) → List (With Aside Step)
-events_steps events = flat_map event_steps events
+events_steps events = flat_map (λ (event : Event (List ℕ)). kind_steps event.kind event) events
 
 -- the page's end on a line
 abbrev pub page_end_steps : ℕ → List (With Aside Step)
@@ -59,8 +56,7 @@ header_at line h = header_items (is_mdoc h.set) h.measure (at line 1) h.fields
 -- the header is before the event that begins the body
 abbrev pub before_fact : Fact → HeaderEdge → LayoutState → List Item
 before_fact (coming event) h s = if begins event.kind s.has_begun then header_at event.place.line h else []
-before_fact (standing a) h s = []
-before_fact (refused obstacle a) h s = []
+before_fact _ h s = []
 
 -- at the page's end a header that is missing comes with a message
 abbrev pub aside_items : Aside → HeaderEdge → LayoutState → List Item
@@ -69,10 +65,9 @@ aside_items (titles place name rest) h s = title_items s.has_begun place name re
 aside_items (closes line) h s = if s.has_begun then [] else (header_at line h ++ says NoBody (at line 1) [] ∷ [])
 
 abbrev pub aside_header : Aside → HeaderEdge → LayoutState → HeaderEdge
-aside_header (reports m) h s = h
 aside_header (titles place name rest) h s =
     record h { fields = title_fields s.has_begun name h.os rest h.fields }
-aside_header (closes line) h s = h
+aside_header _ h s = h
 
 abbrev pub body_sides : Sides Aside Step Fact HeaderEdge LayoutState Item
 body_sides = record {

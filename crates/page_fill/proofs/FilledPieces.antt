@@ -1,7 +1,8 @@
 -- The words of pieces are their marks, and so pieces fill rows as their words do.
-use Rattle.std.proofs.Common.{◌≡◌, ℕ, ◌==◌, Bool, true, false, not, ◌&&◌, ◌||◌, List, [], ◌∷◌, ◌++◌, length, map, replicate, inl, inr, refl, sym, subst, ap, ◌∙◌, append_assoc}
-use Rattle.std.specs.Prelude.{if◌then◌else◌}
+use Rattle.std.proofs.Common.{◌≡◌, ℕ, ◌==◌, Bool, true, false, not, ◌&&◌, ◌||◌, List, [], ◌∷◌, ◌++◌, length, map, replicate, inl, inr, refl, sym, subst, ap, ◌∙◌, append_assoc, arith}
+use Rattle.std.specs.Prelude.{fold, if◌then◌else◌}
 use Rattle.std.proofs.lemmas.Bool.{cases_Bool, and_parts}
+use Rattle.std.proofs.lemmas.Bool.Decides.{nat_tests}
 use Rattle.std.proofs.lemmas.List.{map-append}
 use Rattle.page_core_base.specs.declared.cells.Cell.{Cell}
 use Rattle.page_core_base.specs.declared.cells.Font.{Font}
@@ -25,7 +26,7 @@ use Rattle.page_fill.specs.machine.Items.{laid_items}
 use Rattle.page_fill.proofs.Marks.{Mark, told, opened, spaced, lettered, letters_of, printed_marks, character_marks, text_marks, tab_marks, blank_marks, opening_marks, is_of_words, piece_marks}
 use Rattle.page_fill.specs.Filled.{CellOrNote, shown, noted, Row, filling}
 use Rattle.page_fill.specs.Caps.{IsHeld, is_sound}
-use Rattle.page_fill.specs.PieceWords.{cell_content, printed_content, text_content, tab_content, Words, and_then, words_from, words_of, word_after_items, frame_of, open_row_of, blank_rows_after, heading_after, with_row, next_edge, going_on, words_laid, after_cell, word_after}
+use Rattle.page_fill.specs.PieceWords.{cell_content, printed_content, text_content, tab_content, Words, and_then, words_from, words_of, word_after_items, frame_of, open_row_of, with_row, next_edge, going_on, words_laid, after_cell, word_after}
 use Rattle.page_fill.proofs.MarkRuns.{step, run, run-append}
 use Rattle.page_fill.proofs.MarkedPieces.{AreStanding, with_word, piece-run, stands-after, sound-after, run-literal}
 use Rattle.page_fill.proofs.FilledWords.{mark_of, marks_of, word_marks, words_marks, run-held, run-frame, filling-run, rest-run}
@@ -126,13 +127,23 @@ piece-words output literal empty w (Column n) rest = refl
 
 -- ---- rows at the end
 
+-- the blank rows at the end of rows, where so many stood there before them; and whether the last one is a heading's
+abbrev pub blank_rows_after : ℕ → List LaidRow → ℕ
+blank_rows_after n rows = fold (λ n row. if is_blank_row row then more_blank_rows n 1 else 0) n rows
+
+abbrev pub heading_after : Bool → List LaidRow → Bool
+heading_after heading rows = length rows == 0 && heading
+
 blank_rows-append : (n : ℕ) (xs ys : List LaidRow) → blank_rows_after (blank_rows_after n xs) ys ≡ blank_rows_after n (xs ++ ys)
 blank_rows-append n [] ys = refl
 blank_rows-append n (x ∷ xs) ys = blank_rows-append (if is_blank_row x then more_blank_rows n 1 else 0) xs ys
 
 heading-append : (b : Bool) (xs ys : List LaidRow) → heading_after (heading_after b xs) ys ≡ heading_after b (xs ++ ys)
 heading-append b [] ys = refl
-heading-append b (x ∷ xs) ys = heading-append false xs ys
+heading-append b (x ∷ xs) ys =
+    let some : (length (x ∷ xs) == 0) ≡ false = grind (arith, nat_tests) in
+    let more : (length (x ∷ (xs ++ ys)) == 0) ≡ false = grind (arith, nat_tests) in
+    rw (some, more) (elim (cases_Bool (length ys == 0)) [ inl z ↦ rw z refl | inr z ↦ rw z refl ])
 
 -- ---- the whole sheet, by its open row and the rows that were given
 

@@ -19,9 +19,9 @@ use Rattle.page_fill.proofs.Marks.{Mark, letters_of, opening_marks}
 use Rattle.page_fill.proofs.Marks as marks
 use Rattle.page_fill.specs.Filled.{CellOrNote}
 use Rattle.page_fill.specs.Caps.{IsHeld, is_sound}
-use Rattle.page_fill.specs.PieceWords.{cell_content, and_then, no_more, words_laid, content_laid, after_cell}
+use Rattle.page_fill.specs.PieceWords.{cell_content, Words, and_then, words_laid, content_laid, after_cell}
 use Rattle.page_fill.specs.machine.Items.{laid_items, laid_items-append}
-use Rattle.page_fill.specs.Filling.{Group, words, other, is_of_words, in_front, groups, row_end, blank_rows, after_tag, tag_ended, tag_end, stop_content, other_laid, groups_laid, filled}
+use Rattle.page_fill.specs.Filling.{Group, words, other, is_of_words, in_front, groups, row_end, blank_rows, after_tag, tag_end, stop_content, other_laid, groups_laid, filled}
 use Rattle.page_fill.proofs.MarkRuns.{run}
 use Rattle.page_fill.proofs.MarkedPieces.{letters-run, opening-run, run-literal, with_word}
 use Rattle.page_fill.proofs.SoundWords.{piece-sound}
@@ -36,6 +36,10 @@ both false x y x' y' first second = second
 choice : (b : Bool) (z x y : Laid Edge) → (b ≡ true → z ≡ x) → (b ≡ false → z ≡ y) → z ≡ (if b then x else y)
 choice true z x y first second = first refl
 choice false z x y first second = second refl
+
+-- no word
+abbrev no_more : Words
+no_more = record { first = []; later = [] }
 
 -- ---- breaks
 
@@ -71,13 +75,13 @@ after_tag-law e t = elim (cases_Bool (fits_hang e.sheet t.hang)) [
   | inr f ↦ rw f (elim (cases_Bool t.ends_row) [ inl r ↦ rw r (row-end e) | inr r ↦ rw r refl ])
 ]
 
-tag-law : (e : Edge) (tag : Option OpenTag) → fill.tag_ended e tag ≡ tag_ended e tag
-tag-law e None = row-end e
+tag-law : (e : Edge) (tag : Option OpenTag) → fill.tag_ended (without_tag e) tag ≡ tag_end e None tag
+tag-law e None = row-end (without_tag e)
 tag-law e (Some t) =
-    ap (λ (l : Laid Edge). if e.sheet.tag_begun then l else nothing (record e { word = no_word })) (after_tag-law e t)
+    ap (λ (l : Laid Edge). if e.sheet.tag_begun then l else nothing (record (without_tag e) { word = no_word })) (after_tag-law (without_tag e) t)
 
-tag_end-law : (e : Edge) (set_in : Option ℕ) → fill.tag_end e set_in ≡ tag_end e set_in
-tag_end-law e None = tag-law (without_tag e) e.tag
+tag_end-law : (e : Edge) (set_in : Option ℕ) → fill.tag_end e set_in ≡ tag_end e set_in e.tag
+tag_end-law e None = tag-law e e.tag
 tag_end-law e (Some blanks) = refl
 
 -- ---- tabs

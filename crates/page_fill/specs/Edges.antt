@@ -22,27 +22,7 @@ no_word = record { is_joined = false; is_open = false; is_placed = false; blanks
 
 -- the open word has a cell, and goes on; the field says whether its tab was reported
 abbrev pub begun_word : Bool → OpenWord
-begun_word told = record { is_joined = true; is_open = true; is_placed = false; blanks = 0; has_tab = false; is_told = told }
-
--- blanks wait before the next word; those that a tag or a column placed stay
-abbrev pub blanks_wait : OpenWord → ℕ → Bool → OpenWord
-blanks_wait w count tab =
-    if w.is_placed then record w { has_tab = tab }
-    else record { is_joined = false; is_open = false; is_placed = false; blanks = count; has_tab = tab; is_told = w.is_told }
-
--- a word was begun, perhaps without a cell
-abbrev pub opened_word : OpenWord → OpenWord
-opened_word w = record w { is_open = true }
-
--- the next text goes on with the open word
-abbrev pub glued_word : OpenWord → OpenWord
-glued_word w =
-    if w.is_open then w
-    else record { is_joined = true; is_open = true; is_placed = false; blanks = 0; has_tab = false; is_told = w.is_told }
-
--- a new word is placed after a count of blanks
-abbrev pub placed_word : ℕ → OpenWord
-placed_word count = record { is_joined = false; is_open = true; is_placed = true; blanks = count; has_tab = false; is_told = false }
+begun_word told = record no_word { is_joined = true; is_open = true; is_told = told }
 
 -- ---- tags
 
@@ -59,11 +39,8 @@ with_tag e hang (forms.Inset n) = record e { set_in = Some n }
 -- ---- tabs of words
 
 -- a tab is reported as a blank, once a word
-abbrev pub tab_note : Place → Message
-tab_note place = message_about notes.TabFill place []
-
 abbrev pub tab_notes : Bool → Place → List Message
-tab_notes told place = if told then tab_note place ∷ [] else []
+tab_notes told place = if told then message_about notes.TabFill place [] ∷ [] else []
 
 -- ---- the start of a page, and the rows at its end
 

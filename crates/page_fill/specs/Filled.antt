@@ -8,11 +8,13 @@
 use Rattle.std.specs.Prelude.{ℕ, ◌+◌, Bool, true, ◌&&◌, ◌==◌, nat_lt, min, List, [], ◌∷◌, ◌++◌, length, take, drop, replicate, if◌then◌else◌}
 use Rattle.page_core_base.specs.declared.cells.Cell.{Cell}
 use Rattle.page_core_base.specs.declared.places.Place.{Place}
-use Rattle.page_core_base.specs.Messages.{Message}
+use Rattle.page_core_base.specs.Messages.{Message, message_about}
 use Rattle.page_core_base.specs.Rows.{row_of}
 use Rattle.page_core_base.specs.Laid.{Laid, nothing, seq}
-use Rattle.page_core_base.specs.Limits.{CELLS}
-use Rattle.page_fill_rows.specs.OpenRows.{TAG_COLUMNS, columns, cell_columns, blank, cells_note}
+use Rattle.page_core_base.specs.Limits.{CELLS, name_of}
+use Rattle.page_core_base.specs.declared.limits.Limit.TheVariants.{Cells}
+use Rattle.page_core_base.specs.declared.note_kinds.NoteKind.TheVariants.{Limit}
+use Rattle.page_fill_rows.specs.OpenRows.{TAG_COLUMNS, columns, cell_columns, blank}
 use Rattle.page_fill_rows.specs.Characters.{with_notes}
 
 -- ---- words
@@ -59,89 +61,65 @@ counted row cell = record row { tag_columns = min (row.tag_columns + cell_column
 abbrev pub with_cell : Row → Cell → Row
 with_cell row cell = record (counted row cell) { cells = row.cells ++ cell ∷ [] }
 
--- a word begins after the row's cells; it does so after the blanks that the row took
+-- a word begins after the row's cells
 abbrev pub opens : Row → Row
 opens row = record row { gap = length row.cells; word = length row.cells }
 
-abbrev pub after_blanks : Row → Row
-after_blanks row = record row { word = length row.cells }
-
--- the cells before the last word and its blanks, and those of that word
+-- the cells before the last word and its blanks
 abbrev pub before_word : Row → List Cell
 before_word row = take row.gap row.cells
-
-abbrev pub of_word : Row → List Cell
-of_word row = drop row.word row.cells
-
--- no row is open
-abbrev pub closed : Row → Row
-closed row = record row { cells = []; gap = 0; word = 0 }
 
 -- a row of these cells begins
 abbrev pub row_begun : Frame → Row → List Cell → Row
 row_begun frame row cells = record row { margin = row.next; cells = cells; gap = 0; word = 0; next = frame.rest }
 
--- a row of these cells ends
+-- a row of these cells ends, and none is open
 abbrev pub row_ended : Row → List Cell → Laid Row
-row_ended row cells = record { rows = row_of row.margin cells ∷ []; notes = []; edge = closed row }
+row_ended row cells = record { rows = row_of row.margin cells ∷ []; notes = []; edge = record row { cells = []; gap = 0; word = 0 } }
 
 -- a row of these cells ends, since one more would be too many
 abbrev pub full_row_ended : Row → List Cell → Place → Laid Row
-full_row_ended row cells place = record { rows = row_of row.margin cells ∷ []; notes = cells_note place ∷ []; edge = closed row }
+full_row_ended row cells place = with_notes (message_about Limit place (name_of Cells) ∷ []) (row_ended row cells)
 
 -- ---- the first word of a row
 
--- the row takes the cell, or begins with it
-abbrev pub first_cell : Frame → Row → Cell → Row
-first_cell frame row cell = if length row.cells == 0 then row_begun frame (counted row cell) (cell ∷ []) else with_cell row cell
-
--- a row's first word, or what is left of it: the row ends only before a cell that would be one too many
+-- a row's first word, or what is left of it: the row begins with a cell, or takes it, and ends only before a cell that would be one too many
 unfoldable pub first_word : Frame → Row → List CellOrNote → Laid Row
 first_word frame row [] = nothing row
 first_word frame row (noted m ∷ content) = with_notes (m ∷ []) (first_word frame row content)
 first_word frame row (shown cell place ∷ content) =
-    if length row.cells == CELLS then seq (full_row_ended row row.cells place) (λ r. first_word frame (first_cell frame r cell) content)
-    else first_word frame (first_cell frame row cell) content
+    if length row.cells == CELLS then seq (full_row_ended row row.cells place) (λ r. first_word frame (row_begun frame (counted r cell) (cell ∷ [])) content)
+    else first_word frame (if length row.cells == 0 then row_begun frame (counted row cell) (cell ∷ []) else with_cell row cell) content
 
 -- ---- the other words of a row
 
--- what a word's cells and messages do in a row: no cell offends, and the row is this one after them; at one the columns pass the width, before which the row is this one;
--- or one is too many, before which the row is this one, at this place, and from which on these are left
+-- what a word's cells and messages do in a row: no cell offends, and the row is this one after them; at one the columns pass the width, before which the row
+-- is this one; or one is too many, before which the row is this one, at this place, and from which on these are left
 pub data Outcome : Type 0 where
   fits : List Message → Row → Outcome
   too_wide : Row → Outcome
   too_many : List Message → Row → Place → List CellOrNote → Outcome
 
-abbrev pub after_note : Message → Outcome → Outcome
-after_note m (fits notes row) = fits (m ∷ notes) row
-after_note m (too_wide row) = too_wide row
-after_note m (too_many notes row place content) = too_many (m ∷ notes) row place content
+-- what content does in a row, where these messages of its word came before it
+unfoldable pub outcome : Frame → List Message → Row → List CellOrNote → Outcome
+outcome frame notes row [] = fits notes row
+outcome frame notes row (noted m ∷ content) = outcome frame (notes ++ m ∷ []) row content
+outcome frame notes row (shown cell place ∷ content) =
+    if frame.fills && nat_lt frame.width (row.margin + columns row.cells + cell_columns cell) then too_wide row
+    else if length row.cells == CELLS then too_many notes row place (shown cell place ∷ content)
+    else outcome frame notes (with_cell row cell) content
 
--- margin and columns pass the width with the cell
-abbrev pub is_wide : Frame → Row → Cell → Bool
-is_wide frame row cell = frame.fills && nat_lt frame.width (row.margin + columns row.cells + cell_columns cell)
-
-unfoldable pub outcome : Frame → Row → List CellOrNote → Outcome
-outcome frame row [] = fits [] row
-outcome frame row (noted m ∷ content) = after_note m (outcome frame row content)
-outcome frame row (shown cell place ∷ content) =
-    if is_wide frame row cell then too_wide row
-    else if length row.cells == CELLS then too_many [] row place (shown cell place ∷ content)
-    else outcome frame (with_cell row cell) content
-
--- the next row with these cells, none where it has not begun
-abbrev pub started : Frame → Row → List Cell → Row
-started frame row cells = if length cells == 0 then row else row_begun frame row cells
-
--- the row's last word, which is not its first, goes on with this content: the row takes it, or ends before the word, or in it
+-- the row's last word, which is not its first, goes on with this content: the row takes it, or ends before the word, whose cells begin the next row, or in it
 abbrev pub by_word : Frame → Row → List CellOrNote → Outcome → Laid Row
 by_word frame row content (fits notes taken) = with_notes notes (nothing taken)
-by_word frame row content (too_wide taken) = seq (row_ended row (before_word row)) (λ r. first_word frame (started frame r (of_word row)) content)
+by_word frame row content (too_wide taken) =
+    let cells = drop row.word row.cells in
+    seq (row_ended row (before_word row)) (λ r. first_word frame (if length cells == 0 then r else row_begun frame r cells) content)
 by_word frame row content (too_many notes taken place left) = with_notes notes (seq (full_row_ended taken taken.cells place) (λ r. first_word frame r left))
 
--- the row took the blanks before a word of this content, or ends before them
+-- the row took the blanks before a word of this content, which begins after them; or it ends before them
 abbrev pub by_blanks : Frame → List CellOrNote → Outcome → Laid Row
-by_blanks frame content (fits notes taken) = by_word frame (after_blanks taken) content (outcome frame (after_blanks taken) content)
+by_blanks frame content (fits notes taken) = let row = record taken { word = length taken.cells } in by_word frame row content (outcome frame [] row content)
 by_blanks frame content (too_wide taken) = seq (row_ended taken (before_word taken)) (λ r. first_word frame r content)
 by_blanks frame content (too_many notes taken place left) = seq (full_row_ended taken (before_word taken) place) (λ r. first_word frame r content)
 
@@ -149,18 +127,14 @@ by_blanks frame content (too_many notes taken place left) = seq (full_row_ended 
 abbrev pub one_word : Frame → Row → Word → Laid Row
 one_word frame row word =
     if length row.cells == 0 then first_word frame (opens row) word.content
-    else by_blanks frame word.content (outcome frame (opens row) (replicate word.blanks (shown blank word.place)))
+    else by_blanks frame word.content (outcome frame [] (opens row) (replicate word.blanks (shown blank word.place)))
 
 -- the row's last word goes on with this content
 abbrev pub rest_of_word : Frame → Row → List CellOrNote → Laid Row
-rest_of_word frame row content = if row.gap == 0 then first_word frame row content else by_word frame row content (outcome frame row content)
+rest_of_word frame row content = if row.gap == 0 then first_word frame row content else by_word frame row content (outcome frame [] row content)
 
 -- ---- words one after another
 
 unfoldable pub filling : Frame → Row → List Word → Laid Row
 filling frame row [] = nothing row
 filling frame row (word ∷ words) = with_notes word.notes (seq (one_word frame row word) (λ r. filling frame r words))
-
--- the open row ends at the break, if there is one
-abbrev pub at_break : Row → Laid Row
-at_break row = if length row.cells == 0 then nothing row else row_ended row row.cells

@@ -10,9 +10,9 @@ use Rattle.page_core_base.specs.Laid.{Laid, nothing, seq}
 use Rattle.page_core_base.specs.Pieces.{Item, shown, noted}
 use Rattle.page_fill.specs.declared.edges.OpenTag.{OpenTag}
 use Rattle.page_fill.specs.declared.edges.Edge.{Edge}
-use Rattle.page_fill.specs.Edges.{no_word, placed_word, with_tag}
+use Rattle.page_fill.specs.Edges.{no_word, with_tag}
 use Rattle.page_fill_rows.specs.OpenRows.{over, blank, columns, more_blank_rows}
-use Rattle.page_fill.specs.Filled.{CellOrNote, at_break}
+use Rattle.page_fill.specs.Filled.{CellOrNote, row_ended}
 use Rattle.page_fill.specs.PieceWords.{cell_content, open_row_of, next_edge, words_laid, content_laid}
 
 -- ---- groups
@@ -35,8 +35,7 @@ is_of_words _ = false
 -- an item of words goes into the first group
 abbrev pub in_front : Item → List Group → List Group
 in_front item (words items ∷ groups) = words (item ∷ items) ∷ groups
-in_front item (other p ∷ groups) = words (item ∷ []) ∷ other p ∷ groups
-in_front item [] = words (item ∷ []) ∷ []
+in_front item groups = words (item ∷ []) ∷ groups
 
 unfoldable pub groups : List Item → List Group
 groups [] = []
@@ -47,7 +46,7 @@ groups (shown p ∷ items) = if is_of_words p then in_front (shown p) (groups it
 
 -- the open row ends, if there is one, and nothing waits
 abbrev pub row_end : Edge → Laid Edge
-row_end e = next_edge e no_word (at_break (open_row_of e.sheet))
+row_end e = let row = open_row_of e.sheet in next_edge e no_word (if length row.cells == 0 then nothing row else row_ended row row.cells)
 
 -- a count of blank rows
 abbrev pub blank_rows : Edge → ℕ → Laid Edge
@@ -57,13 +56,9 @@ blank_rows e n = record {
   edge = record e { sheet = record e.sheet { blank_rows = more_blank_rows e.sheet.blank_rows n; heading = e.sheet.heading && n == 0 } };
 }
 
--- so many that there is this number of them, but none after a heading's row
-abbrev pub blank_rows_up_to : Edge → ℕ → Laid Edge
-blank_rows_up_to e n = blank_rows e (if e.sheet.heading then 0 else n - e.sheet.blank_rows)
-
 -- a new word is placed after a count of blanks
 abbrev pub placed : Edge → ℕ → Laid Edge
-placed e n = nothing (record e { word = placed_word n })
+placed e n = nothing (record e { word = record no_word { is_open = true; is_placed = true; blanks = n } })
 
 -- the greatest hang of a tag, in columns
 abbrev pub HANG_MAX : ℕ
@@ -77,24 +72,18 @@ after_tag e tag =
     else if tag.ends_row then row_end e
     else placed e 1
 
--- a tag without a cell is none, and nothing of it waits; where another tag came between, the row ends
-abbrev pub tag_ended : Edge → Option OpenTag → Laid Edge
-tag_ended e None = row_end e
-tag_ended e (Some tag) = if e.sheet.tag_begun then after_tag e tag else nothing (record e { word = no_word })
-
--- a tag that is set in ends first, and then come its blanks, where a row is open
-abbrev pub tag_end : Edge → Option ℕ → Laid Edge
-tag_end e None = tag_ended (record e { tag = None }) e.tag
-tag_end e (Some blanks) = placed (record e { set_in = None }) (if length e.sheet.cells == 0 then 0 else blanks)
+-- a tag that is set in ends first, and then come its blanks, where a row is open; where another tag came between, the row ends; a tag without a cell is
+-- none, and nothing of it waits
+abbrev pub tag_end : Edge → Option ℕ → Option OpenTag → Laid Edge
+tag_end e (Some blanks) tag = placed (record e { set_in = None }) (if length e.sheet.cells == 0 then 0 else blanks)
+tag_end e None None = row_end (record e { tag = None })
+tag_end e None (Some tag) = if e.sheet.tag_begun then after_tag (record e { tag = None }) tag else nothing (record e { tag = None; word = no_word })
 
 -- the columns from one tab stop to the next
 abbrev pub TAB_STOP : ℕ
 TAB_STOP = 8
 
--- the blanks from the end of cells up to a column, one at least after a cell; and up to the next tab stop
-abbrev pub to_column : List Cell → ℕ → ℕ
-to_column cells n = if length cells == 0 then n else if nat_lt (columns cells) n then n - columns cells else 1
-
+-- the blanks from the end of cells up to the next tab stop
 abbrev pub stop_content : List Cell → Place → List CellOrNote
 stop_content cells place = cell_content place (replicate (TAB_STOP - columns cells % TAB_STOP) blank)
 
@@ -102,8 +91,8 @@ unfoldable pub other_laid : Edge → Piece (List ℕ) → Laid Edge
 -- the row ends; that of a line that is kept as it is ends with a blank row where it has no cell
 other_laid e Break = row_end e
 other_laid e RowEnd = if length e.sheet.cells == 0 then seq (row_end e) (λ f. blank_rows f 1) else row_end e
--- the row ends, and blank rows follow
-other_laid e (Para n) = seq (row_end e) (λ f. blank_rows_up_to f n)
+-- the row ends, and blank rows follow: of Para so many that there is this number of them, but none after a heading's row
+other_laid e (Para n) = seq (row_end e) (λ f. blank_rows f (if f.sheet.heading then 0 else n - f.sheet.blank_rows))
 other_laid e (Space n) = seq (row_end e) (λ f. blank_rows f n)
 -- the row ends as a heading's, if there is one
 other_laid e Heading = over (row_end e) (λ f. if length e.sheet.cells == 0 then f else record f { sheet = record f.sheet { heading = true } })
@@ -112,9 +101,9 @@ other_laid e (Indent first rest) = nothing (record e { sheet = record e.sheet { 
 other_laid e (Literal literal) = nothing (record e { sheet = record e.sheet { literal = literal } })
 other_laid e (Tag hang form) = nothing (with_tag e hang form)
 -- by the columns of the tag's cells the next word is placed, or the row ends
-other_laid e TagEnd = tag_end e e.set_in
--- the next word is placed at a column
-other_laid e (Column n) = placed e (to_column e.sheet.cells n)
+other_laid e TagEnd = tag_end e e.set_in e.tag
+-- the next word is placed at a column, and after a cell one blank from it at least
+other_laid e (Column n) = placed e (if length e.sheet.cells == 0 then n else if nat_lt (columns e.sheet.cells) n then n - columns e.sheet.cells else 1)
 -- the word goes on: in a row that is kept as it is by blanks up to the next stop, else as words_of has it
 other_laid e (Tab font place) = if e.sheet.literal then seq (content_laid e place []) (λ f. content_laid f place (stop_content f.sheet.cells place)) else words_laid e (shown (Tab font place) ∷ [])
 -- the others are of words
@@ -122,13 +111,10 @@ other_laid e p = words_laid e (shown p ∷ [])
 
 -- ---- all
 
-abbrev pub group_laid : Edge → Group → Laid Edge
-group_laid e (words items) = words_laid e items
-group_laid e (other p) = other_laid e p
-
 unfoldable pub groups_laid : Edge → List Group → Laid Edge
 groups_laid e [] = nothing e
-groups_laid e (group ∷ more) = seq (group_laid e group) (λ f. groups_laid f more)
+groups_laid e (words items ∷ more) = seq (words_laid e items) (λ f. groups_laid f more)
+groups_laid e (other p ∷ more) = seq (other_laid e p) (λ f. groups_laid f more)
 
 -- what items lay from an edge
 abbrev pub filled : Edge → List Item → Laid Edge

@@ -1,20 +1,19 @@
 -- The words of pieces between two breaks, and the messages among them: each word with the blanks before it, and what it holds, cells and
 -- messages. Texts that are glued are one word. From an edge they lead to the next one.
 -- Source: roff(7), "Filling and adjusting".
-use Rattle.std.specs.Prelude.{ℕ, Bool, true, false, not, ◌&&◌, ◌||◌, ◌==◌, List, [], ◌∷◌, ◌++◌, length, map, replicate, if◌then◌else◌}
+use Rattle.std.specs.Prelude.{ℕ, Bool, true, not, ◌&&◌, ◌||◌, ◌==◌, List, [], ◌∷◌, ◌++◌, length, map, flat_map, fold, replicate, if◌then◌else◌}
 use Rattle.page_core_base.specs.declared.cells.Cell.{Cell}
 use Rattle.page_core_base.specs.declared.cells.Font.{Font}
 use Rattle.page_core_base.specs.declared.page_settings.Output.{Output}
 use Rattle.page_core_base.specs.declared.pieces.Piece.{Piece}
 use Rattle.page_core_base.specs.declared.pieces.Piece.TheVariants.{Text, Glyph, Char, Tab, Blank, Glue, Split}
 use Rattle.page_core_base.specs.declared.places.Place.{Place}
-use Rattle.page_core_base.specs.Messages.{Message}
 use Rattle.page_core_tables.specs.Printed.{Printing, char_printed, glyph_printed}
 use Rattle.page_fill.specs.declared.edges.OpenWord.{OpenWord}
 use Rattle.page_fill.specs.declared.edges.Edge.{Edge}
 use Rattle.page_fill_rows.specs.OpenRows.{Sheet, over, blank, more_blank_rows}
 use Rattle.page_fill_rows.specs.Characters.{cell_of, cells_of, characters_of, unknown_notes}
-use Rattle.page_fill.specs.Edges.{tab_notes, begun_word, blanks_wait, opened_word, glued_word}
+use Rattle.page_fill.specs.Edges.{tab_notes, no_word, begun_word}
 use Rattle.page_fill.specs.Filled.{CellOrNote, shown, noted, Word, Frame, Row, rest_of_word, filling}
 use Rattle.page_core_base.specs.Pieces.{Item}
 use Rattle.page_core_base.specs.Pieces as items
@@ -31,8 +30,7 @@ abbrev pub printed_content : Printing → Font → Place → List CellOrNote
 printed_content printing font place = map noted (unknown_notes printing.unknown place) ++ cell_content place (cells_of font printing.characters)
 
 unfoldable pub text_content : Output → List ℕ → Font → Place → List CellOrNote
-text_content output [] font place = []
-text_content output (c ∷ cs) font place = printed_content (char_printed output c) font place ++ text_content output cs font place
+text_content output cs font place = flat_map (λ c. printed_content (char_printed output c) font place) cs
 
 -- a tab is a blank of its word, which is reported once a word
 abbrev pub tab_content : (is_told : Bool) → Font → Place → List CellOrNote
@@ -44,14 +42,17 @@ tab_content is_told font place = map noted (tab_notes (not is_told) place) ++ sh
 abbrev pub after_cell : Bool → OpenWord → OpenWord
 after_cell literal w = if w.is_joined then w else begun_word (w.has_tab && not literal)
 
--- what waits after a piece
+-- what waits after a piece; a text without a cell begins a word all the same
 abbrev pub word_after : Bool → OpenWord → Piece (List ℕ) → OpenWord
-word_after literal w (Text bytes font place) = if length (characters_of bytes) == 0 then opened_word w else after_cell literal w
+word_after literal w (Text bytes font place) = if length (characters_of bytes) == 0 then record w { is_open = true } else after_cell literal w
 word_after literal w (Glyph name font place) = after_cell literal w
 word_after literal w (Char c font place) = after_cell literal w
 word_after literal w (Tab font place) = record (after_cell literal w) { is_told = true }
-word_after literal w (Blank count has_tab) = blanks_wait w count has_tab
-word_after literal w Glue = glued_word w
+-- blanks wait before the next word; those that a tag or a column placed stay
+word_after literal w (Blank count has_tab) =
+    if w.is_placed then record w { has_tab = has_tab } else record no_word { blanks = count; has_tab = has_tab; is_told = w.is_told }
+-- the next text goes on with the open word
+word_after literal w Glue = if w.is_open then w else begun_word w.is_told
 word_after literal w _ = w
 
 -- ---- words
@@ -60,9 +61,6 @@ word_after literal w _ = w
 pub record Words : Type 0 where
   pub first : List CellOrNote
   pub later : List Word
-
-abbrev pub no_more : Words
-no_more = record { first = []; later = [] }
 
 -- a word with the blanks that wait before it. They are cells of it where rows are kept as they are, and where they place it in an empty row.
 abbrev pub word_of : (literal empty : Bool) → OpenWord → Place → List CellOrNote → Word
@@ -90,13 +88,9 @@ words_from output literal empty w (Tab font place) rest = and_then literal empty
 words_from output literal empty w Split rest = if w.is_joined && not literal then parted rest else rest
 words_from output literal empty w _ rest = rest
 
--- a message comes after what came
-abbrev pub after_message : Message → Words → Words
-after_message m rest = record { first = noted m ∷ rest.first; later = rest.later }
-
 unfoldable pub words_of : Output → (literal empty : Bool) → OpenWord → List Item → Words
-words_of output literal empty w [] = no_more
-words_of output literal empty w (items.noted m ∷ more) = after_message m (words_of output literal empty w more)
+words_of output literal empty w [] = record { first = []; later = [] }
+words_of output literal empty w (items.noted m ∷ more) = let rest = words_of output literal empty w more in record rest { first = noted m ∷ rest.first }
 words_of output literal empty w (items.shown p ∷ more) = words_from output literal empty w p (words_of output literal empty (word_after literal w p) more)
 
 -- what waits after them
@@ -122,16 +116,7 @@ open_row_of s = record {
   tag_begun = s.tag_begun;
 }
 
--- the blank rows at the end of rows, up to BLANK_ROWS, where so many stood there before them; and whether the last one is a heading's
-abbrev pub blank_rows_after : ℕ → List LaidRow → ℕ
-blank_rows_after n [] = n
-blank_rows_after n (row ∷ rows) = blank_rows_after (if is_blank_row row then more_blank_rows n 1 else 0) rows
-
-abbrev pub heading_after : Bool → List LaidRow → Bool
-heading_after heading [] = heading
-heading_after heading (row ∷ rows) = heading_after false rows
-
--- the edge with another open row, after these rows, and with what waits
+-- the edge with another open row, after these rows, of which none is a heading's, and with what waits
 abbrev pub with_row : Sheet → Row → List LaidRow → Sheet
 with_row s row rows = record s {
   first = row.next;
@@ -139,8 +124,8 @@ with_row s row rows = record s {
   cells = row.cells;
   gap = row.gap;
   word = row.word;
-  blank_rows = blank_rows_after s.blank_rows rows;
-  heading = heading_after s.heading rows;
+  blank_rows = fold (λ n given. if is_blank_row given then more_blank_rows n 1 else 0) s.blank_rows rows;
+  heading = length rows == 0 && s.heading;
   tag_columns = row.tag_columns;
   tag_begun = row.tag_begun;
 }
@@ -162,4 +147,5 @@ words_laid e items =
 unfoldable pub content_laid : Edge → Place → List CellOrNote → Laid Edge
 content_laid e place content =
     let literal = e.sheet.literal in
-    next_edge e (after_cell literal e.word) (going_on e.sheet (and_then literal (length e.sheet.cells == 0) e.word place content no_more))
+    next_edge e (after_cell literal e.word)
+    (going_on e.sheet (and_then literal (length e.sheet.cells == 0) e.word place content (record { first = []; later = [] })))

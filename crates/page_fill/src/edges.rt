@@ -13,10 +13,11 @@ ghost use Rattle.page_fill.specs.Edges.{counted_tag};
 ghost use Rattle.page_fill.specs.machine.Fill as fill;
 ghost use Rattle.page_fill.specs.machine.PlainWords as plain_words;
 
-use crate::characters::{put_character, put_characters, put_glyph};
 use crate::{HANG_MAX, TAB_STOP};
 use page_core_base::{Cell, Font, Note, NoteKind, Output, Place, RowOut, TagForm};
-use page_fill_rows::{OpenRow, is_long_run, is_printable_ascii, put_plain};
+use page_fill_rows::{
+    OpenRow, is_long_run, is_printable_ascii, put_character, put_characters, put_glyph, put_plain,
+};
 
 // The texts of blanks that are put together.
 const TOGETHER: usize = 4096;

@@ -16,8 +16,8 @@ ghost use Rattle.page_fill.specs.Filling.{filled, row_end};
 ghost use Rattle.page_fill.specs.LetteredWords.{AreWords, can_take};
 
 use crate::Edge;
-use crate::kept_rows::{KeepsRow, NoCells, OpenCells};
 use page_core_base::{Cell, Fault, Font, NoteSink, Output, Piece, Place, RowSink, Settings};
+use page_fill_rows::{KeepsRow, NoCells, OpenCells};
 use std::alloc::{AllocError, Global};
 use std::marker::Model;
 
@@ -49,7 +49,7 @@ impl<K: KeepsRow> Model for FillerWith<K> {
     ghost view = { λ f. if f.is_going then Some f.edge else None };
 
     ghost invariant = { λ f. (f.is_going ≡ true → IsHeld f.edge.sheet × (is_sound f.edge.word ≡ true))
-        × K.shows f.kept f.edge };
+        × K.shows f.kept f.edge.sheet };
 }
 
 /// What a filler holds between two pieces.
@@ -98,7 +98,7 @@ impl<K: KeepsRow> FillerWith<K> {
         ensures { IfOk result (λ f. f ≡ Some (fill.under width output edge.now)) }
     {
         let edge = edge.copy(alloc, width, output)?;
-        let kept = K::of(alloc, &edge)?;
+        let kept = K::of(alloc, &edge.sheet)?;
         Ok(FillerWith {
             edge,
             is_going: true,
@@ -151,7 +151,7 @@ impl<K: KeepsRow> FillerWith<K> {
         let Ok(edge) = Edge::new(alloc, settings) else {
             return Err(Fault::Memory);
         };
-        let Ok(kept) = K::of(alloc, &edge) else {
+        let Ok(kept) = K::of(alloc, &edge.sheet) else {
             return Err(Fault::Memory);
         };
         Ok(FillerWith {
@@ -213,7 +213,7 @@ impl<K: KeepsRow> FillerWith<K> {
             return Err(Fault::Failed);
         }
         let result = self.edge.piece(piece, rows, notes);
-        self.kept.keep(&self.edge);
+        self.kept.keep(&self.edge.sheet);
         if result.is_err() {
             self.is_going = false;
         }
@@ -251,7 +251,7 @@ impl<K: KeepsRow> FillerWith<K> {
         let taken = self
             .edge
             .take_blanks(count, times, font, place, rows, notes);
-        self.kept.keep(&self.edge);
+        self.kept.keep(&self.edge.sheet);
         if taken.is_err() {
             self.is_going = false;
         }
@@ -298,7 +298,7 @@ impl<K: KeepsRow> FillerWith<K> {
         }
         let taken = self.edge.words(text, fonts, rows, notes);
         self.edge.sheet.held_law();
-        self.kept.keep(&self.edge);
+        self.kept.keep(&self.edge.sheet);
         if taken.is_err() {
             self.is_going = false;
         }
@@ -327,7 +327,7 @@ impl<K: KeepsRow> FillerWith<K> {
         }
         self.is_going = false;
         let ended = self.edge.end(rows, notes);
-        self.kept.keep(&self.edge);
+        self.kept.keep(&self.edge.sheet);
         ended
     }
 }

@@ -14,10 +14,8 @@
 //! is; glued texts are one word. `stops_law`: the constants are those that the definitions cite.
 #![tactic(auto)]
 
-mod characters;
 mod edges;
 mod fillers;
-mod kept_rows;
 mod laws;
 mod lettered_words;
 mod pieces;
@@ -26,7 +24,7 @@ mod stops;
 
 pub use edges::Edge;
 pub use fillers::{Filler, FillerPart, FillerWith, PieceFiller};
-pub use kept_rows::{KeepsRow, NoCells, OpenCells};
 pub use laws::{glue_law, part_law, word_law, words_law};
 pub use page_core_base::{Piece, PieceSink, TagForm};
+pub use page_fill_rows::{KeepsRow, NoCells, OpenCells};
 pub use stops::{HANG_MAX, TAB_STOP, stops_law};

@@ -1,5 +1,5 @@
 -- What a character and a glyph print, as cells of the open row. Source: mandoc_char(7); mandoc(1), -T ascii and -T utf8.
-use Rattle.std.specs.Prelude.{ℕ, List, [], ◌∷◌, ◌++◌, Option, None, Some, if◌then◌else◌}
+use Rattle.std.specs.Prelude.{ℕ, List, [], ◌∷◌, ◌++◌, Option, option_map, option_to_list, if◌then◌else◌}
 use Rattle.std.specs.Str.{chars, is_utf8}
 use Rattle.page_core_base.specs.declared.cells.Font.{Font}
 use Rattle.page_core_base.specs.declared.note_kinds.NoteKind.TheVariants.{NoGlyph}
@@ -21,8 +21,7 @@ characters_of bytes = if is_utf8 bytes then chars bytes else []
 
 -- what can't be printed is reported
 abbrev pub unknown_notes : Option (List ℕ) → Place → List Message
-unknown_notes None place = []
-unknown_notes (Some text) place = message_about NoGlyph place text ∷ []
+unknown_notes text place = option_to_list (option_map (message_about NoGlyph place) text)
 
 -- the row takes what is printed
 abbrev pub put : Sheet → Printing → Font → Place → Laid Sheet

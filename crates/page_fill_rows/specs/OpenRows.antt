@@ -1,13 +1,8 @@
 -- The open row, and what is known of the rows above it. Source: roff(7), "Filling and adjusting"; mandoc(1), "ASCII Output".
 use Rattle.std.specs.Prelude.{ℕ, ◌+◌, ◌≤◌, Bool, false, min, List, [], length}
 use Rattle.page_core_base.specs.declared.cells.Cell.{Cell}
-use Rattle.page_core_base.specs.declared.note_kinds.NoteKind.TheVariants.{Limit}
-use Rattle.page_core_base.specs.declared.places.Place.{Place}
-use Rattle.page_core_base.specs.Messages.{Message, message_about}
 use Rattle.page_core_base.specs.Laid.{Laid}
-use Rattle.page_core_base.specs.Limits.{name_of}
 use Rattle.page_core_base.specs.Limits.{CELLS}
-use Rattle.page_core_base.specs.declared.limits.Limit.TheVariants.{Cells}
 pub use Rattle.page_fill_cells.specs.Cells.{blank, cell_columns, columns}
 
 -- the columns up to which those of a tag are counted: no hang is as great, so more of them make no difference
@@ -47,9 +42,6 @@ pub record IsHeld (s : Sheet) : Type 0 where
 -- what is laid, under another edge
 abbrev pub over : {E F : Type 0} → Laid E → (E → F) → Laid F
 over l f = record { rows = l.rows; notes = l.notes; edge = f l.edge }
-
-abbrev pub cells_note : Place → Message
-cells_note place = message_about Limit place (name_of Cells)
 
 -- the count of blank rows with more, as far as they are counted
 abbrev pub more_blank_rows : ℕ → ℕ → ℕ

@@ -83,7 +83,13 @@ fn put_part<O: RowOut>(row: &mut OpenRow, bytes: &[u8], font: Font, place: Place
 }
 
 /// Puts cells of bytes, each a character.
-pub fn put_bytes<O: RowOut>(row: &mut OpenRow, bytes: &[u8], font: Font, place: Place, out: &mut O)
+pub(crate) fn put_bytes<O: RowOut>(
+    row: &mut OpenRow,
+    bytes: &[u8],
+    font: Font,
+    place: Place,
+    out: &mut O,
+)
     ensures { LaysOut O.left out.old (sheet.letters row.old
         (shown.cells_of font bytes.now) place) out.new row.new }
 {

@@ -12,7 +12,19 @@ use Rattle.page_fill_rows.specs.machine.Sheets.{Sheet, over, columns, letter, fi
 use Rattle.page_fill_rows.specs.Characters.{with_notes, cell_of, characters_of, characters, character, glyph}
 use Rattle.page_fill.specs.declared.edges.OpenTag.{OpenTag}
 use Rattle.page_fill.specs.Filling.{HANG_MAX, TAB_STOP}
-pub use Rattle.page_fill.specs.Edges.{Edge, OpenWord, no_word, begun_word, blanks_wait, opened_word, glued_word, placed_word, with_tag, tab_note, tab_notes, start, blank_rows_at_end, open_cells}
+pub use Rattle.page_fill.specs.Edges.{Edge, OpenWord, no_word, begun_word, with_tag, tab_notes, start, blank_rows_at_end, open_cells}
+
+-- blanks wait before the next word; those that a tag or a column placed stay
+abbrev pub blanks_wait : OpenWord → ℕ → Bool → OpenWord
+blanks_wait w count tab = if w.is_placed then record w { has_tab = tab } else record no_word { blanks = count; has_tab = tab; is_told = w.is_told }
+
+-- the next text goes on with the open word
+abbrev pub glued_word : OpenWord → OpenWord
+glued_word w = if w.is_open then w else begun_word w.is_told
+
+-- a new word is placed after a count of blanks
+abbrev pub placed_word : ℕ → OpenWord
+placed_word count = record no_word { is_open = true; is_placed = true; blanks = count }
 
 -- where rows are filled, the row's last word is parted after its cells: what follows is one that goes on without a blank
 abbrev pub parted : Edge → Edge
@@ -41,6 +53,10 @@ unfoldable pub opening : Edge → Place → Laid Edge
 opening e place =
     if e.word.is_joined then nothing e
     else with_notes (tab_notes (tells_tab e) place) (word_begun e (tells_tab e) place)
+
+-- a word was begun, perhaps without a cell
+abbrev pub opened_word : OpenWord → OpenWord
+opened_word w = record w { is_open = true }
 
 -- characters of the open word; without any, the word is open all the same
 unfoldable pub text : Edge → List ℕ → Font → Place → Laid Edge

@@ -1,7 +1,7 @@
 -- What a word does to a row, in the laws of words, which no page rests on: trust in a page needs no reading of it. The row takes the word
 -- with its blanks, or ends before it and it begins the next one. A word's next part is a word without blanks. Source: roff(7), "Filling
 -- and adjusting".
-use Rattle.std.specs.Prelude.{ℕ, ◌+◌, ◌-◌, min, Bool, true, List, [], ◌∷◌, ◌++◌, length, replicate}
+use Rattle.std.specs.Prelude.{ℕ, ◌+◌, ◌-◌, ◌&&◌, nat_lt, min, Bool, true, List, [], ◌∷◌, ◌++◌, length, replicate}
 use Rattle.page_core_base.specs.declared.cells.Cell.{Cell}
 use Rattle.page_core_base.specs.declared.places.Place.{Place}
 use Rattle.page_core_base.specs.Laid.{Laid}
@@ -9,6 +9,10 @@ use Rattle.page_core_base.specs.Rows.{row_of}
 use Rattle.page_fill_rows.specs.OpenRows.{TAG_COLUMNS, columns, cell_columns, blank}
 use Rattle.page_fill.specs.Filled.{Word, Frame, Row, row_begun}
 use Rattle.page_fill.specs.PieceWords.{cell_content}
+
+-- margin and columns pass the width with the cell
+abbrev pub is_wide : Frame → Row → Cell → Bool
+is_wide frame row cell = frame.fills && nat_lt frame.width (row.margin + columns row.cells + cell_columns cell)
 
 -- a word of cells, after blanks
 abbrev pub word_of_cells : ℕ → List Cell → Place → Word

@@ -5,11 +5,18 @@ use Rattle.page_core_base.specs.declared.cells.Cell.{Cell}
 use Rattle.page_core_base.specs.declared.places.Place.{Place}
 use Rattle.page_core_base.specs.Rows.{row_of, is_blank_row}
 use Rattle.page_core_base.specs.Laid.{Laid, nothing, seq}
-use Rattle.page_core_base.specs.Limits.{CELLS}
+use Rattle.page_core_base.specs.Limits.{CELLS, name_of}
+use Rattle.page_core_base.specs.Messages.{Message, message_about}
+use Rattle.page_core_base.specs.declared.limits.Limit.TheVariants.{Cells}
+use Rattle.page_core_base.specs.declared.note_kinds.NoteKind.TheVariants.{Limit}
 use Rattle.page_fill_rows.specs.OpenRows.{TAG_COLUMNS}
-pub use Rattle.page_fill_rows.specs.OpenRows.{cell_columns, columns, blank, Sheet, over, cells_note, more_blank_rows, fresh}
+pub use Rattle.page_fill_rows.specs.OpenRows.{cell_columns, columns, blank, Sheet, over, more_blank_rows, fresh}
 
 -- ---- rows
+
+-- the report that a row has too many cells
+abbrev pub cells_note : Place → Message
+cells_note place = message_about Limit place (name_of Cells)
 
 -- a row of these cells was given
 abbrev pub given : Sheet → List Cell → Sheet

@@ -2,27 +2,26 @@
 
 ghost use Rattle.std.specs.Prelude.{◌≡◌, ◌≤◌, length, IfOk};
 ghost use Rattle.page_core_base.specs.declared.limits.TheConstants.{CELLS};
-ghost use Rattle.page_fill.specs.Edges.{open_cells};
 
-use crate::Edge;
+use crate::open_rows::OpenRow;
 use page_core_base::{CELLS, Cell, Font};
 use std::alloc::{AllocError, Global};
 use std::marker::Model;
 
 /// What a filler keeps of its open row beside the row itself: nothing ([`NoCells`]) or its cells ([`OpenCells`]).
 pub trait KeepsRow {
-    ghost use Rattle.page_fill.specs.declared.edges.Edge.{Edge};
+    ghost use Rattle.page_fill_rows.specs.OpenRows.{Sheet};
 
-    // It shows the open row of what a filler holds.
-    ghost shows: { Self → Edge → Type 0 };
+    // It shows an open row.
+    ghost shows: { Self → Sheet → Type 0 };
 
     /// What is kept of an open row. It reserves all memory that it will ever hold.
-    fn of(alloc: Global, edge: &Edge) -> Result<Self, AllocError>
-        ensures { IfOk result (λ kept. shows kept edge.now) };
+    fn of(alloc: Global, row: &OpenRow) -> Result<Self, AllocError>
+        ensures { IfOk result (λ kept. shows kept row.now) };
 
     /// The open row has changed.
-    fn keep(&mut self, edge: &Edge)
-        ensures { shows self.new edge.now };
+    fn keep(&mut self, row: &OpenRow)
+        ensures { shows self.new row.now };
 }
 
 /// Nothing is kept of the open row: it costs nothing.
@@ -33,12 +32,12 @@ impl KeepsRow for NoCells {
     ghost shows = { λ _ _. Unit {0} };
 
     #[inline(always)]
-    fn of(_alloc: Global, _edge: &Edge) -> Result<NoCells, AllocError> {
+    fn of(_alloc: Global, _row: &OpenRow) -> Result<NoCells, AllocError> {
         Ok(NoCells)
     }
 
     #[inline(always)]
-    fn keep(&mut self, _edge: &Edge) {}
+    fn keep(&mut self, _row: &OpenRow) {}
 }
 
 /// The cells of the open row, at most [`CELLS`].
@@ -63,7 +62,7 @@ impl Model for OpenCells {
 
 impl OpenCells {
     /// The cells.
-    pub(crate) fn as_slice(&self) -> &[Cell]
+    pub fn as_slice(&self) -> &[Cell]
         ensures cells { result.now ≡ self.now }
         ensures bound { length result.now ≤ CELLS }
     {
@@ -72,20 +71,20 @@ impl OpenCells {
 }
 
 impl KeepsRow for OpenCells {
-    ghost shows = { λ o e. o ≡ open_cells e };
+    ghost shows = { λ o s. o ≡ s.cells };
 
-    fn of(alloc: Global, edge: &Edge) -> Result<OpenCells, AllocError> {
+    fn of(alloc: Global, row: &OpenRow) -> Result<OpenCells, AllocError> {
         let mut places = Vec::with_capacity(alloc, CELLS)?;
         let blank = Cell {
             c: ' ',
             font: Font::R,
         };
         places.resize(CELLS, blank)?;
-        let len = edge.sheet.copy_cells(&mut places);
+        let len = row.copy_cells(&mut places);
         Ok(OpenCells { places, len })
     }
 
-    fn keep(&mut self, edge: &Edge) {
-        self.len = edge.sheet.copy_cells(&mut self.places);
+    fn keep(&mut self, row: &OpenRow) {
+        self.len = row.copy_cells(&mut self.places);
     }
 }

@@ -2,7 +2,7 @@ use Rattle.std.proofs.Common.{append_assoc, refl, ap, sym, ◌∙◌}
 use Rattle.std.specs.Str.Iter.{chars_rest}
 use Rattle.std.proofs.lemmas.Str.{IsUtf8-past_char}
 use Rattle.page_fill_rows.proofs.CharacterLemmas.{characters-more, characters-done}
-use Rattle.page_fill.proofs.characters.put_characters.Goals as goal
+use Rattle.page_fill_rows.proofs.characters.put_characters.Goals as goal
 
 pub loop-c-init : goal.loop-c-init
 loop-c-init g c =

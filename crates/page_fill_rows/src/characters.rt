@@ -7,9 +7,10 @@ ghost use Rattle.page_core_tables.specs.Printed.{printed_view, unknown_text};
 ghost use Rattle.page_fill_rows.specs.machine.Sheets as sheet;
 ghost use Rattle.page_fill_rows.specs.Characters as shown;
 
+use crate::open_rows::OpenRow;
+use crate::plain_texts::put_bytes;
 use page_core_base::{Cell, Font, Note, NoteKind, Output, Place, RowOut};
 use page_core_tables::{Printed, printed_char, printed_glyph};
-use page_fill_rows::{OpenRow, put_bytes};
 
 // Reports that there is no glyph, and puts what stands for it.
 fn put_unknown<O: RowOut>(row: &mut OpenRow, detail: &[u8], font: Font, place: Place, out: &mut O)
@@ -51,8 +52,8 @@ fn put_printed<O: RowOut>(
 }
 
 /// Puts a character.
-#[tactic(auto, unfolding(page_fill_rows::specs::Characters::character))]
-pub(crate) fn put_character<O: RowOut>(
+#[tactic(auto, unfolding(crate::specs::Characters::character))]
+pub fn put_character<O: RowOut>(
     row: &mut OpenRow,
     output: Output,
     c: char,
@@ -66,7 +67,7 @@ pub(crate) fn put_character<O: RowOut>(
 }
 
 /// Puts the characters of a text.
-pub(crate) fn put_characters<O: RowOut>(
+pub fn put_characters<O: RowOut>(
     row: &mut OpenRow,
     output: Output,
     text: &str,
@@ -83,8 +84,8 @@ pub(crate) fn put_characters<O: RowOut>(
 }
 
 /// Puts the glyph of a name.
-#[tactic(auto, unfolding(page_fill_rows::specs::Characters::glyph))]
-pub(crate) fn put_glyph<O: RowOut>(
+#[tactic(auto, unfolding(crate::specs::Characters::glyph))]
+pub fn put_glyph<O: RowOut>(
     row: &mut OpenRow,
     output: Output,
     name: &[u8],
