@@ -4,7 +4,7 @@ ghost use Rattle.std.specs.Prelude.{◌≡◌, ◌≤◌, ◌*◌, Some};
 ghost use Rattle.page_core_base.specs.declared.limits.TheConstants.{LINE};
 ghost use Rattle.page_roff_syntax.specs.Arguments.{is_quoted};
 ghost use Rattle.page_scopes_blocks.specs.NameHangs as hangs;
-ghost use Rattle.page_scopes_text.specs.Names.{name_columns};
+ghost use Rattle.page_scopes_words.specs.Names.{name_columns};
 ghost use Rattle.page_sets_lines.specs.Fits.{KindFits, FitsAt};
 ghost use Rattle.page_sets_lines.specs.Events.{kind_view, word_view};
 ghost use Rattle.page_sets_lines.specs.declared.events.EventKind.TheVariants as kinds;

@@ -10,7 +10,7 @@ ghost use Rattle.page_scopes_labels.specs.declared.labels.Label.TheVariants.{Sec
 ghost use Rattle.page_scopes_layout.specs.Begins.{entered_context, section_begun, subsection_begun};
 ghost use Rattle.page_scopes_phrases.specs.LineWords.{argument_word};
 ghost use Rattle.page_scopes_phrases.specs.Outcomes.{GivesOutcome};
-ghost use Rattle.page_scopes_text.specs.Numbers.{columns_value};
+ghost use Rattle.page_scopes_words.specs.Numbers.{columns_value};
 ghost use Rattle.page_sets_lines.specs.declared.events.Join.TheVariants.{Apart};
 ghost use Rattle.page_scopes_nodes.specs.Openers as openers;
 ghost use Rattle.page_sets_lines.specs.Events.{block_opener_view, given_view, opener_view, text_view};
