@@ -8,4 +8,5 @@ pub mod RunWordLemmas
 pub mod FontWordLemmas
 pub mod LetterLemmas
 pub mod LetteredWordLemmas
+pub mod LetteredTextLemmas
 mod PartLemmas

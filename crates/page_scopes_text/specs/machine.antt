@@ -3,4 +3,5 @@ pub mod FontWords
 pub mod Parts
 pub mod Reads
 pub mod Letters
+pub mod LetteredTexts
 pub mod Runs

@@ -9,6 +9,7 @@
 #![tactic(auto)]
 
 mod font_words;
+mod lettered_texts;
 mod lettered_words;
 mod parts;
 mod pens;

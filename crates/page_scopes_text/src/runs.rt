@@ -15,9 +15,9 @@ use crate::parts::give_parts;
 use page_core_base::{Font, LINE, Piece, PieceOut, Place};
 use page_scopes_words::{ROOM, going_len, roman_fonts};
 
-// The last blank up to a place, or the text's front.
+/// The last blank up to a place, or the text's front.
 #[inline(always)]
-fn blank_before(text: &[u8], place: usize) -> usize
+pub(crate) fn blank_before(text: &[u8], place: usize) -> usize
     requires { place < length text.now }
     ensures within { result ≤ place }
     ensures blank { 0 < result → slice_index text.now result ≡ 32 }
