@@ -1,5 +1,4 @@
 -- The code's own steps and fast ways. Trust needs no reading of them.
-pub mod FontWords
 pub mod Parts
 pub mod Reads
 pub mod Letters
