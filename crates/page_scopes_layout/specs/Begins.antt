@@ -52,13 +52,9 @@ heading_begun column c = record c {
 abbrev pub paragraph_begun : Context → Context
 paragraph_begun c = record (flat (reset c)) { prevailing = PREVAILING }
 
--- an indent that is given prevails from here on
-abbrev pub prevailing_from : Option ℤ → Context → Context
-prevailing_from columns c = record c { prevailing = unwrap_or columns c.prevailing }
-
--- the text is the prevailing indent further in (`TP`, `IP`)
+-- the text is the prevailing indent further in (`TP`, `IP`), and an indent that is given prevails from here on
 abbrev pub indented_begun : Option ℤ → Context → Context
-indented_begun columns c = record (flat (reset (prevailing_from columns c))) { hang = unwrap_or columns c.prevailing }
+indented_begun columns c = record (flat (reset c)) { prevailing = unwrap_or columns c.prevailing; hang = unwrap_or columns c.prevailing }
 
 -- the first row is at the margin
 abbrev pub first_at_margin : Context → Context

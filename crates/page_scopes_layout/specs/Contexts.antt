@@ -59,7 +59,8 @@ abbrev pub owns_arguments : Label → Bool
 owns_arguments (labels.Explicit (Block blocks.Function)) = true
 owns_arguments _ = false
 
--- margins, hang, part and section are those before the scope, and so are the prevailing indent and the fonts where the label's row says it; a row that has begun has begun; what a request or an escape set stays
+-- Margins, hang, part and section are those before the scope, and so are the prevailing indent and the fonts where the label's row says it; a row that
+-- has begun has begun; what a request or an escape set stays.
 abbrev pub restored : Label → Context → Context → Context
 restored label before now = record {
   list = if is_list label then before.list else now.list;

@@ -67,9 +67,6 @@ spelled (b ∷ bs) = b ∷ bs
 abbrev pub character_further : HeadingSoFar → ℕ → HeadingSoFar
 character_further h c = printed_further (spelled (spelling_of c)) h
 
-abbrev pub plain_further : List ℕ → HeadingSoFar → HeadingSoFar
-plain_further text h = if is_utf8 text then fold character_further h (chars text) else other_heading
-
 -- `\h` prints blanks where it is a column wide, of 24 basic units
 abbrev pub escape_further : Meaning → HeadingSoFar → HeadingSoFar
 escape_further (escapes.glyph name) h = printed_further (spelled (option_map_or (λ symbol. symbol.spelling) (glyph_of name) [])) h
@@ -82,7 +79,7 @@ escape_further _ h = h
 
 abbrev pub token_further : HeadingSoFar → TextToken → HeadingSoFar
 token_further h (white bytes) = record h { is_parted = true }
-token_further h (plain text) = plain_further text h
+token_further h (plain text) = if is_utf8 text then fold character_further h (chars text) else other_heading
 token_further h (quotes bytes) = other_heading
 token_further h (escaped bytes meaning) = escape_further meaning h
 

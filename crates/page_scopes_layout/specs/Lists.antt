@@ -89,16 +89,13 @@ item_begun None c = c
 abbrev pub tag_at : ℕ → Context → Context
 tag_at margin c = record c { first = Some margin; has_row = false; part = parts.Tag }
 
-abbrev pub head_words_begun : Context → Context
-head_words_begun c = record c { part = parts.Head }
-
 -- a head is a tag (`-tag`, `-hang`), or words of a row (`-inset`, `-ohang`, and `-diag` in bold)
 abbrev pub head_of : ListKind → ℕ → Context → Context
 head_of kinds.Tag margin c = tag_at margin c
 head_of kinds.Hang margin c = tag_at margin c
-head_of kinds.Inset margin c = head_words_begun c
-head_of kinds.Ohang margin c = head_words_begun c
-head_of kinds.Diag margin c = head_words_begun (font_begun B c)
+head_of kinds.Inset margin c = record c { part = parts.Head }
+head_of kinds.Ohang margin c = record c { part = parts.Head }
+head_of kinds.Diag margin c = record (font_begun B c) { part = parts.Head }
 head_of _ margin c = c
 
 abbrev pub head_begun : Option OpenList → Context → Context

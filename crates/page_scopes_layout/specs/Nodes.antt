@@ -1,5 +1,5 @@
 -- What a scope gives where it begins and where it ends, but its words. Source: man(7), "MACRO OVERVIEW"; mdoc(7), "MACRO REFERENCE".
-use Rattle.std.specs.Prelude.{ℕ, List, [], ◌∷◌, ◌++◌, Bool, true, false, if◌then◌else◌, Option, None, Some, pos}
+use Rattle.std.specs.Prelude.{List, [], ◌∷◌, ◌++◌, Bool, true, false, if◌then◌else◌, Option, None, Some, pos}
 use Rattle.page_core_base.specs.Pieces.{Item, shown}
 use Rattle.page_core_base.specs.declared.pieces.Piece.TheVariants as pieces
 use Rattle.page_core_base.specs.declared.pieces.TagForm.{TagForm}
@@ -50,12 +50,9 @@ is_row (Some list) = is_ohang list.kind
 is_row None = false
 
 -- a head that is set in has blanks after it, whatever is in it
-abbrev pub inset_items : ℕ → List Item
-inset_items blanks = shown (pieces.Tag 0 (Inset blanks)) ∷ []
-
 abbrev pub head_last_items : ListKind → List Item
-head_last_items kinds.Inset = inset_items 1
-head_last_items kinds.Diag = inset_items 2
+head_last_items kinds.Inset = shown (pieces.Tag 0 (Inset 1)) ∷ []
+head_last_items kinds.Diag = shown (pieces.Tag 0 (Inset 2)) ∷ []
 head_last_items _ = []
 
 abbrev pub open_head_last_items : Option OpenList → List Item

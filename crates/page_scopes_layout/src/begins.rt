@@ -105,26 +105,17 @@ impl Context {
         }
     }
 
-    // An indent in columns prevails from here on, where one is given.
-    #[inline(always)]
-    fn prevailing_from(self, columns: Option<i32>) -> Context
-        ensures { result ≡ begins.prevailing_from columns self }
-    {
-        Context {
-            prevailing: columns.unwrap_or(self.prevailing),
-            ..self
-        }
-    }
-
-    /// A paragraph begins whose text is this many columns, or the prevailing indent, further in (`TP`, `IP`).
+    /// A paragraph begins whose text is this many columns, or the prevailing indent, further in (`TP`, `IP`). An indent that is given
+    /// prevails from here on.
     #[inline(always)]
     pub fn indented_begun(self, columns: Option<i32>) -> Context
         ensures { result ≡ begins.indented_begun columns self }
     {
-        let context = self.prevailing_from(columns).reset().flat();
+        let indent = columns.unwrap_or(self.prevailing);
         Context {
-            hang: context.prevailing,
-            ..context
+            prevailing: indent,
+            hang: indent,
+            ..self.reset().flat()
         }
     }
 

@@ -5,7 +5,7 @@ ghost use Rattle.std.specs.List.{fold};
 ghost use Rattle.std.specs.Option.{option_map_or};
 ghost use Rattle.std.specs.Str.{chars};
 ghost use Rattle.page_core_escapes.specs.Escapes.{meaning_view};
-ghost use Rattle.page_core_escapes.specs.Tokens.{token_view, tokens_of};
+ghost use Rattle.page_core_escapes.specs.Tokens.{plain, token_view, tokens_of};
 ghost use Rattle.page_core_tables.specs.Glyphs.{glyph_of};
 ghost use Rattle.page_scopes_layout.specs.Headings as headings;
 
@@ -121,7 +121,7 @@ fn characters_further(text: &str, start: HeadingSoFar) -> HeadingSoFar
 
 // Goes on after characters that print themselves.
 fn plain_further(text: &[u8], heading: HeadingSoFar) -> HeadingSoFar
-    ensures { result ≡ headings.plain_further text.now heading }
+    ensures { result ≡ headings.token_further heading (plain text.now) }
 {
     match str::from_utf8(text) {
         Ok(text) => characters_further(text, heading),

@@ -176,24 +176,20 @@ impl Context {
         }
     }
 
-    // Words of a head that are in a row of their own or of the text.
-    fn head_words_begun(self) -> Context
-        ensures { result ≡ lists.head_words_begun self }
-    {
-        Context {
-            part: PagePart::Head,
-            ..self
-        }
-    }
-
     // The head of an item of a list begins.
     fn head_of(self, list: OpenList) -> Context
         ensures { result ≡ lists.head_of list.kind list.head self }
     {
         match list.kind {
             ListKind::Hang | ListKind::Tag => self.tag_at(list.head),
-            ListKind::Inset | ListKind::Ohang => self.head_words_begun(),
-            ListKind::Diag => self.font_begun(Font::B).head_words_begun(),
+            ListKind::Inset | ListKind::Ohang => Context {
+                part: PagePart::Head,
+                ..self
+            },
+            ListKind::Diag => Context {
+                part: PagePart::Head,
+                ..self.font_begun(Font::B)
+            },
             _ => self,
         }
     }

@@ -2,6 +2,7 @@
 
 ghost use Rattle.std.specs.Prelude.{◌≡◌, [], ◌∷◌};
 ghost use Rattle.page_core_base.specs.Latches.{Came};
+ghost use Rattle.page_core_base.specs.Pieces.{shown};
 ghost use Rattle.page_scopes_layout.specs.Nodes as nodes;
 
 use crate::{Context, OpenList, hold, margins_of};
@@ -35,7 +36,7 @@ fn give_item_begin<O: PieceOut>(out: &mut O, context: &Context)
 
 // Gives a tag of words that are in their text's row, whatever their columns are.
 fn give_inset<O: PieceOut>(out: &mut O, blanks: u32)
-    ensures { Came O.left out.old (nodes.inset_items blanks) out.new }
+    ensures { Came O.left out.old (shown (Piece.Tag 0 (TagForm.Inset blanks)) ∷ []) out.new }
 {
     out.give(Piece::Tag {
         hang: 0,

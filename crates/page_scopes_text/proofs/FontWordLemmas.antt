@@ -13,7 +13,7 @@ use Rattle.page_scopes_words.specs.Words.{at, face_notes}
 use Rattle.page_scopes_text.proofs.PartedLemmas.{no_word, plain_begins, plain_token, words_more}
 use Rattle.page_scopes_text.specs.machine.FontWords.{ReadsFont, ReadsFontWord, ReadsPart, Silent, font_tokens, part_tokens}
 use Rattle.page_scopes_text.specs.Parted.{Parted}
-use Rattle.page_scopes_text.specs.Words.{body_items, empty_items, gap_after, gap_items, pen_after, pen_through, plain_items, tokens_items, word_begun, word_items, word_notes}
+use Rattle.page_scopes_text.specs.Words.{body_items, empty_items, gap_after, gap_items, pen_after, pen_through, printed_items, tokens_items, word_begun, word_items, word_notes}
 use Rattle.page_scopes_text.specs.declared.font_words.FontWord.{FontWord}
 use Rattle.page_scopes_text.specs.declared.pens.Pen.{Pen}
 use Rattle.page_scopes_text.specs.declared.pens.TextStyle.{TextStyle}
@@ -106,7 +106,7 @@ part_items : (place : Place) (pen : Pen) (bytes : List ℕ) (tokens : List TextT
     ≡ tokens_items false place pen (part_tokens bytes) ++ tokens_items false place (pen_through pen (part_tokens bytes)) tokens
 part_items place pen [] tokens = refl
 part_items place pen (b ∷ bs) tokens =
-    let first = plain_items pen.splits pen.fonts.value.font place (b ∷ bs) in
+    let first = printed_items false pen.splits pen.fonts.value.font place (plain (b ∷ bs)) in
     ap (λ (items : List Item). items ++ tokens_items false place (pen_after pen (plain (b ∷ bs))) tokens) (sym (append-nil first))
 
 pub part_pen : (pen : Pen) (bytes : List ℕ) (tokens : List TextToken)
@@ -140,7 +140,7 @@ part_alike : (quoted : Bool) (place : Place) (bytes : List ℕ) (tokens : List T
     → tokens_items quoted place pen (part_tokens bytes ++ tokens) ≡ tokens_items false place pen (part_tokens bytes ++ tokens)
 part_alike quoted place [] tokens h pen = h pen
 part_alike quoted place (b ∷ bs) tokens h pen =
-    ap (λ (i : List Item). plain_items pen.splits pen.fonts.value.font place (b ∷ bs) ++ i) (h (pen_after pen (plain (b ∷ bs))))
+    ap (λ (i : List Item). printed_items quoted pen.splits pen.fonts.value.font place (plain (b ∷ bs)) ++ i) (h (pen_after pen (plain (b ∷ bs))))
 
 tail_alike : (quoted : Bool) (place : Place) (bytes : List ℕ) (pen : Pen) → tokens_items quoted place pen (part_tokens bytes) ≡ tokens_items false place pen (part_tokens bytes)
 tail_alike quoted place [] pen = refl

@@ -1,5 +1,6 @@
 -- A word as pieces and messages, with its fonts. Source: roff(7), "ESCAPE SEQUENCES"; mandoc(1), "DIAGNOSTICS".
 use Rattle.std.specs.Prelude.{ℕ, ◌+◌, nat_lt, ◌==◌, Bool, true, false, ◌||◌, ◌&&◌, List, [], ◌∷◌, ◌++◌, length, map, replicate, if◌then◌else◌, is_some}
+use Rattle.std.specs.Option.{option_to_list}
 use Rattle.page_core_base.specs.Pieces.{Item, shown}
 use Rattle.page_core_base.specs.declared.cells.Font.{Font}
 use Rattle.page_core_base.specs.declared.cells.Font.TheVariants.{R}
@@ -14,7 +15,7 @@ use Rattle.page_core_numbers.specs.Columns.{characters_columns, printed_escape}
 use Rattle.page_core_numbers.specs.declared.scales.Scale.TheVariants.{Em}
 use Rattle.page_scopes_words.specs.declared.settings.Setting.{Setting}
 use Rattle.page_scopes_words.specs.Fonts.{token_fonts}
-use Rattle.page_scopes_words.specs.Words.{at, glyph_name, is_glue, meaning_notes, meaning_piece, piece_items, token_piece}
+use Rattle.page_scopes_words.specs.Words.{at, glyph_name, is_glue, meaning_notes, token_piece}
 use Rattle.page_scopes_words.specs.declared.fonts.Fonts.{Fonts}
 use Rattle.page_scopes_words.specs.Numbers.{number_notes}
 use Rattle.page_scopes_text.specs.declared.pens.Pen.{Pen}
@@ -49,25 +50,21 @@ blank_count expression = characters_columns (printed_escape Ascii (meanings.blan
 abbrev pub token_items : (quoted : Bool) → Font → Place → TextToken → List Item
 token_items quoted font place (escaped bytes (meanings.blanks expression)) = blank_text (blank_count expression) font place
 token_items quoted font place (escaped bytes (meanings.glyph name)) = shown (Glyph (glyph_name quoted name) font place) ∷ []
-token_items quoted font place token = piece_items (token_piece font place token)
+token_items quoted font place token = map shown (option_to_list (token_piece font place token))
 
 -- bytes that print themselves, at whose hyphens a row may end
 abbrev pub parts_items : Font → Place → List ℕ → List Item
 parts_items font place bytes = map shown (part_pieces font place (parts_of bytes))
 
--- those of a word that is parted or not
-abbrev pub plain_items : (splits : Bool) → Font → Place → List ℕ → List Item
-plain_items splits font place bytes = if splits then parts_items font place bytes else shown (Text bytes font place) ∷ []
-
--- a token of such a word
+-- a token of a word that is parted or not
 abbrev pub printed_items : (quoted splits : Bool) → Font → Place → TextToken → List Item
-printed_items quoted splits font place (plain bytes) = plain_items splits font place bytes
+printed_items quoted splits font place (plain bytes) = if splits then parts_items font place bytes else shown (Text bytes font place) ∷ []
 printed_items quoted splits font place token = token_items quoted font place token
 
 abbrev pub token_prints : TextToken → Bool
 token_prints (escaped bytes (meanings.blanks expression)) = nat_lt 0 (blank_count expression)
 token_prints (escaped bytes (meanings.glyph name)) = true
-token_prints (escaped bytes meaning) = is_some (meaning_piece R (at 0 0) meaning)
+token_prints (escaped bytes meaning) = is_some (token_piece R (at 0 0) (escaped bytes meaning))
 token_prints token = true
 
 -- ---- fonts

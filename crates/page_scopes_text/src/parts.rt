@@ -2,7 +2,7 @@
 
 ghost use Rattle.std.specs.Prelude.{◌≡◌, ◌<◌, ◌==◌, false, length};
 ghost use Rattle.page_core_base.specs.Latches.{Came, CameUpTo};
-ghost use Rattle.page_core_escapes.specs.Tokens.{is_space, token_view};
+ghost use Rattle.page_core_escapes.specs.Tokens.{is_space, plain, token_view};
 ghost use Rattle.page_scopes_text.specs.machine.Parts.{later_items};
 ghost use Rattle.page_scopes_text.specs.Words as words;
 
@@ -58,7 +58,7 @@ pub(crate) fn give_plain_token<O: PieceOut>(
     bytes: &[u8],
 )
     ensures { Came O.left out.old
-        (words.plain_items splits font place bytes.now) out.new }
+        (words.printed_items false splits font place (plain bytes.now)) out.new }
 {
     if splits {
         give_parts(out, font, place, bytes);

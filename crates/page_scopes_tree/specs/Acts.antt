@@ -1,7 +1,6 @@
 -- What happens to the open scopes of a page. Source: man(7).
 use Rattle.std.specs.Prelude.{ℕ, false, List, [], ◌∷◌}
 use Rattle.std.specs.Borrow.{Bor}
-use Rattle.page_core_base.specs.declared.places.Place.{Place}
 use Rattle.page_sets_lines.specs.Events.{event_view}
 use Rattle.page_sets_lines.specs.declared.events.Event.{Event}
 use Rattle.page_sets_lines.specs.declared.events.EventKind.TheVariants.{End}
@@ -17,9 +16,6 @@ act_view (acts.PageEnd line) = acts.PageEnd line
 abbrev pub event_of : Act (Event (List ℕ)) → Event (List ℕ)
 event_of (acts.Event event) = event
 event_of (acts.PageEnd line) = record { place = record { line = line; column = 1 }; kind = End false }
-
-abbrev pub act_place : Act (Event (List ℕ)) → Place
-act_place act = (event_of act).place
 
 -- whether an act is taken where events are taken of which something holds
 abbrev pub TakesAct : (Event (List ℕ) → Type 0) → Act (Event (List ℕ)) → Type 0

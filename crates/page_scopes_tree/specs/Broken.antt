@@ -17,7 +17,7 @@ use Rattle.page_sets_lines.specs.declared.openers.Opener.{Opener}
 use Rattle.page_sets_lines.specs.declared.openers.Opener.TheVariants as openers
 use Rattle.page_sets_lines.specs.declared.openers.Closer.{Closer}
 use Rattle.page_sets_lines.specs.declared.openers.Closer.TheVariants as closers
-use Rattle.page_scopes_tree.specs.Acts.{act_place, event_of}
+use Rattle.page_scopes_tree.specs.Acts.{event_of}
 use Rattle.page_scopes_labels.specs.Labels.{label_name, label_row}
 use Rattle.page_scopes_tree.specs.declared.acts.Act.{Act}
 use Rattle.page_scopes_tree.specs.declared.acts.Act.TheVariants as acts
@@ -83,7 +83,7 @@ says kind place detail = noted (message_about kind place detail)
 
 -- the message of a scope that an act ends
 abbrev pub broken_notes : Act (Event (List ℕ)) → Label → List Item
-broken_notes act label = map (λ kind. says kind (act_place act) (label_name label)) (option_to_list (broken act label))
+broken_notes act label = map (λ kind. says kind (event_of act).place (label_name label)) (option_to_list (broken act label))
 
 -- ---- refused events
 
@@ -92,7 +92,7 @@ kind_closer_name (kinds.Close closer) = closer_name closer
 kind_closer_name _ = []
 
 abbrev pub obstacle_notes : Obstacle → Act (Event (List ℕ)) → List Item
-obstacle_notes OutsideList act = says note_kinds.ItemOutside (act_place act) [] ∷ []
-obstacle_notes Scopes act = says note_kinds.Limit (act_place act) (name_of limits.Scopes) ∷ []
-obstacle_notes NotOpen act = says note_kinds.NotOpen (act_place act) (kind_closer_name (event_of act).kind) ∷ []
-obstacle_notes FewerMargins act = says note_kinds.FewerRs (act_place act) [] ∷ []
+obstacle_notes OutsideList act = says note_kinds.ItemOutside (event_of act).place [] ∷ []
+obstacle_notes Scopes act = says note_kinds.Limit (event_of act).place (name_of limits.Scopes) ∷ []
+obstacle_notes NotOpen act = says note_kinds.NotOpen (event_of act).place (kind_closer_name (event_of act).kind) ∷ []
+obstacle_notes FewerMargins act = says note_kinds.FewerRs (event_of act).place [] ∷ []

@@ -5,7 +5,7 @@ use Rattle.page_core_base.specs.Pieces.{Item}
 use Rattle.page_core_base.specs.declared.places.Place.{Place}
 use Rattle.page_scopes_tree.specs.Layouts.{Layout}
 use Rattle.page_sets_lines.specs.declared.events.Event.{Event}
-use Rattle.page_scopes_tree.specs.Acts.{Step, comes, does, act_place, event_of}
+use Rattle.page_scopes_tree.specs.Acts.{Step, comes, does, event_of}
 use Rattle.page_scopes_tree.specs.Broken.{broken_notes, obstacle_notes}
 use Rattle.page_scopes_tree.specs.Nests.{Fact, coming, standing, refused}
 use Rattle.page_scopes_tree.specs.declared.acts.Act.{Act}
@@ -47,6 +47,6 @@ framed tables = record {
   begin_state = λ label step s. tables.begin_state label (event_of (act_of step)) s;
   leaf_items = λ fact s. fact_items tables fact s;
   leaf_state = λ fact s. fact_state tables fact s;
-  end_items = λ label before step s. broken_notes (act_of step) label ++ tables.end_items label before (act_place (act_of step)) s;
-  end_state = λ label before step s. tables.end_state label before (act_place (act_of step)) s;
+  end_items = λ label before step s. broken_notes (act_of step) label ++ tables.end_items label before (event_of (act_of step)).place s;
+  end_state = λ label before step s. tables.end_state label before (event_of (act_of step)).place s;
 }

@@ -1,7 +1,7 @@
 //! What happens to the open scopes of a page: events, and its end (man(7)).
 
 ghost use Rattle.std.specs.Prelude.{◌≡◌};
-ghost use Rattle.page_scopes_tree.specs.Acts.{act_view, act_place};
+ghost use Rattle.page_scopes_tree.specs.Acts.{act_view, event_of};
 
 use page_core_base::Place;
 use page_sets_lines::Event;
@@ -18,7 +18,7 @@ pub enum Act<E> {
 impl Act<&Event<&[u8]>> {
     /// The place that its messages name.
     pub fn place(&self) -> Place
-        ensures { result ≡ act_place (act_view self.now) }
+        ensures { result ≡ (event_of (act_view self.now)).place }
     {
         match *self {
             Act::Event(event) => event.place,

@@ -15,10 +15,6 @@ is_closer byte = (byte == 41 || byte == 93) || (byte == 39 || byte == 34)
 abbrev pub ends_with : (ℕ → Bool) → List ℕ → Bool
 ends_with holds text = option_map_or holds (slice_get text (length text - 1)) false
 
--- a text without the blanks at its end; those that an escape takes are bytes of its last word
-abbrev pub without_blanks : (ends_blank : Bool) → List ℕ → List ℕ
-without_blanks ends_blank text = if ends_blank then kept is_white text else text
-
--- a text with or without white space at its end, as its tokens are read
+-- a text with or without white space at its end, as its tokens are read; the blanks that an escape takes are bytes of its last word
 abbrev pub ends_sentence : (ends_blank : Bool) → List ℕ → Bool
-ends_sentence ends_blank text = ends_with is_end (kept is_closer (without_blanks ends_blank text))
+ends_sentence ends_blank text = ends_with is_end (kept is_closer (if ends_blank then kept is_white text else text))

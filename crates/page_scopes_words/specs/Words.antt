@@ -12,7 +12,7 @@ use Rattle.page_core_base.specs.declared.pieces.Piece.{Piece}
 use Rattle.page_core_base.specs.declared.pieces.Piece.TheVariants.{Text, Char, Tab}
 use Rattle.page_core_escapes.specs.Meanings as meanings
 use Rattle.page_core_escapes.specs.Meanings.{Face, Meaning}
-use Rattle.page_core_escapes.specs.Tokens.{TextToken, white, plain, quotes, escaped, unpaired}
+use Rattle.page_core_escapes.specs.Tokens.{TextToken, plain, quotes, escaped, unpaired}
 
 abbrev pub at : ℕ → ℕ → Place
 at line column = record { line = line; column = column }
@@ -50,31 +50,20 @@ abbrev pub glyph_name : (quoted : Bool) → List ℕ → List ℕ
 glyph_name quoted name = if quoted && has_quote name then take 64 (unpaired name) else name
 
 -- an undefined escape is its character; that of a tab is a tab. A glyph, and the blanks of `\h`, are in `page_scopes_text`
-abbrev pub meaning_piece : Font → Place → Meaning → Option (Piece (List ℕ))
-meaning_piece font place (meanings.character c) = Some (Char c font place)
-meaning_piece font place meanings.tab = Some (Tab font place)
-meaning_piece font place meanings.blank = Some (Text (32 ∷ []) font place)
-meaning_piece font place (meanings.undefined c) = Some (if c == 9 then Tab font place else Char c font place)
-meaning_piece font place _ = None
-
 abbrev pub token_piece : Font → Place → TextToken → Option (Piece (List ℕ))
-token_piece font place (white bytes) = None
 token_piece font place (plain bytes) = Some (Text bytes font place)
 token_piece font place (quotes bytes) = Some (Char 34 font place)
-token_piece font place (escaped bytes meaning) = meaning_piece font place meaning
-
-abbrev pub piece_items : Option (Piece (List ℕ)) → List Item
-piece_items None = []
-piece_items (Some piece) = shown piece ∷ []
+token_piece font place (escaped bytes (meanings.character c)) = Some (Char c font place)
+token_piece font place (escaped bytes meanings.tab) = Some (Tab font place)
+token_piece font place (escaped bytes meanings.blank) = Some (Text (32 ∷ []) font place)
+token_piece font place (escaped bytes (meanings.undefined c)) = Some (if c == 9 then Tab font place else Char c font place)
+token_piece font place _ = None
 
 -- ---- white space
 
 -- blanks and tabs as cells
-abbrev pub white_piece : Place → ℕ → Piece (List ℕ)
-white_piece place byte = if byte == 9 then Tab R place else Text (32 ∷ []) R place
-
 abbrev pub white_cells : Place → List ℕ → List Item
-white_cells place bytes = map (λ byte. shown (white_piece place byte)) bytes
+white_cells place bytes = map (λ byte. shown (if byte == 9 then Tab R place else Text (32 ∷ []) R place)) bytes
 
 abbrev pub has_tab : List ℕ → Bool
 has_tab bytes = list_any (λ byte. byte == 9) bytes

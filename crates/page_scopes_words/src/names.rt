@@ -1,7 +1,7 @@
 //! The columns of what a text prints (man(7), `SY`; mdoc(7), `Bl`; mandoc_char(7)).
 
 ghost use Rattle.std.specs.Prelude.{◌≡◌, ◌≤◌, ◌*◌, ◌<◌, length};
-ghost use Rattle.page_core_escapes.specs.Tokens.{token_bytes, token_view};
+ghost use Rattle.page_core_escapes.specs.Tokens.{plain, token_bytes, token_view};
 ghost use Rattle.page_scopes_words.specs.Names as names;
 
 use page_core_base::{LINE, Output};
@@ -11,7 +11,7 @@ use page_core_numbers::{columns, escape_columns};
 // The columns of characters that print themselves.
 fn plain_columns(output: Output, text: &[u8]) -> u32
     requires { length text.now ≤ LINE }
-    ensures value { result ≡ names.plain_columns output text.now }
+    ensures value { result ≡ names.token_columns output (plain text.now) }
     ensures bound { result ≤ 1000 * length text.now }
 {
     match str::from_utf8(text) {

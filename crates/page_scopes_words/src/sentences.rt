@@ -1,7 +1,9 @@
 //! Sentences that end with their line (roff(7), "Sentences").
 
-ghost use Rattle.std.specs.Prelude.{◌≡◌};
-ghost use Rattle.page_scopes_words.specs.Sentences.{ends_with, is_closer, is_end, ends_sentence, without_blanks};
+ghost use Rattle.std.specs.Prelude.{◌≡◌, if◌then◌else◌};
+ghost use Rattle.page_roff_syntax.specs.Ends.{kept};
+ghost use Rattle.page_roff_syntax.specs.LineForms.{is_white};
+ghost use Rattle.page_scopes_words.specs.Sentences.{ends_with, is_closer, is_end, ends_sentence};
 
 use page_roff_syntax::{is_white, kept_len};
 
@@ -31,7 +33,7 @@ fn ends_with_end(text: &[u8]) -> bool
 
 // A text without the blanks at its end.
 fn without_blanks(ends_blank: bool, text: &[u8]) -> &[u8]
-    ensures { result.now ≡ without_blanks ends_blank text.now }
+    ensures { result.now ≡ (if ends_blank then kept is_white text.now else text.now) }
 {
     if ends_blank {
         &text[..kept_len(text, |byte| is_white(byte))]

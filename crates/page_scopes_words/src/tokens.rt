@@ -1,10 +1,10 @@
 //! Tokens of words: their messages, and what they print (roff(7), "ESCAPE SEQUENCES").
 
-ghost use Rattle.std.specs.Prelude.{◌≡◌, ◌==◌, ◌∷◌, [], ◌≤◌, length, take, if◌then◌else◌, option_map};
+ghost use Rattle.std.specs.Prelude.{◌≡◌, ℕ, List, ◌==◌, ◌∷◌, [], ◌≤◌, length, take, if◌then◌else◌, option_map};
 ghost use Rattle.page_core_base.specs.Latches.{Came};
 ghost use Rattle.page_core_base.specs.Pieces.{piece_of, shown};
 ghost use Rattle.page_core_escapes.specs.Escapes.{face_view, meaning_view};
-ghost use Rattle.page_core_escapes.specs.Tokens.{token_view, unpaired};
+ghost use Rattle.page_core_escapes.specs.Tokens.{escaped, token_view, unpaired};
 ghost use Rattle.page_scopes_words.specs.Words as words;
 ghost use Rattle.page_scopes_words.specs.Words.{says};
 
@@ -127,7 +127,7 @@ pub fn give_glyph<O: PieceOut>(out: &mut O, quoted: bool, font: Font, place: Pla
 
 // What an escape prints, but for a glyph and the blanks of `\h`.
 fn escape_piece(font: Font, place: Place, meaning: Escape<'_>) -> Option<Piece<&[u8]>>
-    ensures { option_map piece_of result ≡ words.meaning_piece font place (meaning_view meaning.entry) }
+    ensures { (bytes : List ℕ) → option_map piece_of result ≡ words.token_piece font place (escaped bytes (meaning_view meaning.entry)) }
 {
     match meaning {
         Escape::Char(c) => Some(Piece::Char { c, font, place }),

@@ -1,15 +1,16 @@
 //! White space of a row that is kept as it is (roff(7), "nf").
 
-ghost use Rattle.std.specs.Prelude.{◌≡◌};
+ghost use Rattle.std.specs.Prelude.{◌≡◌, ◌==◌, [], ◌∷◌, if◌then◌else◌};
 ghost use Rattle.page_core_base.specs.Latches.{Came};
 ghost use Rattle.page_core_base.specs.Pieces.{piece_of};
+ghost use Rattle.page_core_base.specs.declared.cells.Font.TheVariants.{R};
 ghost use Rattle.page_scopes_words.specs.Words as words;
 
 use page_core_base::{Font, Piece, PieceOut, Place};
 
 // What a blank or a tab is in a row that keeps it.
 fn white_piece(place: Place, byte: u8) -> Piece<&'static [u8]>
-    ensures { piece_of result ≡ words.white_piece place byte }
+    ensures { piece_of result ≡ (if byte == 9 then Piece.Tab R place else Piece.Text (32 ∷ []) R place) }
 {
     if byte == b'\t' {
         return Piece::Tab {

@@ -1,0 +1,4 @@
+use Rattle.page_scopes_words.proofs.tokens.token_piece.Goals as goal
+
+pub returns-in-Escaped : goal.returns-in-Escaped
+returns-in-Escaped c = rw c.in-Escaped.is (c.escape_piece.ensures c.in-Escaped.bytes.now)
