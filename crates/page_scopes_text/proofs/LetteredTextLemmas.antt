@@ -127,10 +127,6 @@ roman_adds style fonts text literal roman begins goes =
       front_adds style fonts text text (drop (length text) text) (letters_in R (32 ∷ [])) (letters_in R (32 ∷ text)) literal roman size run refl refl,
     )
 
--- the letters of a text after a blank
-pub blank_letters : (text more : List ℕ) → cells_in (take (suc (length text)) (32 ∷ (text ++ more))) (replicate (suc (length text)) R) ≡ letters_in R (32 ∷ text)
-blank_letters text more = ap (λ (l : List ℕ). cells_in (32 ∷ l) (replicate (suc (length text)) R)) (take-append_seam text more) ∙ roman_cells (32 ∷ text)
-
 -- a word after a blank
 pub first_adds : (style : TextStyle) (fonts next : Setting Fonts) (text rest : List ℕ) (before after : List Cell) → style.is_literal ≡ false
     → begins_word text ≡ true → begins_word rest ≡ false → before ≡ letters_in R (32 ∷ []) → AddsWord style.is_quoted fonts before text next after rest

@@ -5,7 +5,6 @@ pub mod PlainWordLemmas
 pub mod RunLemmas
 pub mod RomanRunLemmas
 pub mod RunWordLemmas
-pub mod FontWordLemmas
 pub mod LetterLemmas
 pub mod LetteredWordLemmas
 pub mod LetteredTextLemmas

@@ -9,15 +9,16 @@ ghost use Rattle.page_scopes_text.specs.machine.Letters.{AddsWords};
 ghost use Rattle.page_scopes_text.specs.machine.LetteredTexts.{GivesFront, GoesOn, PrintsFirst};
 ghost use Rattle.page_scopes_text.specs.machine.Reads.{Fits, Within};
 ghost use Rattle.page_scopes_text.specs.machine.Runs.{BeginsRun};
-ghost use Rattle.page_scopes_words.specs.machine.Letters.{GivesLetters, letters_in, put_at};
+ghost use Rattle.page_scopes_words.specs.machine.Letters.{letters_in};
 ghost use Rattle.page_scopes_words.specs.machine.RunEnds.{GoesOn as RunGoesOn};
 ghost use Rattle.page_core_base.specs.declared.cells.Font.TheVariants.{R};
 
 use crate::lettered_words::{read_letters, read_words};
-use crate::runs::blank_before;
 use crate::{Pen, TextStyle};
 use page_core_base::{Font, LINE, PieceOut};
-use page_scopes_words::{Fonts, Letters, ROOM, Setting, going_len, roman_fonts};
+use page_scopes_words::{
+    Fonts, Letters, ROOM, Setting, blank_before, give_after_blank, going_len, roman_fonts,
+};
 
 // Whether one blank is before the next word, which may be parted, in rows that are filled.
 #[inline(always)]
@@ -48,29 +49,6 @@ fn roman_len(quoted: bool, fonts: Setting<Fonts>, text: &[u8]) -> usize
     }
 }
 
-// ---- texts of roman words alone
-
-// Puts a text after the first of some bytes.
-#[inline(always)]
-fn put_after_first(bytes: &mut [u8], text: &[u8])
-    requires { length text.now < length bytes.old }
-    ensures { bytes.new ≡ put_at bytes.old 1 text.now }
-{
-    bytes[1..text.len() + 1].copy_from_slice(text);
-}
-
-// Gives a blank and roman letters as words: whether these were taken.
-#[inline(always)]
-fn give_after_blank<O: PieceOut>(out: &mut O, text: &[u8]) -> bool
-    requires { length text.now < ROOM }
-    ensures { GivesLetters (letters_in R (32 ∷ text.now)) result (Came O.left) out.old out.new }
-{
-    let mut bytes = [b' '; 256];
-    put_after_first(&mut bytes, text);
-    let len = text.len() + 1;
-    out.give_words(&bytes[..len], roman_fonts(len))
-}
-
 // Gives a text of roman words that print themselves, with one blank between two: what is left of it, which is nothing.
 #[inline(always)]
 fn give_roman<'a, O: PieceOut>(
@@ -91,8 +69,6 @@ fn give_roman<'a, O: PieceOut>(
     }
     Some(&text[text.len()..])
 }
-
-// ---- other texts
 
 // How many bytes at the front of a text that begins with a word are words that print themselves, with one blank between two, where so many are
 // known to end no run.
@@ -197,8 +173,6 @@ fn give_read<'a, O: PieceOut>(
     }
     Some((next, rest))
 }
-
-// ---- both
 
 // Gives the words of letters at the front of a text that begins with a word, after one blank: the fonts after them, and what is left of the text.
 #[inline(always)]
