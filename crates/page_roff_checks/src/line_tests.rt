@@ -246,6 +246,30 @@ const DECODED: &[Case] = &[
     ),
 ];
 
+// Whole lines of a chunk, with pairs before, in and after the end of the first 32 bytes, of which a vector has the first.
+const VECTORS: &[Case] = &[
+    (
+        Encoding::Auto,
+        b"a\n0123456789012345678901234567890\\-1\\fB2\nb\nc\n0123456789012345678901234567890123456789\n",
+        "1 a|2 0123456789012345678901234567890\\-1\\fB2|3 b|4 c|5 0123456789012345678901234567890123456789|",
+    ),
+    (
+        Encoding::Auto,
+        b"a\n012345678901234567890123456789\\-\\-\\-\n\\-\\-\\-\\-\\-\\-\\-\\-\\-\\-\\-\\-\\-\\-\\-\\-\\-\n0123456789",
+        "1 a|2 012345678901234567890123456789\\-\\-\\-|3 \\-\\-\\-\\-\\-\\-\\-\\-\\-\\-\\-\\-\\-\\-\\-\\-\\-|4 0123456789|",
+    ),
+    (
+        Encoding::Auto,
+        b"a\n0123456789012345678901234567890123456789\\\" c \\\nb\n0123456789012345678901234567890123\\\nc\nd\n",
+        "1 a|2 0123456789012345678901234567890123456789\\\" c \\|3 b|4 0123456789012345678901234567890123c|6 d|",
+    ),
+    (
+        Encoding::Auto,
+        b"a\n0123456789\t\xc3\xa9\\-23456789012345678901234567890123456789\r\n\r\n\n0123456789012345678901234567890123456789\r\n",
+        "1 a|2 0123456789\t\u{e9}\\-23456789012345678901234567890123456789|3 |4 |5 0123456789012345678901234567890123456789|",
+    ),
+];
+
 // A page of one byte many times, and then others.
 fn page_of(alloc: Global, byte: u8, count: usize, tail: &[u8]) -> Result<Vec<u8>, Fail> {
     let mut page = vec![in alloc; byte; count]?;
@@ -330,7 +354,7 @@ fn check_long<R: Abort + AllocGlobal>(rt: &R, case: LongCase) -> Result<(), Fail
 
 #[test]
 fn gives_the_lines_of_pages(rt: HostRuntime) -> Result<(), Fail> {
-    for cases in [JOINED, DECODED] {
+    for cases in [JOINED, DECODED, VECTORS] {
         check_all(&rt, cases)?;
     }
     for case in LONG {

@@ -18,3 +18,5 @@ pub mod SequenceLemmas
 pub mod FineLemmas
 pub mod HeldLaws
 pub mod WholeLemmas
+pub mod VectorLemmas
+pub mod LineLemmas

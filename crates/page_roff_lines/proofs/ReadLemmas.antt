@@ -107,7 +107,7 @@ pair-more xs i n le f pair within run =
           (run-front (drop (i + 2) xs) n room (rw (rest_of xs (i + 2)) at run)),
     )
 
-pair-printable : (bytes : List ℕ) → BeginsPair bytes → list_all is_printable (take 2 bytes) ≡ true
+pub pair-printable : (bytes : List ℕ) → BeginsPair bytes → list_all is_printable (take 2 bytes) ≡ true
 pair-printable bytes h =
     let b = get_or bytes 1 0 in
     let is = and_true (is_printable b) (not (b == quote) && not (b == hash)) h.stays in

@@ -176,7 +176,7 @@ pub whole_lines-run : (o : Open) (run : List ℕ) → IsRun o run → whole_line
 whole_lines-run o run is = any-none o.whole o.mode o.text o.after_return o.begun o.number o.physical o.consumed o.mark run is
 
 -- a line feed after text ends the line, and takes nothing away
-newline-st : (t : Held) (g : Bool) (n p k : ℕ) (a : Mark) → is_settled a ≡ true
+pub newline-st : (t : Held) (g : Bool) (n p k : ℕ) (a : Mark) → is_settled a ≡ true
     → next_open (st Plain t false g n p k a) newline ≡ any true Plain t false false n (p + 1) (k + 1) a
 unfolding next_open put_byte put_newline without_return newline_in close count_byte restart ends_mark mark_after
 newline-st t g n p k Absent h = refl

@@ -1,18 +1,17 @@
 -- The lines that are whole by their definition are those that are given within bytes.
-use Rattle.std.proofs.Common.{◌≡◌, ℕ, ◌+◌, ◌-◌, Bool, true, false, cond, List, [], ◌∷◌, ◌++◌, length, take, drop, refl, sym, ap, ◌∙◌, inl, inr, append-nil, length-append, arith}
+use Rattle.std.proofs.Common.{◌≡◌, ℕ, ◌-◌, Bool, true, false, cond, List, [], ◌∷◌, ◌++◌, length, take, refl, ap, ◌∙◌, inl, inr, append-nil, length-append, arith}
 use Rattle.std.specs.Prelude.{◌==◌, ⊤}
 use Rattle.std.proofs.Math.Seq.{take-append_seam, drop-append_seam}
 use Rattle.std.proofs.lemmas.Bool.Decides.{eqb_tells}
-use borrow.Author.Tests.{ne_eqb}
 use Rattle.page_core_base.specs.declared.page_settings.Encoding.{Encoding}
 use Rattle.page_roff_lines.specs.declared.Mode.{Mode}
 use Rattle.page_roff_lines.specs.declared.Mode.TheVariants.{Plain, Backslash, Comment, Dropped}
 use Rattle.page_roff_lines.specs.declared.Mark.{Mark}
 use Rattle.page_roff_lines.specs.declared.Mark.TheVariants.{Unread, First, Second, Absent, Present}
 use Rattle.page_roff_lines.specs.Bytes.{newline, hash}
-use Rattle.page_roff_lines.specs.machine.Open.{Open, first_open, restart, close, count_byte, put, put_plain, put_pair, pair_mode, put_in, without_return, newline_in, put_newline, put_byte, ends_mark, mark_after, next_open, end_in, end_open}
-use Rattle.page_roff_lines.specs.Decoding.{Line, lines}
-use Rattle.page_roff_lines.specs.Cutting.{Point, first_point, point_at, next_point, end_point, point_after, line_of, line_at, lines_within, last_line}
+use Rattle.page_roff_lines.specs.machine.Open.{Open, restart, close, count_byte, put, put_plain, put_pair, pair_mode, put_in, without_return, newline_in, put_newline, put_byte, ends_mark, mark_after, next_open, end_open}
+use Rattle.page_roff_lines.specs.Decoding.{lines}
+use Rattle.page_roff_lines.specs.Cutting.{Point, first_point, point_at, next_point, end_point, point_after, line_at, lines_within, last_line}
 use Rattle.page_roff_lines.specs.Whole.{letter, whole_lines, lines_made, line_left}
 use Rattle.page_roff_lines.proofs.OpenLaws.{next_open-mark}
 use Rattle.page_roff_lines.proofs.PointLemmas.{point_after-append, lines_within-append}

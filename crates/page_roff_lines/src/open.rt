@@ -4,7 +4,7 @@ ghost use Rattle.std.specs.List.{list_all};
 ghost use Rattle.page_roff_lines.specs.machine.Open.{pair_mode as spec_pair_mode};
 ghost use Rattle.page_roff_lines.specs.Characters.{is_printable};
 
-use crate::scanning::{comment_run, paired_run};
+use crate::scanning::{comment_run, fine_len, paired_run};
 use crate::{HeldText, Mark, Mode};
 use page_core_base::LINE;
 use std::alloc::{AllocError, Global};
@@ -112,7 +112,7 @@ fn pair_mode(byte: u8) -> Mode
 impl OpenLine {
     ghost use Rattle.page_roff_lines.specs.machine.Open.{first_open, restart, put, put_plain, put_pair, put_in, without_return, newline_in, put_newline, put_byte, next_open, end_open, count_byte, close, ends_mark, open_after, whole_lines, kept_of, is_marked};
     ghost use Rattle.page_roff_lines.specs.Bytes.{newline};
-    ghost use Rattle.page_roff_lines.specs.machine.Run.{InText, IsRead, with_run};
+    ghost use Rattle.page_roff_lines.specs.machine.Run.{InText, IsFine, IsRead, ReadsText, with_run};
 
     /// Before the first byte of a page, with the memory that it will ever hold.
     pub fn new(alloc: Global) -> Result<OpenLine, AllocError>
@@ -370,9 +370,60 @@ impl OpenLine {
         len
     }
 
-    /// Reads a chunk of the page up to the line feed that ends the logical line, or all of it; how many bytes it
-    /// consumed, and whether the line is whole.
-    pub fn read(&mut self, chunk: &[u8]) -> (usize, bool)
+    // Whether a line is whole and what follows it is read as text.
+    fn is_before_text(&self) -> bool
+        ensures { result ≡ true → (self.now.whole ≡ true) × ReadsText self.now }
+    {
+        self.whole && self.mark.is_settled() && matches!(self.mode, Mode::Plain)
+    }
+
+    // Takes a text that was read at once, with the line feed after it, as the line after a whole one.
+    #[inline(always)]
+    #[tactic(auto, unfolding(crate::specs::machine::Held::extend))]
+    fn put_line(&mut self, text: &[u8])
+        requires whole { self.old.whole ≡ true }
+        requires reads { ReadsText self.old }
+        requires some { 0 < length text.now }
+        requires fine { IsFine text.now }
+        requires consumed { self.old.consumed + length text.now + 1 < 2 ^ 31 }
+        ensures next { self.new ≡ next_open (open_after self.old text.now) newline }
+        ensures whole { self.new.whole ≡ true }
+    {
+        self.text.clear();
+        self.text.extend(text, true);
+        self.after_return = false;
+        self.begun = false;
+        self.number = self.physical;
+        self.physical += 1;
+        self.consumed += text.len() as u32 + 1;
+    }
+
+    // Reads a line of printable bytes that is the next one, and whole in the chunk: how many bytes it has with its line feed, and 0 where
+    // there is no such line.
+    #[inline(always)]
+    fn take_line(&mut self, chunk: &[u8]) -> usize
+        requires { self.old.consumed + length chunk.now < 2 ^ 31 }
+        ensures within { result ≤ length chunk.now }
+        ensures none { result ≡ 0 → self.new ≡ self.old }
+        ensures after { 0 < result → self.new ≡ open_after self.old (take result chunk.now) }
+        ensures lines { 0 < result → whole_lines self.old (take result chunk.now) ≡ kept_of self.new ∷ [] }
+        ensures before { 0 < result → whole_lines self.old (take (result - 1) chunk.now) ≡ [] }
+        ensures whole { 0 < result → self.new.whole ≡ true }
+    {
+        if !self.is_before_text() {
+            return 0;
+        }
+        let len = fine_len(chunk);
+        if len == 0 || len >= chunk.len() || chunk[len] != NEWLINE {
+            return 0;
+        }
+        self.put_line(&chunk[..len]);
+        len + 1
+    }
+
+    // Reads a chunk, as `read` does.
+    #[inline(never)]
+    fn read_runs(&mut self, chunk: &[u8]) -> (usize, bool)
         requires { self.old.consumed + length chunk.now < 2 ^ 31 }
         ensures within { result.0 ≤ length chunk.now }
         ensures all { result.1 ≡ false → result.0 ≡ length chunk.now }
@@ -395,6 +446,27 @@ impl OpenLine {
             }
         }
         (at, false)
+    }
+
+    /// Reads a chunk of the page up to the line feed that ends the logical line, or all of it; how many bytes it
+    /// consumed, and whether the line is whole.
+    #[inline(always)]
+    pub fn read(&mut self, chunk: &[u8]) -> (usize, bool)
+        requires { self.old.consumed + length chunk.now < 2 ^ 31 }
+        ensures within { result.0 ≤ length chunk.now }
+        ensures all { result.1 ≡ false → result.0 ≡ length chunk.now }
+        ensures after { self.new ≡ open_after self.old (take result.0 chunk.now) }
+        ensures lines { whole_lines self.old (take result.0 chunk.now)
+            ≡ (if result.1 then kept_of self.new ∷ [] else []) }
+        ensures before { result.1 ≡ true → whole_lines self.old (take (result.0 - 1) chunk.now) ≡ [] }
+        ensures whole { result.1 ≡ true → self.new.whole ≡ true }
+        ensures consumed { self.new.consumed ≡ self.old.consumed + result.0 }
+    {
+        let len = self.take_line(chunk);
+        if len > 0 {
+            return (len, true);
+        }
+        self.read_runs(chunk)
     }
 
     /// Ends the page; whether a last line is there.

@@ -3,7 +3,7 @@ ghost use Rattle.std.specs.Prelude.{◌≡◌, ℕ, ◌+◌, ◌<◌, ◌≤◌,
 ghost use Rattle.std.specs.List.{prefix_len, list_all};
 ghost use Rattle.std.specs.Simd.Lanes.{mask_l};
 ghost use Rattle.page_roff_lines.specs.Characters.{is_printable};
-ghost use Rattle.page_roff_lines.specs.machine.Run.{BeginsPair, IsText, ends_run as spec_ends_run, stays as spec_stays};
+ghost use Rattle.page_roff_lines.specs.machine.Run.{BeginsPair, IsFine, IsText, ends_run as spec_ends_run, stays as spec_stays};
 ghost use Rattle.page_roff_lines.specs.machine.Scan.{is_text as spec_is_text, is_stop};
 
 use crate::Mode;
@@ -124,14 +124,62 @@ fn begins_pair(chunk: &[u8]) -> bool
     stays(chunk[1])
 }
 
-/// How many bytes at the front of a chunk are read at once where text is read, backslashes with the bytes that stay with them among
-/// them, and whether they are known to be printable.
-pub fn paired_run(chunk: &[u8]) -> (usize, bool)
+// Reads on through the text and the pairs of one vector: to where, and whether they may go on after that.
+#[inline(always)]
+fn through_vector(chunk: &[u8], from: usize) -> (usize, bool)
+    requires room { from + 32 ≤ length chunk.now }
+    requires text { IsFine (take from chunk.now) }
+    ensures within { result.0 ≤ length chunk.now }
+    ensures text { IsFine (take result.0 chunk.now) }
+    ensures further { result.1 ≡ true → from < result.0 }
+{
+    let mut at = from;
+    let mut left = LANES;
+    let mut found = stops(u8x32::from_slice(&chunk[at..]));
+    while found != 0 {
+        let len = found.trailing_zeros() as usize;
+        at += len;
+        if !begins_pair(&chunk[at..]) {
+            return (at, false);
+        }
+        at += 2;
+        if left <= len + 2 {
+            return (at, true);
+        }
+        left -= len + 2;
+        found >>= len + 2;
+    }
+    (at + left, true)
+}
+
+/// How many bytes at the front are text and pairs, all printable, as far as whole vectors go.
+#[inline(always)]
+pub fn fine_len(chunk: &[u8]) -> usize
+    ensures within { result ≤ length chunk.now }
+    ensures text { IsFine (take result chunk.now) }
+{
+    let mut at = 0;
+    while chunk.len() - at >= LANES {
+        let (end, goes_on) = through_vector(chunk, at);
+        at = end;
+        if !goes_on {
+            return at;
+        }
+    }
+    at
+}
+
+// How many bytes are read at once after text and pairs, with these, and whether they are known to be printable.
+#[inline(never)]
+fn run_after(chunk: &[u8], from: usize) -> (usize, bool)
+    requires within { from ≤ length chunk.now }
+    requires text { IsFine (take from chunk.now) }
     ensures within { result.0 ≤ length chunk.now }
     ensures text { IsText (take result.0 chunk.now) }
     ensures printable { result.1 ≡ true → list_all is_printable (take result.0 chunk.now) ≡ true }
 {
-    let (mut at, mut printable) = plain_run(chunk);
+    let (len, mut printable) = plain_run(&chunk[from..]);
+    let mut at = from + len;
     while begins_pair(&chunk[at..]) {
         at += 2;
         let (len, is_printable) = plain_run(&chunk[at..]);
@@ -139,4 +187,19 @@ pub fn paired_run(chunk: &[u8]) -> (usize, bool)
         printable = printable && is_printable;
     }
     (at, printable)
+}
+
+/// How many bytes at the front of a chunk are read at once where text is read, backslashes with the bytes that stay with them among
+/// them, and whether they are known to be printable.
+#[inline(always)]
+pub fn paired_run(chunk: &[u8]) -> (usize, bool)
+    ensures within { result.0 ≤ length chunk.now }
+    ensures text { IsText (take result.0 chunk.now) }
+    ensures printable { result.1 ≡ true → list_all is_printable (take result.0 chunk.now) ≡ true }
+{
+    let len = fine_len(chunk);
+    if len < chunk.len() && chunk[len] == NEWLINE {
+        return (len, true);
+    }
+    run_after(chunk, len)
 }

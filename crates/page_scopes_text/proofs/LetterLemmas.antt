@@ -14,10 +14,10 @@ use Rattle.page_core_base.specs.declared.pieces.Piece.TheVariants.{Char, Text}
 use Rattle.page_core_escapes.specs.Meanings as meanings
 use Rattle.page_core_escapes.specs.Meanings.{Face, is_known}
 use Rattle.page_core_escapes.specs.Tokens.{TextToken, begins_word, escaped, is_white, plain, prints_itself, quotes, token_at, token_bytes, token_len}
-use Rattle.page_scopes_words.specs.Words.{is_glue}
+use Rattle.page_core_base.specs.declared.places.Place.{Place}
+use Rattle.page_scopes_words.specs.Words.{face_notes, is_glue}
 use Rattle.page_scopes_words.specs.declared.settings.Setting.{Setting}
 use Rattle.page_scopes_words.specs.declared.fonts.Fonts.{Fonts}
-use Rattle.page_scopes_text.proofs.FontWordLemmas.{known_notes}
 use Rattle.page_scopes_text.proofs.PartedLemmas.{others_same, pen_more, plain_word, tokens_more, words_more}
 use Rattle.page_scopes_text.specs.Parted.{Parted, words_of}
 use Rattle.page_scopes_text.specs.Words.{fonts_after, pen_after, pen_through, token_prints, tokens_items, word_notes}
@@ -59,6 +59,18 @@ nothing_lettered bytes = record {
   prints = refl;
   items = λ quoted font place. ([], refl, refl, refl);
 }
+
+-- a font that there is has no message
+known_notes : (quoted : Bool) (place : Place) (font : Face) → is_known font ≡ true → face_notes quoted place font ≡ []
+known_notes quoted place meanings.roman h = refl
+known_notes quoted place meanings.italic h = refl
+known_notes quoted place meanings.bold h = refl
+known_notes quoted place meanings.bold_italic h = refl
+known_notes quoted place meanings.former h = refl
+known_notes quoted place (meanings.unknown name) h = absurd (never h)
+  where
+    never : false ≡ true → ⊥
+    never e = grind (arith, e)
 
 pub font_lettered : (bytes : List ℕ) (font : Face) → is_known font ≡ true → Lettered (escaped bytes (meanings.face font)) []
 font_lettered bytes font h = record {

@@ -33,7 +33,7 @@ use Rattle.page_scopes_text.specs.declared.pens.TextStyle.{TextStyle}
 
 -- ---- one blank and a word
 
-abbrev white_pen : TextStyle → Setting Fonts → ℕ → Pen
+abbrev pub white_pen : TextStyle → Setting Fonts → ℕ → Pen
 white_pen style fonts column = white_after style (resting fonts column) (32 ∷ [])
 
 -- what a word of letters gives

@@ -5,7 +5,7 @@ pub mod PlainWordLemmas
 pub mod RunLemmas
 pub mod RomanRunLemmas
 pub mod RunWordLemmas
-pub mod FontWordLemmas
 pub mod LetterLemmas
 pub mod LetteredWordLemmas
+pub mod LetteredTextLemmas
 mod PartLemmas

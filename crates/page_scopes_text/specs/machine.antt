@@ -1,6 +1,6 @@
 -- The code's own steps and fast ways. Trust needs no reading of them.
-pub mod FontWords
 pub mod Parts
 pub mod Reads
 pub mod Letters
+pub mod LetteredTexts
 pub mod Runs

@@ -78,9 +78,9 @@ fn take_token(letters: &mut Letters, font: Font, token: &Token<'_>) -> bool
     }
 }
 
-// Reads the word at a text's front as letters: the fonts after it, and what is left of the text.
+/// Reads the word at a text's front as letters: the fonts after it, and what is left of the text.
 #[inline(always)]
-fn read_letters<'a>(
+pub(crate) fn read_letters<'a>(
     quoted: bool,
     fonts: Setting<Fonts>,
     letters: &mut Letters,
@@ -205,9 +205,9 @@ fn read_some<'a>(
     read_word(style, fonts, letters, text)
 }
 
-// Reads words of letters at a text's front, as many as there is room for: the fonts after them, and what is left of the text.
+/// Reads words of letters at a text's front, as many as there is room for: the fonts after them, and what is left of the text.
 #[inline(always)]
-fn read_words<'a>(
+pub(crate) fn read_words<'a>(
     style: TextStyle,
     fonts: Setting<Fonts>,
     letters: &mut Letters,

@@ -8,7 +8,7 @@
 //! (`specs/Parted.antt`, `Words.antt`, `Texts.antt`).
 #![tactic(auto)]
 
-mod font_words;
+mod lettered_texts;
 mod lettered_words;
 mod parts;
 mod pens;

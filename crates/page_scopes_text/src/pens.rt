@@ -100,6 +100,24 @@ impl Pen {
         self.ends_blank = false;
     }
 
+    /// Goes on after words of so many bytes, which leave these fonts.
+    #[inline(always)]
+    pub(crate) fn rest_after(&mut self, fonts: Setting<Fonts>, len: u32)
+        requires { self.old.column + len < 2 ^ 32 }
+        ensures { self.new ≡ resting fonts (self.old.column + len) }
+    {
+        *self = Pen {
+            fonts,
+            column: self.column + len,
+            gap: 1,
+            is_after_word: true,
+            has_cell: true,
+            is_cut: false,
+            ends_blank: false,
+            splits: true,
+        };
+    }
+
     /// Whether a word that prints itself was the last thing that was passed, and words are parted.
     #[inline(always)]
     pub(crate) fn is_resting(&self) -> bool

@@ -13,21 +13,7 @@ ghost use Rattle.page_scopes_text.specs.Words as words;
 
 use crate::parts::give_parts;
 use page_core_base::{Font, LINE, Piece, PieceOut, Place};
-use page_scopes_words::{ROOM, going_len, roman_fonts};
-
-// The last blank up to a place, or the text's front.
-#[inline(always)]
-fn blank_before(text: &[u8], place: usize) -> usize
-    requires { place < length text.now }
-    ensures within { result ≤ place }
-    ensures blank { 0 < result → slice_index text.now result ≡ 32 }
-{
-    let mut at = place;
-    while at > 0 && text[at] != b' ' {
-        at -= 1;
-    }
-    at
-}
+use page_scopes_words::{ROOM, blank_before, going_len, roman_fonts};
 
 /// How many bytes at a text's front, at most a number, are words that print themselves, with one blank before each, and without a hyphen.
 #[inline(always)]

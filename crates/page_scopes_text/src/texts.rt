@@ -8,6 +8,7 @@ ghost use Rattle.page_scopes_text.specs.machine.Reads.{Fits, ReadsSpaced, Within
 ghost use Rattle.page_scopes_text.specs.Texts as texts;
 ghost use Rattle.page_scopes_text.specs.Words.{body_after};
 
+use crate::lettered_texts::give_lettered_front;
 use crate::lettered_words::give_lettered_words;
 use crate::runs::{give_run, run_len};
 use crate::tokens::give_blank_cells;
@@ -227,6 +228,31 @@ fn give_leading<'a, O: PieceOut>(
     give_spaced(out, style, line, pen, text)
 }
 
+// Gives the word at a text's front, or words of letters there, many at once; what is left of the text.
+#[inline(always)]
+fn give_first<'a, O: PieceOut>(
+    out: &mut O,
+    style: TextStyle,
+    line: u32,
+    pen: &mut Pen,
+    text: &'a [u8],
+) -> &'a [u8]
+    requires fits { Fits pen.old text.now }
+    requires word { begins_word text.now ≡ true }
+    ensures came { CameUpTo O.left out.old
+        (texts.text_items style line pen.old (words_of style.is_quoted text.now))
+        (texts.others_items style line pen.new (words_of style.is_quoted result.now).others) out.new }
+    ensures pen { texts.others_after style pen.new (words_of style.is_quoted result.now).others
+        ≡ texts.text_after style pen.old (words_of style.is_quoted text.now) }
+    ensures within { Within pen.old text.now pen.new result.now }
+    ensures ends { begins_word result.now ≡ false }
+{
+    if let Some(rest) = give_lettered_front(out, style, line, pen, text) {
+        return rest;
+    }
+    give_word(out, style, line, false, pen, text)
+}
+
 /// Gives the words of a text of a line at the pen, and moves the pen to its end.
 pub fn give_text<O: PieceOut>(out: &mut O, style: TextStyle, line: u32, pen: &mut Pen, text: &[u8])
     requires { Fits pen.old text.now }
@@ -235,7 +261,7 @@ pub fn give_text<O: PieceOut>(out: &mut O, style: TextStyle, line: u32, pen: &mu
     ensures pen { pen.new ≡ texts.text_after style pen.old (words_of style.is_quoted text.now) }
 {
     if begins_word(text) {
-        let rest = give_word(out, style, line, false, pen, text);
+        let rest = give_first(out, style, line, pen, text);
         give_others(out, style, line, pen, rest);
     } else if text.is_empty() {
         give_word(out, style, line, false, pen, text);

@@ -3,12 +3,10 @@
 ghost use Rattle.std.specs.Prelude.{◌≡◌, ◌≤◌, ◌<◌, ◌+◌, ◌^◌, false, [], ◌∷◌, IfSome, length};
 ghost use Rattle.page_core_base.specs.Latches.{Came};
 ghost use Rattle.page_core_escapes.specs.Tokens.{plain, token_view};
-ghost use Rattle.page_scopes_text.specs.machine.FontWords.{Silent, font_tokens, word_len};
 ghost use Rattle.page_scopes_text.specs.Parted.{words_of};
 ghost use Rattle.page_scopes_text.specs.machine.Reads.{Fits, ReadsPlain, ReadsWord};
 ghost use Rattle.page_scopes_text.specs.Words as words;
 
-use crate::font_words::{FontWord, give_font_tokens, read_font_word};
 use crate::parts::{give_plain_token, give_printed};
 use crate::tokens::{give_blank_cells, give_letters, report_token};
 use crate::{Pen, TextStyle};
@@ -84,22 +82,6 @@ pub(crate) fn give_body<'a, O: PieceOut>(
     rest
 }
 
-// Gives what a word in a font of its own prints.
-#[inline(always)]
-fn give_font_body<O: PieceOut>(out: &mut O, place: Place, pen: &mut Pen, word: &FontWord<'_>)
-    requires room { pen.old.column + word_len word.now < 2 ^ 32 }
-    requires before { Silent (token_view word.now.before) }
-    requires after { Silent (token_view word.now.after) }
-    ensures came { Came O.left out.old (words.body_items false place pen.old (font_tokens word.now)) out.new }
-    ensures pen { pen.new ≡ words.body_after pen.old (font_tokens word.now) }
-{
-    let before = *pen;
-    pen.begin_word();
-    give_font_tokens(out, place, pen, word);
-    give_empty(out, place, pen.has_cell);
-    pen.end_word(&before);
-}
-
 // Gives the blanks before a word.
 #[inline(always)]
 fn give_gap<O: PieceOut>(out: &mut O, style: TextStyle, has_tab: bool, place: Place, pen: &Pen)
@@ -155,32 +137,6 @@ fn give_plain<O: PieceOut>(
     pen.pass_plain(word);
 }
 
-// Gives a word in a font of its own, after the blanks before it.
-#[inline(always)]
-fn give_font_word<O: PieceOut>(
-    out: &mut O,
-    style: TextStyle,
-    line: u32,
-    has_tab: bool,
-    pen: &mut Pen,
-    word: &FontWord<'_>,
-)
-    requires room { pen.old.column + word_len word.now < 2 ^ 32 }
-    requires before { Silent (token_view word.now.before) }
-    requires after { Silent (token_view word.now.after) }
-    ensures came { Came O.left out.old
-        (words.word_items style line has_tab pen.old (font_tokens word.now)) out.new }
-    ensures pen { pen.new ≡ words.word_after style pen.old (font_tokens word.now) }
-{
-    let place = Place {
-        line,
-        column: pen.column,
-    };
-    give_gap(out, style, has_tab, place, pen);
-    pen.pass_gap(style);
-    give_font_body(out, place, pen, word);
-}
-
 // Gives the word at a text's front, its messages first; what is left of the text. It is a call, since most words print themselves.
 #[inline(never)]
 fn give_told_word<'a, O: PieceOut>(
@@ -197,10 +153,6 @@ fn give_told_word<'a, O: PieceOut>(
     ensures pen { pen.new ≡ words.word_after style pen.old (words_of style.is_quoted text.now).word }
     ensures rest { ReadsWord style.is_quoted pen.old text.now pen.new result.now }
 {
-    if let Some((word, rest)) = read_font_word(style.is_quoted, text) {
-        give_font_word(out, style, line, has_tab, pen, &word);
-        return rest;
-    }
     let place = Place {
         line,
         column: pen.column,

@@ -5,6 +5,7 @@ use Rattle.std.proofs.lemmas.List.{length-replicate, length-take-le}
 use Rattle.page_core_base.specs.Rows.{cells_in}
 use Rattle.page_core_base.specs.declared.cells.Cell.{Cell}
 use Rattle.page_core_base.specs.declared.cells.Font.{Font}
+use Rattle.page_core_base.specs.declared.cells.Font.TheVariants.{R}
 use Rattle.page_scopes_words.specs.machine.Letters.{letters_in, put_at}
 
 in-length : (bytes : List ℕ) (fonts : List Font) → length fonts ≡ length bytes → length (cells_in bytes fonts) ≡ length bytes
@@ -51,3 +52,7 @@ letters_put text fonts start font bytes room same =
 
 pub letters_len : (text : List ℕ) (fonts : List Font) (n : ℕ) → n ≤ length text → length fonts ≡ length text → length (take n (cells_in text fonts)) ≡ n
 letters_len text fonts n within same = length-take-le n (cells_in text fonts) (omega (arith, in-length text fonts same, within))
+
+-- the letters of a text after a blank
+pub blank_letters : (text more : List ℕ) → cells_in (take (suc (length text)) (32 ∷ (text ++ more))) (replicate (suc (length text)) R) ≡ letters_in R (32 ∷ text)
+blank_letters text more = ap (λ (l : List ℕ). cells_in (32 ∷ l) (replicate (suc (length text)) R)) (take-append_seam text more) ∙ in-font (32 ∷ text) R

@@ -1,10 +1,11 @@
 //! Letters that were read, each in its font.
 
-ghost use Rattle.std.specs.Prelude.{◌≡◌, ◌≤◌, ◌+◌, false, true, [], ◌++◌, length, take, replicate};
+ghost use Rattle.std.specs.Prelude.{◌≡◌, ◌≤◌, ◌<◌, ◌+◌, false, true, [], ◌∷◌, ◌++◌, length, take, replicate};
 ghost use Rattle.page_core_base.specs.Latches.{Came};
+ghost use Rattle.page_core_base.specs.declared.cells.Font.TheVariants.{R};
 ghost use Rattle.page_scopes_words.specs.machine.Letters.{GivesLetters, letters_in, put_at};
 
-use crate::letter_fonts::ROOM;
+use crate::letter_fonts::{ROOM, roman_fonts};
 use page_core_base::{Font, PieceOut};
 use std::marker::Model;
 
@@ -94,4 +95,25 @@ impl Letters {
     {
         out.give_words(&self.text[..self.len], &self.fonts[..self.len])
     }
+}
+
+// Puts a text after the first of some bytes.
+#[inline(always)]
+fn put_after_first(bytes: &mut [u8], text: &[u8])
+    requires { length text.now < length bytes.old }
+    ensures { bytes.new ≡ put_at bytes.old 1 text.now }
+{
+    bytes[1..text.len() + 1].copy_from_slice(text);
+}
+
+/// Gives a blank and roman letters as words: whether these were taken.
+#[inline(always)]
+pub fn give_after_blank<O: PieceOut>(out: &mut O, text: &[u8]) -> bool
+    requires { length text.now < ROOM }
+    ensures { GivesLetters (letters_in R (32 ∷ text.now)) result (Came O.left) out.old out.new }
+{
+    let mut bytes = [b' '; 256];
+    put_after_first(&mut bytes, text);
+    let len = text.len() + 1;
+    out.give_words(&bytes[..len], roman_fonts(len))
 }

@@ -1,6 +1,6 @@
 //! How far a text goes on as words that print themselves, with one blank before each and no hyphen, many bytes at a time (roff(7), "LANGUAGE SYNTAX").
 
-ghost use Rattle.std.specs.Prelude.{◌≡◌, ◌≤◌, ◌<◌, ◌+◌, length, if◌then◌else◌, true};
+ghost use Rattle.std.specs.Prelude.{◌≡◌, ◌≤◌, ◌<◌, ◌+◌, length, slice_index, if◌then◌else◌, true};
 ghost use Rattle.std.specs.Simd.Lanes.{mask_l, zip2};
 ghost use Rattle.page_scopes_words.specs.machine.RunEnds.{GoesOn, ends_run, ends_run_at};
 
@@ -91,6 +91,20 @@ pub fn going_len(quoted: bool, text: &[u8]) -> usize
     }
     while at < text.len() && !ends_at(quoted, text, at) {
         at += 1;
+    }
+    at
+}
+
+/// The last blank up to a place, or the text's front.
+#[inline(always)]
+pub fn blank_before(text: &[u8], place: usize) -> usize
+    requires { place < length text.now }
+    ensures within { result ≤ place }
+    ensures blank { 0 < result → slice_index text.now result ≡ 32 }
+{
+    let mut at = place;
+    while at > 0 && text[at] != b' ' {
+        at -= 1;
     }
     at
 }

@@ -1,5 +1,6 @@
 -- A fast way of the code, which no public clause cites: a run of bytes that are read alike. Trust needs no reading of it.
 use Rattle.std.specs.Prelude.{◌≡◌, ℕ, ◌+◌, ◌-◌, ◌<◌, ◌≤◌, Bool, true, false, not, ◌&&◌, ◌==◌, List, [], length, slice_index}
+use Rattle.std.specs.List.{list_all}
 use Rattle.memchr.specs.Find.{is_byte, is_byte2}
 use Rattle.page_roff_lines.specs.declared.Mode.{Mode}
 use Rattle.page_roff_lines.specs.declared.Mode.TheVariants.{Plain, Backslash, Comment, Dropped}
@@ -65,6 +66,11 @@ pub record IsRead (o : Open) (bytes : List ℕ) : Type 0 where
 -- wherever text is read, the bytes may be read at once
 abbrev pub IsText : List ℕ → Type 0
 IsText bytes = (o : Open) → ReadsText o → IsRead o bytes
+
+-- and each of them is printable
+pub record IsFine (bytes : List ℕ) : Type 0 where
+  pub text : IsText bytes
+  pub printable : list_all is_printable bytes ≡ true
 
 -- a line feed here ends a line that is open, and takes nothing away
 pub record InText (o : Open) : Type 0 where

@@ -1,20 +1,14 @@
 use Rattle.std.proofs.Common.{◌<◌, ◌≤◌, length, sym, ◌∙◌, append_assoc, arith}
 use Rattle.std.proofs.lemmas.Bool.Decides.{nat_tests}
 use Rattle.page_scopes_text.proofs.PartedLemmas.{white_front}
-use Rattle.page_scopes_text.proofs.TextLemmas.{after_text_leading, after_text_none, after_text_word, text_leading, text_none, text_word}
+use Rattle.page_scopes_text.proofs.TextLemmas.{after_text_leading, after_text_none, text_leading, text_none}
 use Rattle.page_scopes_text.proofs.texts.give_text.Goals as goal
 
 pub returns-then-begins_word-clause-came : goal.returns-then-begins_word-clause-came
-returns-then-begins_word-clause-came g c = λ plan rest h.
-    let w = c.give_word-rest.ensures in
-    let parts = text_word c.args.style c.args.line c.args.pen.now c.args.text.now (sym c.begins_word.ensures ∙ c.if-begins_word.true) in
-    (rw (w.pen, w.rest.others) at c.give_others.ensures.came) plan rest (w.came plan _ (rw (parts, append_assoc) at h))
+returns-then-begins_word-clause-came g c = λ plan rest h. c.give_others.ensures.came plan rest (c.give_first-rest.ensures.came plan rest h)
 
 pub returns-then-begins_word-clause-pen : goal.returns-then-begins_word-clause-pen
-returns-then-begins_word-clause-pen g c =
-    let w = c.give_word-rest.ensures in
-    (rw (w.pen, w.rest.others) at c.give_others.ensures.pen)
-    ∙ sym (after_text_word c.args.style c.args.pen.now c.args.text.now (sym c.begins_word.ensures ∙ c.if-begins_word.true))
+returns-then-begins_word-clause-pen g c = c.give_others.ensures.pen ∙ c.give_first-rest.ensures.pen
 
 pub returns-then-is_empty-clause-came : goal.returns-then-is_empty-clause-came
 returns-then-is_empty-clause-came g c = λ plan rest h.

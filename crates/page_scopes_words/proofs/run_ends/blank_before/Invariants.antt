@@ -1,5 +1,5 @@
 use Rattle.std.proofs.Common.{◌≤◌}
-use Rattle.page_scopes_text.proofs.runs.blank_before.Given as goal
+use Rattle.page_scopes_words.proofs.run_ends.blank_before.Given as goal
 
 abbrev pub invariant-loop-at : goal.invariant-loop-at
 invariant-loop-at l = l.at ≤ l.place

@@ -1,6 +1,6 @@
 use Rattle.std.proofs.Common.{◌-◌, length}
 use Rattle.page_roff_lines.proofs.OpenLaws.{IsReadTo}
-use Rattle.page_roff_lines.proofs.open.OpenLine.read.Given as goal
+use Rattle.page_roff_lines.proofs.open.OpenLine.read_runs.Given as goal
 
 abbrev pub invariant-loop-at : goal.invariant-loop-at
 invariant-loop-at l = IsReadTo l.fn.self l.self l.chunk l.at

@@ -1,0 +1,293 @@
+-- Texts that begin with words of letters, after one blank: they give what they would give with that blank at their front.
+use Rattle.std.proofs.Common.{◌≡◌, ℕ, zero, suc, ◌+◌, ◌-◌, ◌<◌, ◌≤◌, Bool, true, false, not, ◌||◌, List, [], ◌∷◌, ◌++◌, length, map, take, drop, get_or, refl, ap, ap₂, sym, ◌∙◌, append_assoc, replicate, inl, inr, arith}
+use Rattle.std.specs.Prelude.{◌==◌, nat_lt, if◌then◌else◌}
+use Rattle.std.proofs.Math.Seq.{take-append_seam}
+use Rattle.std.proofs.lemmas.List.{length-drop, take_all}
+use Rattle.std.proofs.lemmas.Bool.{cases_lt}
+use Rattle.std.proofs.lemmas.Bool.Decides.{nat_tests}
+use Rattle.page_core_base.specs.Latches.{Came, CameUpTo}
+use Rattle.page_core_base.specs.Pieces.{Item, shown}
+use Rattle.page_core_base.specs.Rows.{cells_in}
+use Rattle.page_core_base.specs.Words.{blank_words, lettered_cells, lettered_pieces}
+use Rattle.page_core_base.specs.declared.cells.Cell.{Cell}
+use Rattle.page_core_base.specs.declared.cells.Font.TheVariants.{R}
+use Rattle.page_core_base.specs.declared.pieces.Piece.TheVariants.{Blank}
+use Rattle.page_core_base.specs.declared.places.Place.{Place}
+use Rattle.page_core_escapes.specs.Tokens.{TextToken, begins_word, plain, token_len}
+use Rattle.page_scopes_words.specs.Words.{at}
+use Rattle.page_scopes_words.specs.declared.fonts.Fonts.{Fonts}
+use Rattle.page_scopes_words.specs.declared.settings.Setting.{Setting}
+use Rattle.page_scopes_words.specs.machine.Letters.{GivesLetters, letters_in}
+use Rattle.page_scopes_words.specs.machine.RunEnds.{GoesOn as RunGoesOn, ends_run, ends_run_at}
+use Rattle.page_scopes_text.proofs.LetteredWordLemmas.{run_reads, white_pen, word_reads}
+use Rattle.page_scopes_text.proofs.PartedLemmas.{no_word, spaced_more}
+use Rattle.page_scopes_text.proofs.PlainWordLemmas.{blank_len}
+use Rattle.page_scopes_text.proofs.RomanRunLemmas.{roman_cells}
+use Rattle.page_scopes_text.proofs.RunWordLemmas.{run_to_blank, run_to_end}
+use Rattle.page_scopes_text.proofs.TextLemmas.{after_others_more, after_spaced_word, after_text_word, others_more, spaced_word, text_word}
+use Rattle.page_scopes_text.specs.Parted.{Parted, Spaced, spaced_front, words_of}
+use Rattle.page_scopes_text.specs.Texts.{others_after, others_items, spaced_items, text_after, text_items}
+use Rattle.page_scopes_text.specs.Words.{body_items, empty_items, gap_after, gap_items, pen_after, pen_through, tokens_items, word_after, word_begun, word_ended, word_items, word_notes}
+use Rattle.page_scopes_text.specs.declared.pens.Pen.{Pen}
+use Rattle.page_scopes_text.specs.declared.pens.TextStyle.{TextStyle}
+use Rattle.page_scopes_text.specs.machine.LetteredTexts.{GivesFront, GoesOn, PrintsFirst}
+use Rattle.page_scopes_text.specs.machine.Letters.{AddsWord, AddsWords, ReadsLetters, inside}
+use Rattle.page_scopes_text.specs.machine.Reads.{resting}
+use Rattle.page_scopes_text.specs.machine.Runs.{BeginsRun, RunOf}
+
+-- ---- a run at a text's front
+
+no_blank : (c d : Bool) → not (c || d) ≡ true → c ≡ false
+no_blank true d k = let no : ⊥ = cc in absurd no
+no_blank false d k = refl
+
+first_goes : (quoted : Bool) (b : ℕ) → (b == 32) ≡ false → ends_run quoted 32 b ≡ false
+first_goes true b h = rw h refl
+first_goes false b h = rw h refl
+
+-- the blank before a word ends no run
+goes_before : (quoted : Bool) (b : ℕ) (bs : List ℕ) (n : ℕ) → begins_word (b ∷ bs) ≡ true → RunGoesOn quoted (b ∷ bs) 0 n
+    → (k : ℕ) → 0 ≤ k → k < suc n → ends_run_at quoted (32 ∷ b ∷ bs) k ≡ false
+goes_before quoted b bs n h g zero low high = first_goes quoted b (no_blank (b == 32) (b == 9) h)
+goes_before quoted b bs n h g (suc k) low high = g k (omega arith) (omega (arith, high))
+
+pub front_to_end : (quoted : Bool) (text : List ℕ) (n : ℕ) → begins_word text ≡ true → n ≤ length text → length text ≤ n → RunGoesOn quoted text 0 n
+    → BeginsRun quoted (32 ∷ text) (32 ∷ take n text) (drop n text)
+front_to_end quoted [] n h le ge g = let no : ⊥ = cc in absurd no
+front_to_end quoted (b ∷ bs) n h le ge g = run_to_end quoted (32 ∷ b ∷ bs) (suc n) refl (omega (arith, le)) (omega (arith, ge)) (goes_before quoted b bs n h g)
+
+pub front_to_blank : (quoted : Bool) (text : List ℕ) (n m : ℕ) → begins_word text ≡ true → n < length text → get_or text n 0 ≡ 32 → n ≤ m → RunGoesOn quoted text 0 m
+    → BeginsRun quoted (32 ∷ text) (32 ∷ take n text) (drop n text)
+front_to_blank quoted [] n m h lt e le g = let no : ⊥ = cc in absurd no
+front_to_blank quoted (b ∷ bs) n m h lt e le g =
+    run_to_blank quoted (32 ∷ b ∷ bs) (suc n) (suc m) refl (omega (arith, lt)) (λ _. e) (omega (arith, le)) (goes_before quoted b bs m h g)
+
+-- ---- its first word
+
+first_spaced : List Spaced → Spaced
+first_spaced [] = record { white = []; word = [] }
+first_spaced (part ∷ parts) = part
+
+parted : (quoted : Bool) (text : List ℕ) → begins_word text ≡ true
+    → (words_of quoted (32 ∷ text)).others ≡ record { white = 32 ∷ []; word = (words_of quoted text).word } ∷ (words_of quoted text).others
+parted quoted text h =
+    let one = blank_len quoted text h in
+    ap (λ (t : Parted). t.others) (spaced_more quoted (32 ∷ text) 1 refl (omega arith) (sym one)) ∙ rw one refl
+
+or_true : (b : Bool) → (b || true) ≡ true
+or_true true = refl
+or_true false = refl
+
+run_first : (quoted : Bool) (text run rest : List ℕ) (words : List (List ℕ)) → begins_word text ≡ true → RunOf quoted (32 ∷ text) (32 ∷ run) rest words
+    → (word : List ℕ) × ((words_of quoted text).word ≡ plain word ∷ [])
+unfolding blank_words first_spaced
+run_first quoted text run rest [] h r = let no : ⊥ = never run r.bytes in absurd no
+  where
+    never : (run : List ℕ) → 32 ∷ run ≡ [] → ⊥
+    never run e = cc
+run_first quoted text run rest (word ∷ words) h r =
+    (word, ap (λ (parts : List Spaced). (first_spaced parts).word) (sym (parted quoted text h) ∙ r.others))
+
+pub run_prints : (quoted : Bool) (fonts : Setting Fonts) (text run rest : List ℕ) → begins_word text ≡ true → BeginsRun quoted (32 ∷ text) (32 ∷ run) rest
+    → PrintsFirst quoted fonts text
+run_prints quoted fonts text run rest h begins = λ column.
+    let first = run_first quoted text run rest begins.0 h begins.1 in
+    rw first.1 refl
+
+some_cells : (n : ℕ) → 0 < n → nat_lt 0 n ≡ true
+some_cells n h = grind (arith, nat_tests, h)
+
+pub word_prints : (quoted : Bool) (fonts next : Setting Fonts) (text rest : List ℕ) (cells : List Cell) → 0 < length cells → begins_word rest ≡ false
+    → ReadsLetters quoted fonts text next rest cells → PrintsFirst quoted fonts text
+word_prints quoted fonts next text rest cells some ends r = λ column.
+    ap (λ (p : Pen). p.has_cell) (r.pens column (column + length text - length rest) (omega (arith, r.less)))
+    ∙ rw (no_word quoted rest ends) (some_cells (length cells) some)
+
+-- ---- words that were read
+
+-- a run after a blank
+pub front_adds : (style : TextStyle) (fonts : Setting Fonts) (text run rest : List ℕ) (before after : List Cell) → style.is_literal ≡ false → fonts.value.font ≡ R
+    → length run + length rest ≡ length text → BeginsRun style.is_quoted (32 ∷ text) (32 ∷ run) rest
+    → before ≡ letters_in R (32 ∷ []) → after ≡ before ++ letters_in R run → AddsWords style fonts [] (32 ∷ text) fonts after rest
+front_adds style fonts text run rest before after literal roman size begins e k = (
+  letters_in R (32 ∷ run),
+  rw (k, e) refl,
+  run_reads style fonts (32 ∷ text) (32 ∷ run) rest literal roman (omega (arith, size)) begins,
+)
+
+-- a whole text after a blank
+pub roman_adds : (style : TextStyle) (fonts : Setting Fonts) (text : List ℕ) → style.is_literal ≡ false → fonts.value.font ≡ R
+    → begins_word text ≡ true → RunGoesOn style.is_quoted text 0 (length text)
+    → PrintsFirst style.is_quoted fonts text × AddsWords style fonts [] (32 ∷ text) fonts (letters_in R (32 ∷ text)) (drop (length text) text)
+roman_adds style fonts text literal roman begins goes =
+    let all = take_all (length text) text (omega arith) in
+    let run = rw all at (front_to_end style.is_quoted text (length text) begins (omega arith) (omega arith) goes) in
+    let size : length text + length (drop (length text) text) ≡ length text = omega (arith, length-drop (length text) text) in (
+      run_prints style.is_quoted fonts text text (drop (length text) text) begins run,
+      front_adds style fonts text text (drop (length text) text) (letters_in R (32 ∷ [])) (letters_in R (32 ∷ text)) literal roman size run refl refl,
+    )
+
+-- a word after a blank
+pub first_adds : (style : TextStyle) (fonts next : Setting Fonts) (text rest : List ℕ) (before after : List Cell) → style.is_literal ≡ false
+    → begins_word text ≡ true → begins_word rest ≡ false → before ≡ letters_in R (32 ∷ []) → AddsWord style.is_quoted fonts before text next after rest
+    → (length after ≡ 1 → ⊥) → PrintsFirst style.is_quoted fonts text × AddsWords style fonts [] (32 ∷ text) next after rest
+first_adds style fonts next text rest before after literal begins ends e adds more =
+    let cells = adds.0 in
+    let all : after ≡ record { c = 32; font = R } ∷ cells = adds.1 ∙ ap (λ (c : List Cell). c ++ cells) e in
+    let size : length after ≡ suc (length cells) = ap (λ (c : List Cell). length c) all in
+    let has : 0 < length cells = elim (cases_lt 0 (length cells)) [ inl has ↦ has | inr none ↦ absurd (more (omega (arith, size, none))) ] in (
+      word_prints style.is_quoted fonts next text rest cells has ends adds.2,
+      (record { c = 32; font = R } ∷ cells, all, word_reads style fonts text next rest cells literal begins ends has adds.2),
+    )
+
+-- ---- the blank before the text
+
+-- what a word prints does not depend on what was before it
+tokens_same : (quoted : Bool) (place : Place) (pen : Pen) (a b : Bool) (word : List TextToken)
+    → tokens_items quoted place (record pen { is_after_word = a; ends_blank = b }) word ≡ tokens_items quoted place pen word
+tokens_same quoted place pen a b [] = refl
+tokens_same quoted place pen a b (token ∷ word) = rw (tokens_same quoted place (pen_after pen token) a b word) refl
+
+through_same : (pen : Pen) (a b : Bool) (word : List TextToken)
+    → pen_through (record pen { is_after_word = a; ends_blank = b }) word ≡ record (pen_through pen word) { is_after_word = a; ends_blank = b }
+through_same pen a b [] = refl
+through_same pen a b (token ∷ word) = through_same (pen_after pen token) a b word
+
+-- a word after one blank: what it gives
+abbrev blank_gives : Bool → Place → Setting Fonts → ℕ → List TextToken → List Item
+blank_gives quoted place fonts column word =
+    word_notes quoted place word
+    ++ (shown (Blank 1 false) ∷ (tokens_items quoted place (inside fonts column false) word ++ empty_items (pen_through (inside fonts column false) word).has_cell place))
+
+-- the pen in the text's first word
+begun_here : (style : TextStyle) (pen : Pen) → GoesOn style pen
+    → word_begun (gap_after style pen) ≡ record (inside pen.fonts pen.column false) { is_after_word = pen.is_after_word; ends_blank = pen.ends_blank }
+begun_here style pen h = rw (h.gap, h.splits) refl
+
+-- in the text
+here_gives : (style : TextStyle) (line : ℕ) (pen : Pen) (word : List TextToken) → GoesOn style pen
+    → word_items style line false pen word ≡ blank_gives style.is_quoted (at line pen.column) pen.fonts pen.column word
+here_gives style line pen word h =
+    let quoted = style.is_quoted in
+    let place = at line pen.column in
+    let tokens = tokens_same quoted place (inside pen.fonts pen.column false) pen.is_after_word pen.ends_blank word in
+    let through = through_same (inside pen.fonts pen.column false) pen.is_after_word pen.ends_blank word in
+    let body : body_items quoted place (gap_after style pen) word
+    ≡ tokens_items quoted place (inside pen.fonts pen.column false) word ++ empty_items (pen_through (inside pen.fonts pen.column false) word).has_cell place =
+    ap (λ (p : Pen). tokens_items quoted place p word ++ empty_items (pen_through p word).has_cell place) (begun_here style pen h)
+    ∙ ap₂ (λ (i : List Item) (p : Pen). i ++ empty_items p.has_cell place) tokens through in
+    let gap : gap_items style false place pen ≡ shown (Blank 1 false) ∷ [] = rw (h.filled, h.gap) refl in
+    ap₂ (λ (g b : List Item). word_notes quoted place word ++ (g ++ b)) gap body
+
+-- and after a blank of the text
+there_gives : (style : TextStyle) (line : ℕ) (fonts : Setting Fonts) (column : ℕ) (text : List ℕ) → style.is_literal ≡ false → begins_word text ≡ true
+    → spaced_items style line (resting fonts column) (spaced_front style.is_quoted (32 ∷ text))
+    ≡ blank_gives style.is_quoted (at line (column + 1)) fonts (column + 1) (words_of style.is_quoted text).word
+there_gives style line fonts column text literal begins =
+    spaced_word style line (resting fonts column) (32 ∷ text) (32 ∷ []) text 1 (sym (blank_len style.is_quoted text begins)) refl refl begins ∙ rw literal refl
+
+-- a word that prints something ends so
+abbrev ended : Pen → Pen
+ended pen = record pen { gap = 1; is_after_word = true; has_cell = true; ends_blank = false }
+
+ended_is : (before pen : Pen) (a b : Bool) → pen.has_cell ≡ true → word_ended before (record pen { is_after_word = a; ends_blank = b }) ≡ ended pen
+ended_is before pen a b has = rw (has, or_true before.has_cell) refl
+
+-- the pen after it
+here_rests : (style : TextStyle) (pen : Pen) (word : List TextToken) → GoesOn style pen → (pen_through (inside pen.fonts pen.column false) word).has_cell ≡ true
+    → word_after style pen word ≡ word_after style (white_pen style pen.fonts (pen.column - 1)) word
+here_rests style pen word h has =
+    let white = white_pen style pen.fonts (pen.column - 1) in
+    let back : pen.column - 1 + 1 ≡ pen.column = omega (arith, h.column) in
+    let own = inside pen.fonts pen.column false in
+    let through = through_same own pen.is_after_word pen.ends_blank word in
+    let other : word_begun (gap_after style white) ≡ own = rw (h.filled, back) refl in
+    let here : word_after style pen word ≡ ended (pen_through own word) = ap (λ (p : Pen). word_ended (gap_after style pen) (pen_through p word)) (begun_here style pen h)
+    ∙ ap (word_ended (gap_after style pen)) through ∙ ended_is (gap_after style pen) (pen_through own word) pen.is_after_word pen.ends_blank has in
+    let there : word_after style white word ≡ ended (pen_through own word) = ap (λ (p : Pen). word_ended (gap_after style white) (pen_through p word)) other
+    ∙ ended_is (gap_after style white) (pen_through own word) (pen_through own word).is_after_word (pen_through own word).ends_blank has in
+    here ∙ sym there
+
+-- a text gives what it gives with a blank at its front
+text_same : (style : TextStyle) (line : ℕ) (pen : Pen) (text : List ℕ) → GoesOn style pen → begins_word text ≡ true → PrintsFirst style.is_quoted pen.fonts text
+    → text_items style line pen (words_of style.is_quoted text)
+    ≡ others_items style line (resting pen.fonts (pen.column - 1)) (words_of style.is_quoted (32 ∷ text)).others
+text_same style line pen text h begins prints =
+    let quoted = style.is_quoted in
+    let word = (words_of quoted text).word in
+    let c = pen.column - 1 in
+    let back : c + 1 ≡ pen.column = omega (arith, h.column) in
+    let one = blank_len quoted text begins in
+    let rests = after_spaced_word style (resting pen.fonts c) (32 ∷ text) (32 ∷ []) text 1 (sym one) refl refl begins in
+    let there = there_gives style line pen.fonts c text h.filled begins in
+    let others = (words_of quoted text).others in
+    let left : (words_of quoted (drop (token_len quoted (32 ∷ text)) (32 ∷ text))).others ≡ others = ap (λ (n : ℕ). (words_of quoted (drop n (32 ∷ text))).others) one in
+    let here : text_items style line pen (words_of quoted text)
+    ≡ blank_gives quoted (at line pen.column) pen.fonts pen.column word ++ others_items style line (word_after style (white_pen style pen.fonts c) word) others =
+    text_word style line pen text begins
+    ∙ ap₂ (λ (i : List Item) (p : Pen). i ++ others_items style line p others) (here_gives style line pen word h) (here_rests style pen word h (prints pen.column)) in
+    let other : others_items style line (resting pen.fonts c) (words_of quoted (32 ∷ text)).others
+    ≡ blank_gives quoted (at line pen.column) pen.fonts pen.column word ++ others_items style line (word_after style (white_pen style pen.fonts c) word) others =
+    others_more style line (resting pen.fonts c) (32 ∷ text) refl
+    ∙ ap₂ (λ (i : List Item) (p : Pen). i ++ others_items style line p (words_of quoted (drop (token_len quoted (32 ∷ text)) (32 ∷ text))).others)
+    (there ∙ ap (λ (n : ℕ). blank_gives quoted (at line n) pen.fonts n word) back) rests
+    ∙ ap (λ (o : List Spaced). blank_gives quoted (at line pen.column) pen.fonts pen.column word ++ others_items style line (word_after style (white_pen style pen.fonts c) word) o) left in
+    here ∙ sym other
+
+after_same : (style : TextStyle) (pen : Pen) (text : List ℕ) → GoesOn style pen → begins_word text ≡ true → PrintsFirst style.is_quoted pen.fonts text
+    → text_after style pen (words_of style.is_quoted text) ≡ others_after style (resting pen.fonts (pen.column - 1)) (words_of style.is_quoted (32 ∷ text)).others
+after_same style pen text h begins prints =
+    let c = pen.column - 1 in
+    let one = blank_len style.is_quoted text begins in
+    let rests = after_spaced_word style (resting pen.fonts c) (32 ∷ text) (32 ∷ []) text 1 (sym one) refl refl begins in
+    let quoted = style.is_quoted in
+    let word = (words_of quoted text).word in
+    let others = (words_of quoted text).others in
+    let left : (words_of quoted (drop (token_len quoted (32 ∷ text)) (32 ∷ text))).others ≡ others = ap (λ (n : ℕ). (words_of quoted (drop n (32 ∷ text))).others) one in
+    let here : text_after style pen (words_of quoted text) ≡ others_after style (word_after style (white_pen style pen.fonts c) word) others =
+    after_text_word style pen text begins ∙ ap (λ (p : Pen). others_after style p others) (here_rests style pen word h (prints pen.column)) in
+    let other : others_after style (resting pen.fonts c) (words_of quoted (32 ∷ text)).others ≡ others_after style (word_after style (white_pen style pen.fonts c) word) others =
+    after_others_more style (resting pen.fonts c) (32 ∷ text) refl
+    ∙ ap₂ (λ (p : Pen) (o : List Spaced). others_after style p o) rests left in
+    here ∙ sym other
+
+-- ---- words that were read, and are taken
+
+pub front_came : {P S : Type 0} (left : P → S → List Item → Type 0) (style : TextStyle) (line : ℕ) (pen : Pen) (fonts : Setting Fonts) (text rest : List ℕ)
+    (s t u : S) → GoesOn style pen → begins_word text ≡ true → Came left s [] t → GivesFront style pen.fonts text fonts rest (Came left) t u
+    → CameUpTo left s (text_items style line pen (words_of style.is_quoted text))
+    (others_items style line (resting fonts (pen.column + (length text - length rest))) (words_of style.is_quoted rest).others) u
+front_came left style line pen fonts text rest s t u h begins none front = λ plan more k.
+    let after = pen.column + (length text - length rest) in
+    let e : after + length rest ≡ pen.column - 1 + suc (length text) = omega (arith, front.less, h.column) in
+    let g = front.adds.2.gives line (pen.column - 1) after e in
+    let here = text_same style line pen text h begins front.prints ∙ g.3 in
+    front.gives g.0 g.1 (front.adds.1 ∙ sym g.2) plan _ (none plan _ (rw (here, append_assoc) at k))
+
+pub front_pen : {S : Type 0} (gave : S → List Item → S → Type 0) (style : TextStyle) (pen : Pen) (fonts : Setting Fonts) (text rest : List ℕ) (s t : S)
+    → GoesOn style pen → begins_word text ≡ true → GivesFront style pen.fonts text fonts rest gave s t
+    → others_after style (resting fonts (pen.column + (length text - length rest))) (words_of style.is_quoted rest).others
+    ≡ text_after style pen (words_of style.is_quoted text)
+front_pen gave style pen fonts text rest s t h begins front =
+    let after = pen.column + (length text - length rest) in
+    let e : after + length rest ≡ pen.column - 1 + suc (length text) = omega (arith, front.less, h.column) in
+    front.adds.2.pens (pen.column - 1) after e ∙ sym (after_same style pen text h begins front.prints)
+
+-- where they are not taken nothing came
+pub front_left : {P S : Type 0} (left : P → S → List Item → Type 0) (style : TextStyle) (fonts next : Setting Fonts) (text rest : List ℕ) (cells : List Cell)
+    (s t : S) → AddsWords style fonts [] (32 ∷ text) next cells rest → GivesLetters cells false (Came left) s t → Came left s [] t
+front_left left style fonts next text rest cells s t adds gives =
+    let g = adds.2.gives 0 0 (suc (length text) - length rest) (omega (arith, adds.2.less)) in
+    gives g.0 g.1 (adds.1 ∙ sym g.2)
+
+-- ---- no words
+
+pub no_cells : [] ≡ lettered_cells []
+unfolding lettered_cells
+no_cells = refl
+
+pub none_given : {P S : Type 0} (left : P → S → List Item → Type 0) (taken : Bool) (s t : S) → Came left s (if taken then map shown (lettered_pieces []) else []) t
+    → Came left s [] t
+unfolding lettered_pieces
+none_given left true s t h = h
+none_given left false s t h = h
