@@ -72,8 +72,8 @@ impl PieceOut for Taken {
     }
 
     fn give_words(&mut self, text: &[u8], fonts: &[Font]) -> bool {
-        if self.times == 0 {
-            return false;
+        if self.times == 0 || text.is_empty() {
+            return self.times > 0;
         }
         self.times -= 1;
         self.shown.add(b"(");
@@ -87,14 +87,14 @@ impl PieceOut for Taken {
     }
 }
 
-// What a text gives where words are taken so many times, and then the font that is left.
-fn given_by(alloc: Global, style: TextStyle, times: u32, text: &str) -> Taken {
+// What a text gives after some blanks, where words are taken so many times, and then the font that is left.
+fn given_by(alloc: Global, style: TextStyle, times: u32, gap: u32, text: &str) -> Taken {
     let shown = Shown::new(alloc, false);
     let mut out = Taken { shown, times };
     let mut pen = Pen {
         fonts: Context::start(7).fonts,
         column: 1,
-        gap: 1,
+        gap,
         is_after_word: true,
         has_cell: false,
         is_cut: false,
@@ -112,36 +112,51 @@ fn check_bytes(rt: &impl Abort, got: &[u8], wanted: &[u8]) {
     assert_eq!(rt; got, wanted);
 }
 
-// Texts, how often words of them are taken, and what they give.
-const TEXTS: [(TextStyle, u32, &str, &str); 17] = [
-    (LINE, 9, "a b cd", "1[a](R b cd)R"),
+// Texts after one blank, how often words of them are taken, and what they give.
+const TEXTS: [(TextStyle, u32, &str, &str); 20] = [
+    (LINE, 9, "a b cd", "(R a b cd)R"),
     (LINE, 0, "a b cd", "1[a]1[b]1[cd]R"),
-    (LINE, 9, "a \\fBb\\fP c", "1[a](R BbR c)R"),
+    (LINE, 9, "abc", "(R abc)R"),
+    (LINE, 9, "a \\fBb\\fP c", "(R a BbR c)R"),
     (LINE, 0, "a \\fBb\\fP c", "1[a]1B[b]1[c]R"),
-    (LINE, 9, "a \\fBb", "1[a](R Bb)B"),
-    (LINE, 9, "\\fBa b c", "1B[a](R BbR Bc)B"),
-    (LINE, 9, "a b\\-c\\&d \\e", "1[a](R b-cd \\)R"),
-    (LINE, 9, "a b-c d e", "1[a]1[b-]|[c](R d e)R"),
-    (LINE, 9, "a \\fBb-c\\fP d e", "1[a]1B[b-]|B[c](R d e)R"),
-    (LINE, 9, "a \\fB\\fP b", "1[a]1[](R b)R"),
-    (LINE, 9, "a b  c d", "1[a](R b)1[c](R d)R"),
-    (LINE, 9, "a \\(bu b c", "1[a]1bu(R b c)R"),
-    (LINE, 9, "a \\fQb c", "1[a]!UnknownFont Q;1[b](R c)R"),
-    (LINE, 9, "a b\\c", "1[a]1[b]R"),
+    (LINE, 9, "a \\fBb", "(R a Bb)B"),
+    (LINE, 9, "\\fBa b c", "(R BaR BbR Bc)B"),
+    (LINE, 9, "a b\\-c\\&d \\e", "(R a b-cd \\)R"),
+    (LINE, 9, "a b-c d e", "(R a)1[b-]|[c](R d e)R"),
+    (LINE, 9, "a-b c", "1[a-]|[b](R c)R"),
+    (LINE, 9, "a \\fBb-c\\fP d e", "(R a)1B[b-]|B[c](R d e)R"),
+    (LINE, 9, "a \\fB\\fP b", "(R a)1[](R b)R"),
+    (LINE, 9, "\\& b", "1[]1[b]R"),
+    (LINE, 9, "a b  c d", "(R a b)1[c](R d)R"),
+    (LINE, 9, "a \\(bu b c", "(R a)1bu(R b c)R"),
+    (LINE, 9, "a \\fQb c", "(R a)!UnknownFont Q;1[b](R c)R"),
+    (LINE, 9, "a b\\c", "(R a)1[b]R"),
     (
         LINE,
         1,
         "a \\fIb\\fP c-d \\fIe\\fP f g",
-        "1[a](R Ib)1[c-]|[d]1I[e]1[f]1[g]R",
+        "(R a Ib)1[c-]|[d]1I[e]1[f]1[g]R",
     ),
-    (QUOTED, 9, "a \"\"\\fBb\\fP\"\" c", "1[a](R \"BbR\" c)R"),
+    (QUOTED, 9, "a \"\"\\fBb\\fP\"\" c", "(R a \"BbR\" c)R"),
     (KEPT, 9, "a b", "[ ][a][ ][b]R"),
+];
+
+// Texts that do not come after one blank: the blanks before them, and what they give.
+const FIRST: [(u32, &str, &str); 4] = [
+    (0, "a b cd", "[a](R b cd)R"),
+    (2, "a b cd", "2[a](R b cd)R"),
+    (2, "a \\fBb\\fP c", "2[a](R BbR c)R"),
+    (2, "\\fBa\\fP b", "2B[a](R b)R"),
 ];
 
 #[test]
 fn words_at_once(rt: HostRuntime) -> Result<(), Fail> {
     for (style, times, text, wanted) in TEXTS {
-        let given = given_by(rt.alloc(), style, times, text);
+        let given = given_by(rt.alloc(), style, times, 1, text);
+        check_bytes(&rt, given.shown.text(), wanted.as_bytes());
+    }
+    for (gap, text, wanted) in FIRST {
+        let given = given_by(rt.alloc(), LINE, 9, gap, text);
         check_bytes(&rt, given.shown.text(), wanted.as_bytes());
     }
     Ok(())
