@@ -1,9 +1,9 @@
 #!/usr/bin/env python3
 """Times ./mandoc on pages of paragraphs, plain and with fonts, or on given pages (usage: bench/run pages [RUNS [PAGE...]]).
 
-A PAGE may be compressed by gzip. Each page is formatted RUNS times (default 5), by start.c. Where a `mandoc` is on the PATH it is run in turn
-with ours, and its time over ours is printed, above 1 ours is faster: the time that passes and the time of the processor, the least of all runs
-and the median. Times hold for one machine in one run only.
+A PAGE may be compressed by gzip. Each page is formatted RUNS times (default 5), by start.c, with -T ascii or the output that the variable OUTPUT
+names, such as lint. Where a `mandoc` is on the PATH it is run in turn with ours, and its time over ours is printed, above 1 ours is faster: the time
+that passes and the time of the processor, the least of all runs and the median. Times hold for one machine in one run only.
 """
 import gzip
 import os
@@ -13,6 +13,7 @@ import sys
 import tempfile
 import time
 
+OUTPUT = ["-T", os.environ.get("OUTPUT", "ascii")]
 SIZES = (10_000, 100_000, 1_000_000, 10_000_000)
 WORDS = "the page request of a macro in its scope fills glyphs and escapes registers or diversions with rows that columns hold".split()
 
@@ -114,12 +115,12 @@ def main():
             name = f"{room}/page"
             with open(name, "wb") as file:
                 written = file.write(text)
-            ours, *others = times_in_turn(start, runs, name, [["./mandoc"]] + ([[other, "-T", "ascii"]] if other else []))
-            line = f"{kind} {written:8} {written / ours[0] / 1e3:8.1f} {peak_of(['./mandoc'], name):>14}"
+            ours, *others = times_in_turn(start, runs, name, [["./mandoc", *OUTPUT]] + ([[other, *OUTPUT]] if other else []))
+            line = f"{kind} {written:8} {written / ours[0] / 1e3:8.1f} {peak_of(['./mandoc', *OUTPUT], name):>14}"
             for theirs in others:
                 passed, median, used, median_used = (their / our for their, our in zip(theirs, ours))
                 line += f" {passed:13.2f} {used:10.2f} {median:14.2f} {median_used:10.2f}"
-                line += f" {peak_of([other, '-T', 'ascii'], name):>20}"
+                line += f" {peak_of([other, *OUTPUT], name):>20}"
             print(line)
 
 

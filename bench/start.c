@@ -49,8 +49,8 @@ static struct times run(char **words, posix_spawn_file_actions_t *streams)
     if (posix_spawn(&child, words[0], streams, NULL, words, environ) || wait4(child, &status, 0, &usage) < 0)
         stop("a program cannot be started");
     double passed = now() - begun;
-    if (status)
-        stop("a program ended with another status than 0");
+    if (!WIFEXITED(status) || WEXITSTATUS(status) > 4) // (up to 4: the worst level of the messages under lint)
+        stop("a program ended by a signal, or with a status above 4");
     return (struct times){passed, milliseconds(usage.ru_utime) + milliseconds(usage.ru_stime)};
 }
 
