@@ -1,5 +1,4 @@
 //! What ends a function, of `Fn` or of `Fo` (mdoc(7), "MACRO REFERENCE").
-
 ghost use Rattle.std.specs.Prelude.{◌≡◌};
 ghost use Rattle.page_scopes_phrases.specs.FunctionEnds as ends;
 ghost use Rattle.page_scopes_phrases.specs.LineWords.{own_word};

@@ -1,5 +1,4 @@
 //! The name of the manual as it is kept, with what is known of its tokens: it may be printed many times (mdoc(7), `Nm`).
-
 ghost use Rattle.std.specs.Prelude.{◌≡◌, ◌≤◌, length, false};
 ghost use Rattle.page_core_escapes.specs.Tokens.{token_bytes, token_view, tokens_of};
 ghost use Rattle.page_scopes_phrases.specs.KeptTexts as kept;

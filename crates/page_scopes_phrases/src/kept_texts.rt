@@ -1,5 +1,4 @@
 //! Texts that are kept of an argument and printed later: the target of a link and the name of the manual (man(7), `UR`, `MT`; mdoc(7), `Nm`).
-
 ghost use Rattle.std.specs.Prelude.{◌≡◌, ◌≤◌, length};
 ghost use Rattle.page_core_base.specs.declared.limits.TheConstants.{FIELD};
 

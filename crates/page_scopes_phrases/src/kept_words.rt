@@ -1,5 +1,4 @@
 //! What a kept text prints, wherever it is printed (man(7), `UR`, `MT`; mdoc(7), `Nm`).
-
 ghost use Rattle.std.specs.Prelude.{◌≡◌, ◌≤◌, ◌<◌, ◌+◌, ◌∷◌, ◌++◌, [], length, false, if◌then◌else◌};
 ghost use Rattle.page_core_base.specs.Latches.{Came, CameUpTo};
 ghost use Rattle.page_core_base.specs.Pieces.{shown};

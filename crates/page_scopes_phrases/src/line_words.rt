@@ -1,5 +1,4 @@
 //! Words of a line, and words that a macro prints itself (man(7), mdoc(7); roff(7), "Macro syntax").
-
 ghost use Rattle.std.specs.Prelude.{◌≡◌};
 ghost use Rattle.page_core_base.specs.Latches.{Came};
 ghost use Rattle.page_roff_syntax.specs.Arguments.{argument_view};

@@ -1,5 +1,4 @@
 //! The name of the manual: the first word of the first `Nm` that has one, which each `Nm` without words prints (mdoc(7), `Nm`).
-
 ghost use Rattle.std.specs.Prelude.{◌≡◌, [], Some};
 ghost use Rattle.page_core_base.specs.Latches.{Came};
 ghost use Rattle.page_roff_syntax.specs.Arguments.{argument_view};

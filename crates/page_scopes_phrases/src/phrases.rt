@@ -1,5 +1,4 @@
 //! Texts that events print: their fonts, and how they are beside the words around them (man(7), `B`, `BR`).
-
 ghost use Rattle.std.specs.Prelude.{◌≡◌, ◌≤◌, ◌&&◌, length, not};
 ghost use Rattle.page_core_base.specs.declared.limits.TheConstants.{LINE};
 ghost use Rattle.page_sets_lines.specs.Fits.{FitsAt};

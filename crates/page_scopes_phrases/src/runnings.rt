@@ -1,5 +1,4 @@
 //! What no scope restores: what is known along a page, and of its line so far (man(7); roff(7), "Sentences").
-
 ghost use Rattle.std.specs.Prelude.{◌≡◌};
 ghost use Rattle.page_scopes_phrases.specs.Runnings as runnings;
 
