@@ -91,13 +91,20 @@ pub record Untouched {R N : Type 0} (source_before source_after : SourceState) (
 -- Why a run over a source stopped, by its fault: nothing was touched, a read failed, there was too much, or a sink failed.
 abbrev pub StoppedBy : {R N : Type 0} → Sinks R N → (source_before source_after : SourceState) → (rows_before rows_after : R)
     → (notes_before notes_after : N) → PageSettings → (asked : ℕ) → (bytes : List ℕ) → Fault → Type 0
-StoppedBy k a b r r' n n' settings asked bytes Memory = Untouched a b r r' n n'
-StoppedBy k a b r r' n n' settings asked bytes Read = Rose a.failed b.failed
-StoppedBy k a b r r' n n' settings asked bytes TooLong = IsTooLong asked bytes
-StoppedBy k a b r r' n n' settings asked bytes WriteText = Broken k r r' n n' settings bytes WriteText
-StoppedBy k a b r r' n n' settings asked bytes WriteNotes = Broken k r r' n n' settings bytes WriteNotes
-StoppedBy k a b r r' n n' settings asked bytes (Settings fault) = Untouched a b r r' n n'
-StoppedBy k a b r r' n n' settings asked bytes _ = ⊥
+StoppedBy sinks source_before source_after rows_before rows_after notes_before notes_after settings asked bytes Memory =
+    Untouched source_before source_after rows_before rows_after notes_before notes_after
+StoppedBy sinks source_before source_after rows_before rows_after notes_before notes_after settings asked bytes Read =
+    Rose source_before.failed source_after.failed
+StoppedBy sinks source_before source_after rows_before rows_after notes_before notes_after settings asked bytes TooLong =
+    IsTooLong asked bytes
+StoppedBy sinks source_before source_after rows_before rows_after notes_before notes_after settings asked bytes WriteText =
+    Broken sinks rows_before rows_after notes_before notes_after settings bytes WriteText
+StoppedBy sinks source_before source_after rows_before rows_after notes_before notes_after settings asked bytes WriteNotes =
+    Broken sinks rows_before rows_after notes_before notes_after settings bytes WriteNotes
+StoppedBy sinks source_before source_after rows_before rows_after notes_before notes_after settings asked bytes (Settings fault) =
+    Untouched source_before source_after rows_before rows_after notes_before notes_after
+StoppedBy sinks source_before source_after rows_before rows_after notes_before notes_after settings asked bytes _ =
+    ⊥
 
 -- nothing failed
 pub record Quiet {R N : Type 0} (sinks : Sinks R N) (source_before source_after : SourceState)
