@@ -93,17 +93,18 @@ word_letters (piece ∷ pieces) = letters_of piece ++ word_letters pieces
 abbrev pub is_lettered_word : List (Piece (List ℕ)) → Bool
 is_lettered_word word = nat_lt 0 (length word) && list_all is_lettered word
 
--- words with a blank before each: their cells, and their pieces
+-- words with a blank before each: their cells
 unfoldable pub lettered_cells : List (List (Piece (List ℕ))) → List Cell
 lettered_cells [] = []
 lettered_cells (word ∷ words) = record { c = 32; font = R } ∷ (word_letters word ++ lettered_cells words)
 
-unfoldable pub lettered_pieces : List (List (Piece (List ℕ))) → List (Piece (List ℕ))
-lettered_pieces [] = []
-lettered_pieces (word ∷ words) = Blank 1 false ∷ (word ++ lettered_pieces words)
+-- their pieces, where so many blanks are before the first one and one before each other
+unfoldable pub lettered_pieces : ℕ → List (List (Piece (List ℕ))) → List (Piece (List ℕ))
+lettered_pieces blanks [] = []
+lettered_pieces blanks (word ∷ words) = Blank blanks false ∷ (word ++ lettered_pieces 1 words)
 
--- these characters, each in its font, are words of letters with a blank before each, and a call took all of them, or none
-abbrev pub TakesWords : {S : Type 0} → List ℕ → List Font → Bool → (S → List Item → S → Type 0) → S → S → Type 0
-TakesWords {S} text fonts taken gave s t =
+-- these characters, each in its font, are words of letters with a blank before each, and a call took all of them after so many blanks, or none
+abbrev pub TakesWords : {S : Type 0} → ℕ → List ℕ → List Font → Bool → (S → List Item → S → Type 0) → S → S → Type 0
+TakesWords {S} blanks text fonts taken gave s t =
     (words : List (List (Piece (List ℕ)))) → list_all is_lettered_word words ≡ true → cells_in text fonts ≡ lettered_cells words
-    → gave s (if taken then map shown (lettered_pieces words) else []) t
+    → gave s (if taken then map shown (lettered_pieces blanks words) else []) t

@@ -35,12 +35,14 @@ pub trait PieceOut {
         }
     }
 
-    /// Takes words at once, each after one blank: each byte is a letter of them, in the font beside it. Says whether it took them; else nothing
-    /// changes. Of any other text nothing is promised.
-    fn give_words(&mut self, text: &[u8], fonts: &[Font]) -> bool
+    /// Takes words at once, the first after a count of blanks and each other after one. Each byte of the text is a letter of them, in the font
+    /// beside it, and one blank is before each word, also before the first. Says whether it took them; else nothing changes. Of any other text
+    /// nothing is promised.
+    fn give_words(&mut self, blanks: u32, text: &[u8], fonts: &[Font]) -> bool
         requires { length fonts.now ≡ length text.now }
-        ensures { TakesWords text.now fonts.now result (Came left) self.old self.new }
+        ensures { TakesWords blanks text.now fonts.now result (Came left) self.old self.new }
     {
+        let _ = blanks;
         let _ = text;
         let _ = fonts;
         false
@@ -103,11 +105,11 @@ impl<O: PieceSink> PieceOut for PieceLatch<'_, O> {
 
     // After a fault all words count as taken.
     #[inline(always)]
-    fn give_words(&mut self, text: &[u8], fonts: &[Font]) -> bool {
+    fn give_words(&mut self, blanks: u32, text: &[u8], fonts: &[Font]) -> bool {
         if self.fault.is_some() {
             return true;
         }
-        match self.out.take_words(text, fonts) {
+        match self.out.take_words(blanks, text, fonts) {
             Ok(taken) => taken,
             Err(fault) => {
                 self.fault = Some(fault);

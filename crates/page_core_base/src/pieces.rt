@@ -100,15 +100,17 @@ pub trait PieceSink: NoteSink {
         Ok(())
     }
 
-    /// Takes words at once, each after one blank: each byte is a letter of them, in the font beside it. Says whether it took them; else nothing
-    /// changes. Of any other text nothing is promised. A sink that says nothing of it takes none. Its faults are those of [`PieceSink::piece`].
-    fn take_words(&mut self, text: &[u8], fonts: &[Font]) -> Result<bool, Fault>
+    /// Takes words at once, the first after a count of blanks and each other after one. Each byte of the text is a letter of them, in the font
+    /// beside it, and one blank is before each word, also before the first. Says whether it took them; else nothing changes. Of any other text
+    /// nothing is promised. A sink that says nothing of it takes none. Its faults are those of [`PieceSink::piece`].
+    fn take_words(&mut self, blanks: u32, text: &[u8], fonts: &[Font]) -> Result<bool, Fault>
         requires { length fonts.now ≡ length text.now }
-        ensures takes { MatchResult result (λ taken. TakesWords text.now fonts.now taken took self.old self.new)
-            (λ fault. TakesWords text.now fonts.now true (λ s items t. broke s fault items t) self.old self.new) }
+        ensures takes { MatchResult result (λ taken. TakesWords blanks text.now fonts.now taken took self.old self.new)
+            (λ fault. TakesWords blanks text.now fonts.now true (λ s items t. broke s fault items t) self.old self.new) }
         ensures faults { FailsByPieces result (row_failed self.old) (row_failed self.new) (Self.failed self.old) (Self.failed self.new) }
         ensures same { Self.loans self.new ≡ Self.loans self.old }
     {
+        let _ = blanks;
         let _ = text;
         let _ = fonts;
         Ok(false)
