@@ -1,6 +1,6 @@
 use Rattle.std.proofs.Common.{◌≡◌, ◌+◌, suc, length, ◌∙◌, arith}
 use Rattle.page_scopes_words.proofs.LetterCellLemmas.{blank_letters}
-use Rattle.page_scopes_words.proofs.letters.give_after_blank.Goals as goal
+use Rattle.page_scopes_words.proofs.letters.give_after_blanks.Goals as goal
 
 pub returns : goal.returns
 returns g c = λ words are cells.
