@@ -84,11 +84,11 @@ unfoldable pub use Rattle.page_scopes_phrases.specs.ManualNames.{missing_name as
 unfoldable pub use Rattle.page_scopes_tree.specs.Layouts.{settled as u290, edge as u291}
 unfoldable pub use Rattle.page_scopes_tree.specs.Placements.{opener_placement as u292, line_placement as u293, opener_skips as u294}
 unfoldable pub use Rattle.page_scopes_words.specs.Widths.{named_width as u295, is_expression as u296}
-unfoldable pub use Rattle.page_sets_lines.specs.Lists.{headed_kind as u297, headless_kind as u298, option_named as u299}
-unfoldable pub use Rattle.page_sets_lines.specs.PlainLines.{layout_request as u300}
-unfoldable pub use Rattle.page_sets_man.specs.Man.{man_events as u301}
-unfoldable pub use Rattle.page_sets_man.specs.Rows.{macro_row as u302}
-unfoldable pub use Rattle.page_sets_mdoc.specs.Mdoc.{mdoc_events as u303}
+unfoldable pub use Rattle.page_sets.specs.Man.{man_events as u297}
+unfoldable pub use Rattle.page_sets.specs.ManRows.{macro_row as u298}
+unfoldable pub use Rattle.page_sets.specs.Mdoc.{mdoc_events as u299}
+unfoldable pub use Rattle.page_sets_lines.specs.Lists.{headed_kind as u300, headless_kind as u301, option_named as u302}
+unfoldable pub use Rattle.page_sets_lines.specs.PlainLines.{layout_request as u303}
 unfoldable pub use Rattle.page_sets_mdoc_blocks.specs.Displays.{display_type as u304, font_named as u305}
 unfoldable pub use Rattle.page_sets_mdoc_lines.specs.Delimiters.{delimiter_of as u306}
 unfoldable pub use Rattle.page_sets_mdoc_lines.specs.LineWords.{word_delimiter as u307, word_call as u308, is_closing as u309, is_real as u310, takes_next as u311}
