@@ -1,6 +1,8 @@
 -- Texts that begin with words of letters, after blanks: they give what they would give with one blank at their front, but for the count of the blanks.
-use Rattle.std.proofs.Common.{◌≡◌, ℕ, zero, suc, ◌+◌, ◌-◌, ◌<◌, ◌≤◌, Bool, true, false, not, ◌||◌, List, [], ◌∷◌, ◌++◌, length, map, take, drop, get_or, refl, ap, ap₂, sym, ◌∙◌, append_assoc, inl, inr, arith}
+use Rattle.std.proofs.Common.{◌≡◌, ℕ, zero, suc, ◌+◌, ◌-◌, ◌<◌, ◌≤◌, Bool, true, false, not, ◌||◌, List, [], ◌∷◌, ◌++◌, length, map, take, drop, get_or, refl, ap, ap₂, sym, ◌∙◌, append-nil, append_assoc, inl, inr, arith}
 use Rattle.std.specs.Prelude.{◌==◌, nat_lt, if◌then◌else◌}
+use Rattle.std.specs.List.{list_all}
+use Rattle.std.proofs.lemmas.List.Folds.{list_all-append}
 use Rattle.std.proofs.lemmas.List.{length-drop, take_all}
 use Rattle.std.proofs.lemmas.Bool.{cases_lt}
 use Rattle.std.proofs.lemmas.Bool.Decides.{nat_tests}
@@ -8,6 +10,7 @@ use Rattle.page_core_base.specs.Latches.{Came, CameUpTo}
 use Rattle.page_core_base.specs.Pieces.{Item, shown}
 use Rattle.page_core_base.specs.Words.{blank_words, lettered_cells, lettered_pieces}
 use Rattle.page_core_base.specs.declared.cells.Cell.{Cell}
+use Rattle.page_core_base.specs.declared.cells.Font.{Font}
 use Rattle.page_core_base.specs.declared.cells.Font.TheVariants.{R}
 use Rattle.page_core_base.specs.declared.pieces.Piece.{Piece}
 use Rattle.page_core_base.specs.declared.pieces.Piece.TheVariants.{Blank}
@@ -18,9 +21,10 @@ use Rattle.page_scopes_words.specs.declared.fonts.Fonts.{Fonts}
 use Rattle.page_scopes_words.specs.declared.settings.Setting.{Setting}
 use Rattle.page_scopes_words.specs.machine.Letters.{GivesLetters, letters_in}
 use Rattle.page_scopes_words.specs.machine.RunEnds.{GoesOn as RunGoesOn, ends_run, ends_run_at}
-use Rattle.page_scopes_text.proofs.LetteredWordLemmas.{run_reads, white_pen, word_reads}
+use Rattle.page_scopes_text.proofs.LetteredWordLemmas.{run_reads, run_reads_as, white_pen, word_reads}
 use Rattle.page_scopes_text.proofs.PartedLemmas.{no_word, spaced_more}
 use Rattle.page_scopes_text.proofs.PlainWordLemmas.{blank_len}
+use Rattle.page_scopes_text.proofs.RomanRunLemmas.{run_words}
 use Rattle.page_scopes_text.proofs.RunWordLemmas.{run_to_blank, run_to_end}
 use Rattle.page_scopes_text.proofs.TextLemmas.{after_others_more, after_spaced_word, after_text_word, others_more, spaced_word, text_word}
 use Rattle.page_scopes_text.specs.Parted.{Parted, Spaced, spaced_front, words_of}
@@ -125,6 +129,44 @@ roman_adds style fonts text literal roman begins goes =
     let size : length text + length (drop (length text) text) ≡ length text = omega (arith, length-drop (length text) text) in (
       run_prints style.is_quoted fonts text text (drop (length text) text) begins run,
       front_adds style fonts text text (drop (length text) text) (letters_in R (32 ∷ [])) (letters_in R (32 ∷ text)) literal roman size run refl refl,
+    )
+
+-- a text that is one word is the only word of a run
+one_word : (text : List ℕ) (words : List (List ℕ)) → list_all (λ byte. not (byte == 32)) text ≡ true → 32 ∷ text ≡ blank_words words → words ≡ text ∷ []
+unfolding blank_words
+one_word text [] all e = let no : ⊥ = cc in absurd no
+one_word text (word ∷ []) all e = ap (λ (bytes : List ℕ). bytes ∷ []) (sym (ap (drop 1) e ∙ append-nil word))
+one_word text (word ∷ more ∷ words) all e =
+    let both = list_all-append (λ byte. not (byte == 32)) word (32 ∷ (more ++ blank_words words)) in
+    let same : text ≡ word ++ 32 ∷ (more ++ blank_words words) = ap (drop 1) e in
+    let none : list_all (λ byte. not (byte == 32)) (word ++ 32 ∷ (more ++ blank_words words)) ≡ true = rw same at all in
+    absurd (grind (arith, both, none))
+
+-- its letters in a font
+word_cells : (font : Font) (place : Place) (text : List ℕ) → lettered_cells (run_words font place (text ∷ [])) ≡ record { c = 32; font = R } ∷ letters_in font text
+unfolding lettered_cells
+word_cells font place text =
+    ap (λ (cells : List Cell). record { c = 32; font = R } ∷ cells) (append-nil (letters_in font text ++ []) ∙ append-nil (letters_in font text))
+
+-- a whole text that is one word, after a blank
+pub font_adds : (style : TextStyle) (fonts : Setting Fonts) (text : List ℕ) → style.is_literal ≡ false → begins_word text ≡ true
+    → list_all (λ byte. not (byte == 32)) text ≡ true → RunGoesOn style.is_quoted text 0 (length text)
+    → PrintsFirst style.is_quoted fonts text
+    × AddsWords style fonts [] (32 ∷ text) fonts (record { c = 32; font = R } ∷ letters_in fonts.value.font text) (drop (length text) text)
+font_adds style fonts text literal begins one goes =
+    let all = take_all (length text) text (omega arith) in
+    let run : BeginsRun style.is_quoted (32 ∷ text) (32 ∷ text) (drop (length text) text) =
+    rw all at (front_to_end style.is_quoted text (length text) begins (omega arith) (omega arith) goes) in
+    let size : length (32 ∷ text) + length (drop (length text) text) ≡ length (32 ∷ text) = omega (arith, length-drop (length text) text) in
+    let only = one_word text run.0 one run.1.bytes in
+    let cells : List Cell = record { c = 32; font = R } ∷ letters_in fonts.value.font text in (
+      run_prints style.is_quoted fonts text text (drop (length text) text) begins run,
+      (
+        cells,
+        refl,
+        run_reads_as style fonts (32 ∷ text) (32 ∷ text) (drop (length text) text) cells literal size run
+            (λ place. ap (λ (words : List (List ℕ)). lettered_cells (run_words fonts.value.font place words)) only ∙ word_cells fonts.value.font place text),
+      ),
     )
 
 -- a word after a blank

@@ -12,6 +12,7 @@ use Rattle.page_core_base.specs.declared.cells.Cell.{Cell}
 use Rattle.page_core_base.specs.declared.cells.Font.TheVariants.{R}
 use Rattle.page_core_base.specs.declared.pieces.Piece.{Piece}
 use Rattle.page_core_base.specs.declared.pieces.Piece.TheVariants.{Blank}
+use Rattle.page_core_base.specs.declared.places.Place.{Place}
 use Rattle.page_core_escapes.specs.Tokens.{TextToken, begins_word, token_len}
 use Rattle.page_scopes_words.specs.Words.{at}
 use Rattle.page_scopes_words.specs.declared.settings.Setting.{Setting}
@@ -116,9 +117,12 @@ word_reads style fonts tail next rest cells literal begins ends some r =
 
 -- ---- a run of roman words
 
-pub run_reads : (style : TextStyle) (fonts : Setting Fonts) (text run rest : List ℕ) → style.is_literal ≡ false → fonts.value.font ≡ R
-    → length run + length rest ≡ length text → BeginsRun style.is_quoted text run rest → ReadsWords style fonts text fonts rest (letters_in R run)
-run_reads style fonts text run rest literal roman size begins =
+-- a run whose words are these cells
+pub run_reads_as : (style : TextStyle) (fonts : Setting Fonts) (text run rest : List ℕ) (cells : List Cell) → style.is_literal ≡ false
+    → length run + length rest ≡ length text → (begins : BeginsRun style.is_quoted text run rest)
+    → ((place : Place) → lettered_cells (run_words fonts.value.font place begins.0) ≡ cells) → ReadsWords style fonts text fonts rest cells
+run_reads_as style fonts text run rest cells literal size begins are =
+    let font = fonts.value.font in
     let words = begins.0 in
     let r = begins.1 in
     let others = (words_of style.is_quoted rest).others in
@@ -129,11 +133,10 @@ run_reads style fonts text run rest literal roman size begins =
       gives = λ line column after e.
           let place = at line column in
           let columns : column + length (blank_words words) ≡ after = omega (arith, e, size, len) in
-          let items : run_word_items fonts.value.font place words ≡ map shown (lettered_pieces 1 (run_words R place words)) =
-          ap (λ f. run_word_items f place words) roman ∙ run_pieces R place words r.are in (
-            run_words R place words,
-            run_lettered R place words r.are,
-            sym (words_cells place words) ∙ ap (letters_in R) (sym r.bytes),
+          let items : run_word_items font place words ≡ map shown (lettered_pieces 1 (run_words font place words)) = run_pieces font place words r.are in (
+            run_words font place words,
+            run_lettered font place words r.are,
+            are place,
             ap (others_items style line (resting fonts column)) r.others ∙ run_items style line fonts column words others literal
                 ∙ ap₂ (λ (i : List Item) (n : ℕ). i ++ others_items style line (resting fonts n) others) items columns,
           );
@@ -142,6 +145,12 @@ run_reads style fonts text run rest literal roman size begins =
           sym (ap (others_after style (resting fonts column)) r.others ∙ run_after style fonts column words others
           ∙ ap (λ (n : ℕ). others_after style (resting fonts n) others) columns);
     }
+
+pub run_reads : (style : TextStyle) (fonts : Setting Fonts) (text run rest : List ℕ) → style.is_literal ≡ false → fonts.value.font ≡ R
+    → length run + length rest ≡ length text → BeginsRun style.is_quoted text run rest → ReadsWords style fonts text fonts rest (letters_in R run)
+run_reads style fonts text run rest literal roman size begins =
+    run_reads_as style fonts text run rest (letters_in R run) literal size begins
+    (λ place. ap (λ f. lettered_cells (run_words f place begins.0)) roman ∙ sym (words_cells place begins.0) ∙ ap (letters_in R) (sym begins.1.bytes))
 
 -- ---- words, one after another
 

@@ -1,6 +1,7 @@
 //! Texts that begin with words of letters, after blanks: their first words are given at once (roff(7), "LANGUAGE SYNTAX").
 
-ghost use Rattle.std.specs.Prelude.{◌≡◌, ◌≤◌, ◌<◌, ◌+◌, ◌∷◌, false, true, [], drop, length, take, IfSome, MatchOption};
+ghost use Rattle.std.specs.Prelude.{◌≡◌, ◌≤◌, ◌<◌, ◌+◌, ◌==◌, ◌∷◌, not, false, true, [], drop, length, take, IfSome, MatchOption};
+ghost use Rattle.std.specs.List.{list_all};
 ghost use Rattle.page_core_base.specs.Latches.{Came, CameUpTo};
 ghost use Rattle.page_core_escapes.specs.Tokens.{begins_word};
 ghost use Rattle.page_scopes_text.specs.Parted.{words_of};
@@ -17,7 +18,8 @@ use crate::lettered_words::{read_letters, read_words};
 use crate::{Pen, TextStyle};
 use page_core_base::{Font, LINE, PieceOut};
 use page_scopes_words::{
-    Fonts, Letters, ROOM, Setting, blank_before, give_after_blanks, going_len, roman_fonts,
+    Fonts, Letters, ROOM, Setting, WORD_ROOM, blank_before, give_after_blanks, give_short_word,
+    going_len, is_plain_word, roman_fonts,
 };
 
 // Whether blanks are before the next word, which may be parted, in rows that are filled.
@@ -66,6 +68,38 @@ fn give_roman<'a, O: PieceOut>(
         (λ rest. GivesFront style pen.now text.now pen.now.fonts rest.now (Came O.left) out.old out.new) }
 {
     if !give_after_blanks(out, pen.gap, text) {
+        return None;
+    }
+    Some(&text[text.len()..])
+}
+
+// Whether a text is one short word in another font than the roman one, and prints itself.
+#[inline(always)]
+fn is_font_word(quoted: bool, font: Font, text: &[u8]) -> bool
+    ensures short { result ≡ true → length text.now < WORD_ROOM }
+    ensures word { result ≡ true → list_all (λ byte. not (byte == 32)) text.now ≡ true }
+    ensures goes { result ≡ true → RunGoesOn quoted text.now 0 (length text.now) }
+{
+    !matches!(font, Font::R) && text.len() < WORD_ROOM && is_plain_word(quoted, text)
+}
+
+// Gives a text that is one short word, and prints itself, at the pen: what is left of it, which is nothing.
+#[inline(always)]
+fn give_font_word<'a, O: PieceOut>(
+    out: &mut O,
+    style: TextStyle,
+    pen: &Pen,
+    text: &'a [u8],
+) -> Option<&'a [u8]>
+    requires literal { style.is_literal ≡ false }
+    requires short { length text.now < WORD_ROOM }
+    requires word { begins_word text.now ≡ true }
+    requires one { list_all (λ byte. not (byte == 32)) text.now ≡ true }
+    requires goes { RunGoesOn style.is_quoted text.now 0 (length text.now) }
+    ensures { MatchOption result (Came O.left out.old [] out.new)
+        (λ rest. GivesFront style pen.now text.now pen.now.fonts rest.now (Came O.left) out.old out.new) }
+{
+    if !give_short_word(out, pen.gap, pen.fonts.value.font, text) {
         return None;
     }
     Some(&text[text.len()..])
@@ -191,6 +225,10 @@ fn give_front<'a, O: PieceOut>(
     ensures { MatchOption result (Came O.left out.old [] out.new)
         (λ found. GivesFront style pen.now text.now found.0 found.1.now (Came O.left) out.old out.new) }
 {
+    if is_font_word(style.is_quoted, pen.fonts.value.font, text) {
+        let rest = give_font_word(out, style, pen, text)?;
+        return Some((pen.fonts, rest));
+    }
     let len = roman_len(style.is_quoted, pen.fonts, text);
     if len == text.len() && len < ROOM {
         let rest = give_roman(out, style, pen, text)?;

@@ -1,7 +1,7 @@
 -- Letters as bytes and fonts, each in its place.
 use Rattle.std.proofs.Common.{◌≡◌, ℕ, zero, suc, ◌+◌, ◌≤◌, List, [], ◌∷◌, ◌++◌, length, take, drop, replicate, refl, ap, ap₂, sym, ◌∙◌, append_assoc, length-append, arith}
 use Rattle.std.proofs.Math.Seq.{take-append_seam}
-use Rattle.std.proofs.lemmas.List.{length-replicate, length-take-le}
+use Rattle.std.proofs.lemmas.List.{length-replicate, length-take-le, take-replicate}
 use Rattle.page_core_base.specs.Rows.{cells_in}
 use Rattle.page_core_base.specs.declared.cells.Cell.{Cell}
 use Rattle.page_core_base.specs.declared.cells.Font.{Font}
@@ -56,3 +56,10 @@ letters_len text fonts n within same = length-take-le n (cells_in text fonts) (o
 -- the letters of a text after a blank
 pub blank_letters : (text more : List ℕ) → cells_in (take (suc (length text)) (32 ∷ (text ++ more))) (replicate (suc (length text)) R) ≡ letters_in R (32 ∷ text)
 blank_letters text more = ap (λ (l : List ℕ). cells_in (32 ∷ l) (replicate (suc (length text)) R)) (take-append_seam text more) ∙ in-font (32 ∷ text) R
+
+-- the letters of a word in a font, after a blank
+pub word_letters : (font : Font) (text more : List ℕ) (count : ℕ) → length text ≤ count
+    → cells_in (take (suc (length text)) (32 ∷ (text ++ more))) (take (suc (length text)) (R ∷ replicate count font)) ≡ record { c = 32; font = R } ∷ letters_in font text
+word_letters font text more count room =
+    ap (λ (cells : List Cell). record { c = 32; font = R } ∷ cells)
+    (ap₂ cells_in (take-append_seam text more) (take-replicate (length text) count font room) ∙ in-font text font)

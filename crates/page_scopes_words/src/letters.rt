@@ -106,6 +106,23 @@ fn put_after_first(bytes: &mut [u8], text: &[u8])
     bytes[1..text.len() + 1].copy_from_slice(text);
 }
 
+/// The bytes of a short word at most, and one more.
+pub const WORD_ROOM: usize = 64;
+
+/// Gives a short word in a font, after a count of blanks: whether it was taken.
+#[inline(always)]
+pub fn give_short_word<O: PieceOut>(out: &mut O, blanks: u32, font: Font, word: &[u8]) -> bool
+    requires { length word.now < WORD_ROOM }
+    ensures { GivesLetters blanks (record { c = 32; font = R } ∷ letters_in font word.now) result (Came O.left) out.old out.new }
+{
+    let mut letters = [b' '; 64];
+    put_after_first(&mut letters, word);
+    let mut fonts = [font; 64];
+    fonts[0] = Font::R;
+    let len = word.len() + 1;
+    out.give_words(blanks, &letters[..len], &fonts[..len])
+}
+
 /// Gives roman letters as words, the first one after a count of blanks: whether these were taken.
 #[inline(always)]
 pub fn give_after_blanks<O: PieceOut>(out: &mut O, blanks: u32, text: &[u8]) -> bool

@@ -26,10 +26,10 @@ mod widths;
 
 pub use fonts::{Fonts, ROMAN};
 pub use letter_fonts::{ROOM, roman_fonts};
-pub use letters::{Letters, give_after_blanks};
+pub use letters::{Letters, WORD_ROOM, give_after_blanks, give_short_word};
 pub use names::name_columns;
 pub use numbers::{give_columns, give_number, give_rows};
-pub use run_ends::{blank_before, going_len};
+pub use run_ends::{blank_before, going_len, is_plain_word};
 pub use sentences::ends_sentence;
 pub use settings::Setting;
 pub use tokens::{give_glyph, report, report_escape, report_font, report_part, token_piece};

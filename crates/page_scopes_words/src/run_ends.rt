@@ -1,6 +1,7 @@
 //! How far a text goes on as words that print themselves, with one blank before each and no hyphen, many bytes at a time (roff(7), "LANGUAGE SYNTAX").
 
-ghost use Rattle.std.specs.Prelude.{◌≡◌, ◌≤◌, ◌<◌, ◌+◌, length, slice_index, if◌then◌else◌, true};
+ghost use Rattle.std.specs.Prelude.{◌≡◌, ◌≤◌, ◌<◌, ◌+◌, ◌==◌, not, length, slice_index, if◌then◌else◌, true};
+ghost use Rattle.std.specs.List.{list_all};
 ghost use Rattle.std.specs.Simd.Lanes.{mask_l, zip2};
 ghost use Rattle.page_scopes_words.specs.machine.RunEnds.{GoesOn, ends_run, ends_run_at};
 
@@ -93,6 +94,23 @@ pub fn going_len(quoted: bool, text: &[u8]) -> usize
         at += 1;
     }
     at
+}
+
+// Whether a text has no blank.
+#[inline(always)]
+fn has_no_blank(text: &[u8]) -> bool
+    ensures { result ≡ list_all (λ byte. not (byte == 32)) text.now }
+{
+    text.iter().all(|byte| *byte != b' ')
+}
+
+/// Whether a text is one word that prints itself, without a hyphen.
+#[inline(always)]
+pub fn is_plain_word(quoted: bool, text: &[u8]) -> bool
+    ensures word { result ≡ true → list_all (λ byte. not (byte == 32)) text.now ≡ true }
+    ensures goes { result ≡ true → GoesOn quoted text.now 0 (length text.now) }
+{
+    has_no_blank(text) && going_len(quoted, text) == text.len()
 }
 
 /// The last blank up to a place, or the text's front.
