@@ -162,12 +162,14 @@ decided b line = if b.header.is_decided then b else chosen_if b (language_of lin
 
 -- a page is read as man(7) until its language is decided
 abbrev pub asked_set : Language → Either
+asked_set languages.Auto = sets.Man
+asked_set languages.Man = sets.Man
 asked_set languages.Mdoc = sets.Mdoc
-asked_set _ = sets.Man
 
 abbrev pub is_asked : Language → Bool
 is_asked languages.Auto = false
-is_asked _ = true
+is_asked languages.Man = true
+is_asked languages.Mdoc = true
 
 -- before a page's first line
 abbrev pub start_of : Settings → BodyEdge

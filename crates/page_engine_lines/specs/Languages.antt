@@ -23,7 +23,8 @@ abbrev pub form_language : Line → Option PlainLine → Option Either
 form_language line None = control_language line
 form_language line (Some lines.Wordless) = None
 form_language line (Some lines.Blank) = None
-form_language line _ = Some Man
+form_language line (Some lines.Words) = Some Man
+form_language line (Some lines.Raw) = Some Man
 
 -- the language that a line decides, if it decides one
 unfoldable pub language_of : Line → Option Either

@@ -32,11 +32,14 @@ abbrev pub opener_label : Opener (List ℕ) → Label
 opener_label openers.Item = labels.Item
 opener_label openers.Section = labels.Section
 opener_label openers.Subsection = labels.Subsection
+opener_label (openers.Paragraph name) = labels.Paragraph
+opener_label (openers.Tagged hang) = labels.Paragraph
+opener_label (openers.Indented tag hang) = labels.Paragraph
+opener_label (openers.Hanging hang) = labels.Paragraph
 opener_label (openers.RelativeMargin columns) = labels.Explicit RelativeMargin
 opener_label (openers.Target link target) = labels.Explicit (Target link)
 opener_label (openers.Syntax name) = labels.Explicit Syntax
 opener_label (openers.Block opener) = labels.Explicit (Block (opened_block opener))
-opener_label _ = labels.Paragraph
 
 abbrev pub has_room : List Label → Bool
 has_room remaining = nat_lt (length remaining) SCOPES
