@@ -81,41 +81,41 @@ items_pass rg rw_ rf ng nw nf (Err x) (Some e) f' r r' n n' items laid gets edge
 
 -- the same of words of letters, which all came, or a front of them and then a fault
 pub words_took : {R N : Type 0} (rg rw_ : R → List LaidRow → R → Type 0) (rf : R → ℕ) (ng nw : N → List Message → N → Type 0) (nf : N → ℕ)
-    (res : Result (Unit {0}) Fault) (f f' : Option FillEdge) (r r' : R) (n n' : N) (text : List ℕ) (fonts : List Font)
+    (res : Result (Unit {0}) Fault) (f f' : Option FillEdge) (r r' : R) (n n' : N) (blanks : ℕ) (text : List ℕ) (fonts : List Font)
     → ((e : FillEdge) (words : List (List (Piece (List ℕ)))) → f ≡ Some e → AreWords text fonts words
-    → Gets res rg rw_ ng nw r r' n n' (filled e (map shown (lettered_pieces words))))
+    → Gets res rg rw_ ng nw r r' n n' (filled e (map shown (lettered_pieces blanks words))))
     → ((e : FillEdge) (words : List (List (Piece (List ℕ)))) → f ≡ Some e → AreWords text fonts words
-    → OnOk res (f' ≡ Some (filled e (map shown (lettered_pieces words))).edge))
+    → OnOk res (f' ≡ Some (filled e (map shown (lettered_pieces blanks words))).edge))
     → ((e : FillEdge) → f ≡ Some e → FailsBySink res (rf r) (rf r') (nf n) (nf n'))
     → (f ≡ None → (res ≡ Err Failed) × (r' ≡ r) × (n' ≡ n))
     → IfSome f (λ (e : FillEdge). IsHeld e.sheet) → IfSome f (λ (e : FillEdge). is_sound e.word ≡ true)
     → (words : List (List (Piece (List ℕ)))) → list_all is_lettered_word words ≡ true → cells_in text fonts ≡ lettered_cells words
     → (x : Unit {0}) → res ≡ Ok x
-    → ((row : FillEdge) → f ≡ Some row → Passed rg rf ng nf f f' r r' n n' (laid_items row (map shown (lettered_pieces words)))) × Quiet rf nf r r' n n'
-words_took rg rw_ rf ng nw nf res f f' r r' n n' text fonts gets edge faults closed held sound words are cells x ok =
+    → ((row : FillEdge) → f ≡ Some row → Passed rg rf ng nf f f' r r' n n' (laid_items row (map shown (lettered_pieces blanks words)))) × Quiet rf nf r r' n n'
+words_took rg rw_ rf ng nw nf res f f' r r' n n' blanks text fonts gets edge faults closed held sound words are cells x ok =
     rw ok at (
-    items_pass rg rw_ rf ng nw nf res f f' r r' n n' (map shown (lettered_pieces words))
-    (λ e is. items-law e (map shown (lettered_pieces words)) (rw is at held) (rw is at sound))
+    items_pass rg rw_ rf ng nw nf res f f' r r' n n' (map shown (lettered_pieces blanks words))
+    (λ e is. items-law e (map shown (lettered_pieces blanks words)) (rw is at held) (rw is at sound))
     (λ e is. gets e words is (are, cells)) (λ e is. edge e words is (are, cells)) faults closed
     )
 
 pub words_broke : {R N : Type 0} (rg rw_ : R → List LaidRow → R → Type 0) (rf : R → ℕ) (ng nw : N → List Message → N → Type 0) (nf : N → ℕ)
-    (res : Result (Unit {0}) Fault) (f f' : Option FillEdge) (r r' : R) (n n' : N) (text : List ℕ) (fonts : List Font)
+    (res : Result (Unit {0}) Fault) (f f' : Option FillEdge) (r r' : R) (n n' : N) (blanks : ℕ) (text : List ℕ) (fonts : List Font)
     → ((e : FillEdge) (words : List (List (Piece (List ℕ)))) → f ≡ Some e → AreWords text fonts words
-    → Gets res rg rw_ ng nw r r' n n' (filled e (map shown (lettered_pieces words))))
+    → Gets res rg rw_ ng nw r r' n n' (filled e (map shown (lettered_pieces blanks words))))
     → ((e : FillEdge) (words : List (List (Piece (List ℕ)))) → f ≡ Some e → AreWords text fonts words
-    → OnOk res (f' ≡ Some (filled e (map shown (lettered_pieces words))).edge))
+    → OnOk res (f' ≡ Some (filled e (map shown (lettered_pieces blanks words))).edge))
     → ((e : FillEdge) → f ≡ Some e → FailsBySink res (rf r) (rf r') (nf n) (nf n'))
     → (f ≡ None → (res ≡ Err Failed) × (r' ≡ r) × (n' ≡ n))
     → IfSome f (λ (e : FillEdge). IsHeld e.sheet) → IfSome f (λ (e : FillEdge). is_sound e.word ≡ true)
     → (words : List (List (Piece (List ℕ)))) → list_all is_lettered_word words ≡ true → cells_in text fonts ≡ lettered_cells words
     → (fault : Fault) → res ≡ Err fault
     → IsPieceFault fault (rf r) (rf r') (nf n) (nf n')
-    × ((row : FillEdge) → f ≡ Some row → Broken rw_ rf nw nf r r' n n' fault (laid_items row (map shown (lettered_pieces words))))
-words_broke rg rw_ rf ng nw nf res f f' r r' n n' text fonts gets edge faults closed held sound words are cells fault err =
+    × ((row : FillEdge) → f ≡ Some row → Broken rw_ rf nw nf r r' n n' fault (laid_items row (map shown (lettered_pieces blanks words))))
+words_broke rg rw_ rf ng nw nf res f f' r r' n n' blanks text fonts gets edge faults closed held sound words are cells fault err =
     rw err at (
-    items_pass rg rw_ rf ng nw nf res f f' r r' n n' (map shown (lettered_pieces words))
-    (λ e is. items-law e (map shown (lettered_pieces words)) (rw is at held) (rw is at sound))
+    items_pass rg rw_ rf ng nw nf res f f' r r' n n' (map shown (lettered_pieces blanks words))
+    (λ e is. items-law e (map shown (lettered_pieces blanks words)) (rw is at held) (rw is at sound))
     (λ e is. gets e words is (are, cells)) (λ e is. edge e words is (are, cells)) faults closed
     )
 

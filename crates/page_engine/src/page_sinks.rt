@@ -111,13 +111,13 @@ impl<R: RowSink, N: NoteSink> PieceSink for PageSink<'_, '_, '_, R, N> {
     }
 
     #[inline(always)]
-    fn take_words(&mut self, text: &[u8], fonts: &[Font]) -> Result<bool, Fault> {
-        if !self.filler.takes_words(text) {
+    fn take_words(&mut self, blanks: u32, text: &[u8], fonts: &[Font]) -> Result<bool, Fault> {
+        if !self.filler.takes_words(blanks, text) {
             return Ok(false);
         }
         self.filler.held_law();
         self.filler
-            .words(text, fonts, &mut self.rows, &mut self.notes)?;
+            .words(blanks, text, fonts, &mut self.rows, &mut self.notes)?;
         Ok(true)
     }
 

@@ -1,7 +1,7 @@
 -- The pieces of a word of letters: what they lay, one after another, is what their cells lay.
-use Rattle.std.proofs.Common.{◌≡◌, ℕ, ◌+◌, ◌≤◌, true, false, not, ◌&&◌, ◌==◌, List, [], ◌∷◌, ◌++◌, length, map, length-append, refl, sym, ap, ◌∙◌, arith}
+use Rattle.std.proofs.Common.{◌≡◌, ℕ, suc, ◌+◌, ◌<◌, ◌≤◌, true, false, not, ◌&&◌, ◌==◌, List, [], ◌∷◌, ◌++◌, length, map, replicate, length-append, refl, sym, ap, ◌∙◌, arith}
 use Rattle.std.specs.List.{list_all}
-use Rattle.std.proofs.lemmas.List.{map-append}
+use Rattle.std.proofs.lemmas.List.{length-replicate, map-append}
 use Rattle.std.proofs.lemmas.List.Folds.{list_all-append}
 use Rattle.std.proofs.lemmas.Bool.Decides.{nat_tests}
 use Rattle.page_core_base.specs.declared.cells.Cell.{Cell}
@@ -14,14 +14,16 @@ use Rattle.page_core_base.specs.Laid.{Laid, nothing, join, join_assoc, seq}
 use Rattle.page_core_base.specs.Words.{is_lettered, is_lettered_word, is_word, letters_of, word_letters}
 use Rattle.page_fill_cells.specs.Cells.{is_printable, is_printable_ascii}
 use Rattle.page_fill_rows.specs.Characters.{cell_of, cells_of}
-use Rattle.page_fill_rows.specs.machine.Sheets.{Sheet, letters, opens, over, space}
-use Rattle.page_fill_rows.proofs.AnywhereLemmas.{both-anywhere, letters-anywhere, letters-length, space-length}
+use Rattle.page_fill_rows.specs.machine.Plain.{has_word_room, spaced_by}
+use Rattle.page_fill_rows.specs.machine.Sheets.{Sheet, blank, letters, opens, over, space}
+use Rattle.page_fill_rows.proofs.AnywhereLemmas.{letters-anywhere, letters-length, space-anywhere, space-length}
 use Rattle.page_fill_rows.proofs.CharacterLemmas.{letters-append}
 use Rattle.page_fill_rows.proofs.PlainLemmas.{are_plain, characters_of-plain}
 use Rattle.page_fill_rows.proofs.WrapLemmas.{both}
 use Rattle.page_fill.specs.machine.Fill.{Edge, begun_word, laid, laid_piece, on_sheet, opening, text}
 use Rattle.page_fill.proofs.BlankTextLemmas.{goes-on}
-use Rattle.page_fill.proofs.PlainWordLemmas.{character-text, opening-one, text-plain}
+use Rattle.page_fill.specs.machine.PlainWords.{takes_word}
+use Rattle.page_fill.proofs.PlainWordLemmas.{character-text, opening-fits, opening-one, text-plain}
 
 -- the characters of cells
 abbrev pub bytes_of : List Cell → List ℕ
@@ -145,45 +147,65 @@ pieces-go-on e (p ∷ word) place joined all plain room =
     ∙ (ap (λ (m : Laid Edge). join (over first (on_sheet e)) m) others
     ∙ ap (λ (m : Laid Sheet). over m (on_sheet e)) (sym (letters-append e.sheet own rest place)))
 
--- one blank waits
-abbrev waiting : Edge → Edge
-waiting e = record e { word = record { is_joined = false; is_open = false; is_placed = false; blanks = 1; has_tab = false; is_told = e.word.is_told } }
+-- blanks wait
+abbrev waiting : Edge → ℕ → Edge
+waiting e n = record e { word = record { is_joined = false; is_open = false; is_placed = false; blanks = n; has_tab = false; is_told = e.word.is_told } }
 
 -- a word was begun
 abbrev pub begun_on : Edge → Sheet → Edge
 begun_on e s = record e { sheet = s; word = begun_word false }
 
-blank-waits : (e : Edge) → e.word.is_placed ≡ false → laid_piece e (Blank 1 false) ≡ nothing (waiting e)
+blank-waits : (e : Edge) (n : ℕ) → e.word.is_placed ≡ false → laid_piece e (Blank n false) ≡ nothing (waiting e n)
 unfolding laid_piece
-blank-waits e placed = rw placed refl
+blank-waits e n placed = rw placed refl
 
--- a word after a blank
-pub word-laid : (e : Edge) (word : List (Piece (List ℕ))) (place : Place) → e.word.is_placed ≡ false → e.sheet.literal ≡ false → (length e.sheet.cells == 0) ≡ false
-    → is_lettered_word word ≡ true → are_plain (word_letters word) ≡ true → length e.sheet.cells + 1 + length (word_letters word) ≤ CELLS
-    → laid e (Blank 1 false ∷ word) ≡ over (both e.sheet (word_letters word) place) (begun_on e)
+-- a word after blanks that lay something, wherever they are
+after-blanks : (e : Edge) (n : ℕ) (word : List (Piece (List ℕ))) (blanks : Laid Sheet) (place : Place) → e.word.is_placed ≡ false → is_lettered_word word ≡ true
+    → are_plain (word_letters word) ≡ true → length blanks.edge.cells + length (word_letters word) ≤ CELLS
+    → ((p : Place) → opening (waiting e n) p ≡ over blanks (begun_on e))
+    → laid e (Blank n false ∷ word) ≡ over (join blanks (letters blanks.edge (word_letters word) place)) (begun_on e)
 unfolding laid
-word-laid e [] place placed filled some is plain room = absurd (grind (arith, nat_tests, is))
-word-laid e (p ∷ word) place placed filled some is plain room =
+after-blanks e n [] blanks place placed is plain room opened = absurd (grind (arith, nat_tests, is))
+after-blanks e n (p ∷ word) blanks place placed is plain room opened =
     let one : is_lettered p ≡ true = grind (arith, is) in
     let more : list_all is_lettered word ≡ true = grind (arith, is) in
     let l = lettered p one in
     let own = letters_of p in
     let rest = word_letters word in
     let len = length-append own rest in
-    let within : length e.sheet.cells + 1 + length own ≤ CELLS = omega (arith, len, room) in
-    let here : laid_piece (waiting e) p ≡ over (both e.sheet own place) (begun_on e) =
-    l.laid (waiting e) (front-is-plain own rest plain)
-    ∙ (rw (opening-one (waiting e) l.place refl refl refl filled some) refl
-    ∙ ap (λ (m : Laid Sheet). over m (begun_on e)) (both-anywhere e.sheet own l.place place within)) in
-    let blank_laid = space (opens e.sheet) place in
-    let first = letters blank_laid.edge own place in
-    let spaced = space-length (opens e.sheet) place (omega (arith, room)) in
-    let grown = letters-length blank_laid.edge own place (omega (arith, len, spaced, room)) in
-    let f = begun_on e first.edge in
-    let others : laid f word ≡ over (letters first.edge rest place) (begun_on e) =
-    pieces-go-on f word place refl more (back-is-plain own rest plain) (omega (arith, len, spaced, grown, room)) in
-    rw (blank-waits e placed)
+    let within : length blanks.edge.cells + length own ≤ CELLS = omega (arith, len, room) in
+    let first = letters blanks.edge own place in
+    let here : laid_piece (waiting e n) p ≡ over (join blanks first) (begun_on e) =
+    l.laid (waiting e n) (front-is-plain own rest plain)
+    ∙ (rw (opened l.place) refl
+    ∙ ap (λ (m : Laid Sheet). over (join blanks m) (begun_on e)) (letters-anywhere blanks.edge own l.place place within)) in
+    let grown = letters-length blanks.edge own place within in
+    let others : laid (begun_on e first.edge) word ≡ over (letters first.edge rest place) (begun_on e) =
+    pieces-go-on (begun_on e first.edge) word place refl more (back-is-plain own rest plain) (omega (arith, len, grown, room)) in
+    rw (blank-waits e n placed)
     (ap (λ (m : Laid Edge). seq m (λ g. laid g word)) here
-    ∙ (ap (λ (m : Laid Edge). join (over (join blank_laid first) (begun_on e)) m) others
-    ∙ (ap (λ (m : Laid Sheet). over m (begun_on e)) (join_assoc blank_laid first (letters first.edge rest place))
-    ∙ ap (λ (m : Laid Sheet). over (join blank_laid m) (begun_on e)) (sym (letters-append blank_laid.edge own rest place)))))
+    ∙ (ap (λ (m : Laid Edge). join (over (join blanks first) (begun_on e)) m) others
+    ∙ (ap (λ (m : Laid Sheet). over m (begun_on e)) (join_assoc blanks first (letters first.edge rest place))
+    ∙ ap (λ (m : Laid Sheet). over (join blanks m) (begun_on e)) (sym (letters-append blanks.edge own rest place)))))
+
+-- a word after one blank
+pub word-laid : (e : Edge) (word : List (Piece (List ℕ))) (place : Place) → e.word.is_placed ≡ false → e.sheet.literal ≡ false → (length e.sheet.cells == 0) ≡ false
+    → is_lettered_word word ≡ true → are_plain (word_letters word) ≡ true → length e.sheet.cells + 1 + length (word_letters word) ≤ CELLS
+    → laid e (Blank 1 false ∷ word) ≡ over (both e.sheet (word_letters word) place) (begun_on e)
+word-laid e word place placed filled some is plain room =
+    let free : length e.sheet.cells < CELLS = omega (arith, room) in
+    let spaced = space-length (opens e.sheet) place free in
+    after-blanks e 1 word (space (opens e.sheet) place) place placed is plain (omega (arith, spaced, room))
+    (λ p. opening-one (waiting e 1) p refl refl refl filled some ∙ ap (λ (m : Laid Sheet). over m (begun_on e)) (space-anywhere (opens e.sheet) p place free))
+
+-- a word after blanks with which it has room in the row
+pub word-laid-after : (e : Edge) (m : ℕ) (word : List (Piece (List ℕ))) (place : Place) → e.word.is_placed ≡ false → is_lettered_word word ≡ true
+    → are_plain (word_letters word) ≡ true → has_word_room e.sheet (suc m) (length (word_letters word)) ≡ true
+    → laid e (Blank (suc m) false ∷ word) ≡ over (letters (spaced_by e.sheet (suc m)) (word_letters word) place) (begun_on e)
+word-laid-after e m word place placed is plain room =
+    let within : length e.sheet.cells + suc m + length (word_letters word) ≤ CELLS = grind (arith, nat_tests, room) in
+    let len : length (spaced_by e.sheet (suc m)).cells ≡ length e.sheet.cells + suc m =
+    length-append e.sheet.cells (replicate (suc m) blank) ∙ ap (λ k. length e.sheet.cells + k) (length-replicate (suc m) blank) in
+    let takes : takes_word (waiting e (suc m)) (length (word_letters word)) ≡ true = grind (arith, nat_tests, room) in
+    after-blanks e (suc m) word (nothing (spaced_by e.sheet (suc m))) place placed is plain (omega (arith, len, within))
+    (λ p. opening-fits (waiting e (suc m)) m (length (word_letters word)) p refl takes)

@@ -40,7 +40,7 @@ character-text e c font place =
 
 -- ---- a word after blanks
 
-opening-fits : (e : Edge) (m n : ℕ) (place : Place) → e.word.blanks ≡ suc m → takes_word e n ≡ true
+pub opening-fits : (e : Edge) (m n : ℕ) (place : Place) → e.word.blanks ≡ suc m → takes_word e n ≡ true
     → opening e place ≡ nothing (record e { sheet = spaced_by e.sheet e.word.blanks; word = begun_word false })
 unfolding opening
 opening-fits e m n place is takes =

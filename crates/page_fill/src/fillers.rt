@@ -258,34 +258,37 @@ impl<K: KeepsRow> FillerWith<K> {
         taken
     }
 
-    /// Whether the open row takes words of a text at once: it is filled, has a cell and as much room, and the text is printable ASCII.
+    /// Whether the open row takes words of a text at once, the first after a count of blanks: it is filled, has a cell and as much room, the text is
+    /// printable ASCII, and where there is not one blank before the first word, that word goes into the row.
     #[inline(always)]
-    pub fn takes_words(&self, text: &[u8]) -> bool
-        ensures takes { IfSome self.now (λ e. can_take e text.now ≡ result) }
+    pub fn takes_words(&self, blanks: u32, text: &[u8]) -> bool
+        ensures takes { IfSome self.now (λ e. can_take e blanks text.now ≡ result) }
         ensures closed { self.now ≡ None → result ≡ false }
     {
-        self.is_going && self.edge.takes_words(text)
+        self.is_going && self.edge.takes_words(blanks, text)
     }
 
-    /// Takes words that the open row takes at once, each after one blank: each byte is a letter of them, in the font beside it. Gives the rows
-    /// that end among them. Of any other text nothing is promised.
+    /// Takes words that the open row takes at once, the first after a count of blanks and each other after one. Each byte of the text is a letter of
+    /// them, in the font beside it, and one blank is before each word, also before the first. Gives the rows that end among them. Of any other text
+    /// nothing is promised.
     ///
     /// Its faults are those of the sinks; after one, and after [`finish`](FillerWith::finish), it is [`Fault::Failed`].
     #[inline(always)]
     pub fn words<R: RowSink, N: NoteSink>(
         &mut self,
+        blanks: u32,
         text: &[u8],
         fonts: &[Font],
         rows: &mut R,
         notes: &mut N,
     ) -> Result<(), Fault>
-        requires takes { IfSome self.old (λ e. can_take e text.now ≡ true) }
+        requires takes { IfSome self.old (λ e. can_take e blanks text.now ≡ true) }
         requires fonts { length fonts.now ≡ length text.now }
         ensures gets { (e : Edge) (words : List (List (Piece (List ℕ)))) → self.old ≡ Some e → AreWords text.now fonts.now words
             → Gets result R.gave R.within N.gave N.within rows.old rows.new notes.old notes.new
-            (filled e (map shown (lettered_pieces words))) }
+            (filled e (map shown (lettered_pieces blanks words))) }
         ensures edge { (e : Edge) (words : List (List (Piece (List ℕ)))) → self.old ≡ Some e → AreWords text.now fonts.now words
-            → OnOk result (self.new ≡ Some (filled e (map shown (lettered_pieces words))).edge) }
+            → OnOk result (self.new ≡ Some (filled e (map shown (lettered_pieces blanks words))).edge) }
         ensures faults { (e : Edge) → self.old ≡ Some e
             → FailsBySink result (R.failed rows.old) (R.failed rows.new) (N.failed notes.old) (N.failed notes.new) }
         ensures closed { self.old ≡ None → (result ≡ Err Fault.Failed) × (rows.new ≡ rows.old) × (notes.new ≡ notes.old) }
@@ -296,7 +299,7 @@ impl<K: KeepsRow> FillerWith<K> {
         if !self.is_going {
             return Err(Fault::Failed);
         }
-        let taken = self.edge.words(text, fonts, rows, notes);
+        let taken = self.edge.words(blanks, text, fonts, rows, notes);
         self.edge.sheet.held_law();
         self.kept.keep(&self.edge.sheet);
         if taken.is_err() {

@@ -1,8 +1,9 @@
-//! Words of letters, each after one blank, which the open row takes at once, and the rows that end among them.
+//! Words of letters, the first after a count of blanks and each other after one, which the open row takes at once, and the rows that end among
+//! them.
 
-ghost use Rattle.std.specs.Prelude.{◌≡◌, ◌≤◌, ◌<◌, ◌+◌, ◌-◌, ℕ, List, length, true};
+ghost use Rattle.std.specs.Prelude.{◌≡◌, ◌≤◌, ◌<◌, ◌+◌, ◌-◌, ℕ, List, drop, length, true};
 ghost use Rattle.page_core_base.specs.Fails.{FailsBySink};
-ghost use Rattle.page_core_base.specs.Laid.{Gets, Laid};
+ghost use Rattle.page_core_base.specs.Laid.{Gets, Laid, nothing};
 ghost use Rattle.page_core_base.specs.Latches.{LaysOut};
 ghost use Rattle.page_core_base.specs.Words.{lettered_pieces};
 ghost use Rattle.page_core_base.specs.declared.limits.TheConstants.{CELLS};
@@ -10,9 +11,9 @@ ghost use Rattle.page_core_base.specs.declared.pieces.Piece.{Piece};
 ghost use Rattle.page_fill_rows.specs.machine.Plain as plain;
 ghost use Rattle.page_fill.specs.Caps.{is_sound};
 ghost use Rattle.page_fill.specs.declared.edges.Edge.{Edge};
-ghost use Rattle.page_fill.specs.LetteredWords.{AreWords, can_take};
+ghost use Rattle.page_fill.specs.LetteredWords.{AreWords, can_take, fits_after, is_in_row};
 ghost use Rattle.page_fill.specs.machine.Fill as fill;
-ghost use Rattle.page_fill.specs.machine.LetteredWords.{LaysFront, LaysWords};
+ghost use Rattle.page_fill.specs.machine.LetteredWords.{LaysFront, LaysUpTo, LaysWords};
 ghost use Rattle.page_fill.specs.machine.PlainWords as plain_words;
 
 use crate::Edge;
@@ -49,20 +50,64 @@ fn first_word(text: &[u8]) -> usize
 }
 
 impl Edge {
-    /// Whether words of a text are taken at once: it is printable ASCII, and the row is filled, has a cell and as much room.
-    #[inline(always)]
-    pub(crate) fn takes_words(&self, text: &[u8]) -> bool
-        ensures { result ≡ can_take self.now text.now }
+    // Whether the first word of a text goes into the row after a count of blanks.
+    fn fits_after(&self, blanks: u32, text: &[u8]) -> bool
+        requires row { is_in_row self.now ≡ true }
+        requires room { length self.now.sheet.cells + blanks + length text.now ≤ CELLS }
+        ensures { result ≡ fits_after self.now blanks text.now }
     {
-        !self.word.is_placed
-            && !self.sheet.is_literal()
-            && !self.sheet.is_empty()
-            && text.len() <= CELLS - self.sheet.len()
-            && is_printable_ascii(text)
+        let letters = if text.is_empty() {
+            0
+        } else {
+            first_word(text) - 1
+        };
+        0 < blanks && self.sheet.has_word_room(blanks, letters)
     }
 
-    // Takes the first words of a text: those that the row has room for, or the first one, before which the row ends. Answers how many bytes
-    // they are.
+    /// Whether words of a text are taken at once, the first after a count of blanks: it is printable ASCII, and the row is filled, has a cell and
+    /// as much room, and where there is not one blank before the first word, that word goes into the row.
+    #[inline(always)]
+    pub(crate) fn takes_words(&self, blanks: u32, text: &[u8]) -> bool
+        ensures { result ≡ can_take self.now blanks text.now }
+    {
+        if self.word.is_placed || self.sheet.is_literal() || self.sheet.is_empty() {
+            return false;
+        }
+        let room = CELLS - self.sheet.len();
+        text.len() <= room
+            && blanks as usize <= room - text.len()
+            && is_printable_ascii(text)
+            && (blanks == 1 || self.fits_after(blanks, text))
+    }
+
+    // Takes the first words of a text where they are after another count of blanks than one: those that the row has room for. Answers how many
+    // bytes they are.
+    fn put_first(&mut self, blanks: u32, text: &[u8], fonts: &[Font]) -> usize
+        requires takes { can_take self.old blanks text.now ≡ true }
+        requires fonts { length fonts.now ≡ length text.now }
+        ensures lays { LaysUpTo self.old blanks text.now fonts.now (drop result text.now) (drop result fonts.now) (nothing self.new) }
+        ensures within { result ≤ length text.now }
+        ensures room { length self.new.sheet.cells + (length text.now - result) ≤ CELLS }
+        ensures sound { is_sound self.old.word ≡ true → is_sound self.new.word ≡ true }
+    {
+        if blanks == 1 {
+            return 0;
+        }
+        let more = blanks - 1;
+        let room = self.sheet.free_cells().saturating_sub(more as usize);
+        let end = whole_words(text, room);
+        let start = word_start(&text[..end]);
+        if start == 0 {
+            return 0;
+        }
+        self.word = OpenWord::begun(false);
+        self.sheet
+            .add_words_after(more, &text[..end], &fonts[..end], start);
+        end
+    }
+
+    // Takes the first words of a text, each after one blank: those that the row has room for, or the first one, before which the row ends.
+    // Answers how many bytes they are.
     fn put_front<O: RowOut>(&mut self, text: &[u8], fonts: &[Font], out: &mut O) -> usize
         requires some { 0 < length text.now }
         requires plain { plain.is_printable_ascii text.now ≡ true }
@@ -86,15 +131,16 @@ impl Edge {
         end
     }
 
-    // Takes words.
-    fn put_words<O: RowOut>(&mut self, text: &[u8], fonts: &[Font], out: &mut O)
-        requires takes { can_take self.old text.now ≡ true }
+    // Takes words, the first after a count of blanks.
+    fn put_words<O: RowOut>(&mut self, blanks: u32, text: &[u8], fonts: &[Font], out: &mut O)
+        requires takes { can_take self.old blanks text.now ≡ true }
         requires fonts { length fonts.now ≡ length text.now }
-        ensures gives { (given : Laid Edge) × LaysOut O.left out.old given out.new self.new × LaysWords self.old text.now fonts.now given }
+        ensures gives { (given : Laid Edge) × LaysOut O.left out.old given out.new self.new × LaysWords self.old blanks text.now fonts.now given }
         ensures sound { is_sound self.old.word ≡ true → is_sound self.new.word ≡ true }
     {
-        let mut rest = text;
-        let mut own = fonts;
+        let start = self.put_first(blanks, text, fonts);
+        let mut rest = &text[start..];
+        let mut own = &fonts[start..];
         while !rest.is_empty() {
             let end = self.put_front(rest, own, out);
             rest = &rest[end..];
@@ -102,20 +148,21 @@ impl Edge {
         }
     }
 
-    /// Takes words. Its faults are those of the sinks.
+    /// Takes words, the first after a count of blanks. Its faults are those of the sinks.
     pub fn words<R: RowSink, N: NoteSink>(
         &mut self,
+        blanks: u32,
         text: &[u8],
         fonts: &[Font],
         rows: &mut R,
         notes: &mut N,
     ) -> Result<(), Fault>
-        requires takes { can_take self.old text.now ≡ true }
+        requires takes { can_take self.old blanks text.now ≡ true }
         requires fonts { length fonts.now ≡ length text.now }
         ensures gets { (words : List (List (Piece (List ℕ)))) → AreWords text.now fonts.now words
-            → Gets result R.gave R.within N.gave N.within rows.old rows.new notes.old notes.new (fill.laid self.old (lettered_pieces words)) }
+            → Gets result R.gave R.within N.gave N.within rows.old rows.new notes.old notes.new (fill.laid self.old (lettered_pieces blanks words)) }
         ensures edge { (words : List (List (Piece (List ℕ)))) → AreWords text.now fonts.now words
-            → self.new ≡ (fill.laid self.old (lettered_pieces words)).edge }
+            → self.new ≡ (fill.laid self.old (lettered_pieces blanks words)).edge }
         ensures sound { is_sound self.old.word ≡ true → is_sound self.new.word ≡ true }
         ensures faults { FailsBySink result (R.failed rows.old) (R.failed rows.new) (N.failed notes.old)
             (N.failed notes.new) }
@@ -123,7 +170,7 @@ impl Edge {
         ensures notes_same { N.loans notes.new ≡ N.loans notes.old }
     {
         let mut latch = RowLatch::new(rows, notes);
-        self.put_words(text, fonts, &mut latch);
+        self.put_words(blanks, text, fonts, &mut latch);
         latch.done()
     }
 }

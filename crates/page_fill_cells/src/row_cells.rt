@@ -236,8 +236,8 @@ impl RowCells {
         true
     }
 
-    // Appends blanks before a word, of which there are few.
-    fn add_spaces(&mut self, count: u32)
+    /// Appends blanks before a word, of which there are few.
+    pub fn add_spaces(&mut self, count: u32)
         requires { length self.old + count ≤ CELLS }
         ensures { self.new ≡ self.old ++ replicate count cells.blank }
     {

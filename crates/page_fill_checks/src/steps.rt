@@ -26,10 +26,10 @@ pub enum Step {
     Cells(&'static str),
     /// A word of 4,096 cells comes in 64 parts, each of 63 accents and a hyphen.
     Parts,
-    /// Words, with a blank before each, are taken at once, in the fonts of letters beside them.
-    Words(&'static str, &'static str),
-    /// Words are not taken at once.
-    Refused(&'static str),
+    /// Words, with a blank before each, are taken at once after so many blanks, in the fonts of letters beside them; roman where none is left.
+    Words(u32, &'static str, &'static str),
+    /// Words are not taken at once after so many blanks.
+    Refused(u32, &'static str),
     /// The page ends.
     End,
     /// Nothing more is taken.
@@ -192,17 +192,18 @@ fn fonts_named(letters: &[u8]) -> [Font; 32] {
 fn give_words<R: RowSink, N: NoteSink>(
     rt: &impl Abort,
     filler: &mut Filler,
+    blanks: u32,
     words: &[u8],
     letters: &[u8],
     rows: &mut R,
     notes: &mut N,
 ) -> Result<(), Fault> {
     let fonts = fonts_named(letters);
-    assert!(rt; filler.takes_words(words), "they are taken");
+    assert!(rt; filler.takes_words(blanks, words), "they are taken");
     if words.len() > 32 {
         return Ok(());
     }
-    filler.words(words, &fonts[..words.len()], rows, notes)
+    filler.words(blanks, words, &fonts[..words.len()], rows, notes)
 }
 
 fn check_answer(rt: &impl Abort, got: Result<(), Fault>, wanted: Result<(), Fault>) {
@@ -221,8 +222,11 @@ fn check_count(rt: &impl Abort, got: u32, wanted: u32, of: &str) {
 // What is done with the filler alone.
 fn look(rt: &impl Abort, filler: &mut Filler, step: Step) {
     match step {
-        Step::Refused(words) => {
-            assert!(rt; !filler.takes_words(words.as_bytes()), "they are refused");
+        Step::Refused(blanks, words) => {
+            assert!(rt;
+                !filler.takes_words(blanks, words.as_bytes()),
+                "they are refused"
+            );
         }
         Step::Open(cells) => assert!(rt; filler.pending().len() == cells, "{cells} cells"),
         Step::BlankRows(count) => check_count(rt, filler.blank_rows(), count, "blank rows"),
@@ -244,8 +248,9 @@ fn take_step(
         Step::Blanks(count, font) => give(filler, blank_text(count, font), rows, notes),
         Step::Cells(cell) => give_cells(filler, cell, rows, notes),
         Step::Parts => give_parts(filler, rows, notes),
-        Step::Words(words, fonts) => {
-            give_words(rt, filler, words.as_bytes(), fonts.as_bytes(), rows, notes)
+        Step::Words(blanks, words, fonts) => {
+            let (words, fonts) = (words.as_bytes(), fonts.as_bytes());
+            give_words(rt, filler, blanks, words, fonts, rows, notes)
         }
         Step::End => end(filler, rows, notes),
         Step::Closed => {

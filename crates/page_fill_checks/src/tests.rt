@@ -3,7 +3,7 @@
 use crate::blank_rows::BLANK_ROWS;
 use crate::sheets::Sheet;
 use crate::steps::{HERE, Step, run};
-use crate::word_rows::WORDS;
+use crate::word_rows::{REFUSED, WORD_STEPS, WORDS};
 use page_core_base::{Fault, Font, Output, Settings};
 use page_fill::{Piece, TagForm};
 use std::process::Abort;
@@ -558,8 +558,31 @@ fn scripts_give_rows(rt: HostRuntime) -> Result<(), Fail> {
 
 #[test]
 fn steps_give_rows(rt: HostRuntime) -> Result<(), Fail> {
-    for cases in [WORDS, GLYPHS, LONG_ROWS, BLANK_ROWS, ROWS_AS_THEY_COME] {
+    for cases in [WORD_STEPS, GLYPHS, LONG_ROWS, BLANK_ROWS, ROWS_AS_THEY_COME] {
         check_cases(&rt, cases)?;
+    }
+    Ok(())
+}
+
+#[test]
+fn words_give_rows(rt: HostRuntime) -> Result<(), Fail> {
+    for (width, before, blanks, words, fonts, after, wanted) in WORDS {
+        let steps = [
+            Step::Script(before),
+            Step::Words(*blanks, words, fonts),
+            Step::Script(after),
+            Step::End,
+        ];
+        check(&rt, (*width, ASCII, &steps, Some(wanted), ""))?;
+    }
+    for (width, before, blanks, words, after, wanted) in REFUSED {
+        let steps = [
+            Step::Script(before),
+            Step::Refused(*blanks, words),
+            Step::Script(after),
+            Step::End,
+        ];
+        check(&rt, (*width, ASCII, &steps, Some(wanted), ""))?;
     }
     Ok(())
 }

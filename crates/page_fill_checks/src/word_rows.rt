@@ -4,14 +4,115 @@ use crate::steps::Step;
 use crate::tests::{ASCII, Case};
 use page_fill::{Piece, TagForm};
 
-/// Words, in rows that they fill or end.
-pub(crate) const WORDS: &[Case<'static>] = &[
+/// A width; a script, words that are taken at once after so many blanks, in the fonts of letters, and a script; and the rows.
+pub(crate) type WordCase = (
+    u32,
+    &'static str,
+    u32,
+    &'static str,
+    &'static str,
+    &'static str,
+    &'static str,
+);
+
+/// Words that are taken.
+pub(crate) const WORDS: &[WordCase] = &[
+    // They fill the row, or just fit.
+    (6, "a", 1, " b c", "", "", "a b c\n"),
+    // The word passes the width.
+    (6, "a", 1, " bcd ef", "", "", "a bcd\nef\n"),
+    (6, "a", 1, " b cdef g", "", "", "a b\ncdef g\n"),
+    // A word that passes the width alone is in a row of its own.
+    (6, "a", 1, " bcdefghi j", "", "", "a\nbcdefghi\nj\n"),
+    // Each letter in its font.
+    (6, "a", 1, " bc", "RBI", "", "a b\u{8}b_\u{8}c\n"),
+    (
+        6,
+        "a",
+        1,
+        " bcd ef",
+        "RRBBRIX",
+        "",
+        "a bc\u{8}cd\u{8}d\n_\u{8}e_\u{8}f\u{8}f\n",
+    ),
+    // With margins.
+    (6, "Ma", 1, " bcd ef", "", "", " a bcd\n  ef\n"),
+    // What follows goes on with the last word.
+    (6, "a", 1, " bcd", "", "e_f", "a bcde\nf\n"),
+    (6, "a", 1, " bcd", "", "ef", "a\nbcdef\n"),
+    (6, "a", 1, " b cd ef", "", "gh", "a b cd\nefgh\n"),
+    // A blank that waits is not another one; nor is a word that is open.
+    (6, "a_+", 1, " b", "", "", "a b\n"),
+    (6, "a=", 1, " b", "", "", "a b\n"),
+    (6, "a_", 2, " b", "", "", "a  b\n"),
+    // The first one after more blanks.
+    (6, "a", 2, " b c", "", "", "a  b c\n"),
+    (6, "a", 2, " bcd", "", "", "a  bcd\n"),
+    (6, "a", 3, " b", "", "", "a   b\n"),
+    (6, "a", 2, " b cde fg", "", "", "a  b\ncde fg\n"),
+    (6, "a", 2, " bcd efghij k", "", "", "a  bcd\nefghij\nk\n"),
+    (
+        6,
+        "a",
+        2,
+        " bc d",
+        "RBIRX",
+        "",
+        "a  b\u{8}b_\u{8}c\n_\u{8}d\u{8}d\n",
+    ),
+    (6, "Ma", 2, " bc d", "", "", " a  bc\n  d\n"),
+    // Where the row ends before it, it ends before its blanks.
+    (6, "a", 2, " bc", "", "de", "a\nbcde\n"),
+    (6, "a", 2, " b c", "", "de", "a  b\ncde\n"),
+    // No words: nothing is put, and the word goes on.
+    (3, "a", 2, "", "", "b", "ab\n"),
+    // The blanks are counted with a tag: its four columns and a blank pass the hang.
+    (6, "Na", 2, " b", "", "Ec", "a  b c\n"),
+    (6, "Ra", 2, " b", "", "Ec", "a  b\nc\n"),
+];
+
+/// A width; a script, words that are not taken after so many blanks, and a script; and the rows.
+pub(crate) type RefusedCase = (
+    u32,
+    &'static str,
+    u32,
+    &'static str,
+    &'static str,
+    &'static str,
+);
+
+/// Words that are not taken: they come one by one, and nothing is changed before.
+pub(crate) const REFUSED: &[RefusedCase] = &[
+    // No word is in the row, a place is set, or rows are kept.
+    (6, "", 1, " b", "", ""),
+    (6, "a/", 1, " b", "", "a\n"),
+    (6, "a/", 2, " b", "", "a\n"),
+    (6, "NaE", 1, " b", "", "a\n"),
+    (6, "NaE", 2, " b", "", "a\n"),
+    (6, "La", 1, " b", "", "a\n"),
+    (6, "La", 2, " b", "", "a\n"),
+    // A byte is no printable ASCII.
+    (6, "a", 1, " b\u{e9}", "", "a\n"),
+    // The first word and its blanks pass the width, or there is no blank.
+    (6, "a", 2, " bcde", "_b", "a b\n"),
+    (6, "a", 2, " bcde f", "b", "ab\n"),
+    (2, "a", 2, "", "b", "ab\n"),
+    (6, "a", 0, " b", "b", "ab\n"),
+];
+
+/// Rows that are given before the words end, and a tag.
+pub(crate) const WORD_STEPS: &[Case<'static>] = &[
     // They fill the row, or just fit.
     (
         6,
         ASCII,
-        &[Step::Script("a"), Step::Words(" b c", "RRRR"), Step::End],
-        Some("a b c\n"),
+        &[
+            Step::Script("a"),
+            Step::Words(1, " bcde", ""),
+            Step::Rows(0),
+            Step::End,
+        ],
+        Some("a bcde\n"),
         "",
     ),
     (
@@ -19,11 +120,12 @@ pub(crate) const WORDS: &[Case<'static>] = &[
         ASCII,
         &[
             Step::Script("a"),
-            Step::Words(" bcde", "RRRRR"),
+            Step::Words(2, " bcd", ""),
             Step::Rows(0),
+            Step::Open(6),
             Step::End,
         ],
-        Some("a bcde\n"),
+        Some("a  bcd\n"),
         "",
     ),
     // The word passes the width.
@@ -32,46 +134,12 @@ pub(crate) const WORDS: &[Case<'static>] = &[
         ASCII,
         &[
             Step::Script("a"),
-            Step::Words(" bcdef", "RRRRRR"),
+            Step::Words(1, " bcdef", ""),
             Step::Rows(1),
             Step::Open(5),
             Step::End,
         ],
         Some("a\nbcdef\n"),
-        "",
-    ),
-    (
-        6,
-        ASCII,
-        &[
-            Step::Script("a"),
-            Step::Words(" bcd ef", "RRRRRRR"),
-            Step::End,
-        ],
-        Some("a bcd\nef\n"),
-        "",
-    ),
-    (
-        6,
-        ASCII,
-        &[
-            Step::Script("a"),
-            Step::Words(" b cdef g", "RRRRRRRRR"),
-            Step::End,
-        ],
-        Some("a b\ncdef g\n"),
-        "",
-    ),
-    // A word that passes the width alone is in a row of its own.
-    (
-        6,
-        ASCII,
-        &[
-            Step::Script("a"),
-            Step::Words(" bcdefghi j", "RRRRRRRRRRR"),
-            Step::End,
-        ],
-        Some("a\nbcdefghi\nj\n"),
         "",
     ),
     // Several rows.
@@ -80,7 +148,7 @@ pub(crate) const WORDS: &[Case<'static>] = &[
         ASCII,
         &[
             Step::Script("a"),
-            Step::Words(" bc def gh ij klm", "RRRRRRRRRRRRRRRRR"),
+            Step::Words(1, " bc def gh ij klm", ""),
             Step::Rows(2),
             Step::Open(6),
             Step::End,
@@ -88,128 +156,11 @@ pub(crate) const WORDS: &[Case<'static>] = &[
         Some("a bc\ndef gh\nij klm\n"),
         "",
     ),
-    // Each letter in its font.
-    (
-        6,
-        ASCII,
-        &[Step::Script("a"), Step::Words(" bc", "RBI"), Step::End],
-        Some("a b\u{8}b_\u{8}c\n"),
-        "",
-    ),
-    (
-        6,
-        ASCII,
-        &[
-            Step::Script("a"),
-            Step::Words(" bcd ef", "RRBBRIX"),
-            Step::End,
-        ],
-        Some("a bc\u{8}cd\u{8}d\n_\u{8}e_\u{8}f\u{8}f\n"),
-        "",
-    ),
-    // With margins.
-    (
-        6,
-        ASCII,
-        &[
-            Step::Script("Ma"),
-            Step::Words(" bcd ef", "RRRRRRR"),
-            Step::End,
-        ],
-        Some(" a bcd\n  ef\n"),
-        "",
-    ),
-    // What follows goes on with the last word.
-    (
-        6,
-        ASCII,
-        &[
-            Step::Script("a"),
-            Step::Words(" bcd", "RRRR"),
-            Step::Script("e_f"),
-            Step::End,
-        ],
-        Some("a bcde\nf\n"),
-        "",
-    ),
-    (
-        6,
-        ASCII,
-        &[
-            Step::Script("a"),
-            Step::Words(" bcd", "RRRR"),
-            Step::Script("ef"),
-            Step::End,
-        ],
-        Some("a\nbcdef\n"),
-        "",
-    ),
-    (
-        6,
-        ASCII,
-        &[
-            Step::Script("a"),
-            Step::Words(" b cd ef", "RRRRRRRR"),
-            Step::Script("gh"),
-            Step::End,
-        ],
-        Some("a b cd\nefgh\n"),
-        "",
-    ),
-    // A blank that waits is not another one; nor is a word that is open.
-    (
-        6,
-        ASCII,
-        &[Step::Script("a_+"), Step::Words(" b", "RR"), Step::End],
-        Some("a b\n"),
-        "",
-    ),
-    (
-        6,
-        ASCII,
-        &[Step::Script("a="), Step::Words(" b", "RR"), Step::End],
-        Some("a b\n"),
-        "",
-    ),
-    // They come one by one where the row has no cell, at a place, where rows are kept, and if one byte is no printable ASCII.
-    (
-        6,
-        ASCII,
-        &[
-            Step::Refused(" b"),
-            Step::Script("a/"),
-            Step::Refused(" b"),
-            Step::End,
-        ],
-        Some("a\n"),
-        "",
-    ),
-    (
-        6,
-        ASCII,
-        &[Step::Script("NaE"), Step::Refused(" b"), Step::End],
-        Some("a\n"),
-        "",
-    ),
-    (
-        6,
-        ASCII,
-        &[Step::Script("La"), Step::Refused(" b"), Step::End],
-        Some("a\n"),
-        "",
-    ),
-    (
-        6,
-        ASCII,
-        &[Step::Script("a"), Step::Refused(" b\u{e9}"), Step::End],
-        Some("a\n"),
-        "",
-    ),
     // Nothing is taken after the end.
     (
         6,
         ASCII,
-        &[Step::Script("a"), Step::End, Step::Refused(" b")],
+        &[Step::Script("a"), Step::End, Step::Refused(1, " b")],
         Some("a\n"),
         "",
     ),

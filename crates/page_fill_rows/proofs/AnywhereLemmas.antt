@@ -6,8 +6,7 @@ use Rattle.page_core_base.specs.declared.cells.Cell.{Cell}
 use Rattle.page_core_base.specs.declared.places.Place.{Place}
 use Rattle.page_core_base.specs.Laid.{Laid, join}
 use Rattle.page_core_base.specs.declared.limits.TheConstants.{CELLS}
-use Rattle.page_fill_rows.specs.machine.Sheets.{Sheet, blank, counted, letter, letters, opens, passes, space}
-use Rattle.page_fill_rows.proofs.WrapLemmas.{both}
+use Rattle.page_fill_rows.specs.machine.Sheets.{Sheet, blank, counted, letter, letters, passes, space}
 
 letter-anywhere : (s : Sheet) (cell : Cell) (p q : Place) → length s.cells < CELLS → letter s cell p ≡ letter s cell q
 unfolding letter
@@ -47,9 +46,9 @@ letters-length s (cell ∷ cells) place room =
     let others = letters-length (letter s cell place).edge cells place (omega (arith, len, room)) in
     omega (arith, len, others)
 
--- ---- a blank, and a word after it
+-- ---- a blank
 
-space-anywhere : (s : Sheet) (p q : Place) → length s.cells < CELLS → space s p ≡ space s q
+pub space-anywhere : (s : Sheet) (p q : Place) → length s.cells < CELLS → space s p ≡ space s q
 unfolding space
 space-anywhere s p q room = let full : (length s.cells == CELLS) ≡ false = grind (arith, nat_tests, room) in rw full refl
 
@@ -64,10 +63,3 @@ space-length s place room =
         | inr p ↦ let len = length-append s.cells (blank ∷ []) in rw (some, p, full) (omega (arith, len))
       ]
     ]
-
-pub both-anywhere : (s : Sheet) (cells : List Cell) (p q : Place) → length s.cells + 1 + length cells ≤ CELLS → both s cells p ≡ both s cells q
-both-anywhere s cells p q room =
-    let first = space (opens s) q in
-    let len = space-length (opens s) q (omega (arith, room)) in
-    rw (space-anywhere (opens s) p q (omega (arith, room)))
-    (ap (λ (l : Laid Sheet). join first l) (letters-anywhere first.edge cells p q (omega (arith, len, room))))

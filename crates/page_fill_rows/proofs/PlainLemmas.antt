@@ -160,7 +160,7 @@ pub blank-one : cell_columns blank ≡ 1
 unfolding char_width
 blank-one = refl
 
-columns-blanks : (n : ℕ) → columns (replicate n blank) ≡ n
+pub columns-blanks : (n : ℕ) → columns (replicate n blank) ≡ n
 columns-blanks zero = refl
 columns-blanks (suc n) =
     let first : columns (blank ∷ []) ≡ 1 = omega (arith, blank-one) in
@@ -193,6 +193,24 @@ pub taken-word : (s : Sheet) (blanks : ℕ) (bytes : List ℕ) (font : Font) →
       tag_begun = true;
     }
 taken-word s blanks bytes font some = rw (taken-cells s blanks (cells_of font bytes) some, length-map bytes (cell_of font)) refl
+
+-- a sound row with blanks before its next word is sound
+pub sound-spaces : {held : ℕ} (cells : List Cell) (blanks count gap word tag tag-now : ℕ) → IsSound cells count gap word tag held
+    → length cells + blanks ≤ CELLS → tag-now ≤ TAG_COLUMNS → IsSound (cells ++ replicate blanks blank) (count + blanks) (length cells) (length cells + blanks) tag-now held
+sound-spaces cells blanks count gap word tag tag-now sound room tagged =
+    let front = length-append cells (replicate blanks blank) in
+    let len : length (cells ++ replicate blanks blank) ≡ length cells + blanks = omega (arith, front, length-replicate blanks blank) in
+    let wide = sum_by-append cell_columns cells (replicate blanks blank) in
+    let sum : columns (cells ++ replicate blanks blank) ≡ columns cells + blanks = omega (arith, wide, columns-blanks blanks) in
+    record {
+      bounded = omega (arith, len, room);
+      counted = ap (λ k. k + blanks) sound.counted ∙ sym sum;
+      narrow = omega (arith, len, sound.narrow);
+      gap_within = omega arith;
+      word_within = omega (arith, len);
+      tag_within = tagged;
+      blanks_within = sound.blanks_within;
+    }
 
 -- a sound row with blanks and the cells of a plain text is sound
 pub sound-word : {held : ℕ} (cells : List Cell) (blanks : ℕ) (bytes : List ℕ) (font : Font) (count gap word tag tag-now : ℕ) → IsSound cells count gap word tag held

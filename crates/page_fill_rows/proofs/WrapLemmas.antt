@@ -14,8 +14,8 @@ use Rattle.page_core_base.specs.declared.limits.TheConstants.{CELLS}
 use Rattle.page_fill_rows.specs.declared.TheConstants.{TAG_COLUMNS}
 use Rattle.page_fill_rows.specs.machine.Sheets.{Sheet, blank, cell_columns, columns, counted, emptied, given, gives, letter, letters, opens, over, passes, space, wraps}
 use Rattle.page_fill_rows.specs.Characters.{cell_of, cells_of}
-use Rattle.page_fill_rows.specs.machine.Plain.{ends_before, has_room, has_word_room, is_printable_ascii, spaced, spaced_by, taken, wraps_plain}
-use Rattle.page_fill_rows.proofs.PlainLemmas.{are_plain, blank-one, cells-fit, counts-more, first-column, has-more, of-plain, others-plain, space-fits, spaced-room}
+use Rattle.page_fill_rows.specs.machine.Plain.{ends_before, has_room, is_printable_ascii, spaced, wraps_plain}
+use Rattle.page_fill_rows.proofs.PlainLemmas.{are_plain, blank-one, cells-fit, counts-more, first-column, has-more, of-plain, others-plain}
 use Rattle.page_fill_rows.proofs.SheetLemmas.{letters-one}
 
 -- the row of some cells was given, and the next one has others
@@ -139,16 +139,6 @@ space-stays s place some p full = rw (some, p, full) refl
 -- what the blank settles, and then the word
 abbrev pub both : Sheet → List Cell → Place → Laid Sheet
 both s cells place = join (space (opens s) place) (letters (space (opens s) place).edge cells place)
-
--- the row has room for them
-pub both-fit : (s : Sheet) (cell : Cell) (cells : List Cell) (place : Place) → are_plain (cell ∷ cells) ≡ true
-    → has_word_room s 1 (length (cell ∷ cells)) ≡ true → both s (cell ∷ cells) place ≡ nothing (taken (spaced_by s 1) (cell ∷ cells))
-both-fit s cell cells place plain room =
-    let literal : s.literal ≡ false = grind (arith, room) in
-    let some : (length s.cells == 0) ≡ false = grind (arith, nat_tests, room) in
-    let within : length s.cells < CELLS = grind (arith, nat_tests, room) in
-    let narrow : s.margin + columns s.cells + 1 ≤ s.width = grind (arith, nat_tests, room) in
-    rw (space-fits (opens s) place literal some within narrow) (cells-fit (spaced_by s 1) cell cells place plain (spaced-room s 1 (length (cell ∷ cells)) room))
 
 -- it ends before them
 pub both-cells : (s : Sheet) (cell : Cell) (cells : List Cell) (place : Place) → are_plain (cell ∷ cells) ≡ true

@@ -614,6 +614,35 @@ impl OpenRow {
         self.has_tag_cell = true;
     }
 
+    // The row, which has room, takes blanks before its next word.
+    fn add_spaces(&mut self, count: u32)
+        requires { length self.old.cells + count ≤ CELLS }
+        ensures { self.new ≡ plain.spaced_by self.old count }
+    {
+        self.gap = self.row.len();
+        self.word = self.gap + count as usize;
+        self.row.add_spaces(count);
+        self.columns += count;
+        self.tag_columns = self.tag_columns.saturating_add(count).min(TAG_COLUMNS);
+        self.has_tag_cell = true;
+    }
+
+    /// The same of words after more blanks, beside the one that is before each word.
+    pub fn add_words_after(&mut self, more: u32, text: &[u8], fonts: &[Font], start: usize)
+        requires plain { plain.is_printable_ascii text.now ≡ true }
+        requires fonts { length fonts.now ≡ length text.now }
+        requires room { length self.old.cells + more + length text.now ≤ CELLS }
+        requires start { (0 < start) × (start ≤ length text.now) }
+        ensures { self.new ≡ plain.words_after self.old more (cells_in text.now fonts.now) start }
+    {
+        let gap = self.row.len();
+        self.add_spaces(more);
+        self.add_words(text, fonts, start);
+        if start == 1 {
+            self.gap = gap;
+        }
+    }
+
     /// The row takes cells of bytes that are a column each.
     pub(crate) fn add_plain(&mut self, bytes: &[u8], font: Font)
         requires plain { plain.is_printable_ascii bytes.now ≡ true }

@@ -1,7 +1,7 @@
 -- A machine, which no public clause cites: the fast ways for plain words, which go into the open row or into the next one as a whole.
-use Rattle.std.specs.Prelude.{ℕ, ◌+◌, ◌-◌, Bool, not, ◌&&◌, ◌==◌, nat_le, nat_lt, List, length, drop, take, if◌then◌else◌}
-use Rattle.std.specs.List.{prefix_len}
+use Rattle.std.specs.Prelude.{ℕ, ◌+◌, ◌-◌, Bool, not, ◌&&◌, ◌==◌, nat_le, nat_lt, List, length, take, if◌then◌else◌}
 use Rattle.page_fill_rows.specs.machine.Plain.{ends_before, has_word_room, word_start}
+use Rattle.page_fill.specs.LetteredWords.{first_letters}
 use Rattle.page_fill.specs.machine.Fill.{Edge}
 
 -- a word after blanks, with this count of cells of a column each, goes into the open row
@@ -15,7 +15,7 @@ wraps_word e count = not e.word.is_joined && (not e.word.has_tab && (e.word.blan
 
 -- how many bytes the first word of a text is, with the blank before it
 abbrev pub first_word : List ℕ → ℕ
-first_word text = 1 + prefix_len (λ b. not (b == 32)) (drop 1 text)
+first_word text = 1 + first_letters text
 
 -- how many bytes of a text, with a blank before each word, are whole words, among the first ones up to a number
 abbrev pub whole_words : List ℕ → ℕ → ℕ

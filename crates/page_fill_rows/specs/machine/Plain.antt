@@ -94,3 +94,9 @@ words_taken s cells start = record s {
   tag_columns = min (s.tag_columns + length cells) TAG_COLUMNS;
   tag_begun = true;
 }
+
+-- the same after more blanks: all of them are before the last word where that is the first one
+abbrev pub words_after : Sheet → ℕ → List Cell → ℕ → Sheet
+words_after s more cells start =
+    let t = words_taken (spaced_by s more) cells start in
+    record t { gap = if start == 1 then length s.cells else t.gap }

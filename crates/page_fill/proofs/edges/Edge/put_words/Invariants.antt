@@ -5,7 +5,7 @@ use Rattle.page_core_base.specs.declared.limits.TheConstants.{CELLS}
 use Rattle.page_fill_cells.specs.Cells.{is_printable_ascii}
 use Rattle.page_fill.specs.Caps.{is_sound}
 use Rattle.page_fill.specs.machine.Fill.{Edge}
-use Rattle.page_fill.proofs.LetteredWordLemmas.{LaysUpTo}
+use Rattle.page_fill.specs.machine.LetteredWords.{LaysUpTo}
 use Rattle.page_fill.proofs.edges.Edge.put_words.Given as goal
 
 abbrev pub invariant-loop-rest : goal.invariant-loop-rest
@@ -14,7 +14,7 @@ invariant-loop-rest g l =
     × (length l.own ≡ length l.rest)
     × (length l.self.sheet.cells + length l.rest ≤ CELLS)
     × (is_sound l.fn.self.word ≡ true → is_sound l.self.word ≡ true)
-    × ((given : Laid Edge) × LaysOut g.O.RowOut.left l.fn.out given l.out l.self × LaysUpTo l.fn.self l.text l.fonts l.rest l.own given)
+    × ((given : Laid Edge) × LaysOut g.O.RowOut.left l.fn.out given l.out l.self × LaysUpTo l.fn.self l.blanks l.text l.fonts l.rest l.own given)
 
 abbrev pub decreases-loop-rest : goal.decreases-loop-rest
 decreases-loop-rest g l = length l.rest
