@@ -10,7 +10,7 @@ use Rattle.page_roff_syntax.specs.declared.quotes.Argument.{Argument}
 use Rattle.page_scopes_blocks.specs.NameHangs.{kind_counted}
 use Rattle.page_scopes_layout.specs.Nodes.{margin_items}
 use Rattle.page_scopes_layout.specs.declared.contexts.Context.{Context}
-use Rattle.page_scopes_leaves.specs.EventKinds.{kind_outcome, name_after}
+use Rattle.page_scopes_nodes.specs.EventKinds.{kind_outcome, name_after}
 use Rattle.page_scopes_phrases.specs.LineWords.{argument_word, line_word}
 use Rattle.page_scopes_phrases.specs.Outcomes.{Outcome, nothing, row_break}
 use Rattle.page_scopes_phrases.specs.declared.kept_texts.KeptText.{KeptText}

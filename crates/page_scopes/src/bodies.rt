@@ -3,7 +3,7 @@
 ghost use Rattle.std.specs.Prelude.{◌≡◌};
 ghost use Rattle.page_core_base.specs.Latches.{Came};
 ghost use Rattle.page_scopes.specs.Bodies as bodies;
-ghost use Rattle.page_scopes_leaves.specs.EventKinds.{name_after};
+ghost use Rattle.page_scopes_nodes.specs.EventKinds.{name_after};
 ghost use Rattle.page_sets_lines.specs.Fits.{CloserFits, KindFits};
 ghost use Rattle.page_scopes_phrases.specs.Outcomes.{GivesOutcome};
 ghost use Rattle.page_scopes_tree.specs.Acts.{TakesAct, act_view};
@@ -16,7 +16,7 @@ use page_core_numbers::Scale;
 use page_roff_syntax::Argument;
 use page_scopes_blocks::count_name;
 use page_scopes_layout::{Context, give_margins};
-use page_scopes_leaves::give_kind;
+use page_scopes_nodes::give_kind;
 use page_scopes_phrases::{ManualName, Running, argument_word, give_line_word};
 use page_scopes_tree::Act;
 use page_scopes_words::{give_number, report};

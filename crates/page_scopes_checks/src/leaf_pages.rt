@@ -3,7 +3,7 @@
 use page_core_base::{Form, Taken};
 use page_roff_syntax::{LineForm, form_of};
 use page_scopes_layout::Context;
-use page_scopes_leaves::give_kind;
+use page_scopes_nodes::give_kind;
 use page_scopes_phrases::Running;
 use page_sets::{Event, EventKind, Leaf, Man};
 use page_sets_checks::events_of;

@@ -8,7 +8,7 @@ use crate::leaf_pages::{MOST, Page, check_shown};
 use page_core_base::{Font, Place};
 use page_roff_syntax::{Argument, Quoting};
 use page_scopes_blocks::{TagPlace, give_tag};
-use page_scopes_leaves::{end_line, give_leaf, give_raw_line};
+use page_scopes_nodes::{end_line, give_leaf, give_raw_line};
 use page_scopes_phrases::{give_generated_word, give_line_word};
 use page_sets::{GeneratedText, GeneratedWord, Join, Leaf, Role, Word};
 use page_test_streams::Shown;

@@ -31,14 +31,16 @@ use Rattle.page_scopes_nodes.specs.declared.page_layouts.PageLayout.{PageLayout}
 -- `SB`), rows that are alone (`D1`, `Dl`), enclosures and descriptions (`Nd`)
 
 abbrev pub heading_column : HeadingName → ℕ
+heading_column headings.SH = 0
+heading_column headings.Sh = 0
 heading_column headings.SS = 3
 heading_column headings.Ss = 3
-heading_column _ = 0
 
 abbrev pub font_of : FontMacro → Font
+font_of fonts.B = faces.B
+font_of fonts.SB = faces.B
 font_of fonts.I = faces.I
 font_of fonts.SM = faces.R
-font_of _ = faces.B
 
 abbrev pub line_context : LineOpener → Context → Context
 line_context lines.Head c = head_begun c.list c

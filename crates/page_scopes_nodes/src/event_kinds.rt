@@ -1,7 +1,7 @@
 //! What events give that open and close nothing (man(7), mdoc(7)).
 
 ghost use Rattle.std.specs.Prelude.{◌≡◌};
-ghost use Rattle.page_scopes_leaves.specs.EventKinds as event_kinds;
+ghost use Rattle.page_scopes_nodes.specs.EventKinds as event_kinds;
 ghost use Rattle.page_sets_lines.specs.Fits.{KindFits};
 ghost use Rattle.page_scopes_phrases.specs.Outcomes.{GivesOutcome};
 ghost use Rattle.page_sets_lines.specs.Events.{kind_view};

@@ -2,12 +2,12 @@
 use Rattle.std.specs.Prelude.{ℕ, List, [], ◌∷◌, Option}
 use Rattle.page_core_base.specs.declared.places.Place.{Place}
 use Rattle.page_scopes_layout.specs.declared.contexts.Context.{Context}
-use Rattle.page_scopes_leaves.specs.Leaves.{leaf_outcome}
-use Rattle.page_scopes_leaves.specs.LineEnds.{line_end}
+use Rattle.page_scopes_nodes.specs.Leaves.{leaf_outcome}
+use Rattle.page_scopes_nodes.specs.LineEnds.{line_end}
 use Rattle.page_scopes_phrases.specs.LineWords.{line_word}
 use Rattle.page_scopes_phrases.specs.ManualNames.{name_notes, named}
 use Rattle.page_scopes_phrases.specs.Outcomes.{Outcome, after_notes, nothing}
-use Rattle.page_scopes_leaves.specs.RawLines.{raw_line}
+use Rattle.page_scopes_nodes.specs.RawLines.{raw_line}
 use Rattle.page_scopes_phrases.specs.declared.kept_texts.KeptText.{KeptText}
 use Rattle.page_scopes_phrases.specs.declared.runnings.Running.{Running}
 use Rattle.page_scopes_words.specs.Words.{says, shown_part}

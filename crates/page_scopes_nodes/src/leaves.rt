@@ -3,8 +3,8 @@
 ghost use Rattle.std.specs.Prelude.{◌≡◌};
 ghost use Rattle.page_core_base.specs.Latches.{Came};
 ghost use Rattle.page_sets_lines.specs.Fits.{LeafFits};
-ghost use Rattle.page_scopes_leaves.specs.Leaves as leaves;
-ghost use Rattle.page_scopes_leaves.specs.Requests.{given_rows, given_rows_notes};
+ghost use Rattle.page_scopes_nodes.specs.Leaves as leaves;
+ghost use Rattle.page_scopes_nodes.specs.Requests.{given_rows, given_rows_notes};
 ghost use Rattle.page_scopes_phrases.specs.Outcomes.{GivesOutcome};
 ghost use Rattle.page_scopes_words.specs.Settings.{set_to};
 ghost use Rattle.page_sets_lines.specs.Events.{leaf_view, text_view};

@@ -1,7 +1,7 @@
 //! The end of a line (roff(7), `nf`, `\c`).
 
 ghost use Rattle.std.specs.Prelude.{◌≡◌};
-ghost use Rattle.page_scopes_leaves.specs.LineEnds as ends;
+ghost use Rattle.page_scopes_nodes.specs.LineEnds as ends;
 ghost use Rattle.page_scopes_phrases.specs.Outcomes.{GivesOutcome};
 
 use page_core_base::{Piece, PieceOut};

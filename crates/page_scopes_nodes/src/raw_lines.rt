@@ -3,7 +3,7 @@
 ghost use Rattle.std.specs.Prelude.{[]};
 ghost use Rattle.page_core_base.specs.Latches.{Came};
 ghost use Rattle.page_scopes_phrases.specs.Outcomes.{GivesOutcome};
-ghost use Rattle.page_scopes_leaves.specs.RawLines as raw;
+ghost use Rattle.page_scopes_nodes.specs.RawLines as raw;
 
 use page_core_base::{Font, Piece, PieceOut, Place};
 use page_scopes_layout::Context;

@@ -6,7 +6,7 @@ ghost use Rattle.page_scopes_layout.specs.Headings.{in_synopsis};
 ghost use Rattle.page_scopes_layout.specs.declared.contexts.SeriesSoFar.TheVariants.{Begun};
 ghost use Rattle.page_scopes_phrases.specs.LineWords.{own_word};
 ghost use Rattle.page_scopes_phrases.specs.Outcomes.{GivesOutcome, nothing};
-ghost use Rattle.page_scopes_leaves.specs.Steps as steps;
+ghost use Rattle.page_scopes_nodes.specs.Steps as steps;
 ghost use Rattle.page_sets_lines.specs.Events.{step_view};
 ghost use Rattle.page_sets_lines.specs.declared.events.Join.TheVariants.{Apart, Glued};
 ghost use Rattle.page_sets_names.specs.declared.generated_texts.GeneratedText.TheVariants.{Comma, Include};

@@ -7,7 +7,7 @@ ghost use Rattle.page_core_base.specs.declared.pieces.Piece.TheVariants.{Space};
 ghost use Rattle.page_core_escapes.specs.Escapes.{face_view};
 ghost use Rattle.page_roff_syntax.specs.Arguments.{argument_view};
 ghost use Rattle.page_scopes_phrases.specs.Outcomes.{GivesOutcome, row_margin_items};
-ghost use Rattle.page_scopes_leaves.specs.Requests as requests;
+ghost use Rattle.page_scopes_nodes.specs.Requests as requests;
 ghost use Rattle.page_scopes_phrases.specs.Runnings.{row_ended, with_content};
 ghost use Rattle.page_scopes_words.specs.Numbers.{columns_notes};
 ghost use Rattle.page_sets_lines.specs.Events.{given_view, request_view, text_view};

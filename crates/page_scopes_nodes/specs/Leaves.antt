@@ -11,9 +11,9 @@ use Rattle.page_scopes_layout.specs.declared.contexts.Context.{Context}
 use Rattle.page_scopes_phrases.specs.Cells.{in_columns, white_columns}
 use Rattle.page_scopes_phrases.specs.LineWords.{generated_word}
 use Rattle.page_scopes_phrases.specs.Outcomes.{Outcome, at_margins, nothing, row_break}
-use Rattle.page_scopes_leaves.specs.Requests.{given_rows, given_rows_notes, literal, request}
+use Rattle.page_scopes_nodes.specs.Requests.{given_rows, given_rows_notes, literal, request}
 use Rattle.page_scopes_phrases.specs.Runnings.{row_ended, with_content}
-use Rattle.page_scopes_leaves.specs.Steps.{step_outcome}
+use Rattle.page_scopes_nodes.specs.Steps.{step_outcome}
 use Rattle.page_scopes_phrases.specs.declared.kept_texts.KeptText.{KeptText}
 use Rattle.page_scopes_phrases.specs.declared.runnings.Running.{Running}
 use Rattle.page_scopes_words.specs.Words.{has_tab, says, white_cells}
