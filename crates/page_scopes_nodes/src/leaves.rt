@@ -15,64 +15,52 @@ use crate::steps::give_step;
 use page_core_base::{Font, NoteKind, Piece, PieceOut, Place};
 use page_scopes_layout::Context;
 use page_scopes_phrases::{
-    ManualName, Running, give_generated_word, give_white_columns, in_columns,
+    Formatting, ManualName, give_generated_word, give_white_columns, in_columns,
 };
 use page_scopes_words::{Setting, give_white_cells, has_tab, report};
 use page_sets_lines::Leaf;
 
 // Gives a blank line.
-fn give_blank_line<O: PieceOut>(out: &mut O, place: Place, context: &Context, running: &mut Running)
-    ensures { GivesOutcome O.left out.old (leaves.blank_line place context.now running.old)
-        out.new context.now running.new }
+fn give_blank_line<O: PieceOut>(out: &mut O, place: Place, state: &mut Formatting)
+    ensures { GivesOutcome O.left out.old (leaves.blank_line place state.old)
+        out.new state.new }
 {
-    if context.is_literal.value {
+    if state.context.is_literal.value {
         out.give(Piece::RowEnd);
     } else {
         report(out, NoteKind::BlankFill, place, b"");
         out.give(Piece::Space(1));
     }
-    running.has_content = true;
-    running.end_row();
+    state.has_content = true;
+    state.end_row();
 }
 
 // Gives a line of blanks and tabs where rows are kept.
-fn give_kept_line<O: PieceOut>(
-    out: &mut O,
-    place: Place,
-    text: &[u8],
-    context: &mut Context,
-    running: &mut Running,
-)
-    ensures { GivesOutcome O.left out.old (leaves.kept_line place text.now context.old running.old)
-        out.new context.new running.new }
+fn give_kept_line<O: PieceOut>(out: &mut O, place: Place, text: &[u8], state: &mut Formatting)
+    ensures { GivesOutcome O.left out.old (leaves.kept_line place text.now state.old)
+        out.new state.new }
 {
-    if in_columns(context) && has_tab(text) {
-        give_white_columns(out, text, context, running);
+    if in_columns(&state.context) && has_tab(text) {
+        give_white_columns(out, text, state);
     } else {
         give_white_cells(out, place, text);
-        context.has_row = context.has_row || !text.is_empty();
-        running.line.has_row_words = true;
+        state.context.has_row = state.context.has_row || !text.is_empty();
+        state.line.has_row_words = true;
     }
 }
 
 // Gives a line of blanks and tabs, or of nothing.
-fn give_wordless_line<O: PieceOut>(
-    out: &mut O,
-    place: Place,
-    text: &[u8],
-    context: &mut Context,
-    running: &mut Running,
-)
-    ensures { let literal = context.old.is_literal.value
+fn give_wordless_line<O: PieceOut>(out: &mut O, place: Place, text: &[u8], state: &mut Formatting)
+    ensures { let literal = state.old.context.is_literal.value
         in GivesOutcome O.left out.old
-        (leaves.wordless_line literal place text.now context.old running.old)
-        out.new context.new running.new }
+        (leaves.wordless_line literal place text.now state.old)
+        out.new state.new }
 {
-    if context.is_literal.value {
-        give_kept_line(out, place, text, context, running);
+    if state.context.is_literal.value {
+        give_kept_line(out, place, text, state);
     } else if !text.is_empty() {
         out.give(Piece::Break);
-        running.end_row();
+        state.end_row();
     }
 }
 
@@ -86,32 +74,31 @@ fn give_distance<O: PieceOut>(out: &mut O, place: Place, rows: Option<&[u8]>, co
 }
 
 // The words of a font macro (`B`, `I`, `SM`, `SB`) begin, or end.
-fn set_fonts(font: Option<Font>, context: &mut Context, running: &mut Running)
-    ensures context { context.new ≡ (leaves.fonts font context.old running.old).context }
-    ensures running { running.new ≡ (leaves.fonts font context.old running.old).running }
+fn set_fonts(font: Option<Font>, state: &mut Formatting)
+    ensures { state.new ≡ (leaves.fonts font state.old).state }
 {
     match font {
         Some(font) => {
-            running.line.fonts_before = Some(context.fonts);
-            *context = context.font_begun(font);
+            state.line.fonts_before = Some(state.context.fonts);
+            state.context = state.context.font_begun(font);
         }
         None => {
-            context.fonts = running.line.fonts_before.unwrap_or(context.fonts);
-            running.line.fonts_before = None;
+            state.context.fonts = state.line.fonts_before.unwrap_or(state.context.fonts);
+            state.line.fonts_before = None;
         }
     }
 }
 
 // A further tag comes: `TQ`.
-fn give_further_tag<O: PieceOut>(out: &mut O, context: &mut Context, running: &mut Running)
+fn give_further_tag<O: PieceOut>(out: &mut O, state: &mut Formatting)
     ensures { GivesOutcome O.left out.old
-        (leaves.further_tag context.old running.old)
-        out.new context.new running.new }
+        (leaves.further_tag state.old)
+        out.new state.new }
 {
-    context.hang = context.prevailing;
-    context.first = None;
-    give_row_margins(out, context);
-    running.end_row();
+    state.context.hang = state.context.prevailing;
+    state.context.first = None;
+    give_row_margins(out, &state.context);
+    state.end_row();
 }
 
 /// Gives what a leaf gives, in the context of a page's body; the name is that of the manual.
@@ -122,24 +109,23 @@ pub fn give_leaf<O: PieceOut>(
     place: Place,
     leaf: &Leaf<&[u8]>,
     name: &Option<ManualName>,
-    context: &mut Context,
-    running: &mut Running,
+    state: &mut Formatting,
 )
     requires { LeafFits (leaf_view leaf.now) }
     ensures { GivesOutcome O.left out.old
-        (leaves.leaf_outcome place (leaf_view leaf.now) name.now context.old running.old)
-        out.new context.new running.new }
+        (leaves.leaf_outcome place (leaf_view leaf.now) name.now state.old)
+        out.new state.new }
 {
     match *leaf {
-        Leaf::BlankLine => give_blank_line(out, place, context, running),
-        Leaf::Wordless(text) => give_wordless_line(out, place, text, context, running),
-        Leaf::Request(request) => give_request(out, place, &request, context, running),
+        Leaf::BlankLine => give_blank_line(out, place, state),
+        Leaf::Wordless(text) => give_wordless_line(out, place, text, state),
+        Leaf::Request(request) => give_request(out, place, &request, state),
         Leaf::Prologue(..) => {}
-        Leaf::Generated(word) => give_generated_word(out, place, word, context, running),
-        Leaf::Example(begins) => give_literal(out, begins, context, running),
-        Leaf::Distance(rows) => give_distance(out, place, rows, context),
-        Leaf::Fonts(font) => set_fonts(font, context, running),
-        Leaf::FurtherTag => give_further_tag(out, context, running),
-        Leaf::Step(step) => give_step(out, place, &step, name, context, running),
+        Leaf::Generated(word) => give_generated_word(out, place, word, state),
+        Leaf::Example(begins) => give_literal(out, begins, state),
+        Leaf::Distance(rows) => give_distance(out, place, rows, &mut state.context),
+        Leaf::Fonts(font) => set_fonts(font, state),
+        Leaf::FurtherTag => give_further_tag(out, state),
+        Leaf::Step(step) => give_step(out, place, &step, name, state),
     }
 }

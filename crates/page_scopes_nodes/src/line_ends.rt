@@ -5,24 +5,23 @@ ghost use Rattle.page_scopes_nodes.specs.LineEnds as ends;
 ghost use Rattle.page_scopes_phrases.specs.Outcomes.{GivesOutcome};
 
 use page_core_base::{Piece, PieceOut};
-use page_scopes_layout::Context;
-use page_scopes_phrases::Running;
+use page_scopes_phrases::Formatting;
 
 // Whether a line is a row that ends with it.
-fn ends_row(context: &Context, running: &Running) -> bool
-    ensures { result ≡ ends.ends_row context.now running.now }
+fn ends_row(state: &Formatting) -> bool
+    ensures { result ≡ ends.ends_row state.now }
 {
-    context.is_literal.value && (!running.line.is_cut && running.line.has_row_words)
+    state.context.is_literal.value && (!state.line.is_cut && state.line.has_row_words)
 }
 
 /// Ends a line: its row ends with it, where rows are kept.
 #[inline(always)]
-pub fn end_line<O: PieceOut>(out: &mut O, context: &Context, running: &mut Running)
-    ensures { GivesOutcome O.left out.old (ends.line_end context.now running.old)
-        out.new context.now running.new }
+pub fn end_line<O: PieceOut>(out: &mut O, state: &mut Formatting)
+    ensures { GivesOutcome O.left out.old (ends.line_end state.old)
+        out.new state.new }
 {
-    if ends_row(context, running) {
+    if ends_row(state) {
         out.give(Piece::RowEnd);
     }
-    running.end_line(context.has_spacing.value);
+    state.end_line();
 }

@@ -13,9 +13,9 @@ ghost use Rattle.page_sets_names.specs.declared.generated_texts.GeneratedText.Th
 
 use crate::margins::give_row_margins;
 use page_core_base::{NoteKind, Piece, PieceOut, Place};
-use page_scopes_layout::{Context, SeriesSoFar, give_margins, in_synopsis};
+use page_scopes_layout::{SeriesSoFar, give_margins, in_synopsis};
 use page_scopes_phrases::{
-    ManualName, Running, argument_word, blanks_part, give_column_step, give_function_end,
+    Formatting, ManualName, argument_word, blanks_part, give_column_step, give_function_end,
     give_generated_word, give_line_word, give_manual_name, joined_gap,
 };
 use page_scopes_words::{Setting, report};
@@ -24,11 +24,11 @@ use page_sets_lines::{
 };
 
 // The next word is glued to the one before: `Ns`.
-fn glue(context: &Context, running: &mut Running)
-    ensures { running.new ≡ steps.glued context.now running.old }
+fn glue(state: &mut Formatting)
+    ensures { state.new ≡ steps.glued state.old }
 {
-    let parts = blanks_part(running.line.ends_blank, context);
-    running.gap = joined_gap(Join::Glued, parts, running.gap);
+    let parts = blanks_part(state.line.ends_blank, &state.context);
+    state.gap = joined_gap(Join::Glued, parts, state.gap);
 }
 
 // Begins a paragraph: `Pp`, `Lp`.
@@ -36,18 +36,17 @@ fn give_body_paragraph<O: PieceOut>(
     out: &mut O,
     place: Place,
     name: BodyParagraphName,
-    context: &mut Context,
-    running: &mut Running,
+    state: &mut Formatting,
 )
     ensures { GivesOutcome O.left out.old
-        (steps.body_paragraph place name context.old running.old)
-        out.new context.new running.new }
+        (steps.body_paragraph place name state.old)
+        out.new state.new }
 {
-    if running.has_content {
-        *context = context.flat();
-        out.give(Piece::Para(context.distance.value));
-        give_margins(out, context);
-        running.end_row();
+    if state.has_content {
+        state.context = state.context.flat();
+        out.give(Piece::Para(state.context.distance.value));
+        give_margins(out, &state.context);
+        state.end_row();
     } else {
         report(out, NoteKind::SkipPara, place, name.name().as_bytes());
     }
@@ -66,38 +65,28 @@ fn comma() -> GeneratedWord
 }
 
 // Begins a field of the open reference: `%A` and so on.
-fn give_next_field<O: PieceOut>(
-    out: &mut O,
-    place: Place,
-    context: &mut Context,
-    running: &mut Running,
-)
+fn give_next_field<O: PieceOut>(out: &mut O, place: Place, state: &mut Formatting)
     ensures { GivesOutcome O.left out.old
-        (steps.next_of context.old.fields (record context.old { fields = Begun }) place context.old running.old)
-        out.new context.new running.new }
+        (steps.next_of state.old.context.fields (record state.old.context { fields = Begun }) place state.old)
+        out.new state.new }
 {
-    match context.fields {
+    match state.context.fields {
         SeriesSoFar::Outside => {}
-        SeriesSoFar::Empty => context.fields = SeriesSoFar::Begun,
-        SeriesSoFar::Begun => give_generated_word(out, place, comma(), context, running),
+        SeriesSoFar::Empty => state.context.fields = SeriesSoFar::Begun,
+        SeriesSoFar::Begun => give_generated_word(out, place, comma(), state),
     }
 }
 
 // Begins an argument of the open function: `Fa`.
-fn give_next_argument<O: PieceOut>(
-    out: &mut O,
-    place: Place,
-    context: &mut Context,
-    running: &mut Running,
-)
+fn give_next_argument<O: PieceOut>(out: &mut O, place: Place, state: &mut Formatting)
     ensures { GivesOutcome O.left out.old
-        (steps.next_of context.old.arguments (record context.old { arguments = Begun }) place context.old running.old)
-        out.new context.new running.new }
+        (steps.next_of state.old.context.arguments (record state.old.context { arguments = Begun }) place state.old)
+        out.new state.new }
 {
-    match context.arguments {
+    match state.context.arguments {
         SeriesSoFar::Outside => {}
-        SeriesSoFar::Empty => context.arguments = SeriesSoFar::Begun,
-        SeriesSoFar::Begun => give_generated_word(out, place, comma(), context, running),
+        SeriesSoFar::Empty => state.context.arguments = SeriesSoFar::Begun,
+        SeriesSoFar::Begun => give_generated_word(out, place, comma(), state),
     }
 }
 
@@ -114,15 +103,15 @@ fn include_word() -> GeneratedWord
 }
 
 // Later rows are further in by the columns of a name that has begun a row.
-fn give_name_hang<O: PieceOut>(out: &mut O, context: &mut Context, running: &mut Running)
+fn give_name_hang<O: PieceOut>(out: &mut O, state: &mut Formatting)
     ensures { GivesOutcome O.left out.old
-        (steps.name_hung running.old.line.name_columns context.old running.old)
-        out.new context.new running.new }
+        (steps.name_hung state.old.line.name_columns state.old)
+        out.new state.new }
 {
-    if let Some(columns) = running.line.name_columns {
-        *context = context.name_ended(columns);
-        give_margins(out, context);
-        running.line.name_columns = None;
+    if let Some(columns) = state.line.name_columns {
+        state.context = state.context.name_ended(columns);
+        give_margins(out, &state.context);
+        state.line.name_columns = None;
     }
 }
 
@@ -131,26 +120,25 @@ fn give_synopsis_step<O: PieceOut>(
     out: &mut O,
     place: Place,
     step: SynopsisStep,
-    context: &mut Context,
-    running: &mut Running,
+    state: &mut Formatting,
 )
     ensures { GivesOutcome O.left out.old
-        (steps.synopsis_step place step context.old running.old)
-        out.new context.new running.new }
+        (steps.synopsis_step place step state.old)
+        out.new state.new }
 {
     match step {
         SynopsisStep::Break => {
             out.give(Piece::Break);
-            running.end_row();
+            state.end_row();
         }
-        SynopsisStep::Include => give_generated_word(out, place, include_word(), context, running),
+        SynopsisStep::Include => give_generated_word(out, place, include_word(), state),
         SynopsisStep::NameBegins => {
-            *context = context.name_begun();
-            give_row_margins(out, context);
-            running.end_row();
-            running.line.name_columns = Some(0);
+            state.context = state.context.name_begun();
+            give_row_margins(out, &state.context);
+            state.end_row();
+            state.line.name_columns = Some(0);
         }
-        SynopsisStep::NameEnds => give_name_hang(out, context, running),
+        SynopsisStep::NameEnds => give_name_hang(out, state),
     }
 }
 
@@ -159,27 +147,25 @@ fn give_if_synopsis<O: PieceOut>(
     out: &mut O,
     place: Place,
     step: SynopsisStep,
-    context: &mut Context,
-    running: &mut Running,
+    state: &mut Formatting,
 )
     ensures { GivesOutcome O.left out.old
-        (if in_synopsis context.old then steps.synopsis_step place step context.old running.old else nothing context.old running.old)
-        out.new context.new running.new }
+        (if in_synopsis state.old.context then steps.synopsis_step place step state.old else nothing state.old)
+        out.new state.new }
 {
-    if in_synopsis(context) {
-        give_synopsis_step(out, place, step, context, running);
+    if in_synopsis(&state.context) {
+        give_synopsis_step(out, place, step, state);
     }
 }
 
 // Whether blanks are between words from here on: `Sm`.
-fn set_spacing(on: Option<bool>, context: &mut Context, running: &mut Running)
-    ensures context { context.new ≡ (steps.spaced (unwrap_or on (not context.old.has_spacing.value)) context.old running.old).context }
-    ensures running { running.new ≡ (steps.spaced (unwrap_or on (not context.old.has_spacing.value)) context.old running.old).running }
+fn set_spacing(on: Option<bool>, state: &mut Formatting)
+    ensures { state.new ≡ (steps.spaced (unwrap_or on (not state.old.context.has_spacing.value)) state.old).state }
 {
-    let on = on.unwrap_or(!context.has_spacing.value);
-    context.has_spacing = Setting::set_to(on);
+    let on = on.unwrap_or(!state.context.has_spacing.value);
+    state.context.has_spacing = Setting::set_to(on);
     if on {
-        running.gap = running.gap.max(1);
+        state.gap = state.gap.max(1);
     }
 }
 
@@ -189,29 +175,28 @@ pub(crate) fn give_step<O: PieceOut>(
     place: Place,
     step: &LineStep<&[u8]>,
     name: &Option<ManualName>,
-    context: &mut Context,
-    running: &mut Running,
+    state: &mut Formatting,
 )
     requires { StepFits (step_view step.now) }
     ensures { GivesOutcome O.left out.old
-        (steps.step_outcome place (step_view step.now) name.now context.old running.old)
-        out.new context.new running.new }
+        (steps.step_outcome place (step_view step.now) name.now state.old)
+        out.new state.new }
 {
     match *step {
-        LineStep::NextColumn => give_column_step(out, place, context, running),
-        LineStep::Glue => glue(context, running),
+        LineStep::NextColumn => give_column_step(out, place, state),
+        LineStep::Glue => glue(state),
         LineStep::BodyParagraph(name) => {
-            give_body_paragraph(out, place, name, context, running);
+            give_body_paragraph(out, place, name, state);
         }
         LineStep::Uri(uri) => {
             let word = argument_word(None, Join::Apart, uri);
-            give_line_word(out, place.line, &word, context, running);
+            give_line_word(out, place.line, &word, state);
         }
-        LineStep::ManualName => give_manual_name(out, place, name, context, running),
-        LineStep::NextField => give_next_field(out, place, context, running),
-        LineStep::NextArgument => give_next_argument(out, place, context, running),
-        LineStep::FunctionEnd => give_function_end(out, place, context, running),
-        LineStep::Spacing(on) => set_spacing(on, context, running),
-        LineStep::Synopsis(step) => give_if_synopsis(out, place, step, context, running),
+        LineStep::ManualName => give_manual_name(out, place, name, state),
+        LineStep::NextField => give_next_field(out, place, state),
+        LineStep::NextArgument => give_next_argument(out, place, state),
+        LineStep::FunctionEnd => give_function_end(out, place, state),
+        LineStep::Spacing(on) => set_spacing(on, state),
+        LineStep::Synopsis(step) => give_if_synopsis(out, place, step, state),
     }
 }
