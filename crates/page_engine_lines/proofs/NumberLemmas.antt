@@ -16,9 +16,9 @@ use Rattle.page_roff_blocks.specs.Loops.{loop_text}
 use Rattle.page_roff_syntax.specs.declared.region_heads.RegionHead.{RegionHead}
 use Rattle.page_roff_values.specs.Arguments.{lines_in}
 use Rattle.page_roff_values.specs.Values.{expanded, units_of}
-use Rattle.page_roff_language.specs.Languages.{Kind}
-use Rattle.page_roff_language.proofs.KeepLemmas.{IsIfSome, IsAny, HasLeaves, HasLoopTexts, any_leaves, any_lines}
-use Rattle.page_roff_language.proofs.KeepEffects.{IsKeptAfter, KeepsEffects, page_keeps}
+use Rattle.page_roff_blocks.specs.Languages.{Kind}
+use Rattle.page_roff_blocks.proofs.KeepLemmas.{IsIfSome, IsAny, HasLeaves, HasLoopTexts, any_leaves, any_lines}
+use Rattle.page_roff_blocks.proofs.KeepEffects.{IsKeptAfter, KeepsEffects, page_keeps}
 use Rattle.page_roff_effects.specs.Commands.{called_body, command_of, command_or, copies, request_command}
 use Rattle.page_roff_effects.specs.States.{Memory, State, Outcome, Product, no_product, line_product, call_product, loop_product, after, counted, Setting, surroundings, nothing}
 use Rattle.page_roff_effects.specs.Leaves.{call_if, ControlLine, does, command_outcome, control_line, control_outcome, form_outcome, leaf_outcome}

@@ -16,8 +16,8 @@ use Rattle.page_sets_lines.specs.PlainLines.{plain_events, plain_line}
 use Rattle.page_sets.specs.Either.{either_events}
 use Rattle.page_sets.specs.declared.either.Either.{Either}
 use Rattle.page_sets.specs.declared.either.Either.TheVariants as sets
-use Rattle.page_sets_man.specs.Man.{line_events as man_line_events, man_events}
-use Rattle.page_sets_mdoc.specs.Mdoc.{line_events as mdoc_line_events, mdoc_events}
+use Rattle.page_sets.specs.Man.{line_events as man_line_events, man_events}
+use Rattle.page_sets.specs.Mdoc.{line_events as mdoc_line_events, mdoc_events}
 
 -- a line that is no control line has the events that all sets of macros give of it
 pub plain_gives : (set : Either) (line : Line) (plain : PlainLine) → plain_line line.form line.text ≡ Some plain

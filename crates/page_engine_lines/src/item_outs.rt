@@ -27,8 +27,8 @@ impl<L: PieceOut> PieceOut for ItemOut<L> {
     }
 
     #[inline(always)]
-    fn give_words(&mut self, text: &[u8], fonts: &[Font]) -> bool {
-        self.latch.give_words(text, fonts)
+    fn give_words(&mut self, blanks: u32, text: &[u8], fonts: &[Font]) -> bool {
+        self.latch.give_words(blanks, text, fonts)
     }
 
     fn report(&mut self, note: &Note) {

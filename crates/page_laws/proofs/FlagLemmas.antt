@@ -6,7 +6,7 @@ use Rattle.page_roff_syntax.specs.declared.quotes.Argument.{Argument}
 use Rattle.page_roff_syntax.specs.declared.quotes.Quoting.TheVariants.{Unclosed}
 use Rattle.page_roff_syntax.specs.Arguments.{first_arguments, arguments}
 use Rattle.page_sets_lines.specs.ControlLines.{before_name, name_end, name_of, is_nameless, arguments_after}
-use Rattle.page_sets_mdoc.specs.Mdoc.{control_events, head_events, line_parts, mdoc_events, named_events}
+use Rattle.page_sets.specs.Mdoc.{control_events, head_events, line_parts, mdoc_events, named_events}
 use Rattle.page_sets_mdoc_lines.specs.Parts.{LineParts, parts}
 use Rattle.page_sets_mdoc_lines.specs.declared.macros.Inline.TheVariants as inlines
 use Rattle.page_sets_mdoc_lines.specs.declared.blocks.LineMacro.TheVariants as lines

@@ -18,8 +18,8 @@ use Rattle.page_sets_lines.specs.declared.events.Event.{Event}
 use Rattle.page_sets_lines.specs.declared.plain_lines.PlainLine.{PlainLine}
 use Rattle.page_sets_lines.specs.ControlLines.{name_end, name_of, name_place, is_nameless, arguments_after, open_quote, rest_of}
 use Rattle.page_sets_lines.specs.PlainLines.{layout_request, line_start, plain_line}
-use Rattle.page_sets_man.specs.Rows.{table, macro_row, request_row, row_of}
-use Rattle.page_sets_man.specs.Man.{effect_kind, line_scope, one_word, plain_words, alternating_words, option_words, section_words, reference_words, further_words, words_events, break_events, quote_at, missing_quote, quote_events, kind_events, scope_events, last_events, macro_events, lone_events, named_events, control_events, line_events, man_events}
+use Rattle.page_sets.specs.ManRows.{table, macro_row, request_row, row_of}
+use Rattle.page_sets.specs.Man.{effect_kind, line_scope, one_word, plain_words, alternating_words, option_words, section_words, reference_words, further_words, words_events, break_events, quote_at, missing_quote, quote_events, kind_events, scope_events, last_events, macro_events, lone_events, named_events, control_events, line_events, man_events}
 use Rattle.page_laws.specs.Places.{IsInLine, AreAll}
 use Rattle.page_laws.proofs.PlaceLemmas.{AreAll-append, either_at, AnyAt, AllSit, IsAtIfGiven, open_at, all_sit, start_in, name_in}
 

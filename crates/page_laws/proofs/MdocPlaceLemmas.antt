@@ -24,7 +24,7 @@ use Rattle.page_roff_syntax.specs.declared.quotes.Quoting.TheVariants.{Bare, Clo
 use Rattle.std.specs.List.{list_all}
 use Rattle.page_sets_mdoc_lines.specs.Rows.{called, line_macro, is_parsed, row_of}
 use Rattle.page_sets_mdoc_blocks.specs.Fronts.{block_front, block_note, field_front, given_names, has_real_word, include_front, is_standard, kind_at_name, line_arguments, missing_quote, note_events, option_quote, quote_events, spacing_kind, spacing_of, first_text}
-use Rattle.page_sets_mdoc.specs.Mdoc.{calls_events, control_events, field_font, head_events, include_words, lacks_words, line_events, line_parts, macro_events, mdoc_events, named_events, phrase_events, refused_events, request_events, rest_events, tail_events, words_events}
+use Rattle.page_sets.specs.Mdoc.{calls_events, control_events, field_font, head_events, include_words, lacks_words, line_events, line_parts, macro_events, mdoc_events, named_events, phrase_events, refused_events, request_events, rest_events, tail_events, words_events}
 use Rattle.page_laws.specs.Places.{IsInLine, AreAll}
 use Rattle.page_laws.proofs.PlaceLemmas.{AreAll-append, either_at, AnyAt, Sits, SitsIfGiven, AllSit, IsAtIfGiven, open_at, all_sit, start_in, name_in}
 use Rattle.page_laws.proofs.MdocWordPlaceLemmas.{printed_at, framed_at, placed_at, include_at, sentence_at}

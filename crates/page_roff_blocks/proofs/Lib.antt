@@ -4,3 +4,17 @@ pub mod FoldLemmas
 pub mod HeadLemmas
 pub mod LoopLemmas
 pub mod RoomLemmas
+pub mod BodyLemmas
+pub mod BudgetLemmas
+pub mod CreditLemmas
+pub mod FrontLemmas
+pub mod KeepEffects
+pub mod KeepLemmas
+pub mod MachineLemmas
+pub mod MeasureLemmas
+pub mod OnLineLemmas
+pub mod SpendLemmas
+pub mod TurnLemmas
+pub mod DepthLemmas
+pub mod SameEffects
+pub mod SameLemmas

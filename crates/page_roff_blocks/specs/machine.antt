@@ -1,3 +1,8 @@
 -- The code's own steps and fast ways. Trust needs no reading of them.
 pub mod LinePlaces
 pub mod Steps
+pub mod Counting
+pub mod Fronts
+pub mod Machine
+pub mod Measures
+pub mod Spending

@@ -1,16 +1,24 @@
-//! The raw lines of a source as a forest of leaves, regions and blocks: what heads and ends them is found
-//! from the raw text alone (roff(7), "if", "ie", "el", "while", "de", "am", "ig").
+//! The raw lines of a source as a forest of leaves, regions and blocks: what heads and ends them is found from the raw text alone (roff(7),
+//! "if", "ie", "el", "while", "de", "am", "ig"). And how such lines run with calls of macros and with loops: the definition, over any meaning of
+//! their parts, with its laws, and the count of a budget.
 //!
-//! It is above the heads of conditionals and loops (`page_roff_heads`); `page_roff_language` runs such a forest. Read `specs/Forest.antt` first,
-//! then `specs/Run.antt` (what a forest does), and `parts.rt` for the code.
+//! It is between the heads of conditionals and loops (`page_roff_heads`) and what the parts of lines do (`page_roff_effects`). It runs nothing:
+//! `page_roff_machine` does. Read `specs/Forest.antt` first, then `Run.antt` (what a forest does), `Languages.antt`, `Budgets.antt`, and the laws
+//! in `laws.rt` and `language_laws.rt`; the code begins in `parts.rt`.
 //!
-//! Proved: `LinePlace` (`next_line_part`, `pass_line_part`, `opens_block`), `is_leaf`, `loop_text`, `Levels`, `OpenRegion`, `BlockCursor`,
+//! Proved: `LinePlace` (`next_line_part`, `pass_line_part`, `opens_block`), `loop_text`, `Levels`, `OpenRegion`, `BlockCursor`,
 //! `Standing`: the parts of a raw line, what of it belongs to a loop, and the open and skipped blocks, the open loop and the open region of a
 //! source. `fold_law`, `cut_law`, `lines_law`, `line_parts_law`, `loop_law`, `room_law`: the forest of a source's raw lines (`specs/Forest.antt`) is what
-//! reading it part by part gives, from every open start, and it may be cut anywhere.
+//! reading it part by part gives, from every open start, and it may be cut anywhere. `machine_law`, `page_cut_law`, `budget_law`, `spending_law`,
+//! `each_line_law`, `calls_law`, `measure_law`, `turns_law`, `front_law`: the definition of how lines run, with calls of macros and with loops
+//! (`specs/Languages.antt`, `Budgets.antt`), over any meaning of their parts: a stack of sources gives the same, it ends, a page may be cut between
+//! any two lines, and the lines taken and the macros and loops that run stay within their budgets. `Budget`: the re-read lines of a source line are
+//! counted by `specs/machine/Counting.antt`.
 #![tactic(auto)]
 
 mod block_cursors;
+mod budgets;
+mod language_laws;
 mod laws;
 mod levels;
 mod line_parts;
@@ -20,10 +28,14 @@ mod parts;
 mod standings;
 
 pub use block_cursors::{BlockCursor, Pass, Reached};
+pub use budgets::Budget;
+pub use language_laws::{
+    budget_law, calls_law, each_line_law, front_law, machine_law, measure_law, page_cut_law,
+    spending_law, turns_law,
+};
 pub use laws::{cut_law, fold_law, line_parts_law, lines_law, loop_law, room_law};
 pub use levels::{Answer, Ended, Levels, Way};
 pub use line_parts::{Branch, Head, LinePart, Opening};
 pub use line_places::LinePlace;
 pub use loops::loop_text;
-pub use parts::is_leaf;
 pub use standings::Standing;

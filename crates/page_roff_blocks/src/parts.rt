@@ -272,8 +272,8 @@ fn heads_nothing(line: &[u8]) -> bool
     }
 }
 
-/// Whether a line of at most [`LINE`] bytes is one part, a leaf.
-pub fn is_leaf(line: &[u8]) -> bool
+// Whether a line of at most `LINE` bytes is one part, a leaf.
+pub(crate) fn is_leaf(line: &[u8]) -> bool
     requires { length line.now ≤ LINE }
     ensures { result ≡ true → line_parts line.now ≡ Leaf line.now ∷ [] }
 {

@@ -4,9 +4,9 @@ use Rattle.page_roff_heads.specs.declared.conditions.Condition.{Condition}
 use Rattle.page_roff_syntax.specs.OpenRegions.{Opened}
 use Rattle.page_roff_blocks.specs.Loops.{loop_text}
 use Rattle.page_roff_effects.specs.Answers.{Answer}
-use Rattle.page_roff_language.specs.Languages.{Kind, page, body, Done, gives, calls, repeats}
-use Rattle.page_roff_language.specs.Budgets.{Budgeted, with_rest, charge_by, charge, begin_line, whether_run, meet, test, unopened_by, read_line, end_line, collect_some, meaning, done_with, closed_with, turn_by, turn, language}
-use Rattle.page_roff_language.specs.machine.Fronts.{over_pair, over_done, IsFrontOfParts, IsFront}
+use Rattle.page_roff_blocks.specs.Languages.{Kind, page, body, Done, gives, calls, repeats}
+use Rattle.page_roff_blocks.specs.Budgets.{Budgeted, with_rest, charge_by, charge, begin_line, whether_run, meet, test, unopened_by, read_line, end_line, collect_some, meaning, done_with, closed_with, turn_by, turn, language}
+use Rattle.page_roff_blocks.specs.machine.Fronts.{over_pair, over_done, IsFrontOfParts, IsFront}
 use Rattle.page_roff_effects.specs.States.{State, Outcome, Product, no_product, line_product, call_product, loop_product, Given, after}
 use Rattle.page_roff_effects.specs.Leaves.{leaf_outcome}
 use Rattle.page_roff_effects.specs.RegionLines.{head_outcome, line_outcome, end_outcome, finish_outcome}

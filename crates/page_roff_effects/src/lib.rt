@@ -2,7 +2,7 @@
 //! called, regions define macros, and loops are collected.
 //!
 //! `page_roff_heads` reads a condition from the raw line; `holds` expands its texts and answers it (`specs/Answers.antt`).
-//! This crate gives `page_roff_language` the meaning of parts, and the machine of `page_roff_machine` calls `Actions` for each of them; what was
+//! This crate gives `page_roff_blocks` the meaning of parts, and the machine of `page_roff_machine` calls `Actions` for each of them; what was
 //! taken last is in `page_roff_definitions`. Read `specs/Effects.antt` first, then `Leaves.antt`, `RegionLines.antt` and `LoopLines.antt`; the
 //! code begins in `actions.rt`.
 //!

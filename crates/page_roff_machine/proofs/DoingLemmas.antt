@@ -16,9 +16,9 @@ use Rattle.page_roff_blocks.specs.Loops.{loop_text}
 use Rattle.page_roff_blocks.specs.Run.{meet_as, value, keep_if}
 use Rattle.page_roff_values.specs.Arguments.{arguments_in, lines_in}
 use Rattle.page_core_base.specs.Latches.{Came}
-use Rattle.page_roff_language.specs.Languages.{Kind, page, body, gives, calls, repeats}
-use Rattle.page_roff_language.specs.Budgets.{Budgeted, Effects, with_rest, charge_by, charge, begin_line, whether_run, meet, test, unopened_by, read_line, end_line, collect_some, meaning, done_with, closed_with, turn_by, turn, language}
-use Rattle.page_roff_language.specs.machine.Counting.{Budget, budgeted, begun, charged_by, charged, exhausts_by, exhausts}
+use Rattle.page_roff_blocks.specs.Languages.{Kind, page, body, gives, calls, repeats}
+use Rattle.page_roff_blocks.specs.Budgets.{Budgeted, Effects, with_rest, charge_by, charge, begin_line, whether_run, meet, test, unopened_by, read_line, end_line, collect_some, meaning, done_with, closed_with, turn_by, turn, language}
+use Rattle.page_roff_blocks.specs.machine.Counting.{Budget, budgeted, begun, charged_by, charged, exhausts_by, exhausts}
 use Rattle.page_roff_effects.specs.declared.commands.ProductKind.{ProductKind}
 use Rattle.page_roff_effects.specs.declared.commands.ProductKind.TheVariants as kinds
 use Rattle.page_roff_effects.specs.machine.Acting as acting

@@ -10,8 +10,8 @@ use Rattle.page_roff_blocks.specs.declared.levels.Way.TheVariants.{Runs, Skips, 
 use Rattle.page_roff_blocks.specs.Levels.{Levels, BlockCursor, at_line, after_part, way_of, enter, skip, leave_level, leave_loop, leave_from, leave, passed}
 use Rattle.page_roff_syntax.specs.OpenRegions.{Opened, opened}
 use Rattle.page_roff_values.specs.Arguments.{begin_first, arguments_in, lines_in}
-use Rattle.page_roff_language.specs.machine.Machine.{Frame, Turning, turned, at_part}
-use Rattle.page_roff_language.specs.machine.Measures.{weight, turns_of}
+use Rattle.page_roff_blocks.specs.machine.Machine.{Frame, Turning, turned, at_part}
+use Rattle.page_roff_blocks.specs.machine.Measures.{weight, turns_of}
 use Rattle.page_roff_stack.specs.declared.movements.Movement.{Movement}
 use Rattle.page_roff_stack.specs.declared.movements.Movement.TheVariants as moves
 use Rattle.page_roff_stack.specs.machine.Changes.{past, in_turn_of, region_of, first_region, went, IfEnters}

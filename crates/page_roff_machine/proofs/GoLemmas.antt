@@ -13,9 +13,9 @@ use Rattle.page_roff_blocks.specs.declared.block_cursors.Pass.TheVariants as pas
 use Rattle.page_roff_blocks.specs.Levels.{after_part, leave, what_ends}
 use Rattle.page_roff_blocks.specs.Run.{refuse_if}
 use Rattle.page_roff_values.specs.Arguments.{arguments_in, lines_in}
-use Rattle.page_roff_language.specs.Languages.{arguments_of, Kind, page, body, gives, calls, Language, is_some}
-use Rattle.page_roff_language.specs.machine.Machine.{Frame, entered, at_part, depth, leaf_next, end_next}
-use Rattle.page_roff_language.specs.Budgets.{Budgeted, meaning, language, with_rest}
+use Rattle.page_roff_blocks.specs.Languages.{arguments_of, Kind, page, body, gives, calls, Language, is_some}
+use Rattle.page_roff_blocks.specs.machine.Machine.{Frame, entered, at_part, depth, leaf_next, end_next}
+use Rattle.page_roff_blocks.specs.Budgets.{Budgeted, meaning, language, with_rest}
 use Rattle.page_roff_effects.specs.declared.commands.ProductKind.{ProductKind}
 use Rattle.page_roff_effects.specs.declared.commands.ProductKind.TheVariants as kinds
 use Rattle.page_roff_effects.specs.machine.Acting as acting

@@ -4,10 +4,10 @@ use Rattle.page_core_base.specs.Messages.{Message}
 use Rattle.page_core_base.specs.declared.page_settings.Output.{Output}
 use Rattle.page_roff_blocks.specs.Levels.{after_part}
 use Rattle.page_roff_values.specs.Arguments.{lines_in}
-use Rattle.page_roff_language.specs.Languages.{arguments_of, Kind, page, body, inner, repeats, Language, is_some}
-use Rattle.page_roff_language.specs.machine.Machine.{Frame, looped, at_part, depth, leaf_next, loop_next}
-use Rattle.page_roff_language.specs.machine.Measures.{weight}
-use Rattle.page_roff_language.specs.Budgets.{Budgeted, language}
+use Rattle.page_roff_blocks.specs.Languages.{arguments_of, Kind, page, body, inner, repeats, Language, is_some}
+use Rattle.page_roff_blocks.specs.machine.Machine.{Frame, looped, at_part, depth, leaf_next, loop_next}
+use Rattle.page_roff_blocks.specs.machine.Measures.{weight}
+use Rattle.page_roff_blocks.specs.Budgets.{Budgeted, language}
 use Rattle.page_roff_effects.specs.declared.commands.ProductKind.{ProductKind}
 use Rattle.page_roff_effects.specs.declared.commands.ProductKind.TheVariants as kinds
 use Rattle.page_roff_effects.specs.machine.Acting.{IsRepeatable, IfRepeated, acting_effects, acting_setting}

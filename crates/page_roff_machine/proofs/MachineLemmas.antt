@@ -7,14 +7,14 @@ use Rattle.page_roff_blocks.specs.declared.line_parts.LinePart.{LinePart}
 use Rattle.page_roff_blocks.specs.Levels.{Place, at_line}
 use Rattle.page_roff_syntax.specs.OpenRegions.{Opened}
 use Rattle.page_roff_blocks.specs.Run.{Meaning, At}
-use Rattle.page_roff_language.specs.Languages.{Language, meaning_at, run_page}
-use Rattle.page_roff_language.specs.machine.Machine.{Frame, depth, at_page, rest_of, next, stands_at}
-use Rattle.page_roff_language.specs.Budgets.{Budgeted, language}
-use Rattle.page_roff_language.specs.machine.Fronts.{over}
-use Rattle.page_roff_language.proofs.FrontLemmas.{rest_front}
-use Rattle.page_roff_language.proofs.MachineLemmas.{next_law, end_law, page_law}
-use Rattle.page_roff_language.specs.machine.Counting.{renewed}
-use Rattle.page_roff_language.specs.machine.Measures.{HasMeasure, AreOnLine, IsOnLine, IsFirst}
+use Rattle.page_roff_blocks.specs.Languages.{Language, meaning_at, run_page}
+use Rattle.page_roff_blocks.specs.machine.Machine.{Frame, depth, at_page, rest_of, next, stands_at}
+use Rattle.page_roff_blocks.specs.Budgets.{Budgeted, language}
+use Rattle.page_roff_blocks.specs.machine.Fronts.{over}
+use Rattle.page_roff_blocks.proofs.FrontLemmas.{rest_front}
+use Rattle.page_roff_blocks.proofs.MachineLemmas.{next_law, end_law, page_law}
+use Rattle.page_roff_blocks.specs.machine.Counting.{renewed}
+use Rattle.page_roff_blocks.specs.machine.Measures.{HasMeasure, AreOnLine, IsOnLine, IsFirst}
 use Rattle.page_roff_effects.specs.machine.Acting as acting
 use Rattle.page_roff_effects.specs.machine.Acting.{Acting, with_number, with_arguments, acting_effects, measured}
 use Rattle.page_roff_effects.specs.Effects.{in_front}

@@ -13,10 +13,9 @@ ghost use Rattle.page_roff_effects.specs.machine.Acting.{IfCalled, IsCallable, I
 ghost use Rattle.page_roff_effects.specs.declared.commands.ProductKind.TheVariants as kinds;
 
 use page_core_base::NoteOut;
-use page_roff_blocks::{Branch, Reached, loop_text};
+use page_roff_blocks::{Branch, Budget, Reached, loop_text};
 use page_roff_effects::{Actions, ProductKind};
 use page_roff_heads::LoopHead;
-use page_roff_language::Budget;
 use page_roff_syntax::{OpenRegion, RegionHead};
 
 /// What the parts of sources do, under the budget of the source line.

@@ -15,9 +15,9 @@ use Rattle.page_roff_syntax.specs.declared.regions.RegionKind.TheVariants.{Defin
 use Rattle.page_roff_values.specs.machine.Texts.{MeasureAlike}
 use Rattle.page_roff_values.specs.Values.{Laid, expanded, start, NEST}
 use Rattle.page_roff_values.proofs.AlikeLemmas.{value_alike}
-use Rattle.page_roff_language.specs.Budgets.{Budgeted, language}
-use Rattle.page_roff_language.specs.Languages.{Kind, run_page}
-use Rattle.page_roff_language.proofs.SameEffects.{SameEffects, page_same}
+use Rattle.page_roff_blocks.specs.Budgets.{Budgeted, language}
+use Rattle.page_roff_blocks.specs.Languages.{Kind, run_page}
+use Rattle.page_roff_blocks.proofs.SameEffects.{SameEffects, page_same}
 use Rattle.page_roff_effects.specs.Commands.{command_of, copies}
 use Rattle.page_roff_effects.specs.Effects.{effects, setting_of, answer_of, tested_after, done_after}
 use Rattle.page_roff_effects.specs.Leaves.{ControlLine, after_expansion, does, command_outcome, control_line, control_outcome, form_outcome, leaf_outcome}

@@ -29,10 +29,10 @@ use Rattle.page_roff_values.proofs.GrowLemmas.{finished_front}
 use Rattle.page_roff_values.proofs.LineLemmas.{value_within}
 use Rattle.page_roff_values.proofs.PlainTexts.{nil_text, text_cut, text_at}
 use Rattle.page_roff_values.proofs.ValueTexts.{value_text}
-use Rattle.page_roff_language.specs.Budgets.{Budgeted, language}
-use Rattle.page_roff_language.specs.Languages.{Kind, page, body, arguments_of, inner, run_page}
-use Rattle.page_roff_language.proofs.KeepEffects.{IsKeptAfter, KeepsEffects, page_keeps}
-use Rattle.page_roff_language.proofs.KeepLemmas.{IsIfSome, IsLoopHead}
+use Rattle.page_roff_blocks.specs.Budgets.{Budgeted, language}
+use Rattle.page_roff_blocks.specs.Languages.{Kind, page, body, arguments_of, inner, run_page}
+use Rattle.page_roff_blocks.proofs.KeepEffects.{IsKeptAfter, KeepsEffects, page_keeps}
+use Rattle.page_roff_blocks.proofs.KeepLemmas.{IsIfSome, IsLoopHead}
 use Rattle.page_roff_effects.specs.Commands.{called_body, request_command, command_or, command_of, copies}
 use Rattle.page_roff_effects.specs.Effects.{effects, setting_of, answer_of, turn_answer, test_outcome, tested_after, done_by, done_after, budget_outcome, block_outcome, end_of_block_outcome}
 use Rattle.page_roff_definitions.specs.Calls.{with_line, packed}

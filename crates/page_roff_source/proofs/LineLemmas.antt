@@ -10,12 +10,12 @@ use Rattle.page_roff_blocks.proofs.FoldLemmas.{run_is_steps}
 use Rattle.page_roff_blocks.proofs.HeadLemmas.{forest_is_each}
 use Rattle.page_core_base.specs.declared.limits.TheConstants.{CALLS, REREAD}
 use Rattle.page_roff_values.specs.Values.{units_of}
-use Rattle.page_roff_language.specs.Budgets.{Budgeted, Effects, language, meaning, begin_line, read_line, end_line}
-use Rattle.page_roff_language.specs.Languages.{page, meaning_by, meaning_at, run_page, run_page_lines}
-use Rattle.page_roff_language.specs.machine.Machine.{at_page}
-use Rattle.page_roff_language.specs.machine.Fronts.{over}
-use Rattle.page_roff_language.proofs.FrontLemmas.{rest_front}
-use Rattle.page_roff_language.proofs.MachineLemmas.{page_law}
+use Rattle.page_roff_blocks.specs.Budgets.{Budgeted, Effects, language, meaning, begin_line, read_line, end_line}
+use Rattle.page_roff_blocks.specs.Languages.{page, meaning_by, meaning_at, run_page, run_page_lines}
+use Rattle.page_roff_blocks.specs.machine.Machine.{at_page}
+use Rattle.page_roff_blocks.specs.machine.Fronts.{over}
+use Rattle.page_roff_blocks.proofs.FrontLemmas.{rest_front}
+use Rattle.page_roff_blocks.proofs.MachineLemmas.{page_law}
 use Rattle.page_roff_effects.specs.Effects.{effects, in_front}
 use Rattle.page_roff_effects.specs.States.{State, Given, says, Memory, numbered}
 use Rattle.page_roff_effects.proofs.GivenLemmas.{is_front}

@@ -24,8 +24,8 @@ use Rattle.page_roff_blocks.proofs.EndLemmas.{written_ends, end_further}
 use Rattle.page_roff_syntax.specs.Requests.{request_of}
 use Rattle.page_roff_syntax.specs.declared.requests.Request.{Request}
 use Rattle.page_roff_syntax.specs.declared.requests.Request.TheVariants as requests
-use Rattle.page_roff_language.proofs.KeepLemmas.{IsIfSome, IsLoopHead, IsOpening, AreLeaves, HasLeaves, HasLoopTexts}
-use Rattle.page_roff_language.proofs.SameLemmas.{IsTested, IsTestedOpening, AreTested, HasTests}
+use Rattle.page_roff_blocks.proofs.KeepLemmas.{IsIfSome, IsLoopHead, IsOpening, AreLeaves, HasLeaves, HasLoopTexts}
+use Rattle.page_roff_blocks.proofs.SameLemmas.{IsTested, IsTestedOpening, AreTested, HasTests}
 use Rattle.page_roff_source.proofs.ConditionTexts.{IsTextCondition, conditional_texts}
 use Rattle.page_roff_source.proofs.Cuts.{CutsAt, start_cut, end_cut, line_cut}
 use Rattle.page_roff_source.proofs.LineCuts.{commented_cut, IsLineIfSome, guarded_line, conditional_line, IsLoopRead, loop_line, AreLinesIfSome, block_end_lines, control_rest}

@@ -9,9 +9,9 @@ use Rattle.page_roff_blocks.specs.machine.Steps.{begin_line, step_inside, step_f
 use Rattle.page_roff_blocks.proofs.FoldLemmas.{run_is_steps}
 use Rattle.page_roff_blocks.proofs.RoomLemmas.{line_parts_room, step_room}
 use Rattle.page_roff_values.specs.Values.{units_of}
-use Rattle.page_roff_language.specs.Languages.{page, meaning_at, run_page}
+use Rattle.page_roff_blocks.specs.Languages.{page, meaning_at, run_page}
 use Rattle.page_core_base.specs.declared.limits.TheConstants.{CALLS}
-use Rattle.page_roff_language.specs.Budgets.{language}
+use Rattle.page_roff_blocks.specs.Budgets.{language}
 use Rattle.page_roff_effects.specs.Effects.{effects}
 use Rattle.page_roff_source.specs.Edges.{Edge, SourceLine}
 use Rattle.page_roff_source.specs.machine.Taking.{before_line, run_line, line_done}

@@ -1,7 +1,7 @@
 -- How many interpolations a single line that is taken makes. Source: mandoc(1), "input stack limit exceeded, infinite loop?".
 use Rattle.page_core_base.specs.Limits.{EXPAND}
 use Rattle.page_roff_values.specs.Values.{units_of}
-use Rattle.page_roff_language.specs.Spent.{Spends}
+use Rattle.page_roff_blocks.specs.Spent.{Spends}
 use Rattle.page_roff_effects.specs.Effects.{effects, expansions_of}
 use Rattle.page_roff_source.specs.Edges.{Edge}
 

@@ -3,8 +3,8 @@
 use Rattle.std.specs.Prelude.{◌+◌, false, List, [], ◌++◌, length, map, None}
 use Rattle.page_roff_blocks.specs.Run.{At}
 use Rattle.page_roff_values.specs.Values.{units_of}
-use Rattle.page_roff_language.specs.Budgets.{Budgeted, language}
-use Rattle.page_roff_language.specs.Languages.{run_page_lines}
+use Rattle.page_roff_blocks.specs.Budgets.{Budgeted, language}
+use Rattle.page_roff_blocks.specs.Languages.{run_page_lines}
 use Rattle.page_roff_effects.specs.Effects.{effects}
 use Rattle.page_roff_effects.specs.States.{State, Given, says, numbered}
 use Rattle.page_roff_source.specs.Edges.{Edge, SourceLine}

@@ -4,8 +4,8 @@ ghost use Rattle.std.specs.Prelude.{◌≡◌, ℕ, List};
 ghost use Rattle.page_roff_blocks.specs.Run.{At};
 ghost use Rattle.page_roff_effects.specs.Effects.{effects};
 ghost use Rattle.page_roff_effects.specs.States.{State};
-ghost use Rattle.page_roff_language.specs.Budgets.{Budgeted, language};
-ghost use Rattle.page_roff_language.specs.Languages.{run_page};
+ghost use Rattle.page_roff_blocks.specs.Budgets.{Budgeted, language};
+ghost use Rattle.page_roff_blocks.specs.Languages.{run_page};
 ghost use Rattle.page_roff_values.specs.machine.Texts.{MeasureAlike};
 ghost use Rattle.page_roff_source.specs.machine.Texts.{AreLines, HoldsTexts, AreGiven};
 

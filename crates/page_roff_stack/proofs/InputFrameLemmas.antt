@@ -13,8 +13,8 @@ use Rattle.page_roff_syntax.specs.OpenRegions.{Opened}
 use Rattle.page_roff_blocks.specs.machine.LinePlaces.{parts_at, line_end, is_at_end, IsPlaceIn}
 use Rattle.page_roff_blocks.proofs.LinePartLemmas.{line_parts_cons}
 use Rattle.page_roff_blocks.proofs.RoomLemmas.{line_parts_room, enter_room, leave_room}
-use Rattle.page_roff_language.specs.machine.Machine.{Frame, at_part}
-use Rattle.page_roff_language.specs.machine.Measures.{weight, work_in}
+use Rattle.page_roff_blocks.specs.machine.Machine.{Frame, at_part}
+use Rattle.page_roff_blocks.specs.machine.Measures.{weight, work_in}
 use Rattle.page_roff_stack.specs.declared.input_frames.InputFrame.{InputFrame}
 use Rattle.page_roff_stack.specs.declared.source_kinds.SourceKind.{SourceKind}
 use Rattle.page_roff_stack.specs.declared.source_kinds.SourceKind.TheVariants as sources

@@ -7,7 +7,7 @@ use Rattle.page_core_base.specs.Texts.{has_no_control, is_no_control}
 use Rattle.page_core_base.specs.declared.limits.TheConstants.{LINE}
 use Rattle.page_roff_values.specs.Arguments.{begin_first, arguments_in, lines_in}
 use Rattle.page_roff_values.proofs.ArgumentLemmas.{last_of}
-use Rattle.page_roff_language.specs.machine.Measures.{weight}
+use Rattle.page_roff_blocks.specs.machine.Measures.{weight}
 use Rattle.page_roff_stack.specs.declared.spans.Span.{Span}
 use Rattle.page_roff_stack.specs.machine.Changes.{AreShort}
 use Rattle.page_roff_stack.specs.machine.Held.{span_text, only_line, IsSpanIn, IsFirstLine}

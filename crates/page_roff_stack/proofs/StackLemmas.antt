@@ -3,9 +3,9 @@ use Rattle.std.proofs.Common.{◌≡◌, ℕ, zero, suc, ◌-◌, ◌<◌, Bool,
 use Rattle.page_roff_blocks.specs.declared.line_parts.LinePart.{LinePart}
 use Rattle.page_roff_syntax.specs.OpenRegions.{Opened}
 use Rattle.page_roff_blocks.specs.Run.{Meaning}
-use Rattle.page_roff_language.specs.Languages.{arguments_of, Kind, page, body, inner, Language, meaning_at}
-use Rattle.page_roff_language.specs.machine.Machine as machine
-use Rattle.page_roff_language.specs.machine.Machine.{Frame, Turning, depth, looped}
+use Rattle.page_roff_blocks.specs.Languages.{arguments_of, Kind, page, body, inner, Language, meaning_at}
+use Rattle.page_roff_blocks.specs.machine.Machine as machine
+use Rattle.page_roff_blocks.specs.machine.Machine.{Frame, Turning, depth, looped}
 use Rattle.page_roff_blocks.specs.declared.block_cursors.Pass.TheVariants as passes
 use Rattle.page_roff_stack.specs.declared.movements.Movement.{Movement}
 use Rattle.page_roff_stack.specs.declared.movements.Movement.TheVariants as moves

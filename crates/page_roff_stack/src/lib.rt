@@ -4,7 +4,7 @@
 //! `page_roff_machine` asks it what comes next, and moves it on. Read `specs/machine/Stacks.antt` first, then `input_stacks.rt`.
 //!
 //! Proved: `InputStack` (`peek`, `part`, `read_part`, `go` and its other changes), `stack_law`: what comes next in the sources that run is what the steps of
-//! `page_roff_language` take next, and each change leaves what the step leaves. No call but `new` and `at` asks for memory.
+//! `page_roff_blocks` take next, and each change leaves what the step leaves. No call but `new` and `at` asks for memory.
 #![tactic(auto)]
 
 mod ahead;

@@ -29,7 +29,8 @@ const KEPT: TextStyle = TextStyle {
     is_line: true,
 };
 
-// Shows pieces, and words that are taken at once in parentheses: each letter after its font, where that is another one than the letter's before.
+// Shows pieces, and words that are taken at once in parentheses, after the count of blanks before them if it is not one: each letter after its font,
+// where that is another one than the letter's before.
 #[derive(Drop)]
 struct Taken {
     shown: Shown,
@@ -71,11 +72,14 @@ impl PieceOut for Taken {
         self.shown.give(piece);
     }
 
-    fn give_words(&mut self, text: &[u8], fonts: &[Font]) -> bool {
+    fn give_words(&mut self, blanks: u32, text: &[u8], fonts: &[Font]) -> bool {
         if self.times == 0 || text.is_empty() {
             return self.times > 0;
         }
         self.times -= 1;
+        if blanks != 1 {
+            self.shown.add_number(blanks);
+        }
         self.shown.add(b"(");
         self.add_letters(text, fonts);
         self.shown.add(b")");
@@ -141,12 +145,16 @@ const TEXTS: [(TextStyle, u32, &str, &str); 20] = [
     (KEPT, 9, "a b", "[ ][a][ ][b]R"),
 ];
 
-// Texts that do not come after one blank: the blanks before them, and what they give.
-const FIRST: [(u32, &str, &str); 4] = [
-    (0, "a b cd", "[a](R b cd)R"),
-    (2, "a b cd", "2[a](R b cd)R"),
-    (2, "a \\fBb\\fP c", "2[a](R BbR c)R"),
-    (2, "\\fBa\\fP b", "2B[a](R b)R"),
+// Texts that do not come after one blank: the blanks before them, how often words are taken, and what they give.
+const FIRST: [(u32, u32, &str, &str); 8] = [
+    (0, 9, "a b cd", "[a](R b cd)R"),
+    (2, 9, "a b cd", "2(R a b cd)R"),
+    (2, 0, "a b cd", "2[a]1[b]1[cd]R"),
+    (2, 9, "a \\fBb\\fP c", "2(R a BbR c)R"),
+    (2, 9, "\\fBa\\fP b", "2(R BaR b)R"),
+    (2, 9, "a-b c", "2[a-]|[b](R c)R"),
+    (2, 9, "a b  c d", "2(R a b)1[c](R d)R"),
+    (2, 9, "\\& b", "2[]1[b]R"),
 ];
 
 #[test]
@@ -155,8 +163,8 @@ fn words_at_once(rt: HostRuntime) -> Result<(), Fail> {
         let given = given_by(rt.alloc(), style, times, 1, text);
         check_bytes(&rt, given.shown.text(), wanted.as_bytes());
     }
-    for (gap, text, wanted) in FIRST {
-        let given = given_by(rt.alloc(), LINE, 9, gap, text);
+    for (gap, times, text, wanted) in FIRST {
+        let given = given_by(rt.alloc(), LINE, times, gap, text);
         check_bytes(&rt, given.shown.text(), wanted.as_bytes());
     }
     Ok(())

@@ -1,16 +1,15 @@
--- Texts that begin with words of letters, after one blank: they give what they would give with that blank at their front.
-use Rattle.std.proofs.Common.{◌≡◌, ℕ, zero, suc, ◌+◌, ◌-◌, ◌<◌, ◌≤◌, Bool, true, false, not, ◌||◌, List, [], ◌∷◌, ◌++◌, length, map, take, drop, get_or, refl, ap, ap₂, sym, ◌∙◌, append_assoc, replicate, inl, inr, arith}
+-- Texts that begin with words of letters, after blanks: they give what they would give with one blank at their front, but for the count of the blanks.
+use Rattle.std.proofs.Common.{◌≡◌, ℕ, zero, suc, ◌+◌, ◌-◌, ◌<◌, ◌≤◌, Bool, true, false, not, ◌||◌, List, [], ◌∷◌, ◌++◌, length, map, take, drop, get_or, refl, ap, ap₂, sym, ◌∙◌, append_assoc, inl, inr, arith}
 use Rattle.std.specs.Prelude.{◌==◌, nat_lt, if◌then◌else◌}
-use Rattle.std.proofs.Math.Seq.{take-append_seam}
 use Rattle.std.proofs.lemmas.List.{length-drop, take_all}
 use Rattle.std.proofs.lemmas.Bool.{cases_lt}
 use Rattle.std.proofs.lemmas.Bool.Decides.{nat_tests}
 use Rattle.page_core_base.specs.Latches.{Came, CameUpTo}
 use Rattle.page_core_base.specs.Pieces.{Item, shown}
-use Rattle.page_core_base.specs.Rows.{cells_in}
 use Rattle.page_core_base.specs.Words.{blank_words, lettered_cells, lettered_pieces}
 use Rattle.page_core_base.specs.declared.cells.Cell.{Cell}
 use Rattle.page_core_base.specs.declared.cells.Font.TheVariants.{R}
+use Rattle.page_core_base.specs.declared.pieces.Piece.{Piece}
 use Rattle.page_core_base.specs.declared.pieces.Piece.TheVariants.{Blank}
 use Rattle.page_core_base.specs.declared.places.Place.{Place}
 use Rattle.page_core_escapes.specs.Tokens.{TextToken, begins_word, plain, token_len}
@@ -22,7 +21,6 @@ use Rattle.page_scopes_words.specs.machine.RunEnds.{GoesOn as RunGoesOn, ends_ru
 use Rattle.page_scopes_text.proofs.LetteredWordLemmas.{run_reads, white_pen, word_reads}
 use Rattle.page_scopes_text.proofs.PartedLemmas.{no_word, spaced_more}
 use Rattle.page_scopes_text.proofs.PlainWordLemmas.{blank_len}
-use Rattle.page_scopes_text.proofs.RomanRunLemmas.{roman_cells}
 use Rattle.page_scopes_text.proofs.RunWordLemmas.{run_to_blank, run_to_end}
 use Rattle.page_scopes_text.proofs.TextLemmas.{after_others_more, after_spaced_word, after_text_word, others_more, spaced_word, text_word}
 use Rattle.page_scopes_text.specs.Parted.{Parted, Spaced, spaced_front, words_of}
@@ -90,18 +88,20 @@ run_first quoted text run rest (word ∷ words) h r =
 
 pub run_prints : (quoted : Bool) (fonts : Setting Fonts) (text run rest : List ℕ) → begins_word text ≡ true → BeginsRun quoted (32 ∷ text) (32 ∷ run) rest
     → PrintsFirst quoted fonts text
-run_prints quoted fonts text run rest h begins = λ column.
+run_prints quoted fonts text run rest h begins =
     let first = run_first quoted text run rest begins.0 h begins.1 in
-    rw first.1 refl
+    (λ column. rw first.1 refl, λ place. rw first.1 refl)
 
 some_cells : (n : ℕ) → 0 < n → nat_lt 0 n ≡ true
 some_cells n h = grind (arith, nat_tests, h)
 
 pub word_prints : (quoted : Bool) (fonts next : Setting Fonts) (text rest : List ℕ) (cells : List Cell) → 0 < length cells → begins_word rest ≡ false
     → ReadsLetters quoted fonts text next rest cells → PrintsFirst quoted fonts text
-word_prints quoted fonts next text rest cells some ends r = λ column.
-    ap (λ (p : Pen). p.has_cell) (r.pens column (column + length text - length rest) (omega (arith, r.less)))
-    ∙ rw (no_word quoted rest ends) (some_cells (length cells) some)
+word_prints quoted fonts next text rest cells some ends r = (
+  λ column. ap (λ (p : Pen). p.has_cell) (r.pens column (column + length text - length rest) (omega (arith, r.less)))
+      ∙ rw (no_word quoted rest ends) (some_cells (length cells) some),
+  λ place. r.notes place ∙ rw (no_word quoted rest ends) refl,
+)
 
 -- ---- words that were read
 
@@ -143,55 +143,56 @@ first_adds style fonts next text rest before after literal begins ends e adds mo
 -- ---- the blank before the text
 
 -- what a word prints does not depend on what was before it
-tokens_same : (quoted : Bool) (place : Place) (pen : Pen) (a b : Bool) (word : List TextToken)
-    → tokens_items quoted place (record pen { is_after_word = a; ends_blank = b }) word ≡ tokens_items quoted place pen word
-tokens_same quoted place pen a b [] = refl
-tokens_same quoted place pen a b (token ∷ word) = rw (tokens_same quoted place (pen_after pen token) a b word) refl
+tokens_same : (quoted : Bool) (place : Place) (pen : Pen) (n : ℕ) (a b : Bool) (word : List TextToken)
+    → tokens_items quoted place (record pen { gap = n; is_after_word = a; ends_blank = b }) word ≡ tokens_items quoted place pen word
+tokens_same quoted place pen n a b [] = refl
+tokens_same quoted place pen n a b (token ∷ word) = rw (tokens_same quoted place (pen_after pen token) n a b word) refl
 
-through_same : (pen : Pen) (a b : Bool) (word : List TextToken)
-    → pen_through (record pen { is_after_word = a; ends_blank = b }) word ≡ record (pen_through pen word) { is_after_word = a; ends_blank = b }
-through_same pen a b [] = refl
-through_same pen a b (token ∷ word) = through_same (pen_after pen token) a b word
+through_same : (pen : Pen) (n : ℕ) (a b : Bool) (word : List TextToken)
+    → pen_through (record pen { gap = n; is_after_word = a; ends_blank = b }) word ≡ record (pen_through pen word) { gap = n; is_after_word = a; ends_blank = b }
+through_same pen n a b [] = refl
+through_same pen n a b (token ∷ word) = through_same (pen_after pen token) n a b word
 
--- a word after one blank: what it gives
-abbrev blank_gives : Bool → Place → Setting Fonts → ℕ → List TextToken → List Item
-blank_gives quoted place fonts column word =
-    word_notes quoted place word
-    ++ (shown (Blank 1 false) ∷ (tokens_items quoted place (inside fonts column false) word ++ empty_items (pen_through (inside fonts column false) word).has_cell place))
+-- what a word prints that begins so
+abbrev prints_word : Bool → Place → Setting Fonts → ℕ → List TextToken → List Item
+prints_word quoted place fonts column word =
+    tokens_items quoted place (inside fonts column false) word ++ empty_items (pen_through (inside fonts column false) word).has_cell place
 
 -- the pen in the text's first word
 begun_here : (style : TextStyle) (pen : Pen) → GoesOn style pen
-    → word_begun (gap_after style pen) ≡ record (inside pen.fonts pen.column false) { is_after_word = pen.is_after_word; ends_blank = pen.ends_blank }
-begun_here style pen h = rw (h.gap, h.splits) refl
+    → word_begun (gap_after style pen) ≡ record (inside pen.fonts pen.column false) { gap = pen.gap; is_after_word = pen.is_after_word; ends_blank = pen.ends_blank }
+begun_here style pen h = rw h.splits refl
 
 -- in the text
-here_gives : (style : TextStyle) (line : ℕ) (pen : Pen) (word : List TextToken) → GoesOn style pen
-    → word_items style line false pen word ≡ blank_gives style.is_quoted (at line pen.column) pen.fonts pen.column word
-here_gives style line pen word h =
+here_gives : (style : TextStyle) (line : ℕ) (pen : Pen) (word : List TextToken) → GoesOn style pen → word_notes style.is_quoted (at line pen.column) word ≡ []
+    → word_items style line false pen word ≡ shown (Blank pen.gap false) ∷ prints_word style.is_quoted (at line pen.column) pen.fonts pen.column word
+here_gives style line pen word h notes =
     let quoted = style.is_quoted in
     let place = at line pen.column in
-    let tokens = tokens_same quoted place (inside pen.fonts pen.column false) pen.is_after_word pen.ends_blank word in
-    let through = through_same (inside pen.fonts pen.column false) pen.is_after_word pen.ends_blank word in
+    let some : (pen.gap == 0) ≡ false = let above = h.gap in grind (arith, nat_tests, above) in
+    let tokens = tokens_same quoted place (inside pen.fonts pen.column false) pen.gap pen.is_after_word pen.ends_blank word in
+    let through = through_same (inside pen.fonts pen.column false) pen.gap pen.is_after_word pen.ends_blank word in
     let body : body_items quoted place (gap_after style pen) word
     ≡ tokens_items quoted place (inside pen.fonts pen.column false) word ++ empty_items (pen_through (inside pen.fonts pen.column false) word).has_cell place =
     ap (λ (p : Pen). tokens_items quoted place p word ++ empty_items (pen_through p word).has_cell place) (begun_here style pen h)
     ∙ ap₂ (λ (i : List Item) (p : Pen). i ++ empty_items p.has_cell place) tokens through in
-    let gap : gap_items style false place pen ≡ shown (Blank 1 false) ∷ [] = rw (h.filled, h.gap) refl in
-    ap₂ (λ (g b : List Item). word_notes quoted place word ++ (g ++ b)) gap body
+    let gap : gap_items style false place pen ≡ shown (Blank pen.gap false) ∷ [] = rw (h.filled, some) refl in
+    ap₂ (λ (n i : List Item). n ++ i) notes (ap₂ (λ (g b : List Item). g ++ b) gap body)
 
 -- and after a blank of the text
 there_gives : (style : TextStyle) (line : ℕ) (fonts : Setting Fonts) (column : ℕ) (text : List ℕ) → style.is_literal ≡ false → begins_word text ≡ true
+    → word_notes style.is_quoted (at line (column + 1)) (words_of style.is_quoted text).word ≡ []
     → spaced_items style line (resting fonts column) (spaced_front style.is_quoted (32 ∷ text))
-    ≡ blank_gives style.is_quoted (at line (column + 1)) fonts (column + 1) (words_of style.is_quoted text).word
-there_gives style line fonts column text literal begins =
-    spaced_word style line (resting fonts column) (32 ∷ text) (32 ∷ []) text 1 (sym (blank_len style.is_quoted text begins)) refl refl begins ∙ rw literal refl
+    ≡ shown (Blank 1 false) ∷ prints_word style.is_quoted (at line (column + 1)) fonts (column + 1) (words_of style.is_quoted text).word
+there_gives style line fonts column text literal begins notes =
+    spaced_word style line (resting fonts column) (32 ∷ text) (32 ∷ []) text 1 (sym (blank_len style.is_quoted text begins)) refl refl begins ∙ rw (literal, notes) refl
 
 -- a word that prints something ends so
 abbrev ended : Pen → Pen
 ended pen = record pen { gap = 1; is_after_word = true; has_cell = true; ends_blank = false }
 
-ended_is : (before pen : Pen) (a b : Bool) → pen.has_cell ≡ true → word_ended before (record pen { is_after_word = a; ends_blank = b }) ≡ ended pen
-ended_is before pen a b has = rw (has, or_true before.has_cell) refl
+ended_is : (before pen : Pen) (n : ℕ) (a b : Bool) → pen.has_cell ≡ true → word_ended before (record pen { gap = n; is_after_word = a; ends_blank = b }) ≡ ended pen
+ended_is before pen n a b has = rw (has, or_true before.has_cell) refl
 
 -- the pen after it
 here_rests : (style : TextStyle) (pen : Pen) (word : List TextToken) → GoesOn style pen → (pen_through (inside pen.fonts pen.column false) word).has_cell ≡ true
@@ -200,18 +201,18 @@ here_rests style pen word h has =
     let white = white_pen style pen.fonts (pen.column - 1) in
     let back : pen.column - 1 + 1 ≡ pen.column = omega (arith, h.column) in
     let own = inside pen.fonts pen.column false in
-    let through = through_same own pen.is_after_word pen.ends_blank word in
+    let through = through_same own pen.gap pen.is_after_word pen.ends_blank word in
     let other : word_begun (gap_after style white) ≡ own = rw (h.filled, back) refl in
     let here : word_after style pen word ≡ ended (pen_through own word) = ap (λ (p : Pen). word_ended (gap_after style pen) (pen_through p word)) (begun_here style pen h)
-    ∙ ap (word_ended (gap_after style pen)) through ∙ ended_is (gap_after style pen) (pen_through own word) pen.is_after_word pen.ends_blank has in
+    ∙ ap (word_ended (gap_after style pen)) through ∙ ended_is (gap_after style pen) (pen_through own word) pen.gap pen.is_after_word pen.ends_blank has in
     let there : word_after style white word ≡ ended (pen_through own word) = ap (λ (p : Pen). word_ended (gap_after style white) (pen_through p word)) other
-    ∙ ended_is (gap_after style white) (pen_through own word) (pen_through own word).is_after_word (pen_through own word).ends_blank has in
+    ∙ ended_is (gap_after style white) (pen_through own word) (pen_through own word).gap (pen_through own word).is_after_word (pen_through own word).ends_blank has in
     here ∙ sym there
 
--- a text gives what it gives with a blank at its front
+-- a text gives what it gives with a blank at its front, but for the count of blanks
 text_same : (style : TextStyle) (line : ℕ) (pen : Pen) (text : List ℕ) → GoesOn style pen → begins_word text ≡ true → PrintsFirst style.is_quoted pen.fonts text
     → text_items style line pen (words_of style.is_quoted text)
-    ≡ others_items style line (resting pen.fonts (pen.column - 1)) (words_of style.is_quoted (32 ∷ text)).others
+    ≡ shown (Blank pen.gap false) ∷ drop 1 (others_items style line (resting pen.fonts (pen.column - 1)) (words_of style.is_quoted (32 ∷ text)).others)
 text_same style line pen text h begins prints =
     let quoted = style.is_quoted in
     let word = (words_of quoted text).word in
@@ -219,20 +220,21 @@ text_same style line pen text h begins prints =
     let back : c + 1 ≡ pen.column = omega (arith, h.column) in
     let one = blank_len quoted text begins in
     let rests = after_spaced_word style (resting pen.fonts c) (32 ∷ text) (32 ∷ []) text 1 (sym one) refl refl begins in
-    let there = there_gives style line pen.fonts c text h.filled begins in
+    let quiet = prints.1 (at line pen.column) in
+    let there = there_gives style line pen.fonts c text h.filled begins (rw back quiet) in
     let others = (words_of quoted text).others in
     let left : (words_of quoted (drop (token_len quoted (32 ∷ text)) (32 ∷ text))).others ≡ others = ap (λ (n : ℕ). (words_of quoted (drop n (32 ∷ text))).others) one in
     let here : text_items style line pen (words_of quoted text)
-    ≡ blank_gives quoted (at line pen.column) pen.fonts pen.column word ++ others_items style line (word_after style (white_pen style pen.fonts c) word) others =
+    ≡ shown (Blank pen.gap false) ∷ (prints_word quoted (at line pen.column) pen.fonts pen.column word ++ others_items style line (word_after style (white_pen style pen.fonts c) word) others) =
     text_word style line pen text begins
-    ∙ ap₂ (λ (i : List Item) (p : Pen). i ++ others_items style line p others) (here_gives style line pen word h) (here_rests style pen word h (prints pen.column)) in
+    ∙ ap₂ (λ (i : List Item) (p : Pen). i ++ others_items style line p others) (here_gives style line pen word h quiet) (here_rests style pen word h (prints.0 pen.column)) in
     let other : others_items style line (resting pen.fonts c) (words_of quoted (32 ∷ text)).others
-    ≡ blank_gives quoted (at line pen.column) pen.fonts pen.column word ++ others_items style line (word_after style (white_pen style pen.fonts c) word) others =
+    ≡ shown (Blank 1 false) ∷ (prints_word quoted (at line pen.column) pen.fonts pen.column word ++ others_items style line (word_after style (white_pen style pen.fonts c) word) others) =
     others_more style line (resting pen.fonts c) (32 ∷ text) refl
     ∙ ap₂ (λ (i : List Item) (p : Pen). i ++ others_items style line p (words_of quoted (drop (token_len quoted (32 ∷ text)) (32 ∷ text))).others)
-    (there ∙ ap (λ (n : ℕ). blank_gives quoted (at line n) pen.fonts n word) back) rests
-    ∙ ap (λ (o : List Spaced). blank_gives quoted (at line pen.column) pen.fonts pen.column word ++ others_items style line (word_after style (white_pen style pen.fonts c) word) o) left in
-    here ∙ sym other
+    (there ∙ ap (λ (n : ℕ). shown (Blank 1 false) ∷ prints_word quoted (at line n) pen.fonts n word) back) rests
+    ∙ ap (λ (o : List Spaced). shown (Blank 1 false) ∷ prints_word quoted (at line pen.column) pen.fonts pen.column word ++ others_items style line (word_after style (white_pen style pen.fonts c) word) o) left in
+    here ∙ sym (ap (λ (items : List Item). shown (Blank pen.gap false) ∷ drop 1 items) other)
 
 after_same : (style : TextStyle) (pen : Pen) (text : List ℕ) → GoesOn style pen → begins_word text ≡ true → PrintsFirst style.is_quoted pen.fonts text
     → text_after style pen (words_of style.is_quoted text) ≡ others_after style (resting pen.fonts (pen.column - 1)) (words_of style.is_quoted (32 ∷ text)).others
@@ -245,7 +247,7 @@ after_same style pen text h begins prints =
     let others = (words_of quoted text).others in
     let left : (words_of quoted (drop (token_len quoted (32 ∷ text)) (32 ∷ text))).others ≡ others = ap (λ (n : ℕ). (words_of quoted (drop n (32 ∷ text))).others) one in
     let here : text_after style pen (words_of quoted text) ≡ others_after style (word_after style (white_pen style pen.fonts c) word) others =
-    after_text_word style pen text begins ∙ ap (λ (p : Pen). others_after style p others) (here_rests style pen word h (prints pen.column)) in
+    after_text_word style pen text begins ∙ ap (λ (p : Pen). others_after style p others) (here_rests style pen word h (prints.0 pen.column)) in
     let other : others_after style (resting pen.fonts c) (words_of quoted (32 ∷ text)).others ≡ others_after style (word_after style (white_pen style pen.fonts c) word) others =
     after_others_more style (resting pen.fonts c) (32 ∷ text) refl
     ∙ ap₂ (λ (p : Pen) (o : List Spaced). others_after style p o) rests left in
@@ -253,19 +255,27 @@ after_same style pen text h begins prints =
 
 -- ---- words that were read, and are taken
 
+-- the count of blanks before the first word
+counted_blanks : (blanks : ℕ) (words : List (List (Piece (List ℕ)))) (items more : List Item) → 0 < length (lettered_cells words)
+    → items ≡ map shown (lettered_pieces 1 words) ++ more → shown (Blank blanks false) ∷ drop 1 items ≡ map shown (lettered_pieces blanks words) ++ more
+unfolding lettered_cells lettered_pieces
+counted_blanks blanks [] items more some e = absurd (omega (arith, some))
+counted_blanks blanks (word ∷ words) items more some e = ap (λ (all : List Item). shown (Blank blanks false) ∷ drop 1 all) e
+
 pub front_came : {P S : Type 0} (left : P → S → List Item → Type 0) (style : TextStyle) (line : ℕ) (pen : Pen) (fonts : Setting Fonts) (text rest : List ℕ)
-    (s t u : S) → GoesOn style pen → begins_word text ≡ true → Came left s [] t → GivesFront style pen.fonts text fonts rest (Came left) t u
+    (s t u : S) → GoesOn style pen → begins_word text ≡ true → Came left s [] t → GivesFront style pen text fonts rest (Came left) t u
     → CameUpTo left s (text_items style line pen (words_of style.is_quoted text))
     (others_items style line (resting fonts (pen.column + (length text - length rest))) (words_of style.is_quoted rest).others) u
 front_came left style line pen fonts text rest s t u h begins none front = λ plan more k.
     let after = pen.column + (length text - length rest) in
     let e : after + length rest ≡ pen.column - 1 + suc (length text) = omega (arith, front.less, h.column) in
     let g = front.adds.2.gives line (pen.column - 1) after e in
-    let here = text_same style line pen text h begins front.prints ∙ g.3 in
+    let cells : length (lettered_cells g.0) ≡ length front.cells = ap (λ (c : List Cell). length c) (g.2 ∙ sym front.adds.1) in
+    let here = text_same style line pen text h begins front.prints ∙ counted_blanks pen.gap g.0 _ _ (omega (arith, cells, front.some)) g.3 in
     front.gives g.0 g.1 (front.adds.1 ∙ sym g.2) plan _ (none plan _ (rw (here, append_assoc) at k))
 
 pub front_pen : {S : Type 0} (gave : S → List Item → S → Type 0) (style : TextStyle) (pen : Pen) (fonts : Setting Fonts) (text rest : List ℕ) (s t : S)
-    → GoesOn style pen → begins_word text ≡ true → GivesFront style pen.fonts text fonts rest gave s t
+    → GoesOn style pen → begins_word text ≡ true → GivesFront style pen text fonts rest gave s t
     → others_after style (resting fonts (pen.column + (length text - length rest))) (words_of style.is_quoted rest).others
     ≡ text_after style pen (words_of style.is_quoted text)
 front_pen gave style pen fonts text rest s t h begins front =
@@ -274,9 +284,9 @@ front_pen gave style pen fonts text rest s t h begins front =
     front.adds.2.pens (pen.column - 1) after e ∙ sym (after_same style pen text h begins front.prints)
 
 -- where they are not taken nothing came
-pub front_left : {P S : Type 0} (left : P → S → List Item → Type 0) (style : TextStyle) (fonts next : Setting Fonts) (text rest : List ℕ) (cells : List Cell)
-    (s t : S) → AddsWords style fonts [] (32 ∷ text) next cells rest → GivesLetters cells false (Came left) s t → Came left s [] t
-front_left left style fonts next text rest cells s t adds gives =
+pub front_left : {P S : Type 0} (left : P → S → List Item → Type 0) (style : TextStyle) (blanks : ℕ) (fonts next : Setting Fonts) (text rest : List ℕ) (cells : List Cell)
+    (s t : S) → AddsWords style fonts [] (32 ∷ text) next cells rest → GivesLetters blanks cells false (Came left) s t → Came left s [] t
+front_left left style blanks fonts next text rest cells s t adds gives =
     let g = adds.2.gives 0 0 (suc (length text) - length rest) (omega (arith, adds.2.less)) in
     gives g.0 g.1 (adds.1 ∙ sym g.2)
 
@@ -286,8 +296,8 @@ pub no_cells : [] ≡ lettered_cells []
 unfolding lettered_cells
 no_cells = refl
 
-pub none_given : {P S : Type 0} (left : P → S → List Item → Type 0) (taken : Bool) (s t : S) → Came left s (if taken then map shown (lettered_pieces []) else []) t
-    → Came left s [] t
+pub none_given : {P S : Type 0} (left : P → S → List Item → Type 0) (blanks : ℕ) (taken : Bool) (s t : S)
+    → Came left s (if taken then map shown (lettered_pieces blanks []) else []) t → Came left s [] t
 unfolding lettered_pieces
-none_given left true s t h = h
-none_given left false s t h = h
+none_given left blanks true s t h = h
+none_given left blanks false s t h = h

@@ -66,7 +66,7 @@ has_piece : (pieces : List (Piece (List ℕ))) (cells : List Cell) → word_lett
 has_piece [] cells e some = absurd (omega (arith, some, ap (λ (c : List Cell). length c) e))
 has_piece (piece ∷ pieces) cells e some = grind (arith, nat_tests)
 
-one_pieces : (pieces : List (Piece (List ℕ))) → lettered_pieces (pieces ∷ []) ≡ Blank 1 false ∷ pieces
+one_pieces : (pieces : List (Piece (List ℕ))) → lettered_pieces 1 (pieces ∷ []) ≡ Blank 1 false ∷ pieces
 unfolding lettered_pieces
 one_pieces pieces = ap (λ (p : List (Piece (List ℕ))). Blank 1 false ∷ p) (append-nil pieces)
 
@@ -129,7 +129,7 @@ run_reads style fonts text run rest literal roman size begins =
       gives = λ line column after e.
           let place = at line column in
           let columns : column + length (blank_words words) ≡ after = omega (arith, e, size, len) in
-          let items : run_word_items fonts.value.font place words ≡ map shown (lettered_pieces (run_words R place words)) =
+          let items : run_word_items fonts.value.font place words ≡ map shown (lettered_pieces 1 (run_words R place words)) =
           ap (λ f. run_word_items f place words) roman ∙ run_pieces R place words r.are in (
             run_words R place words,
             run_lettered R place words r.are,
@@ -145,12 +145,12 @@ run_reads style fonts text run rest literal roman size begins =
 
 -- ---- words, one after another
 
-pieces-append : (xs ys : List (List (Piece (List ℕ)))) → lettered_pieces (xs ++ ys) ≡ lettered_pieces xs ++ lettered_pieces ys
+pieces-append : (xs ys : List (List (Piece (List ℕ)))) → lettered_pieces 1 (xs ++ ys) ≡ lettered_pieces 1 xs ++ lettered_pieces 1 ys
 unfolding lettered_pieces
 pieces-append [] ys = refl
 pieces-append (x ∷ xs) ys =
     ap (λ (p : List (Piece (List ℕ))). Blank 1 false ∷ (x ++ p)) (pieces-append xs ys)
-    ∙ ap (λ (p : List (Piece (List ℕ))). Blank 1 false ∷ p) (sym (append_assoc x (lettered_pieces xs) (lettered_pieces ys)))
+    ∙ ap (λ (p : List (Piece (List ℕ))). Blank 1 false ∷ p) (sym (append_assoc x (lettered_pieces 1 xs) (lettered_pieces 1 ys)))
 
 cells-append : (xs ys : List (List (Piece (List ℕ)))) → lettered_cells (xs ++ ys) ≡ lettered_cells xs ++ lettered_cells ys
 unfolding lettered_cells
@@ -159,7 +159,7 @@ cells-append (x ∷ xs) ys =
     ap (λ (c : List Cell). record { c = 32; font = R } ∷ (word_letters x ++ c)) (cells-append xs ys)
     ∙ ap (λ (c : List Cell). record { c = 32; font = R } ∷ c) (sym (append_assoc (word_letters x) (lettered_cells xs) (lettered_cells ys)))
 
-no_pieces : lettered_pieces [] ≡ []
+no_pieces : lettered_pieces 1 [] ≡ []
 unfolding lettered_pieces
 no_pieces = refl
 
@@ -190,9 +190,9 @@ words_join style fonts text mid middle next rest a b r s = record {
         x.0 ++ y.0,
         list_all-append is_lettered_word x.0 y.0 ∙ ap₂ (λ (c d : Bool). c && d) x.1 y.1,
         cells-append x.0 y.0 ∙ ap₂ (λ (c d : List Cell). c ++ d) x.2 y.2,
-        x.3 ∙ ap (λ (i : List Item). map shown (lettered_pieces x.0) ++ i) y.3
-            ∙ sym (append_assoc (map shown (lettered_pieces x.0)) (map shown (lettered_pieces y.0)) others)
-            ∙ ap (λ (i : List Item). i ++ others) (sym (ap (map shown) (pieces-append x.0 y.0) ∙ map-append shown (lettered_pieces x.0) (lettered_pieces y.0))),
+        x.3 ∙ ap (λ (i : List Item). map shown (lettered_pieces 1 x.0) ++ i) y.3
+            ∙ sym (append_assoc (map shown (lettered_pieces 1 x.0)) (map shown (lettered_pieces 1 y.0)) others)
+            ∙ ap (λ (i : List Item). i ++ others) (sym (ap (map shown) (pieces-append x.0 y.0) ∙ map-append shown (lettered_pieces 1 x.0) (lettered_pieces 1 y.0))),
       );
   pens = λ column after e.
       let m = column + length text - length middle in
@@ -216,7 +216,7 @@ adds_join style fonts mid next before between after text middle rest x y = (
 
 pub lettered_came : {P S : Type 0} (left : P → S → List Item → Type 0) (style : TextStyle) (line : ℕ) (pen next : Pen) (fonts : Setting Fonts) (text rest : List ℕ) (cells : List Cell)
     (s t : S) → pen ≡ resting pen.fonts pen.column → next ≡ record pen { fonts = fonts; column = pen.column + (length text - length rest) }
-    → AddsWords style pen.fonts [] text fonts cells rest → GivesLetters cells true (Came left) s t
+    → AddsWords style pen.fonts [] text fonts cells rest → GivesLetters 1 cells true (Came left) s t
     → CameUpTo left s (others_items style line pen (words_of style.is_quoted text).others) (others_items style line next (words_of style.is_quoted rest).others) t
 lettered_came left style line pen next fonts text rest cells s t rests is adds gives = λ plan more h.
     let after = pen.column + (length text - length rest) in
@@ -225,9 +225,9 @@ lettered_came left style line pen next fonts text rest cells s t rests is adds g
     let g = r.gives line pen.column after e in
     let there : next ≡ resting fonts after = is ∙ ap (λ (p : Pen). record p { fonts = fonts; column = after }) rests in
     let here : others_items style line pen (words_of style.is_quoted text).others
-    ≡ map shown (lettered_pieces g.0) ++ others_items style line next (words_of style.is_quoted rest).others =
+    ≡ map shown (lettered_pieces 1 g.0) ++ others_items style line next (words_of style.is_quoted rest).others =
     ap (λ (p : Pen). others_items style line p (words_of style.is_quoted text).others) rests ∙ g.3
-    ∙ ap (λ (p : Pen). map shown (lettered_pieces g.0) ++ others_items style line p (words_of style.is_quoted rest).others) (sym there) in
+    ∙ ap (λ (p : Pen). map shown (lettered_pieces 1 g.0) ++ others_items style line p (words_of style.is_quoted rest).others) (sym there) in
     gives g.0 g.1 (adds.1 ∙ sym g.2) plan _ (rw (here, append_assoc) at h)
 
 pub lettered_pen : (style : TextStyle) (pen next : Pen) (fonts : Setting Fonts) (text rest : List ℕ) (cells : List Cell)
@@ -244,7 +244,7 @@ lettered_pen style pen next fonts text rest cells rests is adds =
 
 -- where they are not taken nothing came
 pub lettered_left : {P S : Type 0} (left : P → S → List Item → Type 0) (style : TextStyle) (pen : Pen) (fonts : Setting Fonts) (text rest : List ℕ) (cells : List Cell)
-    (s t : S) (items : List Item) → AddsWords style pen.fonts [] text fonts cells rest → GivesLetters cells false (Came left) s t → CameUpTo left s items items t
+    (s t : S) (items : List Item) → AddsWords style pen.fonts [] text fonts cells rest → GivesLetters 1 cells false (Came left) s t → CameUpTo left s items items t
 lettered_left left style pen fonts text rest cells s t items adds gives = λ plan more h.
     let r = adds.2 in
     let after = pen.column + (length text - length rest) in

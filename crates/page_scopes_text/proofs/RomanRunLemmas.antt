@@ -46,7 +46,7 @@ run_words font place (word ∷ words) =
     (Text word font (record place { column = place.column + 1 }) ∷ []) ∷ run_words font (record place { column = place.column + (1 + length word) }) words
 
 pub run_pieces : (font : Font) (place : Place) (words : List (List ℕ)) → list_all is_whole_word words ≡ true
-    → word_items font place words ≡ map shown (lettered_pieces (run_words font place words))
+    → word_items font place words ≡ map shown (lettered_pieces 1 (run_words font place words))
 unfolding lettered_pieces
 run_pieces font place [] h = no_first font place
 run_pieces font place (word ∷ words) h =
@@ -132,7 +132,7 @@ first_bytes words count len text e k =
     rw (bytes, k) (take-append_seam (blank_words (take count words)) (blank_words (drop count words)))
 
 pub front_taken : {P S : Type 0} (left : P → S → List Item → Type 0) (place : Place) (text : List ℕ) (len : ℕ) (s t : S) → len ≤ length text
-    → (0 < len → len < length text → get_or text len 0 ≡ 32) → TakesWords (take len text) (replicate len R) true (Came left) s t
+    → (0 < len → len < length text → get_or text len 0 ≡ 32) → TakesWords 1 (take len text) (replicate len R) true (Came left) s t
     → TakesFront text R place len (Came left) s t
 front_taken left place text len s t within blank takes = λ words are bytes.
     let cut = cut_count words len are (rw bytes at within) (rw bytes at blank) in
@@ -145,7 +145,7 @@ front_taken left place text len s t within blank takes = λ words are bytes.
     (cut.0, cut.1, rw (run_pieces R place front ok) (takes (run_words R place front) (run_lettered R place front ok) cells))
 
 pub front_left : {P S : Type 0} (left : P → S → List Item → Type 0) (place : Place) (text : List ℕ) (len : ℕ) (s t : S) → len ≤ length text
-    → (0 < len → len < length text → get_or text len 0 ≡ 32) → TakesWords (take len text) (replicate len R) false (Came left) s t
+    → (0 < len → len < length text → get_or text len 0 ≡ 32) → TakesWords 1 (take len text) (replicate len R) false (Came left) s t
     → TakesFront text R place 0 (Came left) s t
 front_left left place text len s t within blank takes = λ words are bytes.
     let cut = cut_count words len are (rw bytes at within) (rw bytes at blank) in

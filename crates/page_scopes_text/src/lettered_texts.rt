@@ -1,4 +1,4 @@
-//! Texts that begin with words of letters, after one blank: their first words are given at once (roff(7), "LANGUAGE SYNTAX").
+//! Texts that begin with words of letters, after blanks: their first words are given at once (roff(7), "LANGUAGE SYNTAX").
 
 ghost use Rattle.std.specs.Prelude.{◌≡◌, ◌≤◌, ◌<◌, ◌+◌, ◌∷◌, false, true, [], drop, length, take, IfSome, MatchOption};
 ghost use Rattle.page_core_base.specs.Latches.{Came, CameUpTo};
@@ -17,23 +17,23 @@ use crate::lettered_words::{read_letters, read_words};
 use crate::{Pen, TextStyle};
 use page_core_base::{Font, LINE, PieceOut};
 use page_scopes_words::{
-    Fonts, Letters, ROOM, Setting, blank_before, give_after_blank, going_len, roman_fonts,
+    Fonts, Letters, ROOM, Setting, blank_before, give_after_blanks, going_len, roman_fonts,
 };
 
-// Whether one blank is before the next word, which may be parted, in rows that are filled.
+// Whether blanks are before the next word, which may be parted, in rows that are filled.
 #[inline(always)]
 fn goes_on(style: TextStyle, pen: &Pen) -> bool
     ensures { result ≡ true → GoesOn style pen.now }
 {
-    !style.is_literal && pen.gap == 1 && pen.splits && pen.column > 0
+    !style.is_literal && pen.gap > 0 && pen.splits && pen.column > 0
 }
 
-// Whether words would be taken now, as far as that does not depend on them: nothing is given.
+// Whether words would be taken now after a count of blanks, as far as that does not depend on them: nothing is given.
 #[inline(always)]
-fn takes_words<O: PieceOut>(out: &mut O) -> bool
+fn takes_words<O: PieceOut>(out: &mut O, blanks: u32) -> bool
     ensures { Came O.left out.old [] out.new }
 {
-    out.give_words(b"", roman_fonts(0))
+    out.give_words(blanks, b"", roman_fonts(0))
 }
 
 // How many bytes at the front of a text are roman, and end no run of words.
@@ -49,22 +49,23 @@ fn roman_len(quoted: bool, fonts: Setting<Fonts>, text: &[u8]) -> usize
     }
 }
 
-// Gives a text of roman words that print themselves, with one blank between two: what is left of it, which is nothing.
+// Gives a text of roman words that print themselves, with one blank between two, at the pen: what is left of it, which is nothing.
 #[inline(always)]
 fn give_roman<'a, O: PieceOut>(
     out: &mut O,
     style: TextStyle,
-    fonts: Setting<Fonts>,
+    pen: &Pen,
     text: &'a [u8],
 ) -> Option<&'a [u8]>
     requires literal { style.is_literal ≡ false }
     requires room { length text.now < ROOM }
     requires word { begins_word text.now ≡ true }
     requires goes { RunGoesOn style.is_quoted text.now 0 (length text.now) }
-    requires roman { fonts.value.font ≡ R }
-    ensures { MatchOption result (Came O.left out.old [] out.new) (λ rest. GivesFront style fonts text.now fonts rest.now (Came O.left) out.old out.new) }
+    requires roman { pen.now.fonts.value.font ≡ R }
+    ensures { MatchOption result (Came O.left out.old [] out.new)
+        (λ rest. GivesFront style pen.now text.now pen.now.fonts rest.now (Came O.left) out.old out.new) }
 {
-    if !give_after_blank(out, text) {
+    if !give_after_blanks(out, pen.gap, text) {
         return None;
     }
     Some(&text[text.len()..])
@@ -105,6 +106,7 @@ fn read_front<'a>(
     requires blank { letters.old ≡ letters_in R (32 ∷ []) }
     ensures none { MatchOption result (letters.new ≡ letters.old) (λ rest. PrintsFirst style.is_quoted fonts text.now) }
     ensures less { IfSome result (λ rest. length rest.now ≤ length text.now) }
+    ensures some { IfSome result (λ rest. 0 < length letters.new) }
     ensures reads { IfSome result (λ rest. AddsWords style fonts [] (32 ∷ text.now) fonts letters.new rest.now) }
 {
     let front = front_len(style.is_quoted, len, text);
@@ -132,6 +134,7 @@ fn read_first<'a>(
     requires blank { letters.old ≡ letters_in R (32 ∷ []) }
     ensures prints { IfSome result (λ found. PrintsFirst style.is_quoted fonts text.now) }
     ensures less { IfSome result (λ found. length found.1.now ≤ length text.now) }
+    ensures some { IfSome result (λ found. 0 < length letters.new) }
     ensures reads { IfSome result (λ found. AddsWords style fonts [] (32 ∷ text.now) found.0 letters.new found.1.now) }
 {
     if let Some(rest) = read_front(style, fonts, letters, len, text) {
@@ -149,7 +152,7 @@ fn read_first<'a>(
 fn give_read<'a, O: PieceOut>(
     out: &mut O,
     style: TextStyle,
-    fonts: Setting<Fonts>,
+    pen: &Pen,
     len: usize,
     text: &'a [u8],
 ) -> Option<(Setting<Fonts>, &'a [u8])>
@@ -158,45 +161,45 @@ fn give_read<'a, O: PieceOut>(
     requires short { length text.now ≤ LINE }
     requires word { begins_word text.now ≡ true }
     requires goes { RunGoesOn style.is_quoted text.now 0 len }
-    requires roman { 0 < len → fonts.value.font ≡ R }
+    requires roman { 0 < len → pen.now.fonts.value.font ≡ R }
     ensures { MatchOption result (Came O.left out.old [] out.new)
-        (λ found. GivesFront style fonts text.now found.0 found.1.now (Came O.left) out.old out.new) }
+        (λ found. GivesFront style pen.now text.now found.0 found.1.now (Came O.left) out.old out.new) }
 {
     let mut letters = Letters::new();
     if !letters.add(Font::R, b" ") {
         return None;
     }
-    let (next, rest) = read_first(style, fonts, &mut letters, len, text)?;
+    let (next, rest) = read_first(style, pen.fonts, &mut letters, len, text)?;
     let (next, rest) = read_words(style, next, &mut letters, rest);
-    if !letters.give(out) {
+    if !letters.give(out, pen.gap) {
         return None;
     }
     Some((next, rest))
 }
 
-// Gives the words of letters at the front of a text that begins with a word, after one blank: the fonts after them, and what is left of the text.
+// Gives the words of letters at the front of a text that begins with a word, at the pen: the fonts after them, and what is left of the text.
 #[inline(always)]
 fn give_front<'a, O: PieceOut>(
     out: &mut O,
     style: TextStyle,
-    fonts: Setting<Fonts>,
+    pen: &Pen,
     text: &'a [u8],
 ) -> Option<(Setting<Fonts>, &'a [u8])>
     requires literal { style.is_literal ≡ false }
     requires short { length text.now ≤ LINE }
     requires word { begins_word text.now ≡ true }
     ensures { MatchOption result (Came O.left out.old [] out.new)
-        (λ found. GivesFront style fonts text.now found.0 found.1.now (Came O.left) out.old out.new) }
+        (λ found. GivesFront style pen.now text.now found.0 found.1.now (Came O.left) out.old out.new) }
 {
-    let len = roman_len(style.is_quoted, fonts, text);
+    let len = roman_len(style.is_quoted, pen.fonts, text);
     if len == text.len() && len < ROOM {
-        let rest = give_roman(out, style, fonts, text)?;
-        return Some((fonts, rest));
+        let rest = give_roman(out, style, pen, text)?;
+        return Some((pen.fonts, rest));
     }
-    give_read(out, style, fonts, len, text)
+    give_read(out, style, pen, len, text)
 }
 
-/// Gives the words of letters at the front of a text that begins with a word, after one blank: what is left of the text, or none where no word
+/// Gives the words of letters at the front of a text that begins with a word, after the pen's blanks: what is left of the text, or none where no word
 /// was taken.
 #[inline(always)]
 pub(crate) fn give_lettered_front<'a, O: PieceOut>(
@@ -216,10 +219,10 @@ pub(crate) fn give_lettered_front<'a, O: PieceOut>(
     ensures within { IfSome result (λ rest. Within pen.old text.now pen.new rest.now) }
     ensures ends { IfSome result (λ rest. begins_word rest.now ≡ false) }
 {
-    if !goes_on(style, pen) || !takes_words(out) {
+    if !goes_on(style, pen) || !takes_words(out, pen.gap) {
         return None;
     }
-    let (fonts, rest) = give_front(out, style, pen.fonts, text)?;
+    let (fonts, rest) = give_front(out, style, pen, text)?;
     pen.rest_after(fonts, (text.len() - rest.len()) as u32);
     Some(rest)
 }

@@ -255,7 +255,7 @@ pub(crate) fn give_lettered_words<'a, O: PieceOut>(
     if rest.len() == text.len() {
         return text;
     }
-    *tries = letters.give(out);
+    *tries = letters.give(out, 1);
     if !*tries {
         return text;
     }

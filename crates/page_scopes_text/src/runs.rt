@@ -88,7 +88,7 @@ fn give_roman<O: PieceOut>(out: &mut O, text: &[u8]) -> usize
     ensures takes { (place : Place) → TakesFront text.now R place result (Came O.left) out.old out.new }
 {
     let len = front_len(text);
-    if out.give_words(&text[..len], roman_fonts(len)) {
+    if out.give_words(1, &text[..len], roman_fonts(len)) {
         return len;
     }
     0

@@ -88,12 +88,12 @@ impl Letters {
         true
     }
 
-    /// Gives them as words: whether these were taken.
+    /// Gives them as words, the first one after a count of blanks: whether these were taken.
     #[inline(always)]
-    pub fn give<O: PieceOut>(&self, out: &mut O) -> bool
-        ensures { GivesLetters self.now result (Came O.left) out.old out.new }
+    pub fn give<O: PieceOut>(&self, out: &mut O, blanks: u32) -> bool
+        ensures { GivesLetters blanks self.now result (Came O.left) out.old out.new }
     {
-        out.give_words(&self.text[..self.len], &self.fonts[..self.len])
+        out.give_words(blanks, &self.text[..self.len], &self.fonts[..self.len])
     }
 }
 
@@ -106,14 +106,14 @@ fn put_after_first(bytes: &mut [u8], text: &[u8])
     bytes[1..text.len() + 1].copy_from_slice(text);
 }
 
-/// Gives a blank and roman letters as words: whether these were taken.
+/// Gives roman letters as words, the first one after a count of blanks: whether these were taken.
 #[inline(always)]
-pub fn give_after_blank<O: PieceOut>(out: &mut O, text: &[u8]) -> bool
+pub fn give_after_blanks<O: PieceOut>(out: &mut O, blanks: u32, text: &[u8]) -> bool
     requires { length text.now < ROOM }
-    ensures { GivesLetters (letters_in R (32 ∷ text.now)) result (Came O.left) out.old out.new }
+    ensures { GivesLetters blanks (letters_in R (32 ∷ text.now)) result (Came O.left) out.old out.new }
 {
     let mut bytes = [b' '; 256];
     put_after_first(&mut bytes, text);
     let len = text.len() + 1;
-    out.give_words(&bytes[..len], roman_fonts(len))
+    out.give_words(blanks, &bytes[..len], roman_fonts(len))
 }

@@ -26,7 +26,7 @@ mod widths;
 
 pub use fonts::{Fonts, ROMAN};
 pub use letter_fonts::{ROOM, roman_fonts};
-pub use letters::{Letters, give_after_blank};
+pub use letters::{Letters, give_after_blanks};
 pub use names::name_columns;
 pub use numbers::{give_columns, give_number, give_rows};
 pub use run_ends::{blank_before, going_len};

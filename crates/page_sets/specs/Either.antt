@@ -3,10 +3,10 @@ use Rattle.std.specs.Prelude.{ℕ, ◌+◌, ◌*◌, ◌≤◌, List, length}
 use Rattle.page_core_base.specs.LinesTaken.{Line}
 use Rattle.page_sets_lines.specs.declared.events.Event.{Event}
 use Rattle.page_sets_lines.specs.Laws.{AreSlices, AreInOrder}
-use Rattle.page_sets_man.specs.Man.{man_indent, man_events}
-use Rattle.page_sets_man.specs.machine.ManLaws.{man_slices, man_in_order, man_few}
-use Rattle.page_sets_mdoc.specs.Mdoc.{mdoc_indent, mdoc_events}
-use Rattle.page_sets_mdoc.specs.machine.MdocLaws as mdoc_laws
+use Rattle.page_sets.specs.Man.{man_indent, man_events}
+use Rattle.page_sets.specs.machine.ManLaws.{man_slices, man_in_order, man_few}
+use Rattle.page_sets.specs.Mdoc.{mdoc_indent, mdoc_events}
+use Rattle.page_sets.specs.machine.MdocLaws as mdoc_laws
 use Rattle.page_sets.specs.declared.either.Either.{Either}
 use Rattle.page_sets.specs.declared.either.Either.TheVariants.{Man, Mdoc}
 

@@ -1,1 +1,5 @@
+pub mod ManRows
+pub mod Man
+pub mod Mdoc
 pub mod Either
+pub mod machine

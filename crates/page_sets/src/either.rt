@@ -1,9 +1,9 @@
 //! The set of macros of a page: one of the two (man(7), mdoc(7)).
 
+use crate::man_set::Man;
+use crate::mdoc_set::Mdoc;
 use page_core_base::Taken;
 use page_sets_lines::{Event, EventOut, MacroSet};
-use page_sets_man::Man;
-use page_sets_mdoc::Mdoc;
 
 /// The set of macros of a page: it acts as the one that it is. The place in a line's events is their number so far.
 #[derive(Clone, Copy, PartialEq, Eq)]

@@ -28,25 +28,25 @@ unfoldable pub use Rattle.page_fill.specs.Filled.{first_word as u68, outcome as 
 unfoldable pub use Rattle.page_fill.specs.Filling.{groups as u71, other_laid as u72, groups_laid as u73}
 unfoldable pub use Rattle.page_fill.specs.PieceWords.{text_content as u74, words_of as u75, word_after_items as u76, words_laid as u77, content_laid as u78}
 unfoldable pub use Rattle.page_fill_rows.specs.Characters.{characters_of as u79, character as u80, characters as u81, glyph as u82}
-unfoldable pub use Rattle.page_roff_blocks.specs.Forest.{before as u83, enclose as u84, enregion as u85, keep as u86, line_of as u87, region_line as u88, source_of as u89, inside_of as u90}
-unfoldable pub use Rattle.page_roff_blocks.specs.Levels.{outside as u91, bit_after as u92, way_in as u93, way_of as u94, enter as u95, skip as u96, open_loop as u97, leave_level as u98, leave_loop as u99, leave_from as u100, leave as u101, level_ends as u102, loop_ends as u103, ends_from as u104, what_ends as u105, at_line as u106, after_part as u107, guarded_by as u108, reached_if as u109, reached_from as u110, reached_in as u111, reached as u112, first_place as u113}
-unfoldable pub use Rattle.page_roff_blocks.specs.LineParts.{part_of as u114, line_parts as u115}
-unfoldable pub use Rattle.page_roff_blocks.specs.Loops.{left_of as u116, len_of as u117, loop_text as u118, first_text as u119}
-unfoldable pub use Rattle.page_roff_blocks.specs.Parts.{written_part as u120}
-unfoldable pub use Rattle.page_roff_blocks.specs.Run.{fresh as u121, past as u122, guarded as u123, meet_as as u124, meet as u125, value as u126, keep_if as u127, read as u128, end_region as u129, pass_region as u130, pass as u131, gather as u132, leaf_if as u133, guard_if as u134, refuse_if as u135, enter_if as u136, block_by as u137, loop_by as u138, loop_if as u139, run as u140, here_at as u141, here_in as u142, here as u143, enter_loop as u144, enter_opening as u145, enter_at as u146, enter_in as u147, enter_block as u148, end_by as u149, leave_block as u150, meet_at as u151, meet_in as u152, open_region as u153, read_at as u154, run_source as u155, run_inside as u156, run_from as u157, run_lines as u158, headed as u159, each_line as u160}
-unfoldable pub use Rattle.page_roff_definitions.specs.Definitions.{outcome_of as u161}
-unfoldable pub use Rattle.page_roff_effects.specs.Answers.{condition_answer as u162}
-unfoldable pub use Rattle.page_roff_effects.specs.Commands.{command_of as u163}
-unfoldable pub use Rattle.page_roff_effects.specs.Effects.{answer_of as u164, budget_outcome as u165, block_outcome as u166, end_of_block_outcome as u167, done_by as u168, done_after as u169, tested_after as u170, effects as u171}
-unfoldable pub use Rattle.page_roff_effects.specs.Leaves.{command_outcome as u172, control_outcome as u173, leaf_outcome as u174}
-unfoldable pub use Rattle.page_roff_effects.specs.LoopLines.{loop_outcome as u175, collect_outcome as u176, close_outcome as u177}
-unfoldable pub use Rattle.page_roff_effects.specs.RegionLines.{head_outcome as u178, line_outcome as u179, end_outcome as u180, finish_outcome as u181}
-unfoldable pub use Rattle.page_roff_heads.specs.Conditions.{kind_of as u182, read_test as u183, condition_of as u184, condition_len as u185}
-unfoldable pub use Rattle.page_roff_heads.specs.Heads.{guarded_of as u186, conditional_of as u187, block_end_of as u188}
-unfoldable pub use Rattle.page_roff_heads.specs.Loops.{first_of as u189, loop_of as u190}
-unfoldable pub use Rattle.page_roff_heads.specs.Texts.{remainder_of as u191}
-unfoldable pub use Rattle.page_roff_language.specs.Budgets.{with_rest as u192, charge_by as u193, charge as u194, begin_line as u195, whether_run as u196, meet as u197, test as u198, unopened_by as u199, read_line as u200, end_line as u201, collect_some as u202, meaning as u203, done_with as u204, closed_with as u205, turn_by as u206, turn as u207, language as u208}
-unfoldable pub use Rattle.page_roff_language.specs.Languages.{inner as u209, is_some as u210, run_if as u211, finish_at as u212, run_body as u213, turns as u214, done_by as u215, meaning_by as u216, done_at as u217, meaning_at as u218, run_page as u219, run_page_lines as u220}
+unfoldable pub use Rattle.page_roff_blocks.specs.Budgets.{with_rest as u83, charge_by as u84, charge as u85, begin_line as u86, whether_run as u87, meet as u88, test as u89, unopened_by as u90, read_line as u91, end_line as u92, collect_some as u93, meaning as u94, done_with as u95, closed_with as u96, turn_by as u97, turn as u98, language as u99}
+unfoldable pub use Rattle.page_roff_blocks.specs.Forest.{before as u100, enclose as u101, enregion as u102, keep as u103, line_of as u104, region_line as u105, source_of as u106, inside_of as u107}
+unfoldable pub use Rattle.page_roff_blocks.specs.Languages.{inner as u108, is_some as u109, run_if as u110, finish_at as u111, run_body as u112, turns as u113, done_by as u114, meaning_by as u115, done_at as u116, meaning_at as u117, run_page as u118, run_page_lines as u119}
+unfoldable pub use Rattle.page_roff_blocks.specs.Levels.{outside as u120, bit_after as u121, way_in as u122, way_of as u123, enter as u124, skip as u125, open_loop as u126, leave_level as u127, leave_loop as u128, leave_from as u129, leave as u130, level_ends as u131, loop_ends as u132, ends_from as u133, what_ends as u134, at_line as u135, after_part as u136, guarded_by as u137, reached_if as u138, reached_from as u139, reached_in as u140, reached as u141, first_place as u142}
+unfoldable pub use Rattle.page_roff_blocks.specs.LineParts.{part_of as u143, line_parts as u144}
+unfoldable pub use Rattle.page_roff_blocks.specs.Loops.{left_of as u145, len_of as u146, loop_text as u147, first_text as u148}
+unfoldable pub use Rattle.page_roff_blocks.specs.Parts.{written_part as u149}
+unfoldable pub use Rattle.page_roff_blocks.specs.Run.{fresh as u150, past as u151, guarded as u152, meet_as as u153, meet as u154, value as u155, keep_if as u156, read as u157, end_region as u158, pass_region as u159, pass as u160, gather as u161, leaf_if as u162, guard_if as u163, refuse_if as u164, enter_if as u165, block_by as u166, loop_by as u167, loop_if as u168, run as u169, here_at as u170, here_in as u171, here as u172, enter_loop as u173, enter_opening as u174, enter_at as u175, enter_in as u176, enter_block as u177, end_by as u178, leave_block as u179, meet_at as u180, meet_in as u181, open_region as u182, read_at as u183, run_source as u184, run_inside as u185, run_from as u186, run_lines as u187, headed as u188, each_line as u189}
+unfoldable pub use Rattle.page_roff_definitions.specs.Definitions.{outcome_of as u190}
+unfoldable pub use Rattle.page_roff_effects.specs.Answers.{condition_answer as u191}
+unfoldable pub use Rattle.page_roff_effects.specs.Commands.{command_of as u192}
+unfoldable pub use Rattle.page_roff_effects.specs.Effects.{answer_of as u193, budget_outcome as u194, block_outcome as u195, end_of_block_outcome as u196, done_by as u197, done_after as u198, tested_after as u199, effects as u200}
+unfoldable pub use Rattle.page_roff_effects.specs.Leaves.{command_outcome as u201, control_outcome as u202, leaf_outcome as u203}
+unfoldable pub use Rattle.page_roff_effects.specs.LoopLines.{loop_outcome as u204, collect_outcome as u205, close_outcome as u206}
+unfoldable pub use Rattle.page_roff_effects.specs.RegionLines.{head_outcome as u207, line_outcome as u208, end_outcome as u209, finish_outcome as u210}
+unfoldable pub use Rattle.page_roff_heads.specs.Conditions.{kind_of as u211, read_test as u212, condition_of as u213, condition_len as u214}
+unfoldable pub use Rattle.page_roff_heads.specs.Heads.{guarded_of as u215, conditional_of as u216, block_end_of as u217}
+unfoldable pub use Rattle.page_roff_heads.specs.Loops.{first_of as u218, loop_of as u219}
+unfoldable pub use Rattle.page_roff_heads.specs.Texts.{remainder_of as u220}
 unfoldable pub use Rattle.page_roff_lines.specs.Characters.{is_second as u221, sequence_length as u222, high_character as u223, character as u224, high_later_length as u225, later_length as u226, characters_after as u227}
 unfoldable pub use Rattle.page_roff_lines.specs.Cutting.{encoding_after as u228, point_at as u229, next_point as u230, end_point as u231, line_at as u232, lines_within as u233, point_after as u234}
 unfoldable pub use Rattle.page_roff_lines.specs.Decoding.{characters_within as u235, bad_notes as u236, decode_line as u237, choice_of as u238}
@@ -84,11 +84,11 @@ unfoldable pub use Rattle.page_scopes_phrases.specs.ManualNames.{missing_name as
 unfoldable pub use Rattle.page_scopes_tree.specs.Layouts.{settled as u290, edge as u291}
 unfoldable pub use Rattle.page_scopes_tree.specs.Placements.{opener_placement as u292, line_placement as u293, opener_skips as u294}
 unfoldable pub use Rattle.page_scopes_words.specs.Widths.{named_width as u295, is_expression as u296}
-unfoldable pub use Rattle.page_sets_lines.specs.Lists.{headed_kind as u297, headless_kind as u298, option_named as u299}
-unfoldable pub use Rattle.page_sets_lines.specs.PlainLines.{layout_request as u300}
-unfoldable pub use Rattle.page_sets_man.specs.Man.{man_events as u301}
-unfoldable pub use Rattle.page_sets_man.specs.Rows.{macro_row as u302}
-unfoldable pub use Rattle.page_sets_mdoc.specs.Mdoc.{mdoc_events as u303}
+unfoldable pub use Rattle.page_sets.specs.Man.{man_events as u297}
+unfoldable pub use Rattle.page_sets.specs.ManRows.{macro_row as u298}
+unfoldable pub use Rattle.page_sets.specs.Mdoc.{mdoc_events as u299}
+unfoldable pub use Rattle.page_sets_lines.specs.Lists.{headed_kind as u300, headless_kind as u301, option_named as u302}
+unfoldable pub use Rattle.page_sets_lines.specs.PlainLines.{layout_request as u303}
 unfoldable pub use Rattle.page_sets_mdoc_blocks.specs.Displays.{display_type as u304, font_named as u305}
 unfoldable pub use Rattle.page_sets_mdoc_lines.specs.Delimiters.{delimiter_of as u306}
 unfoldable pub use Rattle.page_sets_mdoc_lines.specs.LineWords.{word_delimiter as u307, word_call as u308, is_closing as u309, is_real as u310, takes_next as u311}

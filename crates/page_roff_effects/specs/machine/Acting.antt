@@ -14,8 +14,8 @@ use Rattle.page_roff_syntax.specs.LineForms.{has_word}
 use Rattle.page_core_base.specs.Latches.{Came}
 use Rattle.page_roff_values.specs.Values.{Spot, Laid, expanded}
 use Rattle.page_roff_values.specs.machine.Views.{units_of_bytes}
-use Rattle.page_roff_language.specs.Budgets.{Effects}
-use Rattle.page_roff_language.specs.Languages.{Kind, arguments_of}
+use Rattle.page_roff_blocks.specs.Budgets.{Effects}
+use Rattle.page_roff_blocks.specs.Languages.{Kind, arguments_of}
 use Rattle.page_roff_effects.specs.Answers.{Answer}
 use Rattle.page_roff_names.specs.Names.{Definitions}
 use Rattle.page_roff_definitions.specs.Calls.{Call}

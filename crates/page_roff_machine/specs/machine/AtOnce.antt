@@ -1,6 +1,6 @@
 -- A source line that is taken at once, as the code does it. Trust needs no reading of it. Source: roff(7), "LANGUAGE SYNTAX".
 use Rattle.std.specs.Prelude.{◌≡◌, ℕ, Bool, true, false, List, None}
-use Rattle.page_roff_language.specs.machine.Counting.{begun}
+use Rattle.page_roff_blocks.specs.machine.Counting.{begun}
 use Rattle.page_roff_effects.specs.machine.Acting.{IsTaken, with_number, measured}
 use Rattle.page_roff_effects.specs.Leaves.{leaf_outcome}
 use Rattle.page_roff_stack.specs.machine.Changes.{is_page}

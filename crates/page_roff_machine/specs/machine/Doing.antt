@@ -10,9 +10,9 @@ use Rattle.page_roff_syntax.specs.OpenRegions.{Opened}
 use Rattle.page_roff_blocks.specs.Run.{Meaning, meet_as, value, keep_if}
 use Rattle.page_roff_values.specs.Arguments.{arguments_in, lines_in}
 use Rattle.page_core_base.specs.Latches.{Came}
-use Rattle.page_roff_language.specs.Languages.{Kind, Done, gives, calls, repeats, Language}
-use Rattle.page_roff_language.specs.Budgets.{Budgeted, charge, begin_line, meaning, language}
-use Rattle.page_roff_language.specs.machine.Counting.{Budget, budgeted}
+use Rattle.page_roff_blocks.specs.Languages.{Kind, Done, gives, calls, repeats, Language}
+use Rattle.page_roff_blocks.specs.Budgets.{Budgeted, charge, begin_line, meaning, language}
+use Rattle.page_roff_blocks.specs.machine.Counting.{Budget, budgeted}
 use Rattle.page_roff_effects.specs.declared.commands.ProductKind.{ProductKind}
 use Rattle.page_roff_effects.specs.declared.commands.ProductKind.TheVariants as kinds
 use Rattle.page_roff_effects.specs.machine.Acting.{Acting, acting_effects, acting_setting}

@@ -15,10 +15,10 @@ use Rattle.page_roff_blocks.specs.Run.{refuse_if}
 use Rattle.page_roff_blocks.specs.machine.Steps.{collect_if}
 use Rattle.page_roff_values.specs.Arguments.{arguments_in}
 use Rattle.page_core_base.specs.Latches.{Came}
-use Rattle.page_roff_language.specs.Languages.{arguments_of, Kind, page, body, is_some}
-use Rattle.page_roff_language.specs.machine.Machine.{Frame, Running, Turning, depth, leaf_next, loop_next, end_next, next}
-use Rattle.page_roff_language.specs.machine.Measures.{weight, turns_of}
-use Rattle.page_roff_language.specs.Budgets.{Budgeted, meaning, language}
+use Rattle.page_roff_blocks.specs.Languages.{arguments_of, Kind, page, body, is_some}
+use Rattle.page_roff_blocks.specs.machine.Machine.{Frame, Running, Turning, depth, leaf_next, loop_next, end_next, next}
+use Rattle.page_roff_blocks.specs.machine.Measures.{weight, turns_of}
+use Rattle.page_roff_blocks.specs.Budgets.{Budgeted, meaning, language}
 use Rattle.page_roff_effects.specs.declared.commands.ProductKind.{ProductKind}
 use Rattle.page_roff_effects.specs.declared.commands.ProductKind.TheVariants as kinds
 use Rattle.page_roff_effects.specs.machine.Acting.{with_arguments, IsCallable, IsRepeatable, acting_effects}

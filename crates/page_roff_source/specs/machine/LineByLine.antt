@@ -2,7 +2,7 @@
 -- `forest_law`; trust needs no reading of it.
 use Rattle.std.specs.Prelude.{◌≡◌, List, [], ◌∷◌, ◌++◌, map}
 use Rattle.page_roff_blocks.specs.Run.{At}
-use Rattle.page_roff_language.specs.Budgets.{Budgeted}
+use Rattle.page_roff_blocks.specs.Budgets.{Budgeted}
 use Rattle.page_roff_effects.specs.States.{State, Given, says}
 use Rattle.page_roff_source.specs.Edges.{Edge, SourceLine}
 use Rattle.page_roff_source.specs.machine.Taking.{line_given, line_done}

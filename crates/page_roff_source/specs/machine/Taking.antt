@@ -4,8 +4,8 @@ use Rattle.std.specs.Prelude.{ℕ, ◌+◌, false, List, [], ◌∷◌, Option, 
 use Rattle.page_core_base.specs.LinesTaken.{Line}
 use Rattle.page_roff_blocks.specs.Run.{At}
 use Rattle.page_roff_values.specs.Values.{units_of}
-use Rattle.page_roff_language.specs.Budgets.{Budgeted, language}
-use Rattle.page_roff_language.specs.Languages.{run_page}
+use Rattle.page_roff_blocks.specs.Budgets.{Budgeted, language}
+use Rattle.page_roff_blocks.specs.Languages.{run_page}
 use Rattle.page_core_base.specs.Limits.{REREAD}
 use Rattle.page_roff_effects.specs.Effects.{effects}
 use Rattle.page_roff_effects.specs.States.{State, Given, numbered}

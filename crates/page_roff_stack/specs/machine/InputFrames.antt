@@ -3,7 +3,7 @@
 use Rattle.std.specs.Prelude.{ℕ, ◌+◌, ◌≤◌, List}
 use Rattle.page_core_base.specs.Limits.{LINE}
 use Rattle.page_roff_blocks.specs.machine.LinePlaces.{parts_at, IsPlaceIn}
-use Rattle.page_roff_language.specs.machine.Machine.{Frame}
+use Rattle.page_roff_blocks.specs.machine.Machine.{Frame}
 use Rattle.page_roff_stack.specs.declared.input_frames.InputFrame.{InputFrame}
 use Rattle.page_roff_stack.specs.machine.Ahead.{IsAfterIn}
 use Rattle.page_roff_stack.specs.machine.Changes.{IsBounded}

@@ -2,7 +2,7 @@
 use Rattle.std.specs.Prelude.{ℕ, ◌+◌, ◌*◌, ◌≤◌, List, [], ◌∷◌, length, take, drop, reverse}
 use Rattle.std.specs.Vec.{vec_capacity}
 use Rattle.page_core_base.specs.Limits.{ARGS, BODY, CALLS, LINE}
-use Rattle.page_roff_language.specs.machine.Machine.{Frame}
+use Rattle.page_roff_blocks.specs.machine.Machine.{Frame}
 use Rattle.page_roff_stack.specs.declared.input_stacks.Caller.{Caller}
 use Rattle.page_roff_stack.specs.declared.input_stacks.InputStack.TheInside.{Inside}
 use Rattle.page_roff_stack.specs.machine.InputFrames.{frame_of, IsHeld}

@@ -1,32 +1,36 @@
--- Texts that begin with words of letters, after one blank: a fast way of the code, which no public clause cites. Source: roff(7), "LANGUAGE SYNTAX".
+-- Texts that begin with words of letters, after blanks: a fast way of the code, which no public clause cites. Source: roff(7), "LANGUAGE SYNTAX".
 use Rattle.std.specs.Prelude.{◌≡◌, ℕ, ◌<◌, ◌≤◌, ◌∷◌, Bool, true, false, List, [], length}
 use Rattle.page_core_base.specs.Pieces.{Item}
 use Rattle.page_core_base.specs.declared.cells.Cell.{Cell}
+use Rattle.page_core_base.specs.declared.places.Place.{Place}
 use Rattle.page_scopes_words.specs.machine.Letters.{GivesLetters}
 use Rattle.page_scopes_words.specs.declared.fonts.Fonts.{Fonts}
 use Rattle.page_scopes_words.specs.declared.settings.Setting.{Setting}
 use Rattle.page_scopes_text.specs.Parted.{words_of}
-use Rattle.page_scopes_text.specs.Words.{pen_through}
+use Rattle.page_scopes_text.specs.Words.{pen_through, word_notes}
 use Rattle.page_scopes_text.specs.declared.pens.Pen.{Pen}
 use Rattle.page_scopes_text.specs.declared.pens.TextStyle.{TextStyle}
 use Rattle.page_scopes_text.specs.machine.Letters.{AddsWords, inside}
 
--- one blank is before the next word, which may be parted, in rows that are filled
+-- blanks are before the next word, which may be parted, in rows that are filled
 pub record GoesOn (style : TextStyle) (pen : Pen) : Type 0 where
   pub filled : style.is_literal ≡ false
-  pub gap : pen.gap ≡ 1
+  pub gap : 0 < pen.gap
   pub splits : pen.splits ≡ true
   pub column : 0 < pen.column
 
--- the first word of a text prints something
+-- the first word of a text prints something, and has no message
 abbrev pub PrintsFirst : Bool → Setting Fonts → List ℕ → Type 0
-PrintsFirst quoted fonts text = (column : ℕ) → (pen_through (inside fonts column false) (words_of quoted text).word).has_cell ≡ true
+PrintsFirst quoted fonts text =
+    ((column : ℕ) → (pen_through (inside fonts column false) (words_of quoted text).word).has_cell ≡ true)
+    × ((place : Place) → word_notes quoted place (words_of quoted text).word ≡ [])
 
--- words of letters at a text's front, as if a blank were before them, were given
-pub record GivesFront {S : Type 0} (style : TextStyle) (fonts : Setting Fonts) (text : List ℕ) (next : Setting Fonts) (rest : List ℕ)
+-- words of letters at a text's front were given after the pen's blanks; they were read as if one blank were before them
+pub record GivesFront {S : Type 0} (style : TextStyle) (pen : Pen) (text : List ℕ) (next : Setting Fonts) (rest : List ℕ)
     (gave : S → List Item → S → Type 0) (s t : S) : Type 0 where
   pub less : length rest ≤ length text
-  pub prints : PrintsFirst style.is_quoted fonts text
+  pub prints : PrintsFirst style.is_quoted pen.fonts text
   pub cells : List Cell
-  pub adds : AddsWords style fonts [] (32 ∷ text) next cells rest
-  pub gives : GivesLetters cells true gave s t
+  pub some : 0 < length cells
+  pub adds : AddsWords style pen.fonts [] (32 ∷ text) next cells rest
+  pub gives : GivesLetters pen.gap cells true gave s t

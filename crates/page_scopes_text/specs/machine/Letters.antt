@@ -57,7 +57,7 @@ pub record ReadsLetters (quoted : Bool) (fonts : Setting Fonts) (text : List ℕ
 abbrev pub GivesWords : TextStyle → ℕ → Pen → List Spaced → Pen → List Spaced → List Cell → Type 0
 GivesWords style line pen parts next others cells =
     (words : List (List (Piece (List ℕ)))) × (list_all is_lettered_word words ≡ true) × (lettered_cells words ≡ cells)
-    × (others_items style line pen parts ≡ map shown (lettered_pieces words) ++ others_items style line next others)
+    × (others_items style line pen parts ≡ map shown (lettered_pieces 1 words) ++ others_items style line next others)
 
 -- words of letters at a text's front were read, each after one blank
 pub record ReadsWords (style : TextStyle) (fonts : Setting Fonts) (text : List ℕ) (next : Setting Fonts) (rest : List ℕ) (cells : List Cell) : Type 0 where

@@ -16,8 +16,8 @@ letters_in font bytes = map (λ c. record { c = c; font = font }) bytes
 abbrev pub put_at : {A : Type 0} → List A → ℕ → List A → List A
 put_at old start others = take start old ++ (others ++ drop (start + length others) old)
 
--- these cells are words of letters with a blank before each, and a call took all of them, or none
-abbrev pub GivesLetters : {S : Type 0} → List Cell → Bool → (S → List Item → S → Type 0) → S → S → Type 0
-GivesLetters {S} cells taken gave s t =
+-- these cells are words of letters with a blank before each, and a call took all of them after so many blanks, or none
+abbrev pub GivesLetters : {S : Type 0} → ℕ → List Cell → Bool → (S → List Item → S → Type 0) → S → S → Type 0
+GivesLetters {S} blanks cells taken gave s t =
     (words : List (List (Piece (List ℕ)))) → list_all is_lettered_word words ≡ true → cells ≡ lettered_cells words
-    → gave s (if taken then map shown (lettered_pieces words) else []) t
+    → gave s (if taken then map shown (lettered_pieces blanks words) else []) t

@@ -1,6 +1,6 @@
 use Rattle.std.proofs.Common.{ap, sym, ◌∙◌, vec_len}
-use Rattle.page_roff_language.specs.Languages.{is_some}
-use Rattle.page_roff_language.specs.machine.Machine.{depth}
+use Rattle.page_roff_blocks.specs.Languages.{is_some}
+use Rattle.page_roff_blocks.specs.machine.Machine.{depth}
 use Rattle.page_roff_stack.specs.machine.InputStacks.{stack_of}
 use Rattle.page_roff_stack.proofs.InputStackLemmas.{may_call_is, under_len}
 use Rattle.page_roff_stack.proofs.input_stacks.InputStack.may_call.Goals as goal

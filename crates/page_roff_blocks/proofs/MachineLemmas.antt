@@ -1,0 +1,272 @@
+-- What is still to come, step by step: helpers of proofs.
+use Rattle.std.proofs.Common.{◌≡◌, ℕ, zero, suc, ◌-◌, Bool, true, false, List, [], ◌∷◌, ◌++◌, length, Option, Some, None, refl, sym, ap, ◌∙◌, arith}
+use Rattle.page_roff_heads.specs.declared.loops.LoopHead.{LoopHead}
+use Rattle.page_roff_blocks.specs.declared.line_parts.LinePart.{LinePart}
+use Rattle.page_roff_blocks.specs.declared.line_parts.LinePart.TheVariants.{Leaf, Guard, Block, Loop, End, Region}
+use Rattle.page_roff_blocks.specs.declared.levels.Ended.{Ended}
+use Rattle.page_roff_blocks.specs.declared.levels.Ended.TheVariants as endings
+use Rattle.page_roff_syntax.specs.RegionHeads.{is_ending}
+use Rattle.page_roff_blocks.specs.Levels.{BlockCursor, at_line, after_part, leave, what_ends, first_place}
+use Rattle.page_roff_syntax.specs.OpenRegions.{Opened}
+use Rattle.page_roff_blocks.specs.Run.{Meaning, At, end_by, run_lines, headed}
+use Rattle.page_roff_blocks.specs.Run as blocks
+use Rattle.page_roff_blocks.specs.machine.Steps.{met, step_leaf, step_loop, step_end, step_region, step_parts, step_inside, step_from, step, step_lines}
+use Rattle.page_roff_blocks.proofs.FoldLemmas.{run_is_steps, run_lines-append}
+use Rattle.page_core_base.specs.declared.limits.TheConstants.{CALLS}
+use Rattle.page_roff_blocks.specs.Languages.{Kind, page, body, inner, Done, gives, calls, repeats, state_of, TURNS, Language, is_some, run_if, finish_at, run_body, turns, done_by, meaning_by, done_at, meaning_at, run_page, run_page_lines}
+use Rattle.page_roff_blocks.specs.machine.Machine.{Turning, Frame, Running, entered, looped, turned, at_part, between, at_page, depth, stands_at, line_in, line_rest, finish_if, ended, after_line, rest, rest_of, leaf_next, leaf_if, loop_next, loop_if, end_next, part_next, region_next, line_next, turn_if, turn_next, body_next, source_next, next_in, next}
+
+module _ {S : Type 0} (l : Language S) where
+  frame : Kind → Option Opened → List (LinePart (List ℕ)) → BlockCursor → List (List ℕ) → Option Turning → Frame
+  frame kind region parts cursor lines turning =
+      record { kind = kind; region = region; parts = parts; cursor = cursor; lines = lines; turning = turning }
+
+  one_less : (n k d : ℕ) → n - k ≡ suc d → n - suc k ≡ d
+  one_less n k d e = omega arith
+
+  -- what comes of a leaf or a loop, where so many more sources may run
+  done_law : (d : ℕ) (under : List Frame) (kind : Kind) (more : List (LinePart (List ℕ))) (cursor : BlockCursor) (lines : List (List ℕ)) (turning : Option Turning) (done : Done S)
+      → depth under ≡ suc d
+      → after_line l kind turning lines under (step_parts (meaning_at l (depth under) kind) more cursor (done_by l (meaning_at l d) kind done))
+      ≡ rest_of l (leaf_next l true (frame kind None more cursor lines turning) under done)
+  unfolding done_by run_body rest_of rest after_line ended finish_if leaf_next line_rest line_in entered looped frame step_parts step_lines at_line first_place depth
+  done_law d under kind more cursor lines turning (gives s) e = refl
+  done_law d under kind more cursor lines turning (calls ls args s) e =
+      let a : At S = record { place = first_place; state = s } in
+      let k = body (Some args) in
+      let fewer : d ≡ CALLS - suc (length under) = sym (one_less CALLS (length under) d e) in
+      ap (λ a. after_line l kind turning lines under (step_parts (meaning_at l (CALLS - length under) kind) more cursor (finish_at l a)))
+      (run_is_steps (meaning_at l d k) (λ t. t) ls a ∙ ap (λ d. step_lines (meaning_at l d k) (λ t. t) ls a) fewer)
+  done_law d under kind more cursor lines turning (repeats condition ls s) e =
+      let k = inner kind in
+      let fewer : d ≡ CALLS - suc (length under) = sym (one_less CALLS (length under) d e) in
+      ap (λ d. after_line l kind turning lines under (step_parts (meaning_at l (CALLS - length under) kind) more cursor
+      (turns l TURNS (run_body l (meaning_at l d k) ls) k condition s))) fewer
+
+  last_law : (under : List Frame) (kind : Kind) (more : List (LinePart (List ℕ))) (cursor : BlockCursor) (lines : List (List ℕ)) (turning : Option Turning) (done : Done S)
+      → after_line l kind turning lines under (step_parts (meaning_at l (depth under) kind) more cursor (state_of done))
+      ≡ rest_of l (leaf_next l false (frame kind None more cursor lines turning) under done)
+  unfolding rest_of rest leaf_next line_rest line_in frame
+  last_law under kind more cursor lines turning (gives s) = refl
+  last_law under kind more cursor lines turning (calls ls args s) = refl
+  last_law under kind more cursor lines turning (repeats condition ls s) = refl
+
+  come_law : (d : ℕ) (under : List Frame) (kind : Kind) (more : List (LinePart (List ℕ))) (cursor : BlockCursor) (lines : List (List ℕ)) (turning : Option Turning) (done : Done S)
+      → depth under ≡ d
+      → after_line l kind turning lines under (step_parts (meaning_at l (depth under) kind) more cursor (done_at l d kind done))
+      ≡ rest_of l (leaf_next l (is_some d) (frame kind None more cursor lines turning) under done)
+  unfolding done_at is_some meaning_at
+  come_law zero under kind more cursor lines turning done e = last_law under kind more cursor lines turning done
+  come_law (suc d) under kind more cursor lines turning done e = done_law d under kind more cursor lines turning done e
+
+  leaf_law : (is_met : Bool) (under : List Frame) (kind : Kind) (more : List (LinePart (List ℕ))) (cursor : BlockCursor) (lines : List (List ℕ)) (turning : Option Turning) (text : List ℕ) (s : S)
+      → after_line l kind turning lines under (step_parts (meaning_at l (depth under) kind) more cursor (blocks.leaf_if (meaning_at l (depth under) kind) is_met text s))
+      ≡ rest_of l (leaf_if l is_met text (frame kind None more cursor lines turning) under s)
+  unfolding blocks.leaf_if leaf_if meaning_at meaning_by rest_of rest line_rest line_in frame
+  leaf_law true under kind more cursor lines turning text s =
+      come_law (depth under) under kind more cursor lines turning (l.leaf (is_some (depth under)) kind text s) refl
+  leaf_law false under kind more cursor lines turning text s = refl
+
+  -- a loop is whole
+  whole_law : (under : List Frame) (kind : Kind) (more : List (LinePart (List ℕ))) (cursor : BlockCursor) (lines : List (List ℕ)) (turning : Option Turning) (s : S)
+      → after_line l kind turning lines under (step_parts (meaning_at l (depth under) kind) more cursor ((meaning_at l (depth under) kind).closes_loop s))
+      ≡ rest_of l (loop_next l (frame kind None more cursor lines turning) under s)
+  unfolding loop_next meaning_at meaning_by
+  whole_law under kind more cursor lines turning s = come_law (depth under) under kind more cursor lines turning (l.closes (is_some (depth under)) s) refl
+
+  loop_law : (is_met : Bool) (h : LoopHead (List ℕ)) (under : List Frame) (kind : Kind) (more : List (LinePart (List ℕ))) (cursor : BlockCursor) (lines : List (List ℕ)) (turning : Option Turning) (s : S)
+      → let m = meaning_at l (depth under) kind in
+      after_line l kind turning lines under (step_parts m more cursor (blocks.loop_if m is_met h s))
+      ≡ rest_of l (loop_if l m is_met h (frame kind None more cursor lines turning) under s)
+  unfolding blocks.loop_if loop_if rest_of rest line_rest line_in frame
+  loop_law true h under kind more cursor lines turning s = whole_law under kind more cursor lines turning ((meaning_at l (depth under) kind).opens_loop h s)
+  loop_law false h under kind more cursor lines turning s = refl
+
+  ending_law : (ending : Ended) (under : List Frame) (kind : Kind) (more : List (LinePart (List ℕ))) (cursor : BlockCursor) (lines : List (List ℕ)) (turning : Option Turning) (s : S)
+      → let m = meaning_at l (depth under) kind in
+      after_line l kind turning lines under (step_parts m more cursor (end_by m ending s))
+      ≡ rest_of l (end_next l m ending (frame kind None more cursor lines turning) under s)
+  unfolding end_by end_next rest_of rest line_rest line_in frame
+  ending_law endings.Block under kind more cursor lines turning s = refl
+  ending_law endings.Loop under kind more cursor lines turning s = whole_law under kind more cursor lines turning s
+  ending_law endings.Nothing under kind more cursor lines turning s = refl
+
+  part_law : (part : LinePart (List ℕ)) (under : List Frame) (kind : Kind) (more : List (LinePart (List ℕ))) (cursor : BlockCursor) (lines : List (List ℕ)) (turning : Option Turning) (s : S)
+      → let f = frame kind None (part ∷ more) cursor lines turning in
+      rest l f under s ≡ rest_of l (part_next l (meaning_at l (depth under) kind) part more f under s)
+  unfolding rest_of rest line_rest line_in part_next at_part between step_parts step_leaf step_loop step_end step_region at_line frame
+  part_law (Leaf text) under kind more cursor lines turning s =
+      let q = met (meaning_at l (depth under) kind) cursor s in
+      leaf_law q.0 under kind more (after_part cursor.levels) lines turning text q.1
+  part_law (Guard h) under kind more cursor lines turning s = refl
+  part_law (Block h) under kind more cursor lines turning s = refl
+  part_law (Loop h) under kind more cursor lines turning s =
+      let q = met (meaning_at l (depth under) kind) cursor s in
+      loop_law q.0 h under kind more (after_part cursor.levels) lines turning q.1
+  part_law End under kind more cursor lines turning s =
+      ending_law (what_ends cursor.levels) under kind more (after_part (leave cursor.levels)) lines turning s
+  part_law (Region head) under kind more cursor lines turning s = refl
+
+  after_cons : (kind : Kind) (turning : Option Turning) (line : List ℕ) (more : List (List ℕ)) (under : List Frame) (a : At S)
+      → after_line l kind turning (line ∷ more) under a ≡ after_line l kind turning more under (step (meaning_at l (depth under) kind) (λ t. t) line a)
+  unfolding after_line step_lines
+  after_cons kind turning line more [] a = refl
+  after_cons kind turning line more (g ∷ gs) a = refl
+
+  inside_law : (is_end : Bool) (o : Opened) (line : List ℕ) (more : List (List ℕ)) (f : Frame) (under : List Frame) (s : S)
+      → let m = meaning_at l (depth under) f.kind in
+      after_line l f.kind f.turning more under (step_inside m is_end o line f.cursor.levels s) ≡ rest_of l (region_next l m is_end o line more f under s)
+  unfolding rest_of rest line_rest line_in region_next between step_inside step_parts at_line
+  inside_law true o line more f under s = refl
+  inside_law false o line more f under s = refl
+
+  region_law : (o : Opened) (line : List ℕ) (more : List (List ℕ)) (kind : Kind) (parts : List (LinePart (List ℕ))) (cursor : BlockCursor) (turning : Option Turning) (under : List Frame) (s : S)
+      → let f = frame kind (Some o) parts cursor (line ∷ more) turning in
+      rest l f under s ≡ rest_of l (region_next l (meaning_at l (depth under) kind) (is_ending o.ending line) o line more f under s)
+  unfolding rest line_rest line_in step step_from frame
+  region_law o line more kind parts cursor turning under s =
+      after_cons kind turning line more under (record { place = record { region = Some o; levels = cursor.levels }; state = s })
+      ∙ inside_law (is_ending o.ending line) o line more (frame kind (Some o) parts cursor (line ∷ more) turning) under s
+
+  line_law : (line : List ℕ) (more : List (List ℕ)) (kind : Kind) (cursor : BlockCursor) (turning : Option Turning) (under : List Frame) (s : S)
+      → let f = frame kind None [] cursor (line ∷ more) turning in rest l f under s ≡ rest_of l (line_next l (meaning_at l (depth under) kind) line more f under s)
+  unfolding rest_of rest line_rest line_in line_next step step_from step_parts frame
+  line_law line more kind cursor turning under s =
+      after_cons kind turning line more under (record { place = record { region = None; levels = cursor.levels }; state = s })
+
+  same_next : (r : S → At S) (p q : Running S) (s : S) → r s ≡ rest_of l p → Some p ≡ Some q → r s ≡ rest_of l q
+  same_next r p q s e h = let k : p ≡ q = cc in e ∙ ap (rest_of l) k
+
+  ends_none : (kind : Kind) (cursor : BlockCursor) (turning : Option Turning) (under : List Frame) (s : S)
+      → rest l (frame kind None [] cursor [] turning) under s
+      ≡ after_line l kind turning [] under (record { place = record { region = None; levels = cursor.levels }; state = s })
+  unfolding rest line_rest line_in step_parts frame
+  ends_none kind cursor turning under s = refl
+
+  ends_some : (o : Opened) (parts : List (LinePart (List ℕ))) (kind : Kind) (cursor : BlockCursor) (turning : Option Turning) (under : List Frame) (s : S)
+      → rest l (frame kind (Some o) parts cursor [] turning) under s
+      ≡ after_line l kind turning [] under (record { place = record { region = Some o; levels = cursor.levels }; state = s })
+  unfolding rest line_rest line_in frame
+  ends_some o parts kind cursor turning under s = refl
+
+  -- ---- turns of loops
+
+  same_rest : (g : Frame) (gs : List Frame) (s : S) → rest l g gs s ≡ rest_of l (record { top = g; under = gs; state = s })
+  unfolding rest_of
+  same_rest g gs s = refl
+
+  -- a turn begins with all lines of the body
+  begun_law : (left : ℕ) (kind : Kind) (t : Turning) (g : Frame) (gs : List Frame) (s : S)
+      → rest l g gs (turns l left (run_body l (meaning_at l (depth (g ∷ gs)) kind) t.lines) kind t.condition (run_body l (meaning_at l (depth (g ∷ gs)) kind) t.lines s))
+      ≡ rest_of l (record { top = turned kind t left; under = g ∷ gs; state = s })
+  unfolding rest_of rest after_line ended finish_if line_rest line_in turned step_parts at_line first_place run_body
+  begun_law left kind t g gs s =
+      let m = meaning_at l (depth (g ∷ gs)) kind in
+      let a : At S = record { place = first_place; state = s } in
+      ap (λ a. after_line l g.kind g.turning g.lines gs (line_in l (meaning_at l (depth gs) g.kind) g.region g (turns l left (run_body l m t.lines) kind t.condition (finish_at l a))))
+      (run_is_steps m (λ t. t) t.lines a)
+
+  runs_law : (runs : Bool) (left : ℕ) (kind : Kind) (t : Turning) (g : Frame) (gs : List Frame) (s : S)
+      → let run = run_body l (meaning_at l (depth (g ∷ gs)) kind) t.lines in
+      rest l g gs (run_if runs (λ s. turns l left run kind t.condition (run s)) s) ≡ rest_of l (turn_if l runs kind t left g gs s)
+  unfolding run_if turn_if
+  runs_law true left kind t g gs s = begun_law left kind t g gs s
+  runs_law false left kind t g gs s = same_rest g gs s
+
+  turn_law : (left : ℕ) (kind : Kind) (t : Turning) (g : Frame) (gs : List Frame) (s : S)
+      → rest l g gs (turns l left (run_body l (meaning_at l (depth (g ∷ gs)) kind) t.lines) kind t.condition s) ≡ rest_of l (turn_next l left kind t g gs s)
+  unfolding turns turn_next
+  turn_law zero kind t g gs s = same_rest g gs s
+  turn_law (suc left) kind t g gs s = let v = l.turn kind t.condition s in runs_law v.0 left kind t g gs v.1
+
+  body_law : (turning : Option Turning) (kind : Kind) (g : Frame) (gs : List Frame) (a : At S)
+      → rest l g gs (ended l turning (meaning_at l (depth (g ∷ gs)) kind) kind a) ≡ rest_of l (body_next l turning kind g gs a)
+  unfolding ended body_next
+  body_law None kind g gs a = same_rest g gs (finish_at l a)
+  body_law (Some t) kind g gs a = turn_law t.left kind t g gs (finish_if l t.begun a)
+
+  over_law : (turning : Option Turning) (kind : Kind) (g : Frame) (gs : List Frame) (a : At S)
+      → after_line l kind turning [] (g ∷ gs) a ≡ rest l g gs (ended l turning (meaning_at l (depth (g ∷ gs)) kind) kind a)
+  unfolding after_line rest step_lines
+  over_law turning kind g gs a = refl
+
+  source_law : (turning : Option Turning) (under : List Frame) (kind : Kind) (a : At S) (q : Running S)
+      → source_next l turning kind under a ≡ Some q → after_line l kind turning [] under a ≡ rest_of l q
+  unfolding source_next
+  source_law turning [] kind a q e = absurd (cc)
+  source_law turning (g ∷ gs) kind a q e =
+      let k : body_next l turning kind g gs a ≡ q = cc in over_law turning kind g gs a ∙ body_law turning kind g gs a ∙ ap (rest_of l) k
+
+  step_law : (region : Option Opened) (parts : List (LinePart (List ℕ))) (lines : List (List ℕ)) (kind : Kind) (cursor : BlockCursor) (turning : Option Turning) (under : List Frame) (s : S) (q : Running S)
+      → let f = frame kind region parts cursor lines turning in
+      next_in l (meaning_at l (depth under) kind) region parts lines f under s ≡ Some q → rest l f under s ≡ rest_of l q
+  unfolding next_in frame
+  step_law None (part ∷ more) lines kind cursor turning under s q e =
+      let f = frame kind None (part ∷ more) cursor lines turning in
+      same_next (rest l f under) (part_next l (meaning_at l (depth under) kind) part more f under s) q s (part_law part under kind more cursor lines turning s) e
+  step_law None [] (line ∷ more) kind cursor turning under s q e =
+      let f = frame kind None [] cursor (line ∷ more) turning in
+      same_next (rest l f under) (line_next l (meaning_at l (depth under) kind) line more f under s) q s (line_law line more kind cursor turning under s) e
+  step_law None [] [] kind cursor turning under s q e =
+      ends_none kind cursor turning under s ∙ source_law turning under kind (record { place = record { region = None; levels = cursor.levels }; state = s }) q e
+  step_law (Some o) parts (line ∷ more) kind cursor turning under s q e =
+      let f = frame kind (Some o) parts cursor (line ∷ more) turning in
+      same_next (rest l f under) (region_next l (meaning_at l (depth under) kind) (is_ending o.ending line) o line more f under s) q s
+      (region_law o line more kind parts cursor turning under s) e
+  step_law (Some o) parts [] kind cursor turning under s q e =
+      ends_some o parts kind cursor turning under s ∙ source_law turning under kind (record { place = record { region = Some o; levels = cursor.levels }; state = s }) q e
+
+  pub next_law : (r q : Running S) → next l r ≡ Some q → rest_of l r ≡ rest_of l q
+  unfolding next rest_of frame
+  next_law r q e = step_law r.top.region r.top.parts r.top.lines r.top.kind r.top.cursor r.top.turning r.under r.state q e
+
+  stays : (turning : Option Turning) (kind : Kind) (under : List Frame) (a : At S) → source_next l turning kind under a ≡ None → under ≡ []
+  unfolding source_next
+  stays turning kind [] a e = refl
+  stays turning kind (g ∷ gs) a e = absurd (cc)
+
+  last : (kind : Kind) (turning : Option Turning) (under : List Frame) (a : At S) → under ≡ [] → after_line l kind turning [] under a ≡ a
+  unfolding after_line step_lines
+  last kind turning [] a e = refl
+  last kind turning (g ∷ gs) a e = absurd (cc)
+
+  end_of : (region : Option Opened) (parts : List (LinePart (List ℕ))) (lines : List (List ℕ)) (kind : Kind) (cursor : BlockCursor) (turning : Option Turning) (under : List Frame) (s : S)
+      → let f = frame kind region parts cursor lines turning in
+      next_in l (meaning_at l (depth under) kind) region parts lines f under s ≡ None
+      → rest l f under s ≡ record { place = record { region = region; levels = cursor.levels }; state = s }
+  unfolding next_in frame
+  end_of None (part ∷ more) lines kind cursor turning under s e = absurd (cc)
+  end_of None [] (line ∷ more) kind cursor turning under s e = absurd (cc)
+  end_of None [] [] kind cursor turning under s e =
+      let a : At S = record { place = record { region = None; levels = cursor.levels }; state = s } in
+      ends_none kind cursor turning under s ∙ last kind turning under a (stays turning kind under a e)
+  end_of (Some o) parts (line ∷ more) kind cursor turning under s e = absurd (cc)
+  end_of (Some o) parts [] kind cursor turning under s e =
+      let a : At S = record { place = record { region = Some o; levels = cursor.levels }; state = s } in
+      ends_some o parts kind cursor turning under s ∙ last kind turning under a (stays turning kind under a e)
+
+  pub end_law : (r : Running S) → next l r ≡ None → rest_of l r ≡ stands_at r
+  unfolding next rest_of stands_at frame
+  end_law r e = end_of r.top.region r.top.parts r.top.lines r.top.kind r.top.cursor r.top.turning r.under r.state e
+
+  pub run_page-append : (above below : List (List ℕ)) (a : At S) → run_page l (above ++ below) a ≡ run_page l below (run_page l above a)
+  unfolding run_page
+  run_page-append above below a = run_lines-append (meaning_at l CALLS page) (λ t. t) above below a
+
+  pub run_page_lines-append : {X : Type 0} (text : X → List ℕ) (head : X → S → S) (above below : List X) (a : At S)
+      → run_page_lines l text head (above ++ below) a ≡ run_page_lines l text head below (run_page_lines l text head above a)
+  unfolding run_page_lines
+  run_page_lines-append text head above below a = run_lines-append (headed text head (meaning_at l CALLS page)) text above below a
+
+  first_law : (region : Option Opened) (m : Meaning (List ℕ) S) (f : Frame) (s : S)
+      → f.parts ≡ [] → line_in l m region f s ≡ record { place = record { region = region; levels = f.cursor.levels }; state = s }
+  unfolding line_in step_parts
+  first_law None m f s e = rw e refl
+  first_law (Some o) m f s e = refl
+
+  pub page_law : (line : List ℕ) (a : At S) → rest_of l (at_page line a) ≡ run_page l (line ∷ []) a
+  unfolding rest_of rest line_rest after_line at_page at_line run_page depth
+  page_law line a =
+      let m = meaning_at l CALLS page in
+      let f = (at_page line a).top in
+      ap (step_lines m (λ t. t) (line ∷ [])) (first_law a.place.region m f a.state refl) ∙ sym (run_is_steps m (λ t. t) (line ∷ []) a)

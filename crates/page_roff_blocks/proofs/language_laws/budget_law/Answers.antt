@@ -1,0 +1,5 @@
+use Rattle.page_roff_blocks.proofs.BudgetLemmas.{page_line_bound}
+use Rattle.page_roff_blocks.proofs.language_laws.budget_law.Goals as goal
+
+pub returns : goal.returns
+returns g c = λ e line at. page_line_bound e line at

@@ -1,0 +1,5 @@
+use Rattle.page_roff_blocks.proofs.DepthLemmas.{next_fits}
+use Rattle.page_roff_blocks.proofs.language_laws.calls_law.Goals as goal
+
+pub returns : goal.returns
+returns g c = λ l r q k x. next_fits l r q k x

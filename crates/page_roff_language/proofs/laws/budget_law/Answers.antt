@@ -1,5 +1,0 @@
-use Rattle.page_roff_language.proofs.BudgetLemmas.{page_line_bound}
-use Rattle.page_roff_language.proofs.laws.budget_law.Goals as goal
-
-pub returns : goal.returns
-returns g c = λ e line at. page_line_bound e line at

@@ -1,5 +1,0 @@
-use Rattle.page_roff_language.proofs.FrontLemmas.{rest_front}
-use Rattle.page_roff_language.proofs.laws.front_law.Goals as goal
-
-pub returns : goal.returns
-returns g c = λ l front f r. rest_front front l f r

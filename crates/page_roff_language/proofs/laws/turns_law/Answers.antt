@@ -1,5 +1,0 @@
-use Rattle.page_roff_language.proofs.TurnLemmas.{more_turns}
-use Rattle.page_roff_language.proofs.laws.turns_law.Goals as goal
-
-pub returns : goal.returns
-returns g c = λ e more depth args condition lines s h. more_turns e more depth args condition lines s h

@@ -1,4 +1,0 @@
-pub mod Budgets
-pub mod Languages
-pub mod Spent
-pub mod machine

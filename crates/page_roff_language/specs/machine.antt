@@ -1,6 +1,0 @@
--- The code's own steps and fast ways. Trust needs no reading of them.
-pub mod Counting
-pub mod Fronts
-pub mod Machine
-pub mod Measures
-pub mod Spending

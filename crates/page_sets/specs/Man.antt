@@ -1,0 +1,264 @@
+-- The events of a line. Source: man(7).
+use Rattle.std.specs.Prelude.{ℕ, Bool, true, false, ◌&&◌, List, [], ◌∷◌, ◌++◌, Option, None, Some, option_map, if◌then◌else◌}
+use Rattle.page_core_base.specs.declared.cells.Font.{Font}
+use Rattle.page_core_base.specs.declared.cells.Font.TheVariants as fonts
+use Rattle.page_core_base.specs.declared.note_kinds.NoteKind.{NoteKind}
+use Rattle.page_core_base.specs.declared.note_kinds.NoteKind.TheVariants.{Unterminated, UnknownMacro, EmptyMacro}
+use Rattle.page_roff_syntax.specs.declared.quotes.Argument.{Argument}
+use Rattle.page_roff_syntax.specs.Arguments.{has_arguments}
+use Rattle.page_sets_names.specs.declared.macro_names.HeadingName.TheVariants.{SH, SS}
+use Rattle.page_sets_names.specs.declared.macro_names.TagName.TheVariants.{TP, TQ}
+use Rattle.page_sets_names.specs.declared.macro_names.Prologue.TheVariants.{TH}
+use Rattle.page_sets_lines.specs.declared.openers.Opener.{Opener}
+use Rattle.page_sets_lines.specs.declared.openers.Opener.TheVariants as openers
+use Rattle.page_sets_lines.specs.declared.openers.Closer.{Closer}
+use Rattle.page_sets_lines.specs.declared.openers.Closer.TheVariants as closers
+use Rattle.page_sets_lines.specs.declared.openers.LineOpener.{LineOpener}
+use Rattle.page_sets_lines.specs.declared.openers.LineOpener.TheVariants.{Heading, Tag}
+use Rattle.page_sets_names.specs.declared.generated_texts.GeneratedText.{GeneratedText}
+use Rattle.page_sets_names.specs.declared.generated_texts.GeneratedText.TheVariants.{OpenParenthesis, CloseParenthesis}
+use Rattle.page_sets_lines.specs.declared.leaves.Leaf.{Leaf}
+use Rattle.page_sets_lines.specs.declared.leaves.Leaf.TheVariants as leaves
+use Rattle.page_sets_lines.specs.declared.plain_lines.PlainLine.{PlainLine}
+use Rattle.page_sets_lines.specs.declared.events.Join.{Join}
+use Rattle.page_sets_lines.specs.declared.events.Join.TheVariants.{Apart, Glued}
+use Rattle.page_sets_lines.specs.declared.events.Role.TheVariants as roles
+use Rattle.page_sets_lines.specs.declared.events.EventKind.{EventKind}
+use Rattle.page_sets_lines.specs.declared.events.EventKind.TheVariants as kinds
+use Rattle.page_sets_lines.specs.declared.events.Event.{Event}
+use Rattle.page_core_base.specs.LinesTaken.{Line}
+use Rattle.page_core_base.specs.declared.places.Place.{Place}
+use Rattle.page_sets_lines.specs.ControlLines.{name_end, name_of, name_place, is_nameless, rest_of, arguments_after, first_of, second_of, text_of, open_quote}
+use Rattle.page_sets_lines.specs.PlainLines.{event_at, generated_word, line_end, plain_line, plain_events, request, word_event}
+use Rattle.page_sets.specs.declared.man_rows.Opens.{Opens}
+use Rattle.page_sets.specs.declared.man_rows.Opens.TheVariants as opens
+use Rattle.page_sets.specs.declared.man_rows.Closes.{Closes}
+use Rattle.page_sets.specs.declared.man_rows.Closes.TheVariants as closes
+use Rattle.page_sets.specs.declared.man_rows.Sets.{Sets}
+use Rattle.page_sets.specs.declared.man_rows.Sets.TheVariants as sets
+use Rattle.page_sets.specs.declared.man_rows.Effect.{Effect}
+use Rattle.page_sets.specs.declared.man_rows.Effect.TheVariants as effects
+use Rattle.page_sets.specs.declared.man_rows.Alone.{Alone}
+use Rattle.page_sets.specs.declared.man_rows.Alone.TheVariants.{Same, Empty, Scope}
+use Rattle.page_sets.specs.declared.man_rows.Quotes.{Quotes}
+use Rattle.page_sets.specs.declared.man_rows.Quotes.TheVariants.{Printed, After, BodyAfter}
+use Rattle.page_sets.specs.declared.man_rows.Words.{Words}
+use Rattle.page_sets.specs.declared.man_rows.Words.TheVariants as words
+use Rattle.page_sets.specs.declared.man_rows.Last.{Last}
+use Rattle.page_sets.specs.declared.man_rows.Last.TheVariants as lasts
+use Rattle.page_sets.specs.declared.man_rows.Row.{Row}
+use Rattle.page_sets.specs.declared.man_gives.Quote.{Quote}
+use Rattle.page_sets.specs.ManRows.{row_of}
+
+-- the columns by which the text of a page is indented
+abbrev pub man_indent : ℕ
+man_indent = 7
+
+-- ---- what a macro does
+
+-- what it opens (`SH SS PP LP P TP IP HP RS UR MT SY`)
+abbrev pub opener : Opens → List (Argument (List ℕ)) → Option (Opener (List ℕ))
+opener opens.Section arguments = Some openers.Section
+opener opens.Subsection arguments = Some openers.Subsection
+opener (opens.Paragraph name) arguments = Some (openers.Paragraph name)
+opener opens.Tagged arguments = Some (openers.Tagged (text_of (first_of arguments)))
+opener opens.Indented arguments = Some (openers.Indented (first_of arguments) (text_of (second_of arguments)))
+opener opens.Hanging arguments = Some (openers.Hanging (text_of (first_of arguments)))
+opener opens.RelativeMargin arguments = Some (openers.RelativeMargin (text_of (first_of arguments)))
+opener (opens.Target link) arguments = option_map (openers.Target link) (first_of arguments)
+opener opens.Syntax arguments = option_map openers.Syntax (first_of arguments)
+
+-- what it closes (`RE`, `UE`, `ME`, `YS`)
+abbrev pub closer : Closes → List (Argument (List ℕ)) → Closer (List ℕ)
+closer closes.RelativeMargin arguments = closers.RelativeMargin (text_of (first_of arguments))
+closer (closes.Target link) arguments = closers.Target link (first_of arguments)
+closer closes.Syntax arguments = closers.Syntax
+
+-- what it changes, or prints before its words (`TH EX EE PD TQ B I SM SB OP`, and requests); the text is the rest of its line
+abbrev pub leaf : Sets → List ℕ → List (Argument (List ℕ)) → Leaf (List ℕ)
+leaf (sets.Request name) rest arguments = leaves.Request (request name (first_of arguments))
+leaf sets.Title rest arguments = leaves.Prologue TH rest
+leaf (sets.Example begins) rest arguments = leaves.Example begins
+leaf sets.Distance rest arguments = leaves.Distance (text_of (first_of arguments))
+leaf sets.FurtherTag rest arguments = leaves.FurtherTag
+leaf (sets.FontBegins font) rest arguments = leaves.Fonts (Some font)
+leaf (sets.Mark text) rest arguments = leaves.Generated (record { text = text; font = None; before = Apart; after = Glued })
+
+abbrev pub effect_kind : Effect → List ℕ → List (Argument (List ℕ)) → Option (EventKind (List ℕ))
+effect_kind effects.Nothing rest arguments = None
+effect_kind (effects.Opens scope) rest arguments = option_map kinds.Open (opener scope arguments)
+effect_kind (effects.Closes scope) rest arguments = Some (kinds.Close (closer scope arguments))
+effect_kind (effects.Sets change) rest arguments = Some (kinds.Leaf (leaf change rest arguments))
+
+-- the line scope that it opens
+abbrev pub opens_line_scope : Opens → Option LineOpener
+opens_line_scope opens.Section = Some (Heading SH)
+opens_line_scope opens.Subsection = Some (Heading SS)
+opens_line_scope (opens.Paragraph name) = None
+opens_line_scope opens.Tagged = Some (Tag TP)
+opens_line_scope opens.Indented = None
+opens_line_scope opens.Hanging = None
+opens_line_scope opens.RelativeMargin = None
+opens_line_scope (opens.Target link) = None
+opens_line_scope opens.Syntax = None
+
+abbrev pub sets_line_scope : Sets → Option LineOpener
+sets_line_scope (sets.Request name) = None
+sets_line_scope sets.Title = None
+sets_line_scope (sets.Example begins) = None
+sets_line_scope sets.Distance = None
+sets_line_scope sets.FurtherTag = Some (Tag TQ)
+sets_line_scope (sets.FontBegins font) = None
+sets_line_scope (sets.Mark text) = None
+
+abbrev pub line_scope : Effect → Option LineOpener
+line_scope effects.Nothing = None
+line_scope (effects.Opens scope) = opens_line_scope scope
+line_scope (effects.Closes scope) = None
+line_scope (effects.Sets change) = sets_line_scope change
+
+-- ---- its words
+
+-- an argument as a word
+abbrev pub argument_word : ℕ → Option Font → Join → Argument (List ℕ) → Event (List ℕ)
+argument_word number font before argument = word_event number roles.Argument font before Apart argument
+
+-- a mark of the macro's own
+abbrev pub mark : Place → GeneratedText → Join → Join → Event (List ℕ)
+mark place text before after = generated_word place text None before after
+
+-- all arguments, in the font around them
+abbrev pub plain_words : ℕ → List (Argument (List ℕ)) → List (Event (List ℕ))
+plain_words number [] = []
+plain_words number (argument ∷ arguments) = argument_word number None Apart argument ∷ plain_words number arguments
+
+-- all arguments, in two fonts in turn, glued (`BI BR IB IR RB RI`)
+abbrev pub alternating_words : ℕ → Font → Font → Join → List (Argument (List ℕ)) → List (Event (List ℕ))
+alternating_words number font other before [] = []
+alternating_words number font other before (argument ∷ arguments) =
+    argument_word number (Some font) before argument ∷ alternating_words number other font Glued arguments
+
+-- the first argument alone
+abbrev pub one_word : ℕ → Option Font → Join → List (Argument (List ℕ)) → List (Event (List ℕ))
+one_word number font before [] = []
+one_word number font before (argument ∷ arguments) = argument_word number font before argument ∷ []
+
+-- a key in bold, then its value in italic (`OP`)
+abbrev pub option_words : ℕ → List (Argument (List ℕ)) → List (Event (List ℕ))
+option_words number [] = []
+option_words number (key ∷ arguments) = argument_word number (Some fonts.B) Apart key ∷ one_word number (Some fonts.I) Apart arguments
+
+-- a section in parentheses, and a suffix, all glued
+abbrev pub section_words : Place → List (Argument (List ℕ)) → List (Event (List ℕ))
+section_words place [] = []
+section_words place (section ∷ arguments) =
+    mark place OpenParenthesis Glued Glued ∷ argument_word place.line None Apart section ∷ mark place CloseParenthesis Glued Apart
+    ∷ one_word place.line None Glued arguments
+
+-- a name in italic, with its section and suffix (`MR`)
+abbrev pub reference_words : Place → List (Argument (List ℕ)) → List (Event (List ℕ))
+reference_words place [] = []
+reference_words place (name ∷ arguments) = argument_word place.line (Some fonts.I) Apart name ∷ section_words place arguments
+
+-- the arguments after the first, which the macro's effect takes: words of the text, in the font around them (`UE ME SY`)
+abbrev pub further_words : ℕ → List (Argument (List ℕ)) → List (Event (List ℕ))
+further_words number [] = []
+further_words number (first ∷ arguments) = plain_words number arguments
+
+abbrev pub words_events : Place → Words → List (Argument (List ℕ)) → List (Event (List ℕ))
+words_events place words.Nothing arguments = []
+words_events place words.Plain arguments = plain_words place.line arguments
+words_events place (words.Alternating font other) arguments = alternating_words place.line font other Apart arguments
+words_events place words.Option arguments = option_words place.line arguments
+words_events place words.Reference arguments = reference_words place arguments
+words_events place words.Further arguments = further_words place.line arguments
+
+abbrev pub has_words : Words → Bool
+has_words words.Nothing = false
+has_words words.Plain = true
+has_words (words.Alternating font other) = true
+has_words words.Option = true
+has_words words.Reference = true
+has_words words.Further = true
+
+-- ---- the events of a line
+
+abbrev pub break_events : Place → Bool → List (Event (List ℕ))
+break_events place true = event_at place (kinds.Close closers.Line) ∷ []
+break_events place false = []
+
+-- the quote of an argument without its closing one, which is reported before the macro has its effect
+abbrev pub quote_at : Bool → Option ℕ → Option Quote
+quote_at begins_body None = None
+quote_at begins_body (Some column) = Some (record { column = column; begins_body = begins_body })
+
+abbrev pub missing_quote : Quotes → List (Argument (List ℕ)) → Option Quote
+missing_quote Printed arguments = None
+missing_quote (After printed) arguments = quote_at false (open_quote printed arguments)
+missing_quote (BodyAfter printed) arguments = quote_at true (open_quote printed arguments)
+
+abbrev pub quote_kind : Quote → EventKind (List ℕ)
+quote_kind quote = kinds.Note Unterminated [] false quote.begins_body
+
+abbrev pub quote_events : ℕ → Option Quote → List (Event (List ℕ))
+quote_events number None = []
+quote_events number (Some quote) = event_at (record { line = number; column = quote.column }) (quote_kind quote) ∷ []
+
+abbrev pub kind_events : Place → Option (EventKind (List ℕ)) → List (Event (List ℕ))
+kind_events place None = []
+kind_events place (Some kind) = event_at place kind ∷ []
+
+abbrev pub scope_events : Place → Option LineOpener → List (Event (List ℕ))
+scope_events place None = []
+scope_events place (Some opener) = event_at place (kinds.LineScope opener) ∷ []
+
+abbrev pub last_events : Place → Last → List (Event (List ℕ))
+last_events place lasts.Nothing = []
+last_events place lasts.FontEnds = event_at place (kinds.Leaf (leaves.Fonts None)) ∷ []
+last_events place (lasts.Mark text) = mark place text Glued Apart ∷ []
+
+-- a macro with its arguments: it breaks line scopes, a missing quote is reported, it has its effect, opens a line scope, and gives its words;
+-- where it has words, the line fills line scopes
+abbrev pub macro_events : Place → Row → List ℕ → List (Argument (List ℕ)) → List (Event (List ℕ))
+macro_events place row rest arguments =
+    break_events place row.breaks
+    ++ (quote_events place.line (missing_quote row.quotes arguments)
+    ++ (kind_events place (effect_kind row.effect rest arguments)
+    ++ (scope_events place (line_scope row.effect)
+    ++ (words_events place row.words arguments
+    ++ (last_events place row.last ++ line_end place.line (has_words row.words && has_arguments rest) ∷ [])))))
+
+-- a message about a macro's name
+abbrev pub refused_events : NoteKind → Place → List ℕ → List (Event (List ℕ))
+refused_events kind place name = event_at place (kinds.Note kind name false false) ∷ line_end place.line false ∷ []
+
+-- a macro without arguments
+abbrev pub lone_events : Alone → Place → List ℕ → List (Event (List ℕ)) → List (Event (List ℕ))
+lone_events Same place name events = events
+lone_events Empty place name events = refused_events EmptyMacro place name
+lone_events (Scope opener) place name events =
+    event_at place (kinds.LineScope opener) ∷ line_end place.line false ∷ []
+
+abbrev pub row_events : Place → List ℕ → List ℕ → List (Argument (List ℕ)) → Row → List (Event (List ℕ))
+row_events place name rest arguments row =
+    if has_arguments rest then macro_events place row rest arguments
+    else lone_events row.alone place name (macro_events place row rest arguments)
+
+-- a macro by its row, if its name has one
+abbrev pub named_events : Line → Option Row → List (Event (List ℕ))
+named_events line None = refused_events UnknownMacro (name_place line) (name_of line)
+named_events line (Some row) =
+    row_events (name_place line) (name_of line) (rest_of line) (arguments_after (name_end line) line.text) row
+
+-- a line without a name does nothing
+abbrev pub control_events : Line → List (Event (List ℕ))
+control_events line =
+    if is_nameless line then line_end line.number false ∷ [] else named_events line (row_of (name_of line))
+
+abbrev pub line_events : Line → Option PlainLine → List (Event (List ℕ))
+line_events line None = control_events line
+line_events line (Some plain) = plain_events line.number line.text plain
+
+-- the events of a line
+unfoldable pub man_events : Line → List (Event (List ℕ))
+man_events line = line_events line (plain_line line.form line.text)

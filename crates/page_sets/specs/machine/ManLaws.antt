@@ -1,0 +1,538 @@
+-- The macros of man(7) keep the laws of macro sets: proofs, which the set's laws cite. Source: man(7).
+use Rattle.std.proofs.Common.{◌≡◌, ℕ, ◌+◌, ◌*◌, ◌≤◌, Bool, true, false, ◌&&◌, nat_le, List, [], ◌∷◌, ◌++◌, length, drop, refl, arith, inl, inr, length-append, Option, None, Some, option_map}
+use Rattle.std.specs.List.{list_all}
+use Rattle.std.specs.Option.{option_or}
+use Rattle.std.specs.Str.{bytes_eq}
+use Rattle.std.proofs.lemmas.Bool.{cases_Bool}
+use Rattle.std.proofs.lemmas.Bool.Decides.{nat_tests}
+use Rattle.page_core_base.specs.declared.cells.Font.{Font}
+use Rattle.page_core_base.specs.declared.cells.Font.TheVariants as fonts
+use Rattle.page_roff_syntax.specs.declared.quotes.Argument.{Argument}
+use Rattle.page_roff_syntax.specs.Arguments.{has_arguments}
+use Rattle.page_sets_lines.specs.declared.openers.Opener.{Opener}
+use Rattle.page_sets_lines.specs.declared.openers.LineOpener.{LineOpener}
+use Rattle.page_sets_lines.specs.declared.events.Join.{Join}
+use Rattle.page_sets_lines.specs.declared.events.Join.TheVariants.{Apart, Glued}
+use Rattle.page_sets_lines.specs.declared.events.EventKind.{EventKind}
+use Rattle.page_sets_lines.specs.declared.events.EventKind.TheVariants as kinds
+use Rattle.page_sets_lines.specs.declared.events.Event.{Event}
+use Rattle.page_sets_lines.specs.declared.plain_lines.PlainLine.{PlainLine}
+use Rattle.page_roff_syntax.specs.declared.requests.LayoutRequest.{LayoutRequest}
+use Rattle.page_core_base.specs.LinesTaken.{Line}
+use Rattle.page_sets_lines.specs.Laws.{IsPart, IsArgument, IsArgumentIfGiven, OpensSlices, ClosesSlices, LeavesSlices, HasSlices, AreSlices, AreInOrder}
+use Rattle.page_sets_lines.specs.ControlLines.{name_end, name_of, name_place, is_nameless, arguments_after, first_of}
+use Rattle.page_sets_lines.specs.PlainLines.{line_end, plain_line, layout_request}
+use Rattle.page_sets_lines.proofs.ArgumentLaws.{ArgumentsFrom, all_after, earlier, few_after}
+use Rattle.page_sets_lines.proofs.LawLemmas.{nothing_part, rest_part, end_within, name_part, first_slice_after, first_text_after, second_text_after, request_slices, line_slices, AreSlices-append, HasNoWord, order_after, order_before, line_order, named_bytes}
+use Rattle.page_sets.specs.declared.man_rows.Opens.{Opens}
+use Rattle.page_sets.specs.declared.man_rows.Opens.TheVariants as opens
+use Rattle.page_sets.specs.declared.man_rows.Closes.{Closes}
+use Rattle.page_sets.specs.declared.man_rows.Closes.TheVariants as closes
+use Rattle.page_sets.specs.declared.man_rows.Sets.{Sets}
+use Rattle.page_sets.specs.declared.man_rows.Sets.TheVariants as sets
+use Rattle.page_sets.specs.declared.man_rows.Effect.{Effect}
+use Rattle.page_sets.specs.declared.man_rows.Effect.TheVariants as effects
+use Rattle.page_sets.specs.declared.man_rows.Alone.{Alone}
+use Rattle.page_sets.specs.declared.man_rows.Alone.TheVariants.{Same, Empty, Scope}
+use Rattle.page_sets.specs.declared.man_rows.Quotes.{Quotes}
+use Rattle.page_sets.specs.declared.man_rows.Quotes.TheVariants.{Printed, After, BodyAfter}
+use Rattle.page_sets.specs.declared.man_rows.Words.{Words}
+use Rattle.page_sets.specs.declared.man_rows.Words.TheVariants as words
+use Rattle.page_sets.specs.declared.man_rows.Last.{Last}
+use Rattle.page_sets.specs.declared.man_rows.Last.TheVariants as lasts
+use Rattle.page_sets.specs.declared.man_rows.Row.{Row}
+use Rattle.page_sets.specs.declared.man_gives.Quote.{Quote}
+use Rattle.page_core_base.specs.TableRows.{row_in}
+use Rattle.page_core_base.specs.declared.places.Place.{Place}
+use Rattle.page_sets.specs.ManRows.{quiet, table, macro_row, request_row, row_of}
+use Rattle.page_sets.specs.Man.{opener, closer, leaf, effect_kind, line_scope, one_word, plain_words, alternating_words, option_words, section_words, reference_words, further_words, words_events, has_words, break_events, quote_at, missing_quote, quote_events, kind_events, scope_events, last_events, macro_events, lone_events, row_events, named_events, control_events, line_events, man_events}
+
+-- ---- slices
+
+break_slices : (line : List ℕ) (place : Place) (breaks : Bool) → AreSlices line (break_events place breaks)
+break_slices line place true = (tt, tt)
+break_slices line place false = tt
+
+quote_slices : (line : List ℕ) (number : ℕ) (quote : Option Quote) → AreSlices line (quote_events number quote)
+quote_slices line number None = tt
+quote_slices line number (Some quote) = (nothing_part line, tt)
+
+scope_slices : (line : List ℕ) (place : Place) (scope : Option LineOpener) → AreSlices line (scope_events place scope)
+scope_slices line place None = tt
+scope_slices line place (Some opener) = (tt, tt)
+
+last_slices : (line : List ℕ) (place : Place) (last : Last) → AreSlices line (last_events place last)
+last_slices line place lasts.Nothing = tt
+last_slices line place lasts.FontEnds = (tt, tt)
+last_slices line place (lasts.Mark text) = (tt, tt)
+
+-- what may be there, and then has slices
+HasSlicesIfGiven : List ℕ → Option (EventKind (List ℕ)) → Type 0
+HasSlicesIfGiven line None = Unit {0}
+HasSlicesIfGiven line (Some kind) = HasSlices line kind
+
+kind_slices : (line : List ℕ) (place : Place) (kind : Option (EventKind (List ℕ))) → HasSlicesIfGiven line kind → AreSlices line (kind_events place kind)
+unfolding HasSlicesIfGiven
+kind_slices line place None h = tt
+kind_slices line place (Some kind) h = (h, tt)
+
+target_slices : (line : List ℕ) (make : Argument (List ℕ) → Opener (List ℕ)) (given : Option (Argument (List ℕ)))
+    → ((argument : Argument (List ℕ)) → IsArgument line argument → OpensSlices line (make argument)) → IsArgumentIfGiven line given
+    → HasSlicesIfGiven line (option_map kinds.Open (option_map make given))
+unfolding HasSlicesIfGiven
+target_slices line make None keeps h = tt
+target_slices line make (Some argument) keeps h = keeps argument h
+
+opens_slices : (line : List ℕ) (scope : Opens) (start : ℕ) → HasSlicesIfGiven line (option_map kinds.Open (opener scope (arguments_after start line)))
+unfolding HasSlicesIfGiven
+opens_slices line opens.Section start = tt
+opens_slices line opens.Subsection start = tt
+opens_slices line (opens.Paragraph name) start = tt
+opens_slices line opens.Tagged start = first_text_after line start
+opens_slices line opens.Indented start = (first_slice_after line start, second_text_after line start)
+opens_slices line opens.Hanging start = first_text_after line start
+opens_slices line opens.RelativeMargin start = first_text_after line start
+opens_slices line (opens.Target link) start =
+    target_slices line _ (first_of (arguments_after start line)) (λ argument h. h) (first_slice_after line start)
+opens_slices line opens.Syntax start = target_slices line _ (first_of (arguments_after start line)) (λ argument h. h) (first_slice_after line start)
+
+closes_slices : (line : List ℕ) (scope : Closes) (start : ℕ) → ClosesSlices line (closer scope (arguments_after start line))
+closes_slices line closes.RelativeMargin start = first_text_after line start
+closes_slices line (closes.Target link) start = first_slice_after line start
+closes_slices line closes.Syntax start = tt
+
+sets_slices : (line : List ℕ) (change : Sets) (start : ℕ) → start ≤ length line → LeavesSlices line (leaf change (drop start line) (arguments_after start line))
+sets_slices line (sets.Request name) start h = request_slices line name _ (first_slice_after line start)
+sets_slices line sets.Title start h = rest_part line start h
+sets_slices line (sets.Example begins) start h = tt
+sets_slices line sets.Distance start h = first_text_after line start
+sets_slices line sets.FurtherTag start h = tt
+sets_slices line (sets.FontBegins font) start h = tt
+sets_slices line (sets.Mark text) start h = tt
+
+effect_slices : (line : List ℕ) (effect : Effect) (start : ℕ) → start ≤ length line
+    → HasSlicesIfGiven line (effect_kind effect (drop start line) (arguments_after start line))
+unfolding HasSlicesIfGiven
+effect_slices line effects.Nothing start h = tt
+effect_slices line (effects.Opens scope) start h = opens_slices line scope start
+effect_slices line (effects.Closes scope) start h = closes_slices line scope start
+effect_slices line (effects.Sets change) start h = sets_slices line change start h
+
+one_slices : (line : List ℕ) (number : ℕ) (font : Option Font) (before : Join) (from : ℕ) (arguments : List (Argument (List ℕ)))
+    → ArgumentsFrom line from arguments → AreSlices line (one_word number font before arguments)
+one_slices line number font before from [] h = tt
+one_slices line number font before from (argument ∷ arguments) h = (h.1, tt)
+
+plain_slices : (line : List ℕ) (number from : ℕ) (arguments : List (Argument (List ℕ))) → ArgumentsFrom line from arguments → AreSlices line (plain_words number arguments)
+plain_slices line number from [] h = tt
+plain_slices line number from (argument ∷ arguments) h = (h.1, plain_slices line number (argument.column + length argument.text) arguments h.2)
+
+alternating_slices : (line : List ℕ) (number : ℕ) (font other : Font) (before : Join) (from : ℕ) (arguments : List (Argument (List ℕ)))
+    → ArgumentsFrom line from arguments → AreSlices line (alternating_words number font other before arguments)
+alternating_slices line number font other before from [] h = tt
+alternating_slices line number font other before from (argument ∷ arguments) h = (h.1, alternating_slices line number other font _ _ arguments h.2)
+
+option_slices : (line : List ℕ) (number from : ℕ) (arguments : List (Argument (List ℕ)))
+    → ArgumentsFrom line from arguments → AreSlices line (option_words number arguments)
+option_slices line number from [] h = tt
+option_slices line number from (key ∷ arguments) h = (h.1, one_slices line number _ _ _ arguments h.2)
+
+section_slices : (line : List ℕ) (place : Place) (from : ℕ) (arguments : List (Argument (List ℕ)))
+    → ArgumentsFrom line from arguments → AreSlices line (section_words place arguments)
+section_slices line place from [] h = tt
+section_slices line place from (section ∷ arguments) h = (tt, (h.1, (tt, one_slices line place.line _ _ _ arguments h.2)))
+
+reference_slices : (line : List ℕ) (place : Place) (from : ℕ) (arguments : List (Argument (List ℕ)))
+    → ArgumentsFrom line from arguments → AreSlices line (reference_words place arguments)
+reference_slices line place from [] h = tt
+reference_slices line place from (name ∷ arguments) h = (h.1, section_slices line place _ arguments h.2)
+
+further_slices : (line : List ℕ) (number from : ℕ) (arguments : List (Argument (List ℕ)))
+    → ArgumentsFrom line from arguments → AreSlices line (further_words number arguments)
+further_slices line number from [] h = tt
+further_slices line number from (first ∷ arguments) h = plain_slices line number (first.column + length first.text) arguments h.2
+
+words_slices : (line : List ℕ) (place : Place) (these : Words) (from : ℕ) (arguments : List (Argument (List ℕ)))
+    → ArgumentsFrom line from arguments → AreSlices line (words_events place these arguments)
+words_slices line place words.Nothing from arguments h = tt
+words_slices line place words.Plain from arguments h = plain_slices line place.line from arguments h
+words_slices line place (words.Alternating font other) from arguments h = alternating_slices line place.line font other Apart from arguments h
+words_slices line place words.Option from arguments h = option_slices line place.line from arguments h
+words_slices line place words.Reference from arguments h = reference_slices line place from arguments h
+words_slices line place words.Further from arguments h = further_slices line place.line from arguments h
+
+macro_slices : (line : List ℕ) (place : Place) (start : ℕ) (row : Row) → start ≤ length line
+    → AreSlices line (macro_events place row (drop start line) (arguments_after start line))
+macro_slices line place start row within =
+    let arguments = arguments_after start line in
+    AreSlices-append line _ _ (break_slices line place row.breaks)
+    (AreSlices-append line _ _ (quote_slices line place.line (missing_quote row.quotes arguments))
+    (AreSlices-append line _ _ (kind_slices line place _ (effect_slices line row.effect start within))
+    (AreSlices-append line _ _ (scope_slices line place (line_scope row.effect))
+    (AreSlices-append line _ _ (words_slices line place row.words (start + 1) arguments (all_after line start))
+    (AreSlices-append line _ _ (last_slices line place row.last) (tt, tt))))))
+
+lone_slices : (line : List ℕ) (alone : Alone) (place : Place) (name : List ℕ) (events : List (Event (List ℕ))) → IsPart line name
+    → AreSlices line events → AreSlices line (lone_events alone place name events)
+lone_slices line Same place name events n h = h
+lone_slices line Empty place name events n h = (n, (tt, tt))
+lone_slices line (Scope opener) place name events n h = (tt, (tt, tt))
+
+row_slices : (line : List ℕ) (place : Place) (start : ℕ) (name : List ℕ) (row : Row) → start ≤ length line → IsPart line name
+    → AreSlices line (row_events place name (drop start line) (arguments_after start line) row)
+row_slices line place start name row within n =
+    let m = macro_slices line place start row within in
+    elim (cases_Bool (has_arguments (drop start line))) [
+      | inl t ↦ rw t (rw t at m)
+      | inr t ↦ rw t (lone_slices line row.alone place name _ n (rw t at m))
+    ]
+
+named_slices : (line : Line) (row : Option Row) → AreSlices line.text (named_events line row)
+named_slices line None = (name_part line, (tt, tt))
+named_slices line (Some row) =
+    row_slices line.text (name_place line) (name_end line) (name_of line) row (end_within line) (name_part line)
+
+control_slices : (line : Line) → AreSlices line.text (control_events line)
+control_slices line =
+    elim (cases_Bool (is_nameless line)) [
+      | inl t ↦ rw t (tt, tt)
+      | inr t ↦ rw t (named_slices line (row_of (name_of line)))
+    ]
+
+form_slices : (line : Line) (plain : Option PlainLine) → AreSlices line.text (line_events line plain)
+form_slices line None = control_slices line
+form_slices line (Some plain) = (line_slices plain line.text, (tt, tt))
+
+pub man_slices : (line : Line) → AreSlices line.text (man_events line)
+unfolding man_events
+man_slices line = form_slices line (plain_line line.form line.text)
+
+-- ---- order
+
+break_no_word : (place : Place) (breaks : Bool) → HasNoWord (break_events place breaks)
+break_no_word place true = (refl, tt)
+break_no_word place false = tt
+
+quote_no_word : (number : ℕ) (quote : Option Quote) → HasNoWord (quote_events number quote)
+quote_no_word number None = tt
+quote_no_word number (Some quote) = (refl, tt)
+
+scope_no_word : (place : Place) (scope : Option LineOpener) → HasNoWord (scope_events place scope)
+scope_no_word place None = tt
+scope_no_word place (Some opener) = (refl, tt)
+
+open_no_word : (place : Place) (given : Option (Opener (List ℕ))) → HasNoWord (kind_events place (option_map kinds.Open given))
+open_no_word place None = tt
+open_no_word place (Some opener) = (refl, tt)
+
+effect_no_word : (place : Place) (effect : Effect) (rest : List ℕ) (arguments : List (Argument (List ℕ)))
+    → HasNoWord (kind_events place (effect_kind effect rest arguments))
+effect_no_word place effects.Nothing rest arguments = tt
+effect_no_word place (effects.Opens scope) rest arguments = open_no_word place (opener scope arguments)
+effect_no_word place (effects.Closes scope) rest arguments = (refl, tt)
+effect_no_word place (effects.Sets change) rest arguments = (refl, tt)
+
+last_no_word : (place : Place) (last : Last) (filled : Bool) → HasNoWord (last_events place last ++ line_end place.line filled ∷ [])
+last_no_word place lasts.Nothing filled = (refl, tt)
+last_no_word place lasts.FontEnds filled = (refl, (refl, tt))
+last_no_word place (lasts.Mark text) filled = (refl, (refl, tt))
+
+one_order : (line : List ℕ) (number : ℕ) (font : Option Font) (before : Join) (from : ℕ) (arguments : List (Argument (List ℕ)))
+    → ArgumentsFrom line from arguments → AreInOrder from (one_word number font before arguments)
+one_order line number font before from [] h = tt
+one_order line number font before from (argument ∷ arguments) h = (h.0, tt)
+
+plain_order : (line : List ℕ) (number from : ℕ) (arguments : List (Argument (List ℕ))) → ArgumentsFrom line from arguments → AreInOrder from (plain_words number arguments)
+plain_order line number from [] h = tt
+plain_order line number from (argument ∷ arguments) h = (h.0, plain_order line number (argument.column + length argument.text) arguments h.2)
+
+alternating_order : (line : List ℕ) (number : ℕ) (font other : Font) (before : Join) (from : ℕ) (arguments : List (Argument (List ℕ)))
+    → ArgumentsFrom line from arguments → AreInOrder from (alternating_words number font other before arguments)
+alternating_order line number font other before from [] h = tt
+alternating_order line number font other before from (argument ∷ arguments) h = (h.0, alternating_order line number other font _ _ arguments h.2)
+
+option_order : (line : List ℕ) (number from : ℕ) (arguments : List (Argument (List ℕ)))
+    → ArgumentsFrom line from arguments → AreInOrder from (option_words number arguments)
+option_order line number from [] h = tt
+option_order line number from (key ∷ arguments) h = (h.0, one_order line number _ _ _ arguments h.2)
+
+section_order : (line : List ℕ) (place : Place) (from : ℕ) (arguments : List (Argument (List ℕ)))
+    → ArgumentsFrom line from arguments → AreInOrder from (section_words place arguments)
+section_order line place from [] h = tt
+section_order line place from (section ∷ arguments) h = (tt, (h.0, (tt, one_order line place.line _ _ _ arguments h.2)))
+
+reference_order : (line : List ℕ) (place : Place) (from : ℕ) (arguments : List (Argument (List ℕ)))
+    → ArgumentsFrom line from arguments → AreInOrder from (reference_words place arguments)
+reference_order line place from [] h = tt
+reference_order line place from (name ∷ arguments) h = (h.0, section_order line place _ arguments h.2)
+
+further_order : (line : List ℕ) (number from : ℕ) (arguments : List (Argument (List ℕ)))
+    → ArgumentsFrom line from arguments → AreInOrder from (further_words number arguments)
+further_order line number from [] h = tt
+further_order line number from (first ∷ arguments) h =
+    plain_order line number from arguments (earlier line from (first.column + length first.text) arguments (omega (arith, h.0)) h.2)
+
+words_order : (line : List ℕ) (place : Place) (these : Words) (from : ℕ) (arguments : List (Argument (List ℕ)))
+    → ArgumentsFrom line from arguments → AreInOrder from (words_events place these arguments)
+words_order line place words.Nothing from arguments h = tt
+words_order line place words.Plain from arguments h = plain_order line place.line from arguments h
+words_order line place (words.Alternating font other) from arguments h = alternating_order line place.line font other Apart from arguments h
+words_order line place words.Option from arguments h = option_order line place.line from arguments h
+words_order line place words.Reference from arguments h = reference_order line place from arguments h
+words_order line place words.Further from arguments h = further_order line place.line from arguments h
+
+macro_order : (line : List ℕ) (place : Place) (start : ℕ) (row : Row) → AreInOrder 0 (macro_events place row (drop start line) (arguments_after start line))
+macro_order line place start row =
+    let arguments = arguments_after start line in
+    order_after 0 _ _ (break_no_word place row.breaks)
+    (order_after 0 _ _ (quote_no_word place.line (missing_quote row.quotes arguments))
+    (order_after 0 _ _ (effect_no_word place row.effect (drop start line) arguments)
+    (order_after 0 _ _ (scope_no_word place (line_scope row.effect))
+    (order_before 0 _ _ (words_order line place row.words 0 arguments (earlier line 0 (start + 1) arguments (omega arith) (all_after line start)))
+    (last_no_word place row.last (has_words row.words && has_arguments (drop start line)))))))
+
+lone_order : (alone : Alone) (place : Place) (name : List ℕ) (events : List (Event (List ℕ))) → AreInOrder 0 events → AreInOrder 0 (lone_events alone place name events)
+lone_order Same place name events h = h
+lone_order Empty place name events h = (tt, (tt, tt))
+lone_order (Scope opener) place name events h = (tt, (tt, tt))
+
+row_order : (line : List ℕ) (place : Place) (start : ℕ) (name : List ℕ) (row : Row)
+    → AreInOrder 0 (row_events place name (drop start line) (arguments_after start line) row)
+row_order line place start name row =
+    let m = macro_order line place start row in
+    elim (cases_Bool (has_arguments (drop start line))) [
+      | inl t ↦ rw t (rw t at m)
+      | inr t ↦ rw t (lone_order row.alone place name _ (rw t at m))
+    ]
+
+named_order : (line : Line) (row : Option Row) → AreInOrder 0 (named_events line row)
+named_order line None = (tt, (tt, tt))
+named_order line (Some row) = row_order line.text (name_place line) (name_end line) (name_of line) row
+
+control_order : (line : Line) → AreInOrder 0 (control_events line)
+control_order line =
+    elim (cases_Bool (is_nameless line)) [
+      | inl t ↦ rw t (tt, tt)
+      | inr t ↦ rw t (named_order line (row_of (name_of line)))
+    ]
+
+form_order : (line : Line) (plain : Option PlainLine) → AreInOrder 0 (line_events line plain)
+form_order line None = control_order line
+form_order line (Some plain) = (line_order plain line.text, (tt, tt))
+
+pub man_in_order : (line : Line) → AreInOrder 0 (man_events line)
+unfolding man_events
+man_in_order line = form_order line (plain_line line.form line.text)
+
+-- ---- few
+
+-- how many events a row gives, beside its words and the line's end
+break_weight : Bool → ℕ
+break_weight true = 1
+break_weight false = 0
+
+quotes_weight : Quotes → ℕ
+quotes_weight Printed = 0
+quotes_weight (After printed) = 1
+quotes_weight (BodyAfter printed) = 1
+
+effect_weight : Effect → ℕ
+effect_weight effects.Nothing = 0
+effect_weight (effects.Opens scope) = 1
+effect_weight (effects.Closes scope) = 1
+effect_weight (effects.Sets change) = 1
+
+scope_weight : Option LineOpener → ℕ
+scope_weight None = 0
+scope_weight (Some opener) = 1
+
+marks_weight : Words → ℕ
+marks_weight words.Nothing = 0
+marks_weight words.Plain = 0
+marks_weight (words.Alternating font other) = 0
+marks_weight words.Option = 0
+marks_weight words.Reference = 2
+marks_weight words.Further = 0
+
+last_weight : Last → ℕ
+last_weight lasts.Nothing = 0
+last_weight lasts.FontEnds = 1
+last_weight (lasts.Mark text) = 1
+
+weight : Row → ℕ
+weight row =
+    break_weight row.breaks + (quotes_weight row.quotes + (effect_weight row.effect
+    + (scope_weight (line_scope row.effect) + (marks_weight row.words + last_weight row.last))))
+
+few_break : (place : Place) (breaks : Bool) → length (break_events place breaks) ≤ break_weight breaks
+unfolding break_weight
+few_break place true = omega arith
+few_break place false = omega arith
+
+few_quote_at : (number : ℕ) (begins_body : Bool) (column : Option ℕ) → length (quote_events number (quote_at begins_body column)) ≤ 1
+few_quote_at number begins_body None = omega arith
+few_quote_at number begins_body (Some column) = omega arith
+
+few_quote : (number : ℕ) (quotes : Quotes) (arguments : List (Argument (List ℕ))) → length (quote_events number (missing_quote quotes arguments)) ≤ quotes_weight quotes
+unfolding quotes_weight
+few_quote number Printed arguments = omega arith
+few_quote number (After printed) arguments = few_quote_at number false _
+few_quote number (BodyAfter printed) arguments = few_quote_at number true _
+
+few_kind : (place : Place) (kind : Option (EventKind (List ℕ))) → length (kind_events place kind) ≤ 1
+few_kind place None = omega arith
+few_kind place (Some kind) = omega arith
+
+few_effect : (place : Place) (effect : Effect) (rest : List ℕ) (arguments : List (Argument (List ℕ)))
+    → length (kind_events place (effect_kind effect rest arguments)) ≤ effect_weight effect
+unfolding effect_weight
+few_effect place effects.Nothing rest arguments = omega arith
+few_effect place (effects.Opens scope) rest arguments = few_kind place _
+few_effect place (effects.Closes scope) rest arguments = omega arith
+few_effect place (effects.Sets change) rest arguments = omega arith
+
+few_scope : (place : Place) (scope : Option LineOpener) → length (scope_events place scope) ≤ scope_weight scope
+unfolding scope_weight
+few_scope place None = omega arith
+few_scope place (Some opener) = omega arith
+
+few_last : (place : Place) (last : Last) → length (last_events place last) ≤ last_weight last
+unfolding last_weight
+few_last place lasts.Nothing = omega arith
+few_last place lasts.FontEnds = omega arith
+few_last place (lasts.Mark text) = omega arith
+
+few_one : (number : ℕ) (font : Option Font) (before : Join) (arguments : List (Argument (List ℕ))) → length (one_word number font before arguments) ≤ length arguments
+few_one number font before [] = omega arith
+few_one number font before (argument ∷ arguments) = omega arith
+
+few_plain : (number : ℕ) (arguments : List (Argument (List ℕ))) → length (plain_words number arguments) ≤ length arguments
+few_plain number [] = omega arith
+few_plain number (argument ∷ arguments) = let f = few_plain number arguments in omega (arith, f)
+
+few_alternating : (number : ℕ) (font other : Font) (before : Join) (arguments : List (Argument (List ℕ)))
+    → length (alternating_words number font other before arguments) ≤ length arguments
+few_alternating number font other before [] = omega arith
+few_alternating number font other before (argument ∷ arguments) = let f = few_alternating number other font Glued arguments in omega (arith, f)
+
+few_option : (number : ℕ) (arguments : List (Argument (List ℕ))) → length (option_words number arguments) ≤ length arguments
+few_option number [] = omega arith
+few_option number (key ∷ arguments) = let f = few_one number (Some fonts.I) Apart arguments in omega (arith, f)
+
+few_section : (place : Place) (arguments : List (Argument (List ℕ))) → length (section_words place arguments) ≤ 2 + length arguments
+few_section place [] = omega arith
+few_section place (section ∷ arguments) = let f = few_one place.line None Glued arguments in omega (arith, f)
+
+few_reference : (place : Place) (arguments : List (Argument (List ℕ))) → length (reference_words place arguments) ≤ 2 + length arguments
+few_reference place [] = omega arith
+few_reference place (name ∷ arguments) = let f = few_section place arguments in omega (arith, f)
+
+few_further : (number : ℕ) (arguments : List (Argument (List ℕ))) → length (further_words number arguments) ≤ length arguments
+few_further number [] = omega arith
+few_further number (first ∷ arguments) = let f = few_plain number arguments in omega (arith, f)
+
+few_words : (place : Place) (these : Words) (arguments : List (Argument (List ℕ)))
+    → length (words_events place these arguments) ≤ marks_weight these + length arguments
+unfolding marks_weight
+few_words place words.Nothing arguments = omega arith
+few_words place words.Plain arguments = let f = few_plain place.line arguments in omega (arith, f)
+few_words place (words.Alternating font other) arguments = let f = few_alternating place.line font other Apart arguments in omega (arith, f)
+few_words place words.Option arguments = let f = few_option place.line arguments in omega (arith, f)
+few_words place words.Reference arguments = let f = few_reference place arguments in omega (arith, f)
+few_words place words.Further arguments = let f = few_further place.line arguments in omega (arith, f)
+
+few_macro : (place : Place) (row : Row) (rest : List ℕ) (arguments : List (Argument (List ℕ)))
+    → length (macro_events place row rest arguments) ≤ weight row + length arguments + 1
+unfolding weight
+few_macro place row rest arguments =
+    let a = few_break place row.breaks in
+    let b = few_quote place.line row.quotes arguments in
+    let c = few_effect place row.effect rest arguments in
+    let d = few_scope place (line_scope row.effect) in
+    let e = few_words place row.words arguments in
+    let f = few_last place row.last in
+    simp length-append (omega (arith, a, b, c, d, e, f))
+
+-- ---- the rows of the table are light
+
+is_light : Row → Bool
+is_light row = nat_le (weight row) 4
+
+abbrev are_light : List (List ℕ × Row) → Bool
+are_light rows = list_all (λ (each : List ℕ × Row). is_light each.1) rows
+
+light_in : (rows : List (List ℕ × Row)) (name : List ℕ) (row : Row) → are_light rows ≡ true → row_in rows name ≡ Some row → is_light row ≡ true
+light_in [] name row h e = cc
+light_in (first ∷ rows) name row h e =
+    elim (cases_Bool (is_light first.1)) [
+      | inl s ↦
+          elim (cases_Bool (bytes_eq first.0 name)) [
+            | inl t ↦ let f = rw t at e in let g : first.1 ≡ row = cc in rw (← g) s
+            | inr t ↦ light_in rows name row (rw s at h) (rw t at e)
+          ]
+      | inr s ↦ let f = rw s at h in cc
+    ]
+
+light_either : (one other : Option Row) (row : Row) → (one ≡ Some row → is_light row ≡ true) → (other ≡ Some row → is_light row ≡ true)
+    → option_or one other ≡ Some row → is_light row ≡ true
+light_either None other row h k e = k e
+light_either (Some found) other row h k e = h e
+
+light_macro : (name : List ℕ) (row : Row) → macro_row name ≡ Some row → is_light row ≡ true
+unfolding macro_row is_light weight break_weight quotes_weight effect_weight scope_weight marks_weight last_weight
+light_macro name row e = light_in table name row refl e
+
+light_request : (request : Option LayoutRequest) (row : Row) → option_map (λ name. quiet (sets.Request name)) request ≡ Some row → is_light row ≡ true
+unfolding is_light weight break_weight quotes_weight effect_weight scope_weight marks_weight last_weight
+light_request None row e = cc
+light_request (Some name) row e = let g : quiet (sets.Request name) ≡ row = cc in rw (← g) refl
+
+light_row : (name : List ℕ) (row : Row) → row_of name ≡ Some row → is_light row ≡ true
+light_row name row e =
+    light_either (macro_row name) (request_row name) row (light_macro name row) (light_request (layout_request name) row) e
+
+light_weight : (row : Row) → is_light row ≡ true → weight row ≤ 4
+unfolding is_light
+light_weight row h = grind (arith, nat_tests)
+
+few_lone : (alone : Alone) (place : Place) (name : List ℕ) (events : List (Event (List ℕ))) (n : ℕ) → 2 ≤ n → length events ≤ n
+    → length (lone_events alone place name events) ≤ n
+few_lone Same place name events n t h = h
+few_lone Empty place name events n t h = omega arith
+few_lone (Scope opener) place name events n t h = omega arith
+
+few_row : (place : Place) (name rest : List ℕ) (arguments : List (Argument (List ℕ))) (row : Row) (n : ℕ) → 2 ≤ n
+    → length (macro_events place row rest arguments) ≤ n → length (row_events place name rest arguments row) ≤ n
+few_row place name rest arguments row n t h =
+    elim (cases_Bool (has_arguments rest)) [
+      | inl s ↦ rw s (rw s at h)
+      | inr s ↦ rw s (few_lone row.alone place name _ n t (rw s at h))
+    ]
+
+few_named : (line : Line) (row : Option Row) → is_nameless line ≡ false → row_of (name_of line) ≡ row
+    → length (named_events line row) ≤ 2 * length line.text + 2
+few_named line None h e = omega arith
+few_named line (Some row) h e =
+    let text = line.text in
+    let start = name_end line in
+    let b = named_bytes line h in
+    let w = light_weight row (light_row (name_of line) row e) in
+    let f = few_after text start in
+    let m = few_macro (name_place line) row (drop start text) (arguments_after start text) in
+    few_row (name_place line) (name_of line) (drop start text) (arguments_after start text) row
+    (2 * length text + 2) (omega arith) (omega (arith, b.0, b.1, w, f, m))
+
+few_control : (line : Line) → length (control_events line) ≤ 2 * length line.text + 2
+few_control line =
+    elim (cases_Bool (is_nameless line)) [
+      | inl t ↦ rw t (omega arith)
+      | inr t ↦ rw t (few_named line (row_of (name_of line)) t refl)
+    ]
+
+few_form : (line : Line) (plain : Option PlainLine) → length (line_events line plain) ≤ 2 * length line.text + 2
+few_form line None = few_control line
+few_form line (Some plain) = omega arith
+
+pub man_few : (line : Line) → length (man_events line) ≤ 2 * length line.text + 2
+unfolding man_events
+man_few line = few_form line (plain_line line.form line.text)

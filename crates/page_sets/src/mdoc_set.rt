@@ -1,0 +1,63 @@
+//! The set of the macros of mdoc(7).
+
+use crate::mdoc_lines::give_events;
+use page_core_base::Taken;
+use page_sets_lines::{Event, EventOut, Handed, MacroSet, Nth};
+
+// The columns by which the text of a page is indented (mdoc(7)).
+const PAGE_INDENT: u32 = 5;
+
+/// The macros of mdoc(7). The place in a line's events is their number so far.
+#[derive(Clone, Copy)]
+pub struct Mdoc;
+
+impl MacroSet for Mdoc {
+    ghost use Rattle.std.specs.Prelude.{◌≤◌, length, drop};
+    ghost use Rattle.page_sets.specs.Mdoc.{mdoc_indent, mdoc_events};
+    ghost use Rattle.page_sets.specs.machine.MdocLaws.{mdoc_slices, mdoc_in_order, mdoc_few};
+    ghost use Rattle.page_sets_lines.proofs.NthLemmas.{slices_after};
+
+    type Place = usize;
+
+    ghost page_indent = { λ set. mdoc_indent };
+
+    ghost table = { λ set line. mdoc_events line };
+
+    ghost IsPlaceOf = { λ set line place. place ≤ length (mdoc_events line) };
+
+    ghost events_from = { λ set line place. drop place (mdoc_events line) };
+
+    ghost slices = { λ set line. mdoc_slices line };
+
+    ghost slices_from = { λ set line place fits. slices_after line.text place (mdoc_events line) (mdoc_slices line) };
+
+    ghost in_order = { λ set line. mdoc_in_order line };
+
+    ghost few = { λ set line. mdoc_few line };
+
+    fn indent(&self) -> u32 {
+        PAGE_INDENT
+    }
+
+    fn start(&self, line: Taken<'_>) -> usize {
+        0
+    }
+
+    #[tactic(auto, using(crate::specs::machine::MdocLaws::mdoc_few))]
+    fn next<'a>(&self, line: Taken<'a>, place: &mut usize) -> Option<Event<&'a [u8]>> {
+        let mut nth = Nth::new(*place);
+        give_events(&mut nth, line);
+        match nth.event() {
+            Some(event) => {
+                *place += 1;
+                Some(event)
+            }
+            None => None,
+        }
+    }
+
+    fn give<O: EventOut>(&self, line: Taken<'_>, out: &mut O) {
+        let mut handed = Handed { out };
+        give_events(&mut handed, line);
+    }
+}

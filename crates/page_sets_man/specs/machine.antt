@@ -1,2 +1,0 @@
--- The code's own steps and fast ways. Trust needs no reading of them.
-pub mod ManLaws

@@ -1,2 +1,0 @@
-pub mod Mdoc
-pub mod machine

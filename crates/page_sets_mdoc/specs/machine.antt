@@ -1,4 +1,0 @@
--- The code's own steps and fast ways. Trust needs no reading of them.
-pub mod Calls
-pub mod MdocLaws
-pub mod RestLaws
