@@ -152,9 +152,7 @@ fn closer_suffix<'a>(closer: &Closer<&'a [u8]>) -> Option<Argument<&'a [u8]>>
 #[inline(never)]
 fn give_suffix<O: PieceOut>(out: &mut O, line: u32, closer: &Closer<&[u8]>, state: &mut Formatting)
     requires { CloserFits (closer_view closer.now) }
-    ensures { GivesOutcome O.left out.old
-        (bodies.suffix line (closer_view closer.now) state.old)
-        out.new state.new }
+    ensures { GivesOutcome O.left out.old (bodies.suffix line (closer_view closer.now) state.old) out.new state.new }
 {
     if let Some(suffix) = closer_suffix(closer) {
         let word = argument_word(None, Join::Glued, suffix);
@@ -180,8 +178,7 @@ fn give_kind_standing<O: PieceOut>(
     state: &mut Formatting,
 )
     requires { KindFits (kind_view kind.now) }
-    ensures gives { GivesOutcome O.left out.old
-        (bodies.kind_stands place (kind_view kind.now) name.old has_begun state.old)
+    ensures gives { GivesOutcome O.left out.old (bodies.kind_stands place (kind_view kind.now) name.old has_begun state.old)
         out.new state.new }
     ensures name { name.new ≡ name_after (kind_view kind.now) name.old }
 {
@@ -211,8 +208,7 @@ pub(crate) fn give_standing<O: PieceOut>(
     state: &mut Formatting,
 )
     requires { TakesAct (λ event. KindFits event.kind) (act_view act.now) }
-    ensures gives { GivesOutcome O.left out.old
-        (bodies.stands output (act_view act.now) name.old has_begun state.old)
+    ensures gives { GivesOutcome O.left out.old (bodies.stands output (act_view act.now) name.old has_begun state.old)
         out.new state.new }
     ensures name { name.new ≡ bodies.act_name (act_view act.now) name.old }
 {

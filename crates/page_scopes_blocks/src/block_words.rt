@@ -61,9 +61,7 @@ fn dash_phrase(place: Place) -> Phrase<&'static [u8]>
 
 // Gives the dash of `Nd`.
 fn give_dash<O: PieceOut>(out: &mut O, place: Place, state: &mut Formatting)
-    ensures { GivesOutcome O.left out.old
-        (words.dash place state.old)
-        out.new state.new }
+    ensures { GivesOutcome O.left out.old (words.dash place state.old) out.new state.new }
 {
     give_phrase(out, place.line, &dash_phrase(place), state);
 }
@@ -75,9 +73,7 @@ pub fn give_line_words<O: PieceOut>(
     opener: LineOpener,
     state: &mut Formatting,
 )
-    ensures { GivesOutcome O.left out.old
-        (words.line_words place opener state.old)
-        out.new state.new }
+    ensures { GivesOutcome O.left out.old (words.line_words place opener state.old) out.new state.new }
 {
     match opener {
         LineOpener::Enclosure(marks) => {
@@ -106,9 +102,7 @@ fn give_mark<O: PieceOut>(
     state: &mut Formatting,
 )
     requires { GivenFits (given_view mark) }
-    ensures { GivesOutcome O.left out.old
-        (words.block_words place (Custom (given_view mark.entry)) state.old)
-        out.new state.new }
+    ensures { GivesOutcome O.left out.old (words.block_words place (Custom (given_view mark.entry)) state.old) out.new state.new }
 {
     if let Some(mark) = mark {
         give_line_word(out, place.line, &mark_word(mark), state);
@@ -123,9 +117,7 @@ pub(crate) fn give_block_words<O: PieceOut>(
     state: &mut Formatting,
 )
     requires { BlockOpenerFits (block_opener_view opener.now) }
-    ensures { GivesOutcome O.left out.old
-        (words.block_words place (block_opener_view opener.now) state.old)
-        out.new state.new }
+    ensures { GivesOutcome O.left out.old (words.block_words place (block_opener_view opener.now) state.old) out.new state.new }
 {
     match *opener {
         BlockOpener::Quotation(quotation) => {
@@ -157,9 +149,7 @@ pub(crate) fn give_function_name<O: PieceOut>(
     state: &mut Formatting,
 )
     requires { ArgumentFits (argument_view name) }
-    ensures { GivesOutcome O.left out.old
-        (words.function_name place (argument_view name.entry) state.old)
-        out.new state.new }
+    ensures { GivesOutcome O.left out.old (words.function_name place (argument_view name.entry) state.old) out.new state.new }
 {
     let word = argument_word(Some(Font::B), Join::Apart, name);
     give_line_word(out, place.line, &word, state);
@@ -180,9 +170,7 @@ fn full_stop() -> GeneratedWord
 
 // Gives the full stop after the fields of a reference, where it has one.
 fn give_reference_end<O: PieceOut>(out: &mut O, place: Place, state: &mut Formatting)
-    ensures { GivesOutcome O.left out.old
-        (words.reference_end state.old.context.fields place state.old)
-        out.new state.new }
+    ensures { GivesOutcome O.left out.old (words.reference_end state.old.context.fields place state.old) out.new state.new }
 {
     if let SeriesSoFar::Begun = state.context.fields {
         give_generated_word(out, place, full_stop(), state);
@@ -196,8 +184,7 @@ fn give_block_last_words<O: PieceOut>(
     block: Block,
     state: &mut Formatting,
 )
-    ensures { GivesOutcome O.left out.old
-        (words.last_words place (labels.Explicit (explicits.Block block)) state.old)
+    ensures { GivesOutcome O.left out.old (words.last_words place (labels.Explicit (explicits.Block block)) state.old)
         out.new state.new }
 {
     match block {
@@ -214,9 +201,7 @@ fn give_block_last_words<O: PieceOut>(
 /// Gives the words that a scope ends with, in its own context: the mark after an enclosure's words, the full stop of a reference (`Rs`) and the end of a
 /// function (`Fo`), of whatever ends it.
 pub fn give_last_words<O: PieceOut>(out: &mut O, place: Place, label: Label, state: &mut Formatting)
-    ensures { GivesOutcome O.left out.old
-        (words.last_words place label state.old)
-        out.new state.new }
+    ensures { GivesOutcome O.left out.old (words.last_words place label state.old) out.new state.new }
 {
     match label {
         Label::Line(LineOpener::Enclosure(marks)) => {

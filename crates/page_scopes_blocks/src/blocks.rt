@@ -39,9 +39,7 @@ fn give_offset<O: PieceOut>(
 
 // Gives what a display begins with, in the context of its front.
 fn give_display_begin<O: PieceOut>(out: &mut O, is_compact: bool, state: &mut Formatting)
-    ensures { GivesOutcome O.left out.old
-        (blocks.display_begins is_compact state.old)
-        out.new state.new }
+    ensures { GivesOutcome O.left out.old (blocks.display_begins is_compact state.old) out.new state.new }
 {
     if is_compact {
         out.give(Piece::Break);
@@ -64,8 +62,7 @@ fn begin_display<O: PieceOut>(
     state: &mut Formatting,
 )
     requires { GivenFits (given_view offset) }
-    ensures { GivesOutcome O.left out.old
-        (blocks.display output place is_literal is_compact (given_view offset.entry) state.old)
+    ensures { GivesOutcome O.left out.old (blocks.display output place is_literal is_compact (given_view offset.entry) state.old)
         out.new state.new }
 {
     let columns = give_offset(out, output, place, offset);
@@ -81,8 +78,7 @@ fn begin_function<O: PieceOut>(
     state: &mut Formatting,
 )
     requires { ArgumentFits (argument_view name) }
-    ensures { GivesOutcome O.left out.old
-        (function_name place (argument_view name.entry) (in_context (function_begun state.old.context) state.old))
+    ensures { GivesOutcome O.left out.old (function_name place (argument_view name.entry) (in_context (function_begun state.old.context) state.old))
         out.new state.new }
 {
     state.context = state.context.function_begun();
@@ -100,8 +96,7 @@ pub fn give_block<O: PieceOut>(
     state: &mut Formatting,
 )
     requires { BlockOpenerFits (block_opener_view opener.now) }
-    ensures { GivesOutcome O.left out.old
-        (blocks.block_opened output place (block_opener_view opener.now) state.old)
+    ensures { GivesOutcome O.left out.old (blocks.block_opened output place (block_opener_view opener.now) state.old)
         out.new state.new }
 {
     state.context = state.context.entered();

@@ -58,9 +58,7 @@ fn give_mark<O: PieceOut>(
     state: &mut Formatting,
 )
     requires { length mark.now ≤ 48 }
-    ensures { GivesOutcome O.left out.old
-        (items.given_mark place list.now (Some mark.now) state.old)
-        out.new state.new }
+    ensures { GivesOutcome O.left out.old (items.given_mark place list.now (Some mark.now) state.old) out.new state.new }
 {
     let phrase = mark_phrase(place, mark);
     give_phrase_tag(out, mark_place(list), place.line, &phrase, state);
@@ -68,8 +66,7 @@ fn give_mark<O: PieceOut>(
 
 // Gives the mark of the open item of a list, where its type has one.
 fn give_mark_of<O: PieceOut>(out: &mut O, place: Place, list: &OpenList, state: &mut Formatting)
-    ensures { GivesOutcome O.left out.old
-        (items.given_mark place list.now (items.mark_of list.now.kind list.now.items) state.old)
+    ensures { GivesOutcome O.left out.old (items.given_mark place list.now (items.mark_of list.now.kind list.now.items) state.old)
         out.new state.new }
 {
     match list.kind {
@@ -85,8 +82,7 @@ fn give_mark_of<O: PieceOut>(out: &mut O, place: Place, list: &OpenList, state: 
 
 // Begins an item of the open list.
 fn begin_item<O: PieceOut>(out: &mut O, state: &mut Formatting)
-    ensures { GivesOutcome O.left out.old (items.item_begins state.old)
-        out.new state.new }
+    ensures { GivesOutcome O.left out.old (items.item_begins state.old) out.new state.new }
 {
     state.context = state.context.item_begun();
     give_begin(out, Label::Item, &state.context);
@@ -96,9 +92,7 @@ fn begin_item<O: PieceOut>(out: &mut O, state: &mut Formatting)
 /// Gives what an item of the open list begins with.
 #[tactic(auto, unfolding(crate::specs::Items::item_opened))]
 pub fn give_item<O: PieceOut>(out: &mut O, place: Place, state: &mut Formatting)
-    ensures { GivesOutcome O.left out.old
-        (items.item_opened place state.old)
-        out.new state.new }
+    ensures { GivesOutcome O.left out.old (items.item_opened place state.old) out.new state.new }
 {
     state.context = state.context.entered();
     begin_item(out, state);

@@ -73,9 +73,7 @@ fn list_context(said: &SaidList, context: Context) -> Context
 
 // Begins a list.
 fn begin_list<O: PieceOut>(out: &mut O, said: &SaidList, state: &mut Formatting)
-    ensures { GivesOutcome O.left out.old
-        (lists.list_by said.now state.old)
-        out.new state.new }
+    ensures { GivesOutcome O.left out.old (lists.list_by said.now state.old) out.new state.new }
 {
     state.context = list_context(said, state.context.entered());
     out.give(Piece::Break);
@@ -95,9 +93,7 @@ pub fn give_list<O: PieceOut>(
     state: &mut Formatting,
 )
     requires { length text.now ≤ LINE }
-    ensures { GivesOutcome O.left out.old
-        (lists.list_opened output place kind is_compact text.now state.old)
-        out.new state.new }
+    ensures { GivesOutcome O.left out.old (lists.list_opened output place kind is_compact text.now state.old) out.new state.new }
 {
     let options = read_list_options(text, 0);
     let said = give_said(out, output, place, kind, is_compact, text, &options);

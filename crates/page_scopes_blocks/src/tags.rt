@@ -55,9 +55,7 @@ fn pad(state: &mut Formatting)
 
 // Gives what a tag begins with.
 fn begin_tag<O: PieceOut>(out: &mut O, tag: TagPlace, state: &mut Formatting)
-    ensures { GivesOutcome O.left out.old
-        (tags.tag_begun tag state.old)
-        out.new state.new }
+    ensures { GivesOutcome O.left out.old (tags.tag_begun tag state.old) out.new state.new }
 {
     state.context = tag_context(tag, state.context);
     give_margins(out, &state.context);
@@ -69,9 +67,7 @@ fn begin_tag<O: PieceOut>(out: &mut O, tag: TagPlace, state: &mut Formatting)
 
 // Gives what a tag ends with; the context is that before it.
 fn end_tag<O: PieceOut>(out: &mut O, before: &Context, state: &mut Formatting)
-    ensures { GivesOutcome O.left out.old
-        (tags.tag_ended before.now state.old)
-        out.new state.new }
+    ensures { GivesOutcome O.left out.old (tags.tag_ended before.now state.old) out.new state.new }
 {
     out.give(Piece::TagEnd);
     state.context = after_tag(*before, state.context);
@@ -88,8 +84,7 @@ fn give_tag_phrase<O: PieceOut>(
     state: &mut Formatting,
 )
     requires { FitsAt phrase.now.column phrase.now.text.now }
-    ensures { GivesOutcome O.left out.old
-        (followed_by (phrase_outcome line (phrase_view phrase.now) state.old) (tags.tag_ended before.now))
+    ensures { GivesOutcome O.left out.old (followed_by (phrase_outcome line (phrase_view phrase.now) state.old) (tags.tag_ended before.now))
         out.new state.new }
 {
     give_phrase(out, line, phrase, state);
@@ -106,9 +101,7 @@ pub fn give_phrase_tag<O: PieceOut>(
     state: &mut Formatting,
 )
     requires { FitsAt phrase.now.column phrase.now.text.now }
-    ensures { GivesOutcome O.left out.old
-        (tags.phrase_tag tag line (phrase_view phrase.now) state.old)
-        out.new state.new }
+    ensures { GivesOutcome O.left out.old (tags.phrase_tag tag line (phrase_view phrase.now) state.old) out.new state.new }
 {
     let before = state.context;
     begin_tag(out, tag, state);
@@ -124,8 +117,7 @@ fn give_tag_words<O: PieceOut>(
     state: &mut Formatting,
 )
     requires { ArgumentFits (word_view word.now).arg }
-    ensures { GivesOutcome O.left out.old
-        (followed_by (line_word line (word_view word.now) state.old) (tags.tag_ended before.now))
+    ensures { GivesOutcome O.left out.old (followed_by (line_word line (word_view word.now) state.old) (tags.tag_ended before.now))
         out.new state.new }
 {
     give_line_word(out, line, word, state);
@@ -142,9 +134,7 @@ pub fn give_tag<O: PieceOut>(
     state: &mut Formatting,
 )
     requires { ArgumentFits (word_view word.now).arg }
-    ensures { GivesOutcome O.left out.old
-        (tags.tag tag line (word_view word.now) state.old)
-        out.new state.new }
+    ensures { GivesOutcome O.left out.old (tags.tag tag line (word_view word.now) state.old) out.new state.new }
 {
     let before = state.context;
     begin_tag(out, tag, state);

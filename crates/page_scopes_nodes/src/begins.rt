@@ -78,9 +78,7 @@ fn give_line_opened<O: PieceOut>(
     opener: LineOpener,
     state: &mut Formatting,
 )
-    ensures { GivesOutcome O.left out.old
-        (begins.line_opened place opener state.old)
-        out.new state.new }
+    ensures { GivesOutcome O.left out.old (begins.line_opened place opener state.old) out.new state.new }
 {
     enter_line(opener, &mut state.context);
     give_begin(out, Label::Line(opener), &state.context);
@@ -97,9 +95,7 @@ pub fn give_begun<O: PieceOut>(
     state: &mut Formatting,
 )
     requires { KindFits (kind_view event.now.kind) }
-    ensures { GivesOutcome O.left out.old
-        (begins.begun_by page.now (event_view event.now) state.old)
-        out.new state.new }
+    ensures { GivesOutcome O.left out.old (begins.begun_by page.now (event_view event.now) state.old) out.new state.new }
 {
     match &event.kind {
         EventKind::Open(opener) => give_opened(out, page, event.place, opener, state),

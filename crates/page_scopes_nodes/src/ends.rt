@@ -22,9 +22,7 @@ fn give_last_word<O: PieceOut>(
     target: &Option<KeptText>,
     state: &mut Formatting,
 )
-    ensures { GivesOutcome O.left out.old
-        (ends.last_word place label target.now state.old)
-        out.new state.new }
+    ensures { GivesOutcome O.left out.old (ends.last_word place label target.now state.old) out.new state.new }
 {
     match target {
         Some(target) => give_target(out, place, target, state),
@@ -77,9 +75,7 @@ fn section_after(label: Label, heading: &HeadingSoFar, section: PageSection) -> 
 
 // Gives what is left of a scope after its last word, with the context before it.
 fn give_left<O: PieceOut>(out: &mut O, label: Label, before: &Context, state: &mut Formatting)
-    ensures { GivesOutcome O.left out.old
-        (ends.left label before.now state.old)
-        out.new state.new }
+    ensures { GivesOutcome O.left out.old (ends.left label before.now state.old) out.new state.new }
 {
     state.context.restore(label, before);
     give_end(out, label, &state.context);
@@ -97,9 +93,7 @@ pub fn give_ended<O: PieceOut>(
     place: Place,
     state: &mut Formatting,
 )
-    ensures { GivesOutcome O.left out.old
-        (ends.ended label before.now target.now place state.old)
-        out.new state.new }
+    ensures { GivesOutcome O.left out.old (ends.ended label before.now target.now place state.old) out.new state.new }
 {
     give_last_word(out, place, label, target, state);
     give_left(out, label, before, state);

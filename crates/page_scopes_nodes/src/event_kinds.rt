@@ -23,8 +23,7 @@ pub fn give_kind<O: PieceOut>(
     state: &mut Formatting,
 )
     requires { KindFits (kind_view kind.now) }
-    ensures gives { GivesOutcome O.left out.old
-        (event_kinds.kind_outcome place (kind_view kind.now) name.old state.old)
+    ensures gives { GivesOutcome O.left out.old (event_kinds.kind_outcome place (kind_view kind.now) name.old state.old)
         out.new state.new }
     ensures name { name.new ≡ event_kinds.name_after (kind_view kind.now) name.old }
 {

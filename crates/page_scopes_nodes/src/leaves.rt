@@ -22,8 +22,7 @@ use page_sets_lines::Leaf;
 
 // Gives a blank line.
 fn give_blank_line<O: PieceOut>(out: &mut O, place: Place, state: &mut Formatting)
-    ensures { GivesOutcome O.left out.old (leaves.blank_line place state.old)
-        out.new state.new }
+    ensures { GivesOutcome O.left out.old (leaves.blank_line place state.old) out.new state.new }
 {
     if state.context.is_literal.value {
         out.give(Piece::RowEnd);
@@ -37,8 +36,7 @@ fn give_blank_line<O: PieceOut>(out: &mut O, place: Place, state: &mut Formattin
 
 // Gives a line of blanks and tabs where rows are kept.
 fn give_kept_line<O: PieceOut>(out: &mut O, place: Place, text: &[u8], state: &mut Formatting)
-    ensures { GivesOutcome O.left out.old (leaves.kept_line place text.now state.old)
-        out.new state.new }
+    ensures { GivesOutcome O.left out.old (leaves.kept_line place text.now state.old) out.new state.new }
 {
     if in_columns(&state.context) && has_tab(text) {
         give_white_columns(out, text, state);
@@ -52,9 +50,7 @@ fn give_kept_line<O: PieceOut>(out: &mut O, place: Place, text: &[u8], state: &m
 // Gives a line of blanks and tabs, or of nothing.
 fn give_wordless_line<O: PieceOut>(out: &mut O, place: Place, text: &[u8], state: &mut Formatting)
     ensures { let literal = state.old.context.is_literal.value
-        in GivesOutcome O.left out.old
-        (leaves.wordless_line literal place text.now state.old)
-        out.new state.new }
+        in GivesOutcome O.left out.old (leaves.wordless_line literal place text.now state.old) out.new state.new }
 {
     if state.context.is_literal.value {
         give_kept_line(out, place, text, state);
@@ -91,9 +87,7 @@ fn set_fonts(font: Option<Font>, state: &mut Formatting)
 
 // A further tag comes: `TQ`.
 fn give_further_tag<O: PieceOut>(out: &mut O, state: &mut Formatting)
-    ensures { GivesOutcome O.left out.old
-        (leaves.further_tag state.old)
-        out.new state.new }
+    ensures { GivesOutcome O.left out.old (leaves.further_tag state.old) out.new state.new }
 {
     state.context.hang = state.context.prevailing;
     state.context.first = None;
@@ -112,9 +106,7 @@ pub fn give_leaf<O: PieceOut>(
     state: &mut Formatting,
 )
     requires { LeafFits (leaf_view leaf.now) }
-    ensures { GivesOutcome O.left out.old
-        (leaves.leaf_outcome place (leaf_view leaf.now) name.now state.old)
-        out.new state.new }
+    ensures { GivesOutcome O.left out.old (leaves.leaf_outcome place (leaf_view leaf.now) name.now state.old) out.new state.new }
 {
     match *leaf {
         Leaf::BlankLine => give_blank_line(out, place, state),

@@ -17,8 +17,7 @@ fn ends_row(state: &Formatting) -> bool
 /// Ends a line: its row ends with it, where rows are kept.
 #[inline(always)]
 pub fn end_line<O: PieceOut>(out: &mut O, state: &mut Formatting)
-    ensures { GivesOutcome O.left out.old (ends.line_end state.old)
-        out.new state.new }
+    ensures { GivesOutcome O.left out.old (ends.line_end state.old) out.new state.new }
 {
     if ends_row(state) {
         out.give(Piece::RowEnd);

@@ -40,9 +40,7 @@ fn give_given<O: PieceOut>(out: &mut O, place: Place, number: Option<&[u8]>) -> 
 // A scope begins in the context of its front, and the row ends.
 #[inline(always)]
 fn begin<O: PieceOut>(out: &mut O, label: Label, front: Context, state: &mut Formatting)
-    ensures { GivesOutcome O.left out.old
-        (openers.begun label front state.old)
-        out.new state.new }
+    ensures { GivesOutcome O.left out.old (openers.begun label front state.old) out.new state.new }
 {
     state.context = front;
     give_begin(out, label, &state.context);
@@ -51,8 +49,7 @@ fn begin<O: PieceOut>(out: &mut O, label: Label, front: Context, state: &mut For
 
 // `SH` and `Sh`.
 fn begin_section<O: PieceOut>(out: &mut O, page: &PageLayout, state: &mut Formatting)
-    ensures { GivesOutcome O.left out.old
-        (openers.begun Section (section_begun page.now.indent (entered_context state.old.context)) state.old)
+    ensures { GivesOutcome O.left out.old (openers.begun Section (section_begun page.now.indent (entered_context state.old.context)) state.old)
         out.new state.new }
 {
     let front = state.context.entered().section_begun(page.indent);
@@ -61,8 +58,7 @@ fn begin_section<O: PieceOut>(out: &mut O, page: &PageLayout, state: &mut Format
 
 // `SS` and `Ss`, which stay in their section.
 fn begin_subsection<O: PieceOut>(out: &mut O, page: &PageLayout, state: &mut Formatting)
-    ensures { GivesOutcome O.left out.old
-        (openers.begun Section (subsection_begun page.now.indent (entered_context state.old.context)) state.old)
+    ensures { GivesOutcome O.left out.old (openers.begun Section (subsection_begun page.now.indent (entered_context state.old.context)) state.old)
         out.new state.new }
 {
     let front = state.context.entered().subsection_begun(page.indent);
@@ -71,9 +67,7 @@ fn begin_subsection<O: PieceOut>(out: &mut O, page: &PageLayout, state: &mut For
 
 // `PP`, `LP` and `P`.
 fn begin_plain<O: PieceOut>(out: &mut O, place: Place, name: ParagraphName, state: &mut Formatting)
-    ensures { GivesOutcome O.left out.old
-        (openers.plain place name state.old)
-        out.new state.new }
+    ensures { GivesOutcome O.left out.old (openers.plain place name state.old) out.new state.new }
 {
     if state.has_content {
         let front = state.context.entered().paragraph_begun();
@@ -91,9 +85,7 @@ fn begin_indented<O: PieceOut>(
     hang: Option<&[u8]>,
     state: &mut Formatting,
 )
-    ensures { GivesOutcome O.left out.old
-        (openers.indented place (text_view hang.entry) state.old)
-        out.new state.new }
+    ensures { GivesOutcome O.left out.old (openers.indented place (text_view hang.entry) state.old) out.new state.new }
 {
     let columns = give_given(out, place, hang);
     let front = state.context.entered().indented_begun(columns);
@@ -108,9 +100,7 @@ fn give_given_tag<O: PieceOut>(
     state: &mut Formatting,
 )
     requires { GivenFits (given_view tag) }
-    ensures { GivesOutcome O.left out.old
-        (openers.given_tag line (given_view tag.entry) state.old)
-        out.new state.new }
+    ensures { GivesOutcome O.left out.old (openers.given_tag line (given_view tag.entry) state.old) out.new state.new }
 {
     if let Some(argument) = tag {
         let tag_place = TagPlace {
@@ -129,9 +119,7 @@ fn begin_hanging<O: PieceOut>(
     hang: Option<&[u8]>,
     state: &mut Formatting,
 )
-    ensures { GivesOutcome O.left out.old
-        (openers.hanging place (text_view hang.entry) state.old)
-        out.new state.new }
+    ensures { GivesOutcome O.left out.old (openers.hanging place (text_view hang.entry) state.old) out.new state.new }
 {
     let columns = give_given(out, place, hang);
     let front = state.context.entered().hanging_begun(columns);
@@ -145,9 +133,7 @@ fn begin_margin<O: PieceOut>(
     columns: Option<&[u8]>,
     state: &mut Formatting,
 )
-    ensures { GivesOutcome O.left out.old
-        (openers.margin place (text_view columns.entry) state.old)
-        out.new state.new }
+    ensures { GivesOutcome O.left out.old (openers.margin place (text_view columns.entry) state.old) out.new state.new }
 {
     let further = give_given(out, place, columns);
     let front = state.context.entered().margin_begun(further);
@@ -171,8 +157,7 @@ fn give_name<O: PieceOut>(
     state: &mut Formatting,
 )
     requires { ArgumentFits (argument_view name) }
-    ensures { GivesOutcome O.left out.old
-        (tags.tag tag line (argument_word (Some B) Apart (argument_view name.entry)) state.old)
+    ensures { GivesOutcome O.left out.old (tags.tag tag line (argument_word (Some B) Apart (argument_view name.entry)) state.old)
         out.new state.new }
 {
     let word = argument_word(Some(Font::B), Join::Apart, name);
@@ -188,8 +173,7 @@ fn begin_synopsis<O: PieceOut>(
     state: &mut Formatting,
 )
     requires { ArgumentFits (argument_view name) }
-    ensures { GivesOutcome O.left out.old
-        (openers.synopsis page.now line (argument_view name.entry) state.old)
+    ensures { GivesOutcome O.left out.old (openers.synopsis page.now line (argument_view name.entry) state.old)
         out.new state.new }
 {
     let hang = name_hang(page, name);
@@ -213,8 +197,7 @@ fn begin_block<O: PieceOut>(
     state: &mut Formatting,
 )
     requires { BlockOpenerFits (block_opener_view opener.now) }
-    ensures { GivesOutcome O.left out.old
-        (openers.block page.now place (block_opener_view opener.now) state.old)
+    ensures { GivesOutcome O.left out.old (openers.block page.now place (block_opener_view opener.now) state.old)
         out.new state.new }
 {
     match *opener {
@@ -237,9 +220,7 @@ pub(crate) fn give_opened<O: PieceOut>(
     state: &mut Formatting,
 )
     requires { OpenerFits (opener_view opener.now) }
-    ensures { GivesOutcome O.left out.old
-        (openers.opened page.now place (opener_view opener.now) state.old)
-        out.new state.new }
+    ensures { GivesOutcome O.left out.old (openers.opened page.now place (opener_view opener.now) state.old) out.new state.new }
 {
     match *opener {
         Opener::Item => give_item(out, place, state),

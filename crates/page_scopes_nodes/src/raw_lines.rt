@@ -36,9 +36,7 @@ fn give_cells<O: PieceOut>(out: &mut O, place: Place, font: Font, text: &[u8])
 #[tactic(auto, unfolding(crate::specs::RawLines::raw_line))]
 #[inline(never)]
 pub fn give_raw_line<O: PieceOut>(out: &mut O, place: Place, text: &[u8], state: &mut Formatting)
-    ensures { GivesOutcome O.left out.old
-        (raw.raw_line place text.now state.old)
-        out.new state.new }
+    ensures { GivesOutcome O.left out.old (raw.raw_line place text.now state.old) out.new state.new }
 {
     out.give(Piece::Break);
     out.give(Piece::Literal(true));

@@ -153,9 +153,7 @@ fn give_font<O: PieceOut>(
 
 /// Keeps rows as they are from here on (`nf`, `EX`), or fills them (`fi`, `EE`).
 pub(crate) fn give_literal<O: PieceOut>(out: &mut O, on: bool, state: &mut Formatting)
-    ensures { GivesOutcome O.left out.old
-        (requests.literal on state.old)
-        out.new state.new }
+    ensures { GivesOutcome O.left out.old (requests.literal on state.old) out.new state.new }
 {
     state.context.is_literal = Setting::set_to(on);
     out.give(Piece::Break);
@@ -170,9 +168,7 @@ pub(crate) fn give_request<O: PieceOut>(
     request: &Request<&[u8]>,
     state: &mut Formatting,
 )
-    ensures { GivesOutcome O.left out.old
-        (requests.request place (request_view request.now) state.old)
-        out.new state.new }
+    ensures { GivesOutcome O.left out.old (requests.request place (request_view request.now) state.old) out.new state.new }
 {
     match *request {
         Request::Break => {

@@ -38,9 +38,7 @@ fn give_body_paragraph<O: PieceOut>(
     name: BodyParagraphName,
     state: &mut Formatting,
 )
-    ensures { GivesOutcome O.left out.old
-        (steps.body_paragraph place name state.old)
-        out.new state.new }
+    ensures { GivesOutcome O.left out.old (steps.body_paragraph place name state.old) out.new state.new }
 {
     if state.has_content {
         state.context = state.context.flat();
@@ -66,8 +64,7 @@ fn comma() -> GeneratedWord
 
 // Begins a field of the open reference: `%A` and so on.
 fn give_next_field<O: PieceOut>(out: &mut O, place: Place, state: &mut Formatting)
-    ensures { GivesOutcome O.left out.old
-        (steps.next_of state.old.context.fields (record state.old.context { fields = Begun }) place state.old)
+    ensures { GivesOutcome O.left out.old (steps.next_of state.old.context.fields (record state.old.context { fields = Begun }) place state.old)
         out.new state.new }
 {
     match state.context.fields {
@@ -79,8 +76,7 @@ fn give_next_field<O: PieceOut>(out: &mut O, place: Place, state: &mut Formattin
 
 // Begins an argument of the open function: `Fa`.
 fn give_next_argument<O: PieceOut>(out: &mut O, place: Place, state: &mut Formatting)
-    ensures { GivesOutcome O.left out.old
-        (steps.next_of state.old.context.arguments (record state.old.context { arguments = Begun }) place state.old)
+    ensures { GivesOutcome O.left out.old (steps.next_of state.old.context.arguments (record state.old.context { arguments = Begun }) place state.old)
         out.new state.new }
 {
     match state.context.arguments {
@@ -104,9 +100,7 @@ fn include_word() -> GeneratedWord
 
 // Later rows are further in by the columns of a name that has begun a row.
 fn give_name_hang<O: PieceOut>(out: &mut O, state: &mut Formatting)
-    ensures { GivesOutcome O.left out.old
-        (steps.name_hung state.old.line.name_columns state.old)
-        out.new state.new }
+    ensures { GivesOutcome O.left out.old (steps.name_hung state.old.line.name_columns state.old) out.new state.new }
 {
     if let Some(columns) = state.line.name_columns {
         state.context = state.context.name_ended(columns);
@@ -122,9 +116,7 @@ fn give_synopsis_step<O: PieceOut>(
     step: SynopsisStep,
     state: &mut Formatting,
 )
-    ensures { GivesOutcome O.left out.old
-        (steps.synopsis_step place step state.old)
-        out.new state.new }
+    ensures { GivesOutcome O.left out.old (steps.synopsis_step place step state.old) out.new state.new }
 {
     match step {
         SynopsisStep::Break => {
@@ -149,8 +141,7 @@ fn give_if_synopsis<O: PieceOut>(
     step: SynopsisStep,
     state: &mut Formatting,
 )
-    ensures { GivesOutcome O.left out.old
-        (if in_synopsis state.old.context then steps.synopsis_step place step state.old else nothing state.old)
+    ensures { GivesOutcome O.left out.old (if in_synopsis state.old.context then steps.synopsis_step place step state.old else nothing state.old)
         out.new state.new }
 {
     if in_synopsis(&state.context) {
@@ -178,9 +169,7 @@ pub(crate) fn give_step<O: PieceOut>(
     state: &mut Formatting,
 )
     requires { StepFits (step_view step.now) }
-    ensures { GivesOutcome O.left out.old
-        (steps.step_outcome place (step_view step.now) name.now state.old)
-        out.new state.new }
+    ensures { GivesOutcome O.left out.old (steps.step_outcome place (step_view step.now) name.now state.old) out.new state.new }
 {
     match *step {
         LineStep::NextColumn => give_column_step(out, place, state),

@@ -56,9 +56,7 @@ pub(crate) fn give_target<O: PieceOut>(
     target: &KeptText,
     state: &mut Formatting,
 )
-    ensures { GivesOutcome O.left out.old
-        (targets.target_word place target.now state.old)
-        out.new state.new }
+    ensures { GivesOutcome O.left out.old (targets.target_word place target.now state.old) out.new state.new }
 {
     let is_literal = state.context.is_literal.value;
     give_kept_gap(out, state, place);

@@ -36,8 +36,7 @@ pub fn in_columns(context: &Context) -> bool
 
 // Begins the next column, where the innermost list has columns.
 fn give_next_column<O: PieceOut>(out: &mut O, state: &mut Formatting)
-    ensures { GivesOutcome O.left out.old (cells.next_column state.old.context.list state.old)
-        out.new state.new }
+    ensures { GivesOutcome O.left out.old (cells.next_column state.old.context.list state.old) out.new state.new }
 {
     if let Some(list) = state.context.list {
         if list.has_columns() {
@@ -52,8 +51,7 @@ fn give_next_column<O: PieceOut>(out: &mut O, state: &mut Formatting)
 
 /// Begins the next column: `Ta`.
 pub fn give_column_step<O: PieceOut>(out: &mut O, place: Place, state: &mut Formatting)
-    ensures { GivesOutcome O.left out.old (cells.column_step place state.old.context.list state.old)
-        out.new state.new }
+    ensures { GivesOutcome O.left out.old (cells.column_step place state.old.context.list state.old) out.new state.new }
 {
     if state.context.list.is_some() {
         give_next_column(out, state);
@@ -205,8 +203,7 @@ fn other_cells<'a>(span: CellSpan, phrase: &Phrase<&'a [u8]>) -> Phrase<&'a [u8]
 // Gives the words of a cell on a line, where it has any.
 fn give_cell<O: PieceOut>(out: &mut O, line: u32, phrase: &Phrase<&[u8]>, state: &mut Formatting)
     requires { FitsAt phrase.now.column phrase.now.text.now }
-    ensures { GivesOutcome O.left out.old (cells.cell line (phrase_view phrase.now) state.old)
-        out.new state.new }
+    ensures { GivesOutcome O.left out.old (cells.cell line (phrase_view phrase.now) state.old) out.new state.new }
 {
     if !phrase.text.is_empty() {
         give_phrase(out, line, phrase, state);
@@ -215,8 +212,7 @@ fn give_cell<O: PieceOut>(out: &mut O, line: u32, phrase: &Phrase<&[u8]>, state:
 
 // A tab begins the next column.
 fn give_tab<O: PieceOut>(out: &mut O, state: &mut Formatting)
-    ensures { GivesOutcome O.left out.old (cells.tab_step state.old)
-        out.new state.new }
+    ensures { GivesOutcome O.left out.old (cells.tab_step state.old) out.new state.new }
 {
     state.line.has_row_words = state.line.has_row_words || is_text(state.context.part);
     give_next_column(out, state);
@@ -232,8 +228,7 @@ fn give_first_cell<O: PieceOut>(
 )
     requires end { span.end ≤ length phrase.now.text.now }
     requires fits { FitsAt phrase.now.column phrase.now.text.now }
-    ensures { GivesOutcome O.left out.old (cells.first_part span line (phrase_view phrase.now) state.old)
-        out.new state.new }
+    ensures { GivesOutcome O.left out.old (cells.first_part span line (phrase_view phrase.now) state.old) out.new state.new }
 {
     give_cell(out, line, &first_cell(span, phrase), state);
     give_tab(out, state);
@@ -248,8 +243,7 @@ pub(crate) fn give_cells<O: PieceOut>(
     state: &mut Formatting,
 )
     requires { FitsAt phrase.now.column phrase.now.text.now }
-    ensures { GivesOutcome O.left out.old (cells.cells line (phrase_view phrase.now) state.old)
-        out.new state.new }
+    ensures { GivesOutcome O.left out.old (cells.cells line (phrase_view phrase.now) state.old) out.new state.new }
 {
     let mut left = *phrase;
     let mut span = find_cell(left.is_quoted, left.text);
@@ -263,8 +257,7 @@ pub(crate) fn give_cells<O: PieceOut>(
 
 // Gives a byte of white space in columns: a tab begins the next one.
 fn give_white_byte<O: PieceOut>(out: &mut O, byte: u8, state: &mut Formatting)
-    ensures { GivesOutcome O.left out.old (cells.white_byte byte state.old)
-        out.new state.new }
+    ensures { GivesOutcome O.left out.old (cells.white_byte byte state.old) out.new state.new }
 {
     if byte == b'\t' {
         give_tab(out, state);
@@ -273,8 +266,7 @@ fn give_white_byte<O: PieceOut>(out: &mut O, byte: u8, state: &mut Formatting)
 
 /// Gives white space in columns: each tab begins the next one.
 pub fn give_white_columns<O: PieceOut>(out: &mut O, white: &[u8], state: &mut Formatting)
-    ensures { GivesOutcome O.left out.old (cells.white_columns white.now state.old)
-        out.new state.new }
+    ensures { GivesOutcome O.left out.old (cells.white_columns white.now state.old) out.new state.new }
 {
     for byte in white {
         give_white_byte(out, *byte, state);

@@ -37,8 +37,7 @@ fn semicolon() -> GeneratedWord
 
 // Gives the end of a row.
 fn give_row_break<O: PieceOut>(out: &mut O, state: &mut Formatting)
-    ensures { GivesOutcome O.left out.old (row_break state.old)
-        out.new state.new }
+    ensures { GivesOutcome O.left out.old (row_break state.old) out.new state.new }
 {
     out.give(Piece::Break);
     state.end_row();
@@ -46,9 +45,7 @@ fn give_row_break<O: PieceOut>(out: &mut O, state: &mut Formatting)
 
 // Gives what ends a declaration of a function, which is in the SYNOPSIS.
 fn give_declaration_end<O: PieceOut>(out: &mut O, place: Place, state: &mut Formatting)
-    ensures { GivesOutcome O.left out.old
-        (ends.declaration_end place state.old)
-        out.new state.new }
+    ensures { GivesOutcome O.left out.old (ends.declaration_end place state.old) out.new state.new }
 {
     if in_synopsis(&state.context) {
         give_generated_word(out, place, semicolon(), state);
@@ -59,9 +56,7 @@ fn give_declaration_end<O: PieceOut>(out: &mut O, place: Place, state: &mut Form
 /// Gives the end of a function, of `Fn` or of `Fo`: what closes its arguments, and in the SYNOPSIS a semicolon and the end of the row.
 #[tactic(auto, unfolding(crate::specs::FunctionEnds::function_end))]
 pub fn give_function_end<O: PieceOut>(out: &mut O, place: Place, state: &mut Formatting)
-    ensures { GivesOutcome O.left out.old
-        (ends.function_end place state.old)
-        out.new state.new }
+    ensures { GivesOutcome O.left out.old (ends.function_end place state.old) out.new state.new }
 {
     give_generated_word(out, place, closing_mark(), state);
     give_declaration_end(out, place, state);

@@ -76,8 +76,7 @@ fn word_phrase<'a>(word: &Word<&'a [u8]>) -> Phrase<&'a [u8]>
 #[inline(always)]
 fn give_parted<O: PieceOut>(out: &mut O, line: u32, phrase: &Phrase<&[u8]>, state: &mut Formatting)
     requires { FitsAt phrase.now.column phrase.now.text.now }
-    ensures { GivesOutcome O.left out.old (text_outcome line (phrase_view phrase.now) state.old)
-        out.new state.new }
+    ensures { GivesOutcome O.left out.old (text_outcome line (phrase_view phrase.now) state.old) out.new state.new }
 {
     if in_columns(&state.context) && !phrase.text.is_empty() {
         give_cells(out, line, phrase, state);
@@ -96,9 +95,7 @@ pub fn give_line_word<O: PieceOut>(
     state: &mut Formatting,
 )
     requires { FitsAt word.now.arg.column word.now.arg.text.now }
-    ensures { GivesOutcome O.left out.old
-        (lines.line_word line (word_view word.now) state.old)
-        out.new state.new }
+    ensures { GivesOutcome O.left out.old (lines.line_word line (word_view word.now) state.old) out.new state.new }
 {
     report_quote(out, line, word.arg.quoting, word.arg.column);
     give_parted(out, line, &word_phrase(word), state);
@@ -122,9 +119,7 @@ pub fn give_generated_word<O: PieceOut>(
     word: GeneratedWord,
     state: &mut Formatting,
 )
-    ensures { GivesOutcome O.left out.old
-        (lines.generated_word place word state.old)
-        out.new state.new }
+    ensures { GivesOutcome O.left out.old (lines.generated_word place word state.old) out.new state.new }
 {
     let phrase = generated_phrase(place, state.context.has_spacing.value, word);
     give_phrase(out, place.line, &phrase, state);

@@ -63,9 +63,7 @@ fn nameless(place: Place) -> Phrase<&'static [u8]>
 // Gives the word of a manual without a name.
 #[tactic(auto, unfolding(crate::specs::ManualNames::missing_name))]
 fn give_nameless<O: PieceOut>(out: &mut O, place: Place, state: &mut Formatting)
-    ensures { GivesOutcome O.left out.old
-        (names.missing_name place state.old)
-        out.new state.new }
+    ensures { GivesOutcome O.left out.old (names.missing_name place state.old) out.new state.new }
 {
     report(out, NoteKind::MissingName, place, b"");
     give_phrase(out, place.line, &nameless(place), state);
@@ -95,9 +93,7 @@ fn has_gap_cells(state: &Formatting) -> bool
 // Gives a name in bold.
 #[tactic(auto, unfolding(crate::specs::ManualNames::name_word))]
 fn give_name_word<O: PieceOut>(out: &mut O, place: Place, name: &ManualName, state: &mut Formatting)
-    ensures { GivesOutcome O.left out.old
-        (names.name_word place name.now state.old)
-        out.new state.new }
+    ensures { GivesOutcome O.left out.old (names.name_word place name.now state.old) out.new state.new }
 {
     let is_literal = state.context.is_literal.value;
     let gap = state.next_gap();
@@ -122,9 +118,7 @@ pub fn give_manual_name<O: PieceOut>(
     name: &Option<ManualName>,
     state: &mut Formatting,
 )
-    ensures { GivesOutcome O.left out.old
-        (names.manual_name place name.now state.old)
-        out.new state.new }
+    ensures { GivesOutcome O.left out.old (names.manual_name place name.now state.old) out.new state.new }
 {
     match name {
         Some(name) => give_name_word(out, place, name, state),

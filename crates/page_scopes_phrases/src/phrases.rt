@@ -212,9 +212,7 @@ pub fn give_phrase<O: PieceOut>(
     state: &mut Formatting,
 )
     requires { FitsAt phrase.now.column phrase.now.text.now }
-    ensures { GivesOutcome O.left out.old
-        (phrases.phrase_outcome line (phrase_view phrase.now) state.old)
-        out.new state.new }
+    ensures { GivesOutcome O.left out.old (phrases.phrase_outcome line (phrase_view phrase.now) state.old) out.new state.new }
 {
     let style = phrase_style(phrase, &state.context);
     let mut pen = phrase_pen(phrase, state);
