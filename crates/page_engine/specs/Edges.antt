@@ -16,9 +16,8 @@ use Rattle.page_roff_source.specs.declared.counts.Counts.{Counts}
 use Rattle.page_scopes.specs.Edges.{PageEdge}
 use Rattle.page_scopes.specs.declared.layouts.Kept.{Kept}
 use Rattle.page_scopes_tree.specs.declared.nestings.Scope.{Scope}
-use Rattle.page_scopes_layout.specs.declared.contexts.Context.{Context}
+use Rattle.page_scopes_phrases.specs.declared.formatting.Formatting.{Formatting}
 use Rattle.page_scopes_phrases.specs.declared.kept_texts.KeptText.{KeptText}
-use Rattle.page_scopes_phrases.specs.declared.runnings.Running.{Running}
 use Rattle.page_scopes_labels.specs.declared.labels.Label.{Label}
 use Rattle.page_sets.specs.declared.either.Either.{Either}
 
@@ -33,15 +32,14 @@ pub record RoffPart : Type 0 where
   pub counts : Counts
 
 -- Where the macros are: their set, and whether a line or the settings decided it; the fields of the title; whether the rest of a line is passed over,
--- and the open scopes; the context, what is known along the page, whether its body has begun, and the manual's name.
+-- and the open scopes; what the page is formatted by, whether its body has begun, and the manual's name.
 pub record BodyPart : Type 0 where
   pub set : Either
   pub is_decided : Bool
   pub fields : Fields
   pub mode : Bool
   pub scopes : List (Scope Label Kept)
-  pub context : Context
-  pub running : Running
+  pub formatting : Formatting
   pub has_begun : Bool
   pub name : Option KeptText
 
@@ -107,8 +105,7 @@ scopes_at e = record {
   scopes = e.body.scopes;
   state = record {
     page = record { indent = indent_of e.indent e.body.set; output = e.fill.output };
-    context = e.body.context;
-    running = e.body.running;
+    formatting = e.body.formatting;
     has_begun = e.body.has_begun;
     name = e.body.name;
   };
@@ -129,8 +126,7 @@ body_part b = record {
   fields = b.header.fields;
   mode = b.scopes.mode;
   scopes = b.scopes.scopes;
-  context = b.scopes.state.context;
-  running = b.scopes.state.running;
+  formatting = b.scopes.state.formatting;
   has_begun = b.scopes.state.has_begun;
   name = b.scopes.state.name;
 }

@@ -3,11 +3,10 @@ use Rattle.std.proofs.Common.{◌≡◌, ℕ, zero, suc, ◌<◌, ◌≤◌, ◌
 use Rattle.std.specs.List.{prefix_len}
 use Rattle.std.proofs.lemmas.Bool.{cases_Bool}
 use Rattle.std.proofs.lemmas.Bool.Decides.{nat_tests}
-use Rattle.page_scopes_layout.specs.declared.contexts.Context.{Context}
 use Rattle.page_scopes_phrases.specs.Cells.{after_tab, cell, cells, cells_within, first_part, has_tab, other_cells, span, without_blanks}
 use Rattle.page_scopes_phrases.specs.Outcomes.{Outcome, followed_by}
+use Rattle.page_scopes_phrases.specs.declared.formatting.Formatting.{Formatting}
 use Rattle.page_scopes_phrases.specs.declared.phrases.Phrase.{Phrase}
-use Rattle.page_scopes_phrases.specs.declared.runnings.Running.{Running}
 
 -- after a tab there is less
 after_tab-less : (text : List ℕ) → 0 < length text → length (after_tab text) < length text
@@ -32,33 +31,33 @@ no-tab p h = grind (arith, nat_tests, h)
 
 -- what comes first, and then this
 abbrev then : Outcome → Outcome → Outcome
-then first next = record { items = first.items ++ next.items; context = next.context; running = next.running }
+then first next = record { items = first.items ++ next.items; state = next.state }
 
 -- enough steps are as good as more
-cells-same : (n m line : ℕ) (p : Phrase (List ℕ)) (c : Context) (r : Running) → length p.text ≤ n → length p.text ≤ m
-    → cells_within n line p c r ≡ cells_within m line p c r
+cells-same : (n m line : ℕ) (p : Phrase (List ℕ)) (s : Formatting) → length p.text ≤ n → length p.text ≤ m
+    → cells_within n line p s ≡ cells_within m line p s
 unfolding cells_within
-cells-same zero zero line p c r below above = refl
-cells-same zero (suc m) line p c r below above = rw (no-tab p below) refl
-cells-same (suc n) zero line p c r below above = rw (no-tab p above) refl
-cells-same (suc n) (suc m) line p c r below above = elim (cases_Bool (has_tab p)) [
+cells-same zero zero line p s below above = refl
+cells-same zero (suc m) line p s below above = rw (no-tab p below) refl
+cells-same (suc n) zero line p s below above = rw (no-tab p above) refl
+cells-same (suc n) (suc m) line p s below above = elim (cases_Bool (has_tab p)) [
   | inl e ↦
       let less = other-less p e in
-      let first = first_part (span p) line p c r in
-      rw e (ap (then first) (cells-same n m line (other_cells (span p) p) first.context first.running (omega arith) (omega arith)))
+      let first = first_part (span p) line p s in
+      rw e (ap (then first) (cells-same n m line (other_cells (span p) p) first.state (omega arith) (omega arith)))
   | inr e ↦ rw e refl
 ]
 
-pub cells-next : (line : ℕ) (p : Phrase (List ℕ)) (c : Context) (r : Running) → cells line p c r
-    ≡ cond (has_tab p) (followed_by (first_part (span p) line p c r) (cells line (other_cells (span p) p))) (cell line p c r)
+pub cells-next : (line : ℕ) (p : Phrase (List ℕ)) (s : Formatting) → cells line p s
+    ≡ cond (has_tab p) (followed_by (first_part (span p) line p s) (cells line (other_cells (span p) p))) (cell line p s)
 unfolding cells_within
-cells-next line p c r =
-    cells-same (length p.text) (suc (length p.text)) line p c r (omega arith) (omega arith)
+cells-next line p s =
+    cells-same (length p.text) (suc (length p.text)) line p s (omega arith) (omega arith)
     ∙ elim (cases_Bool (has_tab p)) [
       | inl e ↦
           let less = other-less p e in
           let q = other_cells (span p) p in
-          let first = first_part (span p) line p c r in
-          rw e (ap (then first) (cells-same (length p.text) (length q.text) line q first.context first.running (omega arith) (omega arith)))
+          let first = first_part (span p) line p s in
+          rw e (ap (then first) (cells-same (length p.text) (length q.text) line q first.state (omega arith) (omega arith)))
       | inr e ↦ rw e refl
     ]

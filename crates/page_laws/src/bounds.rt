@@ -15,11 +15,10 @@ ghost use Rattle.page_roff_source.specs.Edges.{SourceLine, first_edge};
 ghost use Rattle.page_roff_source.specs.Given.{done as done_lines};
 ghost use Rattle.page_roff_syntax.specs.Arguments.{argument_name, argument_value};
 ghost use Rattle.page_roff_syntax.specs.declared.quotes.Argument.{Argument as AnyArgument};
-ghost use Rattle.page_scopes_layout.specs.declared.contexts.Context.{Context as AnyContext};
 ghost use Rattle.page_scopes_phrases.specs.Cells.{cell, cells, first_part, has_tab, other_cells, span};
 ghost use Rattle.page_scopes_phrases.specs.Outcomes.{followed_by};
+ghost use Rattle.page_scopes_phrases.specs.declared.formatting.Formatting.{Formatting as AnyFormatting};
 ghost use Rattle.page_scopes_phrases.specs.declared.phrases.Phrase.{Phrase as AnyPhrase};
-ghost use Rattle.page_scopes_phrases.specs.declared.runnings.Running.{Running as AnyRunning};
 ghost use Rattle.page_laws.specs.Contents.{content_from};
 ghost use Rattle.page_laws.specs.Operations.{done, operand_of};
 
@@ -55,10 +54,10 @@ pub fn operations_law()
 /// A text in the columns of a list is its first cell, and then the cells after its first tab, where it has one: the number of steps in its definition is no
 /// limit (mdoc(7), `Bl -column`).
 pub fn cells_law()
-    ensures { (line : ℕ) (phrase : AnyPhrase (List ℕ)) (context : AnyContext) (running : AnyRunning) → cells line phrase context running
+    ensures { (line : ℕ) (phrase : AnyPhrase (List ℕ)) (state : AnyFormatting) → cells line phrase state
         ≡ (if has_tab phrase
-        then followed_by (first_part (span phrase) line phrase context running) (cells line (other_cells (span phrase) phrase))
-        else cell line phrase context running) }
+        then followed_by (first_part (span phrase) line phrase state) (cells line (other_cells (span phrase) phrase))
+        else cell line phrase state) }
 {}
 
 /// A name within its limit is all that its argument says, and one above it stays above it: the room of a name leaves nothing out that makes a difference

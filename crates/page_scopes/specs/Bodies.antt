@@ -10,11 +10,11 @@ use Rattle.page_roff_syntax.specs.declared.quotes.Argument.{Argument}
 use Rattle.page_scopes_blocks.specs.NameHangs.{kind_counted}
 use Rattle.page_scopes_layout.specs.Nodes.{margin_items}
 use Rattle.page_scopes_layout.specs.declared.contexts.Context.{Context}
-use Rattle.page_scopes_leaves.specs.EventKinds.{kind_outcome, name_after}
+use Rattle.page_scopes_nodes.specs.EventKinds.{kind_outcome, name_after}
 use Rattle.page_scopes_phrases.specs.LineWords.{argument_word, line_word}
 use Rattle.page_scopes_phrases.specs.Outcomes.{Outcome, nothing, row_break}
 use Rattle.page_scopes_phrases.specs.declared.kept_texts.KeptText.{KeptText}
-use Rattle.page_scopes_phrases.specs.declared.runnings.Running.{Running}
+use Rattle.page_scopes_phrases.specs.declared.formatting.Formatting.{Formatting}
 use Rattle.page_scopes_words.specs.Numbers.{number_notes}
 use Rattle.page_scopes_tree.specs.declared.acts.Act.{Act}
 use Rattle.page_scopes_tree.specs.declared.acts.Act.TheVariants as acts
@@ -83,12 +83,12 @@ closer_suffix (closers.Target link argument) = argument
 closer_suffix (closers.Block (block_closers.Custom mark)) = mark
 closer_suffix _ = None
 
-abbrev pub given_suffix : ℕ → Option (Argument (List ℕ)) → Context → Running → Outcome
-given_suffix line None c r = nothing c r
-given_suffix line (Some argument) c r = line_word line (argument_word None Glued argument) c r
+abbrev pub given_suffix : ℕ → Option (Argument (List ℕ)) → Formatting → Outcome
+given_suffix line None s = nothing s
+given_suffix line (Some argument) s = line_word line (argument_word None Glued argument) s
 
-abbrev pub suffix : ℕ → Closer (List ℕ) → Context → Running → Outcome
-suffix line closer c r = given_suffix line (closer_suffix closer) c r
+abbrev pub suffix : ℕ → Closer (List ℕ) → Formatting → Outcome
+suffix line closer s = given_suffix line (closer_suffix closer) s
 
 -- before the body requests, blank lines and lines without a word give nothing
 abbrev pub is_early : Leaf (List ℕ) → (has_begun : Bool) → Bool
@@ -97,16 +97,16 @@ is_early (leaves.Wordless text) has_begun = not has_begun
 is_early (leaves.Request request) has_begun = not has_begun
 is_early _ has_begun = false
 
-abbrev pub kind_stands : Place → EventKind (List ℕ) → Option KeptText → (has_begun : Bool) → Context → Running → Outcome
-kind_stands place (kinds.Close closer) name has_begun c r = suffix place.line closer c r
-kind_stands place (kinds.Leaf leaf) name has_begun c r =
-    if is_early leaf has_begun then nothing c r else kind_outcome place (kinds.Leaf leaf) name c r
-kind_stands place kind name has_begun c r = kind_outcome place kind name c r
+abbrev pub kind_stands : Place → EventKind (List ℕ) → Option KeptText → (has_begun : Bool) → Formatting → Outcome
+kind_stands place (kinds.Close closer) name has_begun s = suffix place.line closer s
+kind_stands place (kinds.Leaf leaf) name has_begun s =
+    if is_early leaf has_begun then nothing s else kind_outcome place (kinds.Leaf leaf) name s
+kind_stands place kind name has_begun s = kind_outcome place kind name s
 
 -- with the columns of a name that begins a row of the SYNOPSIS; the name is that of the manual; at the page's end the row ends
-unfoldable pub stands : Output → Act (Event (List ℕ)) → Option KeptText → (has_begun : Bool) → Context → Running → Outcome
-stands output (acts.Event event) name has_begun c r = kind_stands event.place event.kind name has_begun c (kind_counted output event.kind name r)
-stands output (acts.PageEnd line) name has_begun c r = row_break c r
+unfoldable pub stands : Output → Act (Event (List ℕ)) → Option KeptText → (has_begun : Bool) → Formatting → Outcome
+stands output (acts.Event event) name has_begun s = kind_stands event.place event.kind name has_begun (kind_counted output event.kind name s)
+stands output (acts.PageEnd line) name has_begun s = row_break s
 
 abbrev pub act_name : Act (Event (List ℕ)) → Option KeptText → Option KeptText
 act_name (acts.Event event) name = name_after event.kind name

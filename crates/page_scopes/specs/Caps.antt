@@ -26,6 +26,6 @@ ListsFit (scope ∷ scopes) = WidthsFit scope.before.context × ListsFit scopes
 pub record ScopesFit (edge : PageEdge) : Type 0 where
   pub targets : TargetsFit edge.scopes
   pub lists : ListsFit edge.scopes
-  pub widths : WidthsFit edge.state.context
+  pub widths : WidthsFit edge.state.formatting.context
   pub depth : length edge.scopes ≤ SCOPES
   pub name : IfSome edge.state.name (λ name. length name.text ≤ FIELD)

@@ -9,7 +9,7 @@ use Rattle.page_scopes.specs.declared.layouts.Kept.{Kept}
 use Rattle.page_scopes.specs.declared.layouts.LayoutState.{LayoutState}
 use Rattle.page_scopes_nodes.specs.declared.page_layouts.PageLayout.{PageLayout}
 
--- scopes' part of a page's edge: the open scopes, the context, and what is known along the page
+-- scopes' part of a page's edge: the open scopes, and what the page is formatted by
 abbrev pub PageEdge : Type 0
 PageEdge = ScopesEdge LayoutState Kept
 

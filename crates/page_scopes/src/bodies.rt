@@ -3,7 +3,7 @@
 ghost use Rattle.std.specs.Prelude.{◌≡◌};
 ghost use Rattle.page_core_base.specs.Latches.{Came};
 ghost use Rattle.page_scopes.specs.Bodies as bodies;
-ghost use Rattle.page_scopes_leaves.specs.EventKinds.{name_after};
+ghost use Rattle.page_scopes_nodes.specs.EventKinds.{name_after};
 ghost use Rattle.page_sets_lines.specs.Fits.{CloserFits, KindFits};
 ghost use Rattle.page_scopes_phrases.specs.Outcomes.{GivesOutcome};
 ghost use Rattle.page_scopes_tree.specs.Acts.{TakesAct, act_view};
@@ -16,8 +16,8 @@ use page_core_numbers::Scale;
 use page_roff_syntax::Argument;
 use page_scopes_blocks::count_name;
 use page_scopes_layout::{Context, give_margins};
-use page_scopes_leaves::give_kind;
-use page_scopes_phrases::{ManualName, Running, argument_word, give_line_word};
+use page_scopes_nodes::give_kind;
+use page_scopes_phrases::{Formatting, ManualName, argument_word, give_line_word};
 use page_scopes_tree::Act;
 use page_scopes_words::{give_number, report};
 use page_sets_lines::{
@@ -150,21 +150,13 @@ fn closer_suffix<'a>(closer: &Closer<&'a [u8]>) -> Option<Argument<&'a [u8]>>
 
 // Gives the suffix of a closer.
 #[inline(never)]
-fn give_suffix<O: PieceOut>(
-    out: &mut O,
-    line: u32,
-    closer: &Closer<&[u8]>,
-    context: &mut Context,
-    running: &mut Running,
-)
+fn give_suffix<O: PieceOut>(out: &mut O, line: u32, closer: &Closer<&[u8]>, state: &mut Formatting)
     requires { CloserFits (closer_view closer.now) }
-    ensures { GivesOutcome O.left out.old
-        (bodies.suffix line (closer_view closer.now) context.old running.old)
-        out.new context.new running.new }
+    ensures { GivesOutcome O.left out.old (bodies.suffix line (closer_view closer.now) state.old) out.new state.new }
 {
     if let Some(suffix) = closer_suffix(closer) {
         let word = argument_word(None, Join::Glued, suffix);
-        give_line_word(out, line, &word, context, running);
+        give_line_word(out, line, &word, state);
     }
 }
 
@@ -183,26 +175,24 @@ fn give_kind_standing<O: PieceOut>(
     kind: &EventKind<&[u8]>,
     name: &mut Option<ManualName>,
     has_begun: bool,
-    context: &mut Context,
-    running: &mut Running,
+    state: &mut Formatting,
 )
     requires { KindFits (kind_view kind.now) }
-    ensures gives { GivesOutcome O.left out.old
-        (bodies.kind_stands place (kind_view kind.now) name.old has_begun context.old running.old)
-        out.new context.new running.new }
+    ensures gives { GivesOutcome O.left out.old (bodies.kind_stands place (kind_view kind.now) name.old has_begun state.old)
+        out.new state.new }
     ensures name { name.new ≡ name_after (kind_view kind.now) name.old }
 {
     match kind {
         EventKind::Close(closer) => {
             let closer = *closer;
-            give_suffix(out, place.line, &closer, context, running);
+            give_suffix(out, place.line, &closer, state);
         }
         EventKind::Leaf(leaf) => {
             if !is_early(leaf, has_begun) {
-                give_kind(out, place, kind, name, context, running);
+                give_kind(out, place, kind, name, state);
             }
         }
-        _ => give_kind(out, place, kind, name, context, running),
+        _ => give_kind(out, place, kind, name, state),
     }
 }
 
@@ -215,31 +205,21 @@ pub(crate) fn give_standing<O: PieceOut>(
     act: &Act<&Event<&[u8]>>,
     name: &mut Option<ManualName>,
     has_begun: bool,
-    context: &mut Context,
-    running: &mut Running,
+    state: &mut Formatting,
 )
     requires { TakesAct (λ event. KindFits event.kind) (act_view act.now) }
-    ensures gives { GivesOutcome O.left out.old
-        (bodies.stands output (act_view act.now) name.old has_begun context.old running.old)
-        out.new context.new running.new }
+    ensures gives { GivesOutcome O.left out.old (bodies.stands output (act_view act.now) name.old has_begun state.old)
+        out.new state.new }
     ensures name { name.new ≡ bodies.act_name (act_view act.now) name.old }
 {
     match act {
         Act::Event(event) => {
-            count_name(output, &event.kind, name, running);
-            give_kind_standing(
-                out,
-                event.place,
-                &event.kind,
-                name,
-                has_begun,
-                context,
-                running,
-            );
+            count_name(output, &event.kind, name, state);
+            give_kind_standing(out, event.place, &event.kind, name, has_begun, state);
         }
         Act::PageEnd(_) => {
             out.give(Piece::Break);
-            running.end_row();
+            state.end_row();
         }
     }
 }

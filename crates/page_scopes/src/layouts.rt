@@ -12,7 +12,7 @@ use page_roff_syntax::Argument;
 use page_scopes_labels::Label;
 use page_scopes_layout::Context;
 use page_scopes_nodes::{PageLayout, give_begun, give_ended};
-use page_scopes_phrases::{KeptText, ManualName, Running};
+use page_scopes_phrases::{Formatting, KeptText, ManualName};
 use page_scopes_tree::{Act, Renderer, Scope};
 use page_sets_lines::{Event, EventKind, Opener};
 
@@ -20,8 +20,8 @@ use page_sets_lines::{Event, EventKind, Opener};
 #[derive(Drop)]
 pub struct LayoutState {
     pub page: PageLayout,
-    pub context: Context,
-    pub running: Running,
+    /// What the page is formatted by.
+    pub formatting: Formatting,
     /// The body of the page has begun.
     pub has_begun: bool,
     /// The name of the manual, which `Nm` gives.
@@ -74,8 +74,7 @@ impl LayoutState {
     {
         LayoutState {
             page,
-            context: self.context,
-            running: self.running,
+            formatting: self.formatting,
             has_begun: self.has_begun,
             name: name_copy(&self.name),
         }
@@ -87,8 +86,7 @@ impl LayoutState {
     {
         LayoutState {
             page,
-            context: Context::start(page.indent),
-            running: Running::start(),
+            formatting: Formatting::start(page.indent),
             has_begun: false,
             name: None,
         }
@@ -99,13 +97,13 @@ impl LayoutState {
     fn keep_link(&self, label: Label, target: Argument<&[u8]>, scopes: &mut Vec<Scope<Label, Kept>>)
         requires { vec_len scopes.old < vec_capacity scopes.old }
         ensures { Keeps scopes.old scopes.new
-            (record { label = label; before = record { context = self.now.context; target = Some (kept_of (argument_view target.entry)) } }
+            (record { label = label; before = record { context = self.now.formatting.context; target = Some (kept_of (argument_view target.entry)) } }
             ∷ reverse scopes.old.items) }
     {
         scopes.push_reserved(Scope {
             label,
             before: Kept {
-                context: self.context,
+                context: self.formatting.context,
                 target: Some(KeptText::of(target)),
             },
         });
@@ -133,7 +131,7 @@ impl Renderer for LayoutState {
             _ => scopes.push_reserved(Scope {
                 label,
                 before: Kept {
-                    context: self.context,
+                    context: self.formatting.context,
                     target: None,
                 },
             }),
@@ -141,7 +139,7 @@ impl Renderer for LayoutState {
     }
 
     fn begin<O: PieceOut>(&mut self, _label: Label, event: &Event<&[u8]>, out: &mut O) {
-        give_begun(out, &self.page, event, &mut self.context, &mut self.running);
+        give_begun(out, &self.page, event, &mut self.formatting);
     }
 
     #[inline(always)]
@@ -150,7 +148,7 @@ impl Renderer for LayoutState {
             out,
             event.place,
             &event.kind,
-            &self.context,
+            &self.formatting.context,
             &mut self.has_begun,
         );
     }
@@ -163,8 +161,7 @@ impl Renderer for LayoutState {
             act,
             &mut self.name,
             self.has_begun,
-            &mut self.context,
-            &mut self.running,
+            &mut self.formatting,
         );
     }
 
@@ -175,8 +172,7 @@ impl Renderer for LayoutState {
             &before.context,
             &before.target,
             place,
-            &mut self.context,
-            &mut self.running,
+            &mut self.formatting,
         );
     }
 }

@@ -1,7 +1,7 @@
 //! The scopes of a page, laid out: events in, pieces and messages out (man(7), mdoc(7)).
 //!
-//! It puts together the tree of scopes (`page_scopes_tree`), what they begin and end with (`page_scopes_nodes`) and what the other events give
-//! (`page_scopes_leaves`). Read `specs/Edges.antt` first (what events give, and what decides the rest), then `Tables.antt` and `Bodies.antt`.
+//! It puts together the tree of scopes (`page_scopes_tree`), and what they begin and end with and what the other events give
+//! (`page_scopes_nodes`). Read `specs/Edges.antt` first (what events give, and what decides the rest), then `Tables.antt` and `Bodies.antt`.
 //!
 //! Proved: `OpenScopes` (`new`, `copy`, `restart`, `give_event`, `give_end`, `begins_body`, `has_begun`, `depth`): over any set of macros, an event
 //! and the page's end give the layout of the block tree of the events so far, and leave what decides the rest (`specs/Edges.antt`, `Tables.antt`,

@@ -5,13 +5,12 @@ use Rattle.page_scopes_layout.specs.Begins.{entered_context}
 use Rattle.page_scopes_layout.specs.Lists.{item_begun}
 use Rattle.page_scopes_layout.specs.Margins.{hold}
 use Rattle.page_scopes_layout.specs.Nodes.{begin_items, margin_items}
-use Rattle.page_scopes_layout.specs.declared.contexts.Context.{Context}
 use Rattle.page_scopes_layout.specs.declared.lists.OpenList.{OpenList}
 use Rattle.page_scopes_phrases.specs.Outcomes.{Outcome, followed_by, nothing}
 use Rattle.page_scopes_phrases.specs.Phrases.{own_phrase}
-use Rattle.page_scopes_phrases.specs.Runnings.{row_ended}
+use Rattle.page_scopes_phrases.specs.Formatting.{in_context, row_ended}
 use Rattle.page_scopes_blocks.specs.Tags.{phrase_tag}
-use Rattle.page_scopes_phrases.specs.declared.runnings.Running.{Running}
+use Rattle.page_scopes_phrases.specs.declared.formatting.Formatting.{Formatting}
 use Rattle.page_scopes_blocks.specs.declared.tags.TagPlace.{TagPlace}
 use Rattle.page_scopes_labels.specs.declared.labels.Label.TheVariants as labels
 use Rattle.page_sets_lines.specs.declared.events.Join.TheVariants.{Apart}
@@ -32,23 +31,21 @@ abbrev pub mark_place : OpenList → TagPlace
 mark_place list = record { margin = list.head; hang = hold (pos list.hang) }
 
 -- a mark is a tag of its item's text; in other lists the text is at its margin
-abbrev pub given_mark : Place → OpenList → Option (List ℕ) → Context → Running → Outcome
-given_mark place list (Some mark) c r = phrase_tag (mark_place list) place.line (own_phrase place mark None Apart Apart) c r
-given_mark place list None c r = record { items = margin_items c; context = c; running = r }
+abbrev pub given_mark : Place → OpenList → Option (List ℕ) → Formatting → Outcome
+given_mark place list (Some mark) s = phrase_tag (mark_place list) place.line (own_phrase place mark None Apart Apart) s
+given_mark place list None s = record { items = margin_items s.context; state = s }
 
-abbrev pub mark : Place → Option OpenList → Context → Running → Outcome
-mark place (Some list) c r = given_mark place list (mark_of list.kind list.items) c r
-mark place None c r = nothing c r
+abbrev pub mark : Place → Option OpenList → Formatting → Outcome
+mark place (Some list) s = given_mark place list (mark_of list.kind list.items) s
+mark place None s = nothing s
 
 -- ---- items
 
-abbrev pub item_begins : Context → Running → Outcome
-item_begins c r = record {
-  items = begin_items labels.Item (item_begun c.list c);
-  context = item_begun c.list c;
-  running = row_ended r;
-}
+abbrev pub item_begins : Formatting → Outcome
+item_begins s =
+    let front = item_begun s.context.list s.context in
+    record { items = begin_items labels.Item front; state = row_ended (in_context front s) }
 
 -- after a blank row or in a new row, with its mark
-unfoldable pub item_opened : Place → Context → Running → Outcome
-item_opened place c r = followed_by (item_begins (entered_context c) r) (λ d s. mark place d.list d s)
+unfoldable pub item_opened : Place → Formatting → Outcome
+item_opened place s = followed_by (item_begins (in_context (entered_context s.context) s)) (λ t. mark place t.context.list t)

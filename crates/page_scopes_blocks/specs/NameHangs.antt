@@ -3,9 +3,9 @@ use Rattle.std.specs.Prelude.{ℕ, ◌+◌, false, min, List, Option, None, Some
 use Rattle.page_core_base.specs.declared.page_settings.Output.{Output}
 use Rattle.page_roff_syntax.specs.Arguments.{is_quoted}
 use Rattle.page_scopes_layout.specs.Margins.{MARGIN}
-use Rattle.page_scopes_phrases.specs.Runnings.{counting}
+use Rattle.page_scopes_phrases.specs.Formatting.{counting}
 use Rattle.page_scopes_phrases.specs.declared.kept_texts.KeptText.{KeptText}
-use Rattle.page_scopes_phrases.specs.declared.runnings.Running.{Running}
+use Rattle.page_scopes_phrases.specs.declared.formatting.Formatting.{Formatting}
 use Rattle.page_scopes_words.specs.Names.{name_columns}
 use Rattle.page_sets_lines.specs.declared.events.EventKind.{EventKind}
 use Rattle.page_sets_lines.specs.declared.events.EventKind.TheVariants as kinds
@@ -20,9 +20,9 @@ abbrev pub columns_after : ℕ → ℕ → ℕ
 columns_after so_far columns = min (so_far + columns + 1) MARGIN
 
 -- the words of a name are counted
-abbrev pub counted : Option ℕ → Option ℕ → Running → Running
-counted (Some so_far) (Some columns) r = counting (Some (columns_after so_far columns)) r
-counted _ _ r = r
+abbrev pub counted : Option ℕ → Option ℕ → Formatting → Formatting
+counted (Some so_far) (Some columns) s = counting (Some (columns_after so_far columns)) s
+counted _ _ s = s
 
 abbrev pub word_columns : Output → Role → Word (List ℕ) → Option ℕ
 word_columns output roles.Delimiter word = None
@@ -36,5 +36,5 @@ kind_columns output (kinds.Leaf (leaves.Step steps.ManualName)) (Some name) = So
 kind_columns output _ name = None
 
 -- before an event is laid out, on a page whose manual has this name
-unfoldable pub kind_counted : Output → EventKind (List ℕ) → Option KeptText → Running → Running
-kind_counted output kind name r = counted r.line.name_columns (kind_columns output kind name) r
+unfoldable pub kind_counted : Output → EventKind (List ℕ) → Option KeptText → Formatting → Formatting
+kind_counted output kind name s = counted s.line.name_columns (kind_columns output kind name) s

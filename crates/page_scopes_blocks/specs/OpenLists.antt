@@ -5,11 +5,11 @@ use Rattle.page_core_base.specs.declared.page_settings.Output.{Output}
 use Rattle.page_core_base.specs.declared.places.Place.{Place}
 use Rattle.page_scopes_layout.specs.Begins.{entered_context}
 use Rattle.page_scopes_layout.specs.Lists.{list_begun}
-use Rattle.page_scopes_layout.specs.declared.contexts.Context.{Context}
 use Rattle.page_scopes_layout.specs.declared.lists.ColumnWidths.{ColumnWidths}
 use Rattle.page_scopes_layout.specs.declared.lists.OpenList.{OpenList}
+use Rattle.page_scopes_phrases.specs.Formatting.{in_context}
 use Rattle.page_scopes_phrases.specs.Outcomes.{Outcome, after_notes, at_margins}
-use Rattle.page_scopes_phrases.specs.declared.runnings.Running.{Running}
+use Rattle.page_scopes_phrases.specs.declared.formatting.Formatting.{Formatting}
 use Rattle.page_sets_lines.specs.ControlLines.{arguments_after}
 use Rattle.page_sets_lines.specs.Lists.{list_options}
 use Rattle.page_sets_lines.specs.declared.lists.ListKind.{ListKind}
@@ -41,11 +41,11 @@ abbrev pub list_notes : Output → Place → ListKind → List ℕ → ListOptio
 list_notes output place kind text options =
     given_notes place options.width ++ (given_notes place options.offset ++ cut_notes place (columns_of output kind text))
 
-abbrev pub list_by : SaidList → Context → Running → Outcome
-list_by said c r = at_margins (list_begun said.list (unwrap_or said.offset (pos 0)) (entered_context c)) r
+abbrev pub list_by : SaidList → Formatting → Outcome
+list_by said s = at_margins (in_context (list_begun said.list (unwrap_or said.offset (pos 0)) (entered_context s.context)) s)
 
 -- a list of a type, compact or not, with these arguments
-unfoldable pub list_opened : Output → Place → ListKind → Bool → List ℕ → Context → Running → Outcome
-list_opened output place kind is_compact text c r =
+unfoldable pub list_opened : Output → Place → ListKind → Bool → List ℕ → Formatting → Outcome
+list_opened output place kind is_compact text s =
     after_notes (list_notes output place kind text (list_options (arguments_after 0 text)))
-    (list_by (said_list output kind is_compact text (list_options (arguments_after 0 text))) c r)
+    (list_by (said_list output kind is_compact text (list_options (arguments_after 0 text))) s)

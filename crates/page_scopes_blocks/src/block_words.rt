@@ -18,9 +18,9 @@ ghost use Rattle.page_sets_names.specs.declared.generated_texts.GeneratedText.Th
 use page_core_base::{Font, PieceOut, Place};
 use page_roff_syntax::Argument;
 use page_scopes_labels::{Explicit, Label};
-use page_scopes_layout::{Context, SeriesSoFar};
+use page_scopes_layout::SeriesSoFar;
 use page_scopes_phrases::{
-    Phrase, Running, argument_word, give_function_end, give_generated_word, give_line_word,
+    Formatting, Phrase, argument_word, give_function_end, give_generated_word, give_line_word,
     give_phrase,
 };
 use page_sets_lines::{
@@ -60,12 +60,10 @@ fn dash_phrase(place: Place) -> Phrase<&'static [u8]>
 }
 
 // Gives the dash of `Nd`.
-fn give_dash<O: PieceOut>(out: &mut O, place: Place, context: &mut Context, running: &mut Running)
-    ensures { GivesOutcome O.left out.old
-        (words.dash place context.old running.old)
-        out.new context.new running.new }
+fn give_dash<O: PieceOut>(out: &mut O, place: Place, state: &mut Formatting)
+    ensures { GivesOutcome O.left out.old (words.dash place state.old) out.new state.new }
 {
-    give_phrase(out, place.line, &dash_phrase(place), context, running);
+    give_phrase(out, place.line, &dash_phrase(place), state);
 }
 
 /// Gives the words that a line scope begins with, in the context of its front: the marks of `Aq Bq Brq Dq Op Pq Ql Qq Sq`, and the dash of `Nd`.
@@ -73,18 +71,15 @@ pub fn give_line_words<O: PieceOut>(
     out: &mut O,
     place: Place,
     opener: LineOpener,
-    context: &mut Context,
-    running: &mut Running,
+    state: &mut Formatting,
 )
-    ensures { GivesOutcome O.left out.old
-        (words.line_words place opener context.old running.old)
-        out.new context.new running.new }
+    ensures { GivesOutcome O.left out.old (words.line_words place opener state.old) out.new state.new }
 {
     match opener {
         LineOpener::Enclosure(marks) => {
-            give_generated_word(out, place, opening_word(marks), context, running);
+            give_generated_word(out, place, opening_word(marks), state);
         }
-        LineOpener::Description => give_dash(out, place, context, running),
+        LineOpener::Description => give_dash(out, place, state),
         _ => {}
     }
 }
@@ -104,16 +99,13 @@ fn give_mark<O: PieceOut>(
     out: &mut O,
     place: Place,
     mark: Option<Argument<&[u8]>>,
-    context: &mut Context,
-    running: &mut Running,
+    state: &mut Formatting,
 )
     requires { GivenFits (given_view mark) }
-    ensures { GivesOutcome O.left out.old
-        (words.block_words place (Custom (given_view mark.entry)) context.old running.old)
-        out.new context.new running.new }
+    ensures { GivesOutcome O.left out.old (words.block_words place (Custom (given_view mark.entry)) state.old) out.new state.new }
 {
     if let Some(mark) = mark {
-        give_line_word(out, place.line, &mark_word(mark), context, running);
+        give_line_word(out, place.line, &mark_word(mark), state);
     }
 }
 
@@ -122,20 +114,17 @@ pub(crate) fn give_block_words<O: PieceOut>(
     out: &mut O,
     place: Place,
     opener: &BlockOpener<&[u8]>,
-    context: &mut Context,
-    running: &mut Running,
+    state: &mut Formatting,
 )
     requires { BlockOpenerFits (block_opener_view opener.now) }
-    ensures { GivesOutcome O.left out.old
-        (words.block_words place (block_opener_view opener.now) context.old running.old)
-        out.new context.new running.new }
+    ensures { GivesOutcome O.left out.old (words.block_words place (block_opener_view opener.now) state.old) out.new state.new }
 {
     match *opener {
         BlockOpener::Quotation(quotation) => {
             let word = opening_word(quotation.marks());
-            give_generated_word(out, place, word, context, running);
+            give_generated_word(out, place, word, state);
         }
-        BlockOpener::Custom(mark) => give_mark(out, place, mark, context, running),
+        BlockOpener::Custom(mark) => give_mark(out, place, mark, state),
         _ => {}
     }
 }
@@ -157,17 +146,14 @@ pub(crate) fn give_function_name<O: PieceOut>(
     out: &mut O,
     place: Place,
     name: Argument<&[u8]>,
-    context: &mut Context,
-    running: &mut Running,
+    state: &mut Formatting,
 )
     requires { ArgumentFits (argument_view name) }
-    ensures { GivesOutcome O.left out.old
-        (words.function_name place (argument_view name.entry) context.old running.old)
-        out.new context.new running.new }
+    ensures { GivesOutcome O.left out.old (words.function_name place (argument_view name.entry) state.old) out.new state.new }
 {
     let word = argument_word(Some(Font::B), Join::Apart, name);
-    give_line_word(out, place.line, &word, context, running);
-    give_generated_word(out, place, arguments_mark(), context, running);
+    give_line_word(out, place.line, &word, state);
+    give_generated_word(out, place, arguments_mark(), state);
 }
 
 // The full stop after the fields of a reference.
@@ -183,18 +169,11 @@ fn full_stop() -> GeneratedWord
 }
 
 // Gives the full stop after the fields of a reference, where it has one.
-fn give_reference_end<O: PieceOut>(
-    out: &mut O,
-    place: Place,
-    context: &mut Context,
-    running: &mut Running,
-)
-    ensures { GivesOutcome O.left out.old
-        (words.reference_end context.old.fields place context.old running.old)
-        out.new context.new running.new }
+fn give_reference_end<O: PieceOut>(out: &mut O, place: Place, state: &mut Formatting)
+    ensures { GivesOutcome O.left out.old (words.reference_end state.old.context.fields place state.old) out.new state.new }
 {
-    if let SeriesSoFar::Begun = context.fields {
-        give_generated_word(out, place, full_stop(), context, running);
+    if let SeriesSoFar::Begun = state.context.fields {
+        give_generated_word(out, place, full_stop(), state);
     }
 }
 
@@ -203,43 +182,33 @@ fn give_block_last_words<O: PieceOut>(
     out: &mut O,
     place: Place,
     block: Block,
-    context: &mut Context,
-    running: &mut Running,
+    state: &mut Formatting,
 )
-    ensures { GivesOutcome O.left out.old
-        (words.last_words place (labels.Explicit (explicits.Block block)) context.old running.old)
-        out.new context.new running.new }
+    ensures { GivesOutcome O.left out.old (words.last_words place (labels.Explicit (explicits.Block block)) state.old)
+        out.new state.new }
 {
     match block {
         Block::Quotation(quotation) => {
             let word = closing_word(quotation.marks());
-            give_generated_word(out, place, word, context, running);
+            give_generated_word(out, place, word, state);
         }
-        Block::Reference => give_reference_end(out, place, context, running),
-        Block::Function => give_function_end(out, place, context, running),
+        Block::Reference => give_reference_end(out, place, state),
+        Block::Function => give_function_end(out, place, state),
         _ => {}
     }
 }
 
 /// Gives the words that a scope ends with, in its own context: the mark after an enclosure's words, the full stop of a reference (`Rs`) and the end of a
 /// function (`Fo`), of whatever ends it.
-pub fn give_last_words<O: PieceOut>(
-    out: &mut O,
-    place: Place,
-    label: Label,
-    context: &mut Context,
-    running: &mut Running,
-)
-    ensures { GivesOutcome O.left out.old
-        (words.last_words place label context.old running.old)
-        out.new context.new running.new }
+pub fn give_last_words<O: PieceOut>(out: &mut O, place: Place, label: Label, state: &mut Formatting)
+    ensures { GivesOutcome O.left out.old (words.last_words place label state.old) out.new state.new }
 {
     match label {
         Label::Line(LineOpener::Enclosure(marks)) => {
-            give_generated_word(out, place, closing_word(marks), context, running);
+            give_generated_word(out, place, closing_word(marks), state);
         }
         Label::Explicit(Explicit::Block(block)) => {
-            give_block_last_words(out, place, block, context, running);
+            give_block_last_words(out, place, block, state);
         }
         _ => {}
     }

@@ -8,14 +8,15 @@ ghost use Rattle.page_scopes_blocks.specs.Blocks as blocks;
 ghost use Rattle.page_scopes_blocks.specs.ListWidths.{given_columns, given_notes};
 ghost use Rattle.page_scopes_layout.specs.Begins.{function_begun};
 ghost use Rattle.page_sets_lines.specs.Fits.{ArgumentFits, BlockOpenerFits, GivenFits};
+ghost use Rattle.page_scopes_phrases.specs.Formatting.{in_context};
 ghost use Rattle.page_scopes_phrases.specs.Outcomes.{GivesOutcome};
 ghost use Rattle.page_sets_lines.specs.Events.{block_opener_view, given_view};
 
 use crate::block_words::{give_block_words, give_function_name};
 use page_core_base::{Output, Piece, PieceOut, Place};
 use page_roff_syntax::Argument;
-use page_scopes_layout::{Context, give_margins};
-use page_scopes_phrases::Running;
+use page_scopes_layout::give_margins;
+use page_scopes_phrases::Formatting;
 use page_scopes_words::give_width;
 use page_sets_lines::BlockOpener;
 
@@ -37,24 +38,17 @@ fn give_offset<O: PieceOut>(
 }
 
 // Gives what a display begins with, in the context of its front.
-fn give_display_begin<O: PieceOut>(
-    out: &mut O,
-    is_compact: bool,
-    context: &Context,
-    running: &mut Running,
-)
-    ensures { GivesOutcome O.left out.old
-        (blocks.display_begins is_compact context.now running.old)
-        out.new context.now running.new }
+fn give_display_begin<O: PieceOut>(out: &mut O, is_compact: bool, state: &mut Formatting)
+    ensures { GivesOutcome O.left out.old (blocks.display_begins is_compact state.old) out.new state.new }
 {
     if is_compact {
         out.give(Piece::Break);
     } else {
-        out.give(Piece::Para(context.distance.value));
+        out.give(Piece::Para(state.context.distance.value));
     }
-    out.give(Piece::Literal(context.is_literal.value));
-    give_margins(out, context);
-    running.end_row();
+    out.give(Piece::Literal(state.context.is_literal.value));
+    give_margins(out, &state.context);
+    state.end_row();
 }
 
 // Begins a display whose rows are kept or not, after a blank row or without, with its offset.
@@ -65,17 +59,15 @@ fn begin_display<O: PieceOut>(
     is_literal: bool,
     is_compact: bool,
     offset: Option<Argument<&[u8]>>,
-    context: &mut Context,
-    running: &mut Running,
+    state: &mut Formatting,
 )
     requires { GivenFits (given_view offset) }
-    ensures { GivesOutcome O.left out.old
-        (blocks.display output place is_literal is_compact (given_view offset.entry) context.old running.old)
-        out.new context.new running.new }
+    ensures { GivesOutcome O.left out.old (blocks.display output place is_literal is_compact (given_view offset.entry) state.old)
+        out.new state.new }
 {
     let columns = give_offset(out, output, place, offset);
-    *context = context.display_begun(is_literal, columns);
-    give_display_begin(out, is_compact, context, running);
+    state.context = state.context.display_begun(is_literal, columns);
+    give_display_begin(out, is_compact, state);
 }
 
 // Begins a function, of which no argument has come.
@@ -83,16 +75,14 @@ fn begin_function<O: PieceOut>(
     out: &mut O,
     place: Place,
     name: Argument<&[u8]>,
-    context: &mut Context,
-    running: &mut Running,
+    state: &mut Formatting,
 )
     requires { ArgumentFits (argument_view name) }
-    ensures { GivesOutcome O.left out.old
-        (function_name place (argument_view name.entry) (function_begun context.old) running.old)
-        out.new context.new running.new }
+    ensures { GivesOutcome O.left out.old (function_name place (argument_view name.entry) (in_context (function_begun state.old.context) state.old))
+        out.new state.new }
 {
-    *context = context.function_begun();
-    give_function_name(out, place, name, context, running);
+    state.context = state.context.function_begun();
+    give_function_name(out, place, name, state);
 }
 
 /// Gives what a block of mdoc(7) begins with: a display (`Bd`), words in a font (`Bf`), a reference (`Rs`), a function (`Fo`), and the marks of the
@@ -103,26 +93,22 @@ pub fn give_block<O: PieceOut>(
     output: Output,
     place: Place,
     opener: &BlockOpener<&[u8]>,
-    context: &mut Context,
-    running: &mut Running,
+    state: &mut Formatting,
 )
     requires { BlockOpenerFits (block_opener_view opener.now) }
-    ensures { GivesOutcome O.left out.old
-        (blocks.block_opened output place (block_opener_view opener.now) context.old running.old)
-        out.new context.new running.new }
+    ensures { GivesOutcome O.left out.old (blocks.block_opened output place (block_opener_view opener.now) state.old)
+        out.new state.new }
 {
-    *context = context.entered();
+    state.context = state.context.entered();
     match *opener {
         BlockOpener::Display {
             is_literal,
             is_compact,
             offset,
-        } => begin_display(
-            out, output, place, is_literal, is_compact, offset, context, running,
-        ),
-        BlockOpener::Fonts(font) => *context = context.font_if_given(font),
-        BlockOpener::Reference => *context = context.reference_begun(),
-        BlockOpener::Function(name) => begin_function(out, place, name, context, running),
-        _ => give_block_words(out, place, opener, context, running),
+        } => begin_display(out, output, place, is_literal, is_compact, offset, state),
+        BlockOpener::Fonts(font) => state.context = state.context.font_if_given(font),
+        BlockOpener::Reference => state.context = state.context.reference_begun(),
+        BlockOpener::Function(name) => begin_function(out, place, name, state),
+        _ => give_block_words(out, place, opener, state),
     }
 }

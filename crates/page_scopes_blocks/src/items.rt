@@ -12,8 +12,8 @@ use arrayvec::ArrayVec;
 use itoa::Buffer;
 use page_core_base::{PieceOut, Place};
 use page_scopes_labels::Label;
-use page_scopes_layout::{Context, OpenList, give_begin, give_margins, hold};
-use page_scopes_phrases::{Phrase, Running};
+use page_scopes_layout::{OpenList, give_begin, give_margins, hold};
+use page_scopes_phrases::{Formatting, Phrase};
 use page_sets_lines::{Join, ListKind};
 
 // Room for a number and a full stop.
@@ -55,66 +55,48 @@ fn give_mark<O: PieceOut>(
     place: Place,
     list: &OpenList,
     mark: &[u8],
-    context: &mut Context,
-    running: &mut Running,
+    state: &mut Formatting,
 )
     requires { length mark.now ≤ 48 }
-    ensures { GivesOutcome O.left out.old
-        (items.given_mark place list.now (Some mark.now) context.old running.old)
-        out.new context.new running.new }
+    ensures { GivesOutcome O.left out.old (items.given_mark place list.now (Some mark.now) state.old) out.new state.new }
 {
     let phrase = mark_phrase(place, mark);
-    give_phrase_tag(out, mark_place(list), place.line, &phrase, context, running);
+    give_phrase_tag(out, mark_place(list), place.line, &phrase, state);
 }
 
 // Gives the mark of the open item of a list, where its type has one.
-fn give_mark_of<O: PieceOut>(
-    out: &mut O,
-    place: Place,
-    list: &OpenList,
-    context: &mut Context,
-    running: &mut Running,
-)
-    ensures { GivesOutcome O.left out.old
-        (items.given_mark place list.now (items.mark_of list.now.kind list.now.items) context.old running.old)
-        out.new context.new running.new }
+fn give_mark_of<O: PieceOut>(out: &mut O, place: Place, list: &OpenList, state: &mut Formatting)
+    ensures { GivesOutcome O.left out.old (items.given_mark place list.now (items.mark_of list.now.kind list.now.items) state.old)
+        out.new state.new }
 {
     match list.kind {
-        ListKind::Bullet => give_mark(out, place, list, b"\\(bu", context, running),
-        ListKind::Dash | ListKind::Hyphen => give_mark(out, place, list, b"-", context, running),
+        ListKind::Bullet => give_mark(out, place, list, b"\\(bu", state),
+        ListKind::Dash | ListKind::Hyphen => give_mark(out, place, list, b"-", state),
         ListKind::Enum => {
             let number = number_text(list.items);
-            give_mark(out, place, list, number.as_slice(), context, running);
+            give_mark(out, place, list, number.as_slice(), state);
         }
-        _ => give_margins(out, context),
+        _ => give_margins(out, &state.context),
     }
 }
 
 // Begins an item of the open list.
-fn begin_item<O: PieceOut>(out: &mut O, context: &mut Context, running: &mut Running)
-    ensures { GivesOutcome O.left out.old (items.item_begins context.old running.old)
-        out.new context.new running.new }
+fn begin_item<O: PieceOut>(out: &mut O, state: &mut Formatting)
+    ensures { GivesOutcome O.left out.old (items.item_begins state.old) out.new state.new }
 {
-    *context = context.item_begun();
-    give_begin(out, Label::Item, context);
-    running.end_row();
+    state.context = state.context.item_begun();
+    give_begin(out, Label::Item, &state.context);
+    state.end_row();
 }
 
 /// Gives what an item of the open list begins with.
 #[tactic(auto, unfolding(crate::specs::Items::item_opened))]
-pub fn give_item<O: PieceOut>(
-    out: &mut O,
-    place: Place,
-    context: &mut Context,
-    running: &mut Running,
-)
-    ensures { GivesOutcome O.left out.old
-        (items.item_opened place context.old running.old)
-        out.new context.new running.new }
+pub fn give_item<O: PieceOut>(out: &mut O, place: Place, state: &mut Formatting)
+    ensures { GivesOutcome O.left out.old (items.item_opened place state.old) out.new state.new }
 {
-    *context = context.entered();
-    begin_item(out, context, running);
-    if let Some(list) = context.list {
-        give_mark_of(out, place, &list, context, running);
+    state.context = state.context.entered();
+    begin_item(out, state);
+    if let Some(list) = state.context.list {
+        give_mark_of(out, place, &list, state);
     }
 }

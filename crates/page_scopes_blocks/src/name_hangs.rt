@@ -13,7 +13,7 @@ ghost use Rattle.page_sets_lines.specs.declared.line_steps.LineStep.TheVariants 
 
 use page_core_base::Output;
 use page_scopes_layout::MARGIN;
-use page_scopes_phrases::{ManualName, Running};
+use page_scopes_phrases::{Formatting, ManualName};
 use page_scopes_words::name_columns;
 use page_sets_lines::{EventKind, Leaf, LineStep, Role, Word};
 
@@ -26,39 +26,39 @@ fn columns_after(so_far: u16, columns: u32) -> u16
 }
 
 // Counts a word of this many columns.
-fn count(columns: u32, so_far: u16, running: &mut Running)
+fn count(columns: u32, so_far: u16, state: &mut Formatting)
     requires { columns ≤ 1000 * LINE }
-    ensures { running.new ≡ hangs.counted (Some so_far) (Some columns) running.old }
+    ensures { state.new ≡ hangs.counted (Some so_far) (Some columns) state.old }
 {
-    running.line.name_columns = Some(columns_after(so_far, columns));
+    state.line.name_columns = Some(columns_after(so_far, columns));
 }
 
 // Counts a word that is no delimiter.
 #[inline(never)]
-fn count_word(output: Output, word: &Word<&[u8]>, so_far: u16, running: &mut Running)
+fn count_word(output: Output, word: &Word<&[u8]>, so_far: u16, state: &mut Formatting)
     requires { FitsAt word.now.arg.column word.now.arg.text.now }
     ensures { let word = word_view word.now
-        in running.new ≡ hangs.counted (Some so_far) (Some (name_columns output (is_quoted word.arg.quoting) word.arg.text)) running.old }
+        in state.new ≡ hangs.counted (Some so_far) (Some (name_columns output (is_quoted word.arg.quoting) word.arg.text)) state.old }
 {
     count(
         name_columns(output, word.arg.is_quoted(), word.arg.text),
         so_far,
-        running,
+        state,
     );
 }
 
 // Counts the name of the manual.
 #[inline(never)]
-fn count_manual_name(output: Output, name: &Option<ManualName>, so_far: u16, running: &mut Running)
-    ensures { running.new ≡ hangs.counted (Some so_far) (hangs.kind_columns output (kinds.Leaf (leaves.Step steps.ManualName)) name.now) running.old }
+fn count_manual_name(output: Output, name: &Option<ManualName>, so_far: u16, state: &mut Formatting)
+    ensures { state.new ≡ hangs.counted (Some so_far) (hangs.kind_columns output (kinds.Leaf (leaves.Step steps.ManualName)) name.now) state.old }
 {
     match name {
         Some(name) => count(
             name_columns(output, false, name.kept().text.text()),
             so_far,
-            running,
+            state,
         ),
-        None => count(0, so_far, running),
+        None => count(0, so_far, state),
     }
 }
 
@@ -70,21 +70,21 @@ pub fn count_name(
     output: Output,
     kind: &EventKind<&[u8]>,
     name: &Option<ManualName>,
-    running: &mut Running,
+    state: &mut Formatting,
 )
     requires { KindFits (kind_view kind.now) }
-    ensures { running.new ≡ hangs.kind_counted output (kind_view kind.now) name.now running.old }
+    ensures { state.new ≡ hangs.kind_counted output (kind_view kind.now) name.now state.old }
 {
-    let Some(so_far) = running.line.name_columns else {
+    let Some(so_far) = state.line.name_columns else {
         return;
     };
     match kind {
         EventKind::Word(word) if !matches!(word.role, Role::Delimiter) => {
             let word = *word;
-            count_word(output, &word, so_far, running);
+            count_word(output, &word, so_far, state);
         }
         EventKind::Leaf(Leaf::Step(LineStep::ManualName)) => {
-            count_manual_name(output, name, so_far, running);
+            count_manual_name(output, name, so_far, state);
         }
         _ => {}
     }

@@ -11,7 +11,7 @@ ghost use Rattle.page_sets_lines.specs.Lists.{options_view};
 use crate::widths::{give_columns, give_given, hang_of};
 use page_core_base::{LINE, Output, Piece, PieceOut, Place};
 use page_scopes_layout::{ColumnWidths, Context, OpenList, give_margins};
-use page_scopes_phrases::Running;
+use page_scopes_phrases::Formatting;
 use page_sets_lines::{ListKind, ListOptions, read_list_options};
 
 /// What the arguments of `Bl` say of a list, in columns.
@@ -72,20 +72,13 @@ fn list_context(said: &SaidList, context: Context) -> Context
 }
 
 // Begins a list.
-fn begin_list<O: PieceOut>(
-    out: &mut O,
-    said: &SaidList,
-    context: &mut Context,
-    running: &mut Running,
-)
-    ensures { GivesOutcome O.left out.old
-        (lists.list_by said.now context.old running.old)
-        out.new context.new running.new }
+fn begin_list<O: PieceOut>(out: &mut O, said: &SaidList, state: &mut Formatting)
+    ensures { GivesOutcome O.left out.old (lists.list_by said.now state.old) out.new state.new }
 {
-    *context = list_context(said, context.entered());
+    state.context = list_context(said, state.context.entered());
     out.give(Piece::Break);
-    give_margins(out, context);
-    running.end_row();
+    give_margins(out, &state.context);
+    state.end_row();
 }
 
 /// Gives what a list begins with, compact or not, with its arguments as they are.
@@ -97,15 +90,12 @@ pub fn give_list<O: PieceOut>(
     kind: ListKind,
     is_compact: bool,
     text: &[u8],
-    context: &mut Context,
-    running: &mut Running,
+    state: &mut Formatting,
 )
     requires { length text.now ≤ LINE }
-    ensures { GivesOutcome O.left out.old
-        (lists.list_opened output place kind is_compact text.now context.old running.old)
-        out.new context.new running.new }
+    ensures { GivesOutcome O.left out.old (lists.list_opened output place kind is_compact text.now state.old) out.new state.new }
 {
     let options = read_list_options(text, 0);
     let said = give_said(out, output, place, kind, is_compact, text, &options);
-    begin_list(out, &said, context, running);
+    begin_list(out, &said, state);
 }

@@ -11,7 +11,7 @@ ghost use Rattle.page_sets_lines.specs.Events.{word_view};
 
 use page_core_base::{Piece, PieceOut, TagForm};
 use page_scopes_layout::{Context, PagePart, give_margins};
-use page_scopes_phrases::{Phrase, Running, give_line_word, give_phrase};
+use page_scopes_phrases::{Formatting, Phrase, give_line_word, give_phrase};
 use page_sets_lines::Word;
 
 /// Where a tag is, in columns.
@@ -47,20 +47,18 @@ fn after_tag(before: Context, context: Context) -> Context
 }
 
 // What pads a tag takes the place of a blank.
-fn pad(running: &mut Running)
-    ensures { running.new ≡ record running.old { gap = 0 } }
+fn pad(state: &mut Formatting)
+    ensures { state.new ≡ record state.old { gap = 0 } }
 {
-    running.gap = 0;
+    state.gap = 0;
 }
 
 // Gives what a tag begins with.
-fn begin_tag<O: PieceOut>(out: &mut O, tag: TagPlace, context: &mut Context, running: &Running)
-    ensures { GivesOutcome O.left out.old
-        (tags.tag_begun tag context.old running.now)
-        out.new context.new running.now }
+fn begin_tag<O: PieceOut>(out: &mut O, tag: TagPlace, state: &mut Formatting)
+    ensures { GivesOutcome O.left out.old (tags.tag_begun tag state.old) out.new state.new }
 {
-    *context = tag_context(tag, *context);
-    give_margins(out, context);
+    state.context = tag_context(tag, state.context);
+    give_margins(out, &state.context);
     out.give(Piece::Tag {
         hang: tag.hang,
         form: TagForm::Row,
@@ -68,15 +66,13 @@ fn begin_tag<O: PieceOut>(out: &mut O, tag: TagPlace, context: &mut Context, run
 }
 
 // Gives what a tag ends with; the context is that before it.
-fn end_tag<O: PieceOut>(out: &mut O, before: &Context, context: &mut Context, running: &mut Running)
-    ensures { GivesOutcome O.left out.old
-        (tags.tag_ended before.now context.old running.old)
-        out.new context.new running.new }
+fn end_tag<O: PieceOut>(out: &mut O, before: &Context, state: &mut Formatting)
+    ensures { GivesOutcome O.left out.old (tags.tag_ended before.now state.old) out.new state.new }
 {
     out.give(Piece::TagEnd);
-    *context = after_tag(*before, *context);
-    give_margins(out, context);
-    pad(running);
+    state.context = after_tag(*before, state.context);
+    give_margins(out, &state.context);
+    pad(state);
 }
 
 // Gives the words of a phrase that is a tag, and what it ends with; the context is that before it.
@@ -85,16 +81,14 @@ fn give_tag_phrase<O: PieceOut>(
     line: u32,
     phrase: &Phrase<&[u8]>,
     before: &Context,
-    context: &mut Context,
-    running: &mut Running,
+    state: &mut Formatting,
 )
     requires { FitsAt phrase.now.column phrase.now.text.now }
-    ensures { GivesOutcome O.left out.old
-        (followed_by (phrase_outcome line (phrase_view phrase.now) context.old running.old) (tags.tag_ended before.now))
-        out.new context.new running.new }
+    ensures { GivesOutcome O.left out.old (followed_by (phrase_outcome line (phrase_view phrase.now) state.old) (tags.tag_ended before.now))
+        out.new state.new }
 {
-    give_phrase(out, line, phrase, context, running);
-    end_tag(out, before, context, running);
+    give_phrase(out, line, phrase, state);
+    end_tag(out, before, state);
 }
 
 /// Gives a tag of the words of a phrase.
@@ -104,17 +98,14 @@ pub fn give_phrase_tag<O: PieceOut>(
     tag: TagPlace,
     line: u32,
     phrase: &Phrase<&[u8]>,
-    context: &mut Context,
-    running: &mut Running,
+    state: &mut Formatting,
 )
     requires { FitsAt phrase.now.column phrase.now.text.now }
-    ensures { GivesOutcome O.left out.old
-        (tags.phrase_tag tag line (phrase_view phrase.now) context.old running.old)
-        out.new context.new running.new }
+    ensures { GivesOutcome O.left out.old (tags.phrase_tag tag line (phrase_view phrase.now) state.old) out.new state.new }
 {
-    let before = *context;
-    begin_tag(out, tag, context, running);
-    give_tag_phrase(out, line, phrase, &before, context, running);
+    let before = state.context;
+    begin_tag(out, tag, state);
+    give_tag_phrase(out, line, phrase, &before, state);
 }
 
 // Gives the words of a tag, and what it ends with; the context is that before it.
@@ -123,16 +114,14 @@ fn give_tag_words<O: PieceOut>(
     line: u32,
     word: &Word<&[u8]>,
     before: &Context,
-    context: &mut Context,
-    running: &mut Running,
+    state: &mut Formatting,
 )
     requires { ArgumentFits (word_view word.now).arg }
-    ensures { GivesOutcome O.left out.old
-        (followed_by (line_word line (word_view word.now) context.old running.old) (tags.tag_ended before.now))
-        out.new context.new running.new }
+    ensures { GivesOutcome O.left out.old (followed_by (line_word line (word_view word.now) state.old) (tags.tag_ended before.now))
+        out.new state.new }
 {
-    give_line_word(out, line, word, context, running);
-    end_tag(out, before, context, running);
+    give_line_word(out, line, word, state);
+    end_tag(out, before, state);
 }
 
 /// Gives a tag of the words of an argument.
@@ -142,15 +131,12 @@ pub fn give_tag<O: PieceOut>(
     tag: TagPlace,
     line: u32,
     word: &Word<&[u8]>,
-    context: &mut Context,
-    running: &mut Running,
+    state: &mut Formatting,
 )
     requires { ArgumentFits (word_view word.now).arg }
-    ensures { GivesOutcome O.left out.old
-        (tags.tag tag line (word_view word.now) context.old running.old)
-        out.new context.new running.new }
+    ensures { GivesOutcome O.left out.old (tags.tag tag line (word_view word.now) state.old) out.new state.new }
 {
-    let before = *context;
-    begin_tag(out, tag, context, running);
-    give_tag_words(out, line, word, &before, context, running);
+    let before = state.context;
+    begin_tag(out, tag, state);
+    give_tag_words(out, line, word, &before, state);
 }

@@ -2,9 +2,8 @@
 
 use page_core_base::{Form, Taken};
 use page_roff_syntax::{LineForm, form_of};
-use page_scopes_layout::Context;
-use page_scopes_leaves::give_kind;
-use page_scopes_phrases::Running;
+use page_scopes_nodes::give_kind;
+use page_scopes_phrases::Formatting;
 use page_sets::{Event, EventKind, Leaf, Man};
 use page_sets_checks::events_of;
 use page_test_streams::Shown;
@@ -14,48 +13,17 @@ use std::process::Abort;
 /// The bytes at most of a line here.
 pub const MOST: usize = 100;
 
-/// The context, and what is known along the page.
-#[derive(Clone, Copy)]
-pub struct Page {
-    pub context: Context,
-    pub running: Running,
-}
-
-impl Page {
-    /// The text of a page whose indent is 7 columns begins.
-    pub fn new() -> Page {
-        Page {
-            context: Context::start(7),
-            running: Running::start(),
-        }
-    }
-
-    /// Gives what an event gives.
-    pub fn give_event(&mut self, out: &mut Shown, event: &Event<&[u8]>) {
-        let mut name = None;
-        match event.kind {
-            EventKind::Word(word) => {
-                if word.arg.text.len() <= MOST && word.arg.column <= MOST as u32 {
-                    give_kind(
-                        out,
-                        event.place,
-                        &EventKind::Word(word),
-                        &mut name,
-                        &mut self.context,
-                        &mut self.running,
-                    );
-                }
+// Gives what an event gives.
+fn give_event(out: &mut Shown, event: &Event<&[u8]>, state: &mut Formatting) {
+    let mut name = None;
+    match event.kind {
+        EventKind::Word(word) => {
+            if word.arg.text.len() <= MOST && word.arg.column <= MOST as u32 {
+                give_kind(out, event.place, &EventKind::Word(word), &mut name, state);
             }
-            EventKind::Open(_) | EventKind::Close(_) | EventKind::Leaf(Leaf::Step(_)) => {}
-            _ => give_kind(
-                out,
-                event.place,
-                &event.kind,
-                &mut name,
-                &mut self.context,
-                &mut self.running,
-            ),
         }
+        EventKind::Open(_) | EventKind::Close(_) | EventKind::Leaf(Leaf::Step(_)) => {}
+        _ => give_kind(out, event.place, &event.kind, &mut name, state),
     }
 }
 
@@ -97,7 +65,13 @@ pub fn check_shown(rt: &impl Abort, got: &Shown, wanted: &str, at: &str) {
 }
 
 /// Gives the lines of a script, with "|" after each.
-pub fn give_script(rt: &impl Abort, alloc: Global, out: &mut Shown, page: &mut Page, script: &str) {
+pub fn give_script(
+    rt: &impl Abort,
+    alloc: Global,
+    out: &mut Shown,
+    state: &mut Formatting,
+    script: &str,
+) {
     let mut number = 0u32;
     for text in script.split('\n') {
         assert!(rt; number < 1_000);
@@ -108,7 +82,7 @@ pub fn give_script(rt: &impl Abort, alloc: Global, out: &mut Shown, page: &mut P
             return;
         };
         for event in &events {
-            page.give_event(out, event);
+            give_event(out, event, state);
         }
         out.add(b"|");
     }

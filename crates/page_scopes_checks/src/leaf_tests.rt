@@ -1,6 +1,7 @@
 //! What lines give whose macros open and close nothing.
 
-use crate::leaf_pages::{Page, check_shown, give_script};
+use crate::leaf_pages::{check_shown, give_script};
+use page_scopes_phrases::Formatting;
 use page_test_streams::Shown;
 use std::alloc::Global;
 use std::process::Abort;
@@ -8,7 +9,7 @@ use std::process::Abort;
 // Checks what a script gives.
 fn check_script(rt: &impl Abort, alloc: Global, script: &str, wanted: &str) {
     let mut out = Shown::new(alloc, true);
-    give_script(rt, alloc, &mut out, &mut Page::new(), script);
+    give_script(rt, alloc, &mut out, &mut Formatting::start(7), script);
     check_shown(rt, &out, wanted, script);
 }
 
@@ -100,14 +101,14 @@ fn scripts_give_pieces(rt: HostRuntime) {
 // What a script leaves: the blanks before the next word, the distance of paragraphs, "w" where something came since the last
 // heading, and "r" where a row has begun.
 fn left_by(rt: &impl Abort, alloc: Global, script: &str) -> Shown {
-    let mut page = Page::new();
-    page.context.has_row = false;
-    give_script(rt, alloc, &mut Shown::new(alloc, false), &mut page, script);
+    let mut state = Formatting::start(7);
+    state.context.has_row = false;
+    give_script(rt, alloc, &mut Shown::new(alloc, false), &mut state, script);
     let mut left = Shown::new(alloc, false);
-    left.add_number(page.running.gap);
-    left.add_number(page.context.distance.value);
-    left.add(if page.running.has_content { b"w" } else { b"" });
-    left.add(if page.context.has_row { b"r" } else { b"" });
+    left.add_number(state.gap);
+    left.add_number(state.context.distance.value);
+    left.add(if state.has_content { b"w" } else { b"" });
+    left.add(if state.context.has_row { b"r" } else { b"" });
     left
 }
 

@@ -4,12 +4,12 @@ ghost use Rattle.std.specs.Prelude.{◌≤◌, length};
 ghost use Rattle.page_sets_lines.specs.Fits.{ArgumentFits};
 ghost use Rattle.page_sets_lines.specs.Events.{word_view};
 
-use crate::leaf_pages::{MOST, Page, check_shown};
+use crate::leaf_pages::{MOST, check_shown};
 use page_core_base::{Font, Place};
 use page_roff_syntax::{Argument, Quoting};
 use page_scopes_blocks::{TagPlace, give_tag};
-use page_scopes_leaves::{end_line, give_leaf, give_raw_line};
-use page_scopes_phrases::{give_generated_word, give_line_word};
+use page_scopes_nodes::{end_line, give_leaf, give_raw_line};
+use page_scopes_phrases::{Formatting, give_generated_word, give_line_word};
 use page_sets::{GeneratedText, GeneratedWord, Join, Leaf, Role, Word};
 use page_test_streams::Shown;
 use std::alloc::Global;
@@ -42,28 +42,15 @@ fn tagged(
     font: Option<Font>,
 ) -> Shown {
     let mut out = Shown::new(alloc, false);
-    let mut page = Page::new();
+    let mut state = Formatting::start(7);
     assert!(rt; tag.len() < MOST);
-    page.context.hang = 4;
-    page.context.is_literal.value = is_literal;
+    state.context.hang = 4;
+    state.context.is_literal.value = is_literal;
     let place = TagPlace { margin: 7, hang: 4 };
-    give_tag(
-        &mut out,
-        place,
-        1,
-        &argument(tag, font),
-        &mut page.context,
-        &mut page.running,
-    );
-    end_line(&mut out, &page.context, &mut page.running);
-    give_line_word(
-        &mut out,
-        2,
-        &argument("text", None),
-        &mut page.context,
-        &mut page.running,
-    );
-    end_line(&mut out, &page.context, &mut page.running);
+    give_tag(&mut out, place, 1, &argument(tag, font), &mut state);
+    end_line(&mut out, &mut state);
+    give_line_word(&mut out, 2, &argument("text", None), &mut state);
+    end_line(&mut out, &mut state);
     out
 }
 
@@ -86,8 +73,7 @@ const TAGS: &[Row] = &[
 // A mark keeps the sentence that ended before it, and is in the page's font.
 fn marked(alloc: Global) -> Shown {
     let mut out = Shown::new(alloc, false);
-    let mut page = Page::new();
-    let (context, running) = (&mut page.context, &mut page.running);
+    let mut state = Formatting::start(7);
     let place = Place {
         line: 1,
         column: u32::MAX,
@@ -98,19 +84,12 @@ fn marked(alloc: Global) -> Shown {
         before: Join::Glued,
         after: Join::Apart,
     };
-    give_line_word(&mut out, 1, &argument("a.", None), context, running);
-    give_generated_word(&mut out, place, mark, context, running);
-    end_line(&mut out, context, running);
-    give_leaf(
-        &mut out,
-        place,
-        &Leaf::Generated(mark),
-        &None,
-        context,
-        running,
-    );
-    give_raw_line(&mut out, place, b"b", context, running);
-    out.add_number(running.gap);
+    give_line_word(&mut out, 1, &argument("a.", None), &mut state);
+    give_generated_word(&mut out, place, mark, &mut state);
+    end_line(&mut out, &mut state);
+    give_leaf(&mut out, place, &Leaf::Generated(mark), &None, &mut state);
+    give_raw_line(&mut out, place, b"b", &mut state);
+    out.add_number(state.gap);
     out
 }
 

@@ -3,7 +3,7 @@
 use page_core_base::Font;
 use page_roff_syntax::{Argument, Quoting};
 use page_scopes_layout::Context;
-use page_scopes_phrases::{Running, give_line_word};
+use page_scopes_phrases::{Formatting, give_line_word};
 use page_scopes_text::{Pen, TextStyle, give_text};
 use page_scopes_words::Setting;
 use page_sets_lines::{Join, Role, Word};
@@ -148,8 +148,7 @@ fn give_argument(
     out: &mut Shown,
     text: &str,
     style: (Quoting, Font, Join),
-    context: &mut Context,
-    running: &mut Running,
+    state: &mut Formatting,
 ) {
     if text.len() > MOST {
         return;
@@ -165,7 +164,7 @@ fn give_argument(
         before: style.2,
         after: Join::Apart,
     };
-    give_line_word(out, 1, &word, context, running);
+    give_line_word(out, 1, &word, state);
 }
 
 const BOLD: (Quoting, Font, Join) = (Quoting::Closed, Font::B, Join::Apart);
@@ -175,18 +174,17 @@ const ITALIC: (Quoting, Font, Join) = (Quoting::Unclosed, Font::I, Join::Glued);
 // What two arguments give that are glued, and then the blanks after their line.
 fn glued_by(alloc: Global, is_literal: bool, first: &str, second: &str) -> Shown {
     let mut out = Shown::new(alloc, false);
-    let mut context = Context::start(7);
-    context.is_literal = Setting::set_to(is_literal);
-    let mut running = Running::start();
-    give_argument(&mut out, first, BOLD, &mut context, &mut running);
-    give_argument(&mut out, second, ITALIC, &mut context, &mut running);
-    running.end_line(true);
-    out.add(if context.fonts.value.font == Font::R {
+    let mut state = Formatting::start(7);
+    state.context.is_literal = Setting::set_to(is_literal);
+    give_argument(&mut out, first, BOLD, &mut state);
+    give_argument(&mut out, second, ITALIC, &mut state);
+    state.end_line();
+    out.add(if state.context.fonts.value.font == Font::R {
         b" "
     } else {
         b"?"
     });
-    out.add_number(running.gap);
+    out.add_number(state.gap);
     out
 }
 

@@ -11,9 +11,9 @@ use Rattle.page_scopes_blocks.specs.BlockWords.{line_words}
 use Rattle.page_scopes_layout.specs.Headings.{no_heading}
 use Rattle.page_scopes_phrases.specs.KeptTexts.{kept_of}
 use Rattle.page_scopes_phrases.specs.Outcomes.{Outcome, followed_by, nothing}
-use Rattle.page_scopes_phrases.specs.Runnings.{row_ended}
+use Rattle.page_scopes_phrases.specs.Formatting.{in_context, row_ended}
 use Rattle.page_scopes_phrases.specs.declared.kept_texts.KeptText.{KeptText}
-use Rattle.page_scopes_phrases.specs.declared.runnings.Running.{Running}
+use Rattle.page_scopes_phrases.specs.declared.formatting.Formatting.{Formatting}
 use Rattle.page_sets_lines.specs.declared.events.EventKind.{EventKind}
 use Rattle.page_sets_lines.specs.declared.events.EventKind.TheVariants as kinds
 use Rattle.page_sets_lines.specs.declared.events.Event.{Event}
@@ -31,14 +31,16 @@ use Rattle.page_scopes_nodes.specs.declared.page_layouts.PageLayout.{PageLayout}
 -- `SB`), rows that are alone (`D1`, `Dl`), enclosures and descriptions (`Nd`)
 
 abbrev pub heading_column : HeadingName → ℕ
+heading_column headings.SH = 0
+heading_column headings.Sh = 0
 heading_column headings.SS = 3
 heading_column headings.Ss = 3
-heading_column _ = 0
 
 abbrev pub font_of : FontMacro → Font
+font_of fonts.B = faces.B
+font_of fonts.SB = faces.B
 font_of fonts.I = faces.I
 font_of fonts.SM = faces.R
-font_of _ = faces.B
 
 abbrev pub line_context : LineOpener → Context → Context
 line_context lines.Head c = head_begun c.list c
@@ -48,29 +50,29 @@ line_context (lines.FontWords font_macro) c = font_begun (font_of font_macro) c
 line_context (lines.OneLine name) c = one_line_begun c
 line_context _ c = c
 
-abbrev pub line_running : LineOpener → Running → Running
-line_running (lines.Heading name) r = record r { gap = 1; heading = no_heading }
-line_running (lines.OneLine name) r = row_ended r
-line_running _ r = r
+abbrev pub line_state : LineOpener → Formatting → Formatting
+line_state (lines.Heading name) s = record s { gap = 1; heading = no_heading }
+line_state (lines.OneLine name) s = row_ended s
+line_state _ s = s
 
-abbrev pub line_front : LineOpener → Context → Running → Outcome
-line_front opener c r =
-    let front = line_context opener (entered_context c) in
-    record { items = line_begin_items opener front; context = front; running = line_running opener r }
+abbrev pub line_front : LineOpener → Formatting → Outcome
+line_front opener s =
+    let front = line_context opener (entered_context s.context) in
+    record { items = line_begin_items opener front; state = line_state opener (in_context front s) }
 
 -- then what it prints itself
-abbrev pub line_opened : Place → LineOpener → Context → Running → Outcome
-line_opened place opener c r = followed_by (line_front opener c r) (line_words place opener)
+abbrev pub line_opened : Place → LineOpener → Formatting → Outcome
+line_opened place opener s = followed_by (line_front opener s) (line_words place opener)
 
 -- ---- an event that opens a scope
 
-abbrev pub kind_begun : PageLayout → Event (List ℕ) → EventKind (List ℕ) → Context → Running → Outcome
-kind_begun page event (kinds.Open opener) c r = opened page event.place opener c r
-kind_begun page event (kinds.LineScope opener) c r = line_opened event.place opener c r
-kind_begun page event _ c r = nothing c r
+abbrev pub kind_begun : PageLayout → Event (List ℕ) → EventKind (List ℕ) → Formatting → Outcome
+kind_begun page event (kinds.Open opener) s = opened page event.place opener s
+kind_begun page event (kinds.LineScope opener) s = line_opened event.place opener s
+kind_begun page event _ s = nothing s
 
-unfoldable pub begun_by : PageLayout → Event (List ℕ) → Context → Running → Outcome
-begun_by page event c r = kind_begun page event event.kind c r
+unfoldable pub begun_by : PageLayout → Event (List ℕ) → Formatting → Outcome
+begun_by page event s = kind_begun page event event.kind s
 
 -- ---- what a link keeps
 

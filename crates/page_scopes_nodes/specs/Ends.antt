@@ -9,8 +9,8 @@ use Rattle.page_scopes_blocks.specs.BlockWords.{last_words}
 use Rattle.page_scopes_layout.specs.Headings.{headed_section}
 use Rattle.page_scopes_layout.specs.declared.headings.HeadingSoFar.{HeadingSoFar}
 use Rattle.page_scopes_phrases.specs.Outcomes.{Outcome, followed_by}
-use Rattle.page_scopes_phrases.specs.Runnings.{row_ended}
-use Rattle.page_scopes_phrases.specs.declared.runnings.Running.{Running}
+use Rattle.page_scopes_phrases.specs.Formatting.{in_context, row_ended}
+use Rattle.page_scopes_phrases.specs.declared.formatting.Formatting.{Formatting}
 use Rattle.page_scopes_labels.specs.declared.labels.Explicit.TheVariants as explicits
 use Rattle.page_scopes_labels.specs.declared.labels.Label.{Label}
 use Rattle.page_scopes_labels.specs.declared.labels.Label.TheVariants as labels
@@ -21,22 +21,22 @@ use Rattle.page_scopes_nodes.specs.Targets.{target_word}
 use Rattle.page_scopes_phrases.specs.declared.kept_texts.KeptText.{KeptText}
 
 -- the target of a link (`UR` up to `UE`, `MT` up to `ME`) is its last word
-abbrev pub last_word : Place → Label → Option KeptText → Context → Running → Outcome
-last_word place label None c r = last_words place label c r
-last_word place label (Some target) c r = target_word place target c r
+abbrev pub last_word : Place → Label → Option KeptText → Formatting → Outcome
+last_word place label None s = last_words place label s
+last_word place label (Some target) s = target_word place target s
 
 -- after `RE`, `YS`, `El`, `Ed`, a row that is alone and a heading the row has ended; after a heading nothing is yet; the padding of a tag takes the place of a
 -- blank; a head of an item that is a row of its own has ended it, and any other has blanks after it
-abbrev pub label_running : Label → Context → Running → Running
-label_running (labels.Line lines.Head) c r = if is_row c.list then row_ended r else record r { gap = 0 }
-label_running (labels.Line (lines.Heading name)) c r = record (row_ended r) { has_content = false }
-label_running (labels.Line (lines.Tag name)) c r = record r { gap = 0 }
-label_running (labels.Line (lines.OneLine name)) c r = row_ended r
-label_running (labels.Explicit explicits.RelativeMargin) c r = row_ended r
-label_running (labels.Explicit explicits.Syntax) c r = row_ended r
-label_running (labels.Explicit (explicits.Block (blocks.List kind))) c r = row_ended r
-label_running (labels.Explicit (explicits.Block blocks.Display)) c r = row_ended r
-label_running _ c r = r
+abbrev pub label_state : Label → Formatting → Formatting
+label_state (labels.Line lines.Head) s = if is_row s.context.list then row_ended s else record s { gap = 0 }
+label_state (labels.Line (lines.Heading name)) s = record (row_ended s) { has_content = false }
+label_state (labels.Line (lines.Tag name)) s = record s { gap = 0 }
+label_state (labels.Line (lines.OneLine name)) s = row_ended s
+label_state (labels.Explicit explicits.RelativeMargin) s = row_ended s
+label_state (labels.Explicit explicits.Syntax) s = row_ended s
+label_state (labels.Explicit (explicits.Block (blocks.List kind))) s = row_ended s
+label_state (labels.Explicit (explicits.Block blocks.Display)) s = row_ended s
+label_state _ s = s
 
 -- after the heading of a section it is known which one begins
 abbrev pub label_section : Label → HeadingSoFar → PageSection → PageSection
@@ -45,11 +45,11 @@ label_section (labels.Line (lines.Heading headings.Sh)) heading section = headed
 label_section _ heading section = section
 
 -- in the context after the scope its margins hold again
-abbrev pub left : Label → Context → Context → Running → Outcome
-left label before c r =
-    let d = restored label before c in
-    let after = record d { section = label_section label r.heading d.section } in
-    record { items = end_items label d; context = after; running = label_running label after r }
+abbrev pub left : Label → Context → Formatting → Outcome
+left label before s =
+    let d = restored label before s.context in
+    let after = record d { section = label_section label s.heading d.section } in
+    record { items = end_items label d; state = label_state label (in_context after s) }
 
-unfoldable pub ended : Label → Context → Option KeptText → Place → Context → Running → Outcome
-ended label before target place c r = followed_by (last_word place label target c r) (left label before)
+unfoldable pub ended : Label → Context → Option KeptText → Place → Formatting → Outcome
+ended label before target place s = followed_by (last_word place label target s) (left label before)

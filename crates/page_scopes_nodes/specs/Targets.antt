@@ -12,9 +12,8 @@ use Rattle.page_scopes_words.specs.declared.settings.Setting.{Setting}
 use Rattle.page_scopes_layout.specs.Headings.{heading_broken}
 use Rattle.page_scopes_phrases.specs.KeptTexts.{after_kept, cut_notes, fonts_through, gap_items, parts_items}
 use Rattle.page_scopes_phrases.specs.Outcomes.{Outcome}
-use Rattle.page_scopes_phrases.specs.Phrases.{is_text}
 use Rattle.page_scopes_phrases.specs.declared.kept_texts.KeptText.{KeptText}
-use Rattle.page_scopes_phrases.specs.declared.runnings.Running.{Running}
+use Rattle.page_scopes_phrases.specs.declared.formatting.Formatting.{Formatting}
 use Rattle.page_scopes_text.specs.Words.{token_notes}
 use Rattle.page_scopes_words.specs.Words.{at}
 use Rattle.page_scopes_words.specs.declared.fonts.Fonts.{Fonts}
@@ -40,12 +39,14 @@ abbrev pub mark_items : Font → Place → List ℕ → List Item
 mark_items font place mark = shown (Text mark font place) ∷ []
 
 -- the target in angles, a word, without the messages of its escapes, all at the place where the link ends; a mark ends no sentence, and leaves one that has ended
-unfoldable pub target_word : Place → KeptText → Context → Running → Outcome
-target_word place target c r = record {
-  items = gap_items c.is_literal.value r place
-      ++ (mark_items c.fonts.value.font place (codes "<")
-      ++ (parts_items c.is_literal.value 1 place c.fonts (tokens_of false target.text)
-      ++ mark_items (target_fonts target c).value.font place (codes ">")));
-  context = record c { fonts = target_fonts target c; has_row = true };
-  running = after_kept (is_text c.part) c.has_spacing.value (record r { heading = heading_broken c.part r.heading });
+unfoldable pub target_word : Place → KeptText → Formatting → Outcome
+target_word place target s = record {
+  items = gap_items s place
+      ++ (mark_items s.context.fonts.value.font place (codes "<")
+      ++ (parts_items s.context.is_literal.value 1 place s.context.fonts (tokens_of false target.text)
+      ++ mark_items (target_fonts target s.context).value.font place (codes ">")));
+  state = after_kept (record s {
+    context = record s.context { fonts = target_fonts target s.context; has_row = true };
+    heading = heading_broken s.context.part s.heading;
+  });
 }

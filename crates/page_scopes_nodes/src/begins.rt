@@ -13,7 +13,7 @@ use page_core_base::{Font, PieceOut, Place};
 use page_scopes_blocks::give_line_words;
 use page_scopes_labels::Label;
 use page_scopes_layout::{Context, HeadingSoFar, give_begin};
-use page_scopes_phrases::Running;
+use page_scopes_phrases::Formatting;
 use page_sets_lines::{Event, EventKind, FontMacro, HeadingName, LineOpener};
 
 // The column of the heading of `SH`, `SS`, `Sh` or `Ss`.
@@ -58,15 +58,15 @@ fn enter_line(opener: LineOpener, context: &mut Context)
 }
 
 // What is known along the page at the front of a line scope: there is one blank before the words of a heading, and `D1` and `Dl` end the row.
-fn pass_begin(opener: LineOpener, running: &mut Running)
-    ensures { running.new ≡ begins.line_running opener running.old }
+fn pass_begin(opener: LineOpener, state: &mut Formatting)
+    ensures { state.new ≡ begins.line_state opener state.old }
 {
     match opener {
         LineOpener::Heading(_) => {
-            running.gap = 1;
-            running.heading = HeadingSoFar::start();
+            state.gap = 1;
+            state.heading = HeadingSoFar::start();
         }
-        LineOpener::OneLine(_) => running.end_row(),
+        LineOpener::OneLine(_) => state.end_row(),
         _ => {}
     }
 }
@@ -76,17 +76,14 @@ fn give_line_opened<O: PieceOut>(
     out: &mut O,
     place: Place,
     opener: LineOpener,
-    context: &mut Context,
-    running: &mut Running,
+    state: &mut Formatting,
 )
-    ensures { GivesOutcome O.left out.old
-        (begins.line_opened place opener context.old running.old)
-        out.new context.new running.new }
+    ensures { GivesOutcome O.left out.old (begins.line_opened place opener state.old) out.new state.new }
 {
-    enter_line(opener, context);
-    give_begin(out, Label::Line(opener), context);
-    pass_begin(opener, running);
-    give_line_words(out, place, opener, context, running);
+    enter_line(opener, &mut state.context);
+    give_begin(out, Label::Line(opener), &state.context);
+    pass_begin(opener, state);
+    give_line_words(out, place, opener, state);
 }
 
 /// Gives what the scope that an event opens begins with.
@@ -95,18 +92,15 @@ pub fn give_begun<O: PieceOut>(
     out: &mut O,
     page: &PageLayout,
     event: &Event<&[u8]>,
-    context: &mut Context,
-    running: &mut Running,
+    state: &mut Formatting,
 )
     requires { KindFits (kind_view event.now.kind) }
-    ensures { GivesOutcome O.left out.old
-        (begins.begun_by page.now (event_view event.now) context.old running.old)
-        out.new context.new running.new }
+    ensures { GivesOutcome O.left out.old (begins.begun_by page.now (event_view event.now) state.old) out.new state.new }
 {
     match &event.kind {
-        EventKind::Open(opener) => give_opened(out, page, event.place, opener, context, running),
+        EventKind::Open(opener) => give_opened(out, page, event.place, opener, state),
         EventKind::LineScope(opener) => {
-            give_line_opened(out, event.place, *opener, context, running);
+            give_line_opened(out, event.place, *opener, state);
         }
         _ => {}
     }

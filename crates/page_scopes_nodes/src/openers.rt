@@ -22,7 +22,7 @@ use page_roff_syntax::Argument;
 use page_scopes_blocks::{TagPlace, give_block, give_item, give_list, give_tag};
 use page_scopes_labels::{Explicit, Label};
 use page_scopes_layout::{Context, give_begin, hold};
-use page_scopes_phrases::{Running, argument_word};
+use page_scopes_phrases::{Formatting, argument_word};
 use page_scopes_words::{give_columns, name_columns, report};
 use page_sets_lines::{BlockOpener, Join, Opener, ParagraphName};
 
@@ -39,70 +39,42 @@ fn give_given<O: PieceOut>(out: &mut O, place: Place, number: Option<&[u8]>) -> 
 
 // A scope begins in the context of its front, and the row ends.
 #[inline(always)]
-fn begin<O: PieceOut>(
-    out: &mut O,
-    label: Label,
-    front: Context,
-    context: &mut Context,
-    running: &mut Running,
-)
-    ensures { GivesOutcome O.left out.old
-        (openers.begun label front running.old)
-        out.new context.new running.new }
+fn begin<O: PieceOut>(out: &mut O, label: Label, front: Context, state: &mut Formatting)
+    ensures { GivesOutcome O.left out.old (openers.begun label front state.old) out.new state.new }
 {
-    *context = front;
-    give_begin(out, label, context);
-    running.end_row();
+    state.context = front;
+    give_begin(out, label, &state.context);
+    state.end_row();
 }
 
 // `SH` and `Sh`.
-fn begin_section<O: PieceOut>(
-    out: &mut O,
-    page: &PageLayout,
-    context: &mut Context,
-    running: &mut Running,
-)
-    ensures { GivesOutcome O.left out.old
-        (openers.begun Section (section_begun page.now.indent (entered_context context.old)) running.old)
-        out.new context.new running.new }
+fn begin_section<O: PieceOut>(out: &mut O, page: &PageLayout, state: &mut Formatting)
+    ensures { GivesOutcome O.left out.old (openers.begun Section (section_begun page.now.indent (entered_context state.old.context)) state.old)
+        out.new state.new }
 {
-    let front = context.entered().section_begun(page.indent);
-    begin(out, Label::Section, front, context, running);
+    let front = state.context.entered().section_begun(page.indent);
+    begin(out, Label::Section, front, state);
 }
 
 // `SS` and `Ss`, which stay in their section.
-fn begin_subsection<O: PieceOut>(
-    out: &mut O,
-    page: &PageLayout,
-    context: &mut Context,
-    running: &mut Running,
-)
-    ensures { GivesOutcome O.left out.old
-        (openers.begun Section (subsection_begun page.now.indent (entered_context context.old)) running.old)
-        out.new context.new running.new }
+fn begin_subsection<O: PieceOut>(out: &mut O, page: &PageLayout, state: &mut Formatting)
+    ensures { GivesOutcome O.left out.old (openers.begun Section (subsection_begun page.now.indent (entered_context state.old.context)) state.old)
+        out.new state.new }
 {
-    let front = context.entered().subsection_begun(page.indent);
-    begin(out, Label::Section, front, context, running);
+    let front = state.context.entered().subsection_begun(page.indent);
+    begin(out, Label::Section, front, state);
 }
 
 // `PP`, `LP` and `P`.
-fn begin_plain<O: PieceOut>(
-    out: &mut O,
-    place: Place,
-    name: ParagraphName,
-    context: &mut Context,
-    running: &mut Running,
-)
-    ensures { GivesOutcome O.left out.old
-        (openers.plain place name context.old running.old)
-        out.new context.new running.new }
+fn begin_plain<O: PieceOut>(out: &mut O, place: Place, name: ParagraphName, state: &mut Formatting)
+    ensures { GivesOutcome O.left out.old (openers.plain place name state.old) out.new state.new }
 {
-    if running.has_content {
-        let front = context.entered().paragraph_begun();
-        begin(out, Label::Paragraph, front, context, running);
+    if state.has_content {
+        let front = state.context.entered().paragraph_begun();
+        begin(out, Label::Paragraph, front, state);
     } else {
         report(out, NoteKind::SkipPara, place, name.name().as_bytes());
-        *context = context.entered();
+        state.context = state.context.entered();
     }
 }
 
@@ -111,16 +83,13 @@ fn begin_indented<O: PieceOut>(
     out: &mut O,
     place: Place,
     hang: Option<&[u8]>,
-    context: &mut Context,
-    running: &mut Running,
+    state: &mut Formatting,
 )
-    ensures { GivesOutcome O.left out.old
-        (openers.indented place (text_view hang.entry) context.old running.old)
-        out.new context.new running.new }
+    ensures { GivesOutcome O.left out.old (openers.indented place (text_view hang.entry) state.old) out.new state.new }
 {
     let columns = give_given(out, place, hang);
-    let front = context.entered().indented_begun(columns);
-    begin(out, Label::Paragraph, front, context, running);
+    let front = state.context.entered().indented_begun(columns);
+    begin(out, Label::Paragraph, front, state);
 }
 
 // The tag of `IP`.
@@ -128,21 +97,18 @@ fn give_given_tag<O: PieceOut>(
     out: &mut O,
     line: u32,
     tag: Option<Argument<&[u8]>>,
-    context: &mut Context,
-    running: &mut Running,
+    state: &mut Formatting,
 )
     requires { GivenFits (given_view tag) }
-    ensures { GivesOutcome O.left out.old
-        (openers.given_tag line (given_view tag.entry) context.old running.old)
-        out.new context.new running.new }
+    ensures { GivesOutcome O.left out.old (openers.given_tag line (given_view tag.entry) state.old) out.new state.new }
 {
     if let Some(argument) = tag {
         let tag_place = TagPlace {
-            margin: context.margin,
-            hang: hold(i64::from(context.hang)),
+            margin: state.context.margin,
+            hang: hold(i64::from(state.context.hang)),
         };
         let word = argument_word(None, Join::Apart, argument);
-        give_tag(out, tag_place, line, &word, context, running);
+        give_tag(out, tag_place, line, &word, state);
     }
 }
 
@@ -151,16 +117,13 @@ fn begin_hanging<O: PieceOut>(
     out: &mut O,
     place: Place,
     hang: Option<&[u8]>,
-    context: &mut Context,
-    running: &mut Running,
+    state: &mut Formatting,
 )
-    ensures { GivesOutcome O.left out.old
-        (openers.hanging place (text_view hang.entry) context.old running.old)
-        out.new context.new running.new }
+    ensures { GivesOutcome O.left out.old (openers.hanging place (text_view hang.entry) state.old) out.new state.new }
 {
     let columns = give_given(out, place, hang);
-    let front = context.entered().hanging_begun(columns);
-    begin(out, Label::Paragraph, front, context, running);
+    let front = state.context.entered().hanging_begun(columns);
+    begin(out, Label::Paragraph, front, state);
 }
 
 // `RS`.
@@ -168,22 +131,13 @@ fn begin_margin<O: PieceOut>(
     out: &mut O,
     place: Place,
     columns: Option<&[u8]>,
-    context: &mut Context,
-    running: &mut Running,
+    state: &mut Formatting,
 )
-    ensures { GivesOutcome O.left out.old
-        (openers.margin place (text_view columns.entry) context.old running.old)
-        out.new context.new running.new }
+    ensures { GivesOutcome O.left out.old (openers.margin place (text_view columns.entry) state.old) out.new state.new }
 {
     let further = give_given(out, place, columns);
-    let front = context.entered().margin_begun(further);
-    begin(
-        out,
-        Label::Explicit(Explicit::RelativeMargin),
-        front,
-        context,
-        running,
-    );
+    let front = state.context.entered().margin_begun(further);
+    begin(out, Label::Explicit(Explicit::RelativeMargin), front, state);
 }
 
 // The columns of the name of `SY`, and of the blank after it.
@@ -200,16 +154,14 @@ fn give_name<O: PieceOut>(
     line: u32,
     tag: TagPlace,
     name: Argument<&[u8]>,
-    context: &mut Context,
-    running: &mut Running,
+    state: &mut Formatting,
 )
     requires { ArgumentFits (argument_view name) }
-    ensures { GivesOutcome O.left out.old
-        (tags.tag tag line (argument_word (Some B) Apart (argument_view name.entry)) context.old running.old)
-        out.new context.new running.new }
+    ensures { GivesOutcome O.left out.old (tags.tag tag line (argument_word (Some B) Apart (argument_view name.entry)) state.old)
+        out.new state.new }
 {
     let word = argument_word(Some(Font::B), Join::Apart, name);
-    give_tag(out, tag, line, &word, context, running);
+    give_tag(out, tag, line, &word, state);
 }
 
 // `SY`.
@@ -218,29 +170,21 @@ fn begin_synopsis<O: PieceOut>(
     page: &PageLayout,
     line: u32,
     name: Argument<&[u8]>,
-    context: &mut Context,
-    running: &mut Running,
+    state: &mut Formatting,
 )
     requires { ArgumentFits (argument_view name) }
-    ensures { GivesOutcome O.left out.old
-        (openers.synopsis page.now line (argument_view name.entry) context.old running.old)
-        out.new context.new running.new }
+    ensures { GivesOutcome O.left out.old (openers.synopsis page.now line (argument_view name.entry) state.old)
+        out.new state.new }
 {
     let hang = name_hang(page, name);
-    let margin = context.text_margin();
-    let front = context.entered().syntax_begun(margin, hang);
-    begin(
-        out,
-        Label::Explicit(Explicit::Syntax),
-        front,
-        context,
-        running,
-    );
+    let margin = state.context.text_margin();
+    let front = state.context.entered().syntax_begun(margin, hang);
+    begin(out, Label::Explicit(Explicit::Syntax), front, state);
     let tag = TagPlace {
         margin,
         hang: hold(i64::from(hang)),
     };
-    give_name(out, line, tag, name, context, running);
+    give_name(out, line, tag, name, state);
 }
 
 // `Bl`, and the other blocks of mdoc(7).
@@ -250,30 +194,19 @@ fn begin_block<O: PieceOut>(
     page: &PageLayout,
     place: Place,
     opener: &BlockOpener<&[u8]>,
-    context: &mut Context,
-    running: &mut Running,
+    state: &mut Formatting,
 )
     requires { BlockOpenerFits (block_opener_view opener.now) }
-    ensures { GivesOutcome O.left out.old
-        (openers.block page.now place (block_opener_view opener.now) context.old running.old)
-        out.new context.new running.new }
+    ensures { GivesOutcome O.left out.old (openers.block page.now place (block_opener_view opener.now) state.old)
+        out.new state.new }
 {
     match *opener {
         BlockOpener::List {
             kind,
             is_compact,
             options,
-        } => give_list(
-            out,
-            page.output,
-            place,
-            kind,
-            is_compact,
-            options,
-            context,
-            running,
-        ),
-        _ => give_block(out, page.output, place, opener, context, running),
+        } => give_list(out, page.output, place, kind, is_compact, options, state),
+        _ => give_block(out, page.output, place, opener, state),
     }
 }
 
@@ -284,31 +217,28 @@ pub(crate) fn give_opened<O: PieceOut>(
     page: &PageLayout,
     place: Place,
     opener: &Opener<&[u8]>,
-    context: &mut Context,
-    running: &mut Running,
+    state: &mut Formatting,
 )
     requires { OpenerFits (opener_view opener.now) }
-    ensures { GivesOutcome O.left out.old
-        (openers.opened page.now place (opener_view opener.now) context.old running.old)
-        out.new context.new running.new }
+    ensures { GivesOutcome O.left out.old (openers.opened page.now place (opener_view opener.now) state.old) out.new state.new }
 {
     match *opener {
-        Opener::Item => give_item(out, place, context, running),
-        Opener::Section => begin_section(out, page, context, running),
-        Opener::Subsection => begin_subsection(out, page, context, running),
-        Opener::Paragraph(name) => begin_plain(out, place, name, context, running),
-        Opener::Tagged(hang) => begin_indented(out, place, hang, context, running),
+        Opener::Item => give_item(out, place, state),
+        Opener::Section => begin_section(out, page, state),
+        Opener::Subsection => begin_subsection(out, page, state),
+        Opener::Paragraph(name) => begin_plain(out, place, name, state),
+        Opener::Tagged(hang) => begin_indented(out, place, hang, state),
         Opener::Indented { tag, hang } => {
-            begin_indented(out, place, hang, context, running);
-            give_given_tag(out, place.line, tag, context, running);
+            begin_indented(out, place, hang, state);
+            give_given_tag(out, place.line, tag, state);
         }
-        Opener::Hanging(hang) => begin_hanging(out, place, hang, context, running),
-        Opener::RelativeMargin(columns) => begin_margin(out, place, columns, context, running),
+        Opener::Hanging(hang) => begin_hanging(out, place, hang, state),
+        Opener::RelativeMargin(columns) => begin_margin(out, place, columns, state),
         Opener::Target(_, target) => {
             report_target(out, place, target);
-            *context = context.entered();
+            state.context = state.context.entered();
         }
-        Opener::Syntax(name) => begin_synopsis(out, page, place.line, name, context, running),
-        Opener::Block(opener) => begin_block(out, page, place, &opener, context, running),
+        Opener::Syntax(name) => begin_synopsis(out, page, place.line, name, state),
+        Opener::Block(opener) => begin_block(out, page, place, &opener, state),
     }
 }

@@ -10,8 +10,7 @@ ghost use Rattle.page_scopes_nodes.specs.Targets as targets;
 use page_core_base::{Font, LINE, Piece, PieceOut, Place};
 use page_core_escapes::Tokens;
 use page_roff_syntax::Argument;
-use page_scopes_layout::{Context, PagePart};
-use page_scopes_phrases::{KeptText, Running, give_kept, give_kept_gap, report_cut};
+use page_scopes_phrases::{Formatting, KeptText, give_kept, give_kept_gap, report_cut};
 use page_scopes_text::report_token;
 
 // Gives the messages of a text's escapes, all at one place.
@@ -55,23 +54,17 @@ pub(crate) fn give_target<O: PieceOut>(
     out: &mut O,
     place: Place,
     target: &KeptText,
-    context: &mut Context,
-    running: &mut Running,
+    state: &mut Formatting,
 )
-    ensures { GivesOutcome O.left out.old
-        (targets.target_word place target.now context.old running.old)
-        out.new context.new running.new }
+    ensures { GivesOutcome O.left out.old (targets.target_word place target.now state.old) out.new state.new }
 {
-    let is_literal = context.is_literal.value;
-    give_kept_gap(out, is_literal, running, place);
-    give_mark(out, context.fonts.value.font, place, "<");
-    let fonts = give_kept(out, is_literal, 1, place, context.fonts, target);
+    let is_literal = state.context.is_literal.value;
+    give_kept_gap(out, state, place);
+    give_mark(out, state.context.fonts.value.font, place, "<");
+    let fonts = give_kept(out, is_literal, 1, place, state.context.fonts, target);
     give_mark(out, fonts.value.font, place, ">");
-    context.fonts = fonts;
-    context.has_row = true;
-    running.heading.pass_other(context.part);
-    running.pass_kept(
-        matches!(context.part, PagePart::Text),
-        context.has_spacing.value,
-    );
+    state.context.fonts = fonts;
+    state.context.has_row = true;
+    state.heading.pass_other(state.context.part);
+    state.pass_kept();
 }

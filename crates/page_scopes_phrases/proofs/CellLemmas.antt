@@ -8,13 +8,12 @@ use Rattle.page_core_base.specs.Latches.{CameUpTo}
 use Rattle.page_core_base.specs.Pieces.{Item}
 use Rattle.page_core_escapes.specs.Tokens.{begins_white, is_space, is_white, token_at, token_len, tokens_of}
 use Rattle.page_core_escapes.proofs.TokenLemmas.{tokens_more, tokens_none}
-use Rattle.page_scopes_layout.specs.declared.contexts.Context.{Context}
 use Rattle.page_scopes_phrases.specs.Cells.{after_tab, before_blanks, before_tab, cell, cells, cells_within, first_part, has_tab, other_cells, other_cells_text, span, span_of, tab_in, white_byte, white_columns, with_more}
 use Rattle.page_sets_lines.specs.Fits.{FitsAt}
 use Rattle.page_scopes_phrases.specs.Outcomes.{GivesOutcome, Outcome, followed_by}
 use Rattle.page_scopes_phrases.specs.declared.cells.CellSpan.{CellSpan}
 use Rattle.page_scopes_phrases.specs.declared.phrases.Phrase.{Phrase}
-use Rattle.page_scopes_phrases.specs.declared.runnings.Running.{Running}
+use Rattle.page_scopes_phrases.specs.declared.formatting.Formatting.{Formatting}
 
 pub is_before : (m n : ℕ) → m < n → nat_lt m n ≡ true
 is_before m n h = grind (arith, nat_tests, h)
@@ -158,55 +157,52 @@ pub is_not_before : (m n : ℕ) → n ≤ m → nat_lt m n ≡ false
 is_not_before m n h = grind (arith, nat_tests, h)
 
 -- what is still to come of a text in cells, which are given to a latch
-pub record CellsLeft {P O : Type 0} (left : P → O → List Item → Type 0) (start : O) (all : Outcome) (line : ℕ) (p : Phrase (List ℕ)) (c : Context) (r : Running)
+pub record CellsLeft {P O : Type 0} (left : P → O → List Item → Type 0) (start : O) (all : Outcome) (line : ℕ) (p : Phrase (List ℕ)) (s : Formatting)
     (out : O) : Type 0 where
   pub room : ℕ
   pub enough : length p.text ≤ room
-  pub came : CameUpTo left start all.items (cells_within room line p c r).items out
-  pub context : all.context ≡ (cells_within room line p c r).context
-  pub running : all.running ≡ (cells_within room line p c r).running
+  pub came : CameUpTo left start all.items (cells_within room line p s).items out
+  pub state : all.state ≡ (cells_within room line p s).state
 
-pub all-left : {P O : Type 0} (left : P → O → List Item → Type 0) (line : ℕ) (p : Phrase (List ℕ)) (c : Context) (r : Running) (out : O)
-    → CellsLeft left out (cells line p c r) line p c r out
-all-left left line p c r out = record { room = length p.text; enough = omega arith; came = λ plan rest h. h; context = refl; running = refl }
+pub all-left : {P O : Type 0} (left : P → O → List Item → Type 0) (line : ℕ) (p : Phrase (List ℕ)) (s : Formatting) (out : O)
+    → CellsLeft left out (cells line p s) line p s out
+all-left left line p s out = record { room = length p.text; enough = omega arith; came = λ plan rest h. h; state = refl }
 
-more-cells : (room line : ℕ) (p : Phrase (List ℕ)) (c : Context) (r : Running) → length p.text ≤ room → has_tab p ≡ true
+more-cells : (room line : ℕ) (p : Phrase (List ℕ)) (s : Formatting) → length p.text ≤ room → has_tab p ≡ true
     → (n : ℕ) × (length (other_cells_text (span p) p.text) ≤ n)
-    × (cells_within room line p c r ≡ followed_by (first_part (span p) line p c r) (cells_within n line (other_cells (span p) p)))
+    × (cells_within room line p s ≡ followed_by (first_part (span p) line p s) (cells_within n line (other_cells (span p) p)))
 unfolding cells_within
-more-cells zero line p c r enough h = let a = others-shorter p h in absurd (omega (arith, a, enough))
-more-cells (suc n) line p c r enough h = let a = others-shorter p h in (n, omega (arith, a, enough), rw h refl)
+more-cells zero line p s enough h = let a = others-shorter p h in absurd (omega (arith, a, enough))
+more-cells (suc n) line p s enough h = let a = others-shorter p h in (n, omega (arith, a, enough), rw h refl)
 
-last-cell : (room line : ℕ) (p : Phrase (List ℕ)) (c : Context) (r : Running) → has_tab p ≡ false → cells_within room line p c r ≡ cell line p c r
+last-cell : (room line : ℕ) (p : Phrase (List ℕ)) (s : Formatting) → has_tab p ≡ false → cells_within room line p s ≡ cell line p s
 unfolding cells_within
-last-cell zero line p c r h = refl
-last-cell (suc n) line p c r h = rw h refl
+last-cell zero line p s h = refl
+last-cell (suc n) line p s h = rw h refl
 
-pub cells-go-on : {P O : Type 0} (left : P → O → List Item → Type 0) (start : O) (all : Outcome) (line : ℕ) (p : Phrase (List ℕ)) (c d : Context) (r s : Running)
-    (out next : O) → has_tab p ≡ true → CellsLeft left start all line p c r out → GivesOutcome left out (first_part (span p) line p c r) next d s
-    → CellsLeft left start all line (other_cells (span p) p) d s next
-cells-go-on left start all line p c d r s out next h before given =
-    let first = first_part (span p) line p c r in
-    let more = more-cells before.room line p c r before.enough h in
-    let others = cells_within more.0 line (other_cells (span p) p) first.context first.running in
-    rw (given.context, given.running) (record {
+pub cells-go-on : {P O : Type 0} (left : P → O → List Item → Type 0) (start : O) (all : Outcome) (line : ℕ) (p : Phrase (List ℕ)) (s t : Formatting)
+    (out next : O) → has_tab p ≡ true → CellsLeft left start all line p s out → GivesOutcome left out (first_part (span p) line p s) next t
+    → CellsLeft left start all line (other_cells (span p) p) t next
+cells-go-on left start all line p s t out next h before given =
+    let first = first_part (span p) line p s in
+    let more = more-cells before.room line p s before.enough h in
+    let others = cells_within more.0 line (other_cells (span p) p) first.state in
+    rw given.state (record {
       room = more.0;
       enough = more.1;
       came = λ plan rest x.
           let a = rw more.2 at (before.came plan rest x) in
           given.came plan (others.items ++ rest) (subst (λ items. left plan out items) (append_assoc first.items others.items rest) a);
-      context = before.context ∙ ap (λ (o : Outcome). o.context) more.2;
-      running = before.running ∙ ap (λ (o : Outcome). o.running) more.2;
+      state = before.state ∙ ap (λ (o : Outcome). o.state) more.2;
     })
 
-pub cells-end : {P O : Type 0} (left : P → O → List Item → Type 0) (start : O) (all : Outcome) (line : ℕ) (p : Phrase (List ℕ)) (c d : Context) (r s : Running)
-    (out last : O) → has_tab p ≡ false → CellsLeft left start all line p c r out → GivesOutcome left out (cell line p c r) last d s → GivesOutcome left start all last d s
-cells-end left start all line p c d r s out last h before given =
-    let same = last-cell before.room line p c r h in
+pub cells-end : {P O : Type 0} (left : P → O → List Item → Type 0) (start : O) (all : Outcome) (line : ℕ) (p : Phrase (List ℕ)) (s t : Formatting)
+    (out last : O) → has_tab p ≡ false → CellsLeft left start all line p s out → GivesOutcome left out (cell line p s) last t → GivesOutcome left start all last t
+cells-end left start all line p s t out last h before given =
+    let same = last-cell before.room line p s h in
     record {
       came = λ plan rest x. given.came plan rest (rw same at (before.came plan rest x));
-      context = given.context ∙ sym (before.context ∙ ap (λ (o : Outcome). o.context) same);
-      running = given.running ∙ sym (before.running ∙ ap (λ (o : Outcome). o.running) same);
+      state = given.state ∙ sym (before.state ∙ ap (λ (o : Outcome). o.state) same);
     }
 
 -- ---- white space, byte by byte
@@ -214,18 +210,16 @@ cells-end left start all line p c d r s out last h before given =
 -- what is still to come of an outcome, which is given to a latch part by part
 pub record OutcomeLeft {P O : Type 0} (left : P → O → List Item → Type 0) (start : O) (all next : Outcome) (out : O) : Type 0 where
   pub came : CameUpTo left start all.items next.items out
-  pub context : all.context ≡ next.context
-  pub running : all.running ≡ next.running
+  pub state : all.state ≡ next.state
 
-pub white-goes-on : {P O : Type 0} (left : P → O → List Item → Type 0) (start : O) (all : Outcome) (byte : ℕ) (bytes : List ℕ) (c d : Context) (r s : Running)
-    (out next : O) → OutcomeLeft left start all (white_columns (byte ∷ bytes) c r) out → GivesOutcome left out (white_byte byte c r) next d s
-    → OutcomeLeft left start all (white_columns bytes d s) next
-white-goes-on left start all byte bytes c d r s out next before given =
-    let first = white_byte byte c r in
-    let others = white_columns bytes first.context first.running in
-    rw (given.context, given.running) (record {
+pub white-goes-on : {P O : Type 0} (left : P → O → List Item → Type 0) (start : O) (all : Outcome) (byte : ℕ) (bytes : List ℕ) (s t : Formatting)
+    (out next : O) → OutcomeLeft left start all (white_columns (byte ∷ bytes) s) out → GivesOutcome left out (white_byte byte s) next t
+    → OutcomeLeft left start all (white_columns bytes t) next
+white-goes-on left start all byte bytes s t out next before given =
+    let first = white_byte byte s in
+    let others = white_columns bytes first.state in
+    rw given.state (record {
       came = λ plan rest x.
           given.came plan (others.items ++ rest) (subst (λ items. left plan out items) (append_assoc first.items others.items rest) (before.came plan rest x));
-      context = before.context;
-      running = before.running;
+      state = before.state;
     })

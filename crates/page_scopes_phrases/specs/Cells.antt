@@ -14,7 +14,7 @@ use Rattle.page_scopes_phrases.specs.Outcomes.{Outcome, followed_by, nothing}
 use Rattle.page_scopes_phrases.specs.Phrases.{is_text, phrase_outcome}
 use Rattle.page_scopes_phrases.specs.declared.cells.CellSpan.{CellSpan}
 use Rattle.page_scopes_phrases.specs.declared.phrases.Phrase.{Phrase}
-use Rattle.page_scopes_phrases.specs.declared.runnings.Running.{Running}
+use Rattle.page_scopes_phrases.specs.declared.formatting.Formatting.{Formatting}
 use Rattle.page_scopes_words.specs.Words.{says}
 use Rattle.page_sets_lines.specs.declared.events.Join.TheVariants.{Apart}
 
@@ -25,21 +25,20 @@ abbrev pub in_columns : Context → Bool
 in_columns c = unwrap_or (option_map has_columns c.list) false
 
 -- what is before the next word there takes the place of a blank
-abbrev pub column_of : OpenList → Context → Running → Outcome
-column_of list c r = record {
+abbrev pub column_of : OpenList → Formatting → Outcome
+column_of list s = record {
   items = shown (pieces.Column (next_cell list).column) ∷ [];
-  context = record c { list = Some (next_cell list) };
-  running = record r { gap = 0; line = record r.line { ends_blank = false } };
+  state = record s { context = record s.context { list = Some (next_cell list) }; gap = 0; line = record s.line { ends_blank = false } };
 }
 
-abbrev pub next_column : Option OpenList → Context → Running → Outcome
-next_column (Some list) c r = if has_columns list then column_of list c r else nothing c r
-next_column None c r = nothing c r
+abbrev pub next_column : Option OpenList → Formatting → Outcome
+next_column (Some list) s = if has_columns list then column_of list s else nothing s
+next_column None s = nothing s
 
 -- `Ta`: it is reported where no list is open, and does nothing in a list without columns
-abbrev pub column_step : Place → Option OpenList → Context → Running → Outcome
-column_step place (Some list) c r = next_column (Some list) c r
-column_step place None c r = record { items = says ItemOutside place [] ∷ []; context = c; running = r }
+abbrev pub column_step : Place → Option OpenList → Formatting → Outcome
+column_step place (Some list) s = next_column (Some list) s
+column_step place None s = record { items = says ItemOutside place [] ∷ []; state = s }
 
 -- ---- the first cell of a text
 
@@ -91,16 +90,16 @@ other_cells span p =
 -- ---- a text in cells
 
 -- a cell without a byte beside a tab is no word
-abbrev pub cell : ℕ → Phrase (List ℕ) → Context → Running → Outcome
-cell line p c r = if length p.text == 0 then nothing c r else phrase_outcome line p c r
+abbrev pub cell : ℕ → Phrase (List ℕ) → Formatting → Outcome
+cell line p s = if length p.text == 0 then nothing s else phrase_outcome line p s
 
 -- a tab is a word of its row
-abbrev pub tab_step : Context → Running → Outcome
-tab_step c r = next_column c.list c (record r { line = record r.line { has_row_words = r.line.has_row_words || is_text c.part } })
+abbrev pub tab_step : Formatting → Outcome
+tab_step s = next_column s.context.list (record s { line = record s.line { has_row_words = s.line.has_row_words || is_text s.context.part } })
 
 -- the first cell, and the next column
-abbrev pub first_part : CellSpan → ℕ → Phrase (List ℕ) → Context → Running → Outcome
-first_part span line p c r = followed_by (cell line (first_cell span p) c r) tab_step
+abbrev pub first_part : CellSpan → ℕ → Phrase (List ℕ) → Formatting → Outcome
+first_part span line p s = followed_by (cell line (first_cell span p) s) tab_step
 
 abbrev pub span : Phrase (List ℕ) → CellSpan
 span p = span_of p.is_quoted p.text
@@ -109,25 +108,25 @@ abbrev pub has_tab : Phrase (List ℕ) → Bool
 has_tab p = nat_lt (span p).tab (length p.text)
 
 -- each tab begins the next column; a text has no more of them than bytes
-unfoldable pub cells_within : ℕ → ℕ → Phrase (List ℕ) → Context → Running → Outcome
-cells_within zero line p c r = cell line p c r
-cells_within (suc n) line p c r =
-    if has_tab p then followed_by (first_part (span p) line p c r) (cells_within n line (other_cells (span p) p))
-    else cell line p c r
+unfoldable pub cells_within : ℕ → ℕ → Phrase (List ℕ) → Formatting → Outcome
+cells_within zero line p s = cell line p s
+cells_within (suc n) line p s =
+    if has_tab p then followed_by (first_part (span p) line p s) (cells_within n line (other_cells (span p) p))
+    else cell line p s
 
-abbrev pub cells : ℕ → Phrase (List ℕ) → Context → Running → Outcome
-cells line p c r = cells_within (length p.text) line p c r
+abbrev pub cells : ℕ → Phrase (List ℕ) → Formatting → Outcome
+cells line p s = cells_within (length p.text) line p s
 
 -- a text is separated by tabs where columns are open; one without a byte is a word, as everywhere
-abbrev pub text_outcome : ℕ → Phrase (List ℕ) → Context → Running → Outcome
-text_outcome line p c r = if in_columns c && not (length p.text == 0) then cells line p c r else phrase_outcome line p c r
+abbrev pub text_outcome : ℕ → Phrase (List ℕ) → Formatting → Outcome
+text_outcome line p s = if in_columns s.context && not (length p.text == 0) then cells line p s else phrase_outcome line p s
 
 -- ---- white space without a word
 
 -- each of its tabs begins the next column, and its blanks are nothing
-abbrev pub white_byte : ℕ → Context → Running → Outcome
-white_byte byte c r = if byte == 9 then tab_step c r else nothing c r
+abbrev pub white_byte : ℕ → Formatting → Outcome
+white_byte byte s = if byte == 9 then tab_step s else nothing s
 
-abbrev pub white_columns : List ℕ → Context → Running → Outcome
-white_columns [] c r = nothing c r
-white_columns (byte ∷ bytes) c r = followed_by (white_byte byte c r) (white_columns bytes)
+abbrev pub white_columns : List ℕ → Formatting → Outcome
+white_columns [] s = nothing s
+white_columns (byte ∷ bytes) s = followed_by (white_byte byte s) (white_columns bytes)

@@ -14,9 +14,10 @@ use Rattle.page_roff_syntax.specs.Arguments.{argument_value}
 use Rattle.page_roff_syntax.specs.declared.quotes.Argument.{Argument}
 use Rattle.page_scopes_words.proofs.FrontLemmas.{front_fits}
 use Rattle.page_scopes_words.specs.declared.settings.Setting.{Setting}
-use Rattle.page_scopes_phrases.specs.Runnings.{next_gap}
+use Rattle.page_scopes_phrases.specs.Formatting.{next_gap}
+use Rattle.page_scopes_phrases.specs.Phrases.{is_text}
 use Rattle.page_scopes_phrases.specs.declared.kept_texts.KeptText.{KeptText}
-use Rattle.page_scopes_phrases.specs.declared.runnings.Running.{Running}
+use Rattle.page_scopes_phrases.specs.declared.formatting.Formatting.{Formatting}
 use Rattle.page_scopes_text.specs.Words.{blank_cells, fonts_after, token_items, token_prints}
 use Rattle.page_scopes_words.specs.Words.{has_tab, says, white_cells}
 use Rattle.page_scopes_words.specs.declared.fonts.Fonts.{Fonts}
@@ -32,9 +33,10 @@ cut_notes place argument = if nat_lt FIELD (length (argument_value argument)) th
 -- ---- where it is printed
 
 -- the blanks before it
-abbrev pub gap_items : (literal : Bool) → Running → Place → List Item
-gap_items true r place = if r.line.is_after_word then blank_cells (next_gap r) R place else []
-gap_items false r place = if next_gap r == 0 then [] else shown (Blank (next_gap r) false) ∷ []
+abbrev pub gap_items : Formatting → Place → List Item
+gap_items s place =
+    if s.context.is_literal.value then (if s.line.is_after_word then blank_cells (next_gap s) R place else [])
+    else if next_gap s == 0 then [] else shown (Blank (next_gap s) false) ∷ []
 
 -- its parts are as many blanks apart, which are reported where they stand for a tab, or as they are written
 abbrev pub part_items : (literal : Bool) → ℕ → Place → Font → TextToken → List Item
@@ -59,13 +61,13 @@ abbrev pub prints_cell : Bool → List TextToken → Bool
 prints_cell literal tokens = list_any (part_prints literal) tokens
 
 -- it is a word
-abbrev pub after_kept : (in_text spacing : Bool) → Running → Running
-after_kept in_text spacing r = record r {
+abbrev pub after_kept : Formatting → Formatting
+after_kept s = record s {
   has_content = true;
-  gap = if spacing then 1 else 0;
-  line = record r.line {
+  gap = if s.context.has_spacing.value then 1 else 0;
+  line = record s.line {
     has_words = true;
-    has_row_words = r.line.has_row_words || in_text;
+    has_row_words = s.line.has_row_words || is_text s.context.part;
     is_after_word = true;
     is_cut = false;
     ends_blank = false;

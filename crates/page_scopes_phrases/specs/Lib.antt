@@ -1,4 +1,4 @@
-pub mod Runnings
+pub mod Formatting
 pub mod Outcomes
 pub mod Phrases
 pub mod Cells

@@ -8,12 +8,11 @@ use Rattle.page_roff_syntax.specs.Arguments.{is_quoted}
 use Rattle.page_roff_syntax.specs.declared.quotes.Argument.{Argument}
 use Rattle.page_roff_syntax.specs.declared.quotes.Quoting.{Quoting}
 use Rattle.page_roff_syntax.specs.declared.quotes.Quoting.TheVariants.{Unclosed}
-use Rattle.page_scopes_layout.specs.declared.contexts.Context.{Context}
 use Rattle.page_scopes_phrases.specs.Cells.{text_outcome}
-use Rattle.page_scopes_phrases.specs.Outcomes.{Outcome, after_notes, with_running}
+use Rattle.page_scopes_phrases.specs.Outcomes.{Outcome, after_notes, changed}
 use Rattle.page_scopes_phrases.specs.Phrases.{own_phrase, phrase_outcome}
 use Rattle.page_scopes_phrases.specs.declared.phrases.Phrase.{Phrase}
-use Rattle.page_scopes_phrases.specs.declared.runnings.Running.{Running}
+use Rattle.page_scopes_phrases.specs.declared.formatting.Formatting.{Formatting}
 use Rattle.page_scopes_words.specs.Sentences.{ends_sentence}
 use Rattle.page_scopes_words.specs.Words.{at, says}
 use Rattle.page_sets_names.specs.GeneratedTexts.{generated_ends_sentence, generated_is_word, generated_joins_next, generated_spaced, generated_text}
@@ -47,13 +46,13 @@ word_phrase word = record {
 }
 
 -- a sentence ends as its last word is written, with the blanks of an escape that reaches to the line's end
-abbrev pub with_sentence : List ℕ → Running → Running
-with_sentence text r = record r { line = record r.line { is_sentence = ends_sentence r.line.ends_blank text } }
+abbrev pub with_sentence : List ℕ → Formatting → Formatting
+with_sentence text s = record s { line = record s.line { is_sentence = ends_sentence s.line.ends_blank text } }
 
 -- a word of a line
-unfoldable pub line_word : ℕ → Word (List ℕ) → Context → Running → Outcome
-line_word line word c r =
-    after_notes (quote_items line word.arg.quoting word.arg.column) (with_running (with_sentence word.arg.text) (text_outcome line (word_phrase word) c r))
+unfoldable pub line_word : ℕ → Word (List ℕ) → Formatting → Outcome
+line_word line word s =
+    after_notes (quote_items line word.arg.quoting word.arg.column) (changed (with_sentence word.arg.text) (text_outcome line (word_phrase word) s))
 
 -- an argument as a word
 abbrev pub argument_word : Option Font → Join → Argument (List ℕ) → Word (List ℕ)
@@ -69,14 +68,14 @@ generated_phrase place spacing word =
     own_phrase place (generated_text (generated_spaced spacing word.text)) word.font word.before word.after
 
 -- a mark of a macro ends no sentence, and leaves one that has ended; after a word none has ended, but after those of `Ex` and `Rv` one has. A dash may be glued to what comes after it in its line
-abbrev pub after_generated : GeneratedText → Running → Running
-after_generated own r = record r {
-  line = record r.line {
-    is_sentence = generated_ends_sentence own || (r.line.is_sentence && not (generated_is_word own));
+abbrev pub after_generated : GeneratedText → Formatting → Formatting
+after_generated own s = record s {
+  line = record s.line {
+    is_sentence = generated_ends_sentence own || (s.line.is_sentence && not (generated_is_word own));
     joins_next = generated_joins_next own;
   };
 }
 
-unfoldable pub generated_word : Place → GeneratedWord → Context → Running → Outcome
-generated_word place word c r =
-    with_running (after_generated word.text) (phrase_outcome place.line (generated_phrase place c.has_spacing.value word) c r)
+unfoldable pub generated_word : Place → GeneratedWord → Formatting → Outcome
+generated_word place word s =
+    changed (after_generated word.text) (phrase_outcome place.line (generated_phrase place s.context.has_spacing.value word) s)

@@ -5,46 +5,43 @@ use Rattle.page_core_base.specs.Pieces.{Item, shown}
 use Rattle.page_core_base.specs.declared.pieces.Piece.TheVariants.{Break}
 use Rattle.page_scopes_layout.specs.Nodes.{margin_items}
 use Rattle.page_scopes_layout.specs.declared.contexts.Context.{Context}
-use Rattle.page_scopes_phrases.specs.Runnings.{row_ended}
-use Rattle.page_scopes_phrases.specs.declared.runnings.Running.{Running}
+use Rattle.page_scopes_phrases.specs.Formatting.{row_ended}
+use Rattle.page_scopes_phrases.specs.declared.formatting.Formatting.{Formatting}
 
--- pieces and messages; the context of what follows; and what is then known along the page
+-- pieces and messages, and by what the page is then formatted
 pub record Outcome : Type 0 where
   pub items : List Item
-  pub context : Context
-  pub running : Running
+  pub state : Formatting
 
--- a latch was given what an outcome gives, and this context and what is known are those that it leaves
-pub record GivesOutcome {P O : Type 0} (left : P → O → List Item → Type 0) (out : O) (outcome : Outcome) (next : O) (c : Context) (r : Running)
-    : Type 0 where
+-- a latch was given what an outcome gives, and this state is the one that it leaves
+pub record GivesOutcome {P O : Type 0} (left : P → O → List Item → Type 0) (out : O) (outcome : Outcome) (next : O) (s : Formatting) : Type 0 where
   pub came : Came left out outcome.items next
-  pub context : c ≡ outcome.context
-  pub running : r ≡ outcome.running
+  pub state : s ≡ outcome.state
 
--- it prints nothing, and leaves these
-abbrev pub nothing : Context → Running → Outcome
-nothing c r = record { items = []; context = c; running = r }
+-- it prints nothing, and leaves this state
+abbrev pub nothing : Formatting → Outcome
+nothing s = record { items = []; state = s }
 
 -- the row ends
-abbrev pub row_break : Context → Running → Outcome
-row_break c r = record { items = shown Break ∷ []; context = c; running = row_ended r }
+abbrev pub row_break : Formatting → Outcome
+row_break s = record { items = shown Break ∷ []; state = row_ended s }
 
 -- the row ends, and other margins hold
 abbrev pub row_margin_items : Context → List Item
 row_margin_items c = shown Break ∷ margin_items c
 
 -- and rows go on in their context
-abbrev pub at_margins : Context → Running → Outcome
-at_margins c r = record { items = row_margin_items c; context = c; running = row_ended r }
+abbrev pub at_margins : Formatting → Outcome
+at_margins s = record { items = row_margin_items s.context; state = row_ended s }
 
 -- messages come first, or other items
 abbrev pub after_notes : List Item → Outcome → Outcome
 after_notes notes o = record o { items = notes ++ o.items }
 
--- then something else is known along the page
-abbrev pub with_running : (Running → Running) → Outcome → Outcome
-with_running change o = record o { running = change o.running }
+-- then the state changes
+abbrev pub changed : (Formatting → Formatting) → Outcome → Outcome
+changed change o = record o { state = change o.state }
 
 -- one after the other
-abbrev pub followed_by : Outcome → (Context → Running → Outcome) → Outcome
-followed_by first next = after_notes first.items (next first.context first.running)
+abbrev pub followed_by : Outcome → (Formatting → Outcome) → Outcome
+followed_by first next = after_notes first.items (next first.state)

@@ -10,9 +10,9 @@ use Rattle.page_scopes_layout.specs.declared.contexts.PagePart.TheVariants as pa
 use Rattle.page_scopes_words.specs.declared.settings.Setting.{Setting}
 use Rattle.page_scopes_layout.specs.Headings.{heading_further}
 use Rattle.page_scopes_phrases.specs.Outcomes.{Outcome}
-use Rattle.page_scopes_phrases.specs.Runnings.{next_gap}
+use Rattle.page_scopes_phrases.specs.Formatting.{next_gap}
 use Rattle.page_scopes_phrases.specs.declared.phrases.Phrase.{Phrase}
-use Rattle.page_scopes_phrases.specs.declared.runnings.Running.{Running}
+use Rattle.page_scopes_phrases.specs.declared.formatting.Formatting.{Formatting}
 use Rattle.page_scopes_text.specs.Parted.{words_of}
 use Rattle.page_scopes_text.specs.Texts.{text_after, text_items}
 use Rattle.page_scopes_text.specs.declared.pens.Pen.{Pen}
@@ -71,22 +71,22 @@ splits p c = p.is_written && (not c.is_literal.value && not (is_tag c.part))
 abbrev pub phrase_style : Phrase (List ℕ) → Context → TextStyle
 phrase_style p c = record { is_quoted = p.is_quoted; is_literal = c.is_literal.value; is_line = p.is_line }
 
-abbrev pub phrase_pen : Phrase (List ℕ) → Context → Running → Pen
-phrase_pen p c r = record {
-  fonts = own_fonts p.font c.fonts;
+abbrev pub phrase_pen : Phrase (List ℕ) → Formatting → Pen
+phrase_pen p s = record {
+  fonts = own_fonts p.font s.context.fonts;
   column = p.column;
-  gap = joined_gap p.before (r.line.ends_blank && not c.is_literal.value) (next_gap r);
-  is_after_word = r.line.is_after_word;
+  gap = joined_gap p.before (s.line.ends_blank && not s.context.is_literal.value) (next_gap s);
+  is_after_word = s.line.is_after_word;
   has_cell = false;
   is_cut = false;
   ends_blank = false;
-  splits = splits p c;
+  splits = splits p s.context;
 }
 
 -- ---- after its words
 
-abbrev pub phrase_end : Phrase (List ℕ) → Context → Running → Pen
-phrase_end p c r = text_after (phrase_style p c) (phrase_pen p c r) (words_of p.is_quoted p.text)
+abbrev pub phrase_end : Phrase (List ℕ) → Formatting → Pen
+phrase_end p s = text_after (phrase_style p s.context) (phrase_pen p s) (words_of p.is_quoted p.text)
 
 -- a font of its own leaves the fonts as they were; in the words of a font macro escapes set them, but not for good
 abbrev pub kept_fonts : Option Font → Bool → Setting Fonts → Setting Fonts → Setting Fonts
@@ -104,13 +104,14 @@ abbrev pub is_text : PagePart → Bool
 is_text parts.Text = true
 is_text _ = false
 
-abbrev pub running_after : Phrase (List ℕ) → Pen → Context → Running → Running
-running_after p pen c r = record r {
+abbrev pub state_after : Phrase (List ℕ) → Pen → Formatting → Formatting
+state_after p pen s = record s {
+  context = context_after p (is_some s.line.fonts_before) pen s.context;
   has_content = true;
-  gap = joined_gap p.after (pen.ends_blank && not c.is_literal.value) (end_gap c.has_spacing.value pen);
-  line = record r.line {
+  gap = joined_gap p.after (pen.ends_blank && not s.context.is_literal.value) (end_gap s.context.has_spacing.value pen);
+  line = record s.line {
     has_words = true;
-    has_row_words = r.line.has_row_words || is_text c.part;
+    has_row_words = s.line.has_row_words || is_text s.context.part;
     is_after_word = true;
     is_cut = pen.is_cut;
     ends_blank = pen.ends_blank;
@@ -120,9 +121,8 @@ running_after p pen c r = record r {
 
 -- ---- all of it; it may be of a heading
 
-abbrev pub phrase_outcome : ℕ → Phrase (List ℕ) → Context → Running → Outcome
-phrase_outcome line p c r = record {
-  items = text_items (phrase_style p c) line (phrase_pen p c r) (words_of p.is_quoted p.text);
-  context = context_after p (is_some r.line.fonts_before) (phrase_end p c r) c;
-  running = running_after p (phrase_end p c r) c (record r { heading = heading_further c.part p.is_quoted (phrase_pen p c r).gap p.text r.heading });
+abbrev pub phrase_outcome : ℕ → Phrase (List ℕ) → Formatting → Outcome
+phrase_outcome line p s = record {
+  items = text_items (phrase_style p s.context) line (phrase_pen p s) (words_of p.is_quoted p.text);
+  state = state_after p (phrase_end p s) (record s { heading = heading_further s.context.part p.is_quoted (phrase_pen p s).gap p.text s.heading });
 }

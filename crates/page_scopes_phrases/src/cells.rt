@@ -9,7 +9,7 @@ ghost use Rattle.page_scopes_phrases.specs.Outcomes.{GivesOutcome};
 ghost use Rattle.page_scopes_phrases.specs.Phrases.{phrase_view};
 
 use crate::phrases::is_text;
-use crate::{Phrase, Running, give_phrase};
+use crate::{Formatting, Phrase, give_phrase};
 use page_core_base::{LINE, NoteKind, Piece, PieceOut, Place};
 use page_core_escapes::{Escape, Token, read_token};
 use page_scopes_layout::Context;
@@ -35,33 +35,26 @@ pub fn in_columns(context: &Context) -> bool
 }
 
 // Begins the next column, where the innermost list has columns.
-fn give_next_column<O: PieceOut>(out: &mut O, context: &mut Context, running: &mut Running)
-    ensures { GivesOutcome O.left out.old (cells.next_column context.old.list context.old running.old)
-        out.new context.new running.new }
+fn give_next_column<O: PieceOut>(out: &mut O, state: &mut Formatting)
+    ensures { GivesOutcome O.left out.old (cells.next_column state.old.context.list state.old) out.new state.new }
 {
-    if let Some(list) = context.list {
+    if let Some(list) = state.context.list {
         if list.has_columns() {
             let next = list.next_cell();
-            context.list = Some(next);
+            state.context.list = Some(next);
             out.give(Piece::Column(next.column));
-            running.gap = 0;
-            running.line.ends_blank = false;
+            state.gap = 0;
+            state.line.ends_blank = false;
         }
     }
 }
 
 /// Begins the next column: `Ta`.
-pub fn give_column_step<O: PieceOut>(
-    out: &mut O,
-    place: Place,
-    context: &mut Context,
-    running: &mut Running,
-)
-    ensures { GivesOutcome O.left out.old (cells.column_step place context.old.list context.old running.old)
-        out.new context.new running.new }
+pub fn give_column_step<O: PieceOut>(out: &mut O, place: Place, state: &mut Formatting)
+    ensures { GivesOutcome O.left out.old (cells.column_step place state.old.context.list state.old) out.new state.new }
 {
-    if context.list.is_some() {
-        give_next_column(out, context, running);
+    if state.context.list.is_some() {
+        give_next_column(out, state);
     } else {
         report(out, NoteKind::ItemOutside, place, b"");
     }
@@ -208,29 +201,21 @@ fn other_cells<'a>(span: CellSpan, phrase: &Phrase<&'a [u8]>) -> Phrase<&'a [u8]
 }
 
 // Gives the words of a cell on a line, where it has any.
-fn give_cell<O: PieceOut>(
-    out: &mut O,
-    line: u32,
-    phrase: &Phrase<&[u8]>,
-    context: &mut Context,
-    running: &mut Running,
-)
+fn give_cell<O: PieceOut>(out: &mut O, line: u32, phrase: &Phrase<&[u8]>, state: &mut Formatting)
     requires { FitsAt phrase.now.column phrase.now.text.now }
-    ensures { GivesOutcome O.left out.old (cells.cell line (phrase_view phrase.now) context.old running.old)
-        out.new context.new running.new }
+    ensures { GivesOutcome O.left out.old (cells.cell line (phrase_view phrase.now) state.old) out.new state.new }
 {
     if !phrase.text.is_empty() {
-        give_phrase(out, line, phrase, context, running);
+        give_phrase(out, line, phrase, state);
     }
 }
 
 // A tab begins the next column.
-fn give_tab<O: PieceOut>(out: &mut O, context: &mut Context, running: &mut Running)
-    ensures { GivesOutcome O.left out.old (cells.tab_step context.old running.old)
-        out.new context.new running.new }
+fn give_tab<O: PieceOut>(out: &mut O, state: &mut Formatting)
+    ensures { GivesOutcome O.left out.old (cells.tab_step state.old) out.new state.new }
 {
-    running.line.has_row_words = running.line.has_row_words || is_text(context.part);
-    give_next_column(out, context, running);
+    state.line.has_row_words = state.line.has_row_words || is_text(state.context.part);
+    give_next_column(out, state);
 }
 
 // Gives the words of the first cell on a line, and begins the next column.
@@ -239,16 +224,14 @@ fn give_first_cell<O: PieceOut>(
     line: u32,
     span: CellSpan,
     phrase: &Phrase<&[u8]>,
-    context: &mut Context,
-    running: &mut Running,
+    state: &mut Formatting,
 )
     requires end { span.end ≤ length phrase.now.text.now }
     requires fits { FitsAt phrase.now.column phrase.now.text.now }
-    ensures { GivesOutcome O.left out.old (cells.first_part span line (phrase_view phrase.now) context.old running.old)
-        out.new context.new running.new }
+    ensures { GivesOutcome O.left out.old (cells.first_part span line (phrase_view phrase.now) state.old) out.new state.new }
 {
-    give_cell(out, line, &first_cell(span, phrase), context, running);
-    give_tab(out, context, running);
+    give_cell(out, line, &first_cell(span, phrase), state);
+    give_tab(out, state);
 }
 
 /// Gives the words of a phrase on a line cell by cell, each in its column.
@@ -257,44 +240,35 @@ pub(crate) fn give_cells<O: PieceOut>(
     out: &mut O,
     line: u32,
     phrase: &Phrase<&[u8]>,
-    context: &mut Context,
-    running: &mut Running,
+    state: &mut Formatting,
 )
     requires { FitsAt phrase.now.column phrase.now.text.now }
-    ensures { GivesOutcome O.left out.old (cells.cells line (phrase_view phrase.now) context.old running.old)
-        out.new context.new running.new }
+    ensures { GivesOutcome O.left out.old (cells.cells line (phrase_view phrase.now) state.old) out.new state.new }
 {
     let mut left = *phrase;
     let mut span = find_cell(left.is_quoted, left.text);
     while span.tab < left.text.len() {
-        give_first_cell(out, line, span, &left, context, running);
+        give_first_cell(out, line, span, &left, state);
         left = other_cells(span, &left);
         span = find_cell(left.is_quoted, left.text);
     }
-    give_cell(out, line, &left, context, running);
+    give_cell(out, line, &left, state);
 }
 
 // Gives a byte of white space in columns: a tab begins the next one.
-fn give_white_byte<O: PieceOut>(out: &mut O, byte: u8, context: &mut Context, running: &mut Running)
-    ensures { GivesOutcome O.left out.old (cells.white_byte byte context.old running.old)
-        out.new context.new running.new }
+fn give_white_byte<O: PieceOut>(out: &mut O, byte: u8, state: &mut Formatting)
+    ensures { GivesOutcome O.left out.old (cells.white_byte byte state.old) out.new state.new }
 {
     if byte == b'\t' {
-        give_tab(out, context, running);
+        give_tab(out, state);
     }
 }
 
 /// Gives white space in columns: each tab begins the next one.
-pub fn give_white_columns<O: PieceOut>(
-    out: &mut O,
-    white: &[u8],
-    context: &mut Context,
-    running: &mut Running,
-)
-    ensures { GivesOutcome O.left out.old (cells.white_columns white.now context.old running.old)
-        out.new context.new running.new }
+pub fn give_white_columns<O: PieceOut>(out: &mut O, white: &[u8], state: &mut Formatting)
+    ensures { GivesOutcome O.left out.old (cells.white_columns white.now state.old) out.new state.new }
 {
     for byte in white {
-        give_white_byte(out, *byte, context, running);
+        give_white_byte(out, *byte, state);
     }
 }

@@ -12,7 +12,8 @@ ghost use Rattle.page_scopes_text.specs.Words as texts;
 ghost use Rattle.page_scopes_words.specs.Words as words;
 
 use crate::kept_names::{Known, NamePart};
-use crate::{KeptText, ManualName, Running};
+use crate::phrases::is_text;
+use crate::{Formatting, KeptText, ManualName};
 use page_core_base::{FIELD, Font, LINE, Limit, NoteKind, Piece, PieceOut, Place};
 use page_core_escapes::{Token, Tokens, read_token};
 use page_roff_syntax::Argument;
@@ -29,16 +30,16 @@ pub fn report_cut<O: PieceOut>(out: &mut O, place: Place, argument: Argument<&[u
 }
 
 /// Gives the blanks before a kept text.
-pub fn give_kept_gap<O: PieceOut>(out: &mut O, is_literal: bool, running: &Running, place: Place)
-    ensures { Came O.left out.old (kept.gap_items is_literal running.now place) out.new }
+pub fn give_kept_gap<O: PieceOut>(out: &mut O, state: &Formatting, place: Place)
+    ensures { Came O.left out.old (kept.gap_items state.now place) out.new }
 {
-    if is_literal {
-        if running.line.is_after_word {
-            give_blank_cells(out, running.next_gap(), Font::R, place);
+    if state.context.is_literal.value {
+        if state.line.is_after_word {
+            give_blank_cells(out, state.next_gap(), Font::R, place);
         }
-    } else if running.next_gap() != 0 {
+    } else if state.next_gap() != 0 {
         out.give(Piece::Blank {
-            count: running.next_gap(),
+            count: state.next_gap(),
             has_tab: false,
         });
     }
@@ -217,15 +218,15 @@ pub(crate) fn give_name<O: PieceOut>(
     give_known_parts(out, is_literal, front, place, start, text, name.parts());
 }
 
-impl Running {
-    /// What is known along the page goes on after a kept text, which is a word.
-    pub fn pass_kept(&mut self, in_text: bool, has_spacing: bool)
-        ensures { self.new ≡ kept.after_kept in_text has_spacing self.old }
+impl Formatting {
+    /// The state after a kept text, which is a word.
+    pub fn pass_kept(&mut self)
+        ensures { self.new ≡ kept.after_kept self.old }
     {
         self.has_content = true;
-        self.gap = if has_spacing { 1 } else { 0 };
+        self.gap = if self.context.has_spacing.value { 1 } else { 0 };
         self.line.has_words = true;
-        self.line.has_row_words = self.line.has_row_words || in_text;
+        self.line.has_row_words = self.line.has_row_words || is_text(self.context.part);
         self.line.is_after_word = true;
         self.line.is_cut = false;
         self.line.ends_blank = false;

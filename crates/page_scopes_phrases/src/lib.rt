@@ -1,16 +1,18 @@
-//! Words of events as pieces and messages, and what is known along a page whatever its scopes are (man(7), mdoc(7)).
+//! Words of events as pieces and messages, and what a page is formatted by (man(7), mdoc(7)).
 //!
-//! A word comes in, in the context of the open scopes; it gives an outcome: items, and the context and what is known after it. In columns a text is
-//! parted into cells first. What it says of a heading, and what is kept of a name, is followed beside. The end of a function is words with what is
-//! round them. Read `src/runnings.rt` first, then `specs/Outcomes.antt`, `Phrases.antt` (one text) and `LineWords.antt` (a word of a line).
+//! A word comes in, where the page is formatted by the context of the open scopes and by what is known along it; it gives an outcome: items, and by what
+//! the page is formatted after it. In columns a text is parted into cells first. What it says of a heading, and what is kept of a name, is followed
+//! beside. The end of a function is words with what is round them. Read `src/formatting.rt` first, then `specs/Outcomes.antt`, `Phrases.antt` (one
+//! text) and `LineWords.antt` (a word of a line).
 //!
 //! Proved: `give_line_word`, `give_generated_word`, `give_phrase`, `give_column_step`, `give_white_columns`: a word of a line and a word of a macro's
-//! own, in rows and in columns: its pieces and messages, the context after it, and what is then known along the page (`specs/LineWords.antt`,
+//! own, in rows and in columns: its pieces and messages, and by what the page is formatted after it (`specs/LineWords.antt`,
 //! `Phrases.antt`, `Cells.antt`). `give_manual_name`, `keep_name`, `ManualName::of`, `KeptText::of`, `give_kept`: what is kept of a name, and what it
 //! gives (`specs/ManualNames.antt`, `KeptTexts.antt`). `give_function_end`: what closes the arguments of a function (`specs/FunctionEnds.antt`).
 #![tactic(auto)]
 
 mod cells;
+mod formatting;
 mod function_ends;
 mod kept_names;
 mod kept_texts;
@@ -18,9 +20,9 @@ mod kept_words;
 mod line_words;
 mod manual_names;
 mod phrases;
-mod runnings;
 
 pub use cells::{give_column_step, give_white_columns, in_columns};
+pub use formatting::{Formatting, LineSoFar};
 pub use function_ends::give_function_end;
 pub use kept_names::ManualName;
 pub use kept_texts::{FieldText, KeptText};
@@ -28,4 +30,3 @@ pub use kept_words::{give_kept, give_kept_gap, report_cut};
 pub use line_words::{argument_word, give_generated_word, give_line_word};
 pub use manual_names::{give_manual_name, keep_name};
 pub use phrases::{Phrase, blanks_part, give_phrase, joined_gap};
-pub use runnings::{LineSoFar, Running};

@@ -10,10 +10,9 @@ ghost use Rattle.page_scopes_phrases.specs.Phrases.{phrase_view};
 ghost use Rattle.page_sets_lines.specs.Events.{word_view};
 
 use crate::cells::{give_cells, in_columns};
-use crate::{Phrase, Running, give_phrase};
+use crate::{Formatting, Phrase, give_phrase};
 use page_core_base::{Font, NoteKind, PieceOut, Place};
 use page_roff_syntax::{Argument, Quoting};
-use page_scopes_layout::Context;
 use page_scopes_words::{ends_sentence, report};
 use page_sets_lines::{GeneratedWord, Join, Role, Word};
 
@@ -75,21 +74,14 @@ fn word_phrase<'a>(word: &Word<&'a [u8]>) -> Phrase<&'a [u8]>
 
 // Gives the words of a phrase, in columns where these are open.
 #[inline(always)]
-fn give_parted<O: PieceOut>(
-    out: &mut O,
-    line: u32,
-    phrase: &Phrase<&[u8]>,
-    context: &mut Context,
-    running: &mut Running,
-)
+fn give_parted<O: PieceOut>(out: &mut O, line: u32, phrase: &Phrase<&[u8]>, state: &mut Formatting)
     requires { FitsAt phrase.now.column phrase.now.text.now }
-    ensures { GivesOutcome O.left out.old (text_outcome line (phrase_view phrase.now) context.old running.old)
-        out.new context.new running.new }
+    ensures { GivesOutcome O.left out.old (text_outcome line (phrase_view phrase.now) state.old) out.new state.new }
 {
-    if in_columns(context) && !phrase.text.is_empty() {
-        give_cells(out, line, phrase, context, running);
+    if in_columns(&state.context) && !phrase.text.is_empty() {
+        give_cells(out, line, phrase, state);
     } else {
-        give_phrase(out, line, phrase, context, running);
+        give_phrase(out, line, phrase, state);
     }
 }
 
@@ -100,17 +92,14 @@ pub fn give_line_word<O: PieceOut>(
     out: &mut O,
     line: u32,
     word: &Word<&[u8]>,
-    context: &mut Context,
-    running: &mut Running,
+    state: &mut Formatting,
 )
     requires { FitsAt word.now.arg.column word.now.arg.text.now }
-    ensures { GivesOutcome O.left out.old
-        (lines.line_word line (word_view word.now) context.old running.old)
-        out.new context.new running.new }
+    ensures { GivesOutcome O.left out.old (lines.line_word line (word_view word.now) state.old) out.new state.new }
 {
     report_quote(out, line, word.arg.quoting, word.arg.column);
-    give_parted(out, line, &word_phrase(word), context, running);
-    running.line.is_sentence = ends_sentence(running.line.ends_blank, word.arg.text);
+    give_parted(out, line, &word_phrase(word), state);
+    state.line.is_sentence = ends_sentence(state.line.ends_blank, word.arg.text);
 }
 
 // A word of a macro's own as a phrase.
@@ -128,16 +117,13 @@ pub fn give_generated_word<O: PieceOut>(
     out: &mut O,
     place: Place,
     word: GeneratedWord,
-    context: &mut Context,
-    running: &mut Running,
+    state: &mut Formatting,
 )
-    ensures { GivesOutcome O.left out.old
-        (lines.generated_word place word context.old running.old)
-        out.new context.new running.new }
+    ensures { GivesOutcome O.left out.old (lines.generated_word place word state.old) out.new state.new }
 {
-    let phrase = generated_phrase(place, context.has_spacing.value, word);
-    give_phrase(out, place.line, &phrase, context, running);
-    running.line.is_sentence = word.text.ends_sentence()
-        || (running.line.is_sentence && !word.text.is_word());
-    running.line.joins_next = word.text.joins_next();
+    let phrase = generated_phrase(place, state.context.has_spacing.value, word);
+    give_phrase(out, place.line, &phrase, state);
+    state.line.is_sentence = word.text.ends_sentence()
+        || (state.line.is_sentence && !word.text.is_word());
+    state.line.joins_next = word.text.joins_next();
 }

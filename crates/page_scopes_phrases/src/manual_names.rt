@@ -11,11 +11,10 @@ ghost use Rattle.page_sets_lines.specs.declared.events.Join.TheVariants.{Apart};
 ghost use Rattle.page_sets_lines.specs.declared.events.Role.TheVariants.{Name};
 
 use crate::kept_words::{give_kept_gap, give_name, report_cut};
-use crate::phrases::{Phrase, give_phrase, is_text, own_fonts};
-use crate::{KeptText, ManualName, Running};
+use crate::phrases::{Phrase, give_phrase, own_fonts};
+use crate::{Formatting, KeptText, ManualName};
 use page_core_base::{Font, NoteKind, Piece, PieceOut, Place};
 use page_roff_syntax::Argument;
-use page_scopes_layout::Context;
 use page_scopes_words::{ends_sentence, report};
 use page_sets_lines::{Join, Role};
 
@@ -63,19 +62,12 @@ fn nameless(place: Place) -> Phrase<&'static [u8]>
 
 // Gives the word of a manual without a name.
 #[tactic(auto, unfolding(crate::specs::ManualNames::missing_name))]
-fn give_nameless<O: PieceOut>(
-    out: &mut O,
-    place: Place,
-    context: &mut Context,
-    running: &mut Running,
-)
-    ensures { GivesOutcome O.left out.old
-        (names.missing_name place context.old running.old)
-        out.new context.new running.new }
+fn give_nameless<O: PieceOut>(out: &mut O, place: Place, state: &mut Formatting)
+    ensures { GivesOutcome O.left out.old (names.missing_name place state.old) out.new state.new }
 {
     report(out, NoteKind::MissingName, place, b"");
-    give_phrase(out, place.line, &nameless(place), context, running);
-    running.line.is_sentence = ends_sentence(running.line.ends_blank, b"");
+    give_phrase(out, place.line, &nameless(place), state);
+    state.line.is_sentence = ends_sentence(state.line.ends_blank, b"");
 }
 
 // A name of no bytes is a text without characters.
@@ -92,37 +84,31 @@ fn give_empty<O: PieceOut>(out: &mut O, place: Place, name: &KeptText)
 }
 
 // Whether the blanks before a name are cells.
-fn has_gap_cells(is_literal: bool, running: &Running) -> bool
-    ensures { result ≡ names.has_gap_cells is_literal running.now }
+fn has_gap_cells(state: &Formatting) -> bool
+    ensures { result ≡ names.has_gap_cells state.now }
 {
-    is_literal && (running.line.is_after_word && running.next_gap() > 0)
+    state.context.is_literal.value && (state.line.is_after_word && state.next_gap() > 0)
 }
 
 // Gives a name in bold.
 #[tactic(auto, unfolding(crate::specs::ManualNames::name_word))]
-fn give_name_word<O: PieceOut>(
-    out: &mut O,
-    place: Place,
-    name: &ManualName,
-    context: &mut Context,
-    running: &mut Running,
-)
-    ensures { GivesOutcome O.left out.old
-        (names.name_word place name.now context.old running.old)
-        out.new context.new running.new }
+fn give_name_word<O: PieceOut>(out: &mut O, place: Place, name: &ManualName, state: &mut Formatting)
+    ensures { GivesOutcome O.left out.old (names.name_word place name.now state.old) out.new state.new }
 {
-    let is_literal = context.is_literal.value;
-    let gap = running.next_gap();
+    let is_literal = state.context.is_literal.value;
+    let gap = state.next_gap();
     let text = name.kept().text.text();
-    give_kept_gap(out, is_literal, running, place);
+    give_kept_gap(out, state, place);
     give_empty(out, place, name.kept());
-    let fonts = own_fonts(Some(Font::B), context.fonts);
+    let fonts = own_fonts(Some(Font::B), state.context.fonts);
     give_name(out, is_literal, gap.max(1), place, fonts, name);
-    context.has_row = context.has_row
-        || (has_gap_cells(is_literal, running) || name.prints_cell(is_literal));
-    running.heading.pass_text(context.part, false, gap, text);
-    running.pass_kept(is_text(context.part), context.has_spacing.value);
-    running.line.is_sentence = ends_sentence(false, text);
+    state.context.has_row = state.context.has_row
+        || (has_gap_cells(state) || name.prints_cell(is_literal));
+    state
+        .heading
+        .pass_text(state.context.part, false, gap, text);
+    state.pass_kept();
+    state.line.is_sentence = ends_sentence(false, text);
 }
 
 /// Gives the name of the manual.
@@ -130,15 +116,12 @@ pub fn give_manual_name<O: PieceOut>(
     out: &mut O,
     place: Place,
     name: &Option<ManualName>,
-    context: &mut Context,
-    running: &mut Running,
+    state: &mut Formatting,
 )
-    ensures { GivesOutcome O.left out.old
-        (names.manual_name place name.now context.old running.old)
-        out.new context.new running.new }
+    ensures { GivesOutcome O.left out.old (names.manual_name place name.now state.old) out.new state.new }
 {
     match name {
-        Some(name) => give_name_word(out, place, name, context, running),
-        None => give_nameless(out, place, context, running),
+        Some(name) => give_name_word(out, place, name, state),
+        None => give_nameless(out, place, state),
     }
 }

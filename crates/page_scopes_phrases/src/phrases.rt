@@ -6,7 +6,7 @@ ghost use Rattle.page_scopes_phrases.specs.Outcomes.{GivesOutcome};
 ghost use Rattle.page_scopes_phrases.specs.Phrases as phrases;
 ghost use Rattle.page_scopes_phrases.specs.Phrases.{phrase_view};
 
-use crate::Running;
+use crate::Formatting;
 use page_core_base::{Font, LINE, PieceOut, Place};
 use page_scopes_layout::{Context, PagePart};
 use page_scopes_text::{Pen, TextStyle, give_text};
@@ -112,22 +112,22 @@ fn splits(phrase: &Phrase<&[u8]>, context: &Context) -> bool
 
 // What is known at a phrase's front.
 #[inline(always)]
-fn phrase_pen(phrase: &Phrase<&[u8]>, context: &Context, running: &Running) -> Pen
-    ensures { result ≡ phrases.phrase_pen (phrase_view phrase.now) context.now running.now }
+fn phrase_pen(phrase: &Phrase<&[u8]>, state: &Formatting) -> Pen
+    ensures { result ≡ phrases.phrase_pen (phrase_view phrase.now) state.now }
 {
     Pen {
-        fonts: own_fonts(phrase.font, context.fonts),
+        fonts: own_fonts(phrase.font, state.context.fonts),
         column: phrase.column,
         gap: joined_gap(
             phrase.before,
-            blanks_part(running.line.ends_blank, context),
-            running.next_gap(),
+            blanks_part(state.line.ends_blank, &state.context),
+            state.next_gap(),
         ),
-        is_after_word: running.line.is_after_word,
+        is_after_word: state.line.is_after_word,
         has_cell: false,
         is_cut: false,
         ends_blank: false,
-        splits: splits(phrase, context),
+        splits: splits(phrase, &state.context),
     }
 }
 
@@ -182,24 +182,25 @@ pub(crate) fn is_text(part: PagePart) -> bool
     matches!(part, PagePart::Text)
 }
 
-// What is known along the page goes on after a phrase.
+// The state after a phrase.
 #[inline(always)]
-fn pass_running(running: &mut Running, phrase: &Phrase<&[u8]>, context: &Context, pen: &Pen)
-    ensures { running.new
-        ≡ phrases.running_after (phrase_view phrase.now) pen.now context.now running.old }
+fn pass_phrase(state: &mut Formatting, phrase: &Phrase<&[u8]>, pen: &Pen)
+    ensures { state.new ≡ phrases.state_after (phrase_view phrase.now) pen.now state.old }
 {
-    running.has_content = true;
-    running.gap = joined_gap(
+    let is_guarded = state.line.fonts_before.is_some();
+    state.has_content = true;
+    state.gap = joined_gap(
         phrase.after,
-        blanks_part(pen.ends_blank, context),
-        end_gap(context.has_spacing.value, pen),
+        blanks_part(pen.ends_blank, &state.context),
+        end_gap(state.context.has_spacing.value, pen),
     );
-    running.line.has_words = true;
-    running.line.has_row_words = running.line.has_row_words || is_text(context.part);
-    running.line.is_after_word = true;
-    running.line.is_cut = pen.is_cut;
-    running.line.ends_blank = pen.ends_blank;
-    running.line.joins_next = false;
+    state.line.has_words = true;
+    state.line.has_row_words = state.line.has_row_words || is_text(state.context.part);
+    state.line.is_after_word = true;
+    state.line.is_cut = pen.is_cut;
+    state.line.ends_blank = pen.ends_blank;
+    state.line.joins_next = false;
+    pass_context(&mut state.context, phrase, is_guarded, pen);
 }
 
 /// Gives the words of a phrase on a line.
@@ -208,21 +209,16 @@ pub fn give_phrase<O: PieceOut>(
     out: &mut O,
     line: u32,
     phrase: &Phrase<&[u8]>,
-    context: &mut Context,
-    running: &mut Running,
+    state: &mut Formatting,
 )
     requires { FitsAt phrase.now.column phrase.now.text.now }
-    ensures { GivesOutcome O.left out.old
-        (phrases.phrase_outcome line (phrase_view phrase.now) context.old running.old)
-        out.new context.new running.new }
+    ensures { GivesOutcome O.left out.old (phrases.phrase_outcome line (phrase_view phrase.now) state.old) out.new state.new }
 {
-    let is_guarded = running.line.fonts_before.is_some();
-    let style = phrase_style(phrase, context);
-    let mut pen = phrase_pen(phrase, context, running);
-    running
+    let style = phrase_style(phrase, &state.context);
+    let mut pen = phrase_pen(phrase, state);
+    state
         .heading
-        .pass_text(context.part, phrase.is_quoted, pen.gap, phrase.text);
+        .pass_text(state.context.part, phrase.is_quoted, pen.gap, phrase.text);
     give_text(out, style, line, &mut pen, phrase.text);
-    pass_running(running, phrase, context, &pen);
-    pass_context(context, phrase, is_guarded, &pen);
+    pass_phrase(state, phrase, &pen);
 }

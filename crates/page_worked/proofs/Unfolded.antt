@@ -70,12 +70,12 @@ unfoldable pub use Rattle.page_scopes_blocks.specs.Items.{item_opened as u272}
 unfoldable pub use Rattle.page_scopes_blocks.specs.NameHangs.{kind_counted as u273}
 unfoldable pub use Rattle.page_scopes_blocks.specs.OpenLists.{list_opened as u274}
 unfoldable pub use Rattle.page_scopes_blocks.specs.Tags.{tag as u275, phrase_tag as u276}
-unfoldable pub use Rattle.page_scopes_leaves.specs.EventKinds.{kind_outcome as u277}
-unfoldable pub use Rattle.page_scopes_leaves.specs.Leaves.{leaf_outcome as u278}
-unfoldable pub use Rattle.page_scopes_leaves.specs.RawLines.{raw_line as u279}
-unfoldable pub use Rattle.page_scopes_nodes.specs.Begins.{begun_by as u280}
-unfoldable pub use Rattle.page_scopes_nodes.specs.Ends.{ended as u281}
-unfoldable pub use Rattle.page_scopes_nodes.specs.Openers.{opened as u282}
+unfoldable pub use Rattle.page_scopes_nodes.specs.Begins.{begun_by as u277}
+unfoldable pub use Rattle.page_scopes_nodes.specs.Ends.{ended as u278}
+unfoldable pub use Rattle.page_scopes_nodes.specs.EventKinds.{kind_outcome as u279}
+unfoldable pub use Rattle.page_scopes_nodes.specs.Leaves.{leaf_outcome as u280}
+unfoldable pub use Rattle.page_scopes_nodes.specs.Openers.{opened as u281}
+unfoldable pub use Rattle.page_scopes_nodes.specs.RawLines.{raw_line as u282}
 unfoldable pub use Rattle.page_scopes_nodes.specs.Targets.{target_word as u283}
 unfoldable pub use Rattle.page_scopes_phrases.specs.Cells.{cells_within as u284}
 unfoldable pub use Rattle.page_scopes_phrases.specs.FunctionEnds.{function_end as u285}

@@ -1,9 +1,10 @@
-use Rattle.std.proofs.Common.{◌≡◌, ap, subst, refl, ◌∙◌, rules, w32, FitsSigned, pos}
+use Rattle.std.proofs.Common.{◌≡◌, ap, subst, ◌∙◌, rules, w32, FitsSigned, pos}
 use Rattle.std.specs.Prelude.{unwrap_or}
 use Rattle.std.proofs.lemmas.Int.{to_z-of_z}
 use Rattle.page_scopes_blocks.specs.Blocks as blocks
 use Rattle.page_scopes_blocks.specs.ListWidths.{given_columns, given_notes}
 use Rattle.page_scopes_layout.specs.Begins.{display_begun}
+use Rattle.page_scopes_phrases.specs.Formatting.{in_context}
 use Rattle.page_scopes_phrases.specs.Outcomes.{GivesOutcome, after_notes}
 use Rattle.page_sets_lines.specs.Events.{given_view}
 use Rattle.page_scopes_blocks.proofs.BlockLemmas.{came_after}
@@ -14,15 +15,15 @@ returns g c =
     let left = g.O.PieceOut.left in
     let out = c.args.out.now in
     let last = c.give_display_begin.new in
-    let running = c.args.running.now in
-    let front = c.display_begun.result in
+    let state = c.args.state.now in
+    let front = c.display_begun-state.result in
     let notes = given_notes c.args.place (given_view c.args.offset) in
     let fits : FitsSigned w32 c.give_offset-columns.result = search rules in
-    let e : front ≡ display_begun c.args.is_literal (unwrap_or (given_columns c.args.output (given_view c.args.offset)) (pos 0)) c.args.context.now =
-    c.display_begun.ensures
-    ∙ ap (λ columns. display_begun c.args.is_literal columns c.args.context.now)
+    let e : front ≡ display_begun c.args.is_literal (unwrap_or (given_columns c.args.output (given_view c.args.offset)) (pos 0)) state.context =
+    c.display_begun-state.ensures
+    ∙ ap (λ columns. display_begun c.args.is_literal columns state.context)
     (to_z-of_z w32 c.give_offset-columns.result fits ∙ c.give_offset-columns.ensures.columns) in
-    let came = came_after left out c.give_offset-columns.new.out last.out notes (blocks.display_begins c.args.is_compact front running).items
+    let came = came_after left out c.give_offset-columns.new.out last.out notes (blocks.display_begins c.args.is_compact (in_context front state)).items
     c.give_offset-columns.ensures.came c.give_display_begin.ensures.came in
-    subst (λ f. GivesOutcome left out (after_notes notes (blocks.display_begins c.args.is_compact f running)) last.out front last.running) e
-    (record { came = came; context = refl; running = c.give_display_begin.ensures.running })
+    subst (λ f. GivesOutcome left out (after_notes notes (blocks.display_begins c.args.is_compact (in_context f state))) last.out last.state) e
+    (record { came = came; state = c.give_display_begin.ensures.state })

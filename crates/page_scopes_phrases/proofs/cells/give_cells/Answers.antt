@@ -39,13 +39,13 @@ loop-span-preserved g c =
     let is = rw l.invariant.0 at c.other_cells-left.ensures in
     let given = rw l.invariant.0 at c.give_first_cell.ensures in
     let left = g.O.PieceOut.left in
-    let all = cells c.args.line (phrase_view c.args.phrase.now) c.args.context.now c.args.running.now in
+    let all = cells c.args.line (phrase_view c.args.phrase.now) c.args.state.now in
     let n = c.give_first_cell.new in
-    let next = cells-go-on left c.args.out.now all c.args.line p l.context n.context l.running n.running l.out n.out tab l.invariant.3 given in (
+    let next = cells-go-on left c.args.out.now all c.args.line p l.state n.state l.out n.out tab l.invariant.3 given in (
       c.find_cell-span-in-loop-span.ensures.value,
       c.find_cell-span-in-loop-span.ensures.within.0,
       subst (λ (q : Phrase (List ℕ)). FitsAt q.column q.text) (sym is) (others-fit p tab l.invariant.2),
-      subst (λ (q : Phrase (List ℕ)). CellsLeft left c.args.out.now all c.args.line q n.context n.running n.out) (sym is) next,
+      subst (λ (q : Phrase (List ℕ)). CellsLeft left c.args.out.now all c.args.line q n.state n.out) (sym is) next,
     )
 
 pub returns : goal.returns
@@ -55,5 +55,5 @@ returns g c =
     let after : length l.left.text.now ≤ l.span.tab = grind (arith, nat_tests) in
     let none = is_not_before (span p).tab (length p.text) (rw l.invariant.0 at after) in
     let n = c.give_cell.new in
-    cells-end g.O.PieceOut.left c.args.out.now (cells c.args.line (phrase_view c.args.phrase.now) c.args.context.now c.args.running.now) c.args.line p l.context
-    n.context l.running n.running l.out n.out none l.invariant.3 c.give_cell.ensures
+    cells-end g.O.PieceOut.left c.args.out.now (cells c.args.line (phrase_view c.args.phrase.now) c.args.state.now) c.args.line p l.state
+    n.state l.out n.out none l.invariant.3 c.give_cell.ensures

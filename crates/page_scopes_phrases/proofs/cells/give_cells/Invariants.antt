@@ -10,7 +10,7 @@ invariant-loop-span g l =
     (l.span ≡ span (phrase_view l.left))
     × (l.span.end ≤ length (phrase_view l.left).text)
     × FitsAt (phrase_view l.left).column (phrase_view l.left).text
-    × CellsLeft g.O.PieceOut.left l.fn.out (cells l.line (phrase_view l.phrase) l.fn.context l.fn.running) l.line (phrase_view l.left) l.context l.running l.out
+    × CellsLeft g.O.PieceOut.left l.fn.out (cells l.line (phrase_view l.phrase) l.fn.state) l.line (phrase_view l.left) l.state l.out
 
 abbrev pub decreases-loop-span : goal.decreases-loop-span
 decreases-loop-span g l = length (phrase_view l.left).text

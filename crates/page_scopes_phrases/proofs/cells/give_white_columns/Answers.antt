@@ -9,8 +9,8 @@ loop-byte-preserved g c =
     let l = c.loop-byte in
     let white = c.args.white.now in
     let n = c.give_white_byte.new in
-    white-goes-on g.O.PieceOut.left c.args.out.now (white_columns white c.args.context.now c.args.running.now) (get_or white l.byte-index 0) (drop (l.byte-index + 1) white)
-    l.context n.context l.running n.running l.out n.out (rw (drop_more white l.byte-index 0 c.loop-byte-test.true) at l.invariant) c.give_white_byte.ensures
+    white-goes-on g.O.PieceOut.left c.args.out.now (white_columns white c.args.state.now) (get_or white l.byte-index 0) (drop (l.byte-index + 1) white)
+    l.state n.state l.out n.out (rw (drop_more white l.byte-index 0 c.loop-byte-test.true) at l.invariant) c.give_white_byte.ensures
 
 pub returns : goal.returns
 returns g c =
@@ -18,4 +18,4 @@ returns g c =
     let white = c.args.white.now in
     let none : length white ≤ l.byte-index = omega arith in
     let left = rw (drop_all l.byte-index white none) at l.invariant in
-    record { came = left.came; context = sym left.context; running = sym left.running }
+    record { came = left.came; state = sym left.state }

@@ -5,4 +5,4 @@ use Rattle.page_scopes_phrases.proofs.cells.give_white_columns.Given as goal
 
 abbrev pub invariant-loop-byte : goal.invariant-loop-byte
 invariant-loop-byte g l =
-    OutcomeLeft g.O.PieceOut.left l.fn.out (white_columns l.white l.fn.context l.fn.running) (white_columns (drop l.byte-index l.white) l.context l.running) l.out
+    OutcomeLeft g.O.PieceOut.left l.fn.out (white_columns l.white l.fn.state) (white_columns (drop l.byte-index l.white) l.state) l.out

@@ -7,7 +7,7 @@ pub returns : goal.returns
 returns c = record {
   targets = targets_fit c.args.self.now.scopes;
   lists = lists_fit c.args.self.now.scopes;
-  widths = list_fits c.args.self.now.state.context.list;
+  widths = list_fits c.args.self.now.state.formatting.context.list;
   depth = subst (λ n. n ≤ SCOPES) c.depth.ensures.is c.depth.ensures.within;
   name = text_fits c.args.self.now.state.name;
 }

@@ -4,11 +4,10 @@ use Rattle.page_core_base.specs.Pieces.{Item, shown}
 use Rattle.page_core_base.specs.declared.cells.Font.{Font}
 use Rattle.page_core_base.specs.declared.pieces.Piece.TheVariants as pieces
 use Rattle.page_core_base.specs.declared.places.Place.{Place}
-use Rattle.page_scopes_layout.specs.declared.contexts.Context.{Context}
 use Rattle.page_scopes_layout.specs.Headings.{heading_broken}
 use Rattle.page_scopes_phrases.specs.Outcomes.{Outcome}
-use Rattle.page_scopes_phrases.specs.Runnings.{row_ended, with_content}
-use Rattle.page_scopes_phrases.specs.declared.runnings.Running.{Running}
+use Rattle.page_scopes_phrases.specs.Formatting.{row_ended, with_content}
+use Rattle.page_scopes_phrases.specs.declared.formatting.Formatting.{Formatting}
 
 -- the characters up to a tab are one text
 abbrev pub part_items : Place → Font → List ℕ → List Item
@@ -23,10 +22,12 @@ cells_after place font part (byte ∷ bytes) =
     else cells_after place font (part ++ byte ∷ []) bytes
 
 -- a row of its own, which is kept: the characters as they are, in the font in use
-unfoldable pub raw_line : Place → List ℕ → Context → Running → Outcome
-raw_line place text c r = record {
+unfoldable pub raw_line : Place → List ℕ → Formatting → Outcome
+raw_line place text s = record {
   items = shown pieces.Break ∷ shown (pieces.Literal true)
-      ∷ (cells_after place c.fonts.value.font [] text ++ shown pieces.RowEnd ∷ shown (pieces.Literal c.is_literal.value) ∷ []);
-  context = record c { has_row = c.has_row || nat_lt 0 (length text) };
-  running = row_ended (with_content (record r { heading = heading_broken c.part r.heading }));
+      ∷ (cells_after place s.context.fonts.value.font [] text ++ shown pieces.RowEnd ∷ shown (pieces.Literal s.context.is_literal.value) ∷ []);
+  state = row_ended (with_content (record s {
+    context = record s.context { has_row = s.context.has_row || nat_lt 0 (length text) };
+    heading = heading_broken s.context.part s.heading;
+  }));
 }

@@ -12,8 +12,8 @@ use Rattle.page_scopes_words.specs.Settings.{set_to}
 use Rattle.page_scopes_layout.specs.declared.contexts.Context.{Context}
 use Rattle.page_scopes_words.specs.declared.settings.Setting.{Setting}
 use Rattle.page_scopes_phrases.specs.Outcomes.{Outcome, after_notes, at_margins, row_break}
-use Rattle.page_scopes_phrases.specs.Runnings.{row_ended, with_content}
-use Rattle.page_scopes_phrases.specs.declared.runnings.Running.{Running}
+use Rattle.page_scopes_phrases.specs.Formatting.{in_context, row_ended, with_content}
+use Rattle.page_scopes_phrases.specs.declared.formatting.Formatting.{Formatting}
 use Rattle.page_scopes_words.specs.Numbers.{columns_notes, columns_value, rows_notes, rows_value}
 use Rattle.page_scopes_words.specs.Fonts.{face_fonts}
 use Rattle.page_scopes_words.specs.Words.{face_notes}
@@ -60,22 +60,20 @@ with_font_named name c = record c { fonts = fonts_named (unwrap_or (option_map (
 
 -- ---- rows that are kept (`nf`, `EX`), or filled (`fi`, `EE`)
 
-abbrev pub literal : Bool → Context → Running → Outcome
-literal on c r = record {
+abbrev pub literal : Bool → Formatting → Outcome
+literal on s = record {
   items = shown pieces.Break ∷ shown (pieces.Literal on) ∷ [];
-  context = record c { is_literal = set_to on };
-  running = row_ended r;
+  state = row_ended (in_context (record s.context { is_literal = set_to on }) s);
 }
 
 -- ---- br, sp, ft, in, nf and fi
 
-abbrev pub request : Place → Request (List ℕ) → Context → Running → Outcome
-request place requests.Break c r = row_break c r
-request place (requests.Space rows) c r = record {
+abbrev pub request : Place → Request (List ℕ) → Formatting → Outcome
+request place requests.Break s = row_break s
+request place (requests.Space rows) s = record {
   items = given_rows_notes place rows ++ shown (pieces.Space (given_rows rows)) ∷ [];
-  context = c;
-  running = row_ended (with_content r);
+  state = row_ended (with_content s);
 }
-request place (requests.Font name) c r = record { items = font_notes place name; context = with_font_named name c; running = r }
-request place (requests.Shift columns) c r = after_notes (given_shift_notes place columns) (at_margins (shifted columns c) r)
-request place (requests.Literal on) c r = literal on c r
+request place (requests.Font name) s = record { items = font_notes place name; state = in_context (with_font_named name s.context) s }
+request place (requests.Shift columns) s = after_notes (given_shift_notes place columns) (at_margins (in_context (shifted columns s.context) s))
+request place (requests.Literal on) s = literal on s

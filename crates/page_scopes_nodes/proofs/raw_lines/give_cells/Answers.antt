@@ -3,10 +3,10 @@ use Rattle.std.proofs.lemmas.Bool.{ne_eqb}
 use Rattle.std.proofs.Common.{eq-eqb}
 use Rattle.page_core_base.specs.Pieces.{shown}
 use Rattle.page_core_base.specs.declared.pieces.Piece.TheVariants as pieces
-use Rattle.page_scopes_leaves.specs.RawLines.{cells_after}
-use Rattle.page_scopes_leaves.proofs.RawCells.{plain_step, tab_step}
-use Rattle.page_scopes_leaves.proofs.raw_lines.give_cells.Goals as goal
-use Rattle.page_scopes_leaves.proofs.raw_lines.give_cells.Goals.{then-byte-eq9, else-byte-eq9}
+use Rattle.page_scopes_nodes.specs.RawLines.{cells_after}
+use Rattle.page_scopes_nodes.proofs.RawCells.{plain_step, tab_step}
+use Rattle.page_scopes_nodes.proofs.raw_lines.give_cells.Goals as goal
+use Rattle.page_scopes_nodes.proofs.raw_lines.give_cells.Goals.{then-byte-eq9, else-byte-eq9}
 
 pub loop-index-preserved : goal.loop-index-preserved
 loop-index-preserved g c =

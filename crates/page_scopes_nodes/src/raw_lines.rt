@@ -3,11 +3,10 @@
 ghost use Rattle.std.specs.Prelude.{[]};
 ghost use Rattle.page_core_base.specs.Latches.{Came};
 ghost use Rattle.page_scopes_phrases.specs.Outcomes.{GivesOutcome};
-ghost use Rattle.page_scopes_leaves.specs.RawLines as raw;
+ghost use Rattle.page_scopes_nodes.specs.RawLines as raw;
 
 use page_core_base::{Font, Piece, PieceOut, Place};
-use page_scopes_layout::Context;
-use page_scopes_phrases::Running;
+use page_scopes_phrases::Formatting;
 
 // Gives characters up to a tab.
 fn give_part<O: PieceOut>(out: &mut O, place: Place, font: Font, text: &[u8])
@@ -36,24 +35,16 @@ fn give_cells<O: PieceOut>(out: &mut O, place: Place, font: Font, text: &[u8])
 /// Gives a line as it is, as a row of its own.
 #[tactic(auto, unfolding(crate::specs::RawLines::raw_line))]
 #[inline(never)]
-pub fn give_raw_line<O: PieceOut>(
-    out: &mut O,
-    place: Place,
-    text: &[u8],
-    context: &mut Context,
-    running: &mut Running,
-)
-    ensures { GivesOutcome O.left out.old
-        (raw.raw_line place text.now context.old running.old)
-        out.new context.new running.new }
+pub fn give_raw_line<O: PieceOut>(out: &mut O, place: Place, text: &[u8], state: &mut Formatting)
+    ensures { GivesOutcome O.left out.old (raw.raw_line place text.now state.old) out.new state.new }
 {
     out.give(Piece::Break);
     out.give(Piece::Literal(true));
-    give_cells(out, place, context.fonts.value.font, text);
+    give_cells(out, place, state.context.fonts.value.font, text);
     out.give(Piece::RowEnd);
-    out.give(Piece::Literal(context.is_literal.value));
-    context.has_row = context.has_row || !text.is_empty();
-    running.heading.pass_other(context.part);
-    running.has_content = true;
-    running.end_row();
+    out.give(Piece::Literal(state.context.is_literal.value));
+    state.context.has_row = state.context.has_row || !text.is_empty();
+    state.heading.pass_other(state.context.part);
+    state.has_content = true;
+    state.end_row();
 }

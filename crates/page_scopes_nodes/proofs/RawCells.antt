@@ -6,7 +6,7 @@ use Rattle.page_core_base.specs.Pieces.{shown}
 use Rattle.page_core_base.specs.declared.cells.Font.{Font}
 use Rattle.page_core_base.specs.declared.pieces.Piece.TheVariants as pieces
 use Rattle.page_core_base.specs.declared.places.Place.{Place}
-use Rattle.page_scopes_leaves.specs.RawLines.{cells_after, part_items}
+use Rattle.page_scopes_nodes.specs.RawLines.{cells_after, part_items}
 
 more_by : (text : List ℕ) (start n : ℕ) → start + n < length text
     → take (n + 1) (drop start text) ≡ take n (drop start text) ++ get_or text (start + n) 0 ∷ []

@@ -1,7 +1,7 @@
 use Rattle.std.proofs.Common.{◌≤◌, ◌-◌, [], take, drop}
 use Rattle.page_core_base.specs.Latches.{CameUpTo}
-use Rattle.page_scopes_leaves.specs.RawLines.{cells_after}
-use Rattle.page_scopes_leaves.proofs.raw_lines.give_cells.Given as goal
+use Rattle.page_scopes_nodes.specs.RawLines.{cells_after}
+use Rattle.page_scopes_nodes.proofs.raw_lines.give_cells.Given as goal
 
 abbrev pub invariant-loop-index : goal.invariant-loop-index
 invariant-loop-index g l = record {

@@ -7,8 +7,8 @@ ghost use Rattle.page_core_base.specs.declared.pieces.Piece.TheVariants.{Space};
 ghost use Rattle.page_core_escapes.specs.Escapes.{face_view};
 ghost use Rattle.page_roff_syntax.specs.Arguments.{argument_view};
 ghost use Rattle.page_scopes_phrases.specs.Outcomes.{GivesOutcome, row_margin_items};
-ghost use Rattle.page_scopes_leaves.specs.Requests as requests;
-ghost use Rattle.page_scopes_phrases.specs.Runnings.{row_ended, with_content};
+ghost use Rattle.page_scopes_nodes.specs.Requests as requests;
+ghost use Rattle.page_scopes_phrases.specs.Formatting.{in_context, row_ended, with_content};
 ghost use Rattle.page_scopes_words.specs.Numbers.{columns_notes};
 ghost use Rattle.page_sets_lines.specs.Events.{given_view, request_view, text_view};
 
@@ -17,7 +17,7 @@ use page_core_base::{Piece, PieceOut, Place};
 use page_core_escapes::{FontName, read_font};
 use page_roff_syntax::Argument;
 use page_scopes_layout::Context;
-use page_scopes_phrases::Running;
+use page_scopes_phrases::Formatting;
 use page_scopes_words::{Fonts, Setting, give_columns, give_rows, report_font};
 use page_sets_lines::Request;
 
@@ -33,15 +33,15 @@ pub(crate) fn give_given_rows<O: PieceOut>(out: &mut O, place: Place, rows: Opti
 }
 
 // Gives blank rows: `sp`.
-fn give_space<O: PieceOut>(out: &mut O, place: Place, rows: Option<&[u8]>, running: &mut Running)
+fn give_space<O: PieceOut>(out: &mut O, place: Place, rows: Option<&[u8]>, state: &mut Formatting)
     ensures came { Came O.left out.old
         (requests.given_rows_notes place (text_view rows.entry) ++ shown (Space (requests.given_rows (text_view rows.entry))) ∷ []) out.new }
-    ensures running { running.new ≡ row_ended (with_content running.old) }
+    ensures state { state.new ≡ row_ended (with_content state.old) }
 {
     let rows = give_given_rows(out, place, rows);
     out.give(Piece::Space(rows));
-    running.has_content = true;
-    running.end_row();
+    state.has_content = true;
+    state.end_row();
 }
 
 // Whether a number begins with a sign.
@@ -97,17 +97,15 @@ fn give_shift<O: PieceOut>(
     out: &mut O,
     place: Place,
     columns: Option<&[u8]>,
-    context: &mut Context,
-    running: &mut Running,
+    state: &mut Formatting,
 )
     ensures came { Came O.left out.old
-        (requests.given_shift_notes place (text_view columns.entry) ++ row_margin_items (requests.shifted (text_view columns.entry) context.old)) out.new }
-    ensures context { context.new ≡ requests.shifted (text_view columns.entry) context.old }
-    ensures running { running.new ≡ row_ended running.old }
+        (requests.given_shift_notes place (text_view columns.entry) ++ row_margin_items (requests.shifted (text_view columns.entry) state.old.context)) out.new }
+    ensures state { state.new ≡ row_ended (in_context (requests.shifted (text_view columns.entry) state.old.context) state.old) }
 {
-    set_shift(out, place, columns, context);
-    give_row_margins(out, context);
-    running.end_row();
+    set_shift(out, place, columns, &mut state.context);
+    give_row_margins(out, &state.context);
+    state.end_row();
 }
 
 // The fonts after one is asked for by its name.
@@ -154,20 +152,13 @@ fn give_font<O: PieceOut>(
 }
 
 /// Keeps rows as they are from here on (`nf`, `EX`), or fills them (`fi`, `EE`).
-pub(crate) fn give_literal<O: PieceOut>(
-    out: &mut O,
-    on: bool,
-    context: &mut Context,
-    running: &mut Running,
-)
-    ensures { GivesOutcome O.left out.old
-        (requests.literal on context.old running.old)
-        out.new context.new running.new }
+pub(crate) fn give_literal<O: PieceOut>(out: &mut O, on: bool, state: &mut Formatting)
+    ensures { GivesOutcome O.left out.old (requests.literal on state.old) out.new state.new }
 {
-    context.is_literal = Setting::set_to(on);
+    state.context.is_literal = Setting::set_to(on);
     out.give(Piece::Break);
     out.give(Piece::Literal(on));
-    running.end_row();
+    state.end_row();
 }
 
 /// Gives what a request gives.
@@ -175,21 +166,18 @@ pub(crate) fn give_request<O: PieceOut>(
     out: &mut O,
     place: Place,
     request: &Request<&[u8]>,
-    context: &mut Context,
-    running: &mut Running,
+    state: &mut Formatting,
 )
-    ensures { GivesOutcome O.left out.old
-        (requests.request place (request_view request.now) context.old running.old)
-        out.new context.new running.new }
+    ensures { GivesOutcome O.left out.old (requests.request place (request_view request.now) state.old) out.new state.new }
 {
     match *request {
         Request::Break => {
             out.give(Piece::Break);
-            running.end_row();
+            state.end_row();
         }
-        Request::Space(rows) => give_space(out, place, rows, running),
-        Request::Font(name) => give_font(out, place, name, context),
-        Request::Shift(columns) => give_shift(out, place, columns, context, running),
-        Request::Literal(on) => give_literal(out, on, context, running),
+        Request::Space(rows) => give_space(out, place, rows, state),
+        Request::Font(name) => give_font(out, place, name, &mut state.context),
+        Request::Shift(columns) => give_shift(out, place, columns, state),
+        Request::Literal(on) => give_literal(out, on, state),
     }
 }

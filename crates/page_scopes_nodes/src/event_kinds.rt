@@ -1,15 +1,14 @@
 //! What events give that open and close nothing (man(7), mdoc(7)).
 
 ghost use Rattle.std.specs.Prelude.{◌≡◌};
-ghost use Rattle.page_scopes_leaves.specs.EventKinds as event_kinds;
+ghost use Rattle.page_scopes_nodes.specs.EventKinds as event_kinds;
 ghost use Rattle.page_sets_lines.specs.Fits.{KindFits};
 ghost use Rattle.page_scopes_phrases.specs.Outcomes.{GivesOutcome};
 ghost use Rattle.page_sets_lines.specs.Events.{kind_view};
 
 use crate::{end_line, give_leaf, give_raw_line};
 use page_core_base::{PieceOut, Place};
-use page_scopes_layout::Context;
-use page_scopes_phrases::{ManualName, Running, give_line_word, keep_name};
+use page_scopes_phrases::{Formatting, ManualName, give_line_word, keep_name};
 use page_scopes_words::report_part;
 use page_sets_lines::EventKind;
 
@@ -21,13 +20,11 @@ pub fn give_kind<O: PieceOut>(
     place: Place,
     kind: &EventKind<&[u8]>,
     name: &mut Option<ManualName>,
-    context: &mut Context,
-    running: &mut Running,
+    state: &mut Formatting,
 )
     requires { KindFits (kind_view kind.now) }
-    ensures gives { GivesOutcome O.left out.old
-        (event_kinds.kind_outcome place (kind_view kind.now) name.old context.old running.old)
-        out.new context.new running.new }
+    ensures gives { GivesOutcome O.left out.old (event_kinds.kind_outcome place (kind_view kind.now) name.old state.old)
+        out.new state.new }
     ensures name { name.new ≡ event_kinds.name_after (kind_view kind.now) name.old }
 {
     match kind {
@@ -35,14 +32,14 @@ pub fn give_kind<O: PieceOut>(
             keep_name(out, place.line, word.role, word.arg, name);
             // (a copy, so that the event stays in registers; so below)
             let word = *word;
-            give_line_word(out, place.line, &word, context, running);
+            give_line_word(out, place.line, &word, state);
         }
         EventKind::Leaf(leaf) => {
             let leaf = *leaf;
-            give_leaf(out, place, &leaf, name, context, running);
+            give_leaf(out, place, &leaf, name, state);
         }
-        EventKind::Raw(text) => give_raw_line(out, place, text, context, running),
-        EventKind::End { .. } => end_line(out, context, running),
+        EventKind::Raw(text) => give_raw_line(out, place, text, state),
+        EventKind::End { .. } => end_line(out, state),
         EventKind::Note {
             kind,
             detail,

@@ -1,8 +1,8 @@
-//! What no scope restores: what is known along a page, and of its line so far (man(7); roff(7), "Sentences").
+//! What a page is formatted by: the context of the open scopes, and what is known along the page and of its line so far (man(7); roff(7), "Sentences").
 ghost use Rattle.std.specs.Prelude.{◌≡◌};
-ghost use Rattle.page_scopes_phrases.specs.Runnings as runnings;
+ghost use Rattle.page_scopes_phrases.specs.Formatting as formatting;
 
-use page_scopes_layout::HeadingSoFar;
+use page_scopes_layout::{Context, HeadingSoFar};
 use page_scopes_words::{Fonts, Setting};
 
 /// What is known of a line so far.
@@ -28,9 +28,11 @@ pub struct LineSoFar {
     pub name_columns: Option<u16>,
 }
 
-/// What is known along a page whatever its scopes are.
+/// What a page is formatted by. No scope restores what is known along the page.
 #[derive(Clone, Copy)]
-pub struct Running {
+pub struct Formatting {
+    /// What the open scopes say.
+    pub context: Context,
     /// A word, a raw line, a blank line or `sp` came since the last heading.
     pub has_content: bool,
     /// The count of blanks before the next word.
@@ -56,7 +58,7 @@ const NO_LINE: LineSoFar = LineSoFar {
 impl LineSoFar {
     // The count of blanks after the line, of its last word's; there are blanks between words, or none.
     fn gap(&self, has_spacing: bool, gap: u32) -> u32
-        ensures { result ≡ runnings.line_gap has_spacing self.now gap }
+        ensures { result ≡ formatting.line_gap has_spacing self.now gap }
     {
         if !self.has_words {
             gap
@@ -70,12 +72,13 @@ impl LineSoFar {
     }
 }
 
-impl Running {
-    /// What is known before a page's first line.
-    pub fn start() -> Running
-        ensures { result ≡ runnings.start }
+impl Formatting {
+    /// Before a page's first line, at the page's indent in columns.
+    pub fn start(page_indent: u32) -> Formatting
+        ensures { result ≡ formatting.start page_indent }
     {
-        Running {
+        Formatting {
+            context: Context::start(page_indent),
             has_content: false,
             gap: 1,
             line: NO_LINE,
@@ -85,24 +88,24 @@ impl Running {
 
     /// The count of blanks before the next word: none after a dash that is glued to it.
     pub fn next_gap(&self) -> u32
-        ensures { result ≡ runnings.next_gap self.now }
+        ensures { result ≡ formatting.next_gap self.now }
     {
         if self.line.joins_next { 0 } else { self.gap }
     }
 
     /// The row ends: no word is in it yet.
     pub fn end_row(&mut self)
-        ensures { self.new ≡ runnings.row_ended self.old }
+        ensures { self.new ≡ formatting.row_ended self.old }
     {
         self.line.has_row_words = false;
         self.line.is_after_word = false;
     }
 
-    /// The line ends; there are blanks between words, or none.
-    pub fn end_line(&mut self, has_spacing: bool)
-        ensures { self.new ≡ runnings.line_ended has_spacing self.old }
+    /// The line ends.
+    pub fn end_line(&mut self)
+        ensures { self.new ≡ formatting.line_ended self.old }
     {
-        self.gap = self.line.gap(has_spacing, self.gap);
+        self.gap = self.line.gap(self.context.has_spacing.value, self.gap);
         self.line = NO_LINE;
     }
 }
