@@ -1,9 +1,10 @@
 -- One item through a filler.
-use Rattle.std.proofs.Common.{◌≡◌, ℕ, List, [], ◌∷◌, Option, None, Some, IfSome, map, true, Result, Ok, Err, MatchResult, OnOk, refl, append-nil, ◌∙◌}
+use Rattle.std.proofs.Common.{◌≡◌, ℕ, List, [], ◌∷◌, Option, None, Some, IfSome, length, map, true, Result, Ok, Err, MatchResult, OnOk, refl, ap, append-nil, ◌∙◌, arith}
 use Rattle.std.specs.List.{list_all}
 use Rattle.page_core_base.specs.Rows.{cells_in}
 use Rattle.page_core_base.specs.Sinks.{IsSink}
 use Rattle.page_core_base.specs.Words.{is_lettered_word, lettered_cells, lettered_pieces}
+use Rattle.page_core_base.specs.declared.cells.Cell.{Cell}
 use Rattle.page_core_base.specs.declared.cells.Font.{Font}
 use Rattle.page_core_base.specs.declared.pieces.Piece.{Piece}
 use Rattle.page_fill.specs.Caps.{IsHeld, is_sound}
@@ -80,6 +81,25 @@ items_pass rg rw_ rf ng nw nf (Err x) (Some e) f' r r' n n' items laid gets edge
 )
 
 -- the same of words of letters, which all came, or a front of them and then a fault
+-- a text without a byte has no words
+no_words : (text : List ℕ) (fonts : List Font) (words : List (List (Piece (List ℕ)))) → length text ≡ 0 → cells_in text fonts ≡ lettered_cells words → words ≡ []
+unfolding lettered_cells
+no_words [] fonts [] none e = refl
+no_words [] fonts (word ∷ words) none e = let len = ap (λ (cells : List Cell). length cells) e in absurd (omega (arith, len))
+no_words (b ∷ text) fonts words none e = absurd (omega (arith, none))
+
+no_pieces : (blanks : ℕ) → lettered_pieces blanks [] ≡ []
+unfolding lettered_pieces
+no_pieces blanks = refl
+
+pub no_words_pass : {R N : Type 0} {rg rw_ : R → List LaidRow → R → Type 0} {rf : R → ℕ} {ng nw : N → List Message → N → Type 0} {nf : N → ℕ}
+    → IsSink rg rw_ → IsSink ng nw → (f : Option FillEdge) (r : R) (n : N) (blanks : ℕ) (text : List ℕ) (fonts : List Font)
+    → length text ≡ 0 → (words : List (List (Piece (List ℕ)))) → cells_in text fonts ≡ lettered_cells words
+    → ((row : FillEdge) → f ≡ Some row → Passed rg rf ng nf f f r r n n (laid_items row (map shown (lettered_pieces blanks words)))) × Quiet rf nf r r n n
+no_words_pass k l f r n blanks text fonts none words cells =
+    let is = no_words text fonts words none cells in
+    rw (is, no_pieces blanks) (nothing_passes k l f r n)
+
 pub words_took : {R N : Type 0} (rg rw_ : R → List LaidRow → R → Type 0) (rf : R → ℕ) (ng nw : N → List Message → N → Type 0) (nf : N → ℕ)
     (res : Result (Unit {0}) Fault) (f f' : Option FillEdge) (r r' : R) (n n' : N) (blanks : ℕ) (text : List ℕ) (fonts : List Font)
     → ((e : FillEdge) (words : List (List (Piece (List ℕ)))) → f ≡ Some e → AreWords text fonts words

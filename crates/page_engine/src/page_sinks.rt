@@ -115,6 +115,9 @@ impl<R: RowSink, N: NoteSink> PieceSink for PageSink<'_, '_, '_, R, N> {
         if !self.filler.takes_words(blanks, text) {
             return Ok(false);
         }
+        if text.is_empty() {
+            return Ok(true);
+        }
         self.filler.held_law();
         self.filler
             .words(blanks, text, fonts, &mut self.rows, &mut self.notes)?;

@@ -1,7 +1,7 @@
 //! Words of letters, the first after a count of blanks and each other after one, which the open row takes at once, and the rows that end among
 //! them.
 
-ghost use Rattle.std.specs.Prelude.{◌≡◌, ◌≤◌, ◌<◌, ◌+◌, ◌-◌, ℕ, List, drop, length, true};
+ghost use Rattle.std.specs.Prelude.{◌≡◌, ◌≤◌, ◌<◌, ◌+◌, ◌-◌, ◌==◌, ℕ, List, drop, length, false, true};
 ghost use Rattle.page_core_base.specs.Fails.{FailsBySink};
 ghost use Rattle.page_core_base.specs.Laid.{Gets, Laid, nothing};
 ghost use Rattle.page_core_base.specs.Latches.{LaysOut};
@@ -80,19 +80,16 @@ impl Edge {
             && (blanks == 1 || self.fits_after(blanks, text))
     }
 
-    // Takes the first words of a text where they are after another count of blanks than one: those that the row has room for. Answers how many
-    // bytes they are.
-    fn put_first(&mut self, blanks: u32, text: &[u8], fonts: &[Font]) -> usize
+    // Takes the first words of a text after another count of blanks than one: those that the row has room for. Answers how many bytes they are.
+    fn put_after(&mut self, blanks: u32, text: &[u8], fonts: &[Font]) -> usize
         requires takes { can_take self.old blanks text.now ≡ true }
+        requires more { (blanks == 1) ≡ false }
         requires fonts { length fonts.now ≡ length text.now }
         ensures lays { LaysUpTo self.old blanks text.now fonts.now (drop result text.now) (drop result fonts.now) (nothing self.new) }
         ensures within { result ≤ length text.now }
         ensures room { length self.new.sheet.cells + (length text.now - result) ≤ CELLS }
         ensures sound { is_sound self.old.word ≡ true → is_sound self.new.word ≡ true }
     {
-        if blanks == 1 {
-            return 0;
-        }
         let more = blanks - 1;
         let room = self.sheet.free_cells().saturating_sub(more as usize);
         let end = whole_words(text, room);
@@ -104,6 +101,22 @@ impl Edge {
         self.sheet
             .add_words_after(more, &text[..end], &fonts[..end], start);
         end
+    }
+
+    // The same after any count of blanks: where it is one, none are taken here.
+    #[inline(always)]
+    fn put_first(&mut self, blanks: u32, text: &[u8], fonts: &[Font]) -> usize
+        requires takes { can_take self.old blanks text.now ≡ true }
+        requires fonts { length fonts.now ≡ length text.now }
+        ensures lays { LaysUpTo self.old blanks text.now fonts.now (drop result text.now) (drop result fonts.now) (nothing self.new) }
+        ensures within { result ≤ length text.now }
+        ensures room { length self.new.sheet.cells + (length text.now - result) ≤ CELLS }
+        ensures sound { is_sound self.old.word ≡ true → is_sound self.new.word ≡ true }
+    {
+        if blanks == 1 {
+            return 0;
+        }
+        self.put_after(blanks, text, fonts)
     }
 
     // Takes the first words of a text, each after one blank: those that the row has room for, or the first one, before which the row ends.

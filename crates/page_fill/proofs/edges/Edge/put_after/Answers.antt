@@ -12,7 +12,7 @@ use Rattle.page_fill_rows.specs.machine.Sheets.{Sheet, blank}
 use Rattle.page_fill.specs.LetteredWords.{fits_after}
 use Rattle.page_fill.specs.machine.PlainWords.{whole_words}
 use Rattle.page_fill.proofs.LetteredWordLemmas.{lays-first, lays-no-first}
-use Rattle.page_fill.proofs.edges.Edge.put_first.Goals as goal
+use Rattle.page_fill.proofs.edges.Edge.put_after.Goals as goal
 
 pub returns-then-start-eq0-clause-lays : goal.returns-then-start-eq0-clause-lays
 returns-then-start-eq0-clause-lays c =
@@ -21,7 +21,7 @@ returns-then-start-eq0-clause-lays c =
     let fonts = c.args.fonts.now in
     let m = c.args.blanks - 1 in
     let takes = c.requires.takes in
-    let more = c.if-blanks-eq1.false in
+    let more = c.requires.more in
     let fits : fits_after e c.args.blanks text ≡ true = grind (arith, takes, more) in
     let is : suc m ≡ c.args.blanks = grind (arith, nat_tests, fits) in
     let room : c.saturating_sub-room.result ≡ free_cells e.sheet - m = omega (arith, c.saturating_sub-room.ensures, c.free_cells.ensures.value) in
@@ -44,7 +44,7 @@ returns-clause-lays c =
     let end = c.whole_words-end.result in
     let m = c.args.blanks - 1 in
     let takes = c.requires.takes in
-    let more = c.if-blanks-eq1.false in
+    let more = c.requires.more in
     let plain : is_printable_ascii text ≡ true = grind (arith, takes) in
     let fits : fits_after e c.args.blanks text ≡ true = grind (arith, takes, more) in
     let above : suc m ≡ c.args.blanks = grind (arith, nat_tests, fits) in
@@ -65,7 +65,7 @@ returns-clause-room c =
     let end = c.whole_words-end.result in
     let within = c.whole_words-end.ensures.within in
     let takes = c.requires.takes in
-    let more = c.if-blanks-eq1.false in
+    let more = c.requires.more in
     let fits : fits_after c.args.self.now c.args.blanks text ≡ true = grind (arith, takes, more) in
     let room : length sheet.cells + c.args.blanks + length text ≤ CELLS = grind (arith, nat_tests, takes) in
     let some : length (take end text) ≡ end = length-take-le end text within in
