@@ -30,12 +30,12 @@ fn goes_on(style: TextStyle, pen: &Pen) -> bool
     !style.is_literal && pen.gap > 0 && pen.splits && pen.column > 0
 }
 
-// Whether words would be taken now after a count of blanks, as far as that does not depend on them: nothing is given.
+// Whether words would be taken now, as far as that does not depend on them: nothing is given.
 #[inline(always)]
-fn takes_words<O: PieceOut>(out: &mut O, blanks: u32) -> bool
+fn takes_words<O: PieceOut>(out: &mut O) -> bool
     ensures { Came O.left out.old [] out.new }
 {
-    out.give_words(blanks, b"", roman_fonts(0))
+    out.give_words(1, b"", roman_fonts(0))
 }
 
 // How many bytes at the front of a text are roman, and end no run of words.
@@ -257,7 +257,7 @@ pub(crate) fn give_lettered_front<'a, O: PieceOut>(
     ensures within { IfSome result (λ rest. Within pen.old text.now pen.new rest.now) }
     ensures ends { IfSome result (λ rest. begins_word rest.now ≡ false) }
 {
-    if !goes_on(style, pen) || !takes_words(out, pen.gap) {
+    if !goes_on(style, pen) || !takes_words(out) {
         return None;
     }
     let (fonts, rest) = give_front(out, style, pen, text)?;
