@@ -1,7 +1,7 @@
 -- Letters as bytes and fonts, each in its place.
 use Rattle.std.proofs.Common.{◌≡◌, ℕ, zero, suc, ◌+◌, ◌≤◌, List, [], ◌∷◌, ◌++◌, length, take, drop, replicate, refl, ap, ap₂, sym, ◌∙◌, append_assoc, length-append, arith}
-use Rattle.std.proofs.Math.Seq.{take-append_seam}
-use Rattle.std.proofs.lemmas.List.{length-replicate, length-take-le, take-replicate}
+use Rattle.std.proofs.Math.Seq.{take-append-add, take-append_seam}
+use Rattle.std.proofs.lemmas.List.{length-drop, length-replicate, length-take-le, take-append-le, take-replicate}
 use Rattle.page_core_base.specs.Rows.{cells_in}
 use Rattle.page_core_base.specs.declared.cells.Cell.{Cell}
 use Rattle.page_core_base.specs.declared.cells.Font.{Font}
@@ -36,17 +36,37 @@ put-front old added start within =
     let len : length (take start old ++ added) ≡ start + length added = length-append (take start old) added ∙ ap (λ (n : ℕ). n + length added) (length-take-le start old within) in
     ap₂ take (sym len) (sym (append_assoc (take start old) added rest)) ∙ take-append_seam (take start old ++ added) rest
 
--- some letters, and those that are put after them
-pub letters_put : (text : List ℕ) (fonts : List Font) (start : ℕ) (font : Font) (bytes : List ℕ) → start + length bytes ≤ length text → length fonts ≡ length text
-    → take (start + length bytes) (cells_in (put_at text start bytes) (put_at fonts start (replicate (length bytes) font)))
-    ≡ take start (cells_in text fonts) ++ letters_in font bytes
-letters_put text fonts start font bytes room same =
+pub put_len : (fonts : List Font) (start n : ℕ) (font : Font) → start + n ≤ length fonts → length (put_at fonts start (replicate n font)) ≡ length fonts
+put_len fonts start n font room =
+    let all : List Font = replicate n font in
+    let size : length all ≡ n = length-replicate n font in
+    let front = length-take-le start fonts (omega (arith, room)) in
+    let rest = length-append all (drop (start + length all) fonts) in
+    let whole = length-append (take start fonts) (all ++ drop (start + length all) fonts) in
+    let back = length-drop (start + length all) fonts in
+    omega (arith, size, front, rest, whole, back, room)
+
+-- a count of one font that is put, perhaps with more of it
+pub fonts_put : (fonts : List Font) (start count n : ℕ) (font : Font) → count ≤ n → start + n ≤ length fonts
+    → take (start + count) (put_at fonts start (replicate n font)) ≡ take start fonts ++ replicate count font
+fonts_put fonts start count n font least room =
+    let front = take start fonts in
+    let all : List Font = replicate n font in
+    let rest = all ++ drop (start + length all) fonts in
+    let size : length front ≡ start = length-take-le start fonts (omega (arith, room)) in
+    let many : count ≤ length all = omega (arith, least, length-replicate n font) in
+    ap (λ (k : ℕ). take (k + count) (front ++ rest)) (sym size) ∙ take-append-add front rest count
+    ∙ ap (λ (l : List Font). front ++ l) (take-append-le count all (drop (start + length all) fonts) many ∙ take-replicate count n font least)
+
+-- some letters, and those that are put after them, of which these are the fonts
+pub letters_put : (text : List ℕ) (fonts after : List Font) (start : ℕ) (font : Font) (bytes : List ℕ) → start + length bytes ≤ length text → length fonts ≡ length text
+    → take (start + length bytes) after ≡ take start fonts ++ replicate (length bytes) font
+    → take (start + length bytes) (cells_in (put_at text start bytes) after) ≡ take start (cells_in text fonts) ++ letters_in font bytes
+letters_put text fonts after start font bytes room same are =
     let all : List Font = replicate (length bytes) font in
-    let len : length all ≡ length bytes = length-replicate (length bytes) font in
     let front : length (take start fonts) ≡ length (take start text) = length-take-le start fonts (omega (arith, same, room)) ∙ sym (length-take-le start text (omega (arith, room))) in
-    in-take (start + length bytes) (put_at text start bytes) (put_at fonts start all)
-    ∙ ap₂ cells_in (put-front text bytes start (omega (arith, room)))
-    (ap (λ (n : ℕ). take (start + n) (put_at fonts start all)) (sym len) ∙ put-front fonts all start (omega (arith, same, room)))
+    in-take (start + length bytes) (put_at text start bytes) after
+    ∙ ap₂ cells_in (put-front text bytes start (omega (arith, room))) are
     ∙ in-append (take start text) bytes (take start fonts) all front
     ∙ ap₂ (λ (a b : List Cell). a ++ b) (sym (in-take start text fonts)) (in-font bytes font)
 

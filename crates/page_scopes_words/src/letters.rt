@@ -30,16 +30,44 @@ impl Model for Letters {
     ghost invariant = { λ l. (l.len ≤ 256) × (length l.text ≡ 256) × (length l.fonts ≡ 256) };
 }
 
-// Puts bytes at a start and after it, all in one font.
+// How many fonts are put at a time, where there is room for them.
+const GROUP: usize = 16;
+
+// Puts a count of one font at a start and after it.
+#[inline(always)]
+fn fill_fonts(fonts: &mut [Font], start: usize, font: Font, count: usize)
+    requires { start + count ≤ length fonts.old }
+    ensures { fonts.new ≡ put_at fonts.old start (replicate count font) }
+{
+    fonts[start..start + count].fill(font);
+}
+
+// The same, or more of it, where there is room. Few are put as a whole group, for which the compiler needs no loop: those after the count mean
+// nothing.
+#[inline(always)]
+fn put_fonts(fonts: &mut [Font], start: usize, font: Font, count: usize)
+    requires { start + count ≤ length fonts.old }
+    ensures front { take (start + count) fonts.new ≡ take start fonts.old ++ replicate count font }
+    ensures len { length fonts.new ≡ length fonts.old }
+{
+    if count <= GROUP && start + GROUP <= fonts.len() {
+        fill_fonts(fonts, start, font, GROUP);
+    } else {
+        fill_fonts(fonts, start, font, count);
+    }
+}
+
+// Puts bytes at a start and after it, all in one font; what is after them means nothing.
 #[inline(always)]
 fn put_letters(text: &mut [u8], fonts: &mut [Font], start: usize, font: Font, bytes: &[u8])
     requires { (start + length bytes.now ≤ length text.old) × (length fonts.old ≡ length text.old) }
     ensures text { text.new ≡ put_at text.old start bytes.now }
-    ensures fonts { fonts.new ≡ put_at fonts.old start (replicate (length bytes.now) font) }
+    ensures fonts { take (start + length bytes.now) fonts.new ≡ take start fonts.old ++ replicate (length bytes.now) font }
+    ensures len { length fonts.new ≡ length fonts.old }
 {
     let end = start + bytes.len();
     text[start..end].copy_from_slice(bytes);
-    fonts[start..end].fill(font);
+    put_fonts(fonts, start, font, bytes.len());
 }
 
 impl Letters {
@@ -49,7 +77,7 @@ impl Letters {
         ensures { result ≡ [] }
     {
         Letters {
-            text: [b' '; 256],
+            text: [0; 256],
             fonts: [Font::R; 256],
             len: 0,
         }
