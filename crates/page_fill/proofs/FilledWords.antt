@@ -13,7 +13,7 @@ use Rattle.page_fill_rows.specs.machine.Sheets.{Sheet, over, blank, passes, lett
 use Rattle.page_fill_rows.specs.machine.Sheets as sheets
 use Rattle.page_fill_rows.specs.Characters.{with_notes}
 use Rattle.page_fill.proofs.Marks.{Mark, told, opened, spaced, lettered}
-use Rattle.page_fill.specs.Filled.{CellOrNote, shown, noted, Word, Frame, Row, counted, with_cell, before_word, row_begun, row_ended, full_row_ended, first_word, Outcome, fits, too_wide, too_many, outcome, by_word, by_blanks, one_word, rest_of_word, filling}
+use Rattle.page_fill.specs.Filled.{CellOrNote, shown, noted, Word, Frame, Row, counted, with_cell, before_word, row_begun, row_ended, full_row_ended, first_word, Outcome, fits, too_wide, too_many, after_note, outcome, by_word, by_blanks, one_word, rest_of_word, filling}
 use Rattle.page_fill.specs.machine.Words.{is_wide}
 use Rattle.page_fill.specs.Caps.{IsHeld}
 use Rattle.page_fill.specs.PieceWords.{frame_of, open_row_of}
@@ -80,24 +80,6 @@ note-first : (frame : Frame) (row : Row) (m : Message) (content : List CellOrNot
 unfolding first_word
 note-first frame row m content = refl
 
-abbrev after_note : Message → Outcome → Outcome
-after_note m (fits notes row) = fits (m ∷ notes) row
-after_note m (too_wide row) = too_wide row
-after_note m (too_many notes row place content) = too_many (m ∷ notes) row place content
-
-outcome-note : (frame : Frame) (m : Message) (notes : List Message) (row : Row) (content : List CellOrNote)
-    → outcome frame (m ∷ notes) row content ≡ after_note m (outcome frame notes row content)
-unfolding outcome
-outcome-note frame m notes row [] = refl
-outcome-note frame m notes row (noted n ∷ content) = outcome-note frame m (notes ++ n ∷ []) row content
-outcome-note frame m notes row (shown cell place ∷ content) = elim (cases_Bool (is_wide frame row cell)) [
-  | inl w ↦ rw w refl
-  | inr w ↦ elim (cases_Bool (length row.cells == CELLS)) [
-    | inl full ↦ rw (w, full) refl
-    | inr room ↦ rw (w, room) (outcome-note frame m notes (with_cell row cell) content)
-  ]
-]
-
 by_word-note : (frame : Frame) (row : Row) (m : Message) (content : List CellOrNote) (o : Outcome)
     → with_notes (m ∷ []) (by_word frame row content o) ≡ by_word frame row (noted m ∷ content) (after_note m o)
 by_word-note frame row m content (fits notes taken) = refl
@@ -148,12 +130,11 @@ by_word-more frame row cell place content (too_many notes taken at left) gap wor
 
 -- the cells of a word, from any of them on
 pub word-run : (s : Sheet) (content : List CellOrNote) → IsInWord s
-    → over (run s (marks_of content)) open_row_of ≡ by_word (frame_of s) (open_row_of s) content (outcome (frame_of s) [] (open_row_of s) content)
+    → over (run s (marks_of content)) open_row_of ≡ by_word (frame_of s) (open_row_of s) content (outcome (frame_of s) (open_row_of s) content)
 unfolding run outcome letter
 word-run s [] i = refl
 word-run s (noted m ∷ content) i =
-    ap (with_notes (m ∷ [])) (word-run s content i) ∙ (by_word-note (frame_of s) (open_row_of s) m content (outcome (frame_of s) [] (open_row_of s) content)
-    ∙ ap (by_word (frame_of s) (open_row_of s) (noted m ∷ content)) (sym (outcome-note (frame_of s) m [] (open_row_of s) content)))
+    ap (with_notes (m ∷ [])) (word-run s content i) ∙ by_word-note (frame_of s) (open_row_of s) m content (outcome (frame_of s) (open_row_of s) content)
 word-run s (shown cell place ∷ content) i =
     let wide = passes-later s cell i.later in
     let short = front-short s i in
@@ -174,7 +155,7 @@ word-run s (shown cell place ∷ content) i =
         | inr room ↦
             rw (wide, w, room, some)
             (word-run (record (sheets.counted s cell) { cells = s.cells ++ cell ∷ [] }) content (in-word-more s cell i room)
-            ∙ by_word-more frame row cell place content (outcome frame [] (with_cell row cell) content) (omega (arith, i.gap_within, i.word_within)) i.word_within short)
+            ∙ by_word-more frame row cell place content (outcome frame (with_cell row cell) content) (omega (arith, i.gap_within, i.word_within)) i.word_within short)
       ]
     ]
 
@@ -204,12 +185,12 @@ abbrev pub with_place : Row → ℕ → Row
 with_place row word = record row { word = word }
 
 blanks-end : (s : Sheet) (content : List CellOrNote) (w : ℕ) → s.word ≡ length s.cells
-    → by_word (frame_of s) (open_row_of s) content (outcome (frame_of s) [] (open_row_of s) content) ≡ by_blanks (frame_of s) content (fits [] (with_place (open_row_of s) w))
-blanks-end s content w at_end = ap (λ (n : ℕ). by_word (frame_of s) (with_place (open_row_of s) n) content (outcome (frame_of s) [] (with_place (open_row_of s) n) content)) at_end
+    → by_word (frame_of s) (open_row_of s) content (outcome (frame_of s) (open_row_of s) content) ≡ by_blanks (frame_of s) content (fits [] (with_place (open_row_of s) w))
+blanks-end s content w at_end = ap (λ (n : ℕ). by_word (frame_of s) (with_place (open_row_of s) n) content (outcome (frame_of s) (with_place (open_row_of s) n) content)) at_end
 
 pub blanks-run : (s : Sheet) (n : ℕ) (place : Place) (content : List CellOrNote) (w : ℕ) → IsInWord s → s.word ≡ length s.cells
     → over (run s (replicate n (spaced place) ++ marks_of content)) open_row_of
-    ≡ by_blanks (frame_of s) content (outcome (frame_of s) [] (with_place (open_row_of s) w) (replicate n (shown blank place)))
+    ≡ by_blanks (frame_of s) content (outcome (frame_of s) (with_place (open_row_of s) w) (replicate n (shown blank place)))
 unfolding run outcome space
 blanks-run s zero place content w i at_end = word-run s content i ∙ blanks-end s content w at_end
 blanks-run s (suc n) place content w i at_end =

@@ -64,7 +64,7 @@ not-full row room = grind (arith, nat_tests)
 
 -- cells that fit
 cells-fit : (frame : Frame) (row : Row) (cs : List Cell) (place : Place) → length row.cells + length cs ≤ CELLS → row.margin + columns row.cells + columns cs ≤ frame.width
-    → outcome frame [] row (cell_content place cs) ≡ fits [] (more row cs)
+    → outcome frame row (cell_content place cs) ≡ fits [] (more row cs)
 unfolding outcome
 cells-fit frame row [] place room fit = rw (append-nil row.cells) refl
 cells-fit frame row (c ∷ cs) place room fit =
@@ -77,7 +77,7 @@ cells-fit frame row (c ∷ cs) place room fit =
 -- cells of which one passes the width
 pub record PassesAt (frame : Frame) (row : Row) (content : List CellOrNote) : Type 0 where
   pub taken : Row
-  pub is : outcome frame [] row content ≡ too_wide taken
+  pub is : outcome frame row content ≡ too_wide taken
 
 cells-pass : (frame : Frame) (row : Row) (cs : List Cell) (place : Place) → frame.fills ≡ true → length row.cells + length cs ≤ CELLS
     → row.margin + columns row.cells ≤ frame.width → frame.width < row.margin + columns row.cells + columns cs → PassesAt frame row (cell_content place cs)
@@ -122,15 +122,15 @@ blanks-shown zero place = refl
 blanks-shown (suc n) place = ap (λ l. shown blank place ∷ l) (blanks-shown n place)
 
 blanks-fit : (frame : Frame) (row : Row) (n : ℕ) (place : Place) → length row.cells + n ≤ CELLS → row.margin + columns row.cells + n ≤ frame.width
-    → outcome frame [] row (replicate n (shown blank place)) ≡ fits [] (more row (replicate n blank))
+    → outcome frame row (replicate n (shown blank place)) ≡ fits [] (more row (replicate n blank))
 blanks-fit frame row n place room fit =
     let b = columns-blanks n in
     let j = length-replicate n blank in
-    ap (outcome frame [] row) (blanks-shown n place) ∙ cells-fit frame row (replicate n blank) place (omega arith) (omega arith)
+    ap (outcome frame row) (blanks-shown n place) ∙ cells-fit frame row (replicate n blank) place (omega arith) (omega arith)
 
 -- blanks of which one passes the width, after those that fit
 blanks-pass : (frame : Frame) (row : Row) (n k : ℕ) (place : Place) → frame.fills ≡ true → length row.cells + n ≤ CELLS → k ≡ fitting frame row
-    → k < n → outcome frame [] row (replicate n (shown blank place)) ≡ too_wide (more row (replicate k blank))
+    → k < n → outcome frame row (replicate n (shown blank place)) ≡ too_wide (more row (replicate k blank))
 unfolding outcome
 blanks-pass frame row zero k place fill room is past = absurd (omega arith)
 blanks-pass frame row (suc n) zero place fill room is past =
@@ -152,7 +152,7 @@ apart n cells p q = record { notes = []; blanks = n; place = p; content = cell_c
 not-empty : (row : Row) → 0 < length row.cells → (length row.cells == 0) ≡ false
 not-empty row some = grind (arith, nat_tests)
 
-word-begun : (frame : Frame) (row : Row) (n : ℕ) (cells : List Cell) (p q : Place) (o : Outcome) → 0 < length row.cells → outcome frame [] (opens row) (replicate n (shown blank p)) ≡ o
+word-begun : (frame : Frame) (row : Row) (n : ℕ) (cells : List Cell) (p q : Place) (o : Outcome) → 0 < length row.cells → outcome frame (opens row) (replicate n (shown blank p)) ≡ o
     → one_word frame row (apart n cells p q) ≡ by_blanks frame (cell_content q cells) o
 word-begun frame row n cells p q o some is = let z = not-empty row some in rw (z, is) refl
 
@@ -162,7 +162,7 @@ gapped row n = let full = more (opens row) (replicate n blank) in record full { 
 
 blanks-taken : (frame : Frame) (row : Row) (n : ℕ) (cells : List Cell) (p q : Place) → 0 < length row.cells → length row.cells + n ≤ CELLS
     → row.margin + columns row.cells + n ≤ frame.width
-    → one_word frame row (apart n cells p q) ≡ by_word frame (gapped row n) (cell_content q cells) (outcome frame [] (gapped row n) (cell_content q cells))
+    → one_word frame row (apart n cells p q) ≡ by_word frame (gapped row n) (cell_content q cells) (outcome frame (gapped row n) (cell_content q cells))
 blanks-taken frame row n cells p q some room fit =
     word-begun frame row n cells p q (fits [] (more (opens row) (replicate n blank))) some (blanks-fit frame (opens row) n p room fit)
 

@@ -100,14 +100,20 @@ pub data Outcome : Type 0 where
   too_wide : Row → Outcome
   too_many : List Message → Row → Place → List CellOrNote → Outcome
 
--- what content does in a row, where these messages of its word came before it
-unfoldable pub outcome : Frame → List Message → Row → List CellOrNote → Outcome
-outcome frame notes row [] = fits notes row
-outcome frame notes row (noted m ∷ content) = outcome frame (notes ++ m ∷ []) row content
-outcome frame notes row (shown cell place ∷ content) =
+-- the same after a message, which comes before the others. Where the columns pass the width no message is told yet: the next row has all of the word's
+abbrev pub after_note : Message → Outcome → Outcome
+after_note m (fits notes row) = fits (m ∷ notes) row
+after_note m (too_wide row) = too_wide row
+after_note m (too_many notes row place left) = too_many (m ∷ notes) row place left
+
+-- what content does in a row
+unfoldable pub outcome : Frame → Row → List CellOrNote → Outcome
+outcome frame row [] = fits [] row
+outcome frame row (noted m ∷ content) = after_note m (outcome frame row content)
+outcome frame row (shown cell place ∷ content) =
     if frame.fills && nat_lt frame.width (row.margin + columns row.cells + cell_columns cell) then too_wide row
-    else if length row.cells == CELLS then too_many notes row place (shown cell place ∷ content)
-    else outcome frame notes (with_cell row cell) content
+    else if length row.cells == CELLS then too_many [] row place (shown cell place ∷ content)
+    else outcome frame (with_cell row cell) content
 
 -- the row's last word, which is not its first, goes on with this content: the row takes it, or ends before the word, whose cells begin the next row, or in it
 abbrev pub by_word : Frame → Row → List CellOrNote → Outcome → Laid Row
@@ -119,7 +125,7 @@ by_word frame row content (too_many notes taken place left) = with_notes notes (
 
 -- the row took the blanks before a word of this content, which begins after them; or it ends before them
 abbrev pub by_blanks : Frame → List CellOrNote → Outcome → Laid Row
-by_blanks frame content (fits notes taken) = let row = record taken { word = length taken.cells } in by_word frame row content (outcome frame [] row content)
+by_blanks frame content (fits notes taken) = let row = record taken { word = length taken.cells } in by_word frame row content (outcome frame row content)
 by_blanks frame content (too_wide taken) = seq (row_ended taken (before_word taken)) (λ r. first_word frame r content)
 by_blanks frame content (too_many notes taken place left) = seq (full_row_ended taken (before_word taken) place) (λ r. first_word frame r content)
 
@@ -127,11 +133,11 @@ by_blanks frame content (too_many notes taken place left) = seq (full_row_ended 
 abbrev pub one_word : Frame → Row → Word → Laid Row
 one_word frame row word =
     if length row.cells == 0 then first_word frame (opens row) word.content
-    else by_blanks frame word.content (outcome frame [] (opens row) (replicate word.blanks (shown blank word.place)))
+    else by_blanks frame word.content (outcome frame (opens row) (replicate word.blanks (shown blank word.place)))
 
 -- the row's last word goes on with this content
 abbrev pub rest_of_word : Frame → Row → List CellOrNote → Laid Row
-rest_of_word frame row content = if row.gap == 0 then first_word frame row content else by_word frame row content (outcome frame [] row content)
+rest_of_word frame row content = if row.gap == 0 then first_word frame row content else by_word frame row content (outcome frame row content)
 
 -- ---- words one after another
 
