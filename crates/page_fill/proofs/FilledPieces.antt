@@ -23,7 +23,7 @@ use Rattle.page_fill_rows.specs.machine.Sheets.{Sheet, over, blank, passes, lett
 use Rattle.page_fill_rows.specs.Characters.{cell_of, cells_of, characters_of, unknown_notes, with_notes}
 use Rattle.page_fill.specs.machine.Fill.{laid_piece, tab_notes}
 use Rattle.page_fill.specs.machine.Items.{laid_items}
-use Rattle.page_fill.proofs.Marks.{Mark, told, opened, spaced, lettered, letters_of, printed_marks, character_marks, text_marks, tab_marks, blank_marks, opening_marks, is_of_words, piece_marks}
+use Rattle.page_fill.proofs.Marks.{Mark, reported, opened, spaced, lettered, letters_of, printed_marks, character_marks, text_marks, tab_marks, blank_marks, opening_marks, is_of_words, piece_marks}
 use Rattle.page_fill.specs.Filled.{CellOrNote, shown, noted, Row, filling}
 use Rattle.page_fill.specs.Caps.{IsHeld, is_sound}
 use Rattle.page_fill.specs.PieceWords.{cell_content, printed_content, text_content, tab_content, Words, and_then, words_from, words_of, word_after_items, frame_of, open_row_of, with_row, next_edge, going_on, words_laid, after_cell, word_after}
@@ -37,9 +37,9 @@ pub cell-marks : (place : Place) (cells : List Cell) → letters_of place cells 
 cell-marks place [] = refl
 cell-marks place (cell ∷ cells) = ap (λ ms. lettered cell place ∷ ms) (cell-marks place cells)
 
-noted-marks : (notes : List Message) → map told notes ≡ marks_of (map noted notes)
+noted-marks : (notes : List Message) → map reported notes ≡ marks_of (map noted notes)
 noted-marks [] = refl
-noted-marks (m ∷ notes) = ap (λ ms. told m ∷ ms) (noted-marks notes)
+noted-marks (m ∷ notes) = ap (λ ms. reported m ∷ ms) (noted-marks notes)
 
 printed-marks : (p : Printing) (font : Font) (place : Place) → printed_marks p font place ≡ marks_of (printed_content p font place)
 printed-marks p font place =
@@ -55,10 +55,10 @@ text-marks output (c ∷ cs) font place =
     ∙ (ap (λ ms. marks_of (printed_content (char_printed output c) font place) ++ ms) (text-marks output cs font place)
     ∙ sym (map-append mark_of (printed_content (char_printed output c) font place) (text_content output cs font place)))
 
-tab-part-marks : (is_told : Bool) (font : Font) (place : Place) → tab_marks (not is_told) place ++ lettered (cell_of font 32) place ∷ [] ≡ marks_of (tab_content is_told font place)
-tab-part-marks is_told font place =
-    ap (λ ms. ms ++ lettered (cell_of font 32) place ∷ []) (noted-marks (tab_notes (not is_told) place))
-    ∙ sym (map-append mark_of (map noted (tab_notes (not is_told) place)) (shown (cell_of font 32) place ∷ []))
+tab-part-marks : (is_reported : Bool) (font : Font) (place : Place) → tab_marks (not is_reported) place ++ lettered (cell_of font 32) place ∷ [] ≡ marks_of (tab_content is_reported font place)
+tab-part-marks is_reported font place =
+    ap (λ ms. ms ++ lettered (cell_of font 32) place ∷ []) (noted-marks (tab_notes (not is_reported) place))
+    ∙ sym (map-append mark_of (map noted (tab_notes (not is_reported) place)) (shown (cell_of font 32) place ∷ []))
 
 -- ---- marks of words
 
@@ -70,9 +70,9 @@ blanks-marks n place content =
     ap (λ ms. ms ++ marks_of content) (cell-marks place (replicate n blank)) ∙ sym (map-append mark_of (cell_content place (replicate n blank)) content)
 
 word-of-marks : (stands : Bool) (notes : List Message) (n : ℕ) (place : Place) (content : List CellOrNote)
-    → map told notes ++ (opened ∷ (blank_marks stands n place ++ marks_of content))
+    → map reported notes ++ (opened ∷ (blank_marks stands n place ++ marks_of content))
     ≡ word_marks (if stands then record { notes = notes; blanks = 0; place = place; content = cell_content place (replicate n blank) ++ content } else record { notes = notes; blanks = n; place = place; content = content })
-word-of-marks true notes n place content = ap (λ ms. map told notes ++ (opened ∷ ms)) (blanks-marks n place content)
+word-of-marks true notes n place content = ap (λ ms. map reported notes ++ (opened ∷ ms)) (blanks-marks n place content)
 word-of-marks false notes n place content = refl
 
 pub and-then-marks : (literal empty : Bool) (w : OpenWord) (place : Place) (ms : List Mark) (content : List CellOrNote) (rest : Words) → ms ≡ marks_of content
@@ -85,12 +85,12 @@ and-then-marks literal empty w place ms content rest is = elim (cases_Bool w.is_
       let notes = tab_notes (w.has_tab && not literal) place in
       let whole = marks_of content ++ marks_of rest.first in
       rw (j, is)
-      (append_assoc (map told notes ++ (opened ∷ blank_marks stands w.blanks place)) (marks_of content) (all_marks rest)
-      ∙ (append_assoc (map told notes) (opened ∷ blank_marks stands w.blanks place) (marks_of content ++ all_marks rest)
-      ∙ (ap (λ l. map told notes ++ (opened ∷ (blank_marks stands w.blanks place ++ l))) (sym (append_assoc (marks_of content) (marks_of rest.first) (words_marks rest.later)))
-      ∙ (ap (λ l. map told notes ++ (opened ∷ l)) (sym (append_assoc (blank_marks stands w.blanks place) whole (words_marks rest.later)))
-      ∙ (sym (append_assoc (map told notes) (opened ∷ (blank_marks stands w.blanks place ++ whole)) (words_marks rest.later))
-      ∙ (ap (λ l. (map told notes ++ (opened ∷ (blank_marks stands w.blanks place ++ l))) ++ words_marks rest.later) (sym (map-append mark_of content rest.first))
+      (append_assoc (map reported notes ++ (opened ∷ blank_marks stands w.blanks place)) (marks_of content) (all_marks rest)
+      ∙ (append_assoc (map reported notes) (opened ∷ blank_marks stands w.blanks place) (marks_of content ++ all_marks rest)
+      ∙ (ap (λ l. map reported notes ++ (opened ∷ (blank_marks stands w.blanks place ++ l))) (sym (append_assoc (marks_of content) (marks_of rest.first) (words_marks rest.later)))
+      ∙ (ap (λ l. map reported notes ++ (opened ∷ l)) (sym (append_assoc (blank_marks stands w.blanks place) whole (words_marks rest.later)))
+      ∙ (sym (append_assoc (map reported notes) (opened ∷ (blank_marks stands w.blanks place ++ whole)) (words_marks rest.later))
+      ∙ (ap (λ l. (map reported notes ++ (opened ∷ (blank_marks stands w.blanks place ++ l))) ++ words_marks rest.later) (sym (map-append mark_of content rest.first))
       ∙ ap (λ l. l ++ words_marks rest.later) (word-of-marks stands notes w.blanks place (content ++ rest.first))))))))
 ]
 
@@ -109,8 +109,8 @@ piece-words output literal empty w (Glyph name font place) rest =
 piece-words output literal empty w (Char c font place) rest =
     and-then-marks literal empty w place (character_marks output c font place) (printed_content (char_printed output c) font place) rest (char-marks output c font place)
 piece-words output literal empty w (Tab font place) rest =
-    let is_told = (after_cell literal w).is_told in
-    and-then-marks literal empty w place (tab_marks (not is_told) place ++ lettered (cell_of font 32) place ∷ []) (tab_content is_told font place) rest (tab-part-marks is_told font place)
+    let is_reported = (after_cell literal w).is_reported in
+    and-then-marks literal empty w place (tab_marks (not is_reported) place ++ lettered (cell_of font 32) place ∷ []) (tab_content is_reported font place) rest (tab-part-marks is_reported font place)
 piece-words output literal empty w (Blank count has_tab) rest = refl
 piece-words output literal empty w Glue rest = refl
 piece-words output literal empty w Split rest = elim (cases_Bool (w.is_joined && not literal)) [ inl b ↦ rw b refl | inr b ↦ rw b refl ]
@@ -152,7 +152,7 @@ with_row-twice s a b xs ys = rw (blank_rows-append s.blank_rows xs ys, heading-a
 
 step-row : (s : Sheet) (m : Mark) → (step s m).edge ≡ with_row s (open_row_of (step s m).edge) (step s m).rows
 unfolding letter space
-step-row s (told m) = refl
+step-row s (reported m) = refl
 step-row s opened = refl
 step-row s (spaced place) = elim (cases_Bool (length s.cells == 0)) [
   | inl z ↦ rw z refl

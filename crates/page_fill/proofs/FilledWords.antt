@@ -12,7 +12,7 @@ use Rattle.page_core_base.specs.declared.limits.TheConstants.{CELLS}
 use Rattle.page_fill_rows.specs.machine.Sheets.{Sheet, over, blank, passes, letter, space, given, begins, emptied}
 use Rattle.page_fill_rows.specs.machine.Sheets as sheets
 use Rattle.page_fill_rows.specs.Characters.{with_notes}
-use Rattle.page_fill.proofs.Marks.{Mark, told, opened, spaced, lettered}
+use Rattle.page_fill.proofs.Marks.{Mark, reported, opened, spaced, lettered}
 use Rattle.page_fill.specs.Filled.{CellOrNote, shown, noted, Word, Frame, Row, counted, with_cell, before_word, row_begun, row_ended, full_row_ended, first_word, Outcome, fits, too_wide, too_many, after_note, outcome, by_word, by_blanks, one_word, rest_of_word, filling}
 use Rattle.page_fill.specs.machine.Words.{is_wide}
 use Rattle.page_fill.specs.Caps.{IsHeld}
@@ -22,7 +22,7 @@ use Rattle.page_fill.proofs.HeldSheets.{letter-held, space-held, opens-held}
 
 abbrev pub mark_of : CellOrNote → Mark
 mark_of (shown cell place) = lettered cell place
-mark_of (noted m) = told m
+mark_of (noted m) = reported m
 
 abbrev pub marks_of : List CellOrNote → List Mark
 marks_of content = map mark_of content
@@ -219,7 +219,7 @@ blanks-run s (suc n) place content w i at_end =
 -- ---- a word
 
 abbrev pub word_marks : Word → List Mark
-word_marks w = map told w.notes ++ (opened ∷ (replicate w.blanks (spaced w.place) ++ marks_of w.content))
+word_marks w = map reported w.notes ++ (opened ∷ (replicate w.blanks (spaced w.place) ++ marks_of w.content))
 
 opened-in : (s : Sheet) → length s.cells ≤ CELLS → (length s.cells == 0) ≡ false → IsInWord (sheets.opens s)
 opened-in s bound some = record { later = grind (arith, nat_tests, some); gap_within = omega arith; word_within = omega arith; bounded = bound }
@@ -237,7 +237,7 @@ one-word-run s w bound = elim (cases_Bool (length s.cells == 0)) [
 -- ---- words one after another
 
 step-held : (s : Sheet) (m : Mark) → IsHeld s → IsHeld (step s m).edge
-step-held s (told m) h = h
+step-held s (reported m) h = h
 step-held s opened h = opens-held s h
 step-held s (spaced place) h = space-held s place h
 step-held s (lettered cell place) h = letter-held s cell place h
@@ -249,7 +249,7 @@ run-held s (m ∷ ms) h = run-held (step s m).edge ms (step-held s m h)
 
 step-frame : (s : Sheet) (m : Mark) → frame_of (step s m).edge ≡ frame_of s
 unfolding letter space
-step-frame s (told m) = refl
+step-frame s (reported m) = refl
 step-frame s opened = refl
 step-frame s (spaced place) = elim (cases_Bool (length s.cells == 0)) [
   | inl z ↦ rw z refl
@@ -271,7 +271,7 @@ unfolding run
 run-frame s [] = refl
 run-frame s (m ∷ ms) = run-frame (step s m).edge ms ∙ step-frame s m
 
-notes-run : (s : Sheet) (notes : List Message) (ms : List Mark) → run s (map told notes ++ ms) ≡ with_notes notes (run s ms)
+notes-run : (s : Sheet) (notes : List Message) (ms : List Mark) → run s (map reported notes ++ ms) ≡ with_notes notes (run s ms)
 unfolding run
 notes-run s [] ms = refl
 notes-run s (m ∷ notes) ms = ap (with_notes (m ∷ [])) (notes-run s notes ms)
@@ -288,7 +288,7 @@ filling-run s (w ∷ ws) h =
     let x = run s ms in
     let word = one-word-run s w h.bounded in
     ap (λ l. over l open_row_of)
-    (ap (run s) (append_assoc (map told w.notes) ms (words_marks ws)) ∙ (notes-run s w.notes (ms ++ words_marks ws) ∙ ap (with_notes w.notes) (run-append s ms (words_marks ws))))
+    (ap (run s) (append_assoc (map reported w.notes) ms (words_marks ws)) ∙ (notes-run s w.notes (ms ++ words_marks ws) ∙ ap (with_notes w.notes) (run-append s ms (words_marks ws))))
     ∙ ap (with_notes w.notes)
     (ap (λ l. join (over x open_row_of) l) (filling-run x.edge ws (run-held s ms h))
     ∙ (ap (λ f. join (over x open_row_of) (filling f (open_row_of x.edge) ws)) (run-frame s ms)

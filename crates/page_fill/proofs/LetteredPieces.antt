@@ -149,7 +149,7 @@ pieces-go-on e (p ∷ word) place joined all plain room =
 
 -- blanks wait
 abbrev waiting : Edge → ℕ → Edge
-waiting e n = record e { word = record { is_joined = false; is_open = false; is_placed = false; blanks = n; has_tab = false; is_told = e.word.is_told } }
+waiting e n = record e { word = record { is_joined = false; is_open = false; is_placed = false; blanks = n; has_tab = false; is_reported = e.word.is_reported } }
 
 -- a word was begun
 abbrev pub begun_on : Edge → Sheet → Edge

@@ -152,8 +152,8 @@ free-less s m n less free = record {
   columns = omega (arith, less, free.columns);
 }
 
-free-told : (s : Sheet) (count : ℕ) → s.literal ≡ false → (length s.cells == 0) ≡ false → 0 < count → count ≤ free_cells s → HasFree s count
-free-told s count filled some above within =
+free-reported : (s : Sheet) (count : ℕ) → s.literal ≡ false → (length s.cells == 0) ≡ false → 0 < count → count ≤ free_cells s → HasFree s count
+free-reported s count filled some above within =
     let least : count ≤ min (CELLS - length s.cells) (s.width - s.margin - columns s.cells) = rw (filled, some) at within in
     record { filled = filled; some = some; cells = omega (arith, least, above); columns = omega (arith, least, above) }
 
@@ -288,7 +288,7 @@ some-words e m (word ∷ words) ready all plain starts within =
     let placed : e.word.is_placed ≡ false = grind (arith, ready) in
     let filled : e.sheet.literal ≡ false = grind (arith, ready) in
     let some : (length e.sheet.cells == 0) ≡ false = grind (arith, nat_tests, ready) in
-    words-fit e m word words placed all plain (free-told e.sheet _ filled some (omega arith) within)
+    words-fit e m word words placed all plain (free-reported e.sheet _ filled some (omega arith) within)
 
 -- ---- the first words of a text
 

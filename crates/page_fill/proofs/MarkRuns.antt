@@ -3,11 +3,11 @@ use Rattle.std.proofs.Common.{◌≡◌, List, [], ◌∷◌, ◌++◌, refl, sy
 use Rattle.page_core_base.specs.Laid.{Laid, nothing, join, seq, join_assoc}
 use Rattle.page_fill_rows.specs.machine.Sheets.{Sheet, letter, space, opens}
 use Rattle.page_fill_rows.specs.Characters.{with_notes}
-use Rattle.page_fill.proofs.Marks.{Mark, told, opened, spaced, lettered}
+use Rattle.page_fill.proofs.Marks.{Mark, reported, opened, spaced, lettered}
 
 -- what one mark does
 abbrev pub step : Sheet → Mark → Laid Sheet
-step s (told m) = with_notes (m ∷ []) (nothing s)
+step s (reported m) = with_notes (m ∷ []) (nothing s)
 step s opened = nothing (opens s)
 step s (spaced place) = space s place
 step s (lettered cell place) = letter s cell place

@@ -15,8 +15,8 @@ use Rattle.page_fill.specs.declared.edges.OpenWord.{OpenWord}
 use Rattle.page_fill_rows.specs.machine.Sheets.{Sheet, over, blank, letter, letters, space, spaces, new_word, opens, passes}
 use Rattle.page_fill_rows.specs.Characters.{with_notes, cell_of, cells_of, characters_of, unknown_notes, put, character, characters, glyph}
 use Rattle.page_fill.specs.declared.edges.Edge.{Edge}
-use Rattle.page_fill.specs.machine.Fill.{laid_piece, text, one_character, one_glyph, tab, opening, tab_notes, tells_tab, stands, fixed_tab, filled_tab, on_sheet, begun_word, blanks_wait, opened_word, glued_word}
-use Rattle.page_fill.proofs.Marks.{Mark, told, opened, spaced, lettered, letters_of, printed_marks, character_marks, text_marks, tab_marks, blank_marks, opening_marks, is_of_words, piece_marks}
+use Rattle.page_fill.specs.machine.Fill.{laid_piece, text, one_character, one_glyph, tab, opening, tab_notes, reports_tab, stands, fixed_tab, filled_tab, on_sheet, begun_word, blanks_wait, opened_word, glued_word}
+use Rattle.page_fill.proofs.Marks.{Mark, reported, opened, spaced, lettered, letters_of, printed_marks, character_marks, text_marks, tab_marks, blank_marks, opening_marks, is_of_words, piece_marks}
 use Rattle.page_fill.specs.Caps.{is_sound}
 use Rattle.page_fill.specs.PieceWords.{after_cell, word_after}
 use Rattle.page_fill.proofs.MarkRuns.{step, run, run-append}
@@ -40,7 +40,7 @@ unfolding run
 opened-run s ms = refl
 
 notes-run : (s : Sheet) (unknown : Option (List ℕ)) (place : Place) (l : Laid Sheet) (ms : List Mark) → l ≡ run s ms
-    → with_notes (unknown_notes unknown place) l ≡ run s (map told (unknown_notes unknown place) ++ ms)
+    → with_notes (unknown_notes unknown place) l ≡ run s (map reported (unknown_notes unknown place) ++ ms)
 unfolding run
 notes-run s None place l ms e = e
 notes-run s (Some text) place l ms e = ap (with_notes (unknown_notes (Some text) place)) e
@@ -100,7 +100,7 @@ space-literal s place = elim (cases_Bool (length s.cells == 0)) [
 ]
 
 step-literal : (s : Sheet) (m : Mark) → (step s m).edge.literal ≡ s.literal
-step-literal s (told m) = refl
+step-literal s (reported m) = refl
 step-literal s opened = refl
 step-literal s (spaced place) = space-literal s place
 step-literal s (lettered cell place) = letter-literal s cell place
@@ -134,8 +134,8 @@ opening-run e empty place same = elim (cases_Bool e.word.is_joined) [
       let begun = blanks-run e.sheet stand e.word.blanks place in
       let ms = opened ∷ blank_marks stand e.word.blanks place in
       rw (j, same) (
-      ap (λ l. with_notes (tab_notes (tells_tab e) place) (over l (with_word e (begun_word (tells_tab e))))) begun
-      ∙ ap (λ l. over l (with_word e (begun_word (tells_tab e)))) (tabs-run e.sheet (tells_tab e) place ms)
+      ap (λ l. with_notes (tab_notes (reports_tab e) place) (over l (with_word e (begun_word (reports_tab e))))) begun
+      ∙ ap (λ l. over l (with_word e (begun_word (reports_tab e)))) (tabs-run e.sheet (reports_tab e) place ms)
       )
 ]
 
@@ -174,16 +174,16 @@ one_glyph-run e empty name font place h =
 -- a tab after an opening
 tab_cell-run : (e : Edge) (w : OpenWord) (xs : List Mark) (font : Font) (place : Place)
     → seq (over (run e.sheet xs) (with_word e w)) (λ f. filled_tab f font place)
-    ≡ over (run e.sheet (xs ++ (tab_marks (not w.is_told) place ++ lettered (cell_of font 32) place ∷ []))) (with_word e (record w { is_told = true }))
+    ≡ over (run e.sheet (xs ++ (tab_marks (not w.is_reported) place ++ lettered (cell_of font 32) place ∷ []))) (with_word e (record w { is_reported = true }))
 tab_cell-run e w xs font place =
     let t = (run e.sheet xs).edge in
-    let last = ap (with_notes (tab_notes (not w.is_told) place)) (one-run t (cell_of font 32) place) ∙ tabs-run t (not w.is_told) place (lettered (cell_of font 32) place ∷ []) in
-    ap (λ (l : Laid Sheet). over (join (run e.sheet xs) l) (with_word e (record w { is_told = true }))) last
-    ∙ ap (λ l. over l (with_word e (record w { is_told = true }))) (sym (run-append e.sheet xs (tab_marks (not w.is_told) place ++ lettered (cell_of font 32) place ∷ [])))
+    let last = ap (with_notes (tab_notes (not w.is_reported) place)) (one-run t (cell_of font 32) place) ∙ tabs-run t (not w.is_reported) place (lettered (cell_of font 32) place ∷ []) in
+    ap (λ (l : Laid Sheet). over (join (run e.sheet xs) l) (with_word e (record w { is_reported = true }))) last
+    ∙ ap (λ l. over l (with_word e (record w { is_reported = true }))) (sym (run-append e.sheet xs (tab_marks (not w.is_reported) place ++ lettered (cell_of font 32) place ∷ [])))
 
 pub tab-run : (e : Edge) (empty : Bool) (font : Font) (place : Place) → AreStanding e empty → e.sheet.literal ≡ false
-    → tab e font place ≡ over (run e.sheet (opening_marks e.sheet.literal empty e.word place ++ (tab_marks (not (after_cell e.sheet.literal e.word).is_told) place ++ lettered (cell_of font 32) place ∷ [])))
-    (with_word e (record (after_cell e.sheet.literal e.word) { is_told = true }))
+    → tab e font place ≡ over (run e.sheet (opening_marks e.sheet.literal empty e.word place ++ (tab_marks (not (after_cell e.sheet.literal e.word).is_reported) place ++ lettered (cell_of font 32) place ∷ [])))
+    (with_word e (record (after_cell e.sheet.literal e.word) { is_reported = true }))
 unfolding tab
 tab-run e empty font place h fill =
     let xs = opening_marks e.sheet.literal empty e.word place in
@@ -235,7 +235,7 @@ pub sound-after : (literal : Bool) (w : OpenWord) (p : Piece (List ℕ)) → is_
 sound-after literal w (Text bytes font place) h = elim (cases_Bool (length (characters_of bytes) == 0)) [ inl z ↦ rw z h | inr z ↦ rw z (sound-unplaced (after_cell literal w) (unplaced-cell literal w h)) ]
 sound-after literal w (Glyph name font place) h = sound-unplaced (after_cell literal w) (unplaced-cell literal w h)
 sound-after literal w (Char c font place) h = sound-unplaced (after_cell literal w) (unplaced-cell literal w h)
-sound-after literal w (Tab font place) h = sound-unplaced (record (after_cell literal w) { is_told = true }) (unplaced-cell literal w h)
+sound-after literal w (Tab font place) h = sound-unplaced (record (after_cell literal w) { is_reported = true }) (unplaced-cell literal w h)
 sound-after literal w (Blank count has_tab) h = elim (cases_Bool w.is_placed) [ inl p ↦ rw p (rw p at h) | inr p ↦ rw p refl ]
 sound-after literal w Glue h = elim (cases_Bool w.is_open) [ inl o ↦ rw o h | inr o ↦ rw o refl ]
 sound-after literal w Split h = h
@@ -272,7 +272,7 @@ stands-after e empty (Text bytes font place) h same = elim (cases_Bool (length (
 ]
 stands-after e empty (Glyph name font place) h same = unplaced-stands e empty (after_cell e.sheet.literal e.word) (run e.sheet (opening_marks e.sheet.literal empty e.word place ++ printed_marks (glyph_printed e.output name) font place)).edge (unplaced-cell e.sheet.literal e.word h)
 stands-after e empty (Char c font place) h same = unplaced-stands e empty (after_cell e.sheet.literal e.word) (run e.sheet (opening_marks e.sheet.literal empty e.word place ++ character_marks e.output c font place)).edge (unplaced-cell e.sheet.literal e.word h)
-stands-after e empty (Tab font place) h same = unplaced-stands e empty (record (after_cell e.sheet.literal e.word) { is_told = true }) (run e.sheet (opening_marks e.sheet.literal empty e.word place ++ (tab_marks (not (after_cell e.sheet.literal e.word).is_told) place ++ lettered (cell_of font 32) place ∷ []))).edge (unplaced-cell e.sheet.literal e.word h)
+stands-after e empty (Tab font place) h same = unplaced-stands e empty (record (after_cell e.sheet.literal e.word) { is_reported = true }) (run e.sheet (opening_marks e.sheet.literal empty e.word place ++ (tab_marks (not (after_cell e.sheet.literal e.word).is_reported) place ++ lettered (cell_of font 32) place ∷ []))).edge (unplaced-cell e.sheet.literal e.word h)
 stands-after e empty (Blank count has_tab) h same = same-stands e empty (blanks_wait e.word count has_tab) (λ u. rw u refl) same
 stands-after e empty Glue h same = same-stands e empty (glued_word e.word) (λ u. elim (cases_Bool e.word.is_open) [ inl o ↦ rw o u | inr o ↦ rw o refl ]) same
 stands-after e empty Split h same = elim (cases_Bool (e.word.is_joined && not e.sheet.literal)) [ inl b ↦ rw b same | inr b ↦ rw b same ]

@@ -19,7 +19,7 @@ use Rattle.page_fill.specs.PieceWords.{after_cell}
 
 pub data Mark : Type 0 where
   -- a message in front of what follows
-  told : Message → Mark
+  reported : Message → Mark
   -- a word begins
   opened : Mark
   -- a blank before the word, and a cell of it, for a part of the page at a place
@@ -33,7 +33,7 @@ letters_of place cells = map (λ cell. lettered cell place) cells
 
 -- what is printed, after a report of what can't be
 abbrev pub printed_marks : Printing → Font → Place → List Mark
-printed_marks printing font place = map told (unknown_notes printing.unknown place) ++ letters_of place (cells_of font printing.characters)
+printed_marks printing font place = map reported (unknown_notes printing.unknown place) ++ letters_of place (cells_of font printing.characters)
 
 unfoldable pub character_marks : Output → ℕ → Font → Place → List Mark
 character_marks output c font place = printed_marks (char_printed output c) font place
@@ -44,7 +44,7 @@ text_marks output (c ∷ cs) font place = character_marks output c font place ++
 
 -- the messages of tabs
 abbrev pub tab_marks : Bool → Place → List Mark
-tab_marks tells place = map told (tab_notes tells place)
+tab_marks tells place = map reported (tab_notes tells place)
 
 -- before a cell, where no word is open with one: a word begins with the blanks that wait. They are cells of it where rows are kept as they are,
 -- and where they place it in an empty row.
@@ -80,6 +80,6 @@ abbrev pub piece_marks : Output → Bool → Bool → OpenWord → Piece (List �
 piece_marks output literal empty w (Text bytes font place) = if length (characters_of bytes) == 0 then [] else opening_marks literal empty w place ++ text_marks output (characters_of bytes) font place
 piece_marks output literal empty w (Glyph name font place) = opening_marks literal empty w place ++ printed_marks (glyph_printed output name) font place
 piece_marks output literal empty w (Char c font place) = opening_marks literal empty w place ++ character_marks output c font place
-piece_marks output literal empty w (Tab font place) = opening_marks literal empty w place ++ (tab_marks (not (after_cell literal w).is_told) place ++ lettered (cell_of font 32) place ∷ [])
+piece_marks output literal empty w (Tab font place) = opening_marks literal empty w place ++ (tab_marks (not (after_cell literal w).is_reported) place ++ lettered (cell_of font 32) place ∷ [])
 piece_marks output literal empty w Split = if w.is_joined && not literal then opened ∷ [] else []
 piece_marks output literal empty w _ = []

@@ -18,11 +18,11 @@ pub use Rattle.page_fill.specs.declared.edges.OpenWord.{OpenWord}
 
 -- nothing waits, and no word is open
 abbrev pub no_word : OpenWord
-no_word = record { is_joined = false; is_open = false; is_placed = false; blanks = 0; has_tab = false; is_told = false }
+no_word = record { is_joined = false; is_open = false; is_placed = false; blanks = 0; has_tab = false; is_reported = false }
 
 -- the open word has a cell, and goes on; the field says whether its tab was reported
 abbrev pub begun_word : Bool → OpenWord
-begun_word told = record no_word { is_joined = true; is_open = true; is_told = told }
+begun_word reported = record no_word { is_joined = true; is_open = true; is_reported = reported }
 
 -- ---- tags
 
@@ -40,7 +40,7 @@ with_tag e hang (forms.Inset n) = record e { set_in = Some n }
 
 -- a tab is reported as a blank, once a word
 abbrev pub tab_notes : Bool → Place → List Message
-tab_notes told place = if told then message_about notes.TabFill place [] ∷ [] else []
+tab_notes reported place = if reported then message_about notes.TabFill place [] ∷ [] else []
 
 -- ---- the start of a page, and the rows at its end
 

@@ -33,8 +33,8 @@ unfoldable pub text_content : Output → List ℕ → Font → Place → List Ce
 text_content output cs font place = flat_map (λ c. printed_content (char_printed output c) font place) cs
 
 -- a tab is a blank of its word, which is reported once a word
-abbrev pub tab_content : (is_told : Bool) → Font → Place → List CellOrNote
-tab_content is_told font place = map noted (tab_notes (not is_told) place) ++ shown (cell_of font 32) place ∷ []
+abbrev pub tab_content : (is_reported : Bool) → Font → Place → List CellOrNote
+tab_content is_reported font place = map noted (tab_notes (not is_reported) place) ++ shown (cell_of font 32) place ∷ []
 
 -- ---- what waits
 
@@ -47,12 +47,12 @@ abbrev pub word_after : Bool → OpenWord → Piece (List ℕ) → OpenWord
 word_after literal w (Text bytes font place) = if length (characters_of bytes) == 0 then record w { is_open = true } else after_cell literal w
 word_after literal w (Glyph name font place) = after_cell literal w
 word_after literal w (Char c font place) = after_cell literal w
-word_after literal w (Tab font place) = record (after_cell literal w) { is_told = true }
+word_after literal w (Tab font place) = record (after_cell literal w) { is_reported = true }
 -- blanks wait before the next word; those that a tag or a column placed stay
 word_after literal w (Blank count has_tab) =
-    if w.is_placed then record w { has_tab = has_tab } else record no_word { blanks = count; has_tab = has_tab; is_told = w.is_told }
+    if w.is_placed then record w { has_tab = has_tab } else record no_word { blanks = count; has_tab = has_tab; is_reported = w.is_reported }
 -- the next text goes on with the open word
-word_after literal w Glue = if w.is_open then w else begun_word w.is_told
+word_after literal w Glue = if w.is_open then w else begun_word w.is_reported
 word_after literal w _ = w
 
 -- ---- words
@@ -84,7 +84,7 @@ words_from output literal empty w (Text bytes font place) rest =
     if length (characters_of bytes) == 0 then rest else and_then literal empty w place (text_content output (characters_of bytes) font place) rest
 words_from output literal empty w (Glyph name font place) rest = and_then literal empty w place (printed_content (glyph_printed output name) font place) rest
 words_from output literal empty w (Char c font place) rest = and_then literal empty w place (printed_content (char_printed output c) font place) rest
-words_from output literal empty w (Tab font place) rest = and_then literal empty w place (tab_content (after_cell literal w).is_told font place) rest
+words_from output literal empty w (Tab font place) rest = and_then literal empty w place (tab_content (after_cell literal w).is_reported font place) rest
 words_from output literal empty w Split rest = if w.is_joined && not literal then parted rest else rest
 words_from output literal empty w _ rest = rest
 

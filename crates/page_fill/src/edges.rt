@@ -36,7 +36,7 @@ pub(crate) struct OpenWord {
     /// A tab stands for one of them.
     pub(crate) has_tab: bool,
     /// A tab of the row's last word was reported.
-    pub(crate) is_told: bool,
+    pub(crate) is_reported: bool,
 }
 
 /// The open tag.
@@ -70,18 +70,18 @@ pub(crate) const NO_WORD: OpenWord = OpenWord {
     is_placed: false,
     blanks: 0,
     has_tab: false,
-    is_told: false,
+    is_reported: false,
 };
 
 impl OpenWord {
     /// The word has a cell, and goes on.
-    pub(crate) fn begun(is_told: bool) -> OpenWord
-        ensures { result ≡ fill.begun_word is_told }
+    pub(crate) fn begun(is_reported: bool) -> OpenWord
+        ensures { result ≡ fill.begun_word is_reported }
     {
         OpenWord {
             is_joined: true,
             is_open: true,
-            is_told,
+            is_reported,
             ..NO_WORD
         }
     }
@@ -117,7 +117,7 @@ impl OpenWord {
         if self.is_open {
             self
         } else {
-            OpenWord::begun(self.is_told)
+            OpenWord::begun(self.is_reported)
         }
     }
 }
@@ -133,8 +133,8 @@ fn report_tab<O: RowOut>(has_tab: bool, place: Place, out: &mut O)
 
 impl Edge {
     // Whether the next word's tab is reported: in filled text alone.
-    fn tells_tab(&self) -> bool
-        ensures { result ≡ fill.tells_tab self.now }
+    fn reports_tab(&self) -> bool
+        ensures { result ≡ fill.reports_tab self.now }
     {
         self.word.has_tab && !self.sheet.is_literal()
     }
@@ -147,12 +147,12 @@ impl Edge {
     }
 
     // A word begins, with the blanks that wait.
-    fn begin_word<O: RowOut>(&mut self, is_told: bool, place: Place, out: &mut O)
-        ensures { LaysOut O.left out.old (fill.word_begun self.old is_told place) out.new self.new }
+    fn begin_word<O: RowOut>(&mut self, is_reported: bool, place: Place, out: &mut O)
+        ensures { LaysOut O.left out.old (fill.word_begun self.old is_reported place) out.new self.new }
     {
         let stands = self.blanks_stand();
         self.sheet.begin_word(self.word.blanks, stands, place, out);
-        self.word = OpenWord::begun(is_told);
+        self.word = OpenWord::begun(is_reported);
     }
 
     // Before a cell: a word begins where none is open with a cell.
@@ -163,9 +163,9 @@ impl Edge {
         if self.word.is_joined {
             return;
         }
-        let is_told = self.tells_tab();
-        report_tab(is_told, place, out);
-        self.begin_word(is_told, place, out);
+        let is_reported = self.reports_tab();
+        report_tab(is_reported, place, out);
+        self.begin_word(is_reported, place, out);
     }
 
     /// Takes a text.
@@ -361,8 +361,8 @@ impl Edge {
     fn filled_tab<O: RowOut>(&mut self, font: Font, place: Place, out: &mut O)
         ensures { LaysOut O.left out.old (fill.filled_tab self.old font place) out.new self.new }
     {
-        report_tab(!self.word.is_told, place, out);
-        self.word.is_told = true;
+        report_tab(!self.word.is_reported, place, out);
+        self.word.is_reported = true;
         self.sheet.put_letter(Cell { c: ' ', font }, place, out);
     }
 

@@ -16,11 +16,11 @@ pub use Rattle.page_fill.specs.Edges.{Edge, OpenWord, no_word, begun_word, with_
 
 -- blanks wait before the next word; those that a tag or a column placed stay
 abbrev pub blanks_wait : OpenWord → ℕ → Bool → OpenWord
-blanks_wait w count tab = if w.is_placed then record w { has_tab = tab } else record no_word { blanks = count; has_tab = tab; is_told = w.is_told }
+blanks_wait w count tab = if w.is_placed then record w { has_tab = tab } else record no_word { blanks = count; has_tab = tab; is_reported = w.is_reported }
 
 -- the next text goes on with the open word
 abbrev pub glued_word : OpenWord → OpenWord
-glued_word w = if w.is_open then w else begun_word w.is_told
+glued_word w = if w.is_open then w else begun_word w.is_reported
 
 -- a new word is placed after a count of blanks
 abbrev pub placed_word : ℕ → OpenWord
@@ -33,8 +33,8 @@ parted e = if e.word.is_joined && not e.sheet.literal then record e { sheet = op
 -- ---- parts of words
 
 -- tabs are reported in filled text alone
-abbrev pub tells_tab : Edge → Bool
-tells_tab e = e.word.has_tab && not e.sheet.literal
+abbrev pub reports_tab : Edge → Bool
+reports_tab e = e.word.has_tab && not e.sheet.literal
 
 -- blanks before a word are cells of it in a row that is kept as it is, and where they place a row's first word
 abbrev pub stands : Edge → Bool
@@ -46,13 +46,13 @@ on_sheet e s = record e { sheet = s }
 
 -- a word begins with the blanks that wait
 abbrev pub word_begun : Edge → Bool → Place → Laid Edge
-word_begun e told place = over (new_word e.sheet e.word.blanks (stands e) place) (λ s. record e { sheet = s; word = begun_word told })
+word_begun e reported place = over (new_word e.sheet e.word.blanks (stands e) place) (λ s. record e { sheet = s; word = begun_word reported })
 
 -- before a cell: where a word is not open with a cell, one begins, with the blanks that wait
 unfoldable pub opening : Edge → Place → Laid Edge
 opening e place =
     if e.word.is_joined then nothing e
-    else with_notes (tab_notes (tells_tab e) place) (word_begun e (tells_tab e) place)
+    else with_notes (tab_notes (reports_tab e) place) (word_begun e (reports_tab e) place)
 
 -- a word was begun, perhaps without a cell
 abbrev pub opened_word : OpenWord → OpenWord
@@ -79,8 +79,8 @@ fixed_tab e place = over (fixed_blanks e.sheet (to_stop e.sheet.cells) place) (o
 
 abbrev pub filled_tab : Edge → Font → Place → Laid Edge
 filled_tab e font place =
-    with_notes (tab_notes (not e.word.is_told) place)
-    (over (letter e.sheet (cell_of font 32) place) (λ s. record e { sheet = s; word = record e.word { is_told = true } }))
+    with_notes (tab_notes (not e.word.is_reported) place)
+    (over (letter e.sheet (cell_of font 32) place) (λ s. record e { sheet = s; word = record e.word { is_reported = true } }))
 
 unfoldable pub tab : Edge → Font → Place → Laid Edge
 tab e font place = seq (opening e place) (λ f. if f.sheet.literal then fixed_tab f place else filled_tab f font place)
