@@ -91,12 +91,21 @@ impl PieceOut for Taken {
     }
 }
 
-// What a text gives after some blanks, where words are taken so many times, and then the font that is left.
-fn given_by(alloc: Global, style: TextStyle, times: u32, gap: u32, text: &str) -> Taken {
+// What a text in a font gives after some blanks, where words are taken so many times, and then the font that is left.
+fn given_in(
+    alloc: Global,
+    font: Font,
+    style: TextStyle,
+    times: u32,
+    gap: u32,
+    text: &str,
+) -> Taken {
     let shown = Shown::new(alloc, false);
     let mut out = Taken { shown, times };
+    let mut fonts = Context::start(7).fonts;
+    fonts.value.font = font;
     let mut pen = Pen {
-        fonts: Context::start(7).fonts,
+        fonts,
         column: 1,
         gap,
         is_after_word: true,
@@ -110,6 +119,11 @@ fn given_by(alloc: Global, style: TextStyle, times: u32, gap: u32, text: &str) -
     }
     out.shown.add(font_letter(pen.fonts.value.font));
     out
+}
+
+// The same of a text in the roman font.
+fn given_by(alloc: Global, style: TextStyle, times: u32, gap: u32, text: &str) -> Taken {
+    given_in(alloc, Font::R, style, times, gap, text)
 }
 
 fn check_bytes(rt: &impl Abort, got: &[u8], wanted: &[u8]) {
@@ -157,6 +171,24 @@ const FIRST: [(u32, u32, &str, &str); 8] = [
     (2, 9, "\\& b", "2[]1[b]R"),
 ];
 
+// Texts in a font after one blank: how often words are taken, and what they give.
+const IN_FONTS: [(Font, u32, &str, &str); 9] = [
+    (Font::B, 9, "word", "(R Bword)B"),
+    (Font::B, 0, "word", "1B[word]B"),
+    (Font::I, 9, "a", "(R Ia)I"),
+    (Font::BI, 9, "ab,", "(R Zab,)Z"),
+    (Font::B, 9, "a b", "(R BaR Bb)B"),
+    (Font::B, 9, "a\\&b", "(R Bab)B"),
+    (Font::B, 9, "a\\fRb", "(R BaRb)R"),
+    (Font::B, 9, "a-b", "1B[a-]|B[b]B"),
+    (
+        Font::B,
+        9,
+        "0123456789abcdef0123456789abcdef0123456789abcdef0123456789abcdef",
+        "(R B0123456789abcdef0123456789abcdef0123456789abcdef0123456789abcdef)B",
+    ),
+];
+
 #[test]
 fn words_at_once(rt: HostRuntime) -> Result<(), Fail> {
     for (style, times, text, wanted) in TEXTS {
@@ -165,6 +197,10 @@ fn words_at_once(rt: HostRuntime) -> Result<(), Fail> {
     }
     for (gap, times, text, wanted) in FIRST {
         let given = given_by(rt.alloc(), LINE, times, gap, text);
+        check_bytes(&rt, given.shown.text(), wanted.as_bytes());
+    }
+    for (font, times, text, wanted) in IN_FONTS {
+        let given = given_in(rt.alloc(), font, LINE, times, 1, text);
         check_bytes(&rt, given.shown.text(), wanted.as_bytes());
     }
     Ok(())
