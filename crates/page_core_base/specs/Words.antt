@@ -108,3 +108,21 @@ abbrev pub TakesWords : {S : Type 0} → ℕ → List ℕ → List Font → Bool
 TakesWords {S} blanks text fonts taken gave s t =
     (words : List (List (Piece (List ℕ)))) → list_all is_lettered_word words ≡ true → cells_in text fonts ≡ lettered_cells words
     → gave s (if taken then map shown (lettered_pieces blanks words) else []) t
+
+-- ---- a row that is kept as it is: each character is a cell, also a blank
+
+-- a piece of such a row whose characters are letters or blanks; the row does not end where a word may be parted
+abbrev pub is_kept : Piece (List ℕ) → Bool
+is_kept (Text text font place) = nat_lt 0 (length text)
+is_kept Split = true
+is_kept other = false
+
+-- the cells of characters in one font
+abbrev pub font_cells : Font → List ℕ → List Cell
+font_cells font text = map (λ c. record { c = c; font = font }) text
+
+-- these characters in a font are cells of such a row, and a call took all of them, or none
+abbrev pub TakesKept : {S : Type 0} → List ℕ → Font → Bool → (S → List Item → S → Type 0) → S → S → Type 0
+TakesKept {S} text font taken gave s t =
+    (pieces : List (Piece (List ℕ))) → list_all is_kept pieces ≡ true → font_cells font text ≡ word_letters pieces
+    → gave s (if taken then map shown pieces else []) t

@@ -5,7 +5,7 @@ ghost use Rattle.page_core_base.specs.Latches.{Came};
 ghost use Rattle.page_core_base.specs.Messages.{message_of};
 ghost use Rattle.page_core_base.specs.machine.Plans.{Planned, Left};
 ghost use Rattle.page_core_base.specs.Pieces.{Item, shown, noted, piece_of};
-ghost use Rattle.page_core_base.specs.Words.{TakesWords};
+ghost use Rattle.page_core_base.specs.Words.{TakesKept, TakesWords};
 ghost use Rattle.page_core_base.specs.declared.blank_texts.TheConstants.{BLANK_TEXT};
 ghost use Rattle.page_core_base.specs.declared.pieces.Piece.TheVariants.{Text};
 
@@ -45,6 +45,15 @@ pub trait PieceOut {
         let _ = blanks;
         let _ = text;
         let _ = fonts;
+        false
+    }
+
+    /// Takes characters in a font at once, each of which is a cell of a row that is kept as it is. Says whether it took them; else nothing changes.
+    fn give_kept(&mut self, text: &[u8], font: Font) -> bool
+        ensures { TakesKept text.now font result (Came left) self.old self.new }
+    {
+        let _ = text;
+        let _ = font;
         false
     }
 
@@ -110,6 +119,21 @@ impl<O: PieceSink> PieceOut for PieceLatch<'_, O> {
             return true;
         }
         match self.out.take_words(blanks, text, fonts) {
+            Ok(taken) => taken,
+            Err(fault) => {
+                self.fault = Some(fault);
+                true
+            }
+        }
+    }
+
+    // After a fault all characters count as taken.
+    #[inline(always)]
+    fn give_kept(&mut self, text: &[u8], font: Font) -> bool {
+        if self.fault.is_some() {
+            return true;
+        }
+        match self.out.take_kept(text, font) {
             Ok(taken) => taken,
             Err(fault) => {
                 self.fault = Some(fault);

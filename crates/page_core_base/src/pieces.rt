@@ -9,7 +9,7 @@ ghost use Rattle.page_core_base.specs.declared.faults.Fault.{Fault};
 ghost use Rattle.page_core_base.specs.Pieces.{Item, shown, all_noted, piece_of};
 ghost use Rattle.page_core_base.specs.declared.blank_texts.TheConstants.{BLANK_TEXT};
 ghost use Rattle.page_core_base.specs.declared.pieces.Piece.TheVariants.{Text};
-ghost use Rattle.page_core_base.specs.Words.{TakesWords};
+ghost use Rattle.page_core_base.specs.Words.{TakesKept, TakesWords};
 
 use crate::{Fault, Font, NoteSink, Place, blank_text};
 
@@ -113,6 +113,19 @@ pub trait PieceSink: NoteSink {
         let _ = blanks;
         let _ = text;
         let _ = fonts;
+        Ok(false)
+    }
+
+    /// Takes characters in a font at once, each of which is a cell of a row that is kept as it is. Says whether it took them; else nothing changes.
+    /// A sink that says nothing of it takes none. Its faults are those of [`PieceSink::piece`].
+    fn take_kept(&mut self, text: &[u8], font: Font) -> Result<bool, Fault>
+        ensures takes { MatchResult result (λ taken. TakesKept text.now font taken took self.old self.new)
+            (λ fault. TakesKept text.now font true (λ s items t. broke s fault items t) self.old self.new) }
+        ensures faults { FailsByPieces result (row_failed self.old) (row_failed self.new) (Self.failed self.old) (Self.failed self.new) }
+        ensures same { Self.loans self.new ≡ Self.loans self.old }
+    {
+        let _ = text;
+        let _ = font;
         Ok(false)
     }
 
