@@ -33,7 +33,7 @@ text-bytes : (font : Font) (text : List ℕ) → bytes_of (cells_of font text) �
 text-bytes font [] = refl
 text-bytes font (b ∷ text) = ap (λ (bytes : List ℕ). b ∷ bytes) (text-bytes font text)
 
-text-printable : (font : Font) (text : List ℕ) → are_plain (cells_of font text) ≡ true → is_printable_ascii text ≡ true
+pub text-printable : (font : Font) (text : List ℕ) → are_plain (cells_of font text) ≡ true → is_printable_ascii text ≡ true
 text-printable font [] plain = refl
 text-printable font (b ∷ text) plain =
     let first : is_printable b ≡ true = grind (arith, plain) in

@@ -1,4 +1,3 @@
-pub mod RowLatchLemmas
 pub mod Marks
 pub mod MarkRuns
 pub mod MarkedPieces
@@ -18,3 +17,4 @@ pub mod WordRunLemmas
 pub mod BlankTextLemmas
 pub mod LetteredPieces
 pub mod LetteredWordLemmas
+pub mod KeptTextLemmas

@@ -1,6 +1,7 @@
 pub mod Filled
 pub mod PieceWords
 pub mod Filling
+pub mod KeptTexts
 pub mod LetteredWords
 pub mod machine
 pub mod Edges

@@ -5,4 +5,3 @@ pub mod Fill
 pub mod Items
 pub mod PlainWords
 pub mod LetteredWords
-pub mod RowPlans

@@ -1,8 +1,8 @@
 //! The filler of a page, alone or with what it keeps of its open row.
 
-ghost use Rattle.std.specs.Prelude.{◌≡◌, ◌≤◌, ℕ, true, false, List, [], ◌∷◌, length, map, replicate, IfOk, IfErr, IfSome, OnOk, OnErr, Some, None, Err, MatchResult};
+ghost use Rattle.std.specs.Prelude.{◌≡◌, ◌≤◌, ℕ, true, false, List, [], ◌∷◌, length, map, replicate, IfOk, IfErr, IfSome, MatchOption, OnOk, OnErr, Some, None, Err, MatchResult};
 ghost use Rattle.page_core_base.specs.Fails.{FailsBySink};
-ghost use Rattle.page_core_base.specs.Laid.{Gets};
+ghost use Rattle.page_core_base.specs.Laid.{Gets, nothing};
 ghost use Rattle.page_core_base.specs.Pieces.{piece_of, shown};
 ghost use Rattle.page_core_base.specs.Words.{lettered_pieces};
 ghost use Rattle.page_core_base.specs.declared.blank_texts.TheConstants.{BLANK_TEXT};
@@ -13,6 +13,7 @@ ghost use Rattle.page_fill.specs.Caps.{FillFits, IsHeld, is_sound};
 ghost use Rattle.page_fill.specs.Edges as fill;
 ghost use Rattle.page_fill.specs.declared.edges.Edge.{Edge};
 ghost use Rattle.page_fill.specs.Filling.{filled, row_end};
+ghost use Rattle.page_fill.specs.KeptTexts.{AreKept, can_keep};
 ghost use Rattle.page_fill.specs.LetteredWords.{AreWords, can_take};
 
 use crate::Edge;
@@ -306,6 +307,23 @@ impl<K: KeepsRow> FillerWith<K> {
             self.is_going = false;
         }
         taken
+    }
+
+    /// Takes characters in a font at once, if they are printable ASCII and go on with the last word of a row that is kept as it is and has room for
+    /// them. Says whether it took them; they settle nothing.
+    #[inline(always)]
+    pub fn take_kept(&mut self, text: &[u8], font: Font) -> bool
+        ensures answer { MatchOption self.old (result ≡ false) (λ e. result ≡ can_keep e text.now) }
+        ensures kept { (e : Edge) (pieces : List (Piece (List ℕ))) → self.old ≡ Some e → result ≡ true → AreKept text.now font pieces
+            → (f : Edge) × (self.new ≡ Some f) × (filled e (map shown pieces) ≡ nothing f) }
+        ensures same { result ≡ false → self.new ≡ self.old }
+    {
+        if !self.is_going || !self.edge.take_kept(text, font) {
+            return false;
+        }
+        self.edge.sheet.held_law();
+        self.kept.keep(&self.edge.sheet);
+        true
     }
 
     /// The open row ends, if there is one. From then on the filler takes nothing.

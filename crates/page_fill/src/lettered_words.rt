@@ -18,9 +18,8 @@ ghost use Rattle.page_fill.specs.machine.PlainWords as plain_words;
 
 use crate::Edge;
 use crate::edges::OpenWord;
-use crate::row_latches::RowLatch;
 use page_core_base::{CELLS, Fault, Font, NoteSink, RowOut, RowSink};
-use page_fill_rows::{is_printable_ascii, word_start};
+use page_fill_rows::{RowLatch, is_printable_ascii, word_start};
 
 // How many bytes of a text, with a blank before each word, are whole words, among as many first bytes as there is room for.
 fn whole_words(text: &[u8], room: usize) -> usize

@@ -7,7 +7,7 @@
 //! What the code does is a machine: one piece after another goes into the open row ([`Edge`], which is all that is held between two pieces), and rows
 //! go out as they are settled (`specs/machine/Fill.antt`, which you need not read to trust the result).
 //!
-//! Proved: `FillerWith` (`new`, `piece`, `take_blanks`, `takes_words`, `words`, `finish`), which is a `PieceFiller` in a page, and a `Filler` where the cells of the open
+//! Proved: `FillerWith` (`new`, `piece`, `take_blanks`, `takes_words`, `words`, `take_kept`, `finish`), which is a `PieceFiller` in a page, and a `Filler` where the cells of the open
 //! row are shown (`pending`): what a piece settles is `filled` (`specs/Filling.antt`), and the end is `row_end`: groups of words fill rows by recursion on
 //! words, each row up to its first offending cell. `part`, `from_part`: what is held between two pieces. `caps_law`: it is within its limits. `words_law`:
 //! piece by piece is `filled` of the whole list, cut anywhere. `word_law`, `part_law`, `glue_law`: where a row ends; no row is wider unless its first part
@@ -16,10 +16,10 @@
 
 mod edges;
 mod fillers;
+mod kept_texts;
 mod laws;
 mod lettered_words;
 mod pieces;
-mod row_latches;
 mod stops;
 
 pub use edges::Edge;

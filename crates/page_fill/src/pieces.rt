@@ -11,11 +11,10 @@ ghost use Rattle.page_fill.specs.Edges.{under};
 ghost use Rattle.page_fill.specs.machine.Fill as fill;
 
 use crate::edges::{Edge, NO_WORD};
-use crate::row_latches::RowLatch;
 use page_core_base::{
     BLANK_TEXT, Fault, Font, NoteSink, Output, Piece, Place, RowOut, RowSink, Settings,
 };
-use page_fill_rows::OpenRow;
+use page_fill_rows::{OpenRow, RowLatch};
 use std::alloc::{AllocError, Global};
 
 // Takes a piece, and gives the rows and messages that it settles.

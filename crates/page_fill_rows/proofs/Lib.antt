@@ -7,3 +7,4 @@ pub mod WrapLemmas
 pub mod PlainLaw
 pub mod PutBlankLemmas
 pub mod AnywhereLemmas
+pub mod RowLatchLemmas

@@ -2,3 +2,4 @@
 pub mod Plain
 pub mod Room
 pub mod Sheets
+pub mod RowPlans

@@ -5,7 +5,7 @@
 //! in `page_fill`. Read `Sheet` in `specs/OpenRows.antt` first, which is all that a row holds, and then `specs/Characters.antt`.
 //!
 //! Proved: `OpenRow`, `put_character`, `put_characters`, `put_glyph`, `put_plain`, `word_start`: what the open row is after each call, and the rows and
-//! messages that the call settles (`specs/Characters.antt`, `specs/machine/Sheets.antt` and `Plain.antt`). `KeepsRow`: what is kept beside an open row
+//! messages that the call settles (`specs/Characters.antt`, `specs/machine/Sheets.antt` and `Plain.antt`). `RowLatch`: the rows and messages that two sinks were given, and the fault of the first that failed. `KeepsRow`: what is kept beside an open row
 //! shows its cells (`OpenCells`), or nothing (`NoCells`). `plain_law`: printable ASCII that is put into the row as a whole settles what its cells settle
 //! one by one. `constants_law`: the constants are those that the definitions cite.
 #![tactic(auto)]
@@ -18,6 +18,7 @@ mod kept_rows;
 mod laws;
 mod open_rows;
 mod plain_texts;
+mod row_latches;
 
 /// The columns up to which those of a tag are counted. The greatest hang is 1,000 columns, so more of them make no difference.
 pub const TAG_COLUMNS: u32 = 1002;
@@ -36,3 +37,4 @@ pub use laws::plain_law;
 pub use open_rows::OpenRow;
 pub use page_fill_cells::{columns, is_long_run, is_printable_ascii};
 pub use plain_texts::{put_plain, word_start};
+pub use row_latches::RowLatch;

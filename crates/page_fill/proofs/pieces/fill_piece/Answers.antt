@@ -1,7 +1,7 @@
 use Rattle.std.proofs.Common.{rules}
-use Rattle.page_fill.proofs.RowLatchLemmas.{latched}
+use Rattle.page_fill_rows.proofs.RowLatchLemmas.{latched}
 use Rattle.page_core_base.specs.Pieces.{piece_of}
-use Rattle.page_fill.specs.machine.RowPlans.{seen}
+use Rattle.page_fill_rows.specs.machine.RowPlans.{seen}
 use Rattle.page_fill.specs.machine.Fill.{laid_piece}
 use Rattle.page_fill.proofs.pieces.fill_piece.Goals as goal
 

@@ -1,6 +1,6 @@
 use Rattle.std.proofs.Common.{rules}
-use Rattle.page_fill.proofs.RowLatchLemmas.{latched}
-use Rattle.page_fill.specs.machine.RowPlans.{seen}
+use Rattle.page_fill_rows.proofs.RowLatchLemmas.{latched}
+use Rattle.page_fill_rows.specs.machine.RowPlans.{seen}
 use Rattle.page_fill.specs.machine.Fill.{ended}
 use Rattle.page_fill.proofs.edges.Edge.end.Goals as goal
 

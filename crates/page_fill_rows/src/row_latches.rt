@@ -1,13 +1,13 @@
 //! The latch over a sink of rows and a sink of messages, through which the filler gives.
 
 ghost use Rattle.std.specs.Prelude.{◌≡◌, None, Some, MatchResult};
-ghost use Rattle.page_fill.specs.machine.RowPlans.{Planned, Left, seen};
+ghost use Rattle.page_fill_rows.specs.machine.RowPlans.{Planned, Left, seen};
 
 use page_core_base::{Cell, Fault, Font, Note, NoteSink, RowOut, RowSink};
 
 /// Two sinks, and the fault of the one that has failed.
 #[derive(Drop)]
-pub(crate) struct RowLatch<'r, 'n, R, N> {
+pub struct RowLatch<'r, 'n, R, N> {
     rows: &'r mut R,
     notes: &'n mut N,
     fault: Option<Fault>,
@@ -15,7 +15,7 @@ pub(crate) struct RowLatch<'r, 'n, R, N> {
 
 impl<'r, 'n, R: RowSink, N: NoteSink> RowLatch<'r, 'n, R, N> {
     /// A latch over two sinks.
-    pub(crate) fn new(rows: &'r mut R, notes: &'n mut N) -> RowLatch<'r, 'n, R, N>
+    pub fn new(rows: &'r mut R, notes: &'n mut N) -> RowLatch<'r, 'n, R, N>
         ensures rows_loan { result.rows.ghost_name ≡ rows.entry.ghost_name }
         ensures rows { result.rows.now ≡ rows.entry.now }
         ensures notes_loan { result.notes.ghost_name ≡ notes.entry.ghost_name }
@@ -30,7 +30,7 @@ impl<'r, 'n, R: RowSink, N: NoteSink> RowLatch<'r, 'n, R, N> {
     }
 
     /// The fault that came, if one did.
-    pub(crate) fn done(&self) -> Result<(), Fault>
+    pub fn done(&self) -> Result<(), Fault>
         ensures { MatchResult result (λ _. self.now.fault ≡ None) (λ fault. self.now.fault ≡ Some fault) }
     {
         self.fault.map_or(Ok(()), Err)

@@ -1,5 +1,5 @@
-use Rattle.page_fill.proofs.RowLatchLemmas.{row_given}
-use Rattle.page_fill.proofs.row_latches.RowLatchRowOut.give.Goals as goal
+use Rattle.page_fill_rows.proofs.RowLatchLemmas.{row_given}
+use Rattle.page_fill_rows.proofs.row_latches.RowLatchRowOut.give.Goals as goal
 
 pub returns-then-is_none : goal.returns-then-is_none
 returns-then-is_none g c = λ plan more said h.

@@ -3,7 +3,7 @@ use Rattle.std.proofs.Common.{◌≡◌, List, [], ◌++◌, Option, None, Some,
 use Rattle.std.specs.Borrow.{GName}
 use Rattle.std.specs.Result.{result_err}
 use Rattle.page_core_base.specs.Laid.{Laid, Gets}
-use Rattle.page_fill.specs.machine.RowPlans.{Planned, Left, Seen}
+use Rattle.page_fill_rows.specs.machine.RowPlans.{Planned, Left, Seen}
 use Rattle.page_core_base.proofs.SinkLemmas.{UpTo-all, UpTo-more, UpTo-within}
 use Rattle.page_core_base.specs.Fails.{FailsAs, FailsBySink}
 use Rattle.page_core_base.specs.Sinks.{Gives, IsSink, UpTo}
