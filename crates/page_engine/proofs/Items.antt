@@ -1,20 +1,21 @@
 -- One item through a filler.
-use Rattle.std.proofs.Common.{◌≡◌, ℕ, List, [], ◌∷◌, Option, None, Some, IfSome, length, map, true, Result, Ok, Err, MatchResult, OnOk, refl, ap, append-nil, ◌∙◌, arith}
+use Rattle.std.proofs.Common.{◌≡◌, ℕ, List, [], ◌∷◌, Option, None, Some, IfSome, length, map, Bool, true, false, if◌then◌else◌, Result, Ok, Err, MatchResult, OnOk, refl, ap, append-nil, ◌∙◌, arith}
 use Rattle.std.specs.List.{list_all}
 use Rattle.page_core_base.specs.Rows.{cells_in}
 use Rattle.page_core_base.specs.Sinks.{IsSink}
-use Rattle.page_core_base.specs.Words.{is_lettered_word, lettered_cells, lettered_pieces}
+use Rattle.page_core_base.specs.Words.{font_cells, is_kept, is_lettered_word, lettered_cells, lettered_pieces, word_letters}
 use Rattle.page_core_base.specs.declared.cells.Cell.{Cell}
 use Rattle.page_core_base.specs.declared.cells.Font.{Font}
 use Rattle.page_core_base.specs.declared.pieces.Piece.{Piece}
 use Rattle.page_fill.specs.Caps.{IsHeld, is_sound}
+use Rattle.page_fill.specs.KeptTexts.{AreKept}
 use Rattle.page_fill.specs.LetteredWords.{AreWords}
 use Rattle.page_fill.proofs.FillerLaw.{items-law}
 use Rattle.page_core_base.specs.Messages.{Message}
 use Rattle.page_core_base.specs.Rows.{LaidRow}
 use Rattle.page_core_base.specs.declared.faults.Fault.{Fault}
 use Rattle.page_core_base.specs.declared.faults.Fault.TheVariants.{Memory, Read, WriteText, WriteNotes, TooLong, Settings, Failed, Ended, BadIndex}
-use Rattle.page_core_base.specs.Laid.{Laid, Gave, Gets, join}
+use Rattle.page_core_base.specs.Laid.{Laid, Gave, Gets, join, nothing}
 use Rattle.page_core_base.specs.Fails.{FailsAs, FailsBySink, IsPieceFault, IsSinkFault}
 use Rattle.page_fill.specs.declared.edges.Edge.{Edge as FillEdge}
 use Rattle.page_core_base.specs.Pieces.{Item, shown, noted}
@@ -138,6 +139,24 @@ words_broke rg rw_ rf ng nw nf res f f' r r' n n' blanks text fonts gets edge fa
     (λ e is. items-law e (map shown (lettered_pieces blanks words)) (rw is at held) (rw is at sound))
     (λ e is. gets e words is (are, cells)) (λ e is. edge e words is (are, cells)) faults closed
     )
+
+-- the same of characters of a row that is kept as it is, which settle nothing
+pub kept_pass : {R N : Type 0} {rg rw_ : R → List LaidRow → R → Type 0} {rf : R → ℕ} {ng nw : N → List Message → N → Type 0} {nf : N → ℕ}
+    → IsSink rg rw_ → IsSink ng nw → (f f' : Option FillEdge) (r : R) (n : N) (text : List ℕ) (font : Font) (taken : Bool)
+    → ((e : FillEdge) (pieces : List (Piece (List ℕ))) → f ≡ Some e → taken ≡ true → AreKept text font pieces
+    → (g : FillEdge) × (f' ≡ Some g) × (filled e (map shown pieces) ≡ nothing g))
+    → (taken ≡ false → f' ≡ f)
+    → IfSome f (λ (e : FillEdge). IsHeld e.sheet) → IfSome f (λ (e : FillEdge). is_sound e.word ≡ true)
+    → (pieces : List (Piece (List ℕ))) → list_all is_kept pieces ≡ true → font_cells font text ≡ word_letters pieces
+    → ((row : FillEdge) → f ≡ Some row → Passed rg rf ng nf f f' r r n n (laid_items row (if taken then map shown pieces else []))) × Quiet rf nf r r n n
+kept_pass k l f f' r n text font true kept same held sound pieces all cells = (
+  λ row is.
+  let g = kept row pieces is refl (all, cells) in
+  let laid : laid_items row (map shown pieces) ≡ nothing g.0 = items-law row (map shown pieces) (rw is at held) (rw is at sound) ∙ g.2 in
+  rw laid record { filler = g.1; rows = k.none r; notes = l.none n; rows_failed = refl; notes_failed = refl },
+  record { rows = refl; notes = refl },
+)
+kept_pass k l f f' r n text font false kept same held sound pieces all cells = rw (same refl) (nothing_passes k l f r n)
 
 -- a message passes the filler by, and goes to its sink
 pub note_passes : {R N : Type 0} (rg rw_ : R → List LaidRow → R → Type 0) (rf : R → ℕ) (ng nw : N → List Message → N → Type 0) (nf : N → ℕ)

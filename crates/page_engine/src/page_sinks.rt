@@ -124,6 +124,12 @@ impl<R: RowSink, N: NoteSink> PieceSink for PageSink<'_, '_, '_, R, N> {
         Ok(true)
     }
 
+    #[inline(always)]
+    fn take_kept(&mut self, text: &[u8], font: Font) -> Result<bool, Fault> {
+        self.filler.held_law();
+        Ok(self.filler.take_kept(text, font))
+    }
+
     fn row_failures(&self) -> u64 {
         self.rows.failures()
     }

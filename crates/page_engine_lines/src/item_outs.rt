@@ -31,6 +31,11 @@ impl<L: PieceOut> PieceOut for ItemOut<L> {
         self.latch.give_words(blanks, text, fonts)
     }
 
+    #[inline(always)]
+    fn give_kept(&mut self, text: &[u8], font: Font) -> bool {
+        self.latch.give_kept(text, font)
+    }
+
     fn report(&mut self, note: &Note) {
         self.latch.report(note);
     }
