@@ -1,5 +1,6 @@
 -- One item through a filler.
-use Rattle.std.proofs.Common.{◌≡◌, ℕ, List, [], ◌∷◌, Option, None, Some, IfSome, length, map, Bool, true, false, if◌then◌else◌, Result, Ok, Err, MatchResult, OnOk, refl, ap, append-nil, ◌∙◌, arith}
+use Rattle.std.proofs.Common.{◌≡◌, ℕ, List, [], ◌∷◌, Option, None, Some, IfSome, length, map, Bool, true, false, Result, Ok, Err, MatchResult, OnOk, refl, ap, append-nil, ◌∙◌, arith}
+use Rattle.std.specs.Prelude.{if◌then◌else◌}
 use Rattle.std.specs.List.{list_all}
 use Rattle.page_core_base.specs.Rows.{cells_in}
 use Rattle.page_core_base.specs.Sinks.{IsSink}
