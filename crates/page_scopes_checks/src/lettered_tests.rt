@@ -2,7 +2,8 @@
 
 use page_core_base::{Font, Note, Piece, PieceOut};
 use page_scopes_layout::Context;
-use page_scopes_text::{Pen, TextStyle, give_text};
+use page_scopes_text::give_text;
+use page_scopes_words::{Pen, TextStyle};
 use page_test_streams::Shown;
 use std::alloc::Global;
 use std::process::Abort;

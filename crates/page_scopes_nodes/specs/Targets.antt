@@ -14,7 +14,7 @@ use Rattle.page_scopes_phrases.specs.KeptTexts.{after_kept, cut_notes, fonts_thr
 use Rattle.page_scopes_phrases.specs.Outcomes.{Outcome}
 use Rattle.page_scopes_phrases.specs.declared.kept_texts.KeptText.{KeptText}
 use Rattle.page_scopes_phrases.specs.declared.formatting.Formatting.{Formatting}
-use Rattle.page_scopes_text.specs.Words.{token_notes}
+use Rattle.page_scopes_words.specs.Tokens.{token_notes}
 use Rattle.page_scopes_words.specs.Words.{at}
 use Rattle.page_scopes_words.specs.declared.fonts.Fonts.{Fonts}
 

@@ -11,7 +11,7 @@ use page_core_base::{Font, LINE, Piece, PieceOut, Place};
 use page_core_escapes::Tokens;
 use page_roff_syntax::Argument;
 use page_scopes_phrases::{Formatting, KeptText, give_kept, give_kept_gap, report_cut};
-use page_scopes_text::report_token;
+use page_scopes_words::report_token;
 
 // Gives the messages of a text's escapes, all at one place.
 fn report_escapes<O: PieceOut>(out: &mut O, quoted: bool, place: Place, text: &[u8])

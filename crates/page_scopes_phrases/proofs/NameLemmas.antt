@@ -12,8 +12,9 @@ use Rattle.page_core_escapes.specs.Tokens.{TextToken, white, plain, quotes, esca
 use Rattle.page_core_escapes.proofs.TokenLemmas.{len_within, tokens_more, tokens_none}
 use Rattle.page_scopes_words.specs.declared.fonts.Fonts.{Fonts}
 use Rattle.page_scopes_words.specs.declared.settings.Setting.{Setting}
-use Rattle.page_scopes_text.specs.Words.{blank_count, blank_text, fonts_after}
-use Rattle.page_scopes_text.proofs.BlankCountLemmas.{count-within}
+use Rattle.page_scopes_words.specs.Fonts.{fonts_after}
+use Rattle.page_scopes_words.specs.Tokens.{blank_count, blank_text}
+use Rattle.page_scopes_words.proofs.BlankCountLemmas.{count-within}
 use Rattle.page_scopes_text.proofs.PartedLemmas.{white_front, white_some, word_some}
 use Rattle.page_scopes_phrases.specs.KeptTexts.{part_items}
 use Rattle.page_scopes_phrases.specs.declared.kept_names.Known.TheVariants.{Blanks, Nothing}

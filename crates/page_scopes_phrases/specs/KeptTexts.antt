@@ -18,7 +18,8 @@ use Rattle.page_scopes_phrases.specs.Formatting.{next_gap}
 use Rattle.page_scopes_phrases.specs.Phrases.{is_text}
 use Rattle.page_scopes_phrases.specs.declared.kept_texts.KeptText.{KeptText}
 use Rattle.page_scopes_phrases.specs.declared.formatting.Formatting.{Formatting}
-use Rattle.page_scopes_text.specs.Words.{blank_cells, fonts_after, token_items, token_prints}
+use Rattle.page_scopes_words.specs.Fonts.{fonts_after}
+use Rattle.page_scopes_words.specs.Tokens.{blank_cells, token_items, token_prints}
 use Rattle.page_scopes_words.specs.Words.{has_tab, says, white_cells}
 use Rattle.page_scopes_words.specs.declared.fonts.Fonts.{Fonts}
 

@@ -9,7 +9,7 @@ use crate::kept_words::prints_cell;
 use arrayvec::ArrayVec;
 use page_core_escapes::{Escape, Token, Tokens};
 use page_roff_syntax::Argument;
-use page_scopes_text::blank_count;
+use page_scopes_words::blank_count;
 use std::marker::Model;
 
 /// What a token of a name prints, as far as it is known.

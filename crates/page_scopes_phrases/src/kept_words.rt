@@ -8,7 +8,7 @@ ghost use Rattle.page_core_base.specs.declared.limits.TheConstants.{FIELD};
 ghost use Rattle.page_roff_syntax.specs.Arguments.{argument_view};
 ghost use Rattle.page_scopes_phrases.specs.KeptTexts as kept;
 ghost use Rattle.page_scopes_phrases.specs.machine.NameParts as names;
-ghost use Rattle.page_scopes_text.specs.Words as texts;
+ghost use Rattle.page_scopes_words.specs.Tokens.{blank_text};
 ghost use Rattle.page_scopes_words.specs.Words as words;
 
 use crate::kept_names::{Known, NamePart};
@@ -17,8 +17,10 @@ use crate::{Formatting, KeptText, ManualName};
 use page_core_base::{FIELD, Font, LINE, Limit, NoteKind, Piece, PieceOut, Place};
 use page_core_escapes::{Token, Tokens, read_token};
 use page_roff_syntax::Argument;
-use page_scopes_text::{fonts_after, give_blank_cells, give_token, token_prints};
-use page_scopes_words::{Fonts, Setting, give_white_cells, has_tab, report};
+use page_scopes_words::{
+    Fonts, Setting, fonts_after, give_blank_cells, give_token, give_white_cells, has_tab, report,
+    token_prints,
+};
 
 /// Reports at a place that what an argument says is not kept whole.
 pub fn report_cut<O: PieceOut>(out: &mut O, place: Place, argument: Argument<&[u8]>)
@@ -150,7 +152,7 @@ impl BlankTexts {
         requires count { self.count ≤ 1000 }
         requires times { self.times < 256 }
         ensures came { CameUpTo O.left out.old
-            (names.blank_texts self.count self.times font place ++ texts.blank_text count font place)
+            (names.blank_texts self.count self.times font place ++ blank_text count font place)
             (names.blank_texts result.count result.times font place) out.new }
         ensures count { result.count ≡ count }
         ensures times { result.times ≤ self.times + 1 }

@@ -9,8 +9,8 @@ ghost use Rattle.page_scopes_phrases.specs.Phrases.{phrase_view};
 use crate::Formatting;
 use page_core_base::{Font, LINE, PieceOut, Place};
 use page_scopes_layout::{Context, PagePart};
-use page_scopes_text::{Pen, TextStyle, give_text};
-use page_scopes_words::{Fonts, Setting};
+use page_scopes_text::give_text;
+use page_scopes_words::{Fonts, Pen, Setting, TextStyle};
 use page_sets_lines::Join;
 
 /// A text that an event prints; `W` is a text.

@@ -20,10 +20,13 @@ use Rattle.page_scopes_words.specs.declared.settings.Setting.{Setting}
 use Rattle.page_scopes_words.specs.declared.fonts.Fonts.{Fonts}
 use Rattle.page_scopes_text.proofs.PartedLemmas.{others_same, pen_more, plain_word, tokens_more, words_more}
 use Rattle.page_scopes_text.specs.Parted.{Parted, words_of}
-use Rattle.page_scopes_text.specs.Words.{fonts_after, pen_after, pen_through, token_prints, tokens_items, word_notes}
+use Rattle.page_scopes_text.specs.Words.{tokens_items, word_notes}
+use Rattle.page_scopes_words.specs.Fonts.{fonts_after}
+use Rattle.page_scopes_words.specs.Tokens.{token_prints}
+use Rattle.page_scopes_words.specs.Pens.{pen_after, pen_through}
 use Rattle.page_scopes_words.specs.machine.Letters.{letters_in}
 use Rattle.page_scopes_text.specs.machine.Letters.{Lettered, ReadsLetters, inside}
-use Rattle.page_scopes_text.specs.declared.pens.Pen.{Pen}
+use Rattle.page_scopes_words.specs.declared.pens.Pen.{Pen}
 
 -- ---- tokens that are letters
 

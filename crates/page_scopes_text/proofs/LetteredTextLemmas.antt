@@ -29,12 +29,13 @@ use Rattle.page_scopes_text.proofs.RunWordLemmas.{run_to_blank, run_to_end}
 use Rattle.page_scopes_text.proofs.TextLemmas.{after_others_more, after_spaced_word, after_text_word, others_more, spaced_word, text_word}
 use Rattle.page_scopes_text.specs.Parted.{Parted, Spaced, spaced_front, words_of}
 use Rattle.page_scopes_text.specs.Texts.{others_after, others_items, spaced_items, text_after, text_items}
-use Rattle.page_scopes_text.specs.Words.{body_items, empty_items, gap_after, gap_items, pen_after, pen_through, tokens_items, word_after, word_begun, word_ended, word_items, word_notes}
-use Rattle.page_scopes_text.specs.declared.pens.Pen.{Pen}
-use Rattle.page_scopes_text.specs.declared.pens.TextStyle.{TextStyle}
+use Rattle.page_scopes_text.specs.Words.{body_items, empty_items, gap_items, tokens_items, word_items, word_notes}
+use Rattle.page_scopes_words.specs.Pens.{gap_after, pen_after, pen_through, word_after, word_begun, word_ended}
+use Rattle.page_scopes_words.specs.machine.Pens.{resting}
+use Rattle.page_scopes_words.specs.declared.pens.Pen.{Pen}
+use Rattle.page_scopes_words.specs.declared.pens.TextStyle.{TextStyle}
 use Rattle.page_scopes_text.specs.machine.LetteredTexts.{GivesFront, GoesOn, PrintsFirst}
 use Rattle.page_scopes_text.specs.machine.Letters.{AddsWord, AddsWords, ReadsLetters, inside}
-use Rattle.page_scopes_text.specs.machine.Reads.{resting}
 use Rattle.page_scopes_text.specs.machine.Runs.{BeginsRun, RunOf}
 
 -- ---- a run at a text's front

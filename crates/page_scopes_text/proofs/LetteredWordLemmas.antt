@@ -23,14 +23,15 @@ use Rattle.page_scopes_text.proofs.RomanRunLemmas.{run_lettered, run_pieces, run
 use Rattle.page_scopes_text.proofs.RunLemmas.{run_after, run_items}
 use Rattle.page_scopes_text.proofs.TextLemmas.{after_others_more, after_spaced_word, others_more, spaced_word}
 use Rattle.page_scopes_text.specs.Parted.{Spaced, spaced_front, words_of}
-use Rattle.page_scopes_text.specs.Texts.{others_after, others_items, place_after, spaced_after, spaced_items, white_after, white_items}
-use Rattle.page_scopes_text.specs.Words.{body_items, empty_items, gap_after, gap_items, pen_through, tokens_items, word_after, word_begun, word_ended, word_items, word_notes}
+use Rattle.page_scopes_text.specs.Texts.{others_after, others_items, place_after, spaced_after, spaced_items, white_items}
+use Rattle.page_scopes_words.specs.Pens.{gap_after, pen_through, white_after, word_after, word_begun, word_ended}
+use Rattle.page_scopes_words.specs.machine.Pens.{resting}
+use Rattle.page_scopes_text.specs.Words.{body_items, empty_items, gap_items, tokens_items, word_items, word_notes}
 use Rattle.page_scopes_words.specs.machine.Letters.{GivesLetters, letters_in}
 use Rattle.page_scopes_text.specs.machine.Letters.{AddsWord, AddsWords, Grows, ReadsLetters, ReadsWords, inside}
-use Rattle.page_scopes_text.specs.machine.Reads.{resting}
 use Rattle.page_scopes_text.specs.machine.Runs.{BeginsRun}
-use Rattle.page_scopes_text.specs.declared.pens.Pen.{Pen}
-use Rattle.page_scopes_text.specs.declared.pens.TextStyle.{TextStyle}
+use Rattle.page_scopes_words.specs.declared.pens.Pen.{Pen}
+use Rattle.page_scopes_words.specs.declared.pens.TextStyle.{TextStyle}
 
 -- ---- one blank and a word
 

@@ -1,6 +1,5 @@
 pub mod PartedLemmas
 pub mod TextLemmas
-pub mod BlankCountLemmas
 pub mod PlainWordLemmas
 pub mod RunLemmas
 pub mod RomanRunLemmas

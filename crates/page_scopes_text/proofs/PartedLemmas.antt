@@ -11,8 +11,9 @@ use Rattle.page_core_escapes.specs.Escapes.{escape_of, read_escape}
 use Rattle.page_core_escapes.specs.Lengths.{escape_len}
 use Rattle.page_core_escapes.proofs.Contents.{escape_len-some}
 use Rattle.page_core_escapes.proofs.TokenLemmas.{tokens_more as text_tokens, tokens_none, word_token, not_white, space_token, white_first}
-use Rattle.page_scopes_text.specs.Words.{pen_after, pen_through, printed_items, tokens_items}
-use Rattle.page_scopes_text.specs.declared.pens.Pen.{Pen}
+use Rattle.page_scopes_text.specs.Words.{printed_items, tokens_items}
+use Rattle.page_scopes_words.specs.Pens.{pen_after, pen_through}
+use Rattle.page_scopes_words.specs.declared.pens.Pen.{Pen}
 use Rattle.page_scopes_text.specs.Parted.{Parted, after_token, parted, words_of, spaced_front}
 use Rattle.page_scopes_text.specs.machine.Reads.{ReadsPlain}
 

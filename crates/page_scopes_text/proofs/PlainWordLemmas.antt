@@ -13,12 +13,13 @@ use Rattle.page_scopes_words.specs.declared.fonts.Fonts.{Fonts}
 use Rattle.page_scopes_words.specs.Words.{at}
 use Rattle.page_scopes_text.proofs.PartedLemmas.{no_word, spaced_more}
 use Rattle.page_scopes_text.specs.Parted.{Parted, Spaced, words_of}
-use Rattle.page_scopes_text.specs.machine.Reads.{ReadsPlain, resting}
+use Rattle.page_scopes_text.specs.machine.Reads.{ReadsPlain}
+use Rattle.page_scopes_words.specs.machine.Pens.{resting}
 use Rattle.page_scopes_text.specs.machine.Runs.{blank_word}
 use Rattle.page_scopes_text.specs.Texts.{others_after, others_items, spaced_after, spaced_items}
 use Rattle.page_scopes_text.specs.Words.{parts_items}
-use Rattle.page_scopes_text.specs.declared.pens.Pen.{Pen}
-use Rattle.page_scopes_text.specs.declared.pens.TextStyle.{TextStyle}
+use Rattle.page_scopes_words.specs.declared.pens.Pen.{Pen}
+use Rattle.page_scopes_words.specs.declared.pens.TextStyle.{TextStyle}
 
 -- in rows that are filled such a word leaves another column, and nothing else
 after_blank_word : (style : TextStyle) (fonts : Setting Fonts) (column : ℕ) (word : List ℕ)

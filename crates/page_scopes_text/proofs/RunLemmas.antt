@@ -16,12 +16,12 @@ use Rattle.page_scopes_words.specs.declared.fonts.Fonts.{Fonts}
 use Rattle.page_scopes_words.specs.Words.{at}
 use Rattle.page_scopes_text.proofs.PlainWordLemmas.{blank_word_after, blank_word_items, moved}
 use Rattle.page_scopes_text.specs.Parted.{Spaced, words_of}
-use Rattle.page_scopes_text.specs.machine.Reads.{resting}
+use Rattle.page_scopes_words.specs.machine.Pens.{resting}
 use Rattle.page_scopes_text.specs.machine.Runs.{BeginsRun, BeginsWith, TakesFront, blank_word, is_whole_word}
 use Rattle.page_scopes_text.specs.Texts.{others_after, others_items}
 use Rattle.page_scopes_text.specs.Words.{parts_items}
-use Rattle.page_scopes_text.specs.declared.pens.Pen.{Pen}
-use Rattle.page_scopes_text.specs.declared.pens.TextStyle.{TextStyle}
+use Rattle.page_scopes_words.specs.declared.pens.Pen.{Pen}
+use Rattle.page_scopes_words.specs.declared.pens.TextStyle.{TextStyle}
 
 -- ---- the bytes and the pieces of words, one part after another
 

@@ -5,10 +5,11 @@ use Rattle.page_core_escapes.specs.Tokens.{begins_white, begins_word, token_len}
 use Rattle.page_scopes_words.specs.Words.{has_tab}
 use Rattle.page_scopes_text.proofs.PartedLemmas.{no_word, spaced_more, white_some, word_some, words_more, words_none}
 use Rattle.page_scopes_text.specs.Parted.{Parted, spaced_front, words_of}
-use Rattle.page_scopes_text.specs.Texts.{leading_after, leading_items, others_after, others_items, place_after, spaced_after, spaced_items, text_after, text_items, white_after, white_items}
-use Rattle.page_scopes_text.specs.Words.{word_after, word_items}
-use Rattle.page_scopes_text.specs.declared.pens.Pen.{Pen}
-use Rattle.page_scopes_text.specs.declared.pens.TextStyle.{TextStyle}
+use Rattle.page_scopes_text.specs.Texts.{leading_after, leading_items, others_after, others_items, place_after, spaced_after, spaced_items, text_after, text_items, white_items}
+use Rattle.page_scopes_words.specs.Pens.{white_after, word_after}
+use Rattle.page_scopes_text.specs.Words.{word_items}
+use Rattle.page_scopes_words.specs.declared.pens.Pen.{Pen}
+use Rattle.page_scopes_words.specs.declared.pens.TextStyle.{TextStyle}
 
 -- ---- a word after white space
 

@@ -1,5 +1,5 @@
 -- A text as pieces and messages: its words, and the white space between them. Source: roff(7), "LANGUAGE SYNTAX"; mandoc(1), "DIAGNOSTICS".
-use Rattle.std.specs.Prelude.{ℕ, ◌+◌, ◌==◌, max, Bool, true, false, not, ◌||◌, ◌&&◌, List, [], ◌∷◌, ◌++◌, length, if◌then◌else◌}
+use Rattle.std.specs.Prelude.{ℕ, ◌+◌, ◌==◌, Bool, false, not, ◌&&◌, List, [], ◌∷◌, ◌++◌, length, if◌then◌else◌}
 use Rattle.page_core_base.specs.Pieces.{Item, shown}
 use Rattle.page_core_base.specs.declared.cells.Font.TheVariants.{R}
 use Rattle.page_core_base.specs.declared.pieces.Piece.TheVariants.{Break}
@@ -7,9 +7,11 @@ use Rattle.page_core_base.specs.declared.places.Place.{Place}
 use Rattle.page_core_escapes.specs.Tokens.{TextToken}
 use Rattle.page_scopes_words.specs.Words.{at, has_tab, white_cells}
 use Rattle.page_scopes_text.specs.Parted.{Spaced, Parted}
-use Rattle.page_scopes_text.specs.Words.{blank_cells, body_after, body_items, has_gap_cells, word_after, word_items, word_notes}
-use Rattle.page_scopes_text.specs.declared.pens.Pen.{Pen}
-use Rattle.page_scopes_text.specs.declared.pens.TextStyle.{TextStyle}
+use Rattle.page_scopes_text.specs.Words.{body_items, word_items, word_notes}
+use Rattle.page_scopes_words.specs.Tokens.{blank_cells}
+use Rattle.page_scopes_words.specs.Pens.{body_after, has_gap_cells, indented_pen, white_after, word_after}
+use Rattle.page_scopes_words.specs.declared.pens.Pen.{Pen}
+use Rattle.page_scopes_words.specs.declared.pens.TextStyle.{TextStyle}
 
 -- ---- a word after white space, which parts it, or is kept
 
@@ -19,15 +21,6 @@ place_after line pen white = at line (pen.column + length white)
 
 abbrev pub white_items : TextStyle → Place → List ℕ → List Item
 white_items style place white = if style.is_literal then white_cells place white else []
-
-abbrev pub white_after : TextStyle → Pen → List ℕ → Pen
-white_after style pen white = record pen {
-  column = pen.column + length white;
-  gap = if style.is_literal then 0 else max pen.gap 1;
-  has_cell = pen.has_cell || style.is_literal;
-  is_cut = false;
-  ends_blank = true;
-}
 
 -- at the text's end there is no word
 abbrev pub spaced_items : TextStyle → ℕ → Pen → Spaced → List Item
@@ -52,9 +45,6 @@ others_after style pen (part ∷ parts) = others_after style (spaced_after style
 -- in a text line that is filled it ends the row, and is kept as cells of the first word, whose messages come first
 abbrev pub is_indented : TextStyle → Bool
 is_indented style = style.is_line && not style.is_literal
-
-abbrev pub indented_pen : Pen → List ℕ → Pen
-indented_pen pen white = record pen { column = pen.column + length white; has_cell = true }
 
 abbrev pub indented_items : (quoted : Bool) → ℕ → Pen → Spaced → List Item
 indented_items quoted line pen part =

@@ -15,11 +15,10 @@ ghost use Rattle.page_scopes_words.specs.machine.RunEnds.{GoesOn as RunGoesOn};
 ghost use Rattle.page_core_base.specs.declared.cells.Font.TheVariants.{R};
 
 use crate::lettered_words::{read_letters, read_words};
-use crate::{Pen, TextStyle};
 use page_core_base::{Font, LINE, PieceOut};
 use page_scopes_words::{
-    Fonts, Letters, ROOM, Setting, WORD_ROOM, blank_before, give_after_blanks, give_short_word,
-    going_len, is_plain_word, roman_fonts,
+    Fonts, Letters, Pen, ROOM, Setting, TextStyle, WORD_ROOM, blank_before, give_after_blanks,
+    give_short_word, going_len, is_plain_word, roman_fonts,
 };
 
 // Whether blanks are before the next word, which may be parted, in rows that are filled.

@@ -13,11 +13,9 @@ ghost use Rattle.page_scopes_words.specs.machine.Letters.{letters_in};
 ghost use Rattle.page_scopes_text.specs.machine.Reads.{Fits, Within};
 
 use crate::runs::run_len;
-use crate::tokens::fonts_after;
-use crate::{Pen, TextStyle};
 use page_core_base::{Font, LINE, PieceOut, first_part_len};
 use page_core_escapes::{Escape, Token, begins_word, read_token};
-use page_scopes_words::{Fonts, Letters, ROOM, Setting};
+use page_scopes_words::{Fonts, Letters, Pen, ROOM, Setting, TextStyle, fonts_after};
 
 // Takes bytes that print themselves, if they are one part, and there is room: whether it did.
 #[inline(always)]

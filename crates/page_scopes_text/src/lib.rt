@@ -1,8 +1,8 @@
 //! Texts of a page as pieces and messages, word by word: blanks, fonts, rows that are kept as they are, and the messages of escapes (roff(7)).
 //!
-//! A text of an event comes in with a `Pen`, which is what is known before it; its pieces go down to be filled. Read `specs/Parted.antt` first
-//! (the words of a text), then `Words.antt` (a word) and `Texts.antt` (what parts words). What the code does faster is in
-//! `specs/machine/`.
+//! A text of an event comes in with a `Pen` (`page_scopes_words`), which is what is known before it; its pieces go down to be filled. Read
+//! `specs/Parted.antt` first (the words of a text), then `Words.antt` (a word) and `Texts.antt` (what parts words). What the code does faster is
+//! in `specs/machine/`.
 //!
 //! Proved: `give_text`: the pieces and messages of a text, word by word, with the blanks before each, in rows that are filled or kept
 //! (`specs/Parted.antt`, `Words.antt`, `Texts.antt`).
@@ -11,15 +11,8 @@
 mod lettered_texts;
 mod lettered_words;
 mod parts;
-mod pens;
 mod runs;
 mod texts;
-mod tokens;
 mod words;
 
-pub use pens::{Pen, TextStyle};
 pub use texts::give_text;
-pub use tokens::{
-    blank_count, fonts_after, give_blank_cells, give_blank_text, give_token, report_token,
-    token_prints,
-};

@@ -6,9 +6,9 @@ ghost use Rattle.page_core_escapes.specs.Tokens.{is_space, plain, token_view};
 ghost use Rattle.page_scopes_text.specs.machine.Parts.{later_items};
 ghost use Rattle.page_scopes_text.specs.Words as words;
 
-use crate::tokens::{give_letters, give_token};
 use page_core_base::{Font, Piece, PieceOut, Place, first_part_len};
 use page_core_escapes::Token;
+use page_scopes_words::{give_letters, give_token};
 
 // Gives the first part of bytes that print themselves; what is left of them.
 #[inline(always)]

@@ -6,17 +6,15 @@ ghost use Rattle.page_core_escapes.specs.Tokens.{begins_white, begins_word};
 ghost use Rattle.page_scopes_text.specs.Parted.{spaced_front, words_of};
 ghost use Rattle.page_scopes_text.specs.machine.Reads.{Fits, ReadsSpaced, Within};
 ghost use Rattle.page_scopes_text.specs.Texts as texts;
-ghost use Rattle.page_scopes_text.specs.Words.{body_after};
+ghost use Rattle.page_scopes_words.specs.Pens.{body_after, indented_pen, white_after};
 
 use crate::lettered_texts::give_lettered_front;
 use crate::lettered_words::give_lettered_words;
 use crate::runs::{give_run, run_len};
-use crate::tokens::give_blank_cells;
 use crate::words::{give_body, give_word, report_word};
-use crate::{Pen, TextStyle};
 use page_core_base::{Font, LINE, Piece, PieceOut, Place};
 use page_core_escapes::{begins_word, read_token};
-use page_scopes_words::{give_white_cells, has_tab};
+use page_scopes_words::{Pen, TextStyle, give_blank_cells, give_white_cells, has_tab};
 
 // Gives white space, and goes on after it.
 #[inline(always)]
@@ -24,7 +22,7 @@ fn give_white<O: PieceOut>(out: &mut O, style: TextStyle, line: u32, pen: &mut P
     requires { pen.old.column + length white.now < 2 ^ 32 }
     ensures came { Came O.left out.old
         (texts.white_items style (texts.place_after line pen.old white.now) white.now) out.new }
-    ensures pen { pen.new ≡ texts.white_after style pen.old white.now }
+    ensures pen { pen.new ≡ white_after style pen.old white.now }
 {
     pen.pass_white(style, white);
     if style.is_literal {
@@ -183,7 +181,7 @@ fn give_indented<'a, O: PieceOut>(
     ensures came { Came O.left out.old
         (texts.indented_items quoted line pen.old (spaced_front quoted text.now)) out.new }
     ensures pen { pen.new
-        ≡ body_after (texts.indented_pen pen.old (spaced_front quoted text.now).white)
+        ≡ body_after (indented_pen pen.old (spaced_front quoted text.now).white)
         (spaced_front quoted text.now).word }
     ensures rest { ReadsSpaced quoted pen.old text.now pen.new result.now }
 {

@@ -6,12 +6,12 @@ ghost use Rattle.page_core_escapes.specs.Tokens.{plain, token_view};
 ghost use Rattle.page_scopes_text.specs.Parted.{words_of};
 ghost use Rattle.page_scopes_text.specs.machine.Reads.{Fits, ReadsPlain, ReadsWord};
 ghost use Rattle.page_scopes_text.specs.Words as words;
+ghost use Rattle.page_scopes_words.specs.Pens as pens;
 
 use crate::parts::{give_plain_token, give_printed};
-use crate::tokens::{give_blank_cells, give_letters, report_token};
-use crate::{Pen, TextStyle};
 use page_core_base::{Font, LINE, Piece, PieceOut, Place};
 use page_core_escapes::{begins_word, plain_len, read_token};
+use page_scopes_words::{Pen, TextStyle, give_blank_cells, give_letters, report_token};
 
 /// Gives the messages of the word at a text's front.
 pub(crate) fn report_word<O: PieceOut>(out: &mut O, quoted: bool, place: Place, text: &[u8])
@@ -37,7 +37,7 @@ fn give_tokens<'a, O: PieceOut>(
     requires { Fits pen.old text.now }
     ensures came { Came O.left out.old
         (words.tokens_items quoted place pen.old (words_of quoted text.now).word) out.new }
-    ensures pen { pen.new ≡ words.pen_through pen.old (words_of quoted text.now).word }
+    ensures pen { pen.new ≡ pens.pen_through pen.old (words_of quoted text.now).word }
     ensures rest { ReadsWord quoted pen.old text.now pen.new result.now }
 {
     let mut rest = text;
@@ -71,7 +71,7 @@ pub(crate) fn give_body<'a, O: PieceOut>(
     requires { Fits pen.old text.now }
     ensures came { Came O.left out.old
         (words.body_items quoted place pen.old (words_of quoted text.now).word) out.new }
-    ensures pen { pen.new ≡ words.body_after pen.old (words_of quoted text.now).word }
+    ensures pen { pen.new ≡ pens.body_after pen.old (words_of quoted text.now).word }
     ensures rest { ReadsWord quoted pen.old text.now pen.new result.now }
 {
     let before = *pen;
@@ -125,7 +125,7 @@ fn give_plain<O: PieceOut>(
     requires { pen.old.column + length word.now < 2 ^ 32 }
     ensures came { Came O.left out.old
         (words.word_items style line has_tab pen.old (plain word.now ∷ [])) out.new }
-    ensures pen { pen.new ≡ words.word_after style pen.old (plain word.now ∷ []) }
+    ensures pen { pen.new ≡ pens.word_after style pen.old (plain word.now ∷ []) }
 {
     let place = Place {
         line,
@@ -150,7 +150,7 @@ fn give_told_word<'a, O: PieceOut>(
     requires { Fits pen.old text.now }
     ensures came { Came O.left out.old
         (words.word_items style line has_tab pen.old (words_of style.is_quoted text.now).word) out.new }
-    ensures pen { pen.new ≡ words.word_after style pen.old (words_of style.is_quoted text.now).word }
+    ensures pen { pen.new ≡ pens.word_after style pen.old (words_of style.is_quoted text.now).word }
     ensures rest { ReadsWord style.is_quoted pen.old text.now pen.new result.now }
 {
     let place = Place {
@@ -176,7 +176,7 @@ pub(crate) fn give_word<'a, O: PieceOut>(
     requires { Fits pen.old text.now }
     ensures came { Came O.left out.old
         (words.word_items style line has_tab pen.old (words_of style.is_quoted text.now).word) out.new }
-    ensures pen { pen.new ≡ words.word_after style pen.old (words_of style.is_quoted text.now).word }
+    ensures pen { pen.new ≡ pens.word_after style pen.old (words_of style.is_quoted text.now).word }
     ensures rest { ReadsWord style.is_quoted pen.old text.now pen.new result.now }
 {
     if let Some((word, rest)) = read_plain(style.is_quoted, text) {

@@ -3,3 +3,4 @@ pub mod UnpairedLemmas
 pub mod FrontLemmas
 pub mod LetterCellLemmas
 pub mod RunEndLemmas
+pub mod BlankCountLemmas

@@ -1,10 +1,12 @@
 -- The font in use and the former one. Source: roff(7), `ft` and `\f`.
+use Rattle.std.specs.Prelude.{Bool, false, ◌||◌}
 use Rattle.page_core_base.specs.declared.cells.Font.{Font}
 use Rattle.page_core_base.specs.declared.cells.Font.TheVariants.{R, I, B, BI}
 use Rattle.page_core_escapes.specs.Meanings as meanings
-use Rattle.page_core_escapes.specs.Meanings.{Face}
+use Rattle.page_core_escapes.specs.Meanings.{Face, is_known}
 use Rattle.page_core_escapes.specs.Tokens.{TextToken, escaped}
 use Rattle.page_scopes_words.specs.declared.fonts.Fonts.{Fonts}
+use Rattle.page_scopes_words.specs.declared.settings.Setting.{Setting}
 
 -- the fonts of a paragraph
 abbrev pub roman_fonts : Fonts
@@ -26,3 +28,11 @@ face_fonts (meanings.unknown name) fonts = fonts
 abbrev pub token_fonts : TextToken → Fonts → Fonts
 token_fonts (escaped bytes (meanings.face face)) fonts = face_fonts face fonts
 token_fonts _ fonts = fonts
+
+-- whether an escape asks for a font that there is
+abbrev pub token_sets : TextToken → Bool
+token_sets (escaped bytes (meanings.face face)) = is_known face
+token_sets _ = false
+
+abbrev pub fonts_after : TextToken → Setting Fonts → Setting Fonts
+fonts_after token fonts = record { value = token_fonts token fonts.value; is_set = fonts.is_set || token_sets token }

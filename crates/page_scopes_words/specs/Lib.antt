@@ -3,6 +3,8 @@ pub mod Settings
 pub mod Words
 pub mod Sentences
 pub mod Numbers
+pub mod Tokens
+pub mod Pens
 pub mod Names
 pub mod Widths
 pub mod machine

@@ -31,7 +31,7 @@ abbrev pub face_notes : (quoted : Bool) → Place → Face → List Item
 face_notes quoted place (meanings.unknown name) = says UnknownFont place (shown_part quoted name) ∷ []
 face_notes quoted place _ = []
 
--- those of the number in `\h` are in `page_scopes_text`, with its value
+-- those of the number in `\h` are in `Tokens.antt`, with its value
 abbrev pub meaning_notes : (quoted : Bool) → Place → List ℕ → Meaning → List Item
 meaning_notes quoted place bytes (meanings.undefined c) = says UndefEscape place (shown_part quoted bytes) ∷ []
 meaning_notes quoted place bytes meanings.bad = says BadEscape place (shown_part quoted bytes) ∷ []
@@ -49,7 +49,7 @@ has_quote bytes = list_any (λ byte. byte == 34) bytes
 abbrev pub glyph_name : (quoted : Bool) → List ℕ → List ℕ
 glyph_name quoted name = if quoted && has_quote name then take 64 (unpaired name) else name
 
--- an undefined escape is its character; that of a tab is a tab. A glyph, and the blanks of `\h`, are in `page_scopes_text`
+-- an undefined escape is its character; that of a tab is a tab. A glyph, and the blanks of `\h`, are in `Tokens.antt`
 abbrev pub token_piece : Font → Place → TextToken → Option (Piece (List ℕ))
 token_piece font place (plain bytes) = Some (Text bytes font place)
 token_piece font place (quotes bytes) = Some (Char 34 font place)

@@ -3,8 +3,9 @@
 ghost use Rattle.std.specs.Prelude.{◌≡◌};
 ghost use Rattle.page_core_escapes.specs.Escapes.{face_view};
 ghost use Rattle.page_core_escapes.specs.Tokens.{token_view};
-ghost use Rattle.page_scopes_words.specs.Fonts.{roman_fonts, with_font, face_fonts, token_fonts};
+ghost use Rattle.page_scopes_words.specs.Fonts.{roman_fonts, with_font, face_fonts, fonts_after, token_fonts, token_sets};
 
+use crate::settings::Setting;
 use page_core_base::Font;
 use page_core_escapes::{Escape, FontName, Token};
 
@@ -59,5 +60,29 @@ impl Fonts {
             } => self.named(name),
             _ => self,
         }
+    }
+}
+
+// Whether a token asks for a font that there is.
+fn token_sets(token: &Token<'_>) -> bool
+    ensures { result ≡ token_sets (token_view token.now) }
+{
+    match *token {
+        Token::Escaped {
+            meaning: Escape::Font(name),
+            ..
+        } => name.is_known(),
+        _ => false,
+    }
+}
+
+/// The fonts after a token, and whether they were set.
+#[inline(always)]
+pub fn fonts_after(token: &Token<'_>, fonts: Setting<Fonts>) -> Setting<Fonts>
+    ensures { result ≡ fonts_after (token_view token.now) fonts }
+{
+    Setting {
+        value: fonts.value.after(token),
+        is_set: fonts.is_set || token_sets(token),
     }
 }

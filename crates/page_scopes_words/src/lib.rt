@@ -1,15 +1,17 @@
-//! What layers that read texts share: what a token says, prints and does to the font, white space that is kept, where a sentence ends,
-//! values that requests set, and what numbers and widths are worth (roff(7), mdoc(7)).
+//! What layers that read texts share: what a token says, prints and does to the font, what is known between two tokens, white space that is
+//! kept, where a sentence ends, values that requests set, and what numbers and widths are worth (roff(7), mdoc(7)).
 //!
-//! `page_scopes_text` reads the words of a text by these, and `page_engine_header` the fields of a title. Read `specs/Words.antt` first.
-//! Widths are the columns of what a text prints, and those that an argument of a list or a display asks for (`specs/Names.antt`, `Widths.antt`).
-//! `Letters` and `going_len` are for the fast ways of `page_scopes_text`, and their definitions are in `specs/machine/`.
+//! `page_scopes_text` reads the words of a text by these, and `page_engine_header` the fields of a title. Read `specs/Words.antt` first, then
+//! `Tokens.antt` and `Pens.antt`. Widths are the columns of what a text prints, and those that an argument of a list or a display asks for
+//! (`specs/Names.antt`, `Widths.antt`). `Letters` and `going_len` are for the fast ways of `page_scopes_text`, and their definitions are in
+//! `specs/machine/`.
 //!
-//! Proved: `token_piece`, `give_glyph`, `report_escape`, `report_font`, `Fonts::after`, `give_white_cells`: what a token prints and reports, and the fonts after it
-//! (`specs/Words.antt`, `Fonts.antt`). `ends_sentence`: where a sentence ends (`specs/Sentences.antt`). `Setting`: a value that a request sets holds
-//! after the scope in which it was set (`specs/Settings.antt`). `give_number`, `give_columns`, `give_rows`: the value of a number in basic units,
-//! columns or rows, with its messages (`specs/Numbers.antt`). `name_columns`, `give_width`: the columns of a text, and those that an argument of
-//! mdoc(7) asks for: by a name, an expression or a text that is as wide (`specs/Names.antt`, `Widths.antt`).
+//! Proved: `report_token`, `give_token`, `token_prints`, `fonts_after`, `give_white_cells`, and what they call: what a token reports and prints, and
+//! the fonts after it (`specs/Words.antt`, `Tokens.antt`, `Fonts.antt`). `Pen`: what is known after a token, a word and white space
+//! (`specs/Pens.antt`). `ends_sentence`: where a sentence ends (`specs/Sentences.antt`). `Setting`: a value that a request sets holds after the
+//! scope in which it was set (`specs/Settings.antt`). `give_number`, `give_columns`, `give_rows`: the value of a number in basic units, columns or
+//! rows, with its messages (`specs/Numbers.antt`). `name_columns`, `give_width`: the columns of a text, and those that an argument of mdoc(7) asks
+//! for: by a name, an expression or a text that is as wide (`specs/Names.antt`, `Widths.antt`).
 #![tactic(auto)]
 
 mod fonts;
@@ -17,6 +19,7 @@ mod letter_fonts;
 mod letters;
 mod names;
 mod numbers;
+mod pens;
 mod run_ends;
 mod sentences;
 mod settings;
@@ -24,14 +27,18 @@ mod tokens;
 mod white_cells;
 mod widths;
 
-pub use fonts::{Fonts, ROMAN};
+pub use fonts::{Fonts, ROMAN, fonts_after};
 pub use letter_fonts::{ROOM, roman_fonts};
 pub use letters::{Letters, WORD_ROOM, give_after_blanks, give_short_word};
 pub use names::name_columns;
 pub use numbers::{give_columns, give_number, give_rows};
+pub use pens::{Pen, TextStyle};
 pub use run_ends::{blank_before, going_len, is_plain_word};
 pub use sentences::ends_sentence;
 pub use settings::Setting;
-pub use tokens::{give_glyph, report, report_escape, report_font, report_part, token_piece};
+pub use tokens::{
+    blank_count, give_blank_cells, give_blank_text, give_glyph, give_letters, give_token, is_glue,
+    report, report_escape, report_font, report_part, report_token, token_piece, token_prints,
+};
 pub use white_cells::{give_white_cells, has_tab};
 pub use widths::give_width;

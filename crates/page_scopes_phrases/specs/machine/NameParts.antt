@@ -11,7 +11,7 @@ use Rattle.page_scopes_phrases.specs.KeptTexts.{prints_cell}
 use Rattle.page_scopes_phrases.specs.declared.kept_names.Known.{Known}
 use Rattle.page_scopes_phrases.specs.declared.kept_names.Known.TheVariants.{Blanks, Nothing, Unread}
 use Rattle.page_scopes_phrases.specs.declared.kept_names.NamePart.{NamePart}
-use Rattle.page_scopes_text.specs.Words.{blank_count}
+use Rattle.page_scopes_words.specs.Tokens.{blank_count}
 
 -- what an escape prints, and a token, as far as it is known: its blanks, where it is a `\h`, or nothing
 abbrev pub meaning_known : Meaning → Known

@@ -7,9 +7,10 @@ use Rattle.page_scopes_words.specs.machine.Letters.{GivesLetters}
 use Rattle.page_scopes_words.specs.declared.fonts.Fonts.{Fonts}
 use Rattle.page_scopes_words.specs.declared.settings.Setting.{Setting}
 use Rattle.page_scopes_text.specs.Parted.{words_of}
-use Rattle.page_scopes_text.specs.Words.{pen_through, word_notes}
-use Rattle.page_scopes_text.specs.declared.pens.Pen.{Pen}
-use Rattle.page_scopes_text.specs.declared.pens.TextStyle.{TextStyle}
+use Rattle.page_scopes_text.specs.Words.{word_notes}
+use Rattle.page_scopes_words.specs.Pens.{pen_through}
+use Rattle.page_scopes_words.specs.declared.pens.Pen.{Pen}
+use Rattle.page_scopes_words.specs.declared.pens.TextStyle.{TextStyle}
 use Rattle.page_scopes_text.specs.machine.Letters.{AddsWords, inside}
 
 -- blanks are before the next word, which may be parted, in rows that are filled

@@ -15,10 +15,12 @@ use Rattle.page_scopes_words.specs.declared.settings.Setting.{Setting}
 use Rattle.page_scopes_words.specs.declared.fonts.Fonts.{Fonts}
 use Rattle.page_scopes_text.specs.Parted.{Spaced, words_of}
 use Rattle.page_scopes_text.specs.Texts.{others_after, others_items}
-use Rattle.page_scopes_text.specs.Words.{pen_through, printed_items, token_notes, token_prints, tokens_items, word_notes}
-use Rattle.page_scopes_text.specs.machine.Reads.{resting}
-use Rattle.page_scopes_text.specs.declared.pens.Pen.{Pen}
-use Rattle.page_scopes_text.specs.declared.pens.TextStyle.{TextStyle}
+use Rattle.page_scopes_text.specs.Words.{printed_items, tokens_items, word_notes}
+use Rattle.page_scopes_words.specs.Tokens.{token_notes, token_prints}
+use Rattle.page_scopes_words.specs.Pens.{pen_through}
+use Rattle.page_scopes_words.specs.machine.Pens.{resting}
+use Rattle.page_scopes_words.specs.declared.pens.Pen.{Pen}
+use Rattle.page_scopes_words.specs.declared.pens.TextStyle.{TextStyle}
 
 -- a token that prints these letters or nothing, and has no message
 pub record Lettered (token : TextToken) (letters : List ℕ) : Type 0 where

@@ -4,9 +4,7 @@ use Rattle.page_core_base.specs.Words.{is_word}
 use Rattle.page_core_escapes.specs.Tokens.{begins_word, plain, token_len}
 use Rattle.page_core_base.specs.Limits.{LINE}
 use Rattle.page_scopes_text.specs.Parted.{words_of}
-use Rattle.page_scopes_words.specs.declared.settings.Setting.{Setting}
-use Rattle.page_scopes_words.specs.declared.fonts.Fonts.{Fonts}
-use Rattle.page_scopes_text.specs.declared.pens.Pen.{Pen}
+use Rattle.page_scopes_words.specs.declared.pens.Pen.{Pen}
 
 -- a text of a line, up to whose end columns have room
 pub record Fits (pen : Pen) (text : List ℕ) : Type 0 where
@@ -30,19 +28,6 @@ pub record ReadsSpaced (quoted : Bool) (pen : Pen) (text : List ℕ) (next : Pen
   pub some : length rest < length text
   pub ends : begins_word rest ≡ false
   pub others : (words_of quoted rest).others ≡ (words_of quoted (drop (token_len quoted text) text)).others
-
--- a pen after a word that prints itself, where words are parted
-abbrev pub resting : Setting Fonts → ℕ → Pen
-resting fonts column = record {
-  fonts = fonts;
-  column = column;
-  gap = 1;
-  is_after_word = true;
-  has_cell = true;
-  is_cut = false;
-  ends_blank = false;
-  splits = true;
-}
 
 -- a word at a text's front was read, all of which prints itself
 pub record ReadsPlain (quoted : Bool) (text word rest : List ℕ) : Type 0 where

@@ -1,7 +1,7 @@
 use Rattle.std.proofs.Common.{◌≡◌, [], refl, rules}
 use Rattle.page_scopes_text.proofs.LetteredWordLemmas.{lettered_came, lettered_left}
 use Rattle.page_scopes_text.specs.machine.Letters.{AddsWords}
-use Rattle.page_scopes_text.specs.machine.Reads.{resting}
+use Rattle.page_scopes_words.specs.machine.Pens.{resting}
 use Rattle.page_scopes_text.proofs.lettered_words.give_lettered_words.Goals as goal
 
 pub returns-then-not-tries-clause-came : goal.returns-then-not-tries-clause-came

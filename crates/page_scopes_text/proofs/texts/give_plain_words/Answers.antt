@@ -1,6 +1,6 @@
 use Rattle.std.proofs.Common.{◌≡◌, false, rules}
 use Rattle.page_scopes_text.proofs.RunLemmas.{run_came, run_pen}
-use Rattle.page_scopes_text.specs.machine.Reads.{resting}
+use Rattle.page_scopes_words.specs.machine.Pens.{resting}
 use Rattle.page_scopes_text.specs.machine.Runs.{BeginsRun}
 use Rattle.page_scopes_text.proofs.texts.give_plain_words.Goals as goal
 

@@ -2,13 +2,13 @@
 
 ghost use Rattle.std.specs.Prelude.{◌≡◌, ◌<◌, ◌+◌, ◌^◌, [], ◌∷◌, length, IsTrue};
 ghost use Rattle.page_core_escapes.specs.Tokens.{plain, token_bytes, token_view};
-ghost use Rattle.page_scopes_text.specs.machine.Reads.{resting};
-ghost use Rattle.page_scopes_text.specs.Texts.{indented_pen, white_after};
-ghost use Rattle.page_scopes_text.specs.Words.{body_after, gap_after, has_gap_cells, pen_after, word_begun, word_ended};
+ghost use Rattle.page_scopes_words.specs.Pens.{body_after, gap_after, has_gap_cells, indented_pen, pen_after, white_after, word_begun, word_ended};
+ghost use Rattle.page_scopes_words.specs.machine.Pens.{resting};
 
-use crate::tokens::{fonts_after, is_glue, token_prints};
+use crate::fonts::{Fonts, fonts_after};
+use crate::settings::Setting;
+use crate::tokens::{is_glue, token_prints};
 use page_core_escapes::Token;
-use page_scopes_words::{Fonts, Setting};
 
 /// How a text is read.
 #[derive(Clone, Copy)]
@@ -44,7 +44,7 @@ pub struct Pen {
 impl Pen {
     /// Goes on after a token of a word.
     #[inline(always)]
-    pub(crate) fn pass(&mut self, token: &Token<'_>)
+    pub fn pass(&mut self, token: &Token<'_>)
         requires { self.old.column + length (token_bytes (token_view token.now)) < 2 ^ 32 }
         ensures { self.new ≡ pen_after self.old (token_view token.now) }
     {
@@ -55,7 +55,7 @@ impl Pen {
     }
 
     /// A word begins, without a cell.
-    pub(crate) fn begin_word(&mut self)
+    pub fn begin_word(&mut self)
         ensures { self.new ≡ word_begun self.old }
     {
         self.has_cell = false;
@@ -63,7 +63,7 @@ impl Pen {
     }
 
     /// A word ends, with a blank after it.
-    pub(crate) fn end_word(&mut self, before: &Pen)
+    pub fn end_word(&mut self, before: &Pen)
         ensures { self.new ≡ word_ended before.now self.old }
     {
         self.gap = 1;
@@ -73,14 +73,14 @@ impl Pen {
     }
 
     /// Whether the blanks before the next word are cells.
-    pub(crate) fn has_gap_cells(&self, style: TextStyle) -> bool
+    pub fn has_gap_cells(&self, style: TextStyle) -> bool
         ensures { result ≡ has_gap_cells style self.now }
     {
         style.is_literal && (self.is_after_word && self.gap > 0)
     }
 
     /// Goes on after the blanks before a word.
-    pub(crate) fn pass_gap(&mut self, style: TextStyle)
+    pub fn pass_gap(&mut self, style: TextStyle)
         ensures { self.new ≡ gap_after style self.old }
     {
         self.has_cell = self.has_cell || self.has_gap_cells(style);
@@ -88,7 +88,7 @@ impl Pen {
 
     /// Goes on after a word that prints itself.
     #[inline(always)]
-    pub(crate) fn pass_plain(&mut self, word: &[u8])
+    pub fn pass_plain(&mut self, word: &[u8])
         requires { self.old.column + length word.now < 2 ^ 32 }
         ensures { self.new ≡ body_after self.old (plain word.now ∷ []) }
     {
@@ -102,7 +102,7 @@ impl Pen {
 
     /// Goes on after words of so many bytes, which leave these fonts.
     #[inline(always)]
-    pub(crate) fn rest_after(&mut self, fonts: Setting<Fonts>, len: u32)
+    pub fn rest_after(&mut self, fonts: Setting<Fonts>, len: u32)
         requires { self.old.column + len < 2 ^ 32 }
         ensures { self.new ≡ resting fonts (self.old.column + len) }
     {
@@ -120,7 +120,7 @@ impl Pen {
 
     /// Whether a word that prints itself was the last thing that was passed, and words are parted.
     #[inline(always)]
-    pub(crate) fn is_resting(&self) -> bool
+    pub fn is_resting(&self) -> bool
         ensures { IsTrue result → self.now ≡ resting self.now.fonts self.now.column }
     {
         self.gap == 1
@@ -133,7 +133,7 @@ impl Pen {
 
     /// Goes on after white space.
     #[inline(always)]
-    pub(crate) fn pass_white(&mut self, style: TextStyle, white: &[u8])
+    pub fn pass_white(&mut self, style: TextStyle, white: &[u8])
         requires { self.old.column + length white.now < 2 ^ 32 }
         ensures { self.new ≡ white_after style self.old white.now }
     {
@@ -145,7 +145,7 @@ impl Pen {
     }
 
     /// Goes on after the white space at a text line's front, which is cells of its first word.
-    pub(crate) fn indent(&mut self, white: &[u8])
+    pub fn indent(&mut self, white: &[u8])
         requires { self.old.column + length white.now < 2 ^ 32 }
         ensures { self.new ≡ indented_pen self.old white.now }
     {

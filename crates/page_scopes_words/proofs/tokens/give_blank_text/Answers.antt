@@ -1,6 +1,6 @@
 use Rattle.std.proofs.Common.{◌≡◌, ◌==◌, false, arith}
 use Rattle.std.proofs.lemmas.Bool.Decides.{nat_tests}
-use Rattle.page_scopes_text.proofs.tokens.give_blank_text.Goals as goal
+use Rattle.page_scopes_words.proofs.tokens.give_blank_text.Goals as goal
 
 pub returns-then-count-ne0 : goal.returns-then-count-ne0
 returns-then-count-ne0 g c = λ plan rest h.

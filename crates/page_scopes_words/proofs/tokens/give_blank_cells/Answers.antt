@@ -1,5 +1,5 @@
 use Rattle.std.proofs.Common.{◌≡◌, ℕ, suc, ◌+◌, ◌-◌, ◌<◌, arith}
-use Rattle.page_scopes_text.proofs.tokens.give_blank_cells.Goals as goal
+use Rattle.page_scopes_words.proofs.tokens.give_blank_cells.Goals as goal
 
 one_less : (count i : ℕ) → i < count → count - i ≡ suc (count - (i + 1))
 one_less count i h = omega arith
