@@ -8,3 +8,4 @@ pub mod LetterLemmas
 pub mod LetteredWordLemmas
 pub mod LetteredTextLemmas
 mod PartLemmas
+pub mod KeptTextLemmas

@@ -35,7 +35,7 @@ words_more quoted (b ∷ bs) n h k e =
     ap parted (text_tokens quoted (b ∷ bs) n k e)
     ∙ token_before (token_at quoted (b ∷ bs)) (words_of quoted (drop n (b ∷ bs))) (word_token quoted b bs (not_white b bs h))
 
-white_token : (quoted : Bool) (b : ℕ) (bs : List ℕ) → is_white b ≡ true → token_at quoted (b ∷ bs) ≡ white (take (prefix_len is_white (b ∷ bs)) (b ∷ bs))
+pub white_token : (quoted : Bool) (b : ℕ) (bs : List ℕ) → is_white b ≡ true → token_at quoted (b ∷ bs) ≡ white (take (prefix_len is_white (b ∷ bs)) (b ∷ bs))
 unfolding token_at
 white_token quoted b bs h = rw h refl
 
@@ -182,7 +182,7 @@ front_without : (b : Bool) (q : ℕ → Bool) (x : ℕ) (xs : List ℕ) (n m : �
 front_without true q x xs n m w h g = rw (w refl) (g (omega arith))
 front_without false q x xs n m w h g = absurd (omega arith)
 
-all_before : (p q : ℕ → Bool) → ((x : ℕ) → p x ≡ true → q x ≡ true) → (xs : List ℕ) (n : ℕ) → n ≤ prefix_len p xs → list_all q (take n xs) ≡ true
+pub all_before : (p q : ℕ → Bool) → ((x : ℕ) → p x ≡ true → q x ≡ true) → (xs : List ℕ) (n : ℕ) → n ≤ prefix_len p xs → list_all q (take n xs) ≡ true
 all_before p q w xs zero h = refl
 all_before p q w [] (suc n) h = refl
 all_before p q w (x ∷ xs) (suc n) h = front_without (p x) q x xs n (prefix_len p xs) (w x) h (all_before p q w xs n)

@@ -53,7 +53,7 @@ no_white : (text : List ℕ) → begins_word text ≡ true → prefix_len is_whi
 no_white [] h = refl
 no_white (b ∷ bs) h = rw (not_white b bs h) refl
 
-plain_begins : (quoted : Bool) (text word rest : List ℕ) → ReadsPlain quoted text word rest → begins_word text ≡ true
+pub plain_begins : (quoted : Bool) (text word rest : List ℕ) → ReadsPlain quoted text word rest → begins_word text ≡ true
 plain_begins quoted text word rest r = elim (cases_Bool (begins_word text)) [ inl t ↦ t | inr f ↦ absurd (never (sym (no_word quoted text f) ∙ r.only)) ]
   where
     never : [] ≡ plain word ∷ [] → ⊥

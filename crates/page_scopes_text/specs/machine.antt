@@ -4,3 +4,4 @@ pub mod Reads
 pub mod Letters
 pub mod LetteredTexts
 pub mod Runs
+pub mod Kept

@@ -8,6 +8,7 @@
 //! (`specs/Parted.antt`, `Words.antt`, `Texts.antt`).
 #![tactic(auto)]
 
+mod kept_texts;
 mod lettered_texts;
 mod lettered_words;
 mod parts;

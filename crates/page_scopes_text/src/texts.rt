@@ -8,6 +8,7 @@ ghost use Rattle.page_scopes_text.specs.machine.Reads.{Fits, ReadsSpaced, Within
 ghost use Rattle.page_scopes_text.specs.Texts as texts;
 ghost use Rattle.page_scopes_words.specs.Pens.{body_after, indented_pen, white_after};
 
+use crate::kept_texts::give_kept_words;
 use crate::lettered_texts::give_lettered_front;
 use crate::lettered_words::give_lettered_words;
 use crate::runs::{give_run, run_len};
@@ -119,7 +120,9 @@ fn give_many<'a, O: PieceOut>(
     ensures within { Within pen.old text.now pen.new result.now }
     ensures ends { begins_word result.now ≡ false }
 {
-    if *tries {
+    if style.is_literal {
+        give_kept_words(out, style, line, pen, tries, text)
+    } else if *tries {
         give_lettered_words(out, style, line, pen, tries, text)
     } else {
         give_plain_words(out, style, line, pen, false, text)

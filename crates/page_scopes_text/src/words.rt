@@ -1,6 +1,6 @@
 //! Words: their messages, the blanks before them, and what they print (roff(7); mandoc(1), "DIAGNOSTICS").
 
-ghost use Rattle.std.specs.Prelude.{◌≡◌, ◌≤◌, ◌<◌, ◌+◌, ◌^◌, false, [], ◌∷◌, IfSome, length};
+ghost use Rattle.std.specs.Prelude.{◌≡◌, ◌≤◌, ◌<◌, ◌+◌, ◌^◌, false, [], ◌∷◌, ◌++◌, IfSome, length};
 ghost use Rattle.page_core_base.specs.Latches.{Came};
 ghost use Rattle.page_core_escapes.specs.Tokens.{plain, token_view};
 ghost use Rattle.page_scopes_text.specs.Parted.{words_of};
@@ -103,7 +103,8 @@ fn give_gap<O: PieceOut>(out: &mut O, style: TextStyle, has_tab: bool, place: Pl
 #[inline(always)]
 pub(crate) fn read_plain(quoted: bool, text: &[u8]) -> Option<(&[u8], &[u8])>
     requires { length text.now ≤ LINE }
-    ensures { IfSome result (λ parts. ReadsPlain quoted text.now parts.0.now parts.1.now) }
+    ensures reads { IfSome result (λ parts. ReadsPlain quoted text.now parts.0.now parts.1.now) }
+    ensures whole { IfSome result (λ parts. text.now ≡ parts.0.now ++ parts.1.now) }
 {
     let (word, rest) = text.split_at(plain_len(quoted, text));
     if word.is_empty() || begins_word(rest) {

@@ -4,8 +4,8 @@ use Rattle.page_core_escapes.specs.Tokens.{begins_word}
 use Rattle.page_scopes_text.proofs.PartedLemmas.{reads_front}
 use Rattle.page_scopes_text.proofs.words.read_plain.Goals as goal
 
-pub returns : goal.returns
-returns c =
+pub returns-clause-reads : goal.returns-clause-reads
+returns-clause-reads c =
     let n = c.plain_len.result in
     let text = c.args.text.now in
     let parts = c.split_at.ensures in

@@ -1,0 +1,274 @@
+-- Words and blanks of a row that is kept as it is: pieces whose cells they are.
+use Rattle.std.proofs.Common.{◌≡◌, ℕ, ◌+◌, ◌-◌, ◌<◌, ◌≤◌, ◌==◌, nat_lt, not, Bool, true, false, List, [], ◌∷◌, ◌++◌, length, take, drop, map, append-nil, append_assoc, length-append, refl, sym, ap, ◌∙◌, arith, inl, inr}
+use Rattle.std.specs.List.{list_all, prefix_len}
+use Rattle.std.proofs.Math.Bool.{or-false, or-true}
+use Rattle.std.proofs.Math.Seq.{take-append_seam}
+use Rattle.std.proofs.lemmas.List.{map-append, take-append-drop}
+use Rattle.std.proofs.lemmas.List.Folds.{length-prefix_len, list_all-append}
+use Rattle.std.proofs.lemmas.Bool.{cases_Bool}
+use Rattle.std.proofs.lemmas.Bool.Decides.{nat_tests}
+use Rattle.page_core_base.specs.Pieces.{Item, shown}
+use Rattle.page_core_base.specs.declared.cells.Cell.{Cell}
+use Rattle.page_core_base.specs.declared.cells.Font.{Font}
+use Rattle.page_core_base.specs.declared.cells.Font.TheVariants.{R}
+use Rattle.page_core_base.specs.declared.pieces.Piece.{Piece}
+use Rattle.page_core_base.specs.declared.pieces.Piece.TheVariants.{Split, Text}
+use Rattle.page_core_base.specs.declared.places.Place.{Place}
+use Rattle.page_core_base.specs.Words.{font_cells, is_kept, is_word, hyphen, later_pieces, part_pieces, letters_of, parts_of, word_letters}
+use Rattle.page_core_base.proofs.WordPartLemmas.{joined, joined-parts, parts-full}
+use Rattle.page_core_escapes.specs.Tokens.{begins_white, begins_word, is_white, plain, token_len}
+use Rattle.page_scopes_words.specs.Pens.{body_after, gap_after, white_after, word_after}
+use Rattle.page_scopes_words.specs.Words.{at, has_tab, white_cells}
+use Rattle.page_scopes_words.specs.declared.pens.Pen.{Pen}
+use Rattle.page_scopes_words.specs.declared.pens.TextStyle.{TextStyle}
+use Rattle.page_scopes_text.proofs.PartedLemmas.{all_before, white_token}
+use Rattle.page_scopes_text.proofs.PlainWordLemmas.{plain_begins}
+use Rattle.page_scopes_text.proofs.TextLemmas.{after_others_more, after_spaced_word, others_more, spaced_word}
+use Rattle.page_scopes_text.specs.Parted.{Parted, Spaced, spaced_front, words_of}
+use Rattle.page_scopes_text.specs.Texts.{others_after, others_items, place_after, spaced_after, spaced_items}
+use Rattle.page_scopes_text.specs.Words.{printed_items, word_items}
+use Rattle.page_scopes_text.specs.machine.Kept.{AreCells, IsKept, ReadsKept, kept_pen}
+use Rattle.page_scopes_text.specs.machine.Reads.{ReadsPlain}
+
+-- ---- blanks
+
+abbrev blank_pieces : Place → List ℕ → List (Piece (List ℕ))
+blank_pieces place white = map (λ b. Text (32 ∷ []) R place) white
+
+a_blank : (b : ℕ) → is_white b ≡ true → (b == 9) ≡ false → b ≡ 32
+a_blank b white tab = grind (arith, nat_tests, white, tab)
+
+white_pieces : (place : Place) (white : List ℕ) → has_tab white ≡ false → white_cells place white ≡ map shown (blank_pieces place white)
+white_pieces place [] none = refl
+white_pieces place (b ∷ bytes) none =
+    let tab : (b == 9) ≡ false = grind (arith, none) in
+    let others : has_tab bytes ≡ false = grind (arith, none) in
+    rw tab (ap (λ (items : List Item). shown (Text (32 ∷ []) R place) ∷ items) (white_pieces place bytes others))
+
+white_kept : (place : Place) (white : List ℕ) → list_all is_kept (blank_pieces place white) ≡ true
+white_kept place [] = refl
+white_kept place (b ∷ bytes) = white_kept place bytes
+
+white_letters : (place : Place) (white : List ℕ) → list_all is_white white ≡ true → has_tab white ≡ false → font_cells R white ≡ word_letters (blank_pieces place white)
+white_letters place [] all none = refl
+white_letters place (b ∷ bytes) all none =
+    let first : is_white b ≡ true = grind (arith, all) in
+    let more : list_all is_white bytes ≡ true = grind (arith, all) in
+    let tab : (b == 9) ≡ false = grind (arith, none) in
+    let others : has_tab bytes ≡ false = grind (arith, none) in
+    rw (a_blank b first tab) (ap (λ (cells : List Cell). record { c = 32; font = R } ∷ cells) (white_letters place bytes more others))
+
+white_are : (place : Place) (white : List ℕ) → list_all is_white white ≡ true → has_tab white ≡ false → AreCells white (blank_pieces place white)
+white_are place white all none = (white_kept place white, white_letters place white all none)
+
+-- ---- a word
+
+abbrev full : List (List ℕ) → Bool
+full parts = list_all (λ (part : List ℕ). not (length part == 0)) parts
+
+later_kept : (place : Place) (parts : List (List ℕ)) → full parts ≡ true → list_all is_kept (later_pieces R place parts) ≡ true
+later_kept place [] all = refl
+later_kept place (part ∷ parts) all =
+    let own : nat_lt 0 (length part) ≡ true = grind (arith, nat_tests, all) in
+    let others : full parts ≡ true = grind (arith, all) in
+    rw own (later_kept place parts others)
+
+later_letters : (place : Place) (parts : List (List ℕ)) → word_letters (later_pieces R place parts) ≡ font_cells R (joined parts)
+later_letters place [] = refl
+later_letters place (part ∷ parts) =
+    ap (λ (cells : List Cell). font_cells R part ++ cells) (later_letters place parts) ∙ sym (map-append (λ c. record { c = c; font = R }) part (joined parts))
+
+parts_are : (place : Place) (parts : List (List ℕ)) → full parts ≡ true → AreCells (joined parts) (part_pieces R place parts)
+parts_are place [] all = (refl, refl)
+parts_are place (part ∷ parts) all =
+    let own : nat_lt 0 (length part) ≡ true = grind (arith, nat_tests, all) in
+    let others : full parts ≡ true = grind (arith, all) in (
+      rw own (later_kept place parts others),
+      map-append (λ c. record { c = c; font = R }) part (joined parts) ∙ ap (λ (cells : List Cell). font_cells R part ++ cells) (sym (later_letters place parts)),
+    )
+
+abbrev word_pieces : Bool → Place → List ℕ → List (Piece (List ℕ))
+word_pieces true place word = part_pieces R place (parts_of word)
+word_pieces false place word = Text word R place ∷ []
+
+word_are : (splits : Bool) (place : Place) (word : List ℕ) → is_word word ≡ true → AreCells word (word_pieces splits place word)
+word_are true place word is = rw (joined-parts word) at (parts_are place (parts_of word) (parts-full hyphen word))
+word_are false place word is =
+    let some : nat_lt 0 (length word) ≡ true = grind (arith, is) in
+    (rw some refl, sym (append-nil (font_cells R word)))
+
+word_printed : (quoted splits : Bool) (place : Place) (word : List ℕ) → printed_items quoted splits R place (plain word) ≡ map shown (word_pieces splits place word)
+word_printed quoted true place word = refl
+word_printed quoted false place word = refl
+
+-- in a row that is kept no other blanks are before a word after white space
+kept_word : (style : TextStyle) (line : ℕ) (tab : Bool) (pen : Pen) (word : List ℕ) → style.is_literal ≡ true → pen.gap ≡ 0 → pen.fonts.value.font ≡ R
+    → word_items style line tab pen (plain word ∷ []) ≡ map shown (word_pieces pen.splits (at line pen.column) word)
+kept_word style line tab pen word literal none roman =
+    let printed = word_printed style.is_quoted pen.splits (at line pen.column) word in
+    elim (cases_Bool pen.is_after_word) [
+      | inl after ↦ rw (literal, none, roman, after, append-nil (printed_items style.is_quoted pen.splits R (at line pen.column) (plain word)), append-nil (printed_items style.is_quoted pen.splits R (at line pen.column) (plain word))) printed
+      | inr before ↦ rw (literal, none, roman, before, append-nil (printed_items style.is_quoted pen.splits R (at line pen.column) (plain word)), append-nil (printed_items style.is_quoted pen.splits R (at line pen.column) (plain word))) printed
+    ]
+
+-- ---- the pen
+
+abbrev pen_plain : Pen → List ℕ → Pen
+pen_plain pen bytes = record pen { column = pen.column + length bytes; gap = 1; is_after_word = true; has_cell = true; is_cut = false; ends_blank = false }
+
+body_plain : (pen : Pen) (bytes : List ℕ) → body_after pen (plain bytes ∷ []) ≡ pen_plain pen bytes
+body_plain pen bytes = rw (or-false pen.fonts.is_set, or-true pen.has_cell) refl
+
+pub kept_some : (pen : Pen) (bytes : List ℕ) → 0 < length bytes → kept_pen pen bytes ≡ body_after pen (plain bytes ∷ [])
+kept_some pen [] some = absurd (omega (arith, some))
+kept_some pen (b ∷ bytes) some = refl
+
+kept_both : (pen : Pen) (front back : List ℕ) → kept_pen (kept_pen pen front) back ≡ kept_pen pen (front ++ back)
+kept_both pen [] back = refl
+kept_both pen (x ∷ front) [] = rw (append-nil front) refl
+kept_both pen (x ∷ front) (y ∷ back) =
+    let len : (pen.column + length (x ∷ front)) + length (y ∷ back) ≡ pen.column + length (x ∷ (front ++ y ∷ back)) = omega (arith, length-append front (y ∷ back)) in
+    ap (λ (p : Pen). body_after p (plain (y ∷ back) ∷ [])) (body_plain pen (x ∷ front))
+    ∙ (body_plain (pen_plain pen (x ∷ front)) (y ∷ back) ∙ (ap (λ (n : ℕ). record pen { column = n; gap = 1; is_after_word = true; has_cell = true; is_cut = false; ends_blank = false }) len
+    ∙ sym (body_plain pen (x ∷ (front ++ y ∷ back)))))
+
+kept_still : (style : TextStyle) (pen : Pen) (front : List ℕ) → IsKept style pen → IsKept style (kept_pen pen front)
+kept_still style pen [] is = is
+kept_still style pen (b ∷ front) is = record { literal = is.literal; roman = is.roman }
+
+-- white space, and a word after it
+kept_spaced : (style : TextStyle) (pen : Pen) (white word : List ℕ) → 0 < length white → style.is_literal ≡ true
+    → word_after style (white_after style pen white) (plain word ∷ []) ≡ kept_pen pen (white ++ word)
+kept_spaced style pen white word some literal =
+    let len : (pen.column + length white) + length word ≡ pen.column + length (white ++ word) = omega (arith, length-append white word) in
+    body_plain (gap_after style (white_after style pen white)) word
+    ∙ (ap (λ (n : ℕ). record pen { column = n; gap = 1; is_after_word = true; has_cell = true; is_cut = false; ends_blank = false }) len
+    ∙ (sym (body_plain pen (white ++ word)) ∙ sym (kept_some pen (white ++ word) (omega (arith, some, length-append white word)))))
+
+-- ---- white space at a text's front, and the word after it
+
+-- of a text the white space is read, and the word after it, which prints itself, is read too
+pub record Spaces (quoted : Bool) (text white after word rest : List ℕ) (n : ℕ) : Type 0 where
+  pub begins : begins_white text ≡ true
+  pub len : n ≡ token_len quoted text
+  pub front : white ≡ take n text
+  pub back : after ≡ drop n text
+  pub some : 0 < length white
+  pub blanks : list_all is_white white ≡ true
+  pub no_tab : has_tab white ≡ false
+  pub plain_word : ReadsPlain quoted after word rest
+  pub word_whole : after ≡ word ++ rest
+
+spaced_kept : (style : TextStyle) (line : ℕ) (pen : Pen) (text white after word rest : List ℕ) (n : ℕ) → Spaces style.is_quoted text white after word rest n
+    → style.is_literal ≡ true → pen.fonts.value.font ≡ R
+    → spaced_items style line pen (spaced_front style.is_quoted text)
+    ≡ map shown (blank_pieces (place_after line pen white) white ++ word_pieces pen.splits (at line (pen.column + length white)) word)
+spaced_kept style line pen text white after word rest n s literal roman =
+    let word_first = plain_begins style.is_quoted after word rest s.plain_word in
+    let parts = spaced_word style line pen text white after n s.len s.front s.back word_first in
+    let pen_white = white_after style pen white in
+    let gap : pen_white.gap ≡ 0 = rw literal refl in
+    let printed = kept_word style line (has_tab white) pen_white word literal gap roman in
+    parts ∙ (rw (s.plain_word.only, printed, literal, white_pieces (place_after line pen white) white s.no_tab)
+    (sym (map-append shown (blank_pieces (place_after line pen white) white) (word_pieces pen.splits (at line (pen.column + length white)) word))))
+
+after_kept : (style : TextStyle) (pen : Pen) (text white after word rest : List ℕ) (n : ℕ) → Spaces style.is_quoted text white after word rest n
+    → style.is_literal ≡ true → spaced_after style pen (spaced_front style.is_quoted text) ≡ kept_pen pen (white ++ word)
+after_kept style pen text white after word rest n s literal =
+    let word_first = plain_begins style.is_quoted after word rest s.plain_word in
+    after_spaced_word style pen text white after n s.len s.front s.back word_first
+    ∙ (rw s.plain_word.only (kept_spaced style pen white word s.some literal))
+
+rest_others : (quoted : Bool) (text white after word rest : List ℕ) (n : ℕ) → Spaces quoted text white after word rest n
+    → (words_of quoted (drop (token_len quoted text) text)).others ≡ (words_of quoted rest).others
+rest_others quoted text white after word rest n s = rw (← s.len, ← s.back) (sym s.plain_word.others)
+
+are_both : (front back : List ℕ) (first others : List (Piece (List ℕ))) → AreCells front first → AreCells back others → AreCells (front ++ back) (first ++ others)
+are_both front back first others a b = (
+  list_all-append is_kept first others ∙ rw (a.0, b.0) refl,
+  map-append (λ c. record { c = c; font = R }) front back ∙ (rw (a.1, b.1) (sym (letters-append first others))),
+)
+  where
+    letters-append : (first others : List (Piece (List ℕ))) → word_letters (first ++ others) ≡ word_letters first ++ word_letters others
+    letters-append [] others = refl
+    letters-append (p ∷ ps) others = ap (λ (cells : List Cell). letters_of p ++ cells) (letters-append ps others) ∙ sym (append_assoc (letters_of p) (word_letters ps) (word_letters others))
+
+gives_word : (style : TextStyle) (line : ℕ) (pen : Pen) (text white after word rest : List ℕ) (n : ℕ) → Spaces style.is_quoted text white after word rest n
+    → style.is_literal ≡ true → pen.fonts.value.font ≡ R
+    → (pieces : List (Piece (List ℕ))) × AreCells (white ++ word) pieces
+    × (others_items style line pen (words_of style.is_quoted text).others
+    ≡ map shown pieces ++ others_items style line (kept_pen pen (white ++ word)) (words_of style.is_quoted rest).others)
+gives_word style line pen text white after word rest n s literal roman =
+    let blanks = blank_pieces (place_after line pen white) white in
+    let letters = word_pieces pen.splits (at line (pen.column + length white)) word in (
+      blanks ++ letters,
+      are_both white word blanks letters (white_are (place_after line pen white) white s.blanks s.no_tab) (word_are pen.splits (at line (pen.column + length white)) word s.plain_word.is_a_word),
+      others_more style line pen text s.begins
+          ∙ rw (spaced_kept style line pen text white after word rest n s literal roman, after_kept style pen text white after word rest n s literal, rest_others style.is_quoted text white after word rest n s) refl,
+    )
+
+after_word : (style : TextStyle) (pen : Pen) (text white after word rest : List ℕ) (n : ℕ) → Spaces style.is_quoted text white after word rest n
+    → style.is_literal ≡ true
+    → others_after style pen (words_of style.is_quoted text).others ≡ others_after style (kept_pen pen (white ++ word)) (words_of style.is_quoted rest).others
+after_word style pen text white after word rest n s literal =
+    after_others_more style pen text s.begins
+    ∙ rw (after_kept style pen text white after word rest n s literal, rest_others style.is_quoted text white after word rest n s) refl
+
+pub reads_word : (style : TextStyle) (text white after word rest : List ℕ) (n : ℕ) → Spaces style.is_quoted text white after word rest n → ReadsKept style text rest
+reads_word style text white after word rest n s = record {
+  front = white ++ word;
+  whole = sym (take-append-drop n text) ∙ (rw (← s.front, ← s.back, s.word_whole) (sym (append_assoc white word rest)));
+  gives = λ line pen is. gives_word style line pen text white after word rest n s is.literal is.roman;
+  after = λ pen is. after_word style pen text white after word rest n s is.literal;
+}
+
+-- ---- more of them
+
+pub reads_none : (style : TextStyle) (text : List ℕ) → ReadsKept style text text
+reads_none style text = record {
+  front = [];
+  whole = refl;
+  gives = λ line pen is. ([], (refl, refl), refl);
+  after = λ pen is. refl;
+}
+
+pub reads_more : (style : TextStyle) (text middle rest : List ℕ) → ReadsKept style text middle → ReadsKept style middle rest → ReadsKept style text rest
+reads_more style text middle rest a b = record {
+  front = a.front ++ b.front;
+  whole = a.whole ∙ (ap (λ (bytes : List ℕ). a.front ++ bytes) b.whole ∙ sym (append_assoc a.front b.front rest));
+  gives = λ line pen is.
+      let first = a.gives line pen is in
+      let others = b.gives line (kept_pen pen a.front) (kept_still style pen a.front is) in
+      let left = others_items style line (kept_pen pen (a.front ++ b.front)) (words_of style.is_quoted rest).others in
+      let later : others_items style line (kept_pen pen a.front) (words_of style.is_quoted middle).others ≡ map shown others.0 ++ left =
+      others.2 ∙ ap (λ (p : Pen). map shown others.0 ++ others_items style line p (words_of style.is_quoted rest).others) (kept_both pen a.front b.front) in
+      let both : map shown first.0 ++ (map shown others.0 ++ left) ≡ map shown (first.0 ++ others.0) ++ left =
+      sym (append_assoc (map shown first.0) (map shown others.0) left) ∙ ap (λ (items : List Item). items ++ left) (sym (map-append shown first.0 others.0)) in (
+        first.0 ++ others.0,
+        are_both a.front b.front first.0 others.0 first.1 others.1,
+        first.2 ∙ (ap (λ (items : List Item). map shown first.0 ++ items) later ∙ both),
+      );
+  after = λ pen is.
+      a.after pen is
+      ∙ (b.after (kept_pen pen a.front) (kept_still style pen a.front is)
+      ∙ ap (λ (p : Pen). others_after style p (words_of style.is_quoted rest).others) (kept_both pen a.front b.front));
+}
+
+-- what was read is at the front
+pub front_of : (style : TextStyle) (text rest : List ℕ) (r : ReadsKept style text rest) → take (length text - length rest) text ≡ r.front
+front_of style text rest r =
+    let len : length text ≡ length r.front + length rest = ap (λ (bytes : List ℕ). length bytes) r.whole ∙ length-append r.front rest in
+    let n : length text - length rest ≡ length r.front = omega (arith, len) in
+    rw n (ap (take (length r.front)) r.whole ∙ take-append_seam r.front rest)
+
+-- ---- what the code reads
+
+pub white_all : (quoted : Bool) (text : List ℕ) (n : ℕ) → begins_white text ≡ true → n ≡ token_len quoted text → list_all is_white (take n text) ≡ true
+white_all quoted [] n begins len = absurd (never begins)
+  where
+    never : false ≡ true → ⊥
+    never e = grind (arith, e)
+white_all quoted (b ∷ bytes) n begins len =
+    let token = white_token quoted b bytes begins in
+    let is : token_len quoted (b ∷ bytes) ≡ prefix_len is_white (b ∷ bytes) = rw token (length-prefix_len is_white (b ∷ bytes)) in
+    all_before is_white is_white (λ x h. h) (b ∷ bytes) n (omega (arith, len, is))
