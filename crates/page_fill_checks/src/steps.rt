@@ -30,6 +30,8 @@ pub enum Step {
     Words(u32, &'static str, &'static str),
     /// Words are not taken at once after so many blanks.
     Refused(u32, &'static str),
+    /// Characters are taken at once as cells of a kept row, in a font, or not.
+    Kept(&'static str, Font, bool),
     /// The page ends.
     End,
     /// Nothing more is taken.
@@ -227,6 +229,10 @@ fn look(rt: &impl Abort, filler: &mut Filler, step: Step) {
                 !filler.takes_words(blanks, words.as_bytes()),
                 "they are refused"
             );
+        }
+        Step::Kept(characters, font, wanted) => {
+            let taken = filler.take_kept(characters.as_bytes(), font);
+            assert!(rt; taken == wanted, "{characters} are taken, or not");
         }
         Step::Open(cells) => assert!(rt; filler.pending().len() == cells, "{cells} cells"),
         Step::BlankRows(count) => check_count(rt, filler.blank_rows(), count, "blank rows"),

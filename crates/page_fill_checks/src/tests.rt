@@ -3,7 +3,7 @@
 use crate::blank_rows::BLANK_ROWS;
 use crate::sheets::Sheet;
 use crate::steps::{HERE, Step, run};
-use crate::word_rows::{REFUSED, WORD_STEPS, WORDS};
+use crate::word_rows::{KEPT, REFUSED, WORD_STEPS, WORDS};
 use page_core_base::{Fault, Font, Output, Settings};
 use page_fill::{Piece, TagForm};
 use std::process::Abort;
@@ -579,6 +579,15 @@ fn words_give_rows(rt: HostRuntime) -> Result<(), Fail> {
         let steps = [
             Step::Script(before),
             Step::Refused(*blanks, words),
+            Step::Script(after),
+            Step::End,
+        ];
+        check(&rt, (*width, ASCII, &steps, Some(wanted), ""))?;
+    }
+    for (width, before, characters, font, taken, after, wanted) in KEPT {
+        let steps = [
+            Step::Script(before),
+            Step::Kept(characters, *font, *taken),
             Step::Script(after),
             Step::End,
         ];

@@ -2,6 +2,7 @@
 
 use crate::steps::Step;
 use crate::tests::{ASCII, Case};
+use page_core_base::Font;
 use page_fill::{Piece, TagForm};
 
 /// A width; a script, words that are taken at once after so many blanks, in the fonts of letters, and a script; and the rows.
@@ -164,6 +165,30 @@ pub(crate) const WORD_STEPS: &[Case<'static>] = &[
         Some("a\n"),
         "",
     ),
+    (
+        6,
+        ASCII,
+        &[
+            Step::Script("La"),
+            Step::End,
+            Step::Kept("b", Font::R, false),
+        ],
+        Some("a\n"),
+        "",
+    ),
+    // Nor where a row has as many cells as it may have.
+    (
+        6,
+        ASCII,
+        &[
+            Step::Script("L"),
+            Step::Cells("a"),
+            Step::Kept("b", Font::R, false),
+            Step::Open(4096),
+        ],
+        None,
+        "",
+    ),
     // The columns of a tag are counted over its rows: 7 here.
     (
         6,
@@ -193,4 +218,30 @@ pub(crate) const WORD_STEPS: &[Case<'static>] = &[
         Some("abc\ndef g\n"),
         "",
     ),
+];
+
+/// A width; a script, characters that are taken at once in a font or not, and a script; and the rows.
+pub(crate) type KeptCase = (
+    u32,
+    &'static str,
+    &'static str,
+    Font,
+    bool,
+    &'static str,
+    &'static str,
+);
+
+/// Characters of kept rows.
+pub(crate) const KEPT: &[KeptCase] = &[
+    (6, "La", " b  c", Font::R, true, "d", "a b  cd\n"),
+    // They may pass the width.
+    (6, "La", " bcd efg", Font::R, true, "", "a bcd efg\n"),
+    (6, "La", "bc", Font::I, true, "", "a_\u{8}b_\u{8}c\n"),
+    // No word is open, the row is filled, or there is nothing to take.
+    (6, "L", "b", Font::R, false, "", ""),
+    (6, "La_", "b", Font::R, false, "", "a\n"),
+    (6, "a", "b", Font::R, false, "", "a\n"),
+    (6, "La", "", Font::R, false, "", "a\n"),
+    // A byte is no printable ASCII.
+    (6, "La", " \u{e9}", Font::R, false, "", "a\n"),
 ];

@@ -31,7 +31,7 @@ const KEPT: TextStyle = TextStyle {
 };
 
 // Shows pieces, and words that are taken at once in parentheses, after the count of blanks before them if it is not one: each letter after its font,
-// where that is another one than the letter's before.
+// where that is another one than the letter's before. Characters of kept rows that are taken at once are shown between `<` and `>`.
 #[derive(Drop)]
 struct Taken {
     shown: Shown,
@@ -87,6 +87,18 @@ impl PieceOut for Taken {
         true
     }
 
+    fn give_kept(&mut self, text: &[u8], font: Font) -> bool {
+        if self.times == 0 {
+            return false;
+        }
+        self.times -= 1;
+        self.shown.add(b"<");
+        self.shown.add(font_letter(font));
+        self.shown.add(text);
+        self.shown.add(b">");
+        true
+    }
+
     fn report(&mut self, note: &Note) {
         self.shown.report(note);
     }
@@ -132,7 +144,7 @@ fn check_bytes(rt: &impl Abort, got: &[u8], wanted: &[u8]) {
 }
 
 // Texts after one blank, how often words of them are taken, and what they give.
-const TEXTS: [(TextStyle, u32, &str, &str); 20] = [
+const TEXTS: [(TextStyle, u32, &str, &str); 27] = [
     (LINE, 9, "a b cd", "(R a b cd)R"),
     (LINE, 0, "a b cd", "1[a]1[b]1[cd]R"),
     (LINE, 9, "abc", "(R abc)R"),
@@ -157,7 +169,14 @@ const TEXTS: [(TextStyle, u32, &str, &str); 20] = [
         "(R a Ib)1[c-]|[d]1I[e]1[f]1[g]R",
     ),
     (QUOTED, 9, "a \"\"\\fBb\\fP\"\" c", "(R a \"BbR\" c)R"),
-    (KEPT, 9, "a b", "[ ][a][ ][b]R"),
+    (KEPT, 9, "a b", "[ ][a]<R b>R"),
+    (KEPT, 0, "a b", "[ ][a][ ][b]R"),
+    (KEPT, 9, "a  b-c \"d\"", "[ ][a]<R  b-c \"d\">R"),
+    (KEPT, 9, "a b ", "[ ][a]<R b>[ ]R"),
+    (KEPT, 9, "a b\tc d", "[ ][a]<R b>T[c]<R d>R"),
+    (KEPT, 9, "\\& a b", "[ ][]<R a b>R"),
+    (KEPT, 9, "a \\fBb\\fP c d", "[ ][a][ ]B[b]<R c d>R"),
+    (KEPT, 1, "a b \\&c d e", "[ ][a]<R b>[ ][c][ ][d][ ][e]R"),
 ];
 
 // Texts that do not come after one blank: the blanks before them, how often words are taken, and what they give.
