@@ -1,23 +1,35 @@
 -- Free lines are taken as they are written: helpers of proofs.
-use Rattle.std.proofs.Common.{◌≡◌, ℕ, ◌+◌, ◌-◌, ◌≤◌, ◌==◌, Bool, true, false, List, [], ◌∷◌, length, take, drop, None, Some, if◌then◌else◌, inl, inr, refl, sym, ap, ◌∙◌, arith}
+use Rattle.std.proofs.Common.{◌≡◌, ℕ, ◌+◌, ◌-◌, ◌≤◌, ◌==◌, nat_le, Bool, true, false, List, [], ◌∷◌, length, take, drop, Option, None, Some, is_some, unwrap_or, if◌then◌else◌, inl, inr, refl, sym, ap, ap₂, ◌∙◌, arith}
 use Rattle.std.proofs.lemmas.Bool.{cases_Bool}
 use Rattle.std.proofs.lemmas.List.{length-take-le}
 use Rattle.std.proofs.lemmas.List.Sums.{prefix_len-le-length}
-use Rattle.page_core_base.specs.declared.limits.TheConstants.{LINE}
+use Rattle.page_core_base.specs.declared.limits.TheConstants.{ARGS, LINE}
 use Rattle.page_core_base.specs.declared.lines_taken.Form.TheVariants as forms
+use Rattle.page_roff_syntax.specs.Arguments.{arguments}
 use Rattle.page_roff_syntax.specs.LineForms.{control_line, form_of, has_word, is_control, is_name, name_len, name_of, name_start, uncommented_form, without_comment}
+use Rattle.page_roff_syntax.specs.Requests.{request_of}
 use Rattle.page_roff_syntax.specs.declared.line_forms.LineForm.{LineForm}
 use Rattle.page_roff_syntax.specs.declared.line_forms.LineForm.TheVariants.{BlankLine, Text}
+use Rattle.page_roff_syntax.specs.declared.quotes.Argument.{Argument}
 use Rattle.page_roff_blocks.specs.LineParts.{line_parts}
 use Rattle.page_roff_blocks.specs.declared.line_parts.LinePart.TheVariants.{Leaf}
 use Rattle.page_roff_blocks.proofs.LinePartLemmas.{one_leaf, plain_named, plain_nameless}
 use Rattle.page_roff_values.specs.machine.Verbatim.{GivesItself}
-use Rattle.page_roff_effects.specs.declared.commands.Command.TheVariants.{Pass}
-use Rattle.page_roff_effects.specs.machine.Acting.{plain_form, IsPassed}
+use Rattle.page_roff_names.specs.Names.{Definitions}
+use Rattle.page_roff_definitions.specs.Arguments.{closings_notes}
+use Rattle.page_roff_definitions.specs.Calls as made
+use Rattle.page_roff_definitions.specs.Calls.{packed}
+use Rattle.page_roff_definitions.specs.machine.Buffers.{Packs}
+use Rattle.page_roff_effects.specs.declared.at_once.AtOnce.{AtOnce}
+use Rattle.page_roff_effects.specs.declared.at_once.AtOnce.TheVariants as ways
+use Rattle.page_roff_effects.specs.declared.commands.Command.TheVariants.{Call, Pass}
+use Rattle.page_roff_effects.specs.declared.commands.ProductKind.TheVariants as kinds
+use Rattle.page_roff_effects.specs.machine.Acting.{Acting, measured, plain_form, CallsIf, IsOrdinary, IsQuiet, TakesIf}
 use Rattle.page_roff_effects.specs.machine.FreeLines.{IsFreeLine}
-use Rattle.page_roff_effects.specs.Commands.{command_of}
-use Rattle.page_roff_effects.specs.Leaves.{ControlLine, control_outcome, command_outcome, leaf_outcome, text_outcome}
-use Rattle.page_roff_effects.specs.States.{Memory, Setting, gives_line, surroundings}
+use Rattle.page_roff_effects.specs.Commands.{called_body, command_of, command_or, request_command}
+use Rattle.page_roff_effects.specs.Leaves.{ControlLine, calls, control_outcome, command_outcome, does, leaf_outcome, rest_column, rest_of, text_outcome}
+use Rattle.page_roff_effects.specs.States.{Memory, Outcome, Setting, call_product, gives_line, surroundings}
+use Rattle.page_roff_effects.proofs.CallLemmas.{leaf_callable}
 use Rattle.page_roff_effects.proofs.FreeLemmas.{free_itself, uncommented, unended}
 use Rattle.page_roff_effects.proofs.PlainLemmas.{counted_none}
 
@@ -58,6 +70,25 @@ unfolding control_outcome command_outcome
 control_taken setting may_call line m n p g =
     rw (n, p, g (surroundings false setting m) m.number refl) (ap (λ m. gives_line forms.Control line.text line.name_end m) (counted_none m))
 
+abbrev gives_call : made.Call → Memory → Outcome
+gives_call call m = record { notes = []; product = call_product call; memory = m }
+
+calls_closed : (column : ℕ) (body : List ℕ) (args : List (Argument (List ℕ))) (m : Memory) → closings_notes m.number args ≡ [] → nat_le (length (packed args)) ARGS ≡ true
+    → calls true column body args m ≡ (let call : made.Call = record { body = body; packed = packed args } in gives_call call m)
+calls_closed column body args m c f = rw (c, f) refl
+
+quiet_call : (line : ControlLine) (text : List ℕ) (m : Memory) (call : made.Call) → IsQuiet line.name (rest_of line text) (rest_column line) m call
+    → does true Call line text m ≡ gives_call call m
+quiet_call line text m call q =
+    calls_closed line.column (unwrap_or (called_body line.name m.definitions) []) (arguments (rest_column line) (rest_of line text)) m q.closed q.fits
+    ∙ ap₂ (λ (body bytes : List ℕ). let made : made.Call = record { body = body; packed = bytes } in gives_call made m) (sym q.body) (sym q.packs)
+
+control_called : (setting : Setting) (line : ControlLine) (m : Memory) (call : made.Call) → (length line.name == 0) ≡ false → command_of line.name m.definitions ≡ Call
+    → GivesItself line.text → IsQuiet line.name (rest_of line line.text) (rest_column line) m call → control_outcome setting true line m ≡ gives_call call m
+unfolding control_outcome command_outcome
+control_called setting line m call n p g q =
+    rw (n, p, g (surroundings false setting m) m.number refl) (ap (does true Call line line.text) (counted_none m) ∙ quiet_call line line.text m call q)
+
 -- the form of a line with a name is that of its bytes after the control character
 abbrev HasName : List ℕ → List ℕ → LineForm (List ℕ) → Type 0
 HasName line name form = (form ≡ control_line (drop 1 line)) × (length name ≡ name_len (drop 1 line))
@@ -88,7 +119,7 @@ abbrev name_end : List ℕ → ℕ
 name_end line = 1 + name_start (drop 1 line) + name_len (drop 1 line)
 
 pub free_control : (setting : Setting) (line name : List ℕ) (m : Memory) → IsFreeLine line → length line ≤ LINE → name_of (form_of line) ≡ Some name
-    → (length name == 0) ≡ false → IsPassed name m.definitions
+    → (length name == 0) ≡ false → command_of name m.definitions ≡ Pass
     → (may_call : Bool) → leaf_outcome setting may_call line m ≡ gives_line forms.Control line (1 + name_start (drop 1 line) + length name) m
 unfolding leaf_outcome
 free_control setting line name m h short e n p may_call =
@@ -98,8 +129,71 @@ free_control setting line name m h short e n p may_call =
     let same : take (name_len bytes) (drop (name_start bytes) bytes) ≡ name = cc in
     let ends : 2 + name_start bytes + name_len bytes - 1 ≡ name_end line = omega arith in
     rw (f.0, same, ends, u, f.1)
-    (control_taken setting may_call (record { name = name; column = 2 + name_start bytes; name_end = name_end line; text = line }) m n p.0 (free_itself line h short))
+    (control_taken setting may_call (record { name = name; column = 2 + name_start bytes; name_end = name_end line; text = line }) m n p (free_itself line h short))
 
-pub free_named : (line name : List ℕ) (m : Memory) → IsFreeLine line → name_of (form_of line) ≡ Some name → IsPassed name m.definitions
-    → line_parts line ≡ Leaf line ∷ []
-free_named line name m h e p = one_leaf line (plain_named line name e p.1) (unended line h)
+-- what follows the name
+abbrev rest_after : List ℕ → List ℕ → List ℕ
+rest_after line name = drop (1 + name_start (drop 1 line) + length name) line
+
+abbrev column_after : List ℕ → List ℕ → ℕ
+column_after line name = 1 + name_start (drop 1 line) + length name + 1
+
+free_call : (setting : Setting) (line name : List ℕ) (m : Memory) (call : made.Call) → IsFreeLine line → length line ≤ LINE → name_of (form_of line) ≡ Some name
+    → (length name == 0) ≡ false → command_of name m.definitions ≡ Call → IsQuiet name (rest_after line name) (column_after line name) m call
+    → leaf_outcome setting true line m ≡ gives_call call m
+unfolding leaf_outcome
+free_call setting line name m call h short e n p q =
+    let bytes = drop 1 line in
+    let u = uncommented line h in
+    let f = form_named line name u e in
+    let same : take (name_len bytes) (drop (name_start bytes) bytes) ≡ name = cc in
+    let ends : 2 + name_start bytes + name_len bytes - 1 ≡ name_end line = omega arith in
+    let control : ControlLine = record { name = name; column = 2 + name_start bytes; name_end = name_end line; text = line } in
+    let quiet : IsQuiet name (rest_of control line) (rest_column control) m call = rw f.1 at q in
+    rw (f.0, same, ends, u) (control_called setting control m call n p (free_itself line h short) quiet)
+
+-- ---- what a name stands for
+
+passed_by : (name : List ℕ) (body : Option (List ℕ)) → is_some body ≡ false → request_command (request_of name) ≡ Pass → command_or name body ≡ Pass
+passed_by name None e p = p
+passed_by name (Some body) e p = absurd (cc)
+
+called_by : (name : List ℕ) (body : Option (List ℕ)) → is_some body ≡ true → command_or name body ≡ Call
+called_by name None e = absurd (cc)
+called_by name (Some body) e = refl
+
+pub is_pass : (name : List ℕ) (d : Definitions) → is_some (called_body name d) ≡ false → IsOrdinary name → command_of name d ≡ Pass
+unfolding command_of
+is_pass name d e o = passed_by name (called_body name d) e o.0
+
+is_call : (name : List ℕ) (d : Definitions) → is_some (called_body name d) ≡ true → command_of name d ≡ Call
+unfolding command_of
+is_call name d e = called_by name (called_body name d) e
+
+pub free_named : (line name : List ℕ) → IsFreeLine line → name_of (form_of line) ≡ Some name → IsOrdinary name → line_parts line ≡ Leaf line ∷ []
+free_named line name h e o = one_leaf line (plain_named line name e o.1) (unended line h)
+
+-- ---- calls
+
+pub packs_call : (name rest : List ℕ) (column : ℕ) (m : Memory) (call : made.Call) (fits is_closed : Bool) → fits ≡ true → is_closed ≡ true
+    → Packs (packed (arguments column rest)) fits call.packed
+    → (is_closed ≡ true → (line : ℕ) → closings_notes line (arguments column rest) ≡ [])
+    → call.body ≡ unwrap_or (called_body name m.definitions) [] → IsQuiet name rest column m call
+packs_call name rest column m call fits is_closed f c p q b =
+    let within : Packs (packed (arguments column rest)) true call.packed = rw f at p in
+    record { body = b; packs = within.1; fits = sym within.0; closed = q c m.number }
+
+pub takes_call : (result : AtOnce) (raw name : List ℕ) (old new : Acting) → IsFreeLine raw → length raw ≤ LINE → name_of (form_of raw) ≡ Some name
+    → (length name == 0) ≡ false → IsOrdinary name → is_some (called_body name old.memory.definitions) ≡ true
+    → CallsIf result name (rest_after raw name) (column_after raw name) old new
+    → TakesIf result old raw (λ may_call. leaf_outcome (measured old.setting) may_call raw old.memory) new
+takes_call ways.Nothing raw name old new h short e n o s c = c
+takes_call ways.Line raw name old new h short e n o s c = absurd c
+takes_call ways.Call raw name old new h short e n o s c =
+    let given = free_call (measured old.setting) raw name old.memory new.call h short e n (is_call name old.memory.definitions s) c.1 in
+    record {
+      leaf = free_named raw name h e o;
+      left = c.0;
+      given = given;
+      fits = leaf_callable (measured old.setting) true raw old.memory kinds.Call new (rw given refl) (rw given refl);
+    }

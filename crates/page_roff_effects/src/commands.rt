@@ -4,7 +4,7 @@ ghost use Rattle.std.specs.Prelude.{◌≡◌, ◌≤◌, [], length, true, IfSo
 ghost use Rattle.page_core_base.specs.declared.limits.TheConstants.{BODY};
 ghost use Rattle.page_roff_syntax.specs.RegionHeads.{text_view};
 ghost use Rattle.page_roff_effects.specs.Commands as named;
-ghost use Rattle.page_roff_effects.specs.machine.Acting.{IsPassed};
+ghost use Rattle.page_roff_effects.specs.machine.Acting.{IsOrdinary};
 
 use page_core_base::BODY;
 use page_roff_definitions::is_in_copy_mode;
@@ -73,8 +73,8 @@ fn request_command(request: Option<Request>) -> Command
     }
 }
 
-// Whether a name calls a macro of the page, whose body is then found at once.
-fn is_called(name: &[u8], names: &mut Names) -> bool
+/// Whether a name calls a macro of the page, whose body [`body_or_nothing`] then finds soon.
+pub(crate) fn is_called(name: &[u8], names: &mut Names) -> bool
     ensures called { result ≡ is_some (named.called_body name.now names.old) }
     ensures same { names.new ≡ names.old }
 {
@@ -84,13 +84,11 @@ fn is_called(name: &[u8], names: &mut Names) -> bool
     }
 }
 
-/// Whether a name is left to the set of macros, and heads nothing.
-#[tactic(auto, unfolding(crate::specs::Commands::command_of))]
-pub(crate) fn is_passed(name: &[u8], names: &mut Names) -> bool
-    ensures passed { result ≡ true → IsPassed name.now names.old }
-    ensures same { names.new ≡ names.old }
+/// Whether a name is no request but one that changes rows: then it heads nothing, and where it calls no macro it is left to the set of macros.
+pub(crate) fn is_ordinary(name: &[u8]) -> bool
+    ensures { result ≡ true → IsOrdinary name.now }
 {
-    !is_called(name, names) && matches!(Request::of(name), None | Some(Request::Layout(_)))
+    matches!(Request::of(name), None | Some(Request::Layout(_)))
 }
 
 impl Command {

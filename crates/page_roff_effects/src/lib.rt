@@ -25,6 +25,7 @@ mod regions;
 
 pub use actions::Actions;
 pub use answers::holds;
+pub use at_once::AtOnce;
 pub use commands::ProductKind;
 pub use laws::{expansions_law, given_law};
 pub use memories::Remembered;

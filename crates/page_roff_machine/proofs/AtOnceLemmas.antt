@@ -6,30 +6,34 @@ use Rattle.page_core_base.specs.declared.limits.TheConstants.{REREAD}
 use Rattle.page_roff_blocks.specs.declared.line_parts.LinePart.{LinePart}
 use Rattle.page_roff_blocks.specs.declared.line_parts.LinePart.TheVariants.{Leaf}
 use Rattle.page_roff_blocks.specs.LineParts.{line_parts}
-use Rattle.page_roff_blocks.specs.Levels.{Levels, BlockCursor, at_line, after_part, reached, reached_in, reached_from, reached_if}
+use Rattle.page_roff_blocks.specs.Levels.{Levels, BlockCursor, at_line, after_part, outside, reached, reached_in, reached_from, reached_if}
 use Rattle.page_roff_syntax.specs.OpenRegions.{Opened}
 use Rattle.page_roff_blocks.specs.Run.{At, meet_as}
 use Rattle.page_roff_blocks.specs.machine.Steps.{met, begin_line, collect_if}
-use Rattle.page_roff_blocks.specs.Languages.{Kind, page, body, Language, Done, gives, is_some, meaning_at, meaning_by, run_page}
-use Rattle.page_roff_blocks.specs.machine.Machine.{Frame, Running, Turning, at_page, at_part, depth, next, next_in, line_next, part_next, leaf_if, leaf_next, source_next, stands_at}
+use Rattle.page_roff_blocks.specs.Languages.{Kind, page, body, Language, Done, calls, finish_at, gives, is_some, meaning_at, meaning_by, run_page}
+use Rattle.page_roff_blocks.specs.machine.Machine.{Frame, Running, Turning, at_page, at_part, body_next, depth, entered, next, next_in, line_next, part_next, leaf_if, leaf_next, rest_of, source_next, stands_at}
 use Rattle.page_roff_blocks.proofs.MachineLemmas.{next_law, end_law, page_law}
 use Rattle.page_roff_blocks.specs.Budgets.{Budgeted, language, meaning, meet, whether_run, done_with, with_rest}
 use Rattle.page_roff_blocks.specs.Budgets as budgets
 use Rattle.page_roff_blocks.specs.machine.Counting.{Budget, budgeted, begun, renewed}
-use Rattle.page_roff_blocks.specs.machine.Measures.{HasMeasure, IsFirst}
+use Rattle.page_roff_blocks.specs.machine.Measures.{AreOnLine, HasMeasure, IsFirst, IsOnLine}
 use Rattle.page_roff_effects.specs.machine.Acting.{with_number, with_arguments, acting_effects, acting_setting, measured, ActingSetting}
 use Rattle.page_roff_effects.specs.Effects.{effects, done_after, done_by}
 use Rattle.page_roff_effects.specs.Leaves.{leaf_outcome}
-use Rattle.page_roff_effects.specs.States.{Memory, State, Given, takes, line_product, numbered}
+use Rattle.page_roff_effects.specs.RegionLines.{finish_outcome}
+use Rattle.page_roff_definitions.specs.Calls.{Call}
+use Rattle.page_roff_values.specs.Arguments.{arguments_in, lines_in}
+use Rattle.page_roff_effects.specs.States.{Memory, Outcome, State, Given, takes, call_product, line_product, numbered}
 use Rattle.page_roff_stack.specs.machine.Changes.{is_page, page_line}
 use Rattle.page_roff_stack.specs.machine.Stacks.{Stack, is_nothing, next_of}
 use Rattle.page_roff_stack.specs.machine.Stacks as stacks
+use Rattle.page_roff_machine.proofs.GoLemmas.{calls_next}
 use Rattle.page_roff_machine.specs.declared.runners.Runner.{Runner}
-use Rattle.page_roff_machine.specs.machine.AtOnce.{TakesAtOnce, Keeps}
-use Rattle.page_roff_machine.specs.machine.Machines.{Takes, Begins, is_idle, begun_at, stands_after}
+use Rattle.page_roff_machine.specs.machine.AtOnce.{CallsAtOnce, Enters, IsOutside, TakesAtOnce, Keeps, page_after}
+use Rattle.page_roff_machine.specs.machine.Machines.{Takes, Begins, is_idle, begun_at, outcome_of, running_of, stands_after}
 use Rattle.page_roff_machine.specs.machine.Stepping.{machine_of, IsSound}
-use Rattle.page_roff_machine.specs.machine.Moving.{AreKept, frames_of}
-use Rattle.page_roff_machine.proofs.MachineLemmas.{begins, begun_sound}
+use Rattle.page_roff_machine.specs.machine.Moving.{AreKept, called, frames_of}
+use Rattle.page_roff_machine.proofs.MachineLemmas.{begins, begun_sound, idle_stands}
 
 -- ---- the run of a line that is one part, outside of regions, loops and skipped blocks
 
@@ -38,6 +42,9 @@ level bit outer in_loop skipped = record { bit = bit; outer = outer; in_loop = i
 
 abbrev state_with : ℕ → Memory → List Given → Budgeted State
 state_with taken m given = record { left = REREAD; gave_up = false; taken = taken; rest = record { memory = m; out = given } }
+
+abbrev holds : Memory → List Given → State
+holds m given = record { memory = m; out = given }
 
 abbrev at_levels : Option Opened → Levels → Budgeted State → At (Budgeted State)
 at_levels region levels s = record { place = record { region = region; levels = levels }; state = s }
@@ -100,6 +107,73 @@ run_leaf output line bit outer m count taken ea eo =
     ∙ next_law l one last (leaf_taken output line bit outer m (count + 1) taken eo)
     ∙ end_law l last (nothing_left output (after_part (level bit outer false 0)) (state_with (count + 1) m (takes taken ∷ [])))
 
+-- ---- the run of one that calls a macro
+
+abbrev gives_call : Call → Memory → Outcome
+gives_call call m = record { notes = []; product = call_product call; memory = m }
+
+abbrev in_call : Call → BlockCursor → Budgeted State → Running (Budgeted State)
+in_call call cursor s = record { top = entered (lines_in call.body) (arguments_in call.packed); under = frame_at [] cursor ∷ []; state = s }
+
+pub may_call_on_page : is_some (depth []) ≡ true
+unfolding depth is_some
+may_call_on_page = refl
+
+call_given : (output : Output) (line : List ℕ) (m : Memory) (count : ℕ) (call : Call) (may_call : Bool) → may_call ≡ true
+    → leaf_outcome (measured (acting_setting output page)) true line m ≡ gives_call call m
+    → (language (acting_effects output)).leaf may_call page line (state_with count m []) ≡ calls (lines_in call.body) (arguments_in call.packed) (state_with count m [])
+unfolding language effects done_with done_after done_by with_rest
+call_given output line m count call may_call t e = rw (t, e) refl
+
+leaf_called : (output : Output) (line : List ℕ) (bit : Bool) (outer : List Bool) (m : Memory) (count : ℕ) (call : Call)
+    → leaf_outcome (measured (acting_setting output page)) true line m ≡ gives_call call m
+    → next (language (acting_effects output)) (alone (frame_at (Leaf line ∷ []) (at_line (level bit outer false 0))) (state_with count m []))
+    ≡ Some (in_call call (after_part (level bit outer false 0)) (state_with count m []))
+unfolding next next_in part_next met meet_as reached reached_in reached_from reached_if at_line at_part meaning_at meaning_by language meaning meet whether_run leaf_if
+leaf_called output line bit outer m count call e =
+    let l = language (acting_effects output) in
+    let b = is_some (depth []) in
+    let f = frame_at [] (after_part (level bit outer false 0)) in
+    ap (λ (d : Done (Budgeted State)). Some (leaf_next l b f [] d)) (call_given output line m count call b may_call_on_page e)
+    ∙ ap (λ (r : Running (Budgeted State)). Some r)
+    (calls_next l b f [] (lines_in call.body) (arguments_in call.packed) (state_with count m []) may_call_on_page)
+
+empty_ends : (output : Output) (packed : List ℕ) (cursor : BlockCursor) (m : Memory) (count : ℕ)
+    → next (language (acting_effects output)) (in_call (record { body = []; packed = packed }) cursor (state_with count m []))
+    ≡ Some (alone (frame_at [] cursor) (state_with count m []))
+unfolding next next_in source_next body_next finish_at language with_rest effects finish_outcome entered outside at_line arguments_in
+empty_ends output packed cursor m count = refl
+
+-- up to the macro
+run_call : (output : Output) (line : List ℕ) (bit : Bool) (outer : List Bool) (m : Memory) (count : ℕ) (call : Call)
+    → line_parts line ≡ Leaf line ∷ [] → leaf_outcome (measured (acting_setting output page)) true line m ≡ gives_call call m
+    → run_page (language (acting_effects output)) (line ∷ []) (at_levels None (level bit outer false 0) (state_with count m []))
+    ≡ rest_of (language (acting_effects output)) (in_call call (after_part (level bit outer false 0)) (state_with (count + 1) m []))
+run_call output line bit outer m count call ea eo =
+    let l = language (acting_effects output) in
+    let at = at_levels None (level bit outer false 0) (state_with count m []) in
+    let one = alone (frame_at (Leaf line ∷ []) (at_line (level bit outer false 0))) (state_with (count + 1) m []) in
+    let inside = in_call call (after_part (level bit outer false 0)) (state_with (count + 1) m []) in
+    let first : next l (at_page line at) ≡ Some one =
+    line_begins output line bit outer m count
+    ∙ ap (λ (parts : List (LinePart (List ℕ))). Some (alone (frame_at parts (at_line (level bit outer false 0))) (state_with (count + 1) m []))) ea in
+    sym (page_law l line at)
+    ∙ next_law l (at_page line at) one first
+    ∙ next_law l one inside (leaf_called output line bit outer m (count + 1) call eo)
+
+-- to its end, where the macro has no body
+run_empty : (output : Output) (bit : Bool) (outer : List Bool) (packed : List ℕ) (m : Memory) (count : ℕ)
+    → rest_of (language (acting_effects output)) (in_call (record { body = []; packed = packed }) (after_part (level bit outer false 0)) (state_with count m []))
+    ≡ at_levels None (level bit outer false 0) (state_with count m [])
+unfolding stands_at after_part
+run_empty output bit outer packed m count =
+    let l = language (acting_effects output) in
+    let s = state_with count m [] in
+    let cursor = after_part (level bit outer false 0) in
+    let last = alone (frame_at [] cursor) s in
+    next_law l (in_call (record { body = []; packed = packed }) cursor s) last (empty_ends output packed cursor m count)
+    ∙ end_law l last (nothing_left output cursor s)
+
 -- ---- the code's object
 
 page_kind : (kind : Kind) → is_page kind ≡ true → kind ≡ page
@@ -148,35 +222,144 @@ line_comes turning region parts lines under line er ep el e =
     let h : is_nothing (stacks.next_in turning None [] (line ∷ []) under) ≡ true = rw (er, ep, el) at e in
     cc
 
-pub taken_sound : (old new : Runner) (line : List ℕ) (number : ℕ) → is_idle (machine_of old) ≡ true → IsSound old → TakesAtOnce line number old new → IsSound new
+-- with the same sources a runner stays sound
+same_sound : (old new : Runner) → is_idle (machine_of old) ≡ true → IsSound old → IsOutside old.stack → new.stack ≡ old.stack
+    → new.doing.actions.setting ≡ old.doing.actions.setting → IsSound new
 unfolding IsFirst HasMeasure
-taken_sound old new line number idle sound h = record {
-  setting = rw (h.taken.setting, h.stack) sound.setting;
-  frames = subst (λ (s : Stack). AreKept (frames_of s)) (sym h.stack) sound.frames;
+same_sound old new idle sound outside es ea = record {
+  setting = rw (ea, es) sound.setting;
+  frames = subst (λ (s : Stack). AreKept (frames_of s)) (sym es) sound.frames;
   way = elim sound.way [
     | inl first ↦ absurd (line_comes old.stack.top.turning old.stack.top.region old.stack.top.parts old.stack.top.lines old.stack.under first.0.0
-        h.outside.region first.0.2 first.0.1 idle)
-    | inr measured ↦ inr (rw h.stack measured)
+        outside.region first.0.2 first.0.1 idle)
+    | inr measured ↦ inr (rw es measured)
   ];
 }
 
--- a line that is not taken at once begins
+pub taken_sound : (old new : Runner) (line : List ℕ) (number : ℕ) → is_idle (machine_of old) ≡ true → IsSound old → TakesAtOnce line number old new → IsSound new
+taken_sound old new line number idle sound h = same_sound old new idle sound h.outside h.stack h.taken.setting
+
+-- ---- a macro that is called at once
+
+-- a machine in the macro, where the page is passed
+inside_is : (r new : Runner) (region : Option Opened) (levels : Levels) (s : Budgeted State) → new ≡ called (page_after r) → r.stack.top.region ≡ None
+    → r.stack.top.cursor.levels ≡ levels → (running_of [] (machine_of r)).state ≡ s
+    → running_of [] (machine_of new) ≡ in_call r.doing.actions.call (after_part levels) s
+unfolding entered
+inside_is r new region levels s e er el es = rw (e, er, el, ← es) refl
+
+in_macro : (output : Output) (r new : Runner) (levels : Levels) (s : Budgeted State) → new ≡ called (page_after r) → r.doing.actions.setting.output ≡ output
+    → r.stack.top.region ≡ None → r.stack.top.cursor.levels ≡ levels → (running_of [] (machine_of r)).state ≡ s
+    → outcome_of (machine_of new) ≡ rest_of (language (acting_effects output)) (in_call r.doing.actions.call (after_part levels) s)
+unfolding outcome_of
+in_macro output r new levels s e eo er el es =
+    let same : new.doing.actions.setting.output ≡ output = ap (λ (n : Runner). n.doing.actions.setting.output) e ∙ eo in
+    ap (λ (o : Output). rest_of (language (acting_effects o)) (running_of [] (machine_of new))) same
+    ∙ ap (rest_of (language (acting_effects output))) (inside_is r new None levels s e er el es)
+
+after_macro : (output : Output) (r new : Runner) (levels : Levels) (m : Memory) (count : ℕ) → Enters r new → is_idle (machine_of r) ≡ true
+    → r.doing.actions.setting.output ≡ output → r.stack.top.region ≡ None → r.stack.top.cursor.levels ≡ level levels.bit levels.outer false 0
+    → (running_of [] (machine_of r)).state ≡ state_with count m []
+    → outcome_of (machine_of new) ≡ rest_of (language (acting_effects output)) (in_call r.doing.actions.call (after_part (level levels.bit levels.outer false 0)) (state_with count m []))
+after_macro output r new levels m count h idle eo er el es =
+    let s = state_with count m [] in
+    elim h [
+      | inl empty ↦
+          let call : Call = record { body = []; packed = r.doing.actions.call.packed } in
+          let body : r.doing.actions.call ≡ call = ap (λ (bytes : List ℕ). let k : Call = record { body = bytes; packed = r.doing.actions.call.packed } in k) empty.0 in
+          ap (λ (n : Runner). outcome_of (machine_of n)) empty.1
+          ∙ idle_stands (machine_of r) idle
+          ∙ ap₂ (λ (region : Option Opened) (l : Levels). at_levels region l (running_of [] (machine_of r)).state) er el
+          ∙ ap (at_levels None (level levels.bit levels.outer false 0)) es
+          ∙ sym (run_empty output levels.bit levels.outer r.doing.actions.call.packed m count)
+          ∙ sym (ap (λ (k : Call). rest_of (language (acting_effects output)) (in_call k (after_part (level levels.bit levels.outer false 0)) s)) body)
+      | inr inside ↦ in_macro output r new (level levels.bit levels.outer false 0) s inside eo er el es
+    ]
+
+entered_output : (r new : Runner) → Enters r new → new.doing.actions.setting.output ≡ r.doing.actions.setting.output
+entered_output r new h =
+    elim h [
+      | inl empty ↦ ap (λ (n : Runner). n.doing.actions.setting.output) empty.1
+      | inr inside ↦ ap (λ (n : Runner). n.doing.actions.setting.output) inside
+    ]
+
+pub calls_line : (old new : Runner) (line : List ℕ) (number : ℕ) → is_idle (machine_of old) ≡ true → IsSound old → CallsAtOnce line number old new
+    → Begins line number (machine_of old) (machine_of new)
+calls_line old new line number idle sound h =
+    let output = old.doing.actions.setting.output in
+    let m = numbered number old.doing.actions.memory in
+    let before = h.before in
+    let call = before.doing.actions.call in
+    let levels = old.stack.top.cursor.levels in
+    let count = old.doing.budget.taken in
+    let es : old.doing.actions.setting ≡ acting_setting output page =
+    sound.setting ∙ ap (acting_setting output) (page_kind old.stack.top.kind h.outside.page) in
+    let el = levels_are levels h.outside.loop h.outside.skipped in
+    let eo : leaf_outcome (measured (acting_setting output page)) true line m ≡ gives_call call m =
+    ap (λ (s : ActingSetting). leaf_outcome (measured s) true line m) (sym es) ∙ h.call.given in
+    let same : before.doing.actions.setting.output ≡ output = ap (λ (s : ActingSetting). s.output) h.call.left.setting in
+    let quiet : is_idle (machine_of before) ≡ true = ap (λ (s : Stack). is_nothing (next_of s)) h.stack ∙ idle in
+    let region : before.stack.top.region ≡ None = ap (λ (s : Stack). s.top.region) h.stack ∙ h.outside.region in
+    let there : before.stack.top.cursor.levels ≡ level levels.bit levels.outer false 0 = ap (λ (s : Stack). s.top.cursor.levels) h.stack ∙ el in
+    let state : (running_of [] (machine_of before)).state ≡ state_with (count + 1) m [] =
+    ap (λ (b : Budget). budgeted b (holds before.doing.actions.memory [])) h.budget
+    ∙ ap (λ (k : Memory). budgeted (begun old.doing.budget) (holds k [])) h.call.left.memory in
+    let at : begun_at number (machine_of old) ≡ at_levels None (level levels.bit levels.outer false 0) (state_with count m []) =
+    ap₂ (λ (region : Option Opened) (l : Levels). at_levels region l (state_with count m [])) h.outside.region el in
+    record {
+      output = entered_output before new h.enters ∙ same;
+      outcome = after_macro output before new levels m (count + 1) h.enters quiet same region there state
+          ∙ sym (run_call output line levels.bit levels.outer m count call h.call.leaf eo)
+          ∙ sym (ap (run_page (language (acting_effects output)) (line ∷ [])) at);
+    }
+
+inside_sound : (r new : Runner) → IsSound r → new ≡ called (page_after r) → IsSound new
+unfolding HasMeasure AreOnLine IsOnLine entered after_part
+inside_sound r new sound e = record {
+  setting = rw e refl;
+  frames = rw e (record { turning = tt; region = λ h. tt }, (record { turning = tt; region = sound.frames.0.region }, tt));
+  way = rw e (inr (λ k. absurd (cc), ((λ k. (refl, refl)), tt)));
+}
+
+pub called_sound : (old new : Runner) (line : List ℕ) (number : ℕ) → is_idle (machine_of old) ≡ true → IsSound old → CallsAtOnce line number old new → IsSound new
+called_sound old new line number idle sound h =
+    let before = same_sound old h.before idle sound h.outside h.stack h.call.left.setting in
+    elim h.enters [ inl empty ↦ subst IsSound (sym empty.1) before | inr inside ↦ inside_sound h.before new before inside ]
+
+-- ---- a line that is not taken at once begins
+
+abbrev begun_with : Stack → Budget → Memory → At (Budgeted State)
+begun_with s b m = at_levels s.top.region s.top.cursor.levels (state_with b.taken m [])
+
 pub kept_begins : (old mid new : Runner) (line : List ℕ) (number : ℕ) → Keeps number old mid
     → new.stack ≡ record { top = page_line line mid.stack.top; under = []; texts = [] }
     → new.doing.actions ≡ with_number number (with_arguments None mid.doing.actions) → new.doing.budget ≡ renewed mid.doing.budget
     → Begins line number (machine_of old) (machine_of new)
 kept_begins old mid new line number h es ea eb =
-    begins old new line number
-    (es ∙ ap (λ (s : Stack). let k : Stack = record { top = page_line line s.top; under = []; texts = [] } in k) h.stack)
-    (ea ∙ ap (with_arguments None) h.actions)
-    (eb ∙ ap renewed h.budget)
+    let b = begins mid new line number es ea eb in
+    let output : mid.doing.actions.setting.output ≡ old.doing.actions.setting.output = ap (λ (s : ActingSetting). s.output) h.setting in
+    let at : begun_at number (machine_of mid) ≡ begun_at number (machine_of old) =
+    ap (λ (s : Stack). begun_with s mid.doing.budget (numbered number mid.doing.actions.memory)) h.stack
+    ∙ ap (λ (k : Budget). begun_with old.stack k (numbered number mid.doing.actions.memory)) h.budget
+    ∙ ap (begun_with old.stack old.doing.budget) h.memory in
+    record {
+      output = b.output ∙ output;
+      outcome = b.outcome
+          ∙ ap (λ (o : Output). run_page (language (acting_effects o)) (line ∷ []) (begun_at number (machine_of mid))) output
+          ∙ ap (run_page (language (acting_effects old.doing.actions.setting.output)) (line ∷ [])) at;
+    }
+
+mid_sound : (old mid : Runner) (number : ℕ) → Keeps number old mid → IsSound old → IsSound mid
+unfolding IsFirst HasMeasure
+mid_sound old mid number h sound = record {
+  setting = rw (h.setting, h.stack) sound.setting;
+  frames = subst (λ (s : Stack). AreKept (frames_of s)) (sym h.stack) sound.frames;
+  way = elim sound.way [ inl first ↦ inl (rw h.stack first.0, rw h.budget first.1) | inr measured ↦ inr (rw h.stack measured) ];
+}
 
 pub kept_sound : (old mid new : Runner) (line : List ℕ) (number : ℕ) → Keeps number old mid
     → new.stack ≡ record { top = page_line line mid.stack.top; under = []; texts = [] }
     → new.doing.actions ≡ with_number number (with_arguments None mid.doing.actions) → new.doing.budget ≡ renewed mid.doing.budget
     → old.doing.budget.taken ≤ 2 ^ 62 → IsSound old → IsSound new
 kept_sound old mid new line number h es ea eb few sound =
-    begun_sound old new line number
-    (es ∙ ap (λ (s : Stack). let k : Stack = record { top = page_line line s.top; under = []; texts = [] } in k) h.stack)
-    (ea ∙ ap (with_arguments None) h.actions)
-    (eb ∙ ap renewed h.budget) few sound
+    begun_sound mid new line number es ea eb (rw h.budget few) (mid_sound old mid number h sound)

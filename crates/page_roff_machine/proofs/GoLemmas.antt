@@ -1,5 +1,5 @@
 -- The input stack moves on: helpers of proofs.
-use Rattle.std.proofs.Common.{◌≡◌, ℕ, suc, Bool, true, false, List, [], ◌∷◌, ◌++◌, map, length, Option, Some, None, refl, sym, ap, ◌∙◌, arith}
+use Rattle.std.proofs.Common.{◌≡◌, ℕ, suc, Bool, true, false, List, [], ◌∷◌, ◌++◌, map, length, Option, Some, refl, sym, ap, ◌∙◌, arith}
 use Rattle.std.proofs.lemmas.List.{append-nil}
 use Rattle.page_core_base.specs.Messages.{Message}
 use Rattle.page_core_base.specs.declared.page_settings.Output.{Output}
@@ -47,7 +47,7 @@ unfolding leaf_next
 gives_next l true f under s = refl
 gives_next l false f under s = refl
 
-calls_next : (l : Language (Budgeted State)) (may_call : Bool) (f : Frame) (under : List Frame) (lines args : List (List ℕ)) (s : Budgeted State) → may_call ≡ true
+pub calls_next : (l : Language (Budgeted State)) (may_call : Bool) (f : Frame) (under : List Frame) (lines args : List (List ℕ)) (s : Budgeted State) → may_call ≡ true
     → leaf_next l may_call f under (calls lines args s) ≡ record { top = entered lines args; under = f ∷ under; state = s }
 unfolding leaf_next
 calls_next l true f under lines args s e = refl

@@ -5,8 +5,9 @@
 //! `runners.rt`.
 //!
 //! Proved: `Machine::begin`, `Machine::advance`, `idle_law`: a source line runs as `page_roff_blocks` says, with the effects of
-//! `page_roff_effects`. `begin` takes a line at once that needs no step, and that is then all that its run gives; of any other line each `advance`
-//! gives the messages before the next line for the macros and lends that line. It ends, whatever a page defines.
+//! `page_roff_effects`. `begin` takes a line at once that needs no step, and that is then all that its run gives; where the line calls a macro as it
+//! is written, the macro is entered at once. Of what is left each `advance` gives the messages before the next line for the macros and lends that
+//! line. It ends, whatever a page defines.
 #![tactic(auto)]
 
 mod acts;

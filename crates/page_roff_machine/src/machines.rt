@@ -14,7 +14,7 @@ use crate::budgeted_actions::BudgetedActions;
 use crate::runners::Runner;
 use page_core_base::{NoteOut, Output, Taken};
 use page_roff_blocks::{Budget, Standing};
-use page_roff_effects::{Actions, Remembered};
+use page_roff_effects::{Actions, AtOnce, Remembered};
 use page_roff_stack::InputStack;
 use std::alloc::{AllocError, Global};
 use std::marker::Model;
@@ -110,7 +110,7 @@ impl Machine {
     }
 
     /// A source line of this number comes, after the last one is done. It has a budget of its own. Answers whether it is taken at once: then it is
-    /// done, and lent by [`Machine::line`]; else [`Machine::advance`] runs it.
+    /// done, and lent by [`Machine::line`]; else [`Machine::advance`] runs what is left of it.
     pub fn begin(&mut self, line: &[u8], number: u32) -> bool
         requires idle { is_idle self.old ≡ true }
         requires line { IsLine line.now }
@@ -118,14 +118,17 @@ impl Machine {
         requires count { self.old.budget.taken ≤ 2 ^ 62 }
         ensures { BeginsOrTakes result line.now number self.old self.new }
     {
-        if self.runner.take_at_once(line, number) {
-            return true;
+        match self.runner.take_at_once(line, number) {
+            AtOnce::Line => true,
+            AtOnce::Call => false,
+            AtOnce::Nothing => {
+                self.runner.stack.set_line(line);
+                self.runner.doing.actions.leave();
+                self.runner.doing.actions.begin_line(number);
+                self.runner.doing.budget.renew();
+                false
+            }
         }
-        self.runner.stack.set_line(line);
-        self.runner.doing.actions.leave();
-        self.runner.doing.actions.begin_line(number);
-        self.runner.doing.budget.renew();
-        false
     }
 
     /// Runs on until a line is taken, or until the source line is done: whether a line was taken.

@@ -5,12 +5,13 @@ ghost use Rattle.page_core_base.specs.Texts.{IsLine};
 ghost use Rattle.page_core_base.specs.declared.limits.TheConstants.{ARGS};
 ghost use Rattle.page_roff_blocks.specs.Levels as levels;
 ghost use Rattle.page_roff_effects.specs.declared.commands.ProductKind.TheVariants as kinds;
+ghost use Rattle.page_roff_effects.specs.machine.Acting.{IsCallable};
 ghost use Rattle.page_roff_stack.specs.machine.Stacks.{next_of, part_in, is_part, is_line, may_end, is_nothing};
 ghost use Rattle.page_roff_machine.specs.machine.Doing.{IsIn};
 ghost use Rattle.page_roff_machine.specs.machine.Machines.{Advances};
 ghost use Rattle.page_roff_machine.specs.machine.Moving.{Collects, Decides, Moves, Closes, Shifts, Repeats, Suits, CanBegin};
 ghost use Rattle.page_roff_machine.specs.machine.Moving.{called, passes_block, progress_as, way_after, with_arguments_of};
-ghost use Rattle.page_roff_machine.specs.machine.AtOnce.{IsOutside, TakesAtOnceIf};
+ghost use Rattle.page_roff_machine.specs.machine.AtOnce.{Enters, IsOutside, TakesAtOnceIf};
 ghost use Rattle.page_roff_machine.specs.machine.Stepping.{IsSound, IsMeasured, Steps, StepsOn, machine_of};
 
 use crate::acts::{Act, Progress};
@@ -18,7 +19,7 @@ use crate::budgeted_actions::BudgetedActions;
 use arrayvec::ArrayVec;
 use page_core_base::{ARGS, NoteOut};
 use page_roff_blocks::{Answer, Ended, LinePart, Opening, Pass, Reached, Way};
-use page_roff_effects::ProductKind;
+use page_roff_effects::{AtOnce, ProductKind};
 use page_roff_stack::{InputStack, Movement, Next};
 
 /// The sources that run, and what their parts do.
@@ -371,22 +372,42 @@ impl Runner {
             && self.stack.levels().skipped() == 0
     }
 
-    /// Takes a source line of this number at once, after the last one is done, if it is left to the set of macros as it is written; says
-    /// whether it did. If it did not, the actions know the number.
-    pub(crate) fn take_at_once(&mut self, line: &[u8], number: u32) -> bool
+    // Enters the macro that was called on a line of the page, without the steps through that line. One without a body is over at once.
+    fn enter_call(&mut self)
+        requires idle { is_nothing (next_of self.old.stack) ≡ true }
+        requires skips { self.old.stack.top.cursor.levels.skipped ≡ 0 }
+        requires fits { IsCallable true self.old.doing.actions.call }
+        ensures { Enters self.old self.new }
+    {
+        if self.doing.actions.called_body().is_empty() {
+            return;
+        }
+        self.stack.pass_page_line();
+        self.call();
+    }
+
+    /// Takes a source line of this number at once, after the last one is done, if it calls a macro or is left to the set of macros, as it is
+    /// written; says which of these it did. If it did neither, the actions may know the number.
+    pub(crate) fn take_at_once(&mut self, line: &[u8], number: u32) -> AtOnce
+        requires idle { is_nothing (next_of self.old.stack) ≡ true }
         requires line { IsLine line.now }
         requires count { self.old.doing.budget.taken ≤ 2 ^ 62 }
         ensures { TakesAtOnceIf result line.now number self.old self.new }
     {
         if !self.is_outside() {
-            return false;
+            return AtOnce::Nothing;
         }
         self.doing.actions.begin_line(number);
-        if !self.doing.actions.take_at_once(line) {
-            return false;
+        let at_once = self.doing.actions.take_at_once(line);
+        match at_once {
+            AtOnce::Nothing => {}
+            AtOnce::Line => self.doing.budget.begin(),
+            AtOnce::Call => {
+                self.doing.budget.begin();
+                self.enter_call();
+            }
         }
-        self.doing.budget.begin();
-        true
+        at_once
     }
 }
 

@@ -9,7 +9,7 @@ use Rattle.std.proofs.lemmas.List.{length-reverse, reverse-append, length-take-l
 use Rattle.std.proofs.lemmas.List.Elements.{All-nil, All-cons}
 use Rattle.std.proofs.lemmas.List.Sums.{sum_by-le}
 use Rattle.page_core_base.specs.declared.limits.TheConstants.{ARGS, BODY, CALLS, LINE}
-use Rattle.page_roff_blocks.specs.Languages.{body, is_some}
+use Rattle.page_roff_blocks.specs.Languages.{Kind, page, body, is_some}
 use Rattle.page_roff_blocks.specs.machine.Machine.{Frame, Turning, at_part, depth, entered, looped, turned}
 use Rattle.page_roff_values.specs.Arguments.{arguments_in, lines_in}
 use Rattle.page_roff_stack.specs.declared.input_stacks.Caller.{Caller}
@@ -17,10 +17,11 @@ use Rattle.page_roff_stack.specs.declared.input_stacks.InputStack.TheInside.{Ins
 use Rattle.page_roff_stack.specs.declared.input_frames.InputFrame.{InputFrame}
 use Rattle.page_roff_stack.specs.declared.movements.Movement.{Movement}
 use Rattle.page_roff_stack.specs.declared.movements.Movement.TheVariants as moves
-use Rattle.page_roff_stack.specs.machine.Changes.{page_line, in_turn_of, is_page, went}
+use Rattle.page_roff_stack.specs.machine.Changes.{page_line, page_passed, in_turn_of, is_page, went}
+use Rattle.page_roff_stack.specs.machine.Held.{kind_in}
 use Rattle.page_roff_stack.specs.machine.InputStacks.{frames_in, stack_of, room_for, texts_in, AreHeld, IsStack}
 use Rattle.page_roff_stack.specs.machine.InputFrames.{frame_of, IsHeld}
-use Rattle.page_roff_stack.specs.machine.Stacks.{Stack, first_text, call_of, loop_of}
+use Rattle.page_roff_stack.specs.machine.Stacks.{Stack, AreStacked, first_text, call_of, loop_of}
 use Rattle.page_roff_stack.specs.machine.Views.{packed_text, unpacked}
 
 turn_kind_of : (turning : Option Turning) (f : Frame) → (in_turn_of turning f).kind ≡ f.kind
@@ -173,6 +174,34 @@ line_set a b line none calls held frame fits room = (
   },
   rw none (ap (λ f. let t : Stack = record { top = f; under = []; texts = [] } in t) frame),
 )
+
+-- where no source is around it, the innermost one is the page
+page_kind : (kind : Kind) → is_page kind ≡ true → kind ≡ page
+page_kind page e = refl
+page_kind (body args) e = cc
+
+pub page_of : (a : Inside) → a.callers.items ≡ [] → IsStack a → kind_in a.top.kind a.text.items ≡ page
+page_of a none h =
+    let alone : AreStacked (kind_in a.top.kind a.text.items) [] = rw none at h.page in
+    page_kind (kind_in a.top.kind a.text.items) alone
+
+-- the text stays
+pub line_passed : (a b : Inside) → a.callers.items ≡ [] → b.text ≡ a.text → b.callers ≡ a.callers → IsStack a → IsHeld b.top a.text.items
+    → frame_of b.top a.text.items ≡ page_passed (frame_of a.top a.text.items)
+    → let new : Stack = record { top = page_passed (frame_of a.top a.text.items); under = []; texts = [] } in
+    IsStack b × (stack_of b ≡ new)
+line_passed a b none text callers h held frame =
+    let fits : length a.text.items ≤ LINE + 1 = rw none at h.around in (
+      record {
+        page = rw (text, callers, none) (ap (λ f. is_page f.kind) frame);
+        top = rw text held;
+        around = rw (text, callers, none) fits;
+        deep = rw callers h.deep;
+        room = rw text h.room;
+        calls = rw callers h.calls;
+      },
+      rw (text, callers, none) (ap (λ f. let t : Stack = record { top = f; under = []; texts = [] } in t) frame),
+    )
 
 -- ---- a call
 

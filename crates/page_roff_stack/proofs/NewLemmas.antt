@@ -145,13 +145,13 @@ place_bounded : (region : Option Opened) (cursor : BlockCursor) → cursor.level
 unfolding work_in weight
 place_bounded region cursor s = record { short = tt; skips = omega (arith, s) }
 
-pub place_set : (a : InputFrame) → a.kind ≡ sources.Page → a.line ≡ span 0 0 → a.place ≡ line_end → a.ahead ≡ None → a.lines ≡ span 0 0
-    → a.turning ≡ None → a.cursor.levels.skipped < 2 ^ 62 → IsHeld a [] × (frame_of a [] ≡ frame page a.region a.cursor [] None)
+pub place_set : (a : InputFrame) (all : List ℕ) → a.kind ≡ sources.Page → a.line ≡ span 0 0 → a.place ≡ line_end → a.ahead ≡ None → a.lines ≡ span 0 0
+    → a.turning ≡ None → a.cursor.levels.skipped < 2 ^ 62 → IsHeld a all × (frame_of a all ≡ frame page a.region a.cursor [] None)
 unfolding arguments_in
-place_set a e l p k n t s =
-    let new = new_of a [] [] [] [] refl l p k n (rw e tt) (rw t tt) in
-    let view : frame_of a [] ≡ frame page a.region a.cursor [] None = new_view a [] [] [] new ∙ rw (e, t) refl in
-    (new_held a [] [] [] new (rw e empty_only) (rw view (place_bounded a.region a.cursor s)), view)
+place_set a all e l p k n t s =
+    let new = new_of a all [] [] all refl l p k n (rw e tt) (rw t tt) in
+    let view : frame_of a all ≡ frame page a.region a.cursor [] None = new_view a all [] [] new ∙ rw (e, t) refl in
+    (new_held a all [] [] new (rw e empty_only) (rw view (place_bounded a.region a.cursor s)), view)
 
 pub page_none : (kind : SourceKind) (text : List ℕ) → kind_in kind text ≡ page → kind ≡ sources.Page
 page_none sources.Page text e = refl

@@ -14,7 +14,7 @@ ghost use Rattle.page_roff_syntax.specs.RegionHeads.{text_view};
 ghost use Rattle.page_roff_blocks.specs.Languages.{arguments_of, page, body};
 ghost use Rattle.page_roff_blocks.specs.machine.Machine.{entered, looped};
 ghost use Rattle.page_roff_values.specs.Arguments.{arguments_in, lines_in};
-ghost use Rattle.page_roff_stack.specs.machine.Changes.{first_frame, page_at, page_line, past, first_region, in_region, next_line, in_turn, first_line_parts, is_page, begins_line, is_over, went, HasPart, IfEnters, MayGo};
+ghost use Rattle.page_roff_stack.specs.machine.Changes.{first_frame, page_at, page_line, page_passed, past, first_region, in_region, next_line, in_turn, first_line_parts, is_page, begins_line, is_over, went, HasPart, IfEnters, MayGo};
 ghost use Rattle.page_roff_stack.specs.machine.Held.{span_text, kind_in, arguments_at, turning_in, AreArgumentsAt, AreLinesOf, IsSpanIn, IsFirstLine, IsCut};
 ghost use Rattle.page_roff_stack.specs.machine.InputFrames.{frame_of, IsHeld};
 ghost use Rattle.page_roff_stack.specs.machine.Stacks.{first_text, turn_in, has_begun};
@@ -206,6 +206,20 @@ impl InputFrame {
             end: text.len(),
         };
         self.cursor.begin_line();
+        self.turning = None;
+    }
+
+    /// A line of the page came that is one part, and is passed: nothing of it is left. The text needs no copy of it.
+    pub(crate) fn pass_page_line(&mut self)
+        requires { self.old.cursor.levels.skipped < 2 ^ 62 }
+        ensures { (text : List ℕ) → kind_in self.old.kind text ≡ page →
+            IsHeld self.new text × (frame_of self.new text ≡ page_passed (frame_of self.old text)) }
+    {
+        self.line = NOWHERE;
+        self.place = LinePlace::end();
+        self.ahead = None;
+        self.lines = NOWHERE;
+        self.cursor.pass(Pass::Leaf);
         self.turning = None;
     }
 

@@ -13,7 +13,7 @@ ghost use Rattle.page_roff_syntax.specs.OpenRegions.{opened_view};
 ghost use Rattle.page_roff_syntax.specs.RegionHeads.{text_view};
 ghost use Rattle.page_roff_blocks.specs.Languages.{arguments_of, is_some};
 ghost use Rattle.page_roff_blocks.specs.machine.Machine.{depth};
-ghost use Rattle.page_roff_stack.specs.machine.Changes.{page_line, is_page, went};
+ghost use Rattle.page_roff_stack.specs.machine.Changes.{page_line, page_passed, is_page, went};
 ghost use Rattle.page_roff_stack.specs.machine.Stacks.{first_stack, stack_at, standing_of, with_top, call_of, loop_of, next_around, next_of, part_in, opens_block, is_line, may_end, is_nothing, Suits};
 ghost use Rattle.page_roff_stack.specs.machine.Views.{packed_text, unpacked, next_view, FitsNext};
 
@@ -271,6 +271,15 @@ impl InputStack {
         ensures { self.new ≡ record { top = page_line line.now self.old.top; under = []; texts = [] } }
     {
         self.top.set_line(&mut self.text, line);
+    }
+
+    /// A line of the page came that is one part, after the last one is done, and is passed.
+    pub fn pass_page_line(&mut self)
+        requires idle { is_nothing (next_of self.old) ≡ true }
+        requires skips { self.old.top.cursor.levels.skipped < 2 ^ 62 }
+        ensures { self.new ≡ record { top = page_passed self.old.top; under = []; texts = [] } }
+    {
+        self.top.pass_page_line();
     }
 
     /// The innermost source goes past what comes next.

@@ -1,6 +1,6 @@
 -- What the code's object holds, and what its calls do, in terms of the effects of parts. Trust needs no reading of it.
 -- Source: roff(7), "LANGUAGE SYNTAX".
-use Rattle.std.specs.Prelude.{◌≡◌, ℕ, ◌≤◌, Bool, true, false, List, [], ◌∷◌, length, Option, None, if◌then◌else◌}
+use Rattle.std.specs.Prelude.{◌≡◌, ℕ, ◌≤◌, nat_le, Bool, true, List, [], ◌∷◌, length, Option, None, if◌then◌else◌, unwrap_or}
 use Rattle.page_core_base.specs.Limits.{ARGS, BODY}
 use Rattle.page_core_base.specs.Messages.{Message}
 use Rattle.page_core_base.specs.LinesTaken.{Line}
@@ -10,17 +10,21 @@ use Rattle.page_core_base.specs.declared.page_settings.Output.{Output}
 use Rattle.page_roff_blocks.specs.declared.line_parts.LinePart.TheVariants.{Leaf}
 use Rattle.page_roff_blocks.specs.LineParts.{line_parts}
 use Rattle.page_roff_blocks.specs.Parts.{keyword_in, keyword_of}
+use Rattle.page_roff_syntax.specs.Arguments.{arguments}
 use Rattle.page_roff_syntax.specs.LineForms.{has_word}
+use Rattle.page_roff_syntax.specs.Requests.{request_of}
 use Rattle.page_core_base.specs.Latches.{Came}
 use Rattle.page_roff_values.specs.Values.{Spot, Laid, expanded}
 use Rattle.page_roff_values.specs.machine.Views.{units_of_bytes}
 use Rattle.page_roff_blocks.specs.Budgets.{Effects}
 use Rattle.page_roff_blocks.specs.Languages.{Kind, arguments_of}
 use Rattle.page_roff_effects.specs.Answers.{Answer}
-use Rattle.page_roff_names.specs.Names.{Definitions}
-use Rattle.page_roff_definitions.specs.Calls.{Call}
+use Rattle.page_roff_definitions.specs.Arguments.{closings_notes}
+use Rattle.page_roff_definitions.specs.Calls.{Call, packed}
+use Rattle.page_roff_effects.specs.declared.at_once.AtOnce.{AtOnce}
+use Rattle.page_roff_effects.specs.declared.at_once.AtOnce.TheVariants as ways
 use Rattle.page_roff_effects.specs.declared.commands.Command.TheVariants.{Pass}
-use Rattle.page_roff_effects.specs.Commands.{command_of}
+use Rattle.page_roff_effects.specs.Commands.{called_body, request_command}
 use Rattle.page_roff_effects.specs.declared.commands.ProductKind.{ProductKind}
 use Rattle.page_roff_effects.specs.declared.commands.ProductKind.TheVariants as kinds
 use Rattle.page_roff_effects.specs.States.{Memory, first_memory, Product, no_product, line_product, call_product, loop_product, Outcome, Setting, State, surroundings, counted}
@@ -153,20 +157,47 @@ pub record Takes (old : Acting) (o : Outcome) (result : ProductKind) (new : Acti
   pub kind : result ≡ kind_of o.product
   pub lends : Lends o.product new
 
--- a name that is left to the set of macros, and heads nothing, as one that is no request
-abbrev pub IsPassed : List ℕ → Definitions → Type 0
-IsPassed name d = (command_of name d ≡ Pass) × (keyword_of name ≡ keyword_in None)
+-- a name heads nothing, as one that is no request, and is left to the set of macros where it calls no macro
+abbrev pub IsOrdinary : List ℕ → Type 0
+IsOrdinary name = (request_command (request_of name) ≡ Pass) × (keyword_of name ≡ keyword_in None)
 
--- a raw line that is one part was taken without a message, whether one more macro may run or not; or nothing was done
+-- nothing is decided otherwise
+pub record IsLeft (old new : Acting) : Type 0 where
+  pub setting : new.setting ≡ old.setting
+  pub memory : new.memory ≡ old.memory
+
+-- a raw line that is one part was taken without a message, whether one more macro may run or not
 pub record IsTaken (old : Acting) (raw : List ℕ) (outcome : Bool → Outcome) (new : Acting) : Type 0 where
   pub leaf : line_parts raw ≡ Leaf raw ∷ []
   pub setting : new.setting ≡ old.setting
   pub memory : new.memory ≡ old.memory
   pub given : (may_call : Bool) → outcome may_call ≡ record { notes = []; product = line_product new.line; memory = old.memory }
 
-abbrev pub TakesIf : Bool → Acting → List ℕ → (Bool → Outcome) → Acting → Type 0
-TakesIf true old raw outcome new = IsTaken old raw outcome new
-TakesIf false old raw outcome new = new ≡ old
+-- it called a macro without a message, where one more may run
+pub record IsCalled (old : Acting) (raw : List ℕ) (outcome : Bool → Outcome) (new : Acting) : Type 0 where
+  pub leaf : line_parts raw ≡ Leaf raw ∷ []
+  pub left : IsLeft old new
+  pub given : outcome true ≡ record { notes = []; product = call_product new.call; memory = old.memory }
+  pub fits : IsCallable true new.call
+
+-- what came of a raw line at once
+abbrev pub TakesIf : AtOnce → Acting → List ℕ → (Bool → Outcome) → Acting → Type 0
+TakesIf ways.Nothing old raw outcome new = IsLeft old new
+TakesIf ways.Line old raw outcome new = IsTaken old raw outcome new
+TakesIf ways.Call old raw outcome new = IsCalled old raw outcome new
+
+-- the call of the macro of a name, with the arguments in the rest of its line, has no message
+pub record IsQuiet (name rest : List ℕ) (column : ℕ) (m : Memory) (call : Call) : Type 0 where
+  pub body : call.body ≡ unwrap_or (called_body name m.definitions) []
+  pub packs : call.packed ≡ packed (arguments column rest)
+  pub fits : nat_le (length (packed (arguments column rest))) ARGS ≡ true
+  pub closed : closings_notes m.number (arguments column rest) ≡ []
+
+-- it was called, if that has no message
+abbrev pub CallsIf : AtOnce → List ℕ → List ℕ → ℕ → Acting → Acting → Type 0
+CallsIf ways.Nothing name rest column old new = IsLeft old new
+CallsIf ways.Line name rest column old new = ⊥
+CallsIf ways.Call name rest column old new = IsLeft old new × IsQuiet name rest column old.memory new.call
 
 -- an object between two lines remembers this
 pub record Remembers (output : Output) (remembered : Memory) (a : Acting) : Type 0 where

@@ -1,11 +1,15 @@
--- A source line that is taken at once, as the code does it. Trust needs no reading of it. Source: roff(7), "LANGUAGE SYNTAX".
-use Rattle.std.specs.Prelude.{◌≡◌, ℕ, Bool, true, false, List, None}
+-- A source line that is taken at once, as the code does it. Trust needs no reading of it. Source: roff(7), "LANGUAGE SYNTAX" and "MACRO SYNTAX".
+use Rattle.std.specs.Prelude.{◌≡◌, ◌⊎◌, ℕ, true, false, List, [], None}
 use Rattle.page_roff_blocks.specs.machine.Counting.{begun}
-use Rattle.page_roff_effects.specs.machine.Acting.{IsTaken, with_number, measured}
+use Rattle.page_roff_effects.specs.declared.at_once.AtOnce.{AtOnce}
+use Rattle.page_roff_effects.specs.declared.at_once.AtOnce.TheVariants as ways
+use Rattle.page_roff_effects.specs.machine.Acting.{IsCalled, IsTaken, with_number, measured}
 use Rattle.page_roff_effects.specs.Leaves.{leaf_outcome}
-use Rattle.page_roff_stack.specs.machine.Changes.{is_page}
+use Rattle.page_roff_effects.specs.States.{numbered}
+use Rattle.page_roff_stack.specs.machine.Changes.{is_page, page_passed}
 use Rattle.page_roff_stack.specs.machine.Stacks.{Stack}
 use Rattle.page_roff_machine.specs.declared.runners.Runner.{Runner}
+use Rattle.page_roff_machine.specs.machine.Moving.{called}
 
 -- the page is the innermost source, outside of regions, loops and skipped blocks
 pub record IsOutside (s : Stack) : Type 0 where
@@ -22,12 +26,32 @@ pub record TakesAtOnce (line : List ℕ) (number : ℕ) (old new : Runner) : Typ
   pub taken : let a = with_number number old.doing.actions in
       IsTaken a line (λ may_call. leaf_outcome (measured a.setting) may_call line a.memory) new.doing.actions
 
--- nothing was done; or the actions alone know the number of the line
+-- the page went past a line that is one part
+abbrev pub page_after : Runner → Runner
+page_after r = record { stack = record { top = page_passed r.stack.top; under = []; texts = [] }; doing = r.doing }
+
+-- the macro that was called on a line of the page is entered; one without a body is over at once
+abbrev pub Enters : Runner → Runner → Type 0
+Enters old new = ((old.doing.actions.call.body ≡ []) × (new ≡ old)) ⊎ (new ≡ called (page_after old))
+
+-- a macro was called at once
+pub record CallsAtOnce (line : List ℕ) (number : ℕ) (old new : Runner) : Type 0 where
+  pub outside : IsOutside old.stack
+  pub before : Runner
+  pub stack : before.stack ≡ old.stack
+  pub budget : before.doing.budget ≡ begun old.doing.budget
+  pub call : let a = with_number number old.doing.actions in
+      IsCalled a line (λ may_call. leaf_outcome (measured a.setting) may_call line a.memory) before.doing.actions
+  pub enters : Enters before new
+
+-- nothing was done; the actions may know the number of the line
 pub record Keeps (number : ℕ) (old new : Runner) : Type 0 where
   pub stack : new.stack ≡ old.stack
   pub budget : new.doing.budget ≡ old.doing.budget
-  pub actions : with_number number new.doing.actions ≡ with_number number old.doing.actions
+  pub setting : new.doing.actions.setting ≡ old.doing.actions.setting
+  pub memory : numbered number new.doing.actions.memory ≡ numbered number old.doing.actions.memory
 
-abbrev pub TakesAtOnceIf : Bool → List ℕ → ℕ → Runner → Runner → Type 0
-TakesAtOnceIf true line number old new = TakesAtOnce line number old new
-TakesAtOnceIf false line number old new = Keeps number old new
+abbrev pub TakesAtOnceIf : AtOnce → List ℕ → ℕ → Runner → Runner → Type 0
+TakesAtOnceIf ways.Nothing line number old new = Keeps number old new
+TakesAtOnceIf ways.Line line number old new = TakesAtOnce line number old new
+TakesAtOnceIf ways.Call line number old new = CallsAtOnce line number old new

@@ -7,7 +7,7 @@ use Rattle.page_roff_blocks.specs.declared.line_parts.LinePart.TheVariants.{Leaf
 use Rattle.page_roff_blocks.specs.declared.block_cursors.Pass.{Pass}
 use Rattle.page_roff_blocks.specs.declared.block_cursors.Pass.TheVariants as passes
 use Rattle.page_roff_blocks.specs.LineParts.{line_parts}
-use Rattle.page_roff_blocks.specs.Levels.{Place, BlockCursor, at_line, outside, passed}
+use Rattle.page_roff_blocks.specs.Levels.{Place, BlockCursor, after_part, at_line, outside, passed}
 use Rattle.page_roff_syntax.specs.OpenRegions.{Opened, opened}
 use Rattle.page_roff_blocks.specs.Languages.{Kind, page, body}
 use Rattle.page_roff_blocks.specs.machine.Machine.{Frame, Turning, turned, at_part}
@@ -48,6 +48,11 @@ is_over f = ends_with f.region f.parts f.lines
 abbrev pub page_line : List ℕ → Frame → Frame
 page_line line f =
     record { kind = page; region = f.region; parts = []; cursor = at_line f.cursor.levels; lines = line ∷ []; turning = None }
+
+-- a line of the page came that is one part, and was passed
+abbrev pub page_passed : Frame → Frame
+page_passed f =
+    record { kind = page; region = f.region; parts = []; cursor = after_part f.cursor.levels; lines = []; turning = None }
 
 -- the part that comes next is passed, and this is the cursor after it
 abbrev pub past : BlockCursor → Frame → Frame

@@ -1,4 +1,4 @@
-use Rattle.std.proofs.Common.{◌<◌, ◌^◌, None, refl, ap, ◌∙◌, arith}
+use Rattle.std.proofs.Common.{◌<◌, ◌^◌, [], None, refl, ap, ◌∙◌, arith}
 use Rattle.page_roff_blocks.specs.Levels.{BlockCursor, at_line}
 use Rattle.page_roff_blocks.specs.Languages.{page}
 use Rattle.page_roff_stack.specs.declared.input_frames.InputFrame.{InputFrame}
@@ -22,5 +22,5 @@ returns c =
     let cursor = c.at.ensures ∙ ap at_line c.levels.ensures in
     let same = ap (λ (s : BlockCursor). s.levels.skipped) cursor in
     let skips : a.cursor.levels.skipped < 2 ^ 62 = omega (arith, same, c.requires) in
-    let set = place_set a refl refl c.end.ensures refl refl refl skips in
+    let set = place_set a [] refl refl c.end.ensures refl refl refl skips in
     record { held = set.0; frame = set.1 ∙ rw (c.region.ensures, cursor) refl }
