@@ -73,7 +73,7 @@ fn request_command(request: Option<Request>) -> Command
     }
 }
 
-/// Whether a name calls a macro of the page, whose body [`body_or_nothing`] then finds soon.
+/// Whether a name calls a macro of the page. Where it does, [`body_or_nothing`] need not search for the body anew.
 pub(crate) fn is_called(name: &[u8], names: &mut Names) -> bool
     ensures called { result ≡ is_some (named.called_body name.now names.old) }
     ensures same { names.new ≡ names.old }
