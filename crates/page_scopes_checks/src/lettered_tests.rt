@@ -144,7 +144,7 @@ fn check_bytes(rt: &impl Abort, got: &[u8], wanted: &[u8]) {
 }
 
 // Texts after one blank, how often words of them are taken, and what they give.
-const TEXTS: [(TextStyle, u32, &str, &str); 27] = [
+const TEXTS: [(TextStyle, u32, &str, &str); 33] = [
     (LINE, 9, "a b cd", "(R a b cd)R"),
     (LINE, 0, "a b cd", "1[a]1[b]1[cd]R"),
     (LINE, 9, "abc", "(R abc)R"),
@@ -177,6 +177,37 @@ const TEXTS: [(TextStyle, u32, &str, &str); 27] = [
     (KEPT, 9, "\\& a b", "[ ][]<R a b>R"),
     (KEPT, 9, "a \\fBb\\fP c d", "[ ][a][ ]B[b]<R c d>R"),
     (KEPT, 1, "a b \\&c d e", "[ ][a]<R b>[ ][c][ ][d][ ][e]R"),
+    (
+        LINE,
+        9,
+        "a \\fBbold word\\fP and more of it",
+        "(R a BboldR BwordR and more of it)R",
+    ),
+    (
+        LINE,
+        9,
+        "a \\fBbold\\fP word-part more text",
+        "(R a Bbold)1[word-]|[part](R more text)R",
+    ),
+    (
+        LINE,
+        9,
+        "a \\fBabcdefghijklmnopqrst\\fP and more",
+        "(R a BabcdefghijklmnopqrstR and more)R",
+    ),
+    (
+        LINE,
+        9,
+        "a \\fBabcdefghijklmno\\fP",
+        "(R a Babcdefghijklmno)R",
+    ),
+    (LINE, 9, "a \\fBabcdefghijklm\\fP", "(R a Babcdefghijklm)R"),
+    (
+        QUOTED,
+        9,
+        "a \\fBbold\"\"word\\fP and more",
+        "(R a Bbold\"wordR and more)R",
+    ),
 ];
 
 // Texts that do not come after one blank: the blanks before them, how often words are taken, and what they give.

@@ -5,6 +5,7 @@ pub mod RunLemmas
 pub mod RomanRunLemmas
 pub mod RunWordLemmas
 pub mod LetterLemmas
+pub mod LetterTokenLemmas
 pub mod LetteredWordLemmas
 pub mod LetteredTextLemmas
 mod PartLemmas

@@ -8,14 +8,14 @@ ghost use Rattle.page_core_escapes.specs.Escapes.{meaning_view};
 ghost use Rattle.page_core_escapes.specs.Tokens.{begins_word, escaped, plain, token_view};
 ghost use Rattle.page_scopes_text.specs.Parted.{words_of};
 ghost use Rattle.page_scopes_text.specs.Texts as texts;
-ghost use Rattle.page_scopes_text.specs.machine.Letters.{AddsWord, AddsWords, Grows, TakesToken};
+ghost use Rattle.page_scopes_text.specs.machine.Letters.{AddsWord, AddsWords, Grows, ReadsFont, ReadsToken, TakesToken};
 ghost use Rattle.page_scopes_words.specs.machine.Letters.{letters_in};
 ghost use Rattle.page_scopes_text.specs.machine.Reads.{Fits, Within};
 
 use crate::runs::run_len;
 use page_core_base::{Font, LINE, PieceOut, first_part_len};
-use page_core_escapes::{Escape, Token, begins_word, read_token};
-use page_scopes_words::{Fonts, Letters, Pen, ROOM, Setting, TextStyle, fonts_after};
+use page_core_escapes::{Escape, Token, begins_word, read_token, short_font};
+use page_scopes_words::{Fonts, Letters, Pen, ROOM, Setting, TextStyle, fonts_after, part_len};
 
 // Takes bytes that print themselves, if they are one part, and there is room: whether it did.
 #[inline(always)]
@@ -76,6 +76,96 @@ fn take_token(letters: &mut Letters, font: Font, token: &Token<'_>) -> bool
     }
 }
 
+// Reads the token at a text's front as letters, where it is a short part of a word that prints itself: what is left of the text.
+#[inline(always)]
+fn read_part<'a>(
+    quoted: bool,
+    fonts: Setting<Fonts>,
+    letters: &mut Letters,
+    text: &'a [u8],
+) -> Option<&'a [u8]>
+    ensures { MatchOption result (letters.new ≡ letters.old) (λ rest. ReadsToken quoted fonts letters.old text.now fonts letters.new rest.now) }
+{
+    let len = part_len(quoted, text);
+    if len == 0 || !letters.add_front(fonts.value.font, text, len) {
+        return None;
+    }
+    Some(&text[len..])
+}
+
+// Reads the escape at a text's front, where few bytes say that it asks for a font: the fonts after it, and what is left of the text.
+#[inline(always)]
+fn read_font(fonts: Setting<Fonts>, text: &[u8]) -> Option<(Setting<Fonts>, &[u8])>
+    ensures { IfSome result (λ found. ReadsFont fonts text.now found.0 found.1.now) }
+{
+    let (name, len) = short_font(text)?;
+    if !name.is_known() {
+        return None;
+    }
+    let fonts = Setting {
+        value: fonts.value.named(name),
+        is_set: true,
+    };
+    Some((fonts, &text[len..]))
+}
+
+// Reads the token at a text's front as letters, if it is one of the most frequent ones: the fonts after it, and what is left of the text.
+#[inline(always)]
+fn read_frequent<'a>(
+    quoted: bool,
+    fonts: Setting<Fonts>,
+    letters: &mut Letters,
+    text: &'a [u8],
+) -> Option<(Setting<Fonts>, &'a [u8])>
+    requires { begins_word text.now ≡ true }
+    ensures { MatchOption result (letters.new ≡ letters.old)
+        (λ found. ReadsToken quoted fonts letters.old text.now found.0 letters.new found.1.now) }
+{
+    if text[0] == b'\\' {
+        let (next, rest) = read_font(fonts, text)?;
+        return Some((next, rest));
+    }
+    let rest = read_part(quoted, fonts, letters, text)?;
+    Some((fonts, rest))
+}
+
+// Reads the token at a text's front as letters, if it is no more than that: the fonts after it, and what is left of the text.
+#[inline(always)]
+fn read_other<'a>(
+    quoted: bool,
+    fonts: Setting<Fonts>,
+    letters: &mut Letters,
+    text: &'a [u8],
+) -> Option<(Setting<Fonts>, &'a [u8])>
+    requires { (length text.now ≤ LINE) × (begins_word text.now ≡ true) }
+    ensures { MatchOption result (letters.new ≡ letters.old)
+        (λ found. ReadsToken quoted fonts letters.old text.now found.0 letters.new found.1.now) }
+{
+    let token = read_token(quoted, text);
+    if !take_token(letters, fonts.value.font, &token) {
+        return None;
+    }
+    Some((fonts_after(&token, fonts), &text[token.len()..]))
+}
+
+// The same, where most tokens are one of the most frequent ones.
+#[inline(always)]
+fn read_letter_token<'a>(
+    quoted: bool,
+    fonts: Setting<Fonts>,
+    letters: &mut Letters,
+    text: &'a [u8],
+) -> Option<(Setting<Fonts>, &'a [u8])>
+    requires { (length text.now ≤ LINE) × (begins_word text.now ≡ true) }
+    ensures { MatchOption result (letters.new ≡ letters.old)
+        (λ found. ReadsToken quoted fonts letters.old text.now found.0 letters.new found.1.now) }
+{
+    if let Some(found) = read_frequent(quoted, fonts, letters, text) {
+        return Some(found);
+    }
+    read_other(quoted, fonts, letters, text)
+}
+
 /// Reads the word at a text's front as letters: the fonts after it, and what is left of the text.
 #[inline(always)]
 pub(crate) fn read_letters<'a>(
@@ -92,12 +182,9 @@ pub(crate) fn read_letters<'a>(
     let mut fonts = fonts;
     let mut rest = text;
     while begins_word(rest) {
-        let token = read_token(quoted, rest);
-        if !take_token(letters, fonts.value.font, &token) {
-            return None;
-        }
-        fonts = fonts_after(&token, fonts);
-        rest = &rest[token.len()..];
+        let (next, after) = read_letter_token(quoted, fonts, letters, rest)?;
+        fonts = next;
+        rest = after;
     }
     Some((fonts, rest))
 }

@@ -1,14 +1,15 @@
 -- Where a run of words that print themselves ends, by vectors and byte by byte.
 use Rattle.std.proofs.Common.{◌≡◌, ℕ, suc, ◌+◌, ◌-◌, ◌%◌, ◌^◌, ◌<◌, ◌≤◌, ◌==◌, ◌&&◌, ◌||◌, Bool, true, false, not, cond, eqb, bit_and, List, [], ◌∷◌, length, map, get_or, refl, sym, ap, ap₂, ◌∙◌, inl, inr, arith}
 use Rattle.std.specs.Prelude.{if◌then◌else◌}
-use Rattle.std.specs.List.{prefix_len}
-use Rattle.std.proofs.lemmas.Bool.{cases_lt}
-use Rattle.std.proofs.lemmas.List.Sums.{prefix_len-le-length, prefix_len_passes}
+use Rattle.std.specs.List.{list_all, prefix_len}
+use Rattle.std.proofs.lemmas.List.Folds.{list_all_at}
+use Rattle.std.proofs.lemmas.Bool.{cases_Bool, cases_lt}
+use Rattle.std.proofs.lemmas.List.Sums.{prefix_len-le-length, prefix_len_passes, prefix_len_stops}
 use Rattle.std.proofs.lemmas.Simd.{get_or-chunk, get_or-zip2, leading_from_mask_l, length-chunk, length-zip2, mask_l-mod, trailing_mask_l}
 use lib.Bits.{bit_or}
 use lib.Count.{count_trailing_zeros}
 use lib.Lanes.{chunk, mask_l, top, zip2}
-use Rattle.page_scopes_words.specs.machine.RunEnds.{GoesOn, ends_run}
+use Rattle.page_scopes_words.specs.machine.RunEnds.{GoesOn, ends_run, ends_run_at, is_inside}
 
 -- ---- lanes
 
@@ -124,6 +125,67 @@ front_goes quoted text at found l e some =
       tests_go quoted text at (count_trailing_zeros 64 found) l n,
     )
 
+some_test : (b : Bool) → not b ≡ false → b ≡ true
+some_test true e = refl
+some_test false e = let no : ⊥ = cc in absurd no
+
+-- at the place that was found a run ends
+pub front_ends : (quoted : Bool) (text : List ℕ) (at found : ℕ) → at + 16 < length text → found ≡ mask_l (tests quoted text at) → 0 < found → count_trailing_zeros 64 found < 16
+    → ends_run quoted (get_or text (at + count_trailing_zeros 64 found) 32) (get_or text (suc (at + count_trailing_zeros 64 found)) 32) ≡ true
+front_ends quoted text at found l e some less =
+    let i = count_trailing_zeros 64 found in
+    let v = chunk at 16 text in
+    let w = chunk (at + 1) 16 text in
+    let here = length-chunk at 16 text (omega (arith, l)) in
+    let next = length-chunk (at + 1) 16 text (omega (arith, l)) in
+    let long = tests_long quoted text at l in
+    let is : mask_l (map (λ (b : Bool). b) (tests quoted text at)) ≡ found = ap mask_l (map_same (tests quoted text at)) ∙ sym e in
+    let n : i ≡ prefix_len (λ (b : Bool). not b) (tests quoted text at) =
+    ap (count_trailing_zeros 64) (sym is) ∙ trailing_mask_l (λ (b : Bool). b) 64 (tests quoted text at) (omega (arith, long)) (omega (arith, is, some)) in
+    let stops : get_or (tests quoted text at) i false ≡ true =
+    rw n (some_test (get_or (tests quoted text at) (prefix_len (λ (b : Bool). not b) (tests quoted text at)) false)
+    (prefix_len_stops (λ (b : Bool). not b) (tests quoted text at) false (omega (arith, n, less, long)))) in
+    let pair = get_or-zip2 (ends_run quoted) v w i 32 32 false (omega (arith, less, here)) (omega (arith, less, next)) in
+    let second : (at + 1) + i ≡ suc (at + i) = omega arith in
+    ap₂ (ends_run quoted) (sym (get_or-chunk at 16 text i 32 less)) (sym (get_or-chunk (at + 1) 16 text i 32 less ∙ ap (λ (j : ℕ). get_or text j 32) second))
+    ∙ sym pair ∙ stops
+
+-- ---- bytes inside words
+
+inside_test : (h o k n : Bool) → not (h || (o || (k && true))) ≡ true → (h || (o || (k && n))) ≡ false
+inside_test true o k n e = let no : ⊥ = cc in absurd no
+inside_test false true k n e = let no : ⊥ = cc in absurd no
+inside_test false false true n e = let no : ⊥ = cc in absurd no
+inside_test false false false n e = refl
+
+inside_blank : (h o k : Bool) → not (h || (o || (k && true))) ≡ true → not k ≡ true
+inside_blank true o k e = let no : ⊥ = cc in absurd no
+inside_blank false true k e = let no : ⊥ = cc in absurd no
+inside_blank false false true e = let no : ⊥ = cc in absurd no
+inside_blank false false false e = refl
+
+abbrev other : Bool → ℕ → Bool
+other quoted x = x == 9 || (x == 92 || (quoted && x == 34))
+
+pub inside_goes : (quoted : Bool) (text : List ℕ) → list_all (is_inside quoted) text ≡ true → GoesOn quoted text 0 (length text)
+inside_goes quoted text all = λ k low high. elim (cases_Bool (is_inside quoted (get_or text k 32))) [
+  | inl is ↦ inside_test (get_or text k 32 == 45) (other quoted (get_or text k 32)) (get_or text k 32 == 32) (get_or text (suc k) 32 == 32) is
+  | inr stops ↦ absurd (never (sym all ∙ list_all_at (is_inside quoted) text k 32 high stops))
+]
+  where
+    never : true ≡ false → ⊥
+    never e = grind (arith, e)
+
+both : (a b : Bool) → (a && b) ≡ true → (a ≡ true) × (b ≡ true)
+both true b e = (refl, e)
+both false b e = let no : ⊥ = cc in absurd no
+
+pub inside_word : (quoted : Bool) (text : List ℕ) → list_all (is_inside quoted) text ≡ true → list_all (λ byte. not (byte == 32)) text ≡ true
+inside_word quoted [] all = refl
+inside_word quoted (x ∷ xs) all =
+    let parts = both (is_inside quoted x) (list_all (is_inside quoted) xs) all in
+    rw (inside_blank (x == 45) (other quoted x) (x == 32) parts.0) (inside_word quoted xs parts.1)
+
 -- ---- one part of a text after another
 
 pub goes_none : (quoted : Bool) (text : List ℕ) (n : ℕ) → GoesOn quoted text n n
@@ -131,3 +193,6 @@ goes_none quoted text n = λ k low high. absurd (omega (arith, low, high))
 
 pub goes_join : (quoted : Bool) (text : List ℕ) (a b c d : ℕ) → GoesOn quoted text a b → c ≤ b → GoesOn quoted text c d → GoesOn quoted text a d
 goes_join quoted text a b c d g le h = λ k low high. elim (cases_lt k b) [ inl early ↦ g k low early | inr late ↦ h k (omega (arith, le, late)) high ]
+
+pub goes_more : (quoted : Bool) (text : List ℕ) (at : ℕ) → GoesOn quoted text 0 at → ends_run_at quoted text at ≡ false → GoesOn quoted text 0 (at + 1)
+goes_more quoted text at g here = λ k low high. elim (cases_lt k at) [ inl early ↦ g k low early | inr late ↦ let is : k ≡ at = omega (arith, late, high) in rw is here ]

@@ -33,18 +33,21 @@ impl Fonts {
         }
     }
 
-    /// The fonts after a font is asked for by its name.
+    /// The fonts after a font is asked for by its name. The fonts of names are a table, so that the compiler needs no jump.
     #[inline(always)]
     pub fn named(self, name: FontName<'_>) -> Fonts
         ensures { result ≡ face_fonts (face_view name.entry) self }
     {
+        let font = match name {
+            FontName::I => Font::I,
+            FontName::B => Font::B,
+            FontName::BI => Font::BI,
+            FontName::R | FontName::Former | FontName::Unknown(_) => Font::R,
+        };
         match name {
-            FontName::R => self.with(Font::R),
-            FontName::I => self.with(Font::I),
-            FontName::B => self.with(Font::B),
-            FontName::BI => self.with(Font::BI),
             FontName::Former => self.with(self.former),
             FontName::Unknown(_) => self,
+            _ => self.with(font),
         }
     }
 

@@ -30,7 +30,7 @@ impl Model for Letters {
     ghost invariant = { λ l. (l.len ≤ 256) × (length l.text ≡ 256) × (length l.fonts ≡ 256) };
 }
 
-// How many fonts are put at a time, where there is room for them.
+// How many fonts, or letters, are put at a time, where there is room for them.
 const GROUP: usize = 16;
 
 // Puts a count of one font at a start and after it.
@@ -113,6 +113,20 @@ impl Letters {
         }
         put_letters(&mut self.text, &mut self.fonts, self.len, font, bytes);
         self.len = end;
+        true
+    }
+
+    /// Adds the first letters of a text in one font, where a whole group can be copied in their place: whether it was. That takes no loop.
+    #[inline(always)]
+    pub fn add_front(&mut self, font: Font, text: &[u8], count: usize) -> bool
+        ensures added { result ≡ true → self.new ≡ self.old ++ letters_in font (take count text.now) }
+        ensures kept { result ≡ false → self.new ≡ self.old }
+    {
+        let start = self.len();
+        if count > GROUP || text.len() < GROUP || !self.add(font, &text[..GROUP]) {
+            return false;
+        }
+        self.cut(start + count);
         true
     }
 

@@ -3,7 +3,7 @@
 ghost use Rattle.std.specs.Prelude.{◌≡◌, ◌≤◌, ◌<◌, ◌+◌, ◌==◌, not, length, slice_index, if◌then◌else◌, true};
 ghost use Rattle.std.specs.List.{list_all};
 ghost use Rattle.std.specs.Simd.Lanes.{mask_l, zip2};
-ghost use Rattle.page_scopes_words.specs.machine.RunEnds.{GoesOn, ends_run, ends_run_at};
+ghost use Rattle.page_scopes_words.specs.machine.RunEnds.{GoesOn, ends_run, ends_run_at, is_inside};
 
 use std::simd::prelude::*;
 
@@ -34,6 +34,7 @@ fn vector_len(quoted: bool, text: &[u8], at: usize) -> usize
     requires { at + LANES < length text.now }
     ensures within { result ≤ LANES }
     ensures goes { GoesOn quoted text.now at (at + result) }
+    ensures ends { result < LANES → ends_run_at quoted text.now (at + result) ≡ true }
 {
     let next = u8x16::from_slice(&text[at + 1..]);
     let found = ends(quoted, u8x16::from_slice(&text[at..]), next);
@@ -50,6 +51,7 @@ fn vectors_len(quoted: bool, text: &[u8]) -> usize
     requires { LANES < length text.now }
     ensures within { result < length text.now }
     ensures goes { GoesOn quoted text.now 0 result }
+    ensures ends { result + 1 < length text.now → ends_run_at quoted text.now result ≡ true }
 {
     let last = text.len() - LANES - 1;
     let mut at = 0;
@@ -89,6 +91,9 @@ pub fn going_len(quoted: bool, text: &[u8]) -> usize
     let mut at = 0;
     if text.len() > LANES {
         at = vectors_len(quoted, text);
+        if at + 1 < text.len() {
+            return at;
+        }
     }
     while at < text.len() && !ends_at(quoted, text, at) {
         at += 1;
@@ -104,22 +109,65 @@ fn has_no_blank(text: &[u8]) -> bool
     text.iter().all(|byte| *byte != b' ')
 }
 
-/// Whether a text is one word that prints itself, without a hyphen.
+// Whether a byte ends no run, and no word.
+#[inline(always)]
+fn is_inside(quoted: bool, byte: u8) -> bool
+    ensures { result ≡ is_inside quoted byte }
+{
+    if byte > b'"' {
+        return byte != b'-' && byte != b'\\';
+    }
+    !(byte == b' ' || byte == b'\t' || (quoted && byte == b'"'))
+}
+
+// Whether all bytes of a text end no run, and no word.
+#[inline(always)]
+fn is_all_inside(quoted: bool, text: &[u8]) -> bool
+    ensures { result ≡ list_all (is_inside quoted) text.now }
+{
+    text.iter().all(|byte| is_inside(quoted, *byte))
+}
+
+/// Whether a text is one word that prints itself, without a hyphen. Most such texts are short, and are read once.
 #[inline(always)]
 pub fn is_plain_word(quoted: bool, text: &[u8]) -> bool
     ensures word { result ≡ true → list_all (λ byte. not (byte == 32)) text.now ≡ true }
     ensures goes { result ≡ true → GoesOn quoted text.now 0 (length text.now) }
 {
+    if text.len() <= LANES {
+        return is_all_inside(quoted, text);
+    }
     has_no_blank(text) && going_len(quoted, text) == text.len()
 }
 
-/// The last blank up to a place, or the text's front.
+// The last blank among the bytes up to a place, at most `LANES` of them, or the first of these where there is none.
+#[inline(always)]
+fn near_blank(text: &[u8], place: usize) -> usize
+    requires { (LANES ≤ length text.now) × (place < length text.now) }
+    ensures { result ≤ place }
+{
+    let start = place.saturating_sub(LANES - 1);
+    let blanks = u8x16::from_slice(&text[start..]).simd_eq(u8x16::splat(b' '));
+    let found = blanks.to_bitmask() << (63 - (place - start));
+    if found == 0 {
+        return start;
+    }
+    place.saturating_sub(found.leading_zeros() as usize)
+}
+
+/// The last blank up to a place, or the text's front. Most blanks are near.
 #[inline(always)]
 pub fn blank_before(text: &[u8], place: usize) -> usize
     requires { place < length text.now }
     ensures within { result ≤ place }
     ensures blank { 0 < result → slice_index text.now result ≡ 32 }
 {
+    if text.len() >= LANES {
+        let near = near_blank(text, place);
+        if near == 0 || text[near] == b' ' {
+            return near;
+        }
+    }
     let mut at = place;
     while at > 0 && text[at] != b' ' {
         at -= 1;

@@ -1,6 +1,6 @@
 -- Words of letters in their fonts, which are read once and given at once: a fast way of the code, which no public clause cites.
 -- Source: roff(7), `\f`.
-use Rattle.std.specs.Prelude.{◌≡◌, ℕ, ◌≤◌, ◌+◌, Bool, true, false, nat_lt, List, [], ◌++◌, length, map}
+use Rattle.std.specs.Prelude.{◌≡◌, ℕ, ◌≤◌, ◌<◌, ◌+◌, Bool, true, false, nat_lt, List, [], ◌++◌, length, map, drop}
 use Rattle.std.specs.List.{list_all}
 use Rattle.page_core_base.specs.Pieces.{shown}
 use Rattle.page_core_base.specs.Words.{is_lettered, is_lettered_word, lettered_cells, lettered_pieces, word_letters}
@@ -8,7 +8,7 @@ use Rattle.page_core_base.specs.declared.cells.Cell.{Cell}
 use Rattle.page_core_base.specs.declared.cells.Font.{Font}
 use Rattle.page_core_base.specs.declared.pieces.Piece.{Piece}
 use Rattle.page_core_base.specs.declared.places.Place.{Place}
-use Rattle.page_core_escapes.specs.Tokens.{TextToken, begins_word}
+use Rattle.page_core_escapes.specs.Tokens.{TextToken, begins_word, token_at, token_len}
 use Rattle.page_scopes_words.specs.Words.{is_glue}
 use Rattle.page_scopes_words.specs.machine.Letters.{letters_in}
 use Rattle.page_scopes_words.specs.declared.settings.Setting.{Setting}
@@ -16,6 +16,7 @@ use Rattle.page_scopes_words.specs.declared.fonts.Fonts.{Fonts}
 use Rattle.page_scopes_text.specs.Parted.{Spaced, words_of}
 use Rattle.page_scopes_text.specs.Texts.{others_after, others_items}
 use Rattle.page_scopes_text.specs.Words.{printed_items, tokens_items, word_notes}
+use Rattle.page_scopes_words.specs.Fonts.{fonts_after}
 use Rattle.page_scopes_words.specs.Tokens.{token_notes, token_prints}
 use Rattle.page_scopes_words.specs.Pens.{pen_through}
 use Rattle.page_scopes_words.specs.machine.Pens.{resting}
@@ -73,6 +74,18 @@ pub record ReadsWords (style : TextStyle) (fonts : Setting Fonts) (text : List �
 -- letters were added, by which a token was taken
 abbrev pub TakesToken : TextToken → Font → List Cell → List Cell → Type 0
 TakesToken token font before after = (letters : List ℕ) × Lettered token letters × (after ≡ before ++ letters_in font letters)
+
+-- the token at a text's front was taken as letters
+pub record ReadsToken (quoted : Bool) (fonts : Setting Fonts) (before : List Cell) (text : List ℕ) (next : Setting Fonts) (after : List Cell) (rest : List ℕ) : Type 0 where
+  pub takes : TakesToken (token_at quoted text) fonts.value.font before after
+  pub some : 0 < token_len quoted text
+  pub within : token_len quoted text ≤ length text
+  pub next_fonts : next ≡ fonts_after (token_at quoted text) fonts
+  pub left : rest ≡ drop (token_len quoted text) text
+
+-- the token at a text's front is an escape that asks for a font, by which no letters are added
+abbrev pub ReadsFont : Setting Fonts → List ℕ → Setting Fonts → List ℕ → Type 0
+ReadsFont fonts text next rest = (quoted : Bool) (cells : List Cell) → ReadsToken quoted fonts cells text next cells rest
 
 -- letters were added
 abbrev pub Grows : List Cell → List Cell → Type 0

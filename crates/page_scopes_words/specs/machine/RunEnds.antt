@@ -1,5 +1,5 @@
 -- Where a run of words that print themselves ends, with one blank before each: a fast way of the code, which no definition of a page cites.
-use Rattle.std.specs.Prelude.{◌≡◌, ℕ, suc, ◌≤◌, ◌<◌, ◌==◌, ◌&&◌, ◌||◌, Bool, false, List, get_or}
+use Rattle.std.specs.Prelude.{◌≡◌, ℕ, suc, ◌≤◌, ◌<◌, ◌==◌, ◌&&◌, ◌||◌, not, Bool, false, List, get_or}
 use Rattle.page_core_base.specs.Words.{hyphen}
 
 -- whether a run ends at a byte, by the one after it: a hyphen, a tab, a backslash, in a quoted argument a quote, or a blank before a blank
@@ -9,6 +9,10 @@ ends_run quoted byte next = byte == hyphen || ((byte == 9 || (byte == 92 || (quo
 -- the same at a place of a text; after its end there is taken to be a blank
 abbrev pub ends_run_at : Bool → List ℕ → ℕ → Bool
 ends_run_at quoted text place = ends_run quoted (get_or text place 32) (get_or text (suc place) 32)
+
+-- whether a byte ends no run and no word, whatever is after it
+abbrev pub is_inside : Bool → ℕ → Bool
+is_inside quoted byte = not (ends_run quoted byte 32)
 
 -- from one place up to another no run ends
 abbrev pub GoesOn : Bool → List ℕ → ℕ → ℕ → Type 0
