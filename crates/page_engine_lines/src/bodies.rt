@@ -174,6 +174,7 @@ impl Body {
     /// Decides the language of the page by a line, unless it is decided.
     #[inline(always)]
     pub fn decide(&mut self, line: Taken<'_>)
+        requires { length line.text.now ≤ LINE }
         ensures { self.new ≡ bodies.decided self.old (line_view line.entry) }
     {
         if !self.is_decided {

@@ -13,9 +13,7 @@ use page_sets::{
     BlockCloser, BlockOpener, Closer, Event, EventKind, Join, MacroSet, Opener, Quotation, Role,
     Word,
 };
-use page_sets_lines::{
-    PlainLine, event_at, find_name, line_start, name_place, read_after, word_place,
-};
+use page_sets_lines::{ControlLine, PlainLine, event_at, line_start, read_after, word_place};
 
 /// The set.
 #[derive(Clone, Copy)]
@@ -82,13 +80,14 @@ fn macro_place(name: &[u8], text: &[u8], start: usize) -> MarkedPlace
 
 // The place before the events of a control line.
 fn control_place(line: Taken<'_>) -> MarkedPlace
+    requires { length line.text.now ≤ LINE }
     ensures { result ≡ marked.control_place (line_view line.entry) }
 {
-    let name = find_name(line);
-    if name.is_empty() {
+    let line = ControlLine::new(line);
+    if line.is_nameless() {
         MarkedPlace::End(false)
     } else {
-        macro_place(&line.text[name.start..name.end], line.text, name.end)
+        macro_place(line.name(), line.text(), line.name_end())
     }
 }
 
@@ -97,14 +96,14 @@ fn unknown<'a>(line: Taken<'a>) -> Event<&'a [u8]>
     requires { length line.text.now ≤ LINE }
     ensures { event_view result ≡ marked.unknown (line_view line.entry) }
 {
-    let name = find_name(line);
+    let line = ControlLine::new(line);
     let kind = EventKind::Note {
         kind: NoteKind::UnknownMacro,
-        detail: &line.text[name.start..name.end],
+        detail: line.name(),
         is_quoted: false,
         begins_body: false,
     };
-    event_at(name_place(line), kind)
+    event_at(line.name_place(), kind)
 }
 
 impl MacroSet for Marked {
@@ -152,7 +151,8 @@ impl MacroSet for Marked {
             }
             MarkedPlace::Quotation { begins } => {
                 *place = MarkedPlace::End(false);
-                Some(event_at(name_place(line), quotation(begins)))
+                let place = ControlLine::new(line).name_place();
+                Some(event_at(place, quotation(begins)))
             }
             MarkedPlace::Words { rest, fills } => {
                 if let Some((argument, end)) = read_after(line.text, rest) {

@@ -1,5 +1,4 @@
 -- The code's own steps and fast ways. Trust needs no reading of them.
-pub mod Calls
 pub mod ManLaws
 pub mod MdocLaws
 pub mod RestLaws

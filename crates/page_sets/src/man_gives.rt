@@ -16,9 +16,8 @@ use crate::man_rows::{Alone, Last, Quotes, Row, Words, row_of};
 use page_core_base::{Font, LINE, NoteKind, Place, Taken};
 use page_roff_syntax::{Argument, has_arguments};
 use page_sets_lines::{
-    Closer, Event, EventKind, EventTaker, GeneratedText, Join, Leaf, LineOpener, PlainLine, Role,
-    event_at, find_name, generated_word, line_start, name_place, open_quote, read_after,
-    word_event,
+    Closer, ControlLine, Event, EventKind, EventTaker, GeneratedText, Join, Leaf, LineOpener,
+    PlainLine, Role, event_at, generated_word, line_start, open_quote, read_after, word_event,
 };
 
 /// The quote of an argument without its closing one: its column, and whether its message may begin the body of the
@@ -365,22 +364,20 @@ fn give_lone<'a, O: EventTaker<'a>>(
 
 // A control line.
 #[inline(never)]
-fn give_control<'a, O: EventTaker<'a>>(out: &mut O, line: Taken<'a>)
-    requires { length line.text.now ≤ LINE }
-    ensures { Came O.left out.old (man.control_events (line_view line.entry)) out.new }
+fn give_control<'a, O: EventTaker<'a>>(out: &mut O, line: &ControlLine<'a>)
+    ensures { Came O.left out.old (man.control_events line.now) out.new }
 {
-    let span = find_name(line);
-    let place = name_place(line);
-    if span.is_empty() {
-        give_end(out, line.line, false);
+    if line.is_nameless() {
+        give_end(out, line.number(), false);
         return;
     }
-    let name = &line.text[span.start..span.end];
+    let name = line.name();
+    let place = line.name_place();
     match row_of(name) {
-        Some(row) if has_arguments(&line.text[span.end..]) => {
-            give_macro(out, place, row, line.text, span.end);
+        Some(row) if line.has_arguments() => {
+            give_macro(out, place, row, line.text(), line.name_end());
         }
-        Some(row) => give_lone(out, place, name, row, line.text, span.end),
+        Some(row) => give_lone(out, place, name, row, line.text(), line.name_end()),
         None => give_refused(out, NoteKind::UnknownMacro, place, name),
     }
 }
@@ -396,6 +393,6 @@ pub(crate) fn give_events<'a, O: EventTaker<'a>>(out: &mut O, line: Taken<'a>)
             out.give(event_at(line_start(line.line), plain.kind(line.text)));
             give_end(out, line.line, plain.fills());
         }
-        None => give_control(out, line),
+        None => give_control(out, &ControlLine::new(line)),
     }
 }

@@ -1,19 +1,21 @@
 //! The events of a line, given one after another (mdoc(7), "MACRO SYNTAX").
 
-ghost use Rattle.std.specs.Prelude.{◌≡◌, ◌≤◌, ◌∷◌, [], length};
+ghost use Rattle.std.specs.Prelude.{◌≡◌, ◌≤◌, ◌∷◌, [], Some, length};
 ghost use Rattle.page_core_base.specs.LinesTaken.{line_view};
 ghost use Rattle.page_core_base.specs.Latches.{Came};
 ghost use Rattle.page_sets_lines.specs.PlainLines.{layout_request, line_end};
+ghost use Rattle.page_sets_lines.specs.ControlLines.{name_of};
+ghost use Rattle.page_sets_mdoc_lines.specs.Rows as rows;
 ghost use Rattle.page_sets.specs.Mdoc as mdoc;
 
 use crate::mdoc_line_words::give_words;
 use page_core_base::{LINE, NoteKind, Taken};
-use page_roff_syntax::{LayoutRequest, has_arguments};
+use page_roff_syntax::LayoutRequest;
 use page_sets_lines::{
-    EventKind, EventTaker, PlainLine, event_at, find_name, layout_request, line_start,
+    ControlLine, EventKind, EventTaker, PlainLine, event_at, layout_request, line_start,
 };
 use page_sets_mdoc_blocks::{give_front, give_refusal, give_request, has_phrase};
-use page_sets_mdoc_lines::{LineMacro, line_macro};
+use page_sets_mdoc_lines::{LineMacro, MacroRow, row_of};
 
 // A line's end.
 fn give_end<'a, O: EventTaker<'a>>(out: &mut O, number: u32, fills: bool)
@@ -23,49 +25,46 @@ fn give_end<'a, O: EventTaker<'a>>(out: &mut O, number: u32, fills: bool)
 }
 
 // A message that names the macro, which does nothing else.
-fn give_refused<'a, O: EventTaker<'a>>(out: &mut O, kind: NoteKind, line: Taken<'a>)
-    requires { length line.text.now ≤ LINE }
-    ensures { Came O.left out.old (mdoc.refused_events kind (line_view line.entry)) out.new }
+fn give_refused<'a, O: EventTaker<'a>>(out: &mut O, kind: NoteKind, line: &ControlLine<'a>)
+    ensures { Came O.left out.old (mdoc.refused_events kind line.now) out.new }
 {
     give_refusal(out, kind, line);
-    give_end(out, line.line, true);
+    give_end(out, line.number(), true);
 }
 
 // Whether a macro needs words, and has none.
-fn lacks_words(begins: LineMacro, line: Taken<'_>) -> bool
-    requires { length line.text.now ≤ LINE }
-    ensures { result ≡ mdoc.lacks_words begins (line_view line.entry) }
+fn lacks_words(begins: LineMacro, line: &ControlLine<'_>) -> bool
+    ensures { result ≡ mdoc.lacks_words begins line.now }
 {
-    has_phrase(begins) && !has_arguments(&line.text[find_name(line).end..])
+    has_phrase(begins) && !line.has_arguments()
 }
 
-// A macro that begins a line.
-fn give_line_macro<'a, O: EventTaker<'a>>(out: &mut O, begins: LineMacro, line: Taken<'a>)
-    requires { length line.text.now ≤ LINE }
-    ensures { Came O.left out.old (mdoc.macro_events begins (line_view line.entry)) out.new }
+// A macro that begins a line, by its row.
+fn give_line_macro<'a, O: EventTaker<'a>>(out: &mut O, row: MacroRow, line: &ControlLine<'a>)
+    requires { rows.row_of (name_of line.now) ≡ Some row }
+    ensures { Came O.left out.old (mdoc.macro_events row.begins line.now) out.new }
 {
-    if lacks_words(begins, line) {
+    if lacks_words(row.begins, line) {
         give_refused(out, NoteKind::EmptyMacro, line);
         return;
     }
-    give_front(out, begins, line);
-    give_words(out, begins, line);
-    give_end(out, line.line, true);
+    give_front(out, row.begins, line);
+    give_words(out, row, line);
+    give_end(out, line.number(), true);
 }
 
 // A name that is no macro's.
 fn give_line_request<'a, O: EventTaker<'a>>(
     out: &mut O,
     request: Option<LayoutRequest>,
-    line: Taken<'a>,
+    line: &ControlLine<'a>,
 )
-    requires { length line.text.now ≤ LINE }
-    ensures { Came O.left out.old (mdoc.request_events request (line_view line.entry)) out.new }
+    ensures { Came O.left out.old (mdoc.request_events request line.now) out.new }
 {
     match request {
         Some(request) => {
             give_request(out, request, line);
-            give_end(out, line.line, true);
+            give_end(out, line.number(), true);
         }
         None => give_refused(out, NoteKind::UnknownMacro, line),
     }
@@ -73,19 +72,16 @@ fn give_line_request<'a, O: EventTaker<'a>>(
 
 // A control line.
 #[inline(never)]
-fn give_control<'a, O: EventTaker<'a>>(out: &mut O, line: Taken<'a>)
-    requires { length line.text.now ≤ LINE }
-    ensures { Came O.left out.old (mdoc.control_events (line_view line.entry)) out.new }
+fn give_control<'a, O: EventTaker<'a>>(out: &mut O, line: &ControlLine<'a>)
+    ensures { Came O.left out.old (mdoc.control_events line.now) out.new }
 {
-    let span = find_name(line);
-    if span.is_empty() {
-        give_end(out, line.line, true);
+    if line.is_nameless() {
+        give_end(out, line.number(), true);
         return;
     }
-    let name = &line.text[span.start..span.end];
-    match line_macro(name) {
-        Some(begins) => give_line_macro(out, begins, line),
-        None => give_line_request(out, layout_request(name), line),
+    match row_of(line.name()) {
+        Some(row) => give_line_macro(out, row, line),
+        None => give_line_request(out, layout_request(line.name()), line),
     }
 }
 
@@ -100,6 +96,6 @@ pub(crate) fn give_events<'a, O: EventTaker<'a>>(out: &mut O, line: Taken<'a>)
             out.give(event_at(line_start(line.line), plain.kind(line.text)));
             give_end(out, line.line, plain.fills());
         }
-        None => give_control(out, line),
+        None => give_control(out, &ControlLine::new(line)),
     }
 }

@@ -4,7 +4,7 @@ use page_core_base::Font;
 use page_sets_lines::{BodyParagraphName, HeadingName, Marks, OneLineName, Prologue, Quotation};
 use page_sets_mdoc_lines::{
     Block, Defaulted, Delimiter, Inline, LineMacro, Pair, Sentence, System, called, delimiter_of,
-    is_parsed, line_macro,
+    row_of,
 };
 use std::process::Abort;
 
@@ -26,12 +26,16 @@ fn check_called(rt: &impl Abort, name: &str, want: Inline) {
 
 // Whether words of its line call.
 fn check_parsed(rt: &impl Abort, name: &str, want: bool) {
-    assert!(rt; is_parsed(name.as_bytes()) == want, "parsed: {name}");
+    let parsed = match row_of(name.as_bytes()) {
+        Some(row) => row.is_parsed,
+        None => false,
+    };
+    assert!(rt; parsed == want, "parsed: {name}");
 }
 
 fn check_line(rt: &impl Abort, name: &str, want: LineMacro) {
-    let begins = match line_macro(name.as_bytes()) {
-        Some(line) => line == want,
+    let begins = match row_of(name.as_bytes()) {
+        Some(row) => row.begins == want,
         None => false,
     };
     assert!(rt; begins, "begun by {name}");
@@ -234,7 +238,7 @@ fn check_all_uncalled(rt: &impl Abort, names: &[&str]) {
 
 fn check_no_macro(rt: &impl Abort, name: &str) {
     check_uncalled(rt, name);
-    assert!(rt; line_macro(name.as_bytes()).is_none(), "begun by {name}");
+    assert!(rt; row_of(name.as_bytes()).is_none(), "begun by {name}");
     check_parsed(rt, name, false);
 }
 

@@ -7,10 +7,10 @@ use arrayvec::ArrayVec;
 use page_core_base::{Font, LINE, NoteKind, Taken};
 use page_roff_syntax::Argument;
 use page_sets_lines::{
-    Block, BlockCloser, BlockOpener, Closer, Event, EventKind, EventTaker, GeneratedWord, Join,
-    Leaf, LineStep, Opener, Role, SynopsisStep, Word, find_name, name_place,
+    Block, BlockCloser, BlockOpener, Closer, ControlLine, Event, EventKind, EventTaker,
+    GeneratedWord, Join, Leaf, LineStep, Opener, Role, SynopsisStep, Word,
 };
-use page_sets_mdoc_lines::{Cursor, LineMacro, find_words, is_parsed, line_macro};
+use page_sets_mdoc_lines::{Cursor, LineMacro, find_words, row_of};
 use page_sets_mdoc_words::{MacroName, give_macro};
 
 pub type Shown = ArrayVec<u8, 500>;
@@ -185,16 +185,19 @@ impl<'a> EventTaker<'a> for ShownEvents {
 fn show(shown: &mut ShownEvents, first: bool, line: Taken<'_>)
     requires { length line.text.now ≤ LINE }
 {
-    let span = find_name(line);
-    let text = &line.text[span.start..span.end];
-    if let Some(LineMacro::Inline(inline)) = line_macro(text) {
+    let line = ControlLine::new(line);
+    let text = line.text();
+    let Some(row) = row_of(line.name()) else {
+        return;
+    };
+    if let LineMacro::Inline(inline) = row.begins {
         let name = MacroName {
-            place: name_place(line),
-            text,
+            place: line.name_place(),
+            text: line.name(),
         };
-        let cursor = Cursor::new(line.text, span.end);
-        let words = find_words(line.text, Some(inline), cursor, is_parsed(text));
-        give_macro(shown, first, name, inline, line.text, words);
+        let cursor = Cursor::new(text, line.name_end());
+        let (words, _) = find_words(text, Some(inline), cursor, row.is_parsed);
+        give_macro(shown, first, name, inline, text, words);
     }
 }
 

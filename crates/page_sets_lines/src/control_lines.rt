@@ -3,28 +3,20 @@
 ghost use Rattle.std.specs.Prelude.{◌≡◌, ◌≤◌, ◌==◌, length, IfSome};
 ghost use Rattle.std.specs.List.{list_any};
 ghost use Rattle.page_core_base.specs.LinesTaken.{line_view};
-ghost use Rattle.page_roff_syntax.specs.Arguments.{argument_view};
+ghost use Rattle.page_roff_syntax.specs.Arguments.{argument_view, has_arguments};
 ghost use Rattle.page_sets_lines.specs.Events.{given_view};
 ghost use Rattle.page_sets_lines.specs.Fits.{ArgumentFits, GivenFits};
-ghost use Rattle.page_sets_lines.specs.ControlLines.{before_name, name_end, name_place, arguments_after, first_of, is_quote, open_quote, ReadsAfter};
+ghost use Rattle.page_sets_lines.specs.ControlLines.{before_name, name_end, name_of, name_place, is_nameless, rest_of, arguments_after, first_of, is_quote, open_quote, ReadsAfter};
 
 use page_core_base::{LINE, Place, Taken};
-use page_roff_syntax::{Argument, Arguments, Quoting, read_argument, white_len};
+use page_roff_syntax::{Argument, Arguments, Quoting, has_arguments, read_argument, white_len};
+use std::marker::Model;
 
-/// Where the name of a control line begins and ends, in bytes.
+// Where the name of a control line begins and ends, in bytes.
 #[derive(Clone, Copy)]
-pub struct NameSpan {
-    pub start: usize,
-    pub end: usize,
-}
-
-impl NameSpan {
-    /// Whether it has no byte.
-    pub fn is_empty(self) -> bool
-        ensures { result ≡ (self.start == self.end) }
-    {
-        self.start == self.end
-    }
+struct NameSpan {
+    start: usize,
+    end: usize,
 }
 
 // The bytes before the name of a control line.
@@ -38,8 +30,8 @@ fn before_name(text: &[u8]) -> usize
     }
 }
 
-/// Finds the name of a control line.
-pub fn find_name(line: Taken<'_>) -> NameSpan
+// Finds the name of a control line.
+fn find_name(line: Taken<'_>) -> NameSpan
     ensures start { result.start ≡ before_name line.entry.text.now }
     ensures end { result.end ≡ name_end (line_view line.entry) }
     ensures within { (result.start ≤ result.end) × (result.end ≤ length line.entry.text.now) }
@@ -52,14 +44,133 @@ pub fn find_name(line: Taken<'_>) -> NameSpan
     }
 }
 
-/// Where the name of a control line is.
-pub fn name_place(line: Taken<'_>) -> Place
-    requires { length line.text.now ≤ LINE }
-    ensures { result ≡ name_place (line_view line.entry) }
-{
-    Place {
-        line: line.line,
-        column: before_name(line.text) as u32 + 1,
+/// A control line, whose name is found once. Contracts see the line.
+#[derive(Drop)]
+pub struct ControlLine<'a> {
+    line: Taken<'a>,
+    name: NameSpan,
+}
+
+impl<'a> Model for ControlLine<'a> {
+    ghost use Rattle.page_core_base.specs.LinesTaken.{Line};
+
+    ghost Value = { Line };
+
+    ghost use Rattle.std.specs.Prelude.{◌≡◌, ◌≤◌, length};
+    ghost use Rattle.page_core_base.specs.LinesTaken.{line_view};
+    ghost use Rattle.page_core_base.specs.declared.limits.TheConstants.{LINE};
+    ghost use Rattle.page_sets_lines.specs.ControlLines.{before_name, name_end};
+
+    ghost view = { λ c. line_view c.line };
+
+    ghost invariant = { λ c. (length c.line.text.now ≤ LINE)
+        × (c.name.start ≡ before_name c.line.text.now)
+        × (c.name.end ≡ name_end (line_view c.line))
+        × (c.name.start ≤ c.name.end)
+        × (c.name.end ≤ length c.line.text.now) };
+}
+
+impl<'a> ControlLine<'a> {
+    /// Finds the name of a line.
+    pub fn new(line: Taken<'a>) -> ControlLine<'a>
+        requires { length line.text.now ≤ LINE }
+        ensures { result ≡ line_view line.entry }
+    {
+        ControlLine {
+            line,
+            name: find_name(line),
+        }
+    }
+
+    /// It has no more bytes than a line may have.
+    pub fn len_law(&self)
+        ensures { length self.now.text ≤ LINE }
+    {
+        let _ = &self.line;
+    }
+
+    /// The whole line, with its name.
+    pub fn text(&self) -> &'a [u8]
+        ensures text { result.now ≡ self.now.text }
+        ensures short { length self.now.text ≤ LINE }
+    {
+        self.line.text
+    }
+
+    /// The number of its source line.
+    pub fn number(&self) -> u32
+        ensures { result ≡ self.now.number }
+    {
+        self.line.line
+    }
+
+    /// Whether its name has no byte.
+    pub fn is_nameless(&self) -> bool
+        ensures { result ≡ is_nameless self.now }
+    {
+        self.name.start == self.name.end
+    }
+
+    /// Its name.
+    pub fn name(&self) -> &'a [u8]
+        ensures { result.now ≡ name_of self.now }
+    {
+        &self.line.text[self.name.start..self.name.end]
+    }
+
+    /// Where its name is.
+    pub fn name_place(&self) -> Place
+        ensures { result ≡ name_place self.now }
+    {
+        Place {
+            line: self.line.line,
+            column: self.name.start as u32 + 1,
+        }
+    }
+
+    /// How many bytes there are up to the end of its name; arguments begin after them.
+    pub fn name_end(&self) -> usize
+        ensures end { result ≡ name_end self.now }
+        ensures within { result ≤ length self.now.text }
+    {
+        self.name.end
+    }
+
+    /// What comes after its name.
+    pub fn rest(&self) -> &'a [u8]
+        ensures rest { result.now ≡ rest_of self.now }
+        ensures short { length result.now ≤ LINE }
+    {
+        &self.line.text[self.name.end..]
+    }
+
+    /// Its arguments.
+    pub fn arguments(&self) -> Arguments<'a>
+        ensures { result ≡ arguments_after (name_end self.now) self.now.text }
+    {
+        arguments_after(self.line.text, self.name.end)
+    }
+
+    /// Whether it has an argument.
+    pub fn has_arguments(&self) -> bool
+        ensures { result ≡ has_arguments (rest_of self.now) }
+    {
+        has_arguments(self.rest())
+    }
+
+    /// Its first argument, if it has one.
+    pub fn first_argument(&self) -> Option<Argument<&'a [u8]>>
+        ensures first { given_view result ≡ first_of (arguments_after (name_end self.now) self.now.text) }
+        ensures fits { GivenFits (given_view result) }
+    {
+        first_of(self.line.text, self.name.end)
+    }
+
+    /// The column of the quote of an argument that lacks its last one, where no argument is printed.
+    pub fn missing_quote(&self) -> Option<u32>
+        ensures { result ≡ open_quote 0 (arguments_after (name_end self.now) self.now.text) }
+    {
+        open_quote(self.line.text, self.name.end, 0)
     }
 }
 

@@ -2,7 +2,7 @@
 //! which all sets give the same events.
 //!
 //! A finished line of roff comes in, its events go out to the scopes. Read `src/events.rt` first (what an event is), then
-//! `src/macro_sets.rt` (what a set must keep to).
+//! `src/macro_sets.rt` (what a set must keep to). A control line goes through a set as a `ControlLine`, whose name is found once.
 //!
 //! Proved: `MacroSet`: the events of a line are those of the set's own table; each text is a slice of its line, words are in order, and a line
 //! gives at most two events a byte and two (`specs/Laws.antt`). `MacroSet::give` gives them in this order to an `EventOut`; its default body pulls
@@ -22,7 +22,7 @@ mod plain_lines;
 mod requests;
 
 pub use blocks::{Block, BlockCloser, BlockOpener};
-pub use control_lines::{NameSpan, find_name, first_of, name_place, open_quote, read_after};
+pub use control_lines::{ControlLine, first_of, open_quote, read_after};
 pub use event_outs::{EventOut, EventTaker, Handed, Nth};
 pub use events::{
     Event, EventKind, Join, Role, Word, event_at, generated_word, line_start, word_event,

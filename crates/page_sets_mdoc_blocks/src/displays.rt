@@ -1,18 +1,17 @@
 //! What the arguments of `Bd` and `Bf` say (mdoc(7), `Bd` and `Bf`).
 
-ghost use Rattle.std.specs.Prelude.{◌≡◌, ◌≤◌, ◌||◌, length};
+ghost use Rattle.std.specs.Prelude.{◌≡◌, ◌||◌};
 ghost use Rattle.std.specs.Str.{bytes_eq};
-ghost use Rattle.page_core_base.specs.LinesTaken.{line_view};
 ghost use Rattle.page_roff_syntax.specs.Arguments.{argument_view};
 ghost use Rattle.page_sets_lines.specs.Events.{block_opener_view};
 ghost use Rattle.page_sets_mdoc_blocks.specs.Displays as displays;
 ghost use Rattle.page_sets_mdoc_blocks.specs.Displays.{options_view};
 ghost use Rattle.page_sets_mdoc_blocks.specs.Fronts.{line_arguments, first_text};
 
-use crate::line_arguments::{arguments_of, first_text};
-use page_core_base::{Font, LINE, Taken};
+use crate::line_arguments::first_text;
+use page_core_base::Font;
 use page_roff_syntax::Argument;
-use page_sets_lines::BlockOpener;
+use page_sets_lines::{BlockOpener, ControlLine};
 
 /// What arguments of `Bd` say; `W` is a text.
 #[derive(Drop)]
@@ -65,11 +64,10 @@ fn read_option<'a>(options: &mut DisplayOptions<&'a [u8]>, word: Argument<&'a [u
 }
 
 // What all arguments of a line say.
-fn read_options<'a>(line: Taken<'a>) -> DisplayOptions<&'a [u8]>
-    requires { length line.text.now ≤ LINE }
-    ensures { options_view result ≡ displays.options_after displays.no_options (line_arguments (line_view line.entry)) }
+fn read_options<'a>(line: &ControlLine<'a>) -> DisplayOptions<&'a [u8]>
+    ensures { options_view result ≡ displays.options_after displays.no_options (line_arguments line.now) }
 {
-    let mut arguments = arguments_of(line);
+    let mut arguments = line.arguments();
     let mut options = DisplayOptions {
         is_literal: None,
         is_compact: false,
@@ -83,9 +81,8 @@ fn read_options<'a>(line: Taken<'a>) -> DisplayOptions<&'a [u8]>
 }
 
 /// The display that `Bd` opens in a line.
-pub(crate) fn display_of<'a>(line: Taken<'a>) -> BlockOpener<&'a [u8]>
-    requires { length line.text.now ≤ LINE }
-    ensures { block_opener_view result ≡ displays.display (line_arguments (line_view line.entry)) }
+pub(crate) fn display_of<'a>(line: &ControlLine<'a>) -> BlockOpener<&'a [u8]>
+    ensures { block_opener_view result ≡ displays.display (line_arguments line.now) }
 {
     let options = read_options(line);
     BlockOpener::Display {
@@ -112,9 +109,8 @@ fn font_named(word: &[u8]) -> Option<Font>
 }
 
 /// The font of `Bf` in a line, where its first argument names one.
-pub(crate) fn first_font(line: Taken<'_>) -> Option<Font>
-    requires { length line.text.now ≤ LINE }
-    ensures { result ≡ displays.given_font (first_text (line_view line.entry)) }
+pub(crate) fn first_font(line: &ControlLine<'_>) -> Option<Font>
+    ensures { result ≡ displays.given_font (first_text line.now) }
 {
     font_named(first_text(line)?)
 }

@@ -1,30 +1,28 @@
 //! What a macro that begins a line does before its words, given event after event (mdoc(7), "MACRO REFERENCE").
 
-ghost use Rattle.std.specs.Prelude.{◌≡◌, ◌≤◌, [], ◌∷◌, ◌++◌, false, length, unwrap_or};
-ghost use Rattle.page_core_base.specs.LinesTaken.{line_view};
+ghost use Rattle.std.specs.Prelude.{◌≡◌, [], ◌∷◌, ◌++◌, false, unwrap_or};
 ghost use Rattle.page_core_base.specs.Latches.{Came};
 ghost use Rattle.page_sets_lines.specs.Events.{event_view, kind_view, opener_view, block_opener_view, block_closer_view};
 ghost use Rattle.page_sets_lines.specs.Fits.{BlockCloserFits, BlockOpenerFits, IsShortKind, OpenerFits};
 ghost use Rattle.page_sets_mdoc_blocks.specs.Fronts as fronts;
 
 use crate::displays::{display_of, first_font};
-use crate::line_arguments::{first_text, has_real_word, is_first_quoted, missing_quote};
+use crate::line_arguments::{first_text, has_real_word, is_first_quoted};
 use crate::lists::{list_note, list_of};
 use crate::sentences::{option_quote, spacing_of};
-use page_core_base::{LINE, NoteKind, Place, Taken};
+use page_core_base::{NoteKind, Place};
 use page_roff_syntax::LayoutRequest;
 use page_sets_lines::{
-    BlockCloser, BlockOpener, Closer, Event, EventKind, EventTaker, HeadingName, Leaf, LineOpener,
-    LineStep, Opener, event_at, find_name, first_of, name_place, with_argument,
+    BlockCloser, BlockOpener, Closer, ControlLine, Event, EventKind, EventTaker, HeadingName, Leaf,
+    LineOpener, LineStep, Opener, event_at, with_argument,
 };
 use page_sets_mdoc_lines::{Block, LineMacro};
 
 // An event at the name of the macro that begins a line.
-fn at_name<'a>(line: Taken<'_>, kind: EventKind<&'a [u8]>) -> Event<&'a [u8]>
-    requires { length line.text.now ≤ LINE }
-    ensures { event_view result ≡ fronts.at_name (line_view line.entry) (kind_view kind.entry) }
+fn at_name<'a>(line: &ControlLine<'_>, kind: EventKind<&'a [u8]>) -> Event<&'a [u8]>
+    ensures { event_view result ≡ fronts.at_name line.now (kind_view kind.entry) }
 {
-    event_at(name_place(line), kind)
+    event_at(line.name_place(), kind)
 }
 
 // The message about a quote.
@@ -62,9 +60,8 @@ fn give_quote<'a, O: EventTaker<'a>>(
 }
 
 // The detail of a message about the arguments of a line.
-fn note_detail<'a>(kind: NoteKind, line: Taken<'a>) -> &'a [u8]
-    requires { length line.text.now ≤ LINE }
-    ensures { result.now ≡ fronts.note_detail kind (line_view line.entry) }
+fn note_detail<'a>(kind: NoteKind, line: &ControlLine<'a>) -> &'a [u8]
+    ensures { result.now ≡ fronts.note_detail kind line.now }
 {
     match kind {
         NoteKind::UnknownFont => first_text(line).unwrap_or(&[]),
@@ -73,9 +70,8 @@ fn note_detail<'a>(kind: NoteKind, line: Taken<'a>) -> &'a [u8]
 }
 
 // Whether the detail of a message about the arguments of a line is that of a quoted one.
-fn note_is_quoted(kind: NoteKind, line: Taken<'_>) -> bool
-    requires { length line.text.now ≤ LINE }
-    ensures { result ≡ fronts.note_is_quoted kind (line_view line.entry) }
+fn note_is_quoted(kind: NoteKind, line: &ControlLine<'_>) -> bool
+    ensures { result ≡ fronts.note_is_quoted kind line.now }
 {
     match kind {
         NoteKind::UnknownFont => is_first_quoted(line),
@@ -84,9 +80,8 @@ fn note_is_quoted(kind: NoteKind, line: Taken<'_>) -> bool
 }
 
 // A message about the arguments of a line, if there is one; it may begin the body of the page.
-fn give_note<'a, O: EventTaker<'a>>(out: &mut O, line: Taken<'a>, kind: Option<NoteKind>)
-    requires { length line.text.now ≤ LINE }
-    ensures { Came O.left out.old (fronts.note_events (line_view line.entry) kind) out.new }
+fn give_note<'a, O: EventTaker<'a>>(out: &mut O, line: &ControlLine<'a>, kind: Option<NoteKind>)
+    ensures { Came O.left out.old (fronts.note_events line.now kind) out.new }
 {
     if let Some(kind) = kind {
         let kind = EventKind::Note {
@@ -101,11 +96,11 @@ fn give_note<'a, O: EventTaker<'a>>(out: &mut O, line: Taken<'a>, kind: Option<N
 
 // What a block of lines opens with.
 #[tactic(auto, using(crate::proofs::FrontLemmas::opens_fit))]
-fn opener_of<'a>(block: Block, line: Taken<'a>) -> BlockOpener<&'a [u8]>
-    requires { length line.text.now ≤ LINE }
-    ensures opener { block_opener_view result ≡ fronts.opener_of block (line_view line.entry) }
+fn opener_of<'a>(block: Block, line: &ControlLine<'a>) -> BlockOpener<&'a [u8]>
+    ensures opener { block_opener_view result ≡ fronts.opener_of block line.now }
     ensures fits { BlockOpenerFits (block_opener_view result) }
 {
+    line.len_law();
     match block {
         Block::List => list_of(line),
         Block::Display => display_of(line),
@@ -130,9 +125,8 @@ fn closer_of<'a>(block: Block) -> BlockCloser<&'a [u8]>
 }
 
 // The message about the arguments of a block.
-fn block_note(block: Block, line: Taken<'_>) -> Option<NoteKind>
-    requires { length line.text.now ≤ LINE }
-    ensures { result ≡ fronts.block_note block (line_view line.entry) }
+fn block_note(block: Block, line: &ControlLine<'_>) -> Option<NoteKind>
+    ensures { result ≡ fronts.block_note block line.now }
 {
     match block {
         Block::List => list_note(line),
@@ -142,22 +136,24 @@ fn block_note(block: Block, line: Taken<'_>) -> Option<NoteKind>
 }
 
 // A macro that prints none of its arguments: the message about a quote, and then what it does.
-fn give_quoted<'a, O: EventTaker<'a>>(out: &mut O, line: Taken<'a>, kind: EventKind<&'a [u8]>)
-    requires short { length line.text.now ≤ LINE }
+fn give_quoted<'a, O: EventTaker<'a>>(
+    out: &mut O,
+    line: &ControlLine<'a>,
+    kind: EventKind<&'a [u8]>,
+)
     requires fits { IsShortKind (kind_view kind) }
-    ensures { Came O.left out.old (fronts.missing_quote false (line_view line.entry)
-        ++ (fronts.at_name (line_view line.entry) (kind_view kind.entry) ∷ [])) out.new }
+    ensures { Came O.left out.old (fronts.missing_quote false line.now
+        ++ (fronts.at_name line.now (kind_view kind.entry) ∷ [])) out.new }
 {
-    give_quote(out, line.line, false, missing_quote(line));
+    give_quote(out, line.number(), false, line.missing_quote());
     out.give(at_name(line, kind));
 }
 
 // A block of lines begins.
-fn give_begin<'a, O: EventTaker<'a>>(out: &mut O, block: Block, line: Taken<'a>)
-    requires { length line.text.now ≤ LINE }
-    ensures { Came O.left out.old (fronts.begin_front block (line_view line.entry)) out.new }
+fn give_begin<'a, O: EventTaker<'a>>(out: &mut O, block: Block, line: &ControlLine<'a>)
+    ensures { Came O.left out.old (fronts.begin_front block line.now) out.new }
 {
-    give_quote(out, line.line, true, missing_quote(line));
+    give_quote(out, line.number(), true, line.missing_quote());
     give_note(out, line, block_note(block, line));
     let kind = EventKind::Open(Opener::Block(opener_of(block, line)));
     out.give(at_name(line, kind));
@@ -175,10 +171,9 @@ fn heading_opener<'a>(name: HeadingName) -> Opener<&'a [u8]>
 }
 
 // A field of a reference: one without a word is refused.
-fn give_field<'a, O: EventTaker<'a>>(out: &mut O, line: Taken<'a>)
-    requires { length line.text.now ≤ LINE }
+fn give_field<'a, O: EventTaker<'a>>(out: &mut O, line: &ControlLine<'a>)
     ensures { Came O.left out.old
-        (fronts.field_front (fronts.has_real_word (line_view line.entry)) (line_view line.entry)) out.new }
+        (fronts.field_front (fronts.has_real_word line.now) line.now) out.new }
 {
     if has_real_word(line) {
         out.give(at_name(line, EventKind::Leaf(Leaf::Step(LineStep::NextField))));
@@ -188,10 +183,9 @@ fn give_field<'a, O: EventTaker<'a>>(out: &mut O, line: Taken<'a>)
 }
 
 // A file of declarations: one without a word is refused.
-fn give_include<'a, O: EventTaker<'a>>(out: &mut O, line: Taken<'a>)
-    requires { length line.text.now ≤ LINE }
+fn give_include<'a, O: EventTaker<'a>>(out: &mut O, line: &ControlLine<'a>)
     ensures { Came O.left out.old
-        (fronts.include_front (fronts.has_real_word (line_view line.entry)) (line_view line.entry)) out.new }
+        (fronts.include_front (fronts.has_real_word line.now) line.now) out.new }
 {
     if !has_real_word(line) {
         give_refusal(out, NoteKind::EmptyMacro, line);
@@ -199,25 +193,22 @@ fn give_include<'a, O: EventTaker<'a>>(out: &mut O, line: Taken<'a>)
 }
 
 // What the first argument of `Sm` says.
-fn give_spacing<'a, O: EventTaker<'a>>(out: &mut O, line: Taken<'a>)
-    requires { length line.text.now ≤ LINE }
-    ensures { Came O.left out.old (fronts.spacing_front (line_view line.entry)) out.new }
+fn give_spacing<'a, O: EventTaker<'a>>(out: &mut O, line: &ControlLine<'a>)
+    ensures { Came O.left out.old (fronts.spacing_front line.now) out.new }
 {
-    give_quote(out, line.line, false, missing_quote(line));
+    give_quote(out, line.number(), false, line.missing_quote());
     if let Some(on) = spacing_of(first_text(line)) {
         out.give(at_name(line, EventKind::Leaf(Leaf::Step(LineStep::Spacing(on)))));
     }
 }
 
 /// Gives a message that names the macro of a line.
-pub fn give_refusal<'a, O: EventTaker<'a>>(out: &mut O, kind: NoteKind, line: Taken<'a>)
-    requires { length line.text.now ≤ LINE }
-    ensures { Came O.left out.old (fronts.refusal kind (line_view line.entry) ∷ []) out.new }
+pub fn give_refusal<'a, O: EventTaker<'a>>(out: &mut O, kind: NoteKind, line: &ControlLine<'a>)
+    ensures { Came O.left out.old (fronts.refusal kind line.now ∷ []) out.new }
 {
-    let name = find_name(line);
     let kind = EventKind::Note {
         kind,
-        detail: &line.text[name.start..name.end],
+        detail: line.name(),
         is_quoted: false,
         begins_body: false,
     };
@@ -225,28 +216,32 @@ pub fn give_refusal<'a, O: EventTaker<'a>>(out: &mut O, kind: NoteKind, line: Ta
 }
 
 /// Gives what a request that changes rows does in a line.
-pub fn give_request<'a, O: EventTaker<'a>>(out: &mut O, request: LayoutRequest, line: Taken<'a>)
-    requires { length line.text.now ≤ LINE }
-    ensures { Came O.left out.old (fronts.request_front request (line_view line.entry)) out.new }
+pub fn give_request<'a, O: EventTaker<'a>>(
+    out: &mut O,
+    request: LayoutRequest,
+    line: &ControlLine<'a>,
+)
+    ensures { Came O.left out.old (fronts.request_front request line.now) out.new }
 {
-    let given = first_of(line.text, find_name(line).end);
     give_quoted(
         out,
         line,
-        EventKind::Leaf(Leaf::Request(with_argument(request, given))),
+        EventKind::Leaf(Leaf::Request(with_argument(request, line.first_argument()))),
     );
 }
 
 /// Gives what a macro does in a line that it begins, before its words.
-pub fn give_front<'a, O: EventTaker<'a>>(out: &mut O, begins: LineMacro, line: Taken<'a>)
-    requires { length line.text.now ≤ LINE }
-    ensures { Came O.left out.old (fronts.block_front begins (line_view line.entry)) out.new }
+pub fn give_front<'a, O: EventTaker<'a>>(out: &mut O, begins: LineMacro, line: &ControlLine<'a>)
+    ensures { Came O.left out.old (fronts.block_front begins line.now) out.new }
 {
     match begins {
         LineMacro::Inline(_) => {}
         LineMacro::Prologue(name) => {
-            let rest = &line.text[find_name(line).end..];
-            give_quoted(out, line, EventKind::Leaf(Leaf::Prologue(name, rest)));
+            give_quoted(
+                out,
+                line,
+                EventKind::Leaf(Leaf::Prologue(name, line.rest())),
+            );
         }
         LineMacro::Heading(name) => {
             out.give(at_name(line, EventKind::Open(heading_opener(name))));
@@ -274,9 +269,9 @@ pub fn give_front<'a, O: EventTaker<'a>>(out: &mut O, begins: LineMacro, line: T
             out.give(at_name(line, EventKind::LineScope(LineOpener::Head)));
         }
         LineMacro::Field(_) => give_field(out, line),
-        LineMacro::Sentence(_) => give_quote(out, line.line, true, option_quote(line)),
+        LineMacro::Sentence(_) => give_quote(out, line.number(), true, option_quote(line)),
         LineMacro::Include => give_include(out, line),
         LineMacro::Spacing => give_spacing(out, line),
-        LineMacro::Target => give_quote(out, line.line, false, missing_quote(line)),
+        LineMacro::Target => give_quote(out, line.number(), false, line.missing_quote()),
     }
 }

@@ -1,41 +1,37 @@
 //! The list that `Bl` opens, and what its arguments lack (mdoc(7), `Bl`).
 
-ghost use Rattle.std.specs.Prelude.{◌≡◌, ◌≤◌, length};
-ghost use Rattle.page_core_base.specs.LinesTaken.{line_view};
+ghost use Rattle.std.specs.Prelude.{◌≡◌};
 ghost use Rattle.page_sets_lines.specs.ControlLines.{rest_of};
 ghost use Rattle.page_sets_lines.specs.Events.{block_opener_view};
 ghost use Rattle.page_sets_lines.specs.Lists.{list_options, options_view};
 ghost use Rattle.page_sets_mdoc_blocks.specs.Fronts.{line_arguments};
 ghost use Rattle.page_sets_mdoc_blocks.specs.Lists as lists;
 
-use page_core_base::{LINE, NoteKind, Taken};
-use page_sets_lines::{BlockOpener, ListKind, ListOptions, find_name, read_list_options};
+use page_core_base::NoteKind;
+use page_sets_lines::{BlockOpener, ControlLine, ListKind, ListOptions, read_list_options};
 
 // What the arguments of a line say of a list.
-fn options_of<'a>(line: Taken<'a>) -> ListOptions<&'a [u8]>
-    requires { length line.text.now ≤ LINE }
-    ensures { options_view result ≡ list_options (line_arguments (line_view line.entry)) }
+fn options_of<'a>(line: &ControlLine<'a>) -> ListOptions<&'a [u8]>
+    ensures { options_view result ≡ list_options (line_arguments line.now) }
 {
-    read_list_options(line.text, find_name(line).end)
+    read_list_options(line.text(), line.name_end())
 }
 
 /// The list that `Bl` opens in a line.
-pub(crate) fn list_of<'a>(line: Taken<'a>) -> BlockOpener<&'a [u8]>
-    requires { length line.text.now ≤ LINE }
-    ensures { block_opener_view result ≡ lists.list_opener (list_options (line_arguments (line_view line.entry))) (rest_of (line_view line.entry)) }
+pub(crate) fn list_of<'a>(line: &ControlLine<'a>) -> BlockOpener<&'a [u8]>
+    ensures { block_opener_view result ≡ lists.list_opener (list_options (line_arguments line.now)) (rest_of line.now) }
 {
     let options = options_of(line);
     BlockOpener::List {
         kind: options.kind.unwrap_or(ListKind::Item),
         is_compact: options.is_compact,
-        options: &line.text[find_name(line).end..],
+        options: line.rest(),
     }
 }
 
 /// The message about what a list lacks: a type, or the width of its tags.
-pub(crate) fn list_note(line: Taken<'_>) -> Option<NoteKind>
-    requires { length line.text.now ≤ LINE }
-    ensures { result ≡ lists.list_note (list_options (line_arguments (line_view line.entry))) }
+pub(crate) fn list_note(line: &ControlLine<'_>) -> Option<NoteKind>
+    ensures { result ≡ lists.list_note (list_options (line_arguments line.now)) }
 {
     let options = options_of(line);
     match options.kind {

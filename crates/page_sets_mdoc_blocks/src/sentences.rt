@@ -1,15 +1,13 @@
 //! The option of sentences, and what `Sm` says (mdoc(7), "Ex", "Rv" and "Sm").
 
-ghost use Rattle.std.specs.Prelude.{◌≡◌, ◌≤◌, length};
-ghost use Rattle.page_core_base.specs.LinesTaken.{line_view};
+ghost use Rattle.std.specs.Prelude.{◌≡◌};
 ghost use Rattle.page_roff_syntax.specs.Arguments.{argument_view};
 ghost use Rattle.page_sets_lines.specs.ControlLines.{is_unclosed};
 ghost use Rattle.page_sets_lines.specs.Events.{text_view};
 ghost use Rattle.page_sets_mdoc_blocks.specs.Fronts as fronts;
 
-use page_core_base::{LINE, Taken};
 use page_roff_syntax::{Argument, Quoting};
-use page_sets_lines::{find_name, first_of};
+use page_sets_lines::ControlLine;
 
 /// Whether a word is the option of a sentence, `-std`.
 pub fn is_standard(word: Argument<&[u8]>) -> bool
@@ -26,11 +24,10 @@ fn is_unclosed(word: Argument<&[u8]>) -> bool
 }
 
 /// The column of the quote of that option, where it is the first argument of a line and lacks its last one.
-pub(crate) fn option_quote(line: Taken<'_>) -> Option<u32>
-    requires { length line.text.now ≤ LINE }
-    ensures { result ≡ fronts.option_quote (fronts.line_arguments (line_view line.entry)) }
+pub(crate) fn option_quote(line: &ControlLine<'_>) -> Option<u32>
+    ensures { result ≡ fronts.option_quote (fronts.line_arguments line.now) }
 {
-    let word = first_of(line.text, find_name(line).end)?;
+    let word = line.first_argument()?;
     if is_standard(word) && is_unclosed(word) {
         Some(word.column.saturating_sub(1))
     } else {

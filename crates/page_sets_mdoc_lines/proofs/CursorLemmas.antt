@@ -1,6 +1,6 @@
 -- A cursor, one argument further on: helpers of proofs.
-use Rattle.std.proofs.Common.{◌≡◌, ℕ, ◌+◌, ◌-◌, ◌≤◌, List, [], length, take, drop, refl, ap, arith, length-drop}
-use Rattle.std.proofs.lemmas.List.{drop_all, take_all}
+use Rattle.std.proofs.Common.{◌≡◌, ℕ, ◌+◌, ◌≤◌, List, [], length, drop, refl, arith}
+use Rattle.std.proofs.lemmas.List.{drop_all}
 use Rattle.page_roff_syntax.specs.Arguments.{arguments}
 use Rattle.page_sets_mdoc_lines.specs.LineWords.{arguments_after}
 use Rattle.page_sets_mdoc_lines.proofs.FewLemmas.{few_arguments_after}
@@ -14,11 +14,6 @@ at_end text = no_arguments (length text + 1) (drop (length text) text) (drop_all
 
 pub none_at : (text : List ℕ) (start : ℕ) → start ≡ length text → arguments_after start text ≡ []
 none_at text start e = rw e (at_end text)
-
--- the arguments of what is left of a line
-pub arguments_to_end : (text : List ℕ) (start : ℕ) → arguments (start + 1) (take (length text - start) (drop start text)) ≡ arguments_after start text
-arguments_to_end text start =
-    ap (λ l. arguments (start + 1) l) (take_all (length text - start) (drop start text) (omega (arith, length-drop start text)))
 
 pub few_left : (text : List ℕ) (start : ℕ) → length text ≤ 65536 → length (arguments_after start text) ≤ 65536
 few_left text start h = omega (arith, few_arguments_after text start)

@@ -1,15 +1,17 @@
 -- The words of a macro: helpers of proofs.
-use Rattle.std.proofs.Common.{◌≡◌, ℕ, zero, suc, ◌+◌, ◌-◌, ◌≤◌, ◌==◌, Bool, true, false, ◌&&◌, List, [], ◌∷◌, length, take, drop, refl, sym, add-one, arith, Option, None, Some, if◌then◌else◌}
+use Rattle.std.proofs.Common.{◌≡◌, ℕ, zero, suc, ◌+◌, ◌-◌, ◌≤◌, ◌==◌, Bool, true, false, ◌&&◌, List, [], ◌∷◌, length, take, drop, refl, sym, ap, ◌∙◌, inl, inr, add-one, arith, Option, None, Some, if◌then◌else◌}
 use Rattle.std.specs.List.{list_any}
+use Rattle.std.proofs.lemmas.Bool.{both_ways, cases_Bool}
 use Rattle.std.proofs.lemmas.List.{drop-take, take-take, take_all}
 use Rattle.page_roff_syntax.specs.declared.quotes.Argument.{Argument}
 use Rattle.page_sets_mdoc_lines.specs.declared.macros.Inline.{Inline}
 use Rattle.page_sets_mdoc_lines.specs.declared.word_spans.WordSpan.{WordSpan}
-use Rattle.page_sets_mdoc_lines.specs.LineWords.{arguments_after, is_closing, is_real, takes_next}
-use Rattle.page_sets_mdoc_lines.specs.Parts.{span_of, front_len, parts, rest_parts}
+use Rattle.page_sets_mdoc_lines.specs.LineWords.{arguments_after, is_closing, is_real, takes_next, word_call}
+use Rattle.page_sets_mdoc_lines.specs.Parts.{Call, LineParts, call_first, front_len, has_calls, if_parsed, is_something, parts, parts_arguments, rest_parts, span_of, tail_alone}
 use Rattle.page_sets_mdoc_lines.specs.Words.{TakesWord, inside, outside, taken_onto}
 use Rattle.page_sets_mdoc_lines.proofs.CursorLemmas.{few_left}
-use Rattle.page_sets_mdoc_lines.proofs.PartLemmas.{none_taken, rest_goes_on, words_taken}
+use Rattle.page_sets_mdoc_lines.proofs.PartLemmas.{none_taken, rest_goes_on, whole, words_taken}
+use Rattle.page_sets_mdoc_lines.proofs.WordSpanLemmas.{closing_calls}
 
 pub take_first : {A : Type 0} → (n : ℕ) (words : List A) (word : A) (others : List A) → words ≡ word ∷ others → 1 ≤ n
     → take n words ≡ word ∷ take (n - 1) others
@@ -105,8 +107,48 @@ pub onto_words : (parsed : Bool) (others : List (Argument (List ℕ))) (taken : 
 onto_words parsed others None span e = rw e (words_taken parsed others)
 onto_words parsed others (Some word) span e = rw e (words_taken parsed others)
 
-pub onto_rest : (parsed : Bool) (others after : List (Argument (List ℕ))) (taken : Option (Argument (List ℕ))) (span : WordSpan)
-    → span ≡ span_of (parts None parsed others) → after ≡ drop span.words others
-    → parts None true after ≡ rest_parts (taken_onto taken (parts None parsed others))
-onto_rest parsed others after None span e a = rw (a, e) (rest_goes_on parsed others)
-onto_rest parsed others after (Some word) span e a = rw (a, e) (rest_goes_on parsed others)
+pub onto_rest : (p : LineParts) (taken : Option (Argument (List ℕ))) → rest_parts p ≡ rest_parts (taken_onto taken p)
+onto_rest p None = refl
+onto_rest p (Some word) = refl
+
+-- ---- what comes after a macro's words
+
+no_calls : (calls : List Call) → has_calls calls ≡ false → calls ≡ []
+no_calls [] h = refl
+no_calls (call ∷ calls) h = cc
+
+-- where no call follows, all that is left are the line's last delimiters
+pub tail_is : (parsed : Bool) (arguments after : List (Argument (List ℕ))) (span : WordSpan) → span ≡ span_of (parts None parsed arguments)
+    → span.follows ≡ false → after ≡ drop span.words arguments → tail_alone after ≡ rest_parts (parts None parsed arguments)
+tail_is parsed arguments after span e f a =
+    let p = parts None parsed arguments in
+    let left : after ≡ drop (length p.words) arguments = a ∙ ap (λ (s : WordSpan). drop s.words arguments) e in
+    let goes : parts None true after ≡ rest_parts p = rw left (rest_goes_on parsed arguments) in
+    let whole_rest : parts_arguments (rest_parts p) ≡ after = rw goes at (whole None true after) in
+    let none : p.calls ≡ [] = no_calls p.calls (sym (ap (λ (s : WordSpan). s.follows) e) ∙ f) in
+    let tail : p.tail ≡ after = rw none at whole_rest in
+    rw (none, tail) refl
+
+if_calls : (parsed : Bool) (call : Option Inline) (inline : Inline) → if_parsed parsed call ≡ Some inline → call ≡ Some inline
+if_calls true call inline h = h
+if_calls false call inline h = cc
+
+-- a word that calls is no closing delimiter
+call_open : (word : Argument (List ℕ)) (inline : Inline) → word_call word ≡ Some inline → is_closing word ≡ false
+call_open word inline calls =
+    elim (cases_Bool (is_closing word)) [
+      | inl closes ↦ absurd (both_ways _ (closing_calls true word closes) (ap is_something calls))
+      | inr other ↦ other
+    ]
+
+-- where a word calls, its macro is what comes next
+pub call_is : (parsed : Bool) (arguments : List (Argument (List ℕ))) (word : Argument (List ℕ)) (others : List (Argument (List ℕ))) (inline : Inline) (span : WordSpan)
+    → span ≡ span_of (parts None parsed arguments) → word ∷ others ≡ drop span.words arguments → if_parsed parsed (word_call word) ≡ Some inline
+    → call_first inline word (parts (Some inline) true others) ≡ rest_parts (parts None parsed arguments)
+call_is parsed arguments word others inline span e a c =
+    let p = parts None parsed arguments in
+    let left : word ∷ others ≡ drop (length p.words) arguments = a ∙ ap (λ (s : WordSpan). drop s.words arguments) e in
+    let calls : word_call word ≡ Some inline = if_calls parsed (word_call word) inline c in
+    let unclosed : is_closing word ≡ false = call_open word inline calls in
+    let first : parts None true (word ∷ others) ≡ call_first inline word (parts (Some inline) true others) = rw (unclosed, calls) refl in
+    sym first ∙ (ap (λ l. parts None true l) left ∙ rest_goes_on parsed arguments)

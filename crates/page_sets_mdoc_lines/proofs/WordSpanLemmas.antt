@@ -1,5 +1,5 @@
 -- A macro's own words, found in one pass: helpers of proofs.
-use Rattle.std.proofs.Common.{◌≡◌, ℕ, ◌+◌, ◌-◌, ◌==◌, Bool, true, false, ◌&&◌, ◌||◌, not, List, [], ◌∷◌, Option, None, Some, option_map, length, refl, sym, ap, ◌∙◌, arith, inl, inr, if◌then◌else◌}
+use Rattle.std.proofs.Common.{◌≡◌, ℕ, ◌+◌, ◌-◌, ◌==◌, Bool, true, false, ◌&&◌, ◌||◌, List, [], ◌∷◌, Option, None, Some, option_map, length, refl, sym, ap, ◌∙◌, arith, inl, inr, if◌then◌else◌}
 use Rattle.std.specs.List.{find, list_all, list_any}
 use Rattle.std.specs.Str.{bytes_eq}
 use Rattle.std.proofs.lemmas.Bool.{cases_Bool, and_parts, cond-false, both_ways}
@@ -264,6 +264,10 @@ pub word_passed : (closing call real : Argument (List ℕ) → Bool) (argument :
     → passed closing call real span (argument ∷ arguments) ≡ passed closing call real (one_word span (closing argument) (real argument)) arguments
 word_passed closing call real argument arguments span s = rw s refl
 
+pub call_passed : (closing call real : Argument (List ℕ) → Bool) (argument : Argument (List ℕ)) (arguments : List (Argument (List ℕ))) (span : WordSpan)
+    → call argument ≡ true → passed closing call real span (argument ∷ arguments) ≡ record span { follows = true }
+call_passed closing call real argument arguments span s = rw s refl
+
 -- what a turn makes of the numbers is one word more
 pub one_more : (closing real : Bool) (span middle last : WordSpan)
     → middle ≡ (if closing then span else record span { inside = span.words + 1 })
@@ -351,7 +355,7 @@ no_call_by : (quoted : Bool) (text : List ℕ) → closes (if quoted then None e
 no_call_by true text h = refl
 no_call_by false text h = no_name text h
 
-closing_calls : (parsed : Bool) (word : Argument (List ℕ)) → is_closing word ≡ true → is_call parsed word ≡ false
+pub closing_calls : (parsed : Bool) (word : Argument (List ℕ)) → is_closing word ≡ true → is_call parsed word ≡ false
 unfolding is_closing word_delimiter word_call
 closing_calls true word h = ap is_something (no_call_by (is_quoted word.quoting) word.text h)
 closing_calls false word h = refl

@@ -20,14 +20,14 @@ use Rattle.page_sets_mdoc_lines.specs.declared.blocks.Block.TheVariants as block
 use Rattle.page_sets_mdoc_lines.specs.declared.blocks.Sentence.TheVariants as sentences
 use Rattle.page_sets_mdoc_lines.specs.declared.blocks.LineMacro.{LineMacro}
 use Rattle.page_sets_mdoc_lines.specs.declared.blocks.LineMacro.TheVariants as lines
-use Rattle.page_sets_mdoc_lines.specs.declared.rows.Row.{Row}
+use Rattle.page_sets_mdoc_lines.specs.declared.rows.MacroRow.{MacroRow}
 
 -- a row of the table: a name, what it does where it begins a line, and the columns "Callable" and "Parsed"
-abbrev pub row : String → LineMacro → Bool → Bool → List ℕ × Row
+abbrev pub row : String → LineMacro → Bool → Bool → List ℕ × MacroRow
 row name begins callable parsed = (codes name, record { begins = begins; is_callable = callable; is_parsed = parsed })
 
 -- the table
-abbrev pub table : List (List ℕ × Row)
+abbrev pub table : List (List ℕ × MacroRow)
 table =
     row "Ar" (lines.Inline (inlines.Defaulted defaults.Files)) true true ∷
     row "Aq" (lines.Inline (inlines.Enclosure marks.Angle)) true true ∷
@@ -145,7 +145,7 @@ table =
     []
 
 -- the row of a name
-unfoldable pub row_of : List ℕ → Option Row
+unfoldable pub row_of : List ℕ → Option MacroRow
 row_of name = row_in table name
 
 -- what the macro of a name does where it begins a line

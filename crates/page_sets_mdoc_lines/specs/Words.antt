@@ -22,7 +22,7 @@ outside words = drop (front_len is_closing words) words
 -- they are in the line
 abbrev pub AreIn : List ℕ → MacroWords → Type 0
 AreIn text words =
-    IsCursorOf text words.all.cursor × IsCursorOf text words.inside.cursor × IsCursorOf text words.outside.cursor × IsCursorOf text words.rest
+    IsCursorOf text words.all.cursor × IsCursorOf text words.inside.cursor × IsCursorOf text words.outside.cursor
 
 -- what is known of them is so
 abbrev pub AreKnown : List ℕ → MacroWords → Type 0

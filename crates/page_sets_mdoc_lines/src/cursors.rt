@@ -1,15 +1,13 @@
 //! How far a line has been read (mdoc(7), "MACRO SYNTAX").
 
 ghost use Rattle.std.specs.Prelude.{◌≡◌, ◌≤◌, [], length, MatchBool, IfSome};
-ghost use Rattle.std.specs.List.{list_all};
 ghost use Rattle.page_roff_syntax.specs.Arguments.{ReadsNext, argument_view};
 ghost use Rattle.page_sets_lines.specs.Fits.{ArgumentFits};
-ghost use Rattle.page_sets_mdoc_lines.specs.LineWords.{arguments_after, is_closing};
+ghost use Rattle.page_sets_mdoc_lines.specs.LineWords.{arguments_after};
 ghost use Rattle.page_sets_mdoc_lines.specs.machine.Cursors.{IsCursorOf};
 
-use crate::line_words::is_closing;
 use page_core_base::LINE;
-use page_roff_syntax::{Argument, Arguments};
+use page_roff_syntax::Argument;
 use page_sets_lines::read_after;
 
 /// Where the arguments of a line begin that are still to be read, in bytes.
@@ -29,25 +27,10 @@ impl Cursor {
         Cursor { rest: start }
     }
 
-    /// Whether all that is left are closing delimiters. It reads up to the first that is none.
-    pub fn is_in_tail(self, text: &[u8]) -> bool
-        requires short { length text.now ≤ LINE }
-        requires within { IsCursorOf text.now self }
-        ensures { result ≡ list_all is_closing (arguments_after self.rest text.now) }
-    {
-        let mut arguments = Arguments::new(&text[self.rest..], self.rest as u32 + 1);
-        while let Some(argument) = arguments.next_argument() {
-            if !is_closing(argument) {
-                return false;
-            }
-        }
-        true
-    }
-
-    /// Whether it is at the end of the line's text. Then no argument is left; where blanks end the text, none may be left before
-    /// its end either.
+    // Whether it is at the end of the line's text. Then no argument is left; where blanks end the text, none may be left before its end
+    // either.
     #[tactic(auto, using(crate::proofs::CursorLemmas::none_at))]
-    pub fn is_at_end(self, text: &[u8]) -> bool
+    fn is_at_end(self, text: &[u8]) -> bool
         ensures { MatchBool result (arguments_after self.rest text.now ≡ []) (Unit {0}) }
     {
         self.rest == text.len()
@@ -61,6 +44,9 @@ impl Cursor {
         ensures fits { IfSome result (λ argument. ArgumentFits (argument_view argument)) }
         ensures next { ReadsNext (arguments_after self.old.rest text.now) result (arguments_after self.new.rest text.now) }
     {
+        if self.is_at_end(text) {
+            return None;
+        }
         let (argument, rest) = read_after(text, self.rest)?;
         self.rest = rest;
         Some(argument)

@@ -12,18 +12,18 @@ use page_sets_lines::{BodyParagraphName, HeadingName, Marks, OneLineName, Prolog
 /// A row of the table: what a macro does where it begins a line, and how it is to the macros that words call. The flags are columns of the
 /// summary in mdoc(7), "MACRO SYNTAX".
 #[derive(Clone, Copy)]
-pub(crate) struct Row {
-    pub(crate) begins: LineMacro,
+pub struct MacroRow {
+    pub begins: LineMacro,
     /// A word can call it: "Callable".
-    pub(crate) is_callable: bool,
+    pub is_callable: bool,
     /// Words of its line can call others: "Parsed".
-    pub(crate) is_parsed: bool,
+    pub is_parsed: bool,
 }
 
 // A macro that words can call, and that lets words of its line call others.
 macro_rules! callable {
     ($inline:expr) => {
-        Row {
+        MacroRow {
             begins: LineMacro::Inline($inline),
             is_callable: true,
             is_parsed: true,
@@ -34,7 +34,7 @@ macro_rules! callable {
 // A macro that no word can call, and that lets words of its line call others.
 macro_rules! parsed {
     ($begins:expr) => {
-        Row {
+        MacroRow {
             begins: $begins,
             is_callable: false,
             is_parsed: true,
@@ -45,7 +45,7 @@ macro_rules! parsed {
 // A macro that no word can call, in whose line no word calls.
 macro_rules! unparsed {
     ($begins:expr) => {
-        Row {
+        MacroRow {
             begins: $begins,
             is_callable: false,
             is_parsed: false,
@@ -53,18 +53,11 @@ macro_rules! unparsed {
     };
 }
 
-// The row of a name.
-fn row_of(name: &[u8]) -> Option<Row>
+/// The row of a name, if it is that of a macro.
+pub fn row_of(name: &[u8]) -> Option<MacroRow>
     ensures { result ≡ rows.row_of name.now }
 {
     row_named(list_for(&MACROS, name), name)
-}
-
-/// What the macro of a name does where it begins a line.
-pub fn line_macro(name: &[u8]) -> Option<LineMacro>
-    ensures { result ≡ rows.line_macro name.now }
-{
-    Some(row_of(name)?.begins)
 }
 
 /// What a word of a line calls, if it names a macro that words can call ("Callable").
@@ -78,18 +71,8 @@ pub fn called(name: &[u8]) -> Option<Inline>
     }
 }
 
-/// Whether words of the line that a macro begins can call others ("Parsed").
-pub fn is_parsed(name: &[u8]) -> bool
-    ensures { result ≡ rows.is_parsed name.now }
-{
-    match row_of(name) {
-        Some(row) => row.is_parsed,
-        None => false,
-    }
-}
-
 // The table: the names by their first letter. The place of a list is its letter's number: from 1 for `A`, and 37 for `%`.
-static MACROS: [&[(&[u8], Row)]; 38] = [
+static MACROS: [&[(&[u8], MacroRow)]; 38] = [
     &[],
     &[
         (b"Ar", callable!(Inline::Defaulted(Defaulted::Files))),

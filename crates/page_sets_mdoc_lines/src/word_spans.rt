@@ -2,12 +2,15 @@
 
 ghost use Rattle.std.specs.Prelude.{◌≡◌, ◌≤◌, length, drop, None};
 ghost use Rattle.page_roff_syntax.specs.Arguments.{argument_view};
-ghost use Rattle.page_sets_mdoc_lines.specs.LineWords.{arguments_after};
-ghost use Rattle.page_sets_mdoc_lines.specs.Parts.{parts, span_of, is_call};
+ghost use Rattle.page_sets_mdoc_lines.specs.LineWords.{arguments_after, word_call};
+ghost use Rattle.page_sets_mdoc_lines.specs.Parts.{parts, span_of, if_parsed, rest_parts};
 ghost use Rattle.page_sets_mdoc_lines.specs.machine.Cursors.{IsCursorOf};
+ghost use Rattle.page_sets_mdoc_lines.specs.Rests.{IsRestOf, rest_view};
 
 use crate::cursors::Cursor;
 use crate::line_words::{is_closing, is_real, word_call};
+use crate::macros::Inline;
+use crate::rests::{Call, Rest};
 use page_core_base::LINE;
 use page_roff_syntax::Argument;
 
@@ -24,34 +27,32 @@ pub struct WordSpan {
     pub follows: bool,
 }
 
-// Whether a word calls a macro, where words can.
-fn is_call(argument: Argument<&[u8]>, parsed: bool) -> bool
-    ensures { result ≡ is_call parsed (argument_view argument.entry) }
+// What a word calls, where words can.
+fn call_of(argument: Argument<&[u8]>, parsed: bool) -> Option<Inline>
+    ensures { result ≡ if_parsed parsed (word_call (argument_view argument.entry)) }
 {
-    parsed && word_call(argument).is_some()
+    if parsed { word_call(argument) } else { None }
 }
 
 // The span of a macro's words, and where the line goes on after them.
 #[derive(Clone, Copy)]
-pub(crate) struct Found {
+pub(crate) struct Found<'a> {
     pub(crate) span: WordSpan,
     // After the last of them that is no closing delimiter.
     pub(crate) outside: Cursor,
-    // After all of them.
-    pub(crate) rest: Cursor,
+    pub(crate) rest: Rest<'a>,
 }
 
 /// Finds the span of the words that a macro has from where a line has been read on, in one pass over them. In a line
 /// that is not parsed no word calls. Where none does, the closing delimiters at the end are the line's.
-pub(crate) fn find_span(text: &[u8], cursor: Cursor, parsed: bool) -> Found
+pub(crate) fn find_span(text: &[u8], cursor: Cursor, parsed: bool) -> Found<'_>
     requires short { length text.now ≤ LINE }
     requires within { IsCursorOf text.now cursor }
     ensures span { result.span ≡ span_of (parts None parsed (arguments_after cursor.rest text.now)) }
-    ensures stand { IsCursorOf text.now result.outside × IsCursorOf text.now result.rest }
+    ensures stand { IsCursorOf text.now result.outside × IsRestOf text.now result.rest }
     ensures outside { arguments_after result.outside.rest text.now
         ≡ drop result.span.inside (arguments_after cursor.rest text.now) }
-    ensures rest { arguments_after result.rest.rest text.now
-        ≡ drop result.span.words (arguments_after cursor.rest text.now) }
+    ensures rest { rest_view text.now result.rest ≡ rest_parts (parts None parsed (arguments_after cursor.rest text.now)) }
 {
     let mut span = WordSpan {
         words: 0,
@@ -60,18 +61,21 @@ pub(crate) fn find_span(text: &[u8], cursor: Cursor, parsed: bool) -> Found
         follows: false,
     };
     let mut ahead = cursor;
-    let mut rest = cursor;
     let mut outside = cursor;
     while let Some(argument) = ahead.read(text) {
-        if is_call(argument, parsed) {
+        if let Some(inline) = call_of(argument, parsed) {
             span.follows = true;
+            let call = Call {
+                name: argument,
+                inline,
+                after: ahead,
+            };
             return Found {
                 span,
                 outside,
-                rest,
+                rest: Rest::Next(call),
             };
         }
-        rest = ahead;
         if !is_closing(argument) {
             span.inside = span.words + 1;
             outside = ahead;
@@ -85,6 +89,6 @@ pub(crate) fn find_span(text: &[u8], cursor: Cursor, parsed: bool) -> Found
     Found {
         span,
         outside,
-        rest: outside,
+        rest: Rest::Tail(outside),
     }
 }

@@ -1,17 +1,19 @@
 //! The words of a macro in its line (mdoc(7), "MACRO SYNTAX").
 
-ghost use Rattle.std.specs.Prelude.{◌≡◌, ◌≤◌, length, true, IfSome};
+ghost use Rattle.std.specs.Prelude.{◌≡◌, ◌≤◌, length, IfSome};
 ghost use Rattle.page_roff_syntax.specs.Arguments.{ReadsNext, argument_view};
 ghost use Rattle.page_sets_lines.specs.Events.{given_view};
 ghost use Rattle.page_sets_lines.specs.Fits.{ArgumentFits, GivenFits};
 ghost use Rattle.page_sets_mdoc_lines.specs.LineWords.{arguments_after};
 ghost use Rattle.page_sets_mdoc_lines.specs.Parts.{parts, has_calls, rest_parts};
 ghost use Rattle.page_sets_mdoc_lines.specs.machine.Cursors.{IsCursorOf};
+ghost use Rattle.page_sets_mdoc_lines.specs.Rests.{IsRestOf, rest_view};
 ghost use Rattle.page_sets_mdoc_lines.specs.Words.{words_view, AreKnown, AreIn, TakesWord};
 
 use crate::Inline;
 use crate::cursors::Cursor;
 use crate::line_words::{may_take, takes_next};
+use crate::rests::Rest;
 use crate::word_spans::find_span;
 use page_core_base::LINE;
 use page_roff_syntax::Argument;
@@ -38,8 +40,6 @@ pub struct MacroWords<'a> {
     pub has_real: bool,
     /// Whether calls follow.
     pub follows: bool,
-    /// Where the line goes on after them.
-    pub rest: Cursor,
 }
 
 impl Words {
@@ -101,30 +101,30 @@ fn take_word(
     }
 }
 
-/// Finds the words of the macro that has just begun, if one has, from where its line has been read on. In a line that is
-/// not parsed no word calls.
+/// Finds the words of the macro that has just begun, if one has, from where its line has been read on, and what comes after
+/// them. In a line that is not parsed no word calls.
 pub fn find_words(
     text: &[u8],
     begun: Option<Inline>,
     cursor: Cursor,
     parsed: bool,
-) -> MacroWords<'_>
+) -> (MacroWords<'_>, Rest<'_>)
     requires short { length text.now ≤ LINE }
     requires within { IsCursorOf text.now cursor }
-    ensures fits { GivenFits (given_view result.taken) }
-    ensures stand { AreIn text.now result }
-    ensures known { AreKnown text.now result }
-    ensures taken { given_view result.taken ≡ (parts begun parsed (arguments_after cursor.rest text.now)).taken }
-    ensures words { words_view text.now result.all ≡ (parts begun parsed (arguments_after cursor.rest text.now)).words }
-    ensures follows { result.follows ≡ has_calls (parts begun parsed (arguments_after cursor.rest text.now)).calls }
-    ensures rest { parts None true (arguments_after result.rest.rest text.now)
-        ≡ rest_parts (parts begun parsed (arguments_after cursor.rest text.now)) }
+    ensures fits { GivenFits (given_view result.0.taken) }
+    ensures stand { AreIn text.now result.0 }
+    ensures known { AreKnown text.now result.0 }
+    ensures taken { given_view result.0.taken ≡ (parts begun parsed (arguments_after cursor.rest text.now)).taken }
+    ensures words { words_view text.now result.0.all ≡ (parts begun parsed (arguments_after cursor.rest text.now)).words }
+    ensures follows { result.0.follows ≡ has_calls (parts begun parsed (arguments_after cursor.rest text.now)).calls }
+    ensures goes { IsRestOf text.now result.1 }
+    ensures rest { rest_view text.now result.1 ≡ rest_parts (parts begun parsed (arguments_after cursor.rest text.now)) }
 {
     let (taken, ahead) = take_word(text, begun, cursor);
     let found = find_span(text, ahead, parsed);
     let count = found.span.words as usize;
     let inside = found.span.inside as usize;
-    MacroWords {
+    let words = MacroWords {
         taken,
         all: Words {
             count,
@@ -140,6 +140,6 @@ pub fn find_words(
         },
         has_real: found.span.has_real,
         follows: found.span.follows,
-        rest: found.rest,
-    }
+    };
+    (words, found.rest)
 }

@@ -1,18 +1,15 @@
-use Rattle.std.proofs.Common.{◌≡◌, [], None, true, length}
+use Rattle.std.proofs.Common.{length}
 use Rattle.page_core_base.specs.Latches.{CameUpTo}
-use Rattle.page_sets_mdoc_lines.specs.machine.Cursors.{IsCursorOf}
-use Rattle.page_sets_mdoc_lines.specs.LineWords.{arguments_after}
-use Rattle.page_sets_mdoc_lines.specs.Parts.{parts}
+use Rattle.page_sets_mdoc_lines.specs.Rests.{IsRestOf, rest_view}
 use Rattle.page_sets.specs.Mdoc.{rest_events}
 use Rattle.page_sets.proofs.mdoc_line_words.give_rest.Given as goal
 
-abbrev pub invariant-loop-call : goal.invariant-loop-call
-invariant-loop-call g l = record {
-  within : IsCursorOf l.text l.rest;
-  call : (parts None true (arguments_after l.rest.rest l.text)).words ≡ [];
-  came : CameUpTo g.O.EventTaker.left l.fn.out (rest_events l.number (parts None true (arguments_after l.fn.cursor.rest l.text)))
-      (rest_events l.number (parts None true (arguments_after l.rest.rest l.text))) l.out;
+abbrev pub invariant-loop-rest : goal.invariant-loop-rest
+invariant-loop-rest g l = record {
+  within : IsRestOf l.text l.rest;
+  came : CameUpTo g.O.EventTaker.left l.fn.out (rest_events l.number (rest_view l.text l.fn.rest))
+      (rest_events l.number (rest_view l.text l.rest)) l.out;
 }
 
-abbrev pub decreases-loop-call : goal.decreases-loop-call
-decreases-loop-call g l = length (parts None true (arguments_after l.rest.rest l.text)).calls
+abbrev pub decreases-loop-rest : goal.decreases-loop-rest
+decreases-loop-rest g l = length (rest_view l.text l.rest).calls

@@ -2,10 +2,10 @@ use Rattle.std.proofs.Common.{◌≡◌, ◌≤◌, ◌+◌, ap, sym, refl, ◌�
 use Rattle.page_roff_syntax.specs.Arguments.{argument_view}
 use Rattle.page_sets_mdoc_lines.specs.declared.word_spans.WordSpan.{WordSpan}
 use Rattle.page_sets_mdoc_lines.specs.LineWords.{arguments_after, is_closing, is_real}
-use Rattle.page_sets_mdoc_lines.specs.Parts.{is_call}
-use Rattle.page_sets_mdoc_lines.proofs.WordSpanLemmas.{one_more, word_passed, pass_is}
+use Rattle.page_sets_mdoc_lines.specs.Parts.{is_call, is_something}
+use Rattle.page_sets_mdoc_lines.proofs.WordSpanLemmas.{call_passed, cut_words, one_more, word_passed, pass_is}
 use Rattle.page_sets_mdoc_lines.proofs.CursorLemmas.{few_left}
-use Rattle.page_sets_mdoc_lines.proofs.WordLemmas.{drop_next}
+use Rattle.page_sets_mdoc_lines.proofs.WordLemmas.{call_is, drop_next, tail_is}
 use Rattle.page_sets_mdoc_lines.proofs.word_spans.find_span.Goals.{then-not-is_closing, else-not-is_closing, then-is_real, else-is_real}
 use Rattle.page_sets_mdoc_lines.proofs.word_spans.find_span.Goals as goal
 
@@ -15,7 +15,7 @@ loop-argument-init c = record {
   few = omega (arith, few_left c.args.text.now c.args.cursor.rest c.requires.short);
   stands = c.requires.within;
   ends = c.requires.within;
-  same = refl;
+  follows = refl;
   outside = refl;
   rest = refl;
 }
@@ -41,7 +41,7 @@ loop-argument-preserved c =
       | else-is_real w ↦ rw w.if-is_real.false w.span-is
     ] in
     let one = rw (c.is_closing.ensures, c.is_real.ensures) at (one_more c.is_closing.result c.is_real.result l.span c.if-not-is_closing.span c.if-is_real.span middle last) in
-    let went = word_passed is_closing (is_call c.args.parsed) is_real word after l.span (sym c.if-is_call.ensures) in
+    let went = word_passed is_closing (is_call c.args.parsed) is_real word after l.span (ap is_something (sym c.call_of.ensures ∙ c.in_default-call_of.is)) in
     let size : c.if-is_real.span.words + 1 ≡ l.span.words + 1 = ap (λ (span : WordSpan). span.words) one in
     let step : after ≡ drop (l.span.words + 1) all = drop_next l.span.words all word after (sym l.invariant.rest ∙ next) in
     let inside : c.if-is_real.span.inside ≡ c.if-not-is_closing.span.inside =
@@ -64,7 +64,28 @@ loop-argument-preserved c =
       few = omega (arith, size, few);
       stands = c.in-Some.ensures.stands;
       ends = ends;
-      same = refl;
+      follows = ap (λ (span : WordSpan). span.follows) one ∙ l.invariant.follows;
       outside = rw inside outs;
       rest = rw size step;
     }
+
+pub returns-in-Some-call_of-clause-rest : goal.returns-in-Some-call_of-clause-rest
+returns-in-Some-call_of-clause-rest c =
+    let l = c.loop-argument in
+    let text = c.args.text.now in
+    let all = arguments_after c.args.cursor.rest text in
+    let word = argument_view c.in-Some.argument in
+    let after = arguments_after c.read.new.self.rest text in
+    let next = c.in-Some.ensures.next in
+    let calls = sym c.call_of.ensures ∙ c.in-Some-call_of.is in
+    let passes = rw next at l.invariant.passes in
+    let went = call_passed is_closing (is_call c.args.parsed) is_real word after l.span (ap is_something calls) in
+    let span : WordSpan = record l.span { follows = true } in
+    call_is c.args.parsed all word after c.in-Some-call_of.inline span (sym went ∙ passes) (sym next ∙ l.invariant.rest) calls
+
+pub returns-clause-rest : goal.returns-clause-rest
+returns-clause-rest c =
+    let l = c.loop-argument in
+    let all = arguments_after c.args.cursor.rest c.args.text.now in
+    let passes = rw c.in_default.ensures.next.0 at l.invariant.passes in
+    tail_is c.args.parsed all (arguments_after l.outside.rest c.args.text.now) (cut_words l.span) passes l.invariant.follows l.invariant.outside

@@ -1,4 +1,4 @@
-use Rattle.std.proofs.Common.{◌≡◌, ◌+◌, ◌≤◌, length, drop, None}
+use Rattle.std.proofs.Common.{◌≡◌, ◌+◌, ◌≤◌, length, drop, false, None}
 use Rattle.page_sets_mdoc_lines.specs.machine.Cursors.{IsCursorOf}
 use Rattle.page_sets_mdoc_lines.specs.LineWords.{arguments_after, is_closing, is_real}
 use Rattle.page_sets_mdoc_lines.specs.Parts.{parts, span_of, is_call}
@@ -12,7 +12,7 @@ invariant-loop-argument l = record {
   few : l.span.words + length (arguments_after l.ahead.rest l.text) ≤ 65536;
   stands : IsCursorOf l.text l.ahead;
   ends : IsCursorOf l.text l.outside;
-  same : l.rest ≡ l.ahead;
+  follows : l.span.follows ≡ false;
   outside : arguments_after l.outside.rest l.text ≡ drop l.span.inside (arguments_after l.fn.cursor.rest l.text);
   rest : arguments_after l.ahead.rest l.text ≡ drop l.span.words (arguments_after l.fn.cursor.rest l.text);
 }

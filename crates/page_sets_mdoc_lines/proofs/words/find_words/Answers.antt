@@ -1,7 +1,7 @@
-use Rattle.std.proofs.Common.{sym, ap, ◌∙◌}
+use Rattle.std.proofs.Common.{sym, ap, ◌∙◌, None}
 use Rattle.page_sets_lines.specs.Events.{given_view}
 use Rattle.page_sets_mdoc_lines.specs.LineWords.{arguments_after}
-use Rattle.page_sets_mdoc_lines.specs.Parts.{LineParts, rest_parts}
+use Rattle.page_sets_mdoc_lines.specs.Parts.{LineParts, parts, rest_parts}
 use Rattle.page_sets_mdoc_lines.proofs.WordLemmas.{are_known, onto_rest, onto_taken, onto_words}
 use Rattle.page_sets_mdoc_lines.proofs.words.find_words.Goals as goal
 
@@ -25,5 +25,6 @@ returns-clause-words c =
 pub returns-clause-rest : goal.returns-clause-rest
 returns-clause-rest c =
     let others = arguments_after c.take_word.result.1.rest c.args.text.now in
-    onto_rest c.args.parsed others _ (given_view c.take_word.result.0) _ c.find_span-found.ensures.span c.find_span-found.ensures.rest
+    c.find_span-found.ensures.rest
+    ∙ onto_rest (parts None c.args.parsed others) (given_view c.take_word.result.0)
     ∙ ap (λ (p : LineParts). rest_parts p) (sym (c.take_word.ensures.takes c.args.parsed))
