@@ -152,9 +152,9 @@ pub kept_pass : {R N : Type 0} {rg rw_ : R → List LaidRow → R → Type 0} {r
     → ((row : FillEdge) → f ≡ Some row → Passed rg rf ng nf f f' r r n n (laid_items row (if taken then map shown pieces else []))) × Quiet rf nf r r n n
 kept_pass k l f f' r n text font true kept same held sound pieces all cells = (
   λ row is.
-  let g = kept row pieces is refl (all, cells) in
-  let laid : laid_items row (map shown pieces) ≡ nothing g.0 = items-law row (map shown pieces) (rw is at held) (rw is at sound) ∙ g.2 in
-  rw laid record { filler = g.1; rows = k.none r; notes = l.none n; rows_failed = refl; notes_failed = refl },
+      let g = kept row pieces is refl (all, cells) in
+      let laid : laid_items row (map shown pieces) ≡ nothing g.0 = items-law row (map shown pieces) (rw is at held) (rw is at sound) ∙ g.2 in
+      rw laid record { filler = g.1; rows = k.none r; notes = l.none n; rows_failed = refl; notes_failed = refl },
   record { rows = refl; notes = refl },
 )
 kept_pass k l f f' r n text font false kept same held sound pieces all cells = rw (same refl) (nothing_passes k l f r n)
