@@ -131,6 +131,50 @@ pub fn strings_pages_2()
         codes ".A q" ∷ []))
         (man_rows (codes "       [a b c] [\"a\" \"b c\"] [q] [\"q\"] x" ∷ []))
         [] }
+    // a call of a macro without a body, whose argument has no last quote (roff(7), MACRO SYNTAX; mandoc(1), DIAGNOSTICS)
+    ensures a_call_of_a_macro_without_a_body_whose_argument { Shows plain
+        (man_page (codes ".de m" ∷ codes ".." ∷ codes ".m \"a" ∷ codes "b" ∷ []))
+        (man_rows (codes "       b" ∷ []))
+        (codes "mandoc: x.1:5:4: WARNING: unterminated quoted argument" ∷ []) }
+    // a macro has the name of a request (roff(7), de)
+    ensures a_macro_has_the_name_of_a_request { Shows plain
+        (man_page (codes ".de sp" ∷ codes "x\\\\$1" ∷ codes ".." ∷ codes ".sp 2" ∷ codes "y" ∷ []))
+        (man_rows (codes "       x2 y" ∷ []))
+        [] }
+    // a macro is called in a block that is run, and not in one that is skipped (roff(7), if)
+    ensures a_macro_is_called_in_a_block_that_is_run_and_not { Shows plain
+        (man_page (codes ".de m" ∷
+        codes "x" ∷
+        codes ".." ∷
+        codes ".if t \\{" ∷
+        codes ".m" ∷
+        codes ".\\}" ∷
+        codes ".if n \\{" ∷
+        codes ".m" ∷
+        codes ".\\}" ∷
+        codes "y" ∷ []))
+        (man_rows (codes "       x y" ∷ []))
+        [] }
+    // a macro calls another one with its arguments (roff(7), de)
+    ensures a_macro_calls_another_one_with_its_arguments { Shows plain
+        (man_page (codes ".de a" ∷
+        codes ".b \\\\$2 \"\\\\$1\"" ∷
+        codes ".." ∷
+        codes ".de b" ∷
+        codes "(\\\\$1,\\\\$2)" ∷
+        codes ".." ∷
+        codes ".a \"c d\" e" ∷ []))
+        (man_rows (codes "       (e,c d)" ∷ []))
+        [] }
+    // arguments of a call, with blanks between them and a pair of quotes (roff(7), MACRO SYNTAX)
+    ensures arguments_of_a_call_with_blanks_between_them_and_a { Shows plain
+        (man_page (codes ".de m" ∷ codes "<\\\\$1|\\\\$2|\\\\$3>" ∷ codes ".." ∷ codes ".m a  \"b \"\"c\"\" d\"   e" ∷ []))
+        (man_rows (codes "       <a|b \"c\" d|e>" ∷ []))
+        [] }
+{}
+
+/// Strings, registers, conditionals, loops and macros of a page.
+pub fn strings_pages_3()
     // a condition that does not hold still begins a region (roff(7), if and ig)
     ensures a_condition_that_does_not_hold_still_begins_a { Shows plain
         (man_page (codes ".if \\n(zZ=1 .ig zZ" ∷ codes "lost" ∷ codes ".zZ" ∷ codes "kept" ∷ []))
@@ -168,10 +212,6 @@ pub fn strings_pages_2()
         codes "b" ∷ []))
         (man_rows (codes "       a" ∷ [] ∷ codes "       b" ∷ []))
         [] }
-{}
-
-/// Strings, registers, conditionals, loops and macros of a page.
-pub fn strings_pages_3()
     // a condition that does not hold, and what is run in its place (roff(7), ie and el)
     ensures a_condition_that_does_not_hold_and_what_is_run_in { Shows plain
         (man_page (codes ".ie t a" ∷ codes ".el b" ∷ []))

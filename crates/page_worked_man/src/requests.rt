@@ -19,6 +19,14 @@ pub fn nf_pages()
         (man_page (codes ".nf" ∷ codes "a  b" ∷ codes "  c" ∷ codes "" ∷ codes "d" ∷ codes ".fi" ∷ codes "e" ∷ codes "f" ∷ []))
         (man_rows (codes "       a  b" ∷ codes "         c" ∷ [] ∷ codes "       d" ∷ codes "       e f" ∷ []))
         [] }
+    // words, blanks, tabs and escapes of rows that are kept as they are (roff(7), nf)
+    ensures words_blanks_tabs_and_escapes_of_rows_that_are { Shows plain
+        (man_page (codes ".nf" ∷ codes "a  b c" ∷ codes "d \\fBe\\fP f\\-g  h" ∷ codes "\\& i \\(<- j\tk" ∷ codes "l \\em n" ∷ []))
+        (man_rows (codes "       a  b c" ∷
+        (codes "       d " ++ (bold (codes "e") ++ codes " f-g  h")) ∷
+        codes "        i <- j k" ∷
+        codes "       l \\m n" ∷ []))
+        [] }
     // tab stops (roff(7), nf)
     ensures tab_stops { Shows plain
         (man_page (codes ".nf" ∷ codes "a\tb" ∷ codes "\tc" ∷ codes "12345678\td" ∷ []))

@@ -13,9 +13,9 @@ returns c = record {
   a_table_is_shown_as_it_is_written = record { prints = refl; reports = refl };
   a_request_that_is_not_supported = record { prints = refl; reports = refl };
   a_macro_goes_on_by_a_later_definition = record { prints = refl; reports = refl };
-  a_condition_that_does_not_hold_still_begins_a = record { prints = refl; reports = refl };
-  the_line_that_is_left_of_the_end_of_a_block_counts = record { prints = refl; reports = refl };
-  a_region_that_is_open_at_the_end = record { prints = refl; reports = refl };
-  what_a_region_left_open_comes_before_what_a_page = record { prints = refl; reports = refl };
-  a_macro_that_leaves_a_blank_row_in_one_output = record { prints = refl; reports = refl };
+  a_call_of_a_macro_without_a_body_whose_argument = record { prints = refl; reports = refl };
+  a_macro_has_the_name_of_a_request = record { prints = refl; reports = refl };
+  a_macro_is_called_in_a_block_that_is_run_and_not = record { prints = refl; reports = refl };
+  a_macro_calls_another_one_with_its_arguments = record { prints = refl; reports = refl };
+  arguments_of_a_call_with_blanks_between_them_and_a = record { prints = refl; reports = refl };
 }
