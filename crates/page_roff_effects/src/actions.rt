@@ -25,8 +25,7 @@ use page_roff_values::{CallArguments, Environment, Expansion};
 use std::alloc::{AllocError, Global};
 use std::marker::Model;
 
-/// What the parts of a source do: definitions, the body of the open region or loop, and the line and the call that were taken last. All memory is
-/// reserved by [`Actions::new`] and [`Actions::at`].
+/// Definitions, the body of the open region or loop, and the line and the call that were taken last. All memory is reserved at the start.
 #[derive(Drop)]
 pub struct Actions {
     pub(crate) names: Names,
@@ -167,9 +166,7 @@ impl Actions {
         self.expansions
     }
 
-    /// Lends the line that was taken last, of at most [`LINE`] bytes.
-    ///
-    /// [`LINE`]: page_core_base::LINE
+    /// Lends the line that was taken last, of at most [`LINE`](page_core_base::LINE) bytes.
     pub fn line(&self) -> Taken<'_>
         ensures line { line_view result ≡ self.now.line }
         ensures short { length result.text.now ≤ LINE }
@@ -227,8 +224,7 @@ impl Actions {
         false
     }
 
-    /// Expands a line, in copy mode or not. Answers whether the line itself is what it gives, since no backslash is in it: then it is not
-    /// copied.
+    /// The same in copy mode or not, where a line without a backslash is what it gives.
     pub(crate) fn expand_unless_plain<O: NoteOut>(
         &mut self,
         copy: bool,

@@ -30,8 +30,7 @@ fn turned(is_turned: bool, holds: bool) -> bool
     holds != is_turned
 }
 
-// Expands a text after what is finished of its line, of which `bytes_before` bytes are before the text. Answers whether that was
-// cut.
+// Expands a text after what is finished of its line, of which `bytes_before` bytes are before the text. Answers whether that was cut.
 fn expand_text<O: NoteOut>(
     text: &[u8],
     bytes_before: u32,
@@ -109,8 +108,7 @@ fn are_equal<O: NoteOut>(
     turned(is_turned, has_equal_parts(line.text(), len))
 }
 
-/// Whether the condition of a head in a source line holds. Its texts are expanded in `expansion`, with one budget for
-/// both.
+/// Whether the condition of a head in a source line holds. Its texts are expanded in `expansion`, with one budget for both.
 #[tactic(auto, unfolding(crate::specs::Answers::condition_answer))]
 pub fn holds<O: NoteOut>(
     condition: &Condition<&[u8]>,

@@ -72,9 +72,8 @@ impl Actions {
         AtOnce::Line
     }
 
-    /// Takes a raw line, if it is one part that calls a macro or is left to the set of macros, as it is written: it heads nothing and defines
-    /// nothing, and nothing in it is interpolated. Says which of these it did; the line, or the call, is lent from then on. There is no message,
-    /// and nothing else changes.
+    /// Takes a raw line, if it is one part that calls a macro or is left to the set of macros, as it is written: it heads and defines nothing, and
+    /// nothing in it is interpolated. Says which it was; the line, or the call, is lent from then on. There is no message, and nothing else changes.
     pub fn take_at_once(&mut self, raw: &[u8]) -> AtOnce
         requires { length raw.now ≤ LINE }
         ensures { TakesIf result self.old raw.now (λ may_call. leaf_outcome (measured self.old.setting) may_call raw.now self.old.memory) self.new }

@@ -1,5 +1,4 @@
-//! Raw lines in which no comment, no end of a block and no interpolation begins: most lines are such (roff(7), "LANGUAGE SYNTAX" and
-//! "Escape sequences").
+//! Raw lines in which no comment, no end of a block and no interpolation begins: most lines are such (roff(7), "Escape sequences").
 
 ghost use Rattle.std.specs.Prelude.{◌≡◌, ◌+◌, ◌<◌, length, map, false, IsTrue};
 ghost use Rattle.std.specs.Simd.Lanes.{mask_l};

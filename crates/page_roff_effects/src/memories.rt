@@ -4,8 +4,7 @@ use page_roff_definitions::BodyBuffer;
 use page_roff_names::Names;
 use std::marker::Model;
 
-/// What is remembered of a page between two of its lines: definitions, the body of the open region or loop, the number of the last line, and how many
-/// interpolations were made.
+/// Definitions, the body of the open region or loop, the number of the last line, and how many interpolations were made.
 #[derive(Drop)]
 pub struct Remembered {
     pub(crate) names: Names,
