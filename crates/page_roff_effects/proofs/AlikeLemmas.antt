@@ -9,7 +9,7 @@ use Rattle.page_roff_values.specs.Environments.{Surroundings}
 use Rattle.page_roff_values.specs.machine.Texts.{IsText, AreLines, MeasureAlike}
 use Rattle.page_roff_values.specs.Values.{Spot, Laid, NEST, start, after_bytes}
 use Rattle.page_roff_values.proofs.AlikeLemmas.{measured_by, value_alike}
-use Rattle.page_roff_effects.specs.Answers.{expands, unless_cut, after, number_answer, texts_answer, bytes_before, bytes_between, second_answer, test_answer, condition_answer}
+use Rattle.page_roff_values.specs.Answers.{expands, unless_cut, after, number_answer, texts_answer, bytes_before, bytes_between, second_answer, test_answer, condition_answer}
 
 -- what a test expands is text
 abbrev pub HasTexts : Test (List ℕ) → Type 0

@@ -16,7 +16,7 @@ use Rattle.page_core_base.specs.declared.limits.TheConstants.{EXPAND}
 use Rattle.page_roff_values.specs.Environments.{Surroundings}
 use Rattle.page_roff_values.specs.Values.{Spot, Laid, IsWithin, start, expanded, NEST}
 use Rattle.page_roff_values.proofs.LineLemmas.{value_within}
-use Rattle.page_roff_effects.specs.Answers.{Answer, condition_answer, test_answer, unless_cut, expands, bytes_between}
+use Rattle.page_roff_values.specs.Answers.{Answer, condition_answer, test_answer, unless_cut, expands, bytes_between}
 use Rattle.page_roff_blocks.specs.Languages.{Kind, state_of}
 use Rattle.page_roff_blocks.specs.Spent.{Spends}
 use Rattle.page_roff_effects.specs.declared.commands.Command.{Command}

@@ -3,7 +3,7 @@ use Rattle.std.proofs.Common.{◌≡◌, ℕ, zero, suc, Bool, true, false, not,
 use Rattle.page_roff_heads.specs.declared.conditions.Condition.{Condition}
 use Rattle.page_roff_syntax.specs.OpenRegions.{Opened}
 use Rattle.page_roff_blocks.specs.Loops.{loop_text}
-use Rattle.page_roff_effects.specs.Answers.{Answer}
+use Rattle.page_roff_values.specs.Answers.{Answer}
 use Rattle.page_roff_blocks.specs.Languages.{Kind, page, body, Done, gives, calls, repeats}
 use Rattle.page_roff_blocks.specs.Budgets.{Budgeted, with_rest, charge_by, charge, begin_line, whether_run, meet, test, unopened_by, read_line, end_line, collect_some, meaning, done_with, closed_with, turn_by, turn, language}
 use Rattle.page_roff_blocks.specs.machine.Fronts.{over_pair, over_done, IsFrontOfParts, IsFront}

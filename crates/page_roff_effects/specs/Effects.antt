@@ -4,7 +4,7 @@ use Rattle.page_core_base.specs.declared.note_kinds.NoteKind.TheVariants as kind
 use Rattle.page_roff_heads.specs.declared.conditions.Condition.{Condition}
 use Rattle.page_roff_heads.specs.Conditions.{condition_of}
 use Rattle.page_roff_values.specs.Arguments.{arguments_in, lines_in}
-use Rattle.page_roff_effects.specs.Answers.{Answer, condition_answer}
+use Rattle.page_roff_values.specs.Answers.{Answer, condition_answer}
 use Rattle.page_roff_blocks.specs.Languages.{Kind, arguments_of, Done, gives, calls, repeats}
 use Rattle.page_roff_blocks.specs.Budgets.{Budgeted, Effects}
 use Rattle.page_roff_effects.specs.States.{Memory, State, Given, Outcome, Product, no_product, line_product, call_product, loop_product, after, reports, reports_at, counted, Setting, surroundings}

@@ -6,4 +6,3 @@ pub mod LoopLines
 pub mod RegionLines
 pub mod States
 pub mod machine
-pub mod Answers

@@ -14,14 +14,13 @@ ghost use Rattle.page_roff_effects.specs.Effects.{answer_of, turn_answer, budget
 ghost use Rattle.page_core_base.specs.Messages.{message_about};
 ghost use Rattle.page_core_base.specs.Latches.{Came};
 
-use crate::holds;
 use crate::memories::Remembered;
 use page_core_base::{ARGS, Limit, Note, NoteKind, NoteOut, Output, Place, Taken};
 use page_roff_definitions::{BodyBuffer, CallBuffer, LineBuffer};
 use page_roff_heads::{Condition, read_condition};
 use page_roff_names::Names;
 use page_roff_syntax::plain_len;
-use page_roff_values::{CallArguments, Environment, Expansion};
+use page_roff_values::{CallArguments, Environment, Expansion, holds};
 use std::alloc::{AllocError, Global};
 use std::marker::Model;
 

@@ -1,18 +1,16 @@
 //! What the parts of a source do (roff(7)): lines are expanded and taken, conditions are tested, requests define names, macros are
 //! called, regions define macros, and loops are collected.
 //!
-//! `page_roff_heads` reads a condition from the raw line; `holds` expands its texts and answers it (`specs/Answers.antt`).
 //! It gives `page_roff_blocks` the meaning of parts, and the machine of `page_roff_machine` calls `Actions` for each of them; what was taken last is
 //! in `page_roff_definitions`. Read `specs/Effects.antt` first, then `Leaves.antt`, `RegionLines.antt` and `LoopLines.antt`; begin in `actions.rt`.
 //!
-//! Proved: `holds`: whether a written condition holds, with its messages, also where its texts are cut (`specs/Answers.antt`). `Actions` (`leaf`, `take_at_once`, `test`, `open_region`, `read_line`, `end_region`, `finish`, `exhaust`, `refuse`, `report_unopened`):
+//! Proved: `Actions` (`leaf`, `take_at_once`, `test`, `open_region`, `read_line`, `end_region`, `finish`, `exhaust`, `refuse`, `report_unopened`):
 //! what each part of a source does, with its messages and what is remembered after it: a text line is finished, a request defines, a macro is called,
 //! the lines of a region are collected (`specs/Effects.antt`, `Leaves.antt`, `RegionLines.antt`, `Commands.antt`). `expansions_law`, `given_law`: a
 //! line makes no more interpolations than its limit, and nothing depends on what was given before.
 #![tactic(auto)]
 
 mod actions;
-mod answers;
 mod at_once;
 mod commands;
 mod free_lines;
@@ -23,7 +21,6 @@ mod memories;
 mod regions;
 
 pub use actions::Actions;
-pub use answers::holds;
 pub use at_once::AtOnce;
 pub use commands::ProductKind;
 pub use laws::{expansions_law, given_law};

@@ -1,7 +1,7 @@
 //! The heads of conditionals and loops as they are written: what `if`, `ie`, `el` and `while` test and guard, and where
 //! blocks end (roff(7), "Conditional expressions"). All of it is read from the raw line alone.
 //!
-//! It is above `page_roff_syntax`; `page_roff_blocks` parts lines by it, and `page_roff_effects` answers the conditions that it reads.
+//! It is above `page_roff_syntax`; `page_roff_blocks` parts lines by it, and `page_roff_values` answers the conditions that it reads.
 //! Read `specs/Heads.antt`, `Loops.antt` and `Conditions.antt` first.
 //!
 //! Proved: `read_conditional`, `read_loop`, `read_guarded`, `block_end`, `remainder`: the condition of a conditional or a loop, whether it opens a

@@ -28,7 +28,7 @@ use Rattle.page_roff_effects.specs.Leaves.{leaf_outcome}
 use Rattle.page_roff_effects.specs.LoopLines.{longer_if_some, loop_outcome, collect_outcome, close_outcome, condition_in, body_in}
 use Rattle.page_roff_definitions.specs.Calls.{Call, with_line}
 use Rattle.page_roff_effects.specs.RegionLines.{head_outcome, longer_if, longer, line_outcome, end_outcome, finish_region, finish_outcome}
-use Rattle.page_roff_effects.specs.Answers.{Answer}
+use Rattle.page_roff_values.specs.Answers.{Answer}
 use Rattle.page_roff_effects.specs.States.{Setting, Memory, State, Outcome, Product, no_product, line_product, call_product, loop_product, Given, says, takes, after, lines_of}
 use Rattle.page_roff_stack.specs.machine.Changes.{is_page}
 use Rattle.page_roff_machine.specs.declared.budgeted_actions.BudgetedActions.{BudgetedActions}

@@ -1,3 +1,4 @@
+pub mod Answers
 pub mod Arguments
 pub mod Environments
 pub mod Latches

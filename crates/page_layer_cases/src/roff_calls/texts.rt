@@ -4,7 +4,6 @@ use super::names::Roff;
 use crate::bytes::{show_messages, shown};
 use page_core_base::{LINE, NoteLatch};
 use page_core_streams::TextNotes;
-use page_roff_effects::holds;
 use page_roff_heads::read_conditional;
 use page_roff_values::{Environment, Expansion};
 

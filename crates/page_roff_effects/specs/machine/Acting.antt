@@ -18,7 +18,7 @@ use Rattle.page_roff_values.specs.Values.{Spot, Laid, expanded}
 use Rattle.page_roff_values.specs.machine.Views.{units_of_bytes}
 use Rattle.page_roff_blocks.specs.Budgets.{Effects}
 use Rattle.page_roff_blocks.specs.Languages.{Kind, arguments_of}
-use Rattle.page_roff_effects.specs.Answers.{Answer}
+use Rattle.page_roff_values.specs.Answers.{Answer}
 use Rattle.page_roff_definitions.specs.Arguments.{closings_notes}
 use Rattle.page_roff_definitions.specs.Calls.{Call, packed}
 use Rattle.page_roff_effects.specs.declared.at_once.AtOnce.{AtOnce}

@@ -2,19 +2,21 @@
 
 ghost use Rattle.std.specs.Prelude.{◌≡◌, false, ◌-◌, ◌≤◌, ◌^◌, take, drop, length};
 ghost use Rattle.std.specs.Str.{bytes_eq};
-ghost use Rattle.page_roff_effects.specs.Answers as asked;
-ghost use Rattle.page_roff_effects.specs.Answers.{Gives};
+ghost use Rattle.page_roff_values.specs.Answers as asked;
+ghost use Rattle.page_roff_values.specs.Answers.{Gives};
 ghost use Rattle.page_roff_heads.specs.Conditions.{condition_view, test_view, FitsTest};
 ghost use Rattle.page_roff_heads.specs.Texts.{placed_view, FitsPlaced};
 ghost use Rattle.page_roff_values.specs.machine.Views.{surroundings_of};
 ghost use Rattle.page_roff_values.specs.Latches.{Goes};
 ghost use Rattle.page_roff_values.specs.Values.{nothing};
 
+use crate::environments::Environment;
+use crate::expansions::Expansion;
+use crate::numbers::expression;
 use page_core_base::{Note, NoteKind, NoteOut, Place};
 use page_roff_heads::{Condition, Placed, Test};
 use page_roff_names::Names;
 use page_roff_syntax::Request;
-use page_roff_values::{Environment, Expansion, expression};
 
 // Whether a string, a macro or a request has a name.
 fn is_defined(name: &[u8], names: &Names) -> bool
