@@ -1,6 +1,6 @@
 -- Words of a text, each after one blank, as the pieces that they are, and the parts of a word between which a row may end.
 -- Source: roff(7), "Filling and adjusting".
-use Rattle.std.specs.Prelude.{◌≡◌, ℕ, ◌+◌, Bool, true, false, not, ◌&&◌, ◌==◌, nat_lt, List, [], ◌∷◌, ◌++◌, length, map, if◌then◌else◌}
+use Rattle.std.specs.Prelude.{◌≡◌, ℕ, ◌+◌, Bool, true, false, not, ◌&&◌, ◌==◌, nat_le, nat_lt, List, [], ◌∷◌, ◌++◌, length, map, if◌then◌else◌}
 use Rattle.std.specs.Char.{is_ascii_alphabetic}
 use Rattle.std.specs.List.{list_all}
 use Rattle.page_core_base.specs.Rows.{cells_in}
@@ -11,6 +11,13 @@ use Rattle.page_core_base.specs.declared.pieces.Piece.{Piece}
 use Rattle.page_core_base.specs.declared.pieces.Piece.TheVariants.{Text, Char, Blank, Split}
 use Rattle.page_core_base.specs.declared.places.Place.{Place}
 use Rattle.page_core_base.specs.Pieces.{Item, shown}
+
+-- a byte from ' ' to '~'
+abbrev pub is_printable : ℕ → Bool
+is_printable b = nat_le 32 b && nat_le b 126
+
+abbrev pub is_printable_ascii : List ℕ → Bool
+is_printable_ascii bytes = list_all is_printable bytes
 
 -- bytes, and no blank among them
 abbrev pub is_word : List ℕ → Bool
@@ -98,15 +105,20 @@ unfoldable pub lettered_cells : List (List (Piece (List ℕ))) → List Cell
 lettered_cells [] = []
 lettered_cells (word ∷ words) = record { c = 32; font = R } ∷ (word_letters word ++ lettered_cells words)
 
+-- words with a blank between two: their cells
+abbrev pub joined_cells : List (List (Piece (List ℕ))) → List Cell
+joined_cells [] = []
+joined_cells (word ∷ words) = word_letters word ++ lettered_cells words
+
 -- their pieces, where so many blanks are before the first one and one before each other
 unfoldable pub lettered_pieces : ℕ → List (List (Piece (List ℕ))) → List (Piece (List ℕ))
 lettered_pieces blanks [] = []
 lettered_pieces blanks (word ∷ words) = Blank blanks false ∷ (word ++ lettered_pieces 1 words)
 
--- these characters, each in its font, are words of letters with a blank before each, and a call took all of them after so many blanks, or none
+-- these characters, each in its font, are words of letters with a blank between two, and a call took all of them after so many blanks, or none
 abbrev pub TakesWords : {S : Type 0} → ℕ → List ℕ → List Font → Bool → (S → List Item → S → Type 0) → S → S → Type 0
 TakesWords {S} blanks text fonts taken gave s t =
-    (words : List (List (Piece (List ℕ)))) → list_all is_lettered_word words ≡ true → cells_in text fonts ≡ lettered_cells words
+    (words : List (List (Piece (List ℕ)))) → list_all is_lettered_word words ≡ true → cells_in text fonts ≡ joined_cells words
     → gave s (if taken then map shown (lettered_pieces blanks words) else []) t
 
 -- ---- a row that is kept as it is: each character is a cell, also a blank

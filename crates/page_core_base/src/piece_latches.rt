@@ -1,11 +1,11 @@
 //! The latch over a sink of pieces: what inner functions give to, so that they need not hand on its faults.
 
-ghost use Rattle.std.specs.Prelude.{◌≡◌, ◌≤◌, List, [], ◌∷◌, length, replicate, None, Some, MatchResult};
+ghost use Rattle.std.specs.Prelude.{◌≡◌, ◌≤◌, true, List, [], ◌∷◌, length, replicate, None, Some, MatchResult};
 ghost use Rattle.page_core_base.specs.Latches.{Came};
 ghost use Rattle.page_core_base.specs.Messages.{message_of};
 ghost use Rattle.page_core_base.specs.machine.Plans.{Planned, Left};
 ghost use Rattle.page_core_base.specs.Pieces.{Item, shown, noted, piece_of};
-ghost use Rattle.page_core_base.specs.Words.{TakesKept, TakesWords};
+ghost use Rattle.page_core_base.specs.Words.{TakesKept, TakesWords, is_printable_ascii};
 ghost use Rattle.page_core_base.specs.declared.blank_texts.TheConstants.{BLANK_TEXT};
 ghost use Rattle.page_core_base.specs.declared.pieces.Piece.TheVariants.{Text};
 
@@ -36,10 +36,10 @@ pub trait PieceOut {
     }
 
     /// Takes words at once, the first after a count of blanks and each other after one. Each byte of the text is a letter of them, in the font
-    /// beside it, and one blank is before each word, also before the first. Says whether it took them; else nothing changes. Of any other text
-    /// nothing is promised.
+    /// beside it, or the one blank between two of them. Says whether it took them; else nothing changes. Of any other text nothing is promised.
     fn give_words(&mut self, blanks: u32, text: &[u8], fonts: &[Font]) -> bool
-        requires { length fonts.now ≡ length text.now }
+        requires fonts { length fonts.now ≡ length text.now }
+        requires ascii { is_printable_ascii text.now ≡ true }
         ensures { TakesWords blanks text.now fonts.now result (Came left) self.old self.new }
     {
         let _ = blanks;

@@ -9,7 +9,7 @@ ghost use Rattle.page_core_base.specs.declared.faults.Fault.{Fault};
 ghost use Rattle.page_core_base.specs.Pieces.{Item, shown, all_noted, piece_of};
 ghost use Rattle.page_core_base.specs.declared.blank_texts.TheConstants.{BLANK_TEXT};
 ghost use Rattle.page_core_base.specs.declared.pieces.Piece.TheVariants.{Text};
-ghost use Rattle.page_core_base.specs.Words.{TakesKept, TakesWords};
+ghost use Rattle.page_core_base.specs.Words.{TakesKept, TakesWords, is_printable_ascii};
 
 use crate::{Fault, Font, NoteSink, Place, blank_text};
 
@@ -101,10 +101,11 @@ pub trait PieceSink: NoteSink {
     }
 
     /// Takes words at once, the first after a count of blanks and each other after one. Each byte of the text is a letter of them, in the font
-    /// beside it, and one blank is before each word, also before the first. Says whether it took them; else nothing changes. Of any other text
-    /// nothing is promised. A sink that says nothing of it takes none. Its faults are those of [`PieceSink::piece`].
+    /// beside it, or the one blank between two of them. Says whether it took them; else nothing changes. Of any other text nothing is promised. A
+    /// sink that says nothing of it takes none. Its faults are those of [`PieceSink::piece`].
     fn take_words(&mut self, blanks: u32, text: &[u8], fonts: &[Font]) -> Result<bool, Fault>
-        requires { length fonts.now ≡ length text.now }
+        requires fonts { length fonts.now ≡ length text.now }
+        requires ascii { is_printable_ascii text.now ≡ true }
         ensures takes { MatchResult result (λ taken. TakesWords blanks text.now fonts.now taken took self.old self.new)
             (λ fault. TakesWords blanks text.now fonts.now true (λ s items t. broke s fault items t) self.old self.new) }
         ensures faults { FailsByPieces result (row_failed self.old) (row_failed self.new) (Self.failed self.old) (Self.failed self.new) }

@@ -1,9 +1,9 @@
 -- Cells, and the characters of ASCII that are one each. Source: mandoc(1), "ASCII Output".
-use Rattle.std.specs.Prelude.{ℕ, Bool, ◌&&◌, nat_le, List, map, sum_by}
-use Rattle.std.specs.List.{list_all}
+use Rattle.std.specs.Prelude.{ℕ, List, map, sum_by}
 use Rattle.page_core_base.specs.declared.cells.Cell.{Cell}
 use Rattle.page_core_base.specs.declared.cells.Font.{Font}
 use Rattle.page_core_base.specs.declared.cells.Font.TheVariants.{R}
+pub use Rattle.page_core_base.specs.Words.{is_printable, is_printable_ascii}
 use Rattle.page_core_tables.specs.Printed.{char_columns}
 
 -- the columns of a cell, and of cells
@@ -23,10 +23,3 @@ cell_of font c = record { c = c; font = font }
 
 abbrev pub cells_of : Font → List ℕ → List Cell
 cells_of font cs = map (cell_of font) cs
-
--- a byte from ' ' to '~'
-abbrev pub is_printable : ℕ → Bool
-is_printable b = nat_le 32 b && nat_le b 126
-
-abbrev pub is_printable_ascii : List ℕ → Bool
-is_printable_ascii bytes = list_all is_printable bytes
