@@ -1,5 +1,5 @@
 -- Arguments, one by one: helpers of proofs.
-use Rattle.std.proofs.Common.{◌≡◌, ◌≢◌, ℕ, zero, suc, ◌+◌, ◌<◌, ◌≤◌, ◌==◌, true, false, List, [], ◌∷◌, length, drop, get_or, Option, Some, None, unwrap_or, refl, sym, ap, ◌∙◌, arith, inl, inr, length-drop, add-zero}
+use Rattle.std.proofs.Common.{◌≡◌, ◌≢◌, ℕ, zero, suc, ◌+◌, ◌<◌, ◌≤◌, ◌==◌, ◌&&◌, not, Bool, true, false, List, [], ◌∷◌, length, drop, get_or, Option, Some, None, unwrap_or, refl, sym, ap, ◌∙◌, arith, inl, inr, length-drop, add-zero}
 use Rattle.std.specs.List.{prefix_len}
 use Rattle.std.proofs.lemmas.Bool.{cases_Bool}
 use Rattle.std.proofs.lemmas.Bool.Decides.{nat_tests}
@@ -41,6 +41,34 @@ bare_last text i h k p =
     let a = drop_more text i 0 h in
     let b = drop_all (i + 1) text k in
     rw (a, b, p) refl
+
+-- a byte that is neither a blank nor a backslash
+abbrev pub is_unescaped : ℕ → Bool
+is_unescaped byte = not (byte == 32) && not (byte == 92)
+
+-- such bytes are read at once
+pub bare_run : (text : List ℕ) → bare_len text ≡ prefix_len is_unescaped text + bare_len (drop (prefix_len is_unescaped text) text)
+bare_run [] = refl
+bare_run (byte ∷ bytes) =
+    elim (cases_Bool (byte == 32)) [
+      | inl t ↦ rw t (omega arith)
+      | inr t ↦
+          elim (cases_Bool (byte == 92)) [
+            | inl s ↦ rw (t, s) (omega arith)
+            | inr s ↦
+                let l = bare_run bytes in
+                let b = bare_at byte bytes t s in
+                let d = drop-drop (prefix_len is_unescaped bytes) 1 (byte ∷ bytes) in
+                rw (t, s, sym d) (omega (arith, l, b))
+          ]
+    ]
+
+pub bare_begins : (text : List ℕ) → 0 < length text → get_or text 0 0 ≢ 32 → get_or text 0 0 ≢ 92 → 0 < prefix_len is_unescaped text
+bare_begins [] h e f = absurd (omega arith)
+bare_begins (byte ∷ bytes) h e f =
+    let t : (byte == 32) ≡ false = grind (arith, nat_tests) in
+    let s : (byte == 92) ≡ false = grind (arith, nat_tests) in
+    rw (t, s) (omega arith)
 
 ends_at : (text : List ℕ) (x : ℕ) (xs : List ℕ) → text ≡ x ∷ xs → is_blank x ≡ true → bare_len text ≡ 0
 ends_at text x [] e p = rw (e, p) refl

@@ -1,6 +1,7 @@
 //! The first argument of a text (roff(7), "Macro syntax").
 
-ghost use Rattle.std.specs.Prelude.{◌≡◌, ◌≢◌, ◌≤◌, ◌<◌, ◌+◌, ◌^◌, length, min, drop, get_or};
+ghost use Rattle.std.specs.Prelude.{◌≡◌, ◌≢◌, ◌≤◌, ◌<◌, ◌+◌, ◌^◌, ◌==◌, ◌&&◌, not, length, min, drop, get_or};
+ghost use Rattle.std.specs.List.{prefix_len};
 ghost use Rattle.page_roff_syntax.specs.Arguments.{argument_view, is_quoted, bare_len, quoted_len, quoted_argument, begins_quoted, first_argument, argument_len};
 
 use memchr::memchr2;
@@ -35,6 +36,16 @@ impl<W> Argument<W> {
     }
 }
 
+// The number of bytes before a text's first blank or backslash, or of all of them. Most are few: they are read one by one.
+fn unescaped_len(text: &[u8]) -> usize
+    ensures value { result ≡ prefix_len (λ byte. not (byte == 32) && not (byte == 92)) text.now }
+    ensures within { result ≤ length text.now }
+{
+    text.iter()
+        .take_while(|byte| **byte != b' ' && **byte != b'\\')
+        .count()
+}
+
 // The number of bytes of an argument without quotes at a text's front.
 fn bare_len(text: &[u8]) -> usize
     ensures value { result ≡ bare_len text.now }
@@ -42,7 +53,9 @@ fn bare_len(text: &[u8]) -> usize
 {
     let mut len = 0;
     while len < text.len() && text[len] != b' ' {
-        if text[len] == b'\\' && len + 1 < text.len() {
+        if text[len] != b'\\' {
+            len += unescaped_len(&text[len..]);
+        } else if len + 1 < text.len() {
             len += 2;
         } else {
             len += 1;
