@@ -1,10 +1,11 @@
 -- One item through a filler.
-use Rattle.std.proofs.Common.{◌≡◌, ℕ, List, [], ◌∷◌, Option, None, Some, IfSome, length, map, Bool, true, false, Result, Ok, Err, MatchResult, OnOk, refl, ap, append-nil, ◌∙◌, arith}
+use Rattle.std.proofs.Common.{◌≡◌, ℕ, List, [], ◌∷◌, Option, None, Some, IfSome, length, map, Bool, true, false, Result, Ok, Err, MatchResult, OnOk, refl, ap, append-nil, length-append, ◌∙◌, arith}
 use Rattle.std.specs.Prelude.{if◌then◌else◌}
 use Rattle.std.specs.List.{list_all}
+use Rattle.std.proofs.lemmas.Bool.Decides.{nat_tests}
 use Rattle.page_core_base.specs.Rows.{cells_in}
 use Rattle.page_core_base.specs.Sinks.{IsSink}
-use Rattle.page_core_base.specs.Words.{font_cells, is_kept, is_lettered_word, lettered_cells, lettered_pieces, word_letters}
+use Rattle.page_core_base.specs.Words.{font_cells, is_kept, is_lettered_word, joined_cells, lettered_cells, lettered_pieces, word_letters}
 use Rattle.page_core_base.specs.declared.cells.Cell.{Cell}
 use Rattle.page_core_base.specs.declared.cells.Font.{Font}
 use Rattle.page_core_base.specs.declared.pieces.Piece.{Piece}
@@ -12,6 +13,7 @@ use Rattle.page_fill.specs.Caps.{IsHeld, is_sound}
 use Rattle.page_fill.specs.KeptTexts.{AreKept}
 use Rattle.page_fill.specs.LetteredWords.{AreWords}
 use Rattle.page_fill.proofs.FillerLaw.{items-law}
+use Rattle.page_fill.proofs.LetteredWordLemmas.{first-is, word-some}
 use Rattle.page_core_base.specs.Messages.{Message}
 use Rattle.page_core_base.specs.Rows.{LaidRow}
 use Rattle.page_core_base.specs.declared.faults.Fault.{Fault}
@@ -84,11 +86,15 @@ items_pass rg rw_ rf ng nw nf (Err x) (Some e) f' r r' n n' items laid gets edge
 
 -- the same of words of letters, which all came, or a front of them and then a fault
 -- a text without a byte has no words
-no_words : (text : List ℕ) (fonts : List Font) (words : List (List (Piece (List ℕ)))) → length text ≡ 0 → cells_in text fonts ≡ lettered_cells words → words ≡ []
-unfolding lettered_cells
-no_words [] fonts [] none e = refl
-no_words [] fonts (word ∷ words) none e = let len = ap (λ (cells : List Cell). length cells) e in absurd (omega (arith, len))
-no_words (b ∷ text) fonts words none e = absurd (omega (arith, none))
+no_words : (text : List ℕ) (fonts : List Font) (words : List (List (Piece (List ℕ)))) → length text ≡ 0 → list_all is_lettered_word words ≡ true
+    → cells_in text fonts ≡ joined_cells words → words ≡ []
+no_words [] fonts [] none are e = refl
+no_words [] fonts (word ∷ words) none are e =
+    let len = ap (λ (cells : List Cell). length cells) e in
+    let some = word-some word (first-is word words are) in
+    let all = length-append (word_letters word) (lettered_cells words) in
+    absurd (grind (arith, nat_tests, len, some, all))
+no_words (b ∷ text) fonts words none are e = absurd (omega (arith, none))
 
 no_pieces : (blanks : ℕ) → lettered_pieces blanks [] ≡ []
 unfolding lettered_pieces
@@ -96,10 +102,10 @@ no_pieces blanks = refl
 
 pub no_words_pass : {R N : Type 0} {rg rw_ : R → List LaidRow → R → Type 0} {rf : R → ℕ} {ng nw : N → List Message → N → Type 0} {nf : N → ℕ}
     → IsSink rg rw_ → IsSink ng nw → (f : Option FillEdge) (r : R) (n : N) (blanks : ℕ) (text : List ℕ) (fonts : List Font)
-    → length text ≡ 0 → (words : List (List (Piece (List ℕ)))) → cells_in text fonts ≡ lettered_cells words
+    → length text ≡ 0 → (words : List (List (Piece (List ℕ)))) → list_all is_lettered_word words ≡ true → cells_in text fonts ≡ joined_cells words
     → ((row : FillEdge) → f ≡ Some row → Passed rg rf ng nf f f r r n n (laid_items row (map shown (lettered_pieces blanks words)))) × Quiet rf nf r r n n
-no_words_pass k l f r n blanks text fonts none words cells =
-    let is = no_words text fonts words none cells in
+no_words_pass k l f r n blanks text fonts none words are cells =
+    let is = no_words text fonts words none are cells in
     rw (is, no_pieces blanks) (nothing_passes k l f r n)
 
 pub words_took : {R N : Type 0} (rg rw_ : R → List LaidRow → R → Type 0) (rf : R → ℕ) (ng nw : N → List Message → N → Type 0) (nf : N → ℕ)
@@ -111,7 +117,7 @@ pub words_took : {R N : Type 0} (rg rw_ : R → List LaidRow → R → Type 0) (
     → ((e : FillEdge) → f ≡ Some e → FailsBySink res (rf r) (rf r') (nf n) (nf n'))
     → (f ≡ None → (res ≡ Err Failed) × (r' ≡ r) × (n' ≡ n))
     → IfSome f (λ (e : FillEdge). IsHeld e.sheet) → IfSome f (λ (e : FillEdge). is_sound e.word ≡ true)
-    → (words : List (List (Piece (List ℕ)))) → list_all is_lettered_word words ≡ true → cells_in text fonts ≡ lettered_cells words
+    → (words : List (List (Piece (List ℕ)))) → list_all is_lettered_word words ≡ true → cells_in text fonts ≡ joined_cells words
     → (x : Unit {0}) → res ≡ Ok x
     → ((row : FillEdge) → f ≡ Some row → Passed rg rf ng nf f f' r r' n n' (laid_items row (map shown (lettered_pieces blanks words)))) × Quiet rf nf r r' n n'
 words_took rg rw_ rf ng nw nf res f f' r r' n n' blanks text fonts gets edge faults closed held sound words are cells x ok =
@@ -130,7 +136,7 @@ pub words_broke : {R N : Type 0} (rg rw_ : R → List LaidRow → R → Type 0) 
     → ((e : FillEdge) → f ≡ Some e → FailsBySink res (rf r) (rf r') (nf n) (nf n'))
     → (f ≡ None → (res ≡ Err Failed) × (r' ≡ r) × (n' ≡ n))
     → IfSome f (λ (e : FillEdge). IsHeld e.sheet) → IfSome f (λ (e : FillEdge). is_sound e.word ≡ true)
-    → (words : List (List (Piece (List ℕ)))) → list_all is_lettered_word words ≡ true → cells_in text fonts ≡ lettered_cells words
+    → (words : List (List (Piece (List ℕ)))) → list_all is_lettered_word words ≡ true → cells_in text fonts ≡ joined_cells words
     → (fault : Fault) → res ≡ Err fault
     → IsPieceFault fault (rf r) (rf r') (nf n) (nf n')
     × ((row : FillEdge) → f ≡ Some row → Broken rw_ rf nw nf r r' n n' fault (laid_items row (map shown (lettered_pieces blanks words))))

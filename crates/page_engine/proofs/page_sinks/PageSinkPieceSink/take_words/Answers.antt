@@ -19,7 +19,7 @@ returns-then-is_empty-clause-takes g c = λ words are cells.
     let j = shown-sink g.R.RowSink.gave g.R.RowSink.within g.met.R.RowSink.laws (λ s. s.rows.now) (λ s. s.is_silent) in
     let k = filter-sink g.N.NoteSink.gave g.N.NoteSink.within g.met.N.NoteSink.laws (λ s. s.notes.now) (λ s. s.least) (λ s. s.worst) in
     let none : length c.args.text.now ≡ 0 = let e = c.is_empty.ensures in let t = c.if-is_empty.true in grind (arith, nat_tests, e, t) in
-    no_words_pass j k _ _ _ c.args.blanks c.args.text.now c.args.fonts.now none words cells
+    no_words_pass j k _ _ _ c.args.blanks c.args.text.now c.args.fonts.now none words are cells
 
 pub returns-in_err-words-clause-takes : goal.returns-in_err-words-clause-takes
 returns-in_err-words-clause-takes g c =
