@@ -133,7 +133,7 @@ unfolding lettered_cells
 joined cells [] e = rw e refl
 joined cells (word ∷ words) e = rw e refl
 
-rest_first : {A : Type 0} (n : ℕ) (xs : List A) → take n (drop 1 xs) ≡ drop 1 (take (suc n) xs)
+pub rest_first : {A : Type 0} (n : ℕ) (xs : List A) → take n (drop 1 xs) ≡ drop 1 (take (suc n) xs)
 rest_first zero [] = refl
 rest_first (suc n) [] = refl
 rest_first n (x ∷ xs) = refl
