@@ -150,23 +150,24 @@ word_cells font place text =
     ap (λ (cells : List Cell). record { c = 32; font = R } ∷ cells) (append-nil (letters_in font text ++ []) ∙ append-nil (letters_in font text))
 
 -- a whole text that is one word, after a blank
-font_adds : (style : TextStyle) (fonts : Setting Fonts) (text : List ℕ) → style.is_literal ≡ false → begins_word text ≡ true
+font_adds : (style : TextStyle) (fonts : Setting Fonts) (font : Font) (text : List ℕ) → fonts.value.font ≡ font → style.is_literal ≡ false → begins_word text ≡ true
     → list_all (λ byte. not (byte == 32)) text ≡ true → RunGoesOn style.is_quoted text 0 (length text)
     → PrintsFirst style.is_quoted fonts text
-    × AddsWords style fonts [] (32 ∷ text) fonts (record { c = 32; font = R } ∷ letters_in fonts.value.font text) (drop (length text) text)
-font_adds style fonts text literal begins one goes =
+    × AddsWords style fonts [] (32 ∷ text) fonts (record { c = 32; font = R } ∷ letters_in font text) (drop (length text) text)
+font_adds style fonts font text e literal begins one goes =
     let all = take_all (length text) text (omega arith) in
     let run : BeginsRun style.is_quoted (32 ∷ text) (32 ∷ text) (drop (length text) text) =
     rw all at (front_to_end style.is_quoted text (length text) begins (omega arith) (omega arith) goes) in
     let size : length (32 ∷ text) + length (drop (length text) text) ≡ length (32 ∷ text) = omega (arith, length-drop (length text) text) in
     let only = one_word text run.0 one run.1.bytes in
-    let cells : List Cell = record { c = 32; font = R } ∷ letters_in fonts.value.font text in (
+    let cells : List Cell = record { c = 32; font = R } ∷ letters_in font text in
+    let same = ap (λ (f : Font). record { c = 32; font = R } ∷ letters_in f text) e in (
       run_prints style.is_quoted fonts text text (drop (length text) text) begins run,
       (
         cells,
         refl,
         run_reads_as style fonts (32 ∷ text) (32 ∷ text) (drop (length text) text) cells literal size run
-            (λ place. ap (λ (words : List (List ℕ)). lettered_cells (run_words fonts.value.font place words)) only ∙ word_cells fonts.value.font place text),
+            (λ place. ap (λ (words : List (List ℕ)). lettered_cells (run_words fonts.value.font place words)) only ∙ word_cells fonts.value.font place text ∙ same),
       ),
     )
 
@@ -174,11 +175,11 @@ font_adds style fonts text literal begins one goes =
 pub whole_adds : (style : TextStyle) (fonts : Setting Fonts) (font : Font) (text : List ℕ) → fonts.value.font ≡ font → style.is_literal ≡ false → begins_word text ≡ true
     → is_in_font font text ≡ true → RunGoesOn style.is_quoted text 0 (length text)
     → PrintsFirst style.is_quoted fonts text
-    × AddsWords style fonts [] (32 ∷ text) fonts (record { c = 32; font = R } ∷ letters_in fonts.value.font text) (drop (length text) text)
-whole_adds style fonts R text e literal begins one goes = rw e (roman_adds style fonts text literal e begins goes)
-whole_adds style fonts I text e literal begins one goes = font_adds style fonts text literal begins one goes
-whole_adds style fonts B text e literal begins one goes = font_adds style fonts text literal begins one goes
-whole_adds style fonts BI text e literal begins one goes = font_adds style fonts text literal begins one goes
+    × AddsWords style fonts [] (32 ∷ text) fonts (record { c = 32; font = R } ∷ letters_in font text) (drop (length text) text)
+whole_adds style fonts R text e literal begins one goes = roman_adds style fonts text literal e begins goes
+whole_adds style fonts I text e literal begins one goes = font_adds style fonts I text e literal begins one goes
+whole_adds style fonts B text e literal begins one goes = font_adds style fonts B text e literal begins one goes
+whole_adds style fonts BI text e literal begins one goes = font_adds style fonts BI text e literal begins one goes
 
 -- a word after a blank
 pub first_adds : (style : TextStyle) (fonts next : Setting Fonts) (text rest : List ℕ) (before after : List Cell) → style.is_literal ≡ false

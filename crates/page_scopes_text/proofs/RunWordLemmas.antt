@@ -1,10 +1,9 @@
 -- The words of a text up to a place before which no run of words ends.
-use Rattle.std.proofs.Common.{◌≡◌, ℕ, zero, suc, ◌+◌, ◌-◌, ◌<◌, ◌≤◌, ◌==◌, ◌&&◌, ◌||◌, Bool, true, false, not, cond, eqb-true, List, [], ◌∷◌, ◌++◌, length, take, drop, get_or, refl, sym, ap, ap₂, ◌∙◌, inl, inr, arith}
+use Rattle.std.proofs.Common.{◌≡◌, ℕ, zero, suc, ◌+◌, ◌-◌, ◌<◌, ◌≤◌, ◌==◌, ◌&&◌, ◌||◌, Bool, true, false, not, cond, eqb-true, List, [], ◌∷◌, ◌++◌, length, take, drop, get_or, refl, sym, ap, ap₂, ◌∙◌, arith}
 use Rattle.std.specs.List.{list_all, prefix_len}
 use Rattle.std.proofs.Math.Seq.{take-add}
 use Rattle.std.proofs.lemmas.List.{drop-drop, get_or-drop, get_or_default, get_or_past, length-drop, length-take-le}
 use Rattle.std.proofs.lemmas.List.Sums.{prefix_len-le-length}
-use Rattle.std.proofs.lemmas.Bool.{cases_Bool}
 use Rattle.std.proofs.lemmas.Bool.Decides.{nat_tests}
 use Rattle.page_core_base.specs.Words.{blank_words, hyphen, is_printable}
 use Rattle.page_core_escapes.specs.Tokens.{begins_word, is_white, prints_itself}
@@ -37,18 +36,19 @@ neither true y e = let no : ⊥ = cc in absurd no
 neither false y e = (refl, e)
 
 -- what is printable is no tab
-no_tab : (x : ℕ) (e k : Bool) → ((not (is_printable x) || e) || k) ≡ false → ((x == 9 || e) || k) ≡ false
-no_tab x e k h = elim (cases_Bool (is_printable x)) [
-  | inl is ↦ let none : (x == 9) ≡ false = grind (arith, nat_tests, is) in rw none (rw is at h)
-  | inr no ↦ let never : true ≡ false = rw no at h in absurd (grind (arith, never))
-]
+no_tab : (x : ℕ) → is_printable x ≡ true → (x == 9) ≡ false
+no_tab x h = grind (arith, nat_tests, h)
+
+tab_free : (t p e k : Bool) → (p ≡ true → t ≡ false) → ((not p || e) || k) ≡ false → ((t || e) || k) ≡ false
+tab_free t true e k f h = rw (f refl) h
+tab_free t false e k f h = let no : ⊥ = cc in absurd no
 
 -- a byte that ends no run is no hyphen, and nothing else that ends one
 no_end : (quoted : Bool) (x next : ℕ) → ends_run quoted x next ≡ false
     → ((x == 45) ≡ false) × (((x == 9 || (x == 92 || (quoted && x == 34))) || (x == 32 && next == 32)) ≡ false)
 no_end quoted x next e =
     let parts = neither (x == 45) ((not (is_printable x) || (x == 92 || (quoted && x == 34))) || (x == 32 && next == 32)) e in
-    (parts.0, no_tab x (x == 92 || (quoted && x == 34)) (x == 32 && next == 32) parts.1)
+    (parts.0, tab_free (x == 9) (is_printable x) (x == 92 || (quoted && x == 34)) (x == 32 && next == 32) (no_tab x) parts.1)
 
 -- what does not print itself and ends no run is a blank
 blank_byte : (quoted : Bool) (x next : ℕ) → prints_itself quoted x ≡ false → ends_run quoted x next ≡ false → x ≡ 32
