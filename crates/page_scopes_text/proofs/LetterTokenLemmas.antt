@@ -1,5 +1,5 @@
 -- Tokens at a text's front that are taken as letters.
-use Rattle.std.proofs.Common.{◌≡◌, ℕ, zero, suc, ◌+◌, ◌<◌, ◌≤◌, ◌==◌, ◌||◌, Bool, true, false, not, cond, List, [], ◌∷◌, ◌++◌, length, take, drop, slice_index, refl, ap, sym, ◌∙◌, append-nil, arith}
+use Rattle.std.proofs.Common.{◌≡◌, ℕ, zero, suc, ◌+◌, ◌<◌, ◌≤◌, ◌==◌, ◌||◌, Bool, true, false, not, cond, List, [], ◌∷◌, ◌++◌, length, take, drop, refl, ap, sym, ◌∙◌, append-nil, arith}
 use Rattle.std.specs.List.{list_any, prefix_len}
 use Rattle.std.proofs.lemmas.List.{length-take-le}
 use Rattle.std.proofs.lemmas.Bool.Decides.{nat_tests}
@@ -9,7 +9,7 @@ use Rattle.page_core_base.proofs.WordPartLemmas.{whole-first}
 use Rattle.page_core_escapes.specs.Escapes.{escape_of}
 use Rattle.page_core_escapes.specs.Meanings as meanings
 use Rattle.page_core_escapes.specs.Meanings.{Face, is_known}
-use Rattle.page_core_escapes.specs.Tokens.{TextToken, escaped, plain, prints_itself, token_at, token_bytes, token_len}
+use Rattle.page_core_escapes.specs.Tokens.{TextToken, escaped, plain, token_at, token_bytes, token_len}
 use Rattle.page_core_escapes.specs.machine.ShortEscapes.{ShortFont}
 use Rattle.page_scopes_words.specs.Fonts.{face_fonts, fonts_after}
 use Rattle.page_scopes_words.specs.declared.fonts.Fonts.{Fonts}
@@ -17,7 +17,7 @@ use Rattle.page_scopes_words.specs.declared.settings.Setting.{Setting}
 use Rattle.page_scopes_words.specs.machine.Letters.{IsPart, ends_part, letters_in}
 use Rattle.page_scopes_text.proofs.LetterLemmas.{font_lettered, one_part_of, plain_lettered}
 use Rattle.page_scopes_text.proofs.PartedLemmas.{plain_token, plain_word}
-use Rattle.page_scopes_text.specs.machine.Letters.{ReadsToken, TakesToken}
+use Rattle.page_scopes_text.specs.machine.Letters.{ReadsToken}
 
 -- ---- parts that print themselves
 

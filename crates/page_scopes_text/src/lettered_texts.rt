@@ -180,8 +180,11 @@ fn give_read<'a, O: PieceOut>(
     if !is_ascii_at(text, 0) {
         return None;
     }
+    if !takes_words(out) {
+        return None;
+    }
     let mut letters = Letters::new();
-    if !takes_words(out) || !letters.add(Font::R, b" ") {
+    if !letters.add(Font::R, b" ") {
         return None;
     }
     let (next, rest) = read_first(style, pen.fonts, &mut letters, len, text)?;
