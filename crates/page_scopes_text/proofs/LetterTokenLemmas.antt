@@ -1,35 +1,36 @@
 -- Tokens at a text's front that are taken as letters.
-use Rattle.std.proofs.Common.{◌≡◌, ℕ, zero, suc, ◌+◌, ◌<◌, ◌≤◌, ◌==◌, ◌&&◌, ◌||◌, Bool, true, false, not, cond, List, [], ◌∷◌, ◌++◌, length, take, drop, slice_index, refl, ap, sym, ◌∙◌, append-nil, arith}
+use Rattle.std.proofs.Common.{◌≡◌, ℕ, zero, suc, ◌+◌, ◌<◌, ◌≤◌, ◌==◌, ◌||◌, Bool, true, false, not, cond, List, [], ◌∷◌, ◌++◌, length, take, drop, refl, ap, sym, ◌∙◌, append-nil, arith}
 use Rattle.std.specs.List.{list_any, prefix_len}
 use Rattle.std.proofs.lemmas.List.{length-take-le}
 use Rattle.std.proofs.lemmas.Bool.Decides.{nat_tests}
-use Rattle.page_core_base.specs.Words.{hyphen, is_word, parts_of}
+use Rattle.page_core_base.specs.Words.{hyphen, is_printable, is_word, parts_of}
 use Rattle.page_core_base.specs.declared.cells.Cell.{Cell}
 use Rattle.page_core_base.proofs.WordPartLemmas.{whole-first}
 use Rattle.page_core_escapes.specs.Escapes.{escape_of}
 use Rattle.page_core_escapes.specs.Meanings as meanings
 use Rattle.page_core_escapes.specs.Meanings.{Face, is_known}
-use Rattle.page_core_escapes.specs.Tokens.{TextToken, escaped, plain, prints_itself, token_at, token_bytes, token_len}
+use Rattle.page_core_escapes.specs.Tokens.{TextToken, escaped, plain, token_at, token_bytes, token_len}
 use Rattle.page_core_escapes.specs.machine.ShortEscapes.{ShortFont}
 use Rattle.page_scopes_words.specs.Fonts.{face_fonts, fonts_after}
 use Rattle.page_scopes_words.specs.declared.fonts.Fonts.{Fonts}
 use Rattle.page_scopes_words.specs.declared.settings.Setting.{Setting}
-use Rattle.page_scopes_words.specs.machine.Letters.{IsPart, letters_in}
+use Rattle.page_scopes_words.specs.machine.Letters.{IsPart, ends_part, letters_in}
 use Rattle.page_scopes_text.proofs.LetterLemmas.{font_lettered, one_part_of, plain_lettered}
 use Rattle.page_scopes_text.proofs.PartedLemmas.{plain_token, plain_word}
-use Rattle.page_scopes_text.specs.machine.Letters.{ReadsToken, TakesToken}
+use Rattle.page_scopes_text.specs.machine.Letters.{ReadsToken}
 
 -- ---- parts that print themselves
 
-free_step : (b any : Bool) (m n : ℕ) → suc n ≤ cond (not b) (1 + m) 0 → (n ≤ m → any ≡ false) → (b || any) ≡ false
-free_step true any m n h g = absurd (omega (arith, h))
-free_step false any m n h g = g (omega (arith, h))
+free_step : (b c any : Bool) (m n : ℕ) → suc n ≤ cond (not (b || c)) (1 + m) 0 → (n ≤ m → any ≡ false) → (b || any) ≡ false
+free_step true c any m n h g = absurd (omega (arith, h))
+free_step false true any m n h g = absurd (omega (arith, h))
+free_step false false any m n h g = g (omega (arith, h))
 
-free_front : (text : List ℕ) (n : ℕ) → n ≤ prefix_len (λ byte. not (byte == hyphen)) text → list_any (λ byte. byte == hyphen) (take n text) ≡ false
+free_front : (text : List ℕ) (n : ℕ) → n ≤ prefix_len (λ byte. not (ends_part byte)) text → list_any (λ byte. byte == hyphen) (take n text) ≡ false
 free_front text zero h = refl
 free_front [] (suc n) h = refl
 free_front (x ∷ xs) (suc n) h =
-    free_step (x == hyphen) (list_any (λ byte. byte == hyphen) (take n xs)) (prefix_len (λ byte. not (byte == hyphen)) xs) n h (free_front xs n)
+    free_step (x == hyphen) (not (is_printable x)) (list_any (λ byte. byte == hyphen) (take n xs)) (prefix_len (λ byte. not (ends_part byte)) xs) n h (free_front xs n)
 
 some_length : (n : ℕ) → 0 < n → (n == 0) ≡ false
 some_length n h = grind (arith, nat_tests, h)

@@ -11,7 +11,7 @@ use Rattle.page_core_base.specs.Pieces.{Item, shown}
 use Rattle.page_core_base.specs.Words.{blank_words, lettered_cells, lettered_pieces}
 use Rattle.page_core_base.specs.declared.cells.Cell.{Cell}
 use Rattle.page_core_base.specs.declared.cells.Font.{Font}
-use Rattle.page_core_base.specs.declared.cells.Font.TheVariants.{R}
+use Rattle.page_core_base.specs.declared.cells.Font.TheVariants.{R, I, B, BI}
 use Rattle.page_core_base.specs.declared.pieces.Piece.{Piece}
 use Rattle.page_core_base.specs.declared.pieces.Piece.TheVariants.{Blank}
 use Rattle.page_core_base.specs.declared.places.Place.{Place}
@@ -34,7 +34,7 @@ use Rattle.page_scopes_words.specs.Pens.{gap_after, pen_after, pen_through, word
 use Rattle.page_scopes_words.specs.machine.Pens.{resting}
 use Rattle.page_scopes_words.specs.declared.pens.Pen.{Pen}
 use Rattle.page_scopes_words.specs.declared.pens.TextStyle.{TextStyle}
-use Rattle.page_scopes_text.specs.machine.LetteredTexts.{GivesFront, GoesOn, PrintsFirst}
+use Rattle.page_scopes_text.specs.machine.LetteredTexts.{GivesFront, GoesOn, PrintsFirst, is_in_font}
 use Rattle.page_scopes_text.specs.machine.Letters.{AddsWord, AddsWords, ReadsLetters, inside}
 use Rattle.page_scopes_text.specs.machine.Runs.{BeginsRun, RunOf}
 
@@ -121,7 +121,7 @@ front_adds style fonts text run rest before after literal roman size begins e k 
 )
 
 -- a whole text after a blank
-pub roman_adds : (style : TextStyle) (fonts : Setting Fonts) (text : List ℕ) → style.is_literal ≡ false → fonts.value.font ≡ R
+roman_adds : (style : TextStyle) (fonts : Setting Fonts) (text : List ℕ) → style.is_literal ≡ false → fonts.value.font ≡ R
     → begins_word text ≡ true → RunGoesOn style.is_quoted text 0 (length text)
     → PrintsFirst style.is_quoted fonts text × AddsWords style fonts [] (32 ∷ text) fonts (letters_in R (32 ∷ text)) (drop (length text) text)
 roman_adds style fonts text literal roman begins goes =
@@ -150,25 +150,36 @@ word_cells font place text =
     ap (λ (cells : List Cell). record { c = 32; font = R } ∷ cells) (append-nil (letters_in font text ++ []) ∙ append-nil (letters_in font text))
 
 -- a whole text that is one word, after a blank
-pub font_adds : (style : TextStyle) (fonts : Setting Fonts) (text : List ℕ) → style.is_literal ≡ false → begins_word text ≡ true
+font_adds : (style : TextStyle) (fonts : Setting Fonts) (font : Font) (text : List ℕ) → fonts.value.font ≡ font → style.is_literal ≡ false → begins_word text ≡ true
     → list_all (λ byte. not (byte == 32)) text ≡ true → RunGoesOn style.is_quoted text 0 (length text)
     → PrintsFirst style.is_quoted fonts text
-    × AddsWords style fonts [] (32 ∷ text) fonts (record { c = 32; font = R } ∷ letters_in fonts.value.font text) (drop (length text) text)
-font_adds style fonts text literal begins one goes =
+    × AddsWords style fonts [] (32 ∷ text) fonts (record { c = 32; font = R } ∷ letters_in font text) (drop (length text) text)
+font_adds style fonts font text e literal begins one goes =
     let all = take_all (length text) text (omega arith) in
     let run : BeginsRun style.is_quoted (32 ∷ text) (32 ∷ text) (drop (length text) text) =
     rw all at (front_to_end style.is_quoted text (length text) begins (omega arith) (omega arith) goes) in
     let size : length (32 ∷ text) + length (drop (length text) text) ≡ length (32 ∷ text) = omega (arith, length-drop (length text) text) in
     let only = one_word text run.0 one run.1.bytes in
-    let cells : List Cell = record { c = 32; font = R } ∷ letters_in fonts.value.font text in (
+    let cells : List Cell = record { c = 32; font = R } ∷ letters_in font text in
+    let same = ap (λ (f : Font). record { c = 32; font = R } ∷ letters_in f text) e in (
       run_prints style.is_quoted fonts text text (drop (length text) text) begins run,
       (
         cells,
         refl,
         run_reads_as style fonts (32 ∷ text) (32 ∷ text) (drop (length text) text) cells literal size run
-            (λ place. ap (λ (words : List (List ℕ)). lettered_cells (run_words fonts.value.font place words)) only ∙ word_cells fonts.value.font place text),
+            (λ place. ap (λ (words : List (List ℕ)). lettered_cells (run_words fonts.value.font place words)) only ∙ word_cells fonts.value.font place text ∙ same),
       ),
     )
+
+-- a whole text that is in its font, after a blank
+pub whole_adds : (style : TextStyle) (fonts : Setting Fonts) (font : Font) (text : List ℕ) → fonts.value.font ≡ font → style.is_literal ≡ false → begins_word text ≡ true
+    → is_in_font font text ≡ true → RunGoesOn style.is_quoted text 0 (length text)
+    → PrintsFirst style.is_quoted fonts text
+    × AddsWords style fonts [] (32 ∷ text) fonts (record { c = 32; font = R } ∷ letters_in font text) (drop (length text) text)
+whole_adds style fonts R text e literal begins one goes = roman_adds style fonts text literal e begins goes
+whole_adds style fonts I text e literal begins one goes = font_adds style fonts I text e literal begins one goes
+whole_adds style fonts B text e literal begins one goes = font_adds style fonts B text e literal begins one goes
+whole_adds style fonts BI text e literal begins one goes = font_adds style fonts BI text e literal begins one goes
 
 -- a word after a blank
 pub first_adds : (style : TextStyle) (fonts next : Setting Fonts) (text rest : List ℕ) (before after : List Cell) → style.is_literal ≡ false
@@ -306,16 +317,16 @@ counted_blanks blanks [] items more some e = absurd (omega (arith, some))
 counted_blanks blanks (word ∷ words) items more some e = ap (λ (all : List Item). shown (Blank blanks false) ∷ drop 1 all) e
 
 pub front_came : {P S : Type 0} (left : P → S → List Item → Type 0) (style : TextStyle) (line : ℕ) (pen : Pen) (fonts : Setting Fonts) (text rest : List ℕ)
-    (s t u : S) → GoesOn style pen → begins_word text ≡ true → Came left s [] t → GivesFront style pen text fonts rest (Came left) t u
+    (s t : S) → GoesOn style pen → begins_word text ≡ true → GivesFront style pen text fonts rest (Came left) s t
     → CameUpTo left s (text_items style line pen (words_of style.is_quoted text))
-    (others_items style line (resting fonts (pen.column + (length text - length rest))) (words_of style.is_quoted rest).others) u
-front_came left style line pen fonts text rest s t u h begins none front = λ plan more k.
+    (others_items style line (resting fonts (pen.column + (length text - length rest))) (words_of style.is_quoted rest).others) t
+front_came left style line pen fonts text rest s t h begins front = λ plan more k.
     let after = pen.column + (length text - length rest) in
     let e : after + length rest ≡ pen.column - 1 + suc (length text) = omega (arith, front.less, h.column) in
     let g = front.adds.2.gives line (pen.column - 1) after e in
     let cells : length (lettered_cells g.0) ≡ length front.cells = ap (λ (c : List Cell). length c) (g.2 ∙ sym front.adds.1) in
     let here = text_same style line pen text h begins front.prints ∙ counted_blanks pen.gap g.0 _ _ (omega (arith, cells, front.some)) g.3 in
-    front.gives g.0 g.1 (front.adds.1 ∙ sym g.2) plan _ (none plan _ (rw (here, append_assoc) at k))
+    front.gives g.0 g.1 (front.adds.1 ∙ sym g.2) plan _ (rw (here, append_assoc) at k)
 
 pub front_pen : {S : Type 0} (gave : S → List Item → S → Type 0) (style : TextStyle) (pen : Pen) (fonts : Setting Fonts) (text rest : List ℕ) (s t : S)
     → GoesOn style pen → begins_word text ≡ true → GivesFront style pen text fonts rest gave s t
@@ -334,10 +345,6 @@ front_left left style blanks fonts next text rest cells s t adds gives =
     gives g.0 g.1 (adds.1 ∙ sym g.2)
 
 -- ---- no words
-
-pub no_cells : [] ≡ lettered_cells []
-unfolding lettered_cells
-no_cells = refl
 
 pub none_given : {P S : Type 0} (left : P → S → List Item → Type 0) (blanks : ℕ) (taken : Bool) (s t : S)
     → Came left s (if taken then map shown (lettered_pieces blanks []) else []) t → Came left s [] t

@@ -1,20 +1,21 @@
 -- Runs of roman words, each of one part, as words of letters, and where a run is cut.
-use Rattle.std.proofs.Common.{◌≡◌, ℕ, zero, suc, ◌+◌, ◌<◌, ◌≤◌, Bool, true, false, not, ◌&&◌, List, [], ◌∷◌, ◌++◌, length, map, take, drop, get_or, replicate, refl, ap, ap₂, sym, ◌∙◌, append-nil, length-append, arith}
+use Rattle.std.proofs.Common.{◌≡◌, ℕ, zero, suc, ◌+◌, ◌-◌, ◌<◌, ◌≤◌, Bool, true, false, not, ◌&&◌, List, [], ◌∷◌, ◌++◌, length, map, take, drop, get_or, replicate, refl, ap, ap₂, sym, ◌∙◌, append-nil, length-append, arith}
 use Rattle.std.specs.Prelude.{◌==◌}
 use Rattle.std.specs.List.{list_all}
-use Rattle.std.proofs.lemmas.List.{length-take-le, map-append, take-append-drop}
+use Rattle.std.proofs.lemmas.List.{length-drop, length-take-le, map-append, take-append-drop}
 use Rattle.std.proofs.lemmas.List.Folds.{list_all-append}
 use Rattle.std.proofs.Math.Seq.{take-append_seam}
 use Rattle.page_core_base.specs.Latches.{Came}
 use Rattle.page_core_base.specs.Pieces.{Item, shown}
 use Rattle.page_core_base.specs.Rows.{cells_in}
-use Rattle.page_core_base.specs.Words.{TakesWords, blank_words, ends_part, hyphen, in_first, is_lettered_word, is_word, lettered_cells, lettered_pieces, parts_after, parts_of, word_items}
+use Rattle.page_core_base.specs.Words.{TakesWords, blank_words, ends_part, hyphen, in_first, is_lettered_word, is_word, joined_cells, lettered_cells, lettered_pieces, parts_after, parts_of, word_items}
 use Rattle.page_core_base.specs.declared.cells.Cell.{Cell}
 use Rattle.page_core_base.specs.declared.cells.Font.{Font}
 use Rattle.page_core_base.specs.declared.cells.Font.TheVariants.{R}
 use Rattle.page_core_base.specs.declared.pieces.Piece.{Piece}
 use Rattle.page_core_base.specs.declared.pieces.Piece.TheVariants.{Text}
 use Rattle.page_core_base.specs.declared.places.Place.{Place}
+use Rattle.page_scopes_words.proofs.LetterCellLemmas.{joined, rest_first}
 use Rattle.page_scopes_text.proofs.RunLemmas.{blank_words-append, next_items, no_first}
 use Rattle.page_scopes_text.specs.machine.Runs.{TakesFront, is_whole_word}
 
@@ -77,9 +78,24 @@ words_cells place (word ∷ words) =
     (map-append roman word (blank_words words)
     ∙ ap₂ (λ (a b : List Cell). a ++ b) (sym (append-nil (map roman word))) (words_cells (record place { column = place.column + (1 + length word) }) words))
 
-pub run_cells : (place : Place) (words : List (List ℕ)) (bytes : List ℕ) → bytes ≡ blank_words words
-    → cells_in bytes (replicate (length bytes) R) ≡ lettered_cells (run_words R place words)
-run_cells place words bytes e = roman_cells bytes ∙ ap (map roman) e ∙ words_cells place words
+rest_cells : (bytes : List ℕ) → drop 1 (map roman bytes) ≡ map roman (drop 1 bytes)
+rest_cells [] = refl
+rest_cells (b ∷ bytes) = refl
+
+-- the cells without the first blank
+run_joined : (place : Place) (words : List (List ℕ)) (bytes : List ℕ) → bytes ≡ blank_words words
+    → cells_in (drop 1 bytes) (replicate (length (drop 1 bytes)) R) ≡ joined_cells (run_words R place words)
+run_joined place words bytes e =
+    roman_cells (drop 1 bytes) ∙ sym (rest_cells bytes) ∙ joined (map roman bytes) (run_words R place words) (ap (map roman) e ∙ words_cells place words)
+
+front_cells : (place : Place) (words : List (List ℕ)) (text : List ℕ) (len : ℕ) → 0 < len → len ≤ length text → take len text ≡ blank_words words
+    → cells_in (take (len - 1) (drop 1 text)) (replicate (len - 1) R) ≡ joined_cells (run_words R place words)
+front_cells place words text len some within is =
+    let bytes = take len text in
+    let back : suc (len - 1) ≡ len = omega (arith, some) in
+    let rest : take (len - 1) (drop 1 text) ≡ drop 1 bytes = rest_first (len - 1) text ∙ ap (λ (n : ℕ). drop 1 (take n text)) back in
+    let size : len - 1 ≡ length (drop 1 bytes) = omega (arith, length-drop 1 bytes, length-take-le len text within) in
+    ap₂ (λ (b : List ℕ) (n : ℕ). cells_in b (replicate n R)) rest size ∙ run_joined place words bytes is
 
 no_bytes : 0 ≡ length (blank_words [])
 unfolding blank_words
@@ -131,30 +147,26 @@ first_bytes words count len text e k =
     e ∙ ap blank_words (sym (take-append-drop count words)) ∙ blank_words-append (take count words) (drop count words) in
     rw (bytes, k) (take-append_seam (blank_words (take count words)) (blank_words (drop count words)))
 
-pub front_taken : {P S : Type 0} (left : P → S → List Item → Type 0) (place : Place) (text : List ℕ) (len : ℕ) (s t : S) → len ≤ length text
-    → (0 < len → len < length text → get_or text len 0 ≡ 32) → TakesWords 1 (take len text) (replicate len R) true (Came left) s t
+pub front_taken : {P S : Type 0} (left : P → S → List Item → Type 0) (place : Place) (text : List ℕ) (len : ℕ) (s t : S) → 0 < len → len ≤ length text
+    → (0 < len → len < length text → get_or text len 0 ≡ 32) → TakesWords 1 (take (len - 1) (drop 1 text)) (replicate (len - 1) R) true (Came left) s t
     → TakesFront text R place len (Came left) s t
-front_taken left place text len s t within blank takes = λ words are bytes.
+front_taken left place text len s t some within blank takes = λ words are bytes.
     let cut = cut_count words len are (rw bytes at within) (rw bytes at blank) in
     let front = take cut.0 words in
     let ok = are_first words cut.0 are in
     let is = first_bytes words cut.0 len text bytes cut.1 in
-    let size : len ≡ length (take len text) = sym (length-take-le len text within) in
-    let cells : cells_in (take len text) (replicate len R) ≡ lettered_cells (run_words R place front) =
-    ap (λ (n : ℕ). cells_in (take len text) (replicate n R)) size ∙ run_cells place front (take len text) is in
+    let cells = front_cells place front text len some within is in
     (cut.0, cut.1, rw (run_pieces R place front ok) (takes (run_words R place front) (run_lettered R place front ok) cells))
 
-pub front_left : {P S : Type 0} (left : P → S → List Item → Type 0) (place : Place) (text : List ℕ) (len : ℕ) (s t : S) → len ≤ length text
-    → (0 < len → len < length text → get_or text len 0 ≡ 32) → TakesWords 1 (take len text) (replicate len R) false (Came left) s t
+pub front_left : {P S : Type 0} (left : P → S → List Item → Type 0) (place : Place) (text : List ℕ) (len : ℕ) (s t : S) → 0 < len → len ≤ length text
+    → (0 < len → len < length text → get_or text len 0 ≡ 32) → TakesWords 1 (take (len - 1) (drop 1 text)) (replicate (len - 1) R) false (Came left) s t
     → TakesFront text R place 0 (Came left) s t
-front_left left place text len s t within blank takes = λ words are bytes.
+front_left left place text len s t some within blank takes = λ words are bytes.
     let cut = cut_count words len are (rw bytes at within) (rw bytes at blank) in
     let front = take cut.0 words in
     let ok = are_first words cut.0 are in
     let is = first_bytes words cut.0 len text bytes cut.1 in
-    let size : len ≡ length (take len text) = sym (length-take-le len text within) in
-    let cells : cells_in (take len text) (replicate len R) ≡ lettered_cells (run_words R place front) =
-    ap (λ (n : ℕ). cells_in (take len text) (replicate n R)) size ∙ run_cells place front (take len text) is in
+    let cells = front_cells place front text len some within is in
     (0, no_bytes, rw (no_first R place) (takes (run_words R place front) (run_lettered R place front ok) cells))
 
 -- nothing is taken

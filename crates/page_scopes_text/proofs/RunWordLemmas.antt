@@ -4,7 +4,8 @@ use Rattle.std.specs.List.{list_all, prefix_len}
 use Rattle.std.proofs.Math.Seq.{take-add}
 use Rattle.std.proofs.lemmas.List.{drop-drop, get_or-drop, get_or_default, get_or_past, length-drop, length-take-le}
 use Rattle.std.proofs.lemmas.List.Sums.{prefix_len-le-length}
-use Rattle.page_core_base.specs.Words.{blank_words, hyphen}
+use Rattle.std.proofs.lemmas.Bool.Decides.{nat_tests}
+use Rattle.page_core_base.specs.Words.{blank_words, hyphen, is_printable}
 use Rattle.page_core_escapes.specs.Tokens.{begins_word, is_white, prints_itself}
 use Rattle.page_scopes_text.proofs.PartedLemmas.{reads_front}
 use Rattle.page_scopes_text.proofs.PlainWordLemmas.{ReadsBlankWord, reads_blank_word}
@@ -34,10 +35,20 @@ neither : (h y : Bool) → (h || y) ≡ false → (h ≡ false) × (y ≡ false)
 neither true y e = let no : ⊥ = cc in absurd no
 neither false y e = (refl, e)
 
+-- what is printable is no tab
+no_tab : (x : ℕ) → is_printable x ≡ true → (x == 9) ≡ false
+no_tab x h = grind (arith, nat_tests, h)
+
+tab_free : (t p e k : Bool) → (p ≡ true → t ≡ false) → ((not p || e) || k) ≡ false → ((t || e) || k) ≡ false
+tab_free t true e k f h = rw (f refl) h
+tab_free t false e k f h = let no : ⊥ = cc in absurd no
+
 -- a byte that ends no run is no hyphen, and nothing else that ends one
 no_end : (quoted : Bool) (x next : ℕ) → ends_run quoted x next ≡ false
     → ((x == 45) ≡ false) × (((x == 9 || (x == 92 || (quoted && x == 34))) || (x == 32 && next == 32)) ≡ false)
-no_end quoted x next e = neither (x == 45) ((x == 9 || (x == 92 || (quoted && x == 34))) || (x == 32 && next == 32)) e
+no_end quoted x next e =
+    let parts = neither (x == 45) ((not (is_printable x) || (x == 92 || (quoted && x == 34))) || (x == 32 && next == 32)) e in
+    (parts.0, tab_free (x == 9) (is_printable x) (x == 92 || (quoted && x == 34)) (x == 32 && next == 32) (no_tab x) parts.1)
 
 -- what does not print itself and ends no run is a blank
 blank_byte : (quoted : Bool) (x next : ℕ) → prints_itself quoted x ≡ false → ends_run quoted x next ≡ false → x ≡ 32

@@ -7,18 +7,18 @@ ghost use Rattle.page_core_escapes.specs.Tokens.{begins_word};
 ghost use Rattle.page_scopes_text.specs.Parted.{words_of};
 ghost use Rattle.page_scopes_text.specs.Texts as texts;
 ghost use Rattle.page_scopes_text.specs.machine.Letters.{AddsWords};
-ghost use Rattle.page_scopes_text.specs.machine.LetteredTexts.{GivesFront, GoesOn, PrintsFirst};
+ghost use Rattle.page_scopes_text.specs.machine.LetteredTexts.{GivesFront, GoesOn, PrintsFirst, is_in_font};
 ghost use Rattle.page_scopes_text.specs.machine.Reads.{Fits, Within};
 ghost use Rattle.page_scopes_text.specs.machine.Runs.{BeginsRun};
 ghost use Rattle.page_scopes_words.specs.machine.Letters.{letters_in};
 ghost use Rattle.page_scopes_words.specs.machine.RunEnds.{GoesOn as RunGoesOn};
 ghost use Rattle.page_core_base.specs.declared.cells.Font.TheVariants.{R};
 
-use crate::lettered_words::{read_letters, read_words};
+use crate::lettered_words::{is_ascii_at, read_letters, read_words};
 use page_core_base::{Font, LINE, PieceOut};
 use page_scopes_words::{
-    Fonts, Letters, Pen, ROOM, Setting, TextStyle, WORD_ROOM, blank_before, give_after_blanks,
-    give_short_word, going_len, is_plain_word, roman_fonts,
+    Fonts, Letters, Pen, ROOM, Setting, TextStyle, blank_before, equal_fonts, give_after_blanks,
+    going_len, is_plain_word,
 };
 
 // Whether blanks are before the next word, which may be parted, in rows that are filled.
@@ -34,7 +34,7 @@ fn goes_on(style: TextStyle, pen: &Pen) -> bool
 fn takes_words<O: PieceOut>(out: &mut O) -> bool
     ensures { Came O.left out.old [] out.new }
 {
-    out.give_words(1, b"", roman_fonts(0))
+    out.give_words(1, b"", equal_fonts(Font::R, 0))
 }
 
 // How many bytes at the front of a text are roman, and end no run of words.
@@ -50,58 +50,37 @@ fn roman_len(quoted: bool, fonts: Setting<Fonts>, text: &[u8]) -> usize
     }
 }
 
-// Gives a text of roman words that print themselves, with one blank between two, at the pen: what is left of it, which is nothing.
-#[inline(always)]
-fn give_roman<'a, O: PieceOut>(
-    out: &mut O,
-    style: TextStyle,
-    pen: &Pen,
-    text: &'a [u8],
-) -> Option<&'a [u8]>
-    requires literal { style.is_literal ≡ false }
-    requires room { length text.now < ROOM }
-    requires word { begins_word text.now ≡ true }
-    requires goes { RunGoesOn style.is_quoted text.now 0 (length text.now) }
-    requires roman { pen.now.fonts.value.font ≡ R }
-    ensures { MatchOption result (Came O.left out.old [] out.new)
-        (λ rest. GivesFront style pen.now text.now pen.now.fonts rest.now (Came O.left) out.old out.new) }
-{
-    if !give_after_blanks(out, pen.gap, text) {
-        return None;
-    }
-    Some(&text[text.len()..])
-}
-
 // Whether a text is one short word in another font than the roman one, and prints itself.
 #[inline(always)]
 fn is_font_word(quoted: bool, font: Font, text: &[u8]) -> bool
-    ensures short { result ≡ true → length text.now < WORD_ROOM }
-    ensures word { result ≡ true → list_all (λ byte. not (byte == 32)) text.now ≡ true }
+    ensures room { result ≡ true → length text.now ≤ ROOM }
+    ensures font { result ≡ true → is_in_font font text.now ≡ true }
     ensures goes { result ≡ true → RunGoesOn quoted text.now 0 (length text.now) }
 {
-    !matches!(font, Font::R) && text.len() < WORD_ROOM && is_plain_word(quoted, text)
+    !matches!(font, Font::R) && text.len() <= ROOM && is_plain_word(quoted, text)
 }
 
-// Gives a text that is one short word, and prints itself, at the pen: what is left of it, which is nothing.
+// Gives a text that prints itself at the pen, as words with one blank between two in the roman font, or as one word in another: what is left of it,
+// which is nothing.
 #[inline(always)]
-fn give_font_word<'a, O: PieceOut>(
+fn give_whole<'a, O: PieceOut>(
     out: &mut O,
     style: TextStyle,
     pen: &Pen,
     text: &'a [u8],
-) -> Option<&'a [u8]>
+) -> Option<(Setting<Fonts>, &'a [u8])>
     requires literal { style.is_literal ≡ false }
-    requires short { length text.now < WORD_ROOM }
+    requires room { length text.now ≤ ROOM }
     requires word { begins_word text.now ≡ true }
-    requires one { list_all (λ byte. not (byte == 32)) text.now ≡ true }
     requires goes { RunGoesOn style.is_quoted text.now 0 (length text.now) }
+    requires font { is_in_font pen.now.fonts.value.font text.now ≡ true }
     ensures { MatchOption result (Came O.left out.old [] out.new)
-        (λ rest. GivesFront style pen.now text.now pen.now.fonts rest.now (Came O.left) out.old out.new) }
+        (λ found. GivesFront style pen.now text.now found.0 found.1.now (Came O.left) out.old out.new) }
 {
-    if !give_short_word(out, pen.gap, pen.fonts.value.font, text) {
+    if !give_after_blanks(out, pen.gap, pen.fonts.value.font, text) {
         return None;
     }
-    Some(&text[text.len()..])
+    Some((pen.fonts, &text[text.len()..]))
 }
 
 // How many bytes at the front of a text that begins with a word are words that print themselves, with one blank between two, where so many are
@@ -198,6 +177,12 @@ fn give_read<'a, O: PieceOut>(
     ensures { MatchOption result (Came O.left out.old [] out.new)
         (λ found. GivesFront style pen.now text.now found.0 found.1.now (Came O.left) out.old out.new) }
 {
+    if !is_ascii_at(text, 0) {
+        return None;
+    }
+    if !takes_words(out) {
+        return None;
+    }
     let mut letters = Letters::new();
     if !letters.add(Font::R, b" ") {
         return None;
@@ -225,13 +210,11 @@ fn give_front<'a, O: PieceOut>(
         (λ found. GivesFront style pen.now text.now found.0 found.1.now (Came O.left) out.old out.new) }
 {
     if is_font_word(style.is_quoted, pen.fonts.value.font, text) {
-        let rest = give_font_word(out, style, pen, text)?;
-        return Some((pen.fonts, rest));
+        return give_whole(out, style, pen, text);
     }
     let len = roman_len(style.is_quoted, pen.fonts, text);
-    if len == text.len() && len < ROOM {
-        let rest = give_roman(out, style, pen, text)?;
-        return Some((pen.fonts, rest));
+    if len == text.len() && len <= ROOM {
+        return give_whole(out, style, pen, text);
     }
     give_read(out, style, pen, len, text)
 }
@@ -256,7 +239,7 @@ pub(crate) fn give_lettered_front<'a, O: PieceOut>(
     ensures within { IfSome result (λ rest. Within pen.old text.now pen.new rest.now) }
     ensures ends { IfSome result (λ rest. begins_word rest.now ≡ false) }
 {
-    if !goes_on(style, pen) || !takes_words(out) {
+    if !goes_on(style, pen) {
         return None;
     }
     let (fonts, rest) = give_front(out, style, pen, text)?;

@@ -2,13 +2,13 @@
 
 ghost use Rattle.std.specs.Prelude.{◌≡◌, ◌≤◌, ◌<◌, ◌+◌, ◌^◌, ◌==◌, ℕ, List, false, true, [], ◌∷◌, ◌++◌, length, IfSome, MatchOption};
 ghost use Rattle.page_core_base.specs.Latches.{CameUpTo};
-ghost use Rattle.page_core_base.specs.Words.{is_word};
+ghost use Rattle.page_core_base.specs.Words.{is_printable_ascii, is_word};
 ghost use Rattle.page_core_base.specs.declared.cells.Font.TheVariants.{R};
 ghost use Rattle.page_core_escapes.specs.Escapes.{meaning_view};
 ghost use Rattle.page_core_escapes.specs.Tokens.{begins_word, escaped, plain, token_view};
 ghost use Rattle.page_scopes_text.specs.Parted.{words_of};
 ghost use Rattle.page_scopes_text.specs.Texts as texts;
-ghost use Rattle.page_scopes_text.specs.machine.Letters.{AddsWord, AddsWords, Grows, ReadsFont, ReadsToken, TakesToken};
+ghost use Rattle.page_scopes_text.specs.machine.Letters.{AddsWord, AddsWords, Grows, ReadsFont, ReadsToken, TakesToken, is_ascii_at};
 ghost use Rattle.page_scopes_words.specs.machine.Letters.{letters_in};
 ghost use Rattle.page_scopes_text.specs.machine.Reads.{Fits, Within};
 
@@ -17,24 +17,35 @@ use page_core_base::{Font, LINE, PieceOut, first_part_len};
 use page_core_escapes::{Escape, Token, begins_word, read_token, short_font};
 use page_scopes_words::{Fonts, Letters, Pen, ROOM, Setting, TextStyle, fonts_after, part_len};
 
-// Takes bytes that print themselves, if they are one part, and there is room: whether it did.
+// Whether bytes are printable ASCII.
+#[inline(always)]
+fn are_printable(bytes: &[u8]) -> bool
+    ensures { result ≡ is_printable_ascii bytes.now }
+{
+    bytes.iter().all(|byte| b' ' <= *byte && *byte <= b'~')
+}
+
+// Takes bytes that print themselves, if they are one part of printable ASCII, and there is room: whether it did.
 #[inline(always)]
 fn take_part(letters: &mut Letters, font: Font, bytes: &[u8]) -> bool
     requires { is_word bytes.now ≡ true }
     ensures taken { result ≡ true → TakesToken (plain bytes.now) font letters.old letters.new }
     ensures kept { result ≡ false → letters.new ≡ letters.old }
 {
-    first_part_len(bytes) == bytes.len() && letters.add(font, bytes)
+    if !are_printable(bytes) || first_part_len(bytes) < bytes.len() {
+        return false;
+    }
+    letters.add(font, bytes)
 }
 
-// Takes a character of ASCII that is no blank, if there is room: whether it did.
+// Takes a printable character of ASCII that is no blank, if there is room: whether it did.
 #[inline(always)]
 fn take_char(letters: &mut Letters, font: Font, c: char) -> bool
     ensures letter { result ≡ true → (c == 32) ≡ false }
     ensures taken { result ≡ true → letters.new ≡ letters.old ++ letters_in font (c ∷ []) }
     ensures kept { result ≡ false → letters.new ≡ letters.old }
 {
-    if !c.is_ascii() || c == ' ' {
+    if c <= ' ' || c > '~' {
         return false;
     }
     letters.add(font, &[c as u8])
@@ -312,6 +323,14 @@ pub(crate) fn read_words<'a>(
     (fonts, rest)
 }
 
+/// Whether there is a byte of ASCII at a place of a text: else no look is taken for words of letters there, since most words of some languages have none.
+#[inline(always)]
+pub(crate) fn is_ascii_at(text: &[u8], place: usize) -> bool
+    ensures { result ≡ is_ascii_at text.now place }
+{
+    place < text.len() && text[place].is_ascii()
+}
+
 /// Gives the words of letters at a text's front, with one blank before each, in rows that are filled: what is left of the text. Where they are
 /// not taken no more are to be tried.
 pub(crate) fn give_lettered_words<'a, O: PieceOut>(
@@ -332,7 +351,7 @@ pub(crate) fn give_lettered_words<'a, O: PieceOut>(
     ensures within { Within pen.old text.now pen.new result.now }
     ensures ends { begins_word result.now ≡ false }
 {
-    if style.is_literal || !pen.is_resting() {
+    if style.is_literal || !pen.is_resting() || !is_ascii_at(text, 1) {
         return text;
     }
     let mut letters = Letters::new();

@@ -1,26 +1,27 @@
-//! Runs of words that print themselves, with one blank before each: most of a page (roff(7), "LANGUAGE SYNTAX").
+//! Runs of words of printable ASCII, with one blank before each: most of a page (roff(7), "LANGUAGE SYNTAX").
 
-ghost use Rattle.std.specs.Prelude.{◌≡◌, ◌≤◌, ◌<◌, ◌+◌, ◌^◌, ℕ, List, false, true, [], ◌∷◌, ◌==◌, not, length, take, drop, slice_index, MatchOption};
+ghost use Rattle.std.specs.Prelude.{◌≡◌, ◌≤◌, ◌<◌, ◌+◌, ◌^◌, ℕ, List, false, true, [], ◌∷◌, ◌==◌, not, length, take, drop, slice_index, IfSome, MatchOption};
 ghost use Rattle.std.specs.List.{list_all, prefix_len};
 ghost use Rattle.page_core_base.specs.Latches.{Came};
 ghost use Rattle.page_core_base.specs.declared.cells.Font.TheVariants.{R};
 ghost use Rattle.page_core_base.specs.declared.places.Place.{Place};
 ghost use Rattle.page_core_base.specs.Pieces.{shown};
-ghost use Rattle.page_core_base.specs.Words.{blank_words, word_items};
+ghost use Rattle.page_core_base.specs.Words.{blank_words, is_printable_ascii, word_items};
 ghost use Rattle.page_core_escapes.specs.Tokens.{begins_word};
 ghost use Rattle.page_scopes_text.specs.machine.Runs.{BeginsRun, BeginsWith, TakesFront, is_whole_word};
 ghost use Rattle.page_scopes_text.specs.Words as words;
 
 use crate::parts::give_parts;
 use page_core_base::{Font, LINE, Piece, PieceOut, Place};
-use page_scopes_words::{ROOM, blank_before, going_len, roman_fonts};
+use page_scopes_words::{ROOM, blank_before, equal_fonts, going_len};
 
-/// How many bytes at a text's front, at most a number, are words that print themselves, with one blank before each, and without a hyphen.
+/// How many bytes at a text's front, at most a number, are words of printable ASCII, with one blank before each, and without a hyphen.
 #[inline(always)]
 pub(crate) fn run_len(quoted: bool, text: &[u8], most: usize) -> usize
     requires short { length text.now ≤ LINE }
     requires word { begins_word text.now ≡ false }
     ensures within { result ≤ length text.now }
+    ensures ascii { is_printable_ascii (take result text.now) ≡ true }
     ensures run { BeginsRun quoted text.now (take result text.now) (drop result text.now) }
 {
     let len = going_len(quoted, text);
@@ -58,6 +59,7 @@ fn word_len(text: &[u8]) -> usize
 fn split_word(text: &[u8]) -> Option<(&[u8], &[u8])>
     ensures first { (words : List (List ℕ)) → list_all is_whole_word words ≡ true → text.now ≡ blank_words words
         → MatchOption result (words ≡ []) (λ parts. BeginsWith words parts.0.now parts.1.now) }
+    ensures ascii { is_printable_ascii text.now ≡ true → IfSome result (λ parts. is_printable_ascii parts.1.now ≡ true) }
     ensures less { MatchOption result (length text.now ≡ 0)
         (λ parts. (1 + length parts.0.now) + length parts.1.now ≡ length text.now) }
 {
@@ -84,11 +86,15 @@ fn front_len(text: &[u8]) -> usize
 // Gives roman words at a text's front in one call, where it takes them: how many bytes these are.
 #[inline(always)]
 fn give_roman<O: PieceOut>(out: &mut O, text: &[u8]) -> usize
+    requires { is_printable_ascii text.now ≡ true }
     ensures within { result ≤ length text.now }
     ensures takes { (place : Place) → TakesFront text.now R place result (Came O.left) out.old out.new }
 {
     let len = front_len(text);
-    if out.give_words(1, &text[..len], roman_fonts(len)) {
+    if len == 0 {
+        return 0;
+    }
+    if out.give_words(1, &text[1..len], equal_fonts(Font::R, len - 1)) {
         return len;
     }
     0
@@ -97,6 +103,7 @@ fn give_roman<O: PieceOut>(out: &mut O, text: &[u8]) -> usize
 // Gives words at a text's front in one call, where they are roman and it takes them: how many bytes these are.
 #[inline(always)]
 fn give_front<O: PieceOut>(out: &mut O, font: Font, text: &[u8]) -> usize
+    requires { is_printable_ascii text.now ≡ true }
     ensures within { result ≤ length text.now }
     ensures takes { (place : Place) → TakesFront text.now font place result (Came O.left) out.old out.new }
 {
@@ -110,7 +117,8 @@ fn give_front<O: PieceOut>(out: &mut O, font: Font, text: &[u8]) -> usize
 /// then one, after another.
 #[inline(always)]
 pub(crate) fn give_run<O: PieceOut>(out: &mut O, font: Font, place: Place, text: &[u8])
-    requires { place.column + length text.now < 2 ^ 32 }
+    requires column { place.column + length text.now < 2 ^ 32 }
+    requires ascii { is_printable_ascii text.now ≡ true }
     ensures { (words : List (List ℕ)) → list_all is_whole_word words ≡ true → text.now ≡ blank_words words
         → Came O.left out.old (word_items font place words) out.new }
 {

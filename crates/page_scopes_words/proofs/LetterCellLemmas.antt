@@ -1,11 +1,15 @@
 -- Letters as bytes and fonts, each in its place.
-use Rattle.std.proofs.Common.{◌≡◌, ℕ, zero, suc, ◌+◌, ◌≤◌, List, [], ◌∷◌, ◌++◌, length, take, drop, replicate, refl, ap, ap₂, sym, ◌∙◌, append_assoc, length-append, arith}
+use Rattle.std.proofs.Common.{◌≡◌, ℕ, zero, suc, ◌+◌, ◌-◌, ◌≤◌, ◌<◌, true, List, [], ◌∷◌, ◌++◌, length, take, drop, replicate, refl, ap, ap₂, sym, ◌∙◌, append_assoc, length-append, arith}
 use Rattle.std.proofs.Math.Seq.{take-append-add, take-append_seam}
-use Rattle.std.proofs.lemmas.List.{length-drop, length-replicate, length-take-le, take-append-le, take-replicate}
+use Rattle.std.proofs.lemmas.Bool.{and_parts}
+use Rattle.std.proofs.lemmas.List.{length-drop, length-replicate, length-take-le, take-append-le, take-map, take-replicate, take-take}
+use Rattle.std.proofs.lemmas.List.Folds.{list_all-append}
 use Rattle.page_core_base.specs.Rows.{cells_in}
 use Rattle.page_core_base.specs.declared.cells.Cell.{Cell}
 use Rattle.page_core_base.specs.declared.cells.Font.{Font}
 use Rattle.page_core_base.specs.declared.cells.Font.TheVariants.{R}
+use Rattle.page_core_base.specs.declared.pieces.Piece.{Piece}
+use Rattle.page_core_base.specs.Words.{is_printable, is_printable_ascii, joined_cells, lettered_cells}
 use Rattle.page_scopes_words.specs.machine.Letters.{letters_in, put_at}
 
 in-length : (bytes : List ℕ) (fonts : List Font) → length fonts ≡ length bytes → length (cells_in bytes fonts) ≡ length bytes
@@ -36,15 +40,16 @@ put-front old added start within =
     let len : length (take start old ++ added) ≡ start + length added = length-append (take start old) added ∙ ap (λ (n : ℕ). n + length added) (length-take-le start old within) in
     ap₂ take (sym len) (sym (append_assoc (take start old) added rest)) ∙ take-append_seam (take start old ++ added) rest
 
+pub put_size : {A : Type 0} (old added : List A) (start : ℕ) → start + length added ≤ length old → length (put_at old start added) ≡ length old
+put_size old added start room =
+    let front = length-take-le start old (omega (arith, room)) in
+    let rest = length-append added (drop (start + length added) old) in
+    let whole = length-append (take start old) (added ++ drop (start + length added) old) in
+    let back = length-drop (start + length added) old in
+    omega (arith, front, rest, whole, back, room)
+
 pub put_len : (fonts : List Font) (start n : ℕ) (font : Font) → start + n ≤ length fonts → length (put_at fonts start (replicate n font)) ≡ length fonts
-put_len fonts start n font room =
-    let all : List Font = replicate n font in
-    let size : length all ≡ n = length-replicate n font in
-    let front = length-take-le start fonts (omega (arith, room)) in
-    let rest = length-append all (drop (start + length all) fonts) in
-    let whole = length-append (take start fonts) (all ++ drop (start + length all) fonts) in
-    let back = length-drop (start + length all) fonts in
-    omega (arith, size, front, rest, whole, back, room)
+put_len fonts start n font room = put_size fonts (replicate n font) start (omega (arith, length-replicate n font, room))
 
 -- a count of one font that is put, perhaps with more of it
 pub fonts_put : (fonts : List Font) (start count n : ℕ) (font : Font) → count ≤ n → start + n ≤ length fonts
@@ -73,13 +78,79 @@ letters_put text fonts after start font bytes room same are =
 pub letters_len : (text : List ℕ) (fonts : List Font) (n : ℕ) → n ≤ length text → length fonts ≡ length text → length (take n (cells_in text fonts)) ≡ n
 letters_len text fonts n within same = length-take-le n (cells_in text fonts) (omega (arith, in-length text fonts same, within))
 
--- the letters of a text after a blank
-pub blank_letters : (text more : List ℕ) → cells_in (take (suc (length text)) (32 ∷ (text ++ more))) (replicate (suc (length text)) R) ≡ letters_in R (32 ∷ text)
-blank_letters text more = ap (λ (l : List ℕ). cells_in (32 ∷ l) (replicate (suc (length text)) R)) (take-append_seam text more) ∙ in-font (32 ∷ text) R
+-- a group of letters that is put, of which only the first are kept
+pub letters_cut : (put cells : List Cell) (font : Font) (text : List ℕ) (start count : ℕ) → start ≡ length cells → count ≤ 16
+    → take (start + 16) put ≡ cells ++ letters_in font (take 16 text) → take (start + count) put ≡ cells ++ letters_in font (take count text)
+letters_cut put cells font text start count is few all =
+    sym (take-take (start + count) (start + 16) put (omega (arith, few)))
+    ∙ ap (take (start + count)) all
+    ∙ ap (λ (n : ℕ). take (n + count) (cells ++ letters_in font (take 16 text))) is
+    ∙ take-append-add cells (letters_in font (take 16 text)) count
+    ∙ ap (λ (l : List Cell). cells ++ l)
+    (take-map (λ c. record { c = c; font = font }) count (take 16 text)
+    ∙ ap (letters_in font) (take-take count 16 text few))
 
--- the letters of a word in a font, after a blank
-pub word_letters : (font : Font) (text more : List ℕ) (count : ℕ) → length text ≤ count
-    → cells_in (take (suc (length text)) (32 ∷ (text ++ more))) (take (suc (length text)) (R ∷ replicate count font)) ≡ record { c = 32; font = R } ∷ letters_in font text
-word_letters font text more count room =
-    ap (λ (cells : List Cell). record { c = 32; font = R } ∷ cells)
-    (ap₂ cells_in (take-append_seam text more) (take-replicate (length text) count font room) ∙ in-font text font)
+-- ---- printable letters
+
+pub printable_first : (n : ℕ) (bytes : List ℕ) → is_printable_ascii bytes ≡ true → is_printable_ascii (take n bytes) ≡ true
+printable_first zero bytes h = refl
+printable_first (suc n) [] h = refl
+printable_first (suc n) (b ∷ bytes) h =
+    let parts = and_parts (is_printable b) (is_printable_ascii bytes) h in
+    rw parts.0 (printable_first n bytes parts.1)
+
+pub printable_rest : (n : ℕ) (bytes : List ℕ) → is_printable_ascii bytes ≡ true → is_printable_ascii (drop n bytes) ≡ true
+printable_rest zero bytes h = h
+printable_rest (suc n) [] h = refl
+printable_rest (suc n) (b ∷ bytes) h = printable_rest n bytes (and_parts (is_printable b) (is_printable_ascii bytes) h).1
+
+-- the first letters, fewer than before
+pub printable_cut : (n m : ℕ) (text : List ℕ) → n ≤ m → is_printable_ascii (take m text) ≡ true → is_printable_ascii (take n text) ≡ true
+printable_cut n m text le h = rw (take-take n m text le) at (printable_first n (take m text) h)
+
+-- letters that are put after others, perhaps with more of them
+pub printable_put : (text added : List ℕ) (start count : ℕ) → start ≤ length text → count ≤ length added → is_printable_ascii (take start text) ≡ true
+    → is_printable_ascii (take count added) ≡ true → is_printable_ascii (take (start + count) (put_at text start added)) ≡ true
+printable_put text added start count within many before h =
+    let front = take start text in
+    let rest = added ++ drop (start + length added) text in
+    let size : length front ≡ start = length-take-le start text within in
+    let are : take (start + count) (front ++ rest) ≡ front ++ take count added =
+    ap (λ (k : ℕ). take (k + count) (front ++ rest)) (sym size) ∙ take-append-add front rest count
+    ∙ ap (λ (l : List ℕ). front ++ l) (take-append-le count added (drop (start + length added) text) many) in
+    rw (are, list_all-append is_printable front (take count added), before) h
+
+-- ---- letters without the first blank
+
+in-rest : (bytes : List ℕ) (fonts : List Font) → drop 1 (cells_in bytes fonts) ≡ cells_in (drop 1 bytes) (drop 1 fonts)
+in-rest [] fonts = refl
+in-rest (b ∷ []) [] = refl
+in-rest (b ∷ c ∷ bytes) [] = refl
+in-rest (b ∷ bytes) (f ∷ fonts) = refl
+
+pub joined : (cells : List Cell) (words : List (List (Piece (List ℕ)))) → cells ≡ lettered_cells words → drop 1 cells ≡ joined_cells words
+unfolding lettered_cells
+joined cells [] e = rw e refl
+joined cells (word ∷ words) e = rw e refl
+
+pub rest_first : {A : Type 0} (n : ℕ) (xs : List A) → take n (drop 1 xs) ≡ drop 1 (take (suc n) xs)
+rest_first zero [] = refl
+rest_first (suc n) [] = refl
+rest_first n (x ∷ xs) = refl
+
+pub rest_joined : (text : List ℕ) (fonts : List Font) (len : ℕ) (words : List (List (Piece (List ℕ)))) → 0 < len → take len (cells_in text fonts) ≡ lettered_cells words
+    → cells_in (take (len - 1) (drop 1 text)) (take (len - 1) (drop 1 fonts)) ≡ joined_cells words
+rest_joined text fonts len words some e =
+    let size : suc (len - 1) ≡ len = omega (arith, some) in
+    sym (in-take (len - 1) (drop 1 text) (drop 1 fonts)) ∙ ap (take (len - 1)) (sym (in-rest text fonts)) ∙ rest_first (len - 1) (cells_in text fonts)
+    ∙ ap (λ (n : ℕ). drop 1 (take n (cells_in text fonts))) size ∙ joined (take len (cells_in text fonts)) words e
+
+pub rest_printable : (len : ℕ) (text : List ℕ) → 0 < len → is_printable_ascii (take len text) ≡ true → is_printable_ascii (take (len - 1) (drop 1 text)) ≡ true
+rest_printable len text some h =
+    let size : suc (len - 1) ≡ len = omega (arith, some) in
+    rw (rest_first (len - 1) text, size) (printable_rest 1 (take len text) h)
+
+-- letters in one font
+pub font_joined : (font : Font) (text : List ℕ) (words : List (List (Piece (List ℕ)))) → record { c = 32; font = R } ∷ letters_in font text ≡ lettered_cells words
+    → cells_in text (replicate (length text) font) ≡ joined_cells words
+font_joined font text words e = in-font text font ∙ joined (record { c = 32; font = R } ∷ letters_in font text) words e

@@ -1,14 +1,18 @@
 -- Where a run of words that print themselves ends, by vectors and byte by byte.
-use Rattle.std.proofs.Common.{◌≡◌, ℕ, suc, ◌+◌, ◌-◌, ◌%◌, ◌^◌, ◌<◌, ◌≤◌, ◌==◌, ◌&&◌, ◌||◌, Bool, true, false, not, cond, eqb, bit_and, List, [], ◌∷◌, length, map, get_or, refl, sym, ap, ap₂, ◌∙◌, inl, inr, arith}
+use Rattle.std.proofs.Common.{◌≡◌, ℕ, zero, suc, ◌+◌, ◌-◌, ◌%◌, ◌^◌, ◌<◌, ◌≤◌, ◌==◌, ◌&&◌, ◌||◌, Bool, true, false, not, cond, eqb, bit_and, List, [], ◌∷◌, length, map, take, get_or, refl, sym, ap, ap₂, ◌∙◌, inl, inr, arith}
 use Rattle.std.specs.Prelude.{if◌then◌else◌}
 use Rattle.std.specs.List.{list_all, prefix_len}
 use Rattle.std.proofs.lemmas.List.Folds.{list_all_at}
 use Rattle.std.proofs.lemmas.Bool.{cases_Bool, cases_lt}
+use Rattle.std.proofs.lemmas.Bool.Decides.{nat_tests}
+use Rattle.std.proofs.lemmas.List.{take_all}
 use Rattle.std.proofs.lemmas.List.Sums.{prefix_len-le-length, prefix_len_passes, prefix_len_stops}
 use Rattle.std.proofs.lemmas.Simd.{get_or-chunk, get_or-zip2, leading_from_mask_l, length-chunk, length-zip2, mask_l-mod, trailing_mask_l}
 use lib.Bits.{bit_or}
 use lib.Count.{count_trailing_zeros}
+use lib.Dec.{ltb}
 use lib.Lanes.{chunk, mask_l, top, zip2}
+use Rattle.page_core_base.specs.Words.{is_printable, is_printable_ascii}
 use Rattle.page_scopes_words.specs.machine.RunEnds.{GoesOn, ends_run, ends_run_at, is_inside}
 
 -- ---- lanes
@@ -29,22 +33,35 @@ top_lane : (a : Bool) → top 7 (cond a 255 0) ≡ a
 top_lane true = refl
 top_lane false = refl
 
--- what is computed of each lane of hyphens, of others but for blanks, and of blanks
+-- what is computed of each lane of hyphens, of bytes that are not printable ASCII, of others but for blanks, and of blanks
 abbrev pub hyphen_lane : ℕ → ℕ
 hyphen_lane x = cond (eqb x 45) 255 0
 
+abbrev pub strange_lane : ℕ → ℕ
+strange_lane x = bit_or (cond (ltb x 32) 255 0) (cond (ltb 126 x) 255 0)
+
 abbrev pub other_lane : ℕ → ℕ → ℕ
-other_lane mark x = bit_or (cond (eqb x 9) 255 0) (bit_or (cond (eqb x 92) 255 0) (cond (eqb x mark) 255 0))
+other_lane mark x = bit_or (strange_lane x) (bit_or (cond (eqb x 92) 255 0) (cond (eqb x mark) 255 0))
 
 abbrev pub blank_lane : ℕ → ℕ
 blank_lane x = cond (eqb x 32) 255 0
 
-tests_lane : (h a b m k n : Bool)
-    → top 7 (bit_or (cond h 255 0) (bit_or (bit_or (cond a 255 0) (bit_or (cond b 255 0) (cond m 255 0))) (bit_and (cond k 255 0) (cond n 255 0))))
-    ≡ (h || ((a || (b || m)) || (k && n)))
-tests_lane h a b m k n =
-    rw (or_lanes b m, or_lanes a (b || m), and_lanes k n, or_lanes (a || (b || m)) (k && n), or_lanes h ((a || (b || m)) || (k && n)))
-    (top_lane (h || ((a || (b || m)) || (k && n))))
+tests_lane : (h l a b m k n : Bool)
+    → top 7 (bit_or (cond h 255 0) (bit_or (bit_or (bit_or (cond l 255 0) (cond a 255 0)) (bit_or (cond b 255 0) (cond m 255 0))) (bit_and (cond k 255 0) (cond n 255 0))))
+    ≡ (h || (((l || a) || (b || m)) || (k && n)))
+tests_lane h l a b m k n =
+    rw (
+      or_lanes l a,
+      or_lanes b m,
+      or_lanes (l || a) (b || m),
+      and_lanes k n,
+      or_lanes ((l || a) || (b || m)) (k && n),
+      or_lanes h (((l || a) || (b || m)) || (k && n)),
+    )
+    (top_lane (h || (((l || a) || (b || m)) || (k && n))))
+
+pub strange : (x : ℕ) → (ltb x 32 || ltb 126 x) ≡ not (is_printable x)
+strange x = grind (arith, nat_tests)
 
 or_same : (b : Bool) → (b || b) ≡ (b || false)
 or_same true = refl
@@ -57,8 +74,8 @@ marked false mark x e = rw e (or_same (x == 92))
 lane : (quoted : Bool) (mark x y : ℕ) → mark ≡ (if quoted then 34 else 92)
     → top 7 (bit_or (hyphen_lane x) (bit_or (other_lane mark x) (bit_and (blank_lane x) (blank_lane y)))) ≡ ends_run quoted x y
 lane quoted mark x y e =
-    tests_lane (x == 45) (x == 9) (x == 92) (x == mark) (x == 32) (y == 32)
-    ∙ ap (λ (t : Bool). x == 45 || ((x == 9 || t) || (x == 32 && y == 32))) (marked quoted mark x e)
+    tests_lane (x == 45) (ltb x 32) (ltb 126 x) (x == 92) (x == mark) (x == 32) (y == 32)
+    ∙ ap₂ (λ (s t : Bool). x == 45 || ((s || t) || (x == 32 && y == 32))) (strange x) (marked quoted mark x e)
 
 lanes : (quoted : Bool) (mark : ℕ) → mark ≡ (if quoted then 34 else 92) → (v w : List ℕ)
     → map (top 7) (zip2 bit_or (map hyphen_lane v) (zip2 bit_or (map (other_lane mark) v) (zip2 bit_and (map blank_lane v) (map blank_lane w)))) ≡ zip2 (ends_run quoted) v w
@@ -165,7 +182,7 @@ inside_blank false false true e = let no : ⊥ = cc in absurd no
 inside_blank false false false e = refl
 
 abbrev other : Bool → ℕ → Bool
-other quoted x = x == 9 || (x == 92 || (quoted && x == 34))
+other quoted x = not (is_printable x) || (x == 92 || (quoted && x == 34))
 
 pub inside_goes : (quoted : Bool) (text : List ℕ) → list_all (is_inside quoted) text ≡ true → GoesOn quoted text 0 (length text)
 inside_goes quoted text all = λ k low high. elim (cases_Bool (is_inside quoted (get_or text k 32))) [
@@ -185,6 +202,24 @@ inside_word quoted [] all = refl
 inside_word quoted (x ∷ xs) all =
     let parts = both (is_inside quoted x) (list_all (is_inside quoted) xs) all in
     rw (inside_blank (x == 45) (other quoted x) (x == 32) parts.0) (inside_word quoted xs parts.1)
+
+-- ---- bytes that end no run are printable
+
+no_end : (h p o k : Bool) → (h || ((not p || o) || k)) ≡ false → p ≡ true
+no_end true p o k e = let no : ⊥ = cc in absurd no
+no_end false true o k e = refl
+no_end false false o k e = let no : ⊥ = cc in absurd no
+
+pub goes_printable : (quoted : Bool) (text : List ℕ) (n m : ℕ) → n ≤ m → GoesOn quoted text 0 m → is_printable_ascii (take n text) ≡ true
+goes_printable quoted text zero m le g = refl
+goes_printable quoted [] (suc n) m le g = refl
+goes_printable quoted (x ∷ xs) (suc n) m le g =
+    let y = get_or xs zero 32 in
+    let first = no_end (x == 45) (is_printable x) (x == 92 || (quoted && x == 34)) (x == 32 && y == 32) (g zero (omega arith) (omega (arith, le))) in
+    rw first (goes_printable quoted xs n (m - 1) (omega (arith, le)) (λ k low high. g (suc k) (omega arith) (omega (arith, high))))
+
+pub all_printable : (quoted : Bool) (text : List ℕ) → GoesOn quoted text 0 (length text) → is_printable_ascii text ≡ true
+all_printable quoted text g = rw (take_all (length text) text (omega arith)) at (goes_printable quoted text (length text) (length text) (omega arith) g)
 
 -- ---- one part of a text after another
 

@@ -2,10 +2,11 @@
 
 ghost use Rattle.std.specs.Prelude.{◌≡◌, ◌≤◌, ◌<◌, ◌+◌, false, true, [], ◌∷◌, ◌++◌, length, take, replicate};
 ghost use Rattle.page_core_base.specs.Latches.{Came};
+ghost use Rattle.page_core_base.specs.Words.{is_printable_ascii};
 ghost use Rattle.page_core_base.specs.declared.cells.Font.TheVariants.{R};
 ghost use Rattle.page_scopes_words.specs.machine.Letters.{GivesLetters, letters_in, put_at};
 
-use crate::letter_fonts::{ROOM, roman_fonts};
+use crate::letter_fonts::{ROOM, equal_fonts};
 use page_core_base::{Font, PieceOut};
 use std::marker::Model;
 
@@ -14,20 +15,21 @@ use std::marker::Model;
 pub struct Letters {
     text: [u8; 256],
     fonts: [Font; 256],
-    // How many there are: what is after them means nothing.
+    // How many there are, which are printable ASCII: what is after them means nothing.
     len: usize,
 }
 
 impl Model for Letters {
-    ghost use Rattle.std.specs.Prelude.{◌≡◌, ◌≤◌, List, length, take};
+    ghost use Rattle.std.specs.Prelude.{◌≡◌, ◌≤◌, true, List, length, take};
     ghost use Rattle.page_core_base.specs.Rows.{cells_in};
+    ghost use Rattle.page_core_base.specs.Words.{is_printable_ascii};
     ghost use Rattle.page_core_base.specs.declared.cells.Cell.{Cell};
 
     ghost Value = { List Cell };
 
     ghost view = { λ l. take l.len (cells_in l.text l.fonts) };
 
-    ghost invariant = { λ l. (l.len ≤ 256) × (length l.text ≡ 256) × (length l.fonts ≡ 256) };
+    ghost invariant = { λ l. (l.len ≤ 256) × (length l.text ≡ 256) × (length l.fonts ≡ 256) × (is_printable_ascii (take l.len l.text) ≡ true) };
 }
 
 // How many fonts, or letters, are put at a time, where there is room for them.
@@ -104,6 +106,7 @@ impl Letters {
     /// Adds letters in one font, if there is room: whether there is.
     #[inline(always)]
     pub fn add(&mut self, font: Font, bytes: &[u8]) -> bool
+        requires { is_printable_ascii bytes.now ≡ true }
         ensures added { result ≡ true → self.new ≡ self.old ++ letters_in font bytes.now }
         ensures kept { result ≡ false → self.new ≡ self.old }
     {
@@ -119,60 +122,37 @@ impl Letters {
     /// Adds the first letters of a text in one font, where a whole group can be copied in their place: whether it was. That takes no loop.
     #[inline(always)]
     pub fn add_front(&mut self, font: Font, text: &[u8], count: usize) -> bool
+        requires { is_printable_ascii (take count text.now) ≡ true }
         ensures added { result ≡ true → self.new ≡ self.old ++ letters_in font (take count text.now) }
         ensures kept { result ≡ false → self.new ≡ self.old }
     {
-        let start = self.len();
-        if count > GROUP || text.len() < GROUP || !self.add(font, &text[..GROUP]) {
+        let start = self.len;
+        if count > GROUP || text.len() < GROUP || start + GROUP > ROOM {
             return false;
         }
-        self.cut(start + count);
+        put_letters(&mut self.text, &mut self.fonts, start, font, &text[..GROUP]);
+        self.len = start + count;
         true
     }
 
-    /// Gives them as words, the first one after a count of blanks: whether these were taken.
+    /// Gives them as words, each with a blank before it, the first one after a count of blanks instead: whether these were taken.
     #[inline(always)]
     pub fn give<O: PieceOut>(&self, out: &mut O, blanks: u32) -> bool
         ensures { GivesLetters blanks self.now result (Came O.left) out.old out.new }
     {
-        out.give_words(blanks, &self.text[..self.len], &self.fonts[..self.len])
+        if self.len == 0 {
+            return false;
+        }
+        out.give_words(blanks, &self.text[1..self.len], &self.fonts[1..self.len])
     }
 }
 
-// Puts a text after the first of some bytes.
+/// Gives letters in one font as words, the first one after a count of blanks: whether these were taken.
 #[inline(always)]
-fn put_after_first(bytes: &mut [u8], text: &[u8])
-    requires { length text.now < length bytes.old }
-    ensures { bytes.new ≡ put_at bytes.old 1 text.now }
+pub fn give_after_blanks<O: PieceOut>(out: &mut O, blanks: u32, font: Font, text: &[u8]) -> bool
+    requires room { length text.now ≤ ROOM }
+    requires ascii { is_printable_ascii text.now ≡ true }
+    ensures { GivesLetters blanks (record { c = 32; font = R } ∷ letters_in font text.now) result (Came O.left) out.old out.new }
 {
-    bytes[1..text.len() + 1].copy_from_slice(text);
-}
-
-/// The bytes of a short word at most, and one more.
-pub const WORD_ROOM: usize = 64;
-
-/// Gives a short word in a font, after a count of blanks: whether it was taken.
-#[inline(always)]
-pub fn give_short_word<O: PieceOut>(out: &mut O, blanks: u32, font: Font, word: &[u8]) -> bool
-    requires { length word.now < WORD_ROOM }
-    ensures { GivesLetters blanks (record { c = 32; font = R } ∷ letters_in font word.now) result (Came O.left) out.old out.new }
-{
-    let mut letters = [b' '; 64];
-    put_after_first(&mut letters, word);
-    let mut fonts = [font; 64];
-    fonts[0] = Font::R;
-    let len = word.len() + 1;
-    out.give_words(blanks, &letters[..len], &fonts[..len])
-}
-
-/// Gives roman letters as words, the first one after a count of blanks: whether these were taken.
-#[inline(always)]
-pub fn give_after_blanks<O: PieceOut>(out: &mut O, blanks: u32, text: &[u8]) -> bool
-    requires { length text.now < ROOM }
-    ensures { GivesLetters blanks (letters_in R (32 ∷ text.now)) result (Came O.left) out.old out.new }
-{
-    let mut bytes = [b' '; 256];
-    put_after_first(&mut bytes, text);
-    let len = text.len() + 1;
-    out.give_words(blanks, &bytes[..len], roman_fonts(len))
+    out.give_words(blanks, text, equal_fonts(font, text.len()))
 }

@@ -29,9 +29,9 @@ mod white_cells;
 mod widths;
 
 pub use fonts::{Fonts, ROMAN, fonts_after};
-pub use letter_fonts::{ROOM, roman_fonts};
+pub use letter_fonts::{ROOM, equal_fonts};
 pub use letter_parts::part_len;
-pub use letters::{Letters, WORD_ROOM, give_after_blanks, give_short_word};
+pub use letters::{Letters, give_after_blanks};
 pub use names::name_columns;
 pub use numbers::{give_columns, give_number, give_rows};
 pub use pens::{Pen, TextStyle};

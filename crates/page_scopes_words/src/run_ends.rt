@@ -1,4 +1,4 @@
-//! How far a text goes on as words that print themselves, with one blank before each and no hyphen, many bytes at a time (roff(7), "LANGUAGE SYNTAX").
+//! How far a text goes on as words of printable ASCII, with one blank before each and no hyphen, many bytes at a time (roff(7), "LANGUAGE SYNTAX").
 
 ghost use Rattle.std.specs.Prelude.{◌≡◌, ◌≤◌, ◌<◌, ◌+◌, ◌==◌, not, length, slice_index, if◌then◌else◌, true};
 ghost use Rattle.std.specs.List.{list_all};
@@ -10,7 +10,7 @@ use std::simd::prelude::*;
 // The bytes that are tested at a time.
 const LANES: usize = 16;
 
-// What ends a run besides white space, hyphens and escapes: in a quoted argument a quote, else nothing more.
+// What ends a run besides blanks, hyphens, escapes and bytes that are not printable ASCII: in a quoted argument a quote, else nothing more.
 fn mark(quoted: bool) -> u8
     ensures { result ≡ (if quoted then 34 else 92) }
 {
@@ -23,7 +23,8 @@ fn ends(quoted: bool, bytes: u8x16, next: u8x16) -> u64
     ensures { result ≡ mask_l (zip2 (ends_run quoted) bytes next) }
 {
     let escapes = bytes.simd_eq(u8x16::splat(b'\\')) | bytes.simd_eq(u8x16::splat(mark(quoted)));
-    let others = bytes.simd_eq(u8x16::splat(b'\t')) | escapes;
+    let strange = bytes.simd_lt(u8x16::splat(b' ')) | bytes.simd_gt(u8x16::splat(b'~'));
+    let others = strange | escapes;
     let blanks = bytes.simd_eq(u8x16::splat(b' ')) & next.simd_eq(u8x16::splat(b' '));
     (bytes.simd_eq(u8x16::splat(b'-')) | (others | blanks)).to_bitmask()
 }
@@ -73,12 +74,12 @@ fn ends_at(quoted: bool, text: &[u8], at: usize) -> bool
 {
     let byte = text[at];
     if byte > b'"' {
-        return byte == b'-' || byte == b'\\';
+        return byte == b'-' || byte == b'\\' || byte > b'~';
     }
     if byte == b' ' {
         return at + 1 == text.len() || text[at + 1] == b' ';
     }
-    byte == b'\t' || (quoted && byte == b'"')
+    byte < b' ' || (quoted && byte == b'"')
 }
 
 /// How many bytes come before the first at which a run of words ends.
@@ -115,9 +116,9 @@ fn is_inside(quoted: bool, byte: u8) -> bool
     ensures { result ≡ is_inside quoted byte }
 {
     if byte > b'"' {
-        return byte != b'-' && byte != b'\\';
+        return byte != b'-' && byte != b'\\' && byte <= b'~';
     }
-    !(byte == b' ' || byte == b'\t' || (quoted && byte == b'"'))
+    byte > b' ' && !(quoted && byte == b'"')
 }
 
 // Whether all bytes of a text end no run, and no word.

@@ -1,6 +1,6 @@
 -- Words of letters in their fonts, which are read once and given at once: a fast way of the code, which no public clause cites.
 -- Source: roff(7), `\f`.
-use Rattle.std.specs.Prelude.{◌≡◌, ℕ, ◌≤◌, ◌<◌, ◌+◌, Bool, true, false, nat_lt, List, [], ◌++◌, length, map, drop}
+use Rattle.std.specs.Prelude.{◌≡◌, ℕ, ◌≤◌, ◌<◌, ◌+◌, Bool, true, false, nat_lt, ◌&&◌, List, [], ◌++◌, length, map, drop, slice_index}
 use Rattle.std.specs.List.{list_all}
 use Rattle.page_core_base.specs.Pieces.{shown}
 use Rattle.page_core_base.specs.Words.{is_lettered, is_lettered_word, lettered_cells, lettered_pieces, word_letters}
@@ -22,6 +22,10 @@ use Rattle.page_scopes_words.specs.Pens.{pen_through}
 use Rattle.page_scopes_words.specs.machine.Pens.{resting}
 use Rattle.page_scopes_words.specs.declared.pens.Pen.{Pen}
 use Rattle.page_scopes_words.specs.declared.pens.TextStyle.{TextStyle}
+
+-- a text has a byte of ASCII at a place
+abbrev pub is_ascii_at : List ℕ → ℕ → Bool
+is_ascii_at text place = nat_lt place (length text) && nat_lt (slice_index text place) 128
 
 -- a token that prints these letters or nothing, and has no message
 pub record Lettered (token : TextToken) (letters : List ℕ) : Type 0 where

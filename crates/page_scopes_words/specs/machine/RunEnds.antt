@@ -1,10 +1,11 @@
--- Where a run of words that print themselves ends, with one blank before each: a fast way of the code, which no definition of a page cites.
+-- Where a run of words of printable ASCII ends, with one blank before each: a fast way of the code, which no definition of a page cites.
 use Rattle.std.specs.Prelude.{◌≡◌, ℕ, suc, ◌≤◌, ◌<◌, ◌==◌, ◌&&◌, ◌||◌, not, Bool, false, List, get_or}
-use Rattle.page_core_base.specs.Words.{hyphen}
+use Rattle.page_core_base.specs.Words.{hyphen, is_printable}
 
--- whether a run ends at a byte, by the one after it: a hyphen, a tab, a backslash, in a quoted argument a quote, or a blank before a blank
+-- whether a run ends at a byte, by the one after it: a hyphen, what is not printable ASCII, a backslash, in a quoted argument a quote, or a blank before
+-- a blank
 abbrev pub ends_run : Bool → ℕ → ℕ → Bool
-ends_run quoted byte next = byte == hyphen || ((byte == 9 || (byte == 92 || (quoted && byte == 34))) || (byte == 32 && next == 32))
+ends_run quoted byte next = byte == hyphen || ((not (is_printable byte) || (byte == 92 || (quoted && byte == 34))) || (byte == 32 && next == 32))
 
 -- the same at a place of a text; after its end there is taken to be a blank
 abbrev pub ends_run_at : Bool → List ℕ → ℕ → Bool

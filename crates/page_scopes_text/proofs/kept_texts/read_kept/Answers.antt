@@ -1,5 +1,5 @@
 use Rattle.std.proofs.Common.{arith}
-use Rattle.page_scopes_text.proofs.KeptTextLemmas.{reads_more, reads_none}
+use Rattle.page_scopes_text.proofs.KeptTextLemmas.{reads_more}
 use Rattle.page_scopes_text.proofs.kept_texts.read_kept.Goals as goal
 
 pub loop-style-preserved : goal.loop-style-preserved

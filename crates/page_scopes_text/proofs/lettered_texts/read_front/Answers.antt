@@ -1,8 +1,12 @@
 use Rattle.std.proofs.Common.{◌<◌, take, drop, refl, arith}
 use Rattle.std.proofs.lemmas.Bool.Decides.{nat_tests}
 use Rattle.std.proofs.lemmas.List.{length-drop, length-take-le, take_rest}
+use Rattle.page_scopes_words.proofs.RunEndLemmas.{goes_printable}
 use Rattle.page_scopes_text.proofs.LetteredTextLemmas.{front_adds, run_prints}
 use Rattle.page_scopes_text.proofs.lettered_texts.read_front.Goals as goal
+
+pub add-requires : goal.add-requires
+add-requires c = goes_printable c.args.style.is_quoted c.args.text.now c.front_len-front.result c.args.len c.front_len-front.ensures.less c.requires.goes
 
 pub returns-clause-none : goal.returns-clause-none
 returns-clause-none c =

@@ -5,6 +5,9 @@ use Rattle.page_scopes_words.specs.machine.Letters.{letters_in}
 use Rattle.page_scopes_text.specs.machine.Runs.{BeginsRun}
 use Rattle.page_scopes_text.proofs.lettered_words.read_run.Goals as goal
 
+pub add-requires : goal.add-requires
+add-requires c = rw c.split_at.ensures.front c.run_len.ensures.ascii
+
 pub returns-clause-reads : goal.returns-clause-reads
 returns-clause-reads c =
     let text = c.args.text.now in

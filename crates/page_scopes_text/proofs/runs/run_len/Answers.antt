@@ -1,7 +1,20 @@
 use Rattle.std.proofs.Common.{arith}
+use Rattle.page_scopes_words.proofs.RunEndLemmas.{goes_printable}
 use Rattle.page_scopes_text.proofs.RunWordLemmas.{run_to_blank, run_to_end}
 use Rattle.page_scopes_text.proofs.runs.run_len.Goals as goal
 use Rattle.page_scopes_text.proofs.runs.run_len.Goals.{then-len-text-via-then-len-text, then-len-text-via-else-len-text+then-text-len-eq32}
+
+pub returns-then-most-len-clause-ascii : goal.returns-then-most-len-clause-ascii
+returns-then-most-len-clause-ascii c =
+    goes_printable c.args.quoted c.args.text.now c.blank_before.result c.going_len-len.result (omega (arith, c.blank_before.ensures.within)) c.going_len-len.ensures.goes
+
+pub returns-then-len-text-clause-ascii : goal.returns-then-len-text-clause-ascii
+returns-then-len-text-clause-ascii c =
+    goes_printable c.args.quoted c.args.text.now c.going_len-len.result c.going_len-len.result (omega arith) c.going_len-len.ensures.goes
+
+pub returns-clause-ascii : goal.returns-clause-ascii
+returns-clause-ascii c =
+    goes_printable c.args.quoted c.args.text.now c.blank_before-2.result c.going_len-len.result c.blank_before-2.ensures.within c.going_len-len.ensures.goes
 
 pub returns-then-most-len-clause-run : goal.returns-then-most-len-clause-run
 returns-then-most-len-clause-run c =

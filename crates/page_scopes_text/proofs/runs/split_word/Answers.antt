@@ -1,6 +1,7 @@
-use Rattle.std.proofs.Common.{◌<◌, ◌≤◌, length, arith}
+use Rattle.std.proofs.Common.{◌<◌, ◌≤◌, length, drop, arith}
 use Rattle.std.proofs.lemmas.Bool.Decides.{nat_tests}
 use Rattle.std.proofs.lemmas.List.{take_rest}
+use Rattle.page_scopes_words.proofs.LetterCellLemmas.{printable_rest}
 use Rattle.page_scopes_text.proofs.RunLemmas.{first_word, no_words}
 use Rattle.page_scopes_text.proofs.runs.split_word.Goals as goal
 
@@ -15,3 +16,8 @@ returns-clause-first c = λ words are bytes.
     let some : 0 < length text = grind (arith, nat_tests, c.is_empty.ensures, c.if-is_empty.false) in
     let parts = c.split_at.ensures in
     rw (parts.front, parts.back, take_rest text 1) (first_word text words c.word_len.result some are bytes (rw (take_rest text 1) at c.word_len.ensures.value))
+
+pub returns-clause-ascii : goal.returns-clause-ascii
+returns-clause-ascii c = λ ok.
+    let text = c.args.text.now in
+    rw (c.split_at.ensures.back, take_rest text 1) (printable_rest c.word_len.result (drop 1 text) (printable_rest 1 text ok))

@@ -4,6 +4,9 @@ use Rattle.page_scopes_words.specs.machine.Pens.{resting}
 use Rattle.page_scopes_text.specs.machine.Runs.{BeginsRun}
 use Rattle.page_scopes_text.proofs.texts.give_plain_words.Goals as goal
 
+pub give_run-requires-clause-ascii : goal.give_run-requires-clause-ascii
+give_run-requires-clause-ascii g c = rw c.split_at.ensures.front c.run_len.ensures.ascii
+
 pub returns-clause-came : goal.returns-clause-came
 returns-clause-came g c =
     let literal : c.args.style.is_literal ≡ false = search rules in
