@@ -210,7 +210,10 @@ fn give_words<R: RowSink, N: NoteSink>(
 ) -> Result<(), Fault> {
     let fonts = fonts_named(letters);
     assert!(rt; filler.takes_words(blanks, words), "they are taken");
-    assert!(rt; is_printable_ascii(words), "their letters are printable ASCII");
+    assert!(rt;
+        is_printable_ascii(words),
+        "their letters are printable ASCII"
+    );
     if words.is_empty() || words.len() > 32 {
         return Ok(());
     }

@@ -1,7 +1,6 @@
-use Rattle.std.proofs.Common.{◌≡◌, true, false, ◌==◌, min, ◌-◌, refl, arith, ◌≤◌, ◌+◌, length, rules}
+use Rattle.std.proofs.Common.{◌≡◌, true, false, ◌==◌, ◌-◌, refl, arith, ◌≤◌, ◌+◌, length, rules}
 use Rattle.std.specs.Prelude.{if◌then◌else◌}
 use Rattle.std.proofs.lemmas.Bool.Decides.{nat_tests}
-use Rattle.page_fill_rows.specs.declared.TheConstants.{TAG_COLUMNS}
 use Rattle.page_fill_cells.proofs.PlaceLemmas.{in-length}
 use Rattle.page_fill_rows.proofs.WordStartLemmas.{sound-words}
 use Rattle.page_fill_rows.proofs.open_rows.OpenRow.add_words.Goals as goal
