@@ -1,14 +1,15 @@
--- Words of a text, each after one blank.
-use Rattle.std.proofs.Common.{◌≡◌, ℕ, zero, suc, ◌+◌, ◌-◌, ◌<◌, ◌≤◌, Bool, true, false, not, ◌==◌, nat_le, List, [], ◌∷◌, ◌++◌, length, take, drop, append-nil, append_assoc, length-append, refl, sym, ap, ◌∙◌, arith, inl, inr}
+-- Words of a text, with a blank before each or between two.
+use Rattle.std.proofs.Common.{◌≡◌, ℕ, zero, suc, ◌+◌, ◌-◌, ◌<◌, ◌≤◌, Bool, true, false, not, ◌==◌, nat_le, List, [], ◌∷◌, ◌++◌, length, take, append-nil, length-append, refl, sym, ap, ◌∙◌, arith, inl, inr}
 use Rattle.std.specs.List.{list_all, prefix_len}
-use Rattle.std.proofs.Math.Seq.{take-append_seam, take-append-add}
+use Rattle.std.proofs.Math.Seq.{take-append-add}
 use Rattle.std.proofs.lemmas.List.{take-append-le, take_all}
 use Rattle.std.proofs.lemmas.Bool.{cases_Bool, cases_lt}
 use Rattle.std.proofs.lemmas.Bool.Decides.{nat_tests}
 use Rattle.page_core_base.specs.Words.{is_word, blank_words}
 use Rattle.page_fill_rows.specs.machine.Plain.{word_start}
 use Rattle.page_fill_rows.proofs.WordStartLemmas.{start-append}
-use Rattle.page_fill.specs.machine.PlainWords.{first_word, whole_words}
+use Rattle.page_fill.specs.LetteredWords.{first_letters}
+use Rattle.page_fill.specs.machine.PlainWords.{whole_words}
 
 -- no byte of these is a blank
 abbrev pub is_letters : List ℕ → Bool
@@ -33,7 +34,7 @@ start-letters (b ∷ bytes) all =
     let others : is_letters bytes ≡ true = grind (arith, all) in
     rw (start-letters bytes others, other) refl
 
-pub start-word : (bytes : List ℕ) → is_letters bytes ≡ true → word_start (32 ∷ bytes) ≡ 1
+start-word : (bytes : List ℕ) → is_letters bytes ≡ true → word_start (32 ∷ bytes) ≡ 1
 unfolding word_start
 start-word bytes all = rw (start-letters bytes all) refl
 
@@ -42,6 +43,13 @@ unfolding word_start
 start-some bytes = elim (cases_Bool (word_start bytes == 0)) [
   | inl none ↦ rw none refl
   | inr some ↦ rw some (grind (arith, nat_tests))
+]
+
+pub start-blank : (bytes : List ℕ) → word_start (32 ∷ bytes) ≡ 1 + word_start bytes
+unfolding word_start
+start-blank bytes = elim (cases_Bool (word_start bytes == 0)) [
+  | inl none ↦ let zero : word_start bytes ≡ 0 = grind (arith, nat_tests, none) in rw none (omega (arith, zero))
+  | inr some ↦ rw some (omega arith)
 ]
 
 letters-front : (bytes : List ℕ) (count : ℕ) → is_letters bytes ≡ true → is_letters (take count bytes) ≡ true
@@ -54,21 +62,6 @@ letters-front (b ∷ bytes) (suc count) all =
     rw other (letters-front bytes count others)
 
 -- ---- a front of whole words
-
-words-split : (words : List (List ℕ)) (count : ℕ) → blank_words words ≡ blank_words (take count words) ++ blank_words (drop count words)
-unfolding blank_words
-words-split [] zero = refl
-words-split [] (suc count) = refl
-words-split (word ∷ words) zero = refl
-words-split (word ∷ words) (suc count) =
-    ap (λ (bytes : List ℕ). 32 ∷ (word ++ bytes)) (words-split words count)
-    ∙ ap (λ (bytes : List ℕ). 32 ∷ bytes) (sym (append_assoc word (blank_words (take count words)) (blank_words (drop count words))))
-
--- as many bytes as the first words have are these words
-pub front-words : (words : List (List ℕ)) (count : ℕ) → take (length (blank_words (take count words))) (blank_words words) ≡ blank_words (take count words)
-front-words words count =
-    let front = blank_words (take count words) in
-    ap (take (length front)) (words-split words count) ∙ take-append_seam front (blank_words (drop count words))
 
 -- the first bytes, up to the last blank among them, are whole words
 abbrev Cut : List (List ℕ) → ℕ → Type 0
@@ -131,56 +124,66 @@ cut-words (word ∷ next ∷ words) room all =
       | inr short ↦ cut-first word (next ∷ words) room letters short
     ]
 
+-- ---- words with a blank between two
+
+abbrev pub joined_words : List (List ℕ) → List ℕ
+joined_words [] = []
+joined_words (word ∷ words) = word ++ blank_words words
+
+joined-length : (words : List (List ℕ)) → length (joined_words words) ≡ length (blank_words words) - 1
+unfolding blank_words
+joined-length [] = refl
+joined-length (word ∷ words) = omega arith
+
+cut-joined : (word : List ℕ) (words : List (List ℕ)) (room : ℕ) → list_all is_word (word ∷ words) ≡ true
+    → (count : ℕ) × (word_start (take room (joined_words (word ∷ words))) - 1 ≡ length (joined_words (take count (word ∷ words))))
+unfolding blank_words
+cut-joined word words room all =
+    let cut = cut-words (word ∷ words) (suc room) all in
+    let is : word_start (32 ∷ take room (joined_words (word ∷ words))) - 1 ≡ length (blank_words (take cut.0 (word ∷ words))) = cut.1 in
+    let start = start-blank (take room (joined_words (word ∷ words))) in
+    let len = joined-length (take cut.0 (word ∷ words)) in
+    (cut.0, omega (arith, is, start, len))
+
 pub whole-words : (words : List (List ℕ)) (room : ℕ) → list_all is_word words ≡ true
-    → (count : ℕ) × (whole_words (blank_words words) room ≡ length (blank_words (take count words)))
-whole-words words room all = elim (cases_Bool (nat_le (length (blank_words words)) room)) [
-  | inl fits ↦ (length words, rw (fits, take_all (length words) words (omega arith)) refl)
-  | inr more ↦ let cut = cut-words words (room + 1) all in (cut.0, rw more cut.1)
+    → (count : ℕ) × (whole_words (joined_words words) room ≡ length (joined_words (take count words)))
+whole-words [] room all = (0, let fits : nat_le 0 room ≡ true = grind (arith, nat_tests) in rw fits refl)
+whole-words (word ∷ words) room all = elim (cases_Bool (nat_le (length (joined_words (word ∷ words))) room)) [
+  | inl fits ↦ let all = take_all (length words) words (omega arith) in (length (word ∷ words), rw (fits, all) refl)
+  | inr more ↦ let cut = cut-joined word words (room + 1) all in (cut.0, rw more cut.1)
 ]
 
 -- ---- the first word
 
 -- where there is room for it, it is among the whole words
-first-whole : (word : List ℕ) (words : List (List ℕ)) (room : ℕ) → length (32 ∷ word) ≤ room → 0 < whole_words (blank_words (word ∷ words)) room
+first-whole : (word : List ℕ) (words : List (List ℕ)) (room : ℕ) → 0 < length word → length word ≤ room → 0 < whole_words (joined_words (word ∷ words)) room
 unfolding blank_words
-first-whole word [] room fits =
-    let all : nat_le (length (32 ∷ word)) room ≡ true = grind (arith, nat_tests, fits) in
-    rw (append-nil word, all) (omega arith)
-first-whole word (next ∷ words) room fits = elim (cases_Bool (nat_le (length (blank_words (word ∷ next ∷ words))) room)) [
-  | inl all ↦ rw all (omega arith)
+first-whole word [] room some fits =
+    let all : nat_le (length word) room ≡ true = grind (arith, nat_tests, fits) in
+    rw (append-nil word, all) some
+first-whole word (next ∷ words) room some fits = elim (cases_Bool (nat_le (length (joined_words (word ∷ next ∷ words))) room)) [
+  | inl all ↦ let len = length-append word (blank_words (next ∷ words)) in rw all (omega (arith, len, some))
   | inr more ↦
-      let n = room - length (32 ∷ word) in
-      let is : length (32 ∷ word) + suc n ≡ room + 1 = omega (arith, fits) in
+      let n = room - length word in
+      let is : length word + suc n ≡ room + 1 = omega (arith, fits) in
       let back = take (suc n) (blank_words (next ∷ words)) in
-      let some : (word_start back == 0) ≡ false = start-some (take n (next ++ blank_words words)) in
-      let sum = start-append (32 ∷ word) back some in
-      let above : 0 < word_start back = grind (arith, nat_tests, some) in
-      let front = take-append-add (32 ∷ word) (blank_words (next ∷ words)) (suc n) in
-      let start : word_start (take (room + 1) (blank_words (word ∷ next ∷ words))) ≡ length (32 ∷ word) + word_start back =
-      ap (λ (k : ℕ). word_start (take k (blank_words (word ∷ next ∷ words)))) (sym is) ∙ (ap word_start front ∙ sum) in
-      rw more (omega (arith, start, above))
+      let other : (word_start back == 0) ≡ false = start-some (take n (next ++ blank_words words)) in
+      let sum = start-append word back other in
+      let above : 0 < word_start back = grind (arith, nat_tests, other) in
+      let front = take-append-add word (blank_words (next ∷ words)) (suc n) in
+      let start : word_start (take (room + 1) (joined_words (word ∷ next ∷ words))) ≡ length word + word_start back =
+      ap (λ (k : ℕ). word_start (take k (joined_words (word ∷ next ∷ words)))) (sym is) ∙ (ap word_start front ∙ sum) in
+      rw more (omega (arith, start, above, some))
 ]
 
-start-words : (words : List (List ℕ)) → 0 < length (blank_words words) → (word_start (blank_words words) == 0) ≡ false
-unfolding blank_words
-start-words [] some = absurd (omega (arith, some))
-start-words (word ∷ words) some = start-some (word ++ blank_words words)
-
 -- where no whole word is, there is no room for it
-pub none-whole : (word : List ℕ) (words : List (List ℕ)) (room : ℕ) → list_all is_word (word ∷ words) ≡ true
-    → word_start (take (whole_words (blank_words (word ∷ words)) room) (blank_words (word ∷ words))) ≡ 0 → room < length (32 ∷ word)
-none-whole word words room all none = elim (cases_lt room (length (32 ∷ word))) [
+pub none-whole : (word : List ℕ) (words : List (List ℕ)) (room : ℕ) → is_word word ≡ true → whole_words (joined_words (word ∷ words)) room ≡ 0 → room < length word
+none-whole word words room is none = elim (cases_lt room (length word)) [
   | inl short ↦ short
   | inr fits ↦
-      let whole = whole-words (word ∷ words) room all in
-      let front = take whole.0 (word ∷ words) in
-      let above = first-whole word words room fits in
-      let some : 0 < length (blank_words front) = rw whole.1 at above in
-      let is : take (whole_words (blank_words (word ∷ words)) room) (blank_words (word ∷ words)) ≡ blank_words front =
-      ap (λ (k : ℕ). take k (blank_words (word ∷ words))) whole.1 ∙ front-words (word ∷ words) whole.0 in
-      let start : word_start (blank_words front) ≡ 0 = sym (ap word_start is) ∙ none in
-      let other = start-words front some in
-      absurd (grind (arith, nat_tests, start, other))
+      let some : 0 < length word = grind (arith, nat_tests, is) in
+      let whole = first-whole word words room some fits in
+      absurd (omega (arith, whole, none))
 ]
 
 letters-first : (word back : List ℕ) → is_letters word ≡ true → prefix_len (λ b. not (b == 32)) back ≡ 0 → prefix_len (λ b. not (b == 32)) (word ++ back) ≡ length word
@@ -195,7 +198,6 @@ unfolding blank_words
 none-first [] = refl
 none-first (word ∷ words) = refl
 
--- so many bytes it has with its blank
-pub first-length : (word : List ℕ) (words : List (List ℕ)) → is_letters word ≡ true → first_word (blank_words (word ∷ words)) ≡ 1 + length word
-unfolding blank_words
-first-length word words letters = ap (λ (n : ℕ). 1 + n) (letters-first word (blank_words words) letters (none-first words))
+-- so many bytes it has
+pub first-length : (word : List ℕ) (words : List (List ℕ)) → is_letters word ≡ true → first_letters (joined_words (word ∷ words)) ≡ length word
+first-length word words letters = letters-first word (blank_words words) letters (none-first words)

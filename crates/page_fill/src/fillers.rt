@@ -1,10 +1,10 @@
 //! The filler of a page, alone or with what it keeps of its open row.
 
-ghost use Rattle.std.specs.Prelude.{◌≡◌, ◌≤◌, ℕ, true, false, List, [], ◌∷◌, length, map, replicate, IfOk, IfErr, IfSome, MatchOption, OnOk, OnErr, Some, None, Err, MatchResult};
+ghost use Rattle.std.specs.Prelude.{◌≡◌, ◌<◌, ◌≤◌, ℕ, true, false, List, [], ◌∷◌, length, map, replicate, IfOk, IfErr, IfSome, MatchOption, OnOk, OnErr, Some, None, Err, MatchResult};
 ghost use Rattle.page_core_base.specs.Fails.{FailsBySink};
 ghost use Rattle.page_core_base.specs.Laid.{Gets, nothing};
 ghost use Rattle.page_core_base.specs.Pieces.{piece_of, shown};
-ghost use Rattle.page_core_base.specs.Words.{lettered_pieces};
+ghost use Rattle.page_core_base.specs.Words.{is_printable_ascii, lettered_pieces};
 ghost use Rattle.page_core_base.specs.declared.blank_texts.TheConstants.{BLANK_TEXT};
 ghost use Rattle.page_core_base.specs.declared.limits.TheConstants.{CELLS};
 ghost use Rattle.page_core_base.specs.declared.pieces.Piece.{Piece};
@@ -259,8 +259,8 @@ impl<K: KeepsRow> FillerWith<K> {
         taken
     }
 
-    /// Whether the open row takes words of a text at once, the first after a count of blanks: it is filled, has a cell and as much room, the text is
-    /// printable ASCII, and where there is not one blank before the first word, that word goes into the row.
+    /// Whether the open row takes words of a text at once, the first after a count of blanks: it is filled, has a cell and as much room, and where
+    /// there is not one blank before the first word, that word goes into the row.
     #[inline(always)]
     pub fn takes_words(&self, blanks: u32, text: &[u8]) -> bool
         ensures takes { IfSome self.now (λ e. can_take e blanks text.now ≡ result) }
@@ -269,8 +269,8 @@ impl<K: KeepsRow> FillerWith<K> {
         self.is_going && self.edge.takes_words(blanks, text)
     }
 
-    /// Takes words that the open row takes at once, the first after a count of blanks and each other after one. Each byte of the text is a letter of
-    /// them, in the font beside it, and one blank is before each word, also before the first. Gives the rows that end among them. Of any other text
+    /// Takes words that the open row takes at once, the first after a count of blanks and each other after one. Each byte of the text, printable
+    /// ASCII, is a letter of them, in the font beside it, or the one blank between two of them. Gives the rows that end among them. Of any other text
     /// nothing is promised.
     ///
     /// Its faults are those of the sinks; after one, and after [`finish`](FillerWith::finish), it is [`Fault::Failed`].
@@ -284,6 +284,8 @@ impl<K: KeepsRow> FillerWith<K> {
         notes: &mut N,
     ) -> Result<(), Fault>
         requires takes { IfSome self.old (λ e. can_take e blanks text.now ≡ true) }
+        requires some { 0 < length text.now }
+        requires ascii { is_printable_ascii text.now ≡ true }
         requires fonts { length fonts.now ≡ length text.now }
         ensures gets { (e : Edge) (words : List (List (Piece (List ℕ)))) → self.old ≡ Some e → AreWords text.now fonts.now words
             → Gets result R.gave R.within N.gave N.within rows.old rows.new notes.old notes.new

@@ -1,27 +1,26 @@
 //! Words of letters, the first after a count of blanks and each other after one, which the open row takes at once, and the rows that end among
 //! them.
 
-ghost use Rattle.std.specs.Prelude.{◌≡◌, ◌≤◌, ◌<◌, ◌+◌, ◌-◌, ◌==◌, ℕ, List, drop, length, false, true};
+ghost use Rattle.std.specs.Prelude.{◌≡◌, ◌≤◌, ◌<◌, ◌+◌, ◌-◌, ◌==◌, ◌||◌, ℕ, List, drop, length, true};
 ghost use Rattle.page_core_base.specs.Fails.{FailsBySink};
 ghost use Rattle.page_core_base.specs.Laid.{Gets, Laid, nothing};
 ghost use Rattle.page_core_base.specs.Latches.{LaysOut};
-ghost use Rattle.page_core_base.specs.Words.{lettered_pieces};
+ghost use Rattle.page_core_base.specs.Words.{is_printable_ascii, lettered_pieces};
 ghost use Rattle.page_core_base.specs.declared.limits.TheConstants.{CELLS};
 ghost use Rattle.page_core_base.specs.declared.pieces.Piece.{Piece};
-ghost use Rattle.page_fill_rows.specs.machine.Plain as plain;
 ghost use Rattle.page_fill.specs.Caps.{is_sound};
 ghost use Rattle.page_fill.specs.declared.edges.Edge.{Edge};
 ghost use Rattle.page_fill.specs.LetteredWords.{AreWords, can_take, fits_after, is_in_row};
 ghost use Rattle.page_fill.specs.machine.Fill as fill;
-ghost use Rattle.page_fill.specs.machine.LetteredWords.{LaysFront, LaysUpTo, LaysWords};
+ghost use Rattle.page_fill.specs.machine.LetteredWords.{LaysUpTo, LaysWords};
 ghost use Rattle.page_fill.specs.machine.PlainWords as plain_words;
 
 use crate::Edge;
 use crate::edges::OpenWord;
 use page_core_base::{CELLS, Fault, Font, NoteSink, RowOut, RowSink};
-use page_fill_rows::{RowLatch, is_printable_ascii, word_start};
+use page_fill_rows::{RowLatch, word_end, word_start};
 
-// How many bytes of a text, with a blank before each word, are whole words, among as many first bytes as there is room for.
+// How many bytes of a text, with a blank between two words, are whole words, among as many first bytes as there is room for.
 fn whole_words(text: &[u8], room: usize) -> usize
     ensures value { result ≡ plain_words.whole_words text.now room }
     ensures within { result ≤ length text.now }
@@ -30,22 +29,7 @@ fn whole_words(text: &[u8], room: usize) -> usize
     if text.len() <= room {
         return text.len();
     }
-    word_start(&text[..room + 1]).saturating_sub(1)
-}
-
-// How many bytes the first word of a text is, with the blank before it.
-fn first_word(text: &[u8]) -> usize
-    requires { 0 < length text.now }
-    ensures value { result ≡ plain_words.first_word text.now }
-    ensures some { 0 < result }
-    ensures within { result ≤ length text.now }
-{
-    for i in 1..text.len() {
-        if text[i] == b' ' {
-            return i;
-        }
-    }
-    text.len()
+    word_start(text, room + 1).saturating_sub(1)
 }
 
 impl Edge {
@@ -55,16 +39,11 @@ impl Edge {
         requires room { length self.now.sheet.cells + blanks + length text.now ≤ CELLS }
         ensures { result ≡ fits_after self.now blanks text.now }
     {
-        let letters = if text.is_empty() {
-            0
-        } else {
-            first_word(text) - 1
-        };
-        0 < blanks && self.sheet.has_word_room(blanks, letters)
+        0 < blanks && self.sheet.has_word_room(blanks, word_end(text))
     }
 
-    /// Whether words of a text are taken at once, the first after a count of blanks: it is printable ASCII, and the row is filled, has a cell and
-    /// as much room, and where there is not one blank before the first word, that word goes into the row.
+    /// Whether words of a text are taken at once, the first after a count of blanks: the row is filled, has a cell and as much room, and where there
+    /// is not one blank before the first word, that word goes into the row.
     #[inline(always)]
     pub(crate) fn takes_words(&self, blanks: u32, text: &[u8]) -> bool
         ensures { result ≡ can_take self.now blanks text.now }
@@ -75,88 +54,58 @@ impl Edge {
         let room = CELLS - self.sheet.len();
         text.len() <= room
             && blanks as usize <= room - text.len()
-            && is_printable_ascii(text)
             && (blanks == 1 || self.fits_after(blanks, text))
     }
 
-    // Takes the first words of a text after another count of blanks than one: those that the row has room for. Answers how many bytes they are.
-    fn put_after(&mut self, blanks: u32, text: &[u8], fonts: &[Font]) -> usize
-        requires takes { can_take self.old blanks text.now ≡ true }
-        requires more { (blanks == 1) ≡ false }
+    // Takes the first words of a text, the first one after a count of blanks: those that the row has room for, or the first one, before which the
+    // row ends. Answers how many bytes they are.
+    fn put_front<O: RowOut>(
+        &mut self,
+        blanks: u32,
+        text: &[u8],
+        fonts: &[Font],
+        out: &mut O,
+    ) -> usize
+        requires plain { is_printable_ascii text.now ≡ true }
         requires fonts { length fonts.now ≡ length text.now }
-        ensures lays { LaysUpTo self.old blanks text.now fonts.now (drop result text.now) (drop result fonts.now) (nothing self.new) }
-        ensures within { result ≤ length text.now }
-        ensures room { length self.new.sheet.cells + (length text.now - result) ≤ CELLS }
-        ensures sound { is_sound self.old.word ≡ true → is_sound self.new.word ≡ true }
-    {
-        let more = blanks - 1;
-        let room = self.sheet.free_cells().saturating_sub(more as usize);
-        let end = whole_words(text, room);
-        let start = word_start(&text[..end]);
-        if start == 0 {
-            return 0;
-        }
-        self.word = OpenWord::begun(false);
-        self.sheet
-            .add_words_after(more, &text[..end], &fonts[..end], start);
-        end
-    }
-
-    // The same after any count of blanks: where it is one, none are taken here.
-    #[inline(always)]
-    fn put_first(&mut self, blanks: u32, text: &[u8], fonts: &[Font]) -> usize
-        requires takes { can_take self.old blanks text.now ≡ true }
-        requires fonts { length fonts.now ≡ length text.now }
-        ensures lays { LaysUpTo self.old blanks text.now fonts.now (drop result text.now) (drop result fonts.now) (nothing self.new) }
-        ensures within { result ≤ length text.now }
-        ensures room { length self.new.sheet.cells + (length text.now - result) ≤ CELLS }
-        ensures sound { is_sound self.old.word ≡ true → is_sound self.new.word ≡ true }
-    {
-        if blanks == 1 {
-            return 0;
-        }
-        self.put_after(blanks, text, fonts)
-    }
-
-    // Takes the first words of a text, each after one blank: those that the row has room for, or the first one, before which the row ends.
-    // Answers how many bytes they are.
-    fn put_front<O: RowOut>(&mut self, text: &[u8], fonts: &[Font], out: &mut O) -> usize
-        requires some { 0 < length text.now }
-        requires plain { plain.is_printable_ascii text.now ≡ true }
-        requires fonts { length fonts.now ≡ length text.now }
-        requires room { length self.old.sheet.cells + length text.now ≤ CELLS }
-        ensures gives { (given : Laid Edge) × LaysOut O.left out.old given out.new self.new × LaysFront self.old text.now fonts.now result given }
-        ensures some { 0 < result }
+        requires room { length self.old.sheet.cells + blanks + length text.now ≤ CELLS }
+        requires fits { (blanks == 1 || fits_after self.old blanks text.now) ≡ true }
+        ensures gives { (given : Laid Edge) × LaysOut O.left out.old given out.new self.new × (0 < length text.now
+            → LaysUpTo self.old blanks text.now fonts.now (drop result text.now) (drop result fonts.now) given) }
         ensures within { result ≤ length text.now }
         ensures room { length self.new.sheet.cells + (length text.now - result) ≤ CELLS }
         ensures sound { is_sound self.new.word ≡ true }
     {
         self.word = OpenWord::begun(false);
-        let end = whole_words(text, self.sheet.free_cells());
-        let start = word_start(&text[..end]);
-        if start > 0 {
-            self.sheet.add_words(&text[..end], &fonts[..end], start);
+        let room = self.sheet.free_cells().saturating_sub(blanks as usize);
+        let end = whole_words(text, room);
+        if end > 0 {
+            let start = word_start(text, end);
+            self.sheet
+                .add_words(blanks, &text[..end], &fonts[..end], start);
             return end;
         }
-        let end = first_word(text);
-        self.sheet.wrap_letters(&text[1..end], &fonts[1..end], out);
+        let end = word_end(text);
+        self.sheet.wrap_letters(&text[..end], &fonts[..end], out);
         end
     }
 
     // Takes words, the first after a count of blanks.
     fn put_words<O: RowOut>(&mut self, blanks: u32, text: &[u8], fonts: &[Font], out: &mut O)
         requires takes { can_take self.old blanks text.now ≡ true }
+        requires some { 0 < length text.now }
+        requires plain { is_printable_ascii text.now ≡ true }
         requires fonts { length fonts.now ≡ length text.now }
         ensures gives { (given : Laid Edge) × LaysOut O.left out.old given out.new self.new × LaysWords self.old blanks text.now fonts.now given }
-        ensures sound { is_sound self.old.word ≡ true → is_sound self.new.word ≡ true }
+        ensures sound { is_sound self.new.word ≡ true }
     {
-        let start = self.put_first(blanks, text, fonts);
-        let mut rest = &text[start..];
-        let mut own = &fonts[start..];
-        while !rest.is_empty() {
-            let end = self.put_front(rest, own, out);
-            rest = &rest[end..];
-            own = &own[end..];
+        let mut rest = text;
+        let mut own = fonts;
+        let mut end = self.put_front(blanks, rest, own, out);
+        while end < rest.len() {
+            rest = &rest[end + 1..];
+            own = &own[end + 1..];
+            end = self.put_front(1, rest, own, out);
         }
     }
 
@@ -170,12 +119,14 @@ impl Edge {
         notes: &mut N,
     ) -> Result<(), Fault>
         requires takes { can_take self.old blanks text.now ≡ true }
+        requires some { 0 < length text.now }
+        requires ascii { is_printable_ascii text.now ≡ true }
         requires fonts { length fonts.now ≡ length text.now }
         ensures gets { (words : List (List (Piece (List ℕ)))) → AreWords text.now fonts.now words
             → Gets result R.gave R.within N.gave N.within rows.old rows.new notes.old notes.new (fill.laid self.old (lettered_pieces blanks words)) }
         ensures edge { (words : List (List (Piece (List ℕ)))) → AreWords text.now fonts.now words
             → self.new ≡ (fill.laid self.old (lettered_pieces blanks words)).edge }
-        ensures sound { is_sound self.old.word ≡ true → is_sound self.new.word ≡ true }
+        ensures sound { is_sound self.new.word ≡ true }
         ensures faults { FailsBySink result (R.failed rows.old) (R.failed rows.new) (N.failed notes.old)
             (N.failed notes.new) }
         ensures rows_same { R.loans rows.new ≡ R.loans rows.old }

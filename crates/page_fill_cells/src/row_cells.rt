@@ -236,11 +236,15 @@ impl RowCells {
         true
     }
 
-    /// Appends blanks before a word, of which there are few.
+    /// Appends blanks before a word, of which there are few, mostly one.
     pub fn add_spaces(&mut self, count: u32)
         requires { length self.old + count ≤ CELLS }
         ensures { self.new ≡ self.old ++ replicate count cells.blank }
     {
+        if count == 1 {
+            self.push(BLANK);
+            return;
+        }
         if count > FEW {
             self.add_blanks(count as usize, Font::R);
             return;

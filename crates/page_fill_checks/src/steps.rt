@@ -1,6 +1,7 @@
 //! What is done with a filler.
 
-ghost use Rattle.std.specs.Prelude.{◌<◌, length};
+ghost use Rattle.std.specs.Prelude.{◌≡◌, ◌<◌, length};
+ghost use Rattle.page_core_base.specs.Words.{is_printable_ascii};
 
 use crate::sheets::Sheet;
 use page_core_base::{Fault, Font, NoteSink, Place, RowSink, Settings};
@@ -26,7 +27,7 @@ pub enum Step {
     Cells(&'static str),
     /// A word of 4,096 cells comes in 64 parts, each of 63 accents and a hyphen.
     Parts,
-    /// Words, with a blank before each, are taken at once after so many blanks, in the fonts of letters beside them; roman where none is left.
+    /// Words, with a blank between two, are taken at once after so many blanks, in the fonts of letters beside them; roman where none is left.
     Words(u32, &'static str, &'static str),
     /// Words are not taken at once after so many blanks.
     Refused(u32, &'static str),
@@ -190,6 +191,13 @@ fn fonts_named(letters: &[u8]) -> [Font; 32] {
     fonts
 }
 
+// Whether each byte is a printable character of ASCII, of which words that are taken at once consist.
+fn is_printable_ascii(text: &[u8]) -> bool
+    ensures { result ≡ is_printable_ascii text.now }
+{
+    text.iter().all(|byte| *byte >= b' ' && *byte <= b'~')
+}
+
 // Takes words at once.
 fn give_words<R: RowSink, N: NoteSink>(
     rt: &impl Abort,
@@ -202,7 +210,11 @@ fn give_words<R: RowSink, N: NoteSink>(
 ) -> Result<(), Fault> {
     let fonts = fonts_named(letters);
     assert!(rt; filler.takes_words(blanks, words), "they are taken");
-    if words.len() > 32 {
+    assert!(rt;
+        is_printable_ascii(words),
+        "their letters are printable ASCII"
+    );
+    if words.is_empty() || words.len() > 32 {
         return Ok(());
     }
     filler.words(blanks, words, &fonts[..words.len()], rows, notes)

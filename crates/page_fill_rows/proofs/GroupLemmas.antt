@@ -1,12 +1,15 @@
 -- Texts that are read a group of bytes at a time.
-use Rattle.std.proofs.Common.{◌≡◌, ℕ, zero, suc, ◌+◌, ◌-◌, ◌*◌, ◌/◌, ◌<◌, ◌≤◌, ◌==◌, Bool, true, false, not, cond, List, [], ◌∷◌, ◌++◌, length, map, take, drop, if◌then◌else◌, sym, ap, ◌∙◌, arith}
+use Rattle.std.proofs.Common.{◌≡◌, ℕ, zero, suc, ◌+◌, ◌-◌, ◌*◌, ◌/◌, ◌%◌, ◌^◌, ◌<◌, ◌≤◌, ◌==◌, Bool, true, false, not, bit_and, cond, eqb, List, [], ◌∷◌, ◌++◌, length, map, take, drop, if◌then◌else◌, refl, sym, ap, ◌∙◌, arith}
 use Rattle.std.specs.Int.Count.{leading_of_zero}
 use Rattle.std.proofs.lemmas.Bool.Decides.{nat_tests}
-use Rattle.std.proofs.lemmas.List.{length-drop, length-map, length-take-le, take-append-drop, take_all}
-use Rattle.std.proofs.lemmas.Nat.{leading_le}
+use Rattle.std.proofs.Math.Seq.{take-append-add}
+use Rattle.std.proofs.lemmas.List.{length-map, length-take-le, take-append-drop, take-map, take-take}
+use Rattle.std.proofs.lemmas.List.Folds.{prefix_len-append}
+use Rattle.std.proofs.lemmas.Nat.{and_mask, leading_le, mod-pow-add, one_shl}
+use Rattle.std.proofs.lemmas.Simd.{chunk-drop, length-chunk, mask_l-mod}
 use lib.Count.{count_leading_zeros}
 use lib.Lanes.{chunk, mask_l}
-use Rattle.page_fill_rows.specs.machine.Plain.{word_start}
+use Rattle.page_fill_rows.specs.machine.Plain.{word_end, word_start}
 use Rattle.page_fill_rows.proofs.WordStartLemmas.{start-append, start-none}
 
 -- ---- the last blank of a vector
@@ -56,23 +59,79 @@ start-by-mask (suc k) (b ∷ bytes) within =
     let m = mask_l (map is_blank bytes) in
     one-more k m (word_start bytes) (is_blank b) (start-by-mask k bytes (omega (arith, within))) (long-enough k (map is_blank bytes) (omega (arith, within, length-map bytes is_blank)))
 
--- a vector at a text's end
-last-lanes : (bytes : List ℕ) → 16 ≤ length bytes → bytes ≡ take (length bytes - 16) bytes ++ chunk (length bytes - 16) 16 bytes
-last-lanes bytes long =
-    let front = length bytes - 16 in
-    let len = length-drop front bytes in
-    sym (ap (λ back. take front bytes ++ back) (take_all 16 (drop front bytes) (omega (arith, len))) ∙ take-append-drop front bytes)
+-- the lowest bits of a mask are those of the first lanes
+front-mask : (bits : List Bool) (n : ℕ) → mask_l bits % 2 ^ n ≡ mask_l (take n bits)
+front-mask [] zero = refl
+front-mask [] (suc n) = mask_l-mod [] (suc n) (omega arith)
+front-mask (b ∷ bits) zero = omega arith
+front-mask (true ∷ bits) (suc n) =
+    let m = mask_l bits in
+    let half : (1 + 2 * m) / 2 ^ 1 ≡ m = omega arith in
+    let low : (1 + 2 * m) % 2 ^ 1 ≡ 1 = omega arith in
+    let one : suc n ≡ n + 1 = omega arith in
+    let others = front-mask bits n in
+    let double : mask_l (take n bits) * 2 + 1 ≡ 1 + 2 * mask_l (take n bits) = omega arith in
+    ap (λ k. (1 + 2 * m) % 2 ^ k) one
+    ∙ (mod-pow-add (1 + 2 * m) n 1
+    ∙ (ap (λ h. h % 2 ^ n * 2 ^ 1 + (1 + 2 * m) % 2 ^ 1) half ∙ (ap (λ l. m % 2 ^ n * 2 + l) low ∙ (ap (λ h. h * 2 + 1) others ∙ double))))
+front-mask (false ∷ bits) (suc n) =
+    let m = mask_l bits in
+    let half : (0 + 2 * m) / 2 ^ 1 ≡ m = omega arith in
+    let low : (0 + 2 * m) % 2 ^ 1 ≡ 0 = omega arith in
+    let one : suc n ≡ n + 1 = omega arith in
+    let others = front-mask bits n in
+    let double : mask_l (take n bits) * 2 + 0 ≡ 0 + 2 * mask_l (take n bits) = omega arith in
+    ap (λ k. (0 + 2 * m) % 2 ^ k) one
+    ∙ (mod-pow-add (0 + 2 * m) n 1
+    ∙ (ap (λ h. h % 2 ^ n * 2 ^ 1 + (0 + 2 * m) % 2 ^ 1) half ∙ (ap (λ l. m % 2 ^ n * 2 + l) low ∙ (ap (λ h. h * 2 + 0) others ∙ double))))
 
--- it has a blank
-pub vector-some : (bytes : List ℕ) → 16 ≤ length bytes → 0 < word_start (chunk (length bytes - 16) 16 bytes)
-    → word_start bytes ≡ length bytes - 16 + word_start (chunk (length bytes - 16) 16 bytes)
-vector-some bytes long some =
-    let front = take (length bytes - 16) bytes in
-    let len : length front ≡ length bytes - 16 = length-take-le (length bytes - 16) bytes (omega arith) in
-    ap word_start (last-lanes bytes long)
-    ∙ (start-append front (chunk (length bytes - 16) 16 bytes) (grind (arith, nat_tests, some)) ∙ ap (λ n. n + word_start (chunk (length bytes - 16) 16 bytes)) len)
+-- the letters after the last blank of some first lanes
+pub front-start : (v : List ℕ) (n : ℕ) → length v ≡ 16 → n ≤ 16
+    → word_start (take n v) + count_leading_zeros 64 (bit_and (mask_l (map is_blank v)) (1 * 2 ^ n % 2 ^ 64 - 1)) ≡ 64
+front-start v n long within =
+    let m = mask_l (map is_blank v) in
+    let mask : bit_and m (1 * 2 ^ n % 2 ^ 64 - 1) ≡ mask_l (map is_blank (take n v)) =
+    ap (λ k. bit_and m (k - 1)) (one_shl n 64 (omega (arith, within))) ∙ (and_mask m n ∙ (front-mask (map is_blank v) n ∙ ap mask_l (take-map is_blank n v))) in
+    let len = length-take-le n v (omega (arith, long, within)) in
+    ap (λ k. word_start (take n v) + count_leading_zeros 64 k) mask ∙ start-by-mask 64 (take n v) (omega (arith, len, within))
+
+-- the bytes up to an end: those before a vector, and its first ones
+text-parts : (text : List ℕ) (end front n : ℕ) → front + n ≡ end → front ≤ length text → n ≤ 16 → take end text ≡ take front text ++ take n (chunk front 16 text)
+text-parts text end front n is within few =
+    let len = length-take-le front text within in
+    ap (λ k. take k text) (sym is)
+    ∙ (ap (take (front + n)) (sym (take-append-drop front text))
+    ∙ (ap (λ k. take (k + n) (take front text ++ drop front text)) (sym len)
+    ∙ (take-append-add (take front text) (drop front text) n ∙ ap (λ back. take front text ++ back) (sym (take-take n 16 (drop front text) few)))))
+
+-- there is a blank among these
+pub vector-some : (text : List ℕ) (end front n : ℕ) → front + n ≡ end → front ≤ length text → n ≤ 16 → 0 < word_start (take n (chunk front 16 text))
+    → word_start (take end text) ≡ front + word_start (take n (chunk front 16 text))
+vector-some text end front n is within few some =
+    let back = take n (chunk front 16 text) in
+    ap word_start (text-parts text end front n is within few)
+    ∙ (start-append (take front text) back (grind (arith, nat_tests, some)) ∙ ap (λ k. k + word_start back) (length-take-le front text within))
+
+-- there is none
+pub vector-none : (text : List ℕ) (end front n : ℕ) → front + n ≡ end → front ≤ length text → n ≤ 16 → word_start (take n (chunk front 16 text)) ≡ 0
+    → word_start (take end text) ≡ word_start (take front text)
+vector-none text end front n is within few none =
+    ap word_start (text-parts text end front n is within few) ∙ start-none (take front text) (take n (chunk front 16 text)) none
+
+-- ---- the first blank
+
+-- a vector at a text's front has it
+pub first-some : (text : List ℕ) → 16 ≤ length text → word_end (chunk 0 16 text) < 16 → word_end text ≡ word_end (chunk 0 16 text)
+first-some text long some =
+    let front = chunk 0 16 text in
+    let len = length-chunk 0 16 text long in
+    let other : eqb (word_end front) (length front) ≡ false = grind (arith, nat_tests, len, some) in
+    ap word_end (chunk-drop 0 16 text) ∙ (prefix_len-append (λ b. not (b == 32)) front (drop 16 text) ∙ rw other refl)
 
 -- it has none
-pub vector-none : (bytes : List ℕ) → 16 ≤ length bytes → word_start (chunk (length bytes - 16) 16 bytes) ≡ 0 → word_start bytes ≡ word_start (take (length bytes - 16) bytes)
-vector-none bytes long none =
-    ap word_start (last-lanes bytes long) ∙ start-none (take (length bytes - 16) bytes) (chunk (length bytes - 16) 16 bytes) none
+pub first-none : (text : List ℕ) → 16 ≤ length text → word_end (chunk 0 16 text) ≡ 16 → word_end text ≡ 16 + word_end (drop 16 text)
+first-none text long none =
+    let front = chunk 0 16 text in
+    let len = length-chunk 0 16 text long in
+    let all : eqb (word_end front) (length front) ≡ true = grind (arith, nat_tests, len, none) in
+    ap word_end (chunk-drop 0 16 text) ∙ (prefix_len-append (λ b. not (b == 32)) front (drop 16 text) ∙ rw (all, len) refl)

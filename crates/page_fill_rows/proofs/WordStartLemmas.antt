@@ -1,7 +1,7 @@
 -- Where the letters after the last blank begin.
-use Rattle.std.proofs.Common.{◌≡◌, ℕ, ◌+◌, ◌-◌, ◌<◌, ◌≤◌, true, false, ◌==◌, List, [], ◌∷◌, ◌++◌, length, get_or, take, refl, sym, ap, ◌∙◌, arith}
+use Rattle.std.proofs.Common.{◌≡◌, ℕ, ◌+◌, ◌-◌, ◌<◌, ◌≤◌, true, false, ◌==◌, List, [], ◌∷◌, ◌++◌, length, get_or, replicate, take, refl, ap, ◌∙◌, arith}
 use Rattle.std.proofs.lemmas.Bool.Decides.{nat_tests}
-use Rattle.std.proofs.lemmas.List.{length-append, length-take-le, take_more}
+use Rattle.std.proofs.lemmas.List.{length-append, length-replicate, length-take-le, take_more}
 use Rattle.page_core_base.specs.declared.cells.Cell.{Cell}
 use Rattle.page_core_base.specs.declared.cells.Font.{Font}
 use Rattle.page_core_base.specs.Rows.{cells_in}
@@ -9,7 +9,8 @@ use Rattle.page_core_base.specs.declared.limits.TheConstants.{CELLS}
 use Rattle.page_fill_rows.specs.declared.TheConstants.{TAG_COLUMNS}
 use Rattle.page_fill_rows.specs.machine.Room.{IsSound}
 use Rattle.page_fill_rows.specs.machine.Plain.{is_printable_ascii, word_start}
-use Rattle.page_fill_rows.proofs.PlainLemmas.{in-plain, sound-cells}
+use Rattle.page_fill_rows.specs.machine.Sheets.{blank}
+use Rattle.page_fill_rows.proofs.PlainLemmas.{in-plain, sound-cells, sound-spaces}
 use Rattle.page_fill_cells.proofs.PlaceLemmas.{in-length}
 
 pub start-append : (front back : List ℕ) → (word_start back == 0) ≡ false → word_start (front ++ back) ≡ length front + word_start back
@@ -63,20 +64,25 @@ pub start-of-none : word_start [] ≡ 0
 unfolding word_start
 start-of-none = refl
 
--- a sound row with words is sound
-pub sound-words : {blanks : ℕ} (cells : List Cell) (text : List ℕ) (fonts : List Font) (start count gap word tag tag-now : ℕ) → IsSound cells count gap word tag blanks
-    → is_printable_ascii text ≡ true → length fonts ≡ length text → length cells + length text ≤ CELLS → tag-now ≤ TAG_COLUMNS → start ≤ length text
-    → IsSound (cells ++ cells_in text fonts) (count + length text) (length cells + start - 1) (length cells + start) tag-now blanks
-sound-words cells text fonts start count gap word tag tag-now sound plain same room tagged within =
+-- a sound row with blanks and words is sound
+pub sound-words : {held : ℕ} (cells : List Cell) (blanks : ℕ) (text : List ℕ) (fonts : List Font) (start count gap word tag gap-now tag-now : ℕ) → IsSound cells count gap word tag held
+    → is_printable_ascii text ≡ true → length fonts ≡ length text → length cells + blanks + length text ≤ CELLS → tag-now ≤ TAG_COLUMNS → start ≤ length text
+    → gap-now ≤ length cells + blanks + start
+    → IsSound (cells ++ replicate blanks blank ++ cells_in text fonts) (count + (blanks + length text)) gap-now (length cells + blanks + start) tag-now held
+sound-words cells blanks text fonts start count gap word tag gap-now tag-now sound plain same room tagged within gapped =
     let size = in-length text fonts same in
-    let more = sound-cells cells (cells_in text fonts) count gap word tag tag-now sound (in-plain text fonts plain) (rw size room) tagged in
-    let len = length-append cells (cells_in text fonts) in
+    let spaced = sound-spaces cells blanks count gap word tag tag-now sound (omega (arith, room)) tagged in
+    let front = length-append cells (replicate blanks blank) in
+    let some = length-replicate blanks blank in
+    let more = sound-cells (cells ++ replicate blanks blank) (cells_in text fonts) (count + blanks) (length cells) (length cells + blanks) tag-now tag-now spaced (in-plain text fonts plain)
+    (omega (arith, front, some, size, room)) tagged in
+    let len = length-append (cells ++ replicate blanks blank) (cells_in text fonts) in
     record {
       bounded = more.bounded;
-      counted = ap (λ n. count + n) (sym size) ∙ more.counted;
+      counted = let counted = more.counted in omega (arith, counted, size);
       narrow = let narrow = more.narrow in omega (arith, narrow, size);
-      gap_within = omega arith;
-      word_within = omega (arith, len, size, within);
+      gap_within = gapped;
+      word_within = omega (arith, len, front, some, size, within);
       tag_within = tagged;
       blanks_within = more.blanks_within;
     }

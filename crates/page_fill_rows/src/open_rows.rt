@@ -597,50 +597,24 @@ impl OpenRow {
         (CELLS - self.row.len()).min(free as usize)
     }
 
-    /// The row, which has room, takes words of letters in fonts, with a blank before each, where the last one starts at a place of the text.
-    pub fn add_words(&mut self, text: &[u8], fonts: &[Font], start: usize)
+    /// The row, which has room, takes blanks and after them words of letters in fonts, with a blank between two, of which the last starts at a place
+    /// of the text.
+    pub fn add_words(&mut self, blanks: u32, text: &[u8], fonts: &[Font], start: usize)
         requires plain { plain.is_printable_ascii text.now ≡ true }
         requires fonts { length fonts.now ≡ length text.now }
-        requires room { length self.old.cells + length text.now ≤ CELLS }
-        requires start { (0 < start) × (start ≤ length text.now) }
-        ensures { self.new ≡ plain.words_taken self.old (cells_in text.now fonts.now) start }
+        requires room { length self.old.cells + blanks + length text.now ≤ CELLS }
+        requires start { start ≤ length text.now }
+        ensures { self.new ≡ plain.words_taken self.old blanks (cells_in text.now fonts.now) start }
     {
-        self.word = self.row.len() + start;
-        self.gap = self.word - 1;
+        let end = self.row.len();
+        self.word = end + blanks as usize + start;
+        self.gap = if start == 0 { end } else { self.word - 1 };
+        self.row.add_spaces(blanks);
         self.row.add_letters(text, fonts);
-        let count = text.len() as u32;
+        let count = blanks + text.len() as u32;
         self.columns += count;
-        self.tag_columns = self.tag_columns.saturating_add(count).min(TAG_COLUMNS);
+        self.tag_columns = (self.tag_columns + count).min(TAG_COLUMNS);
         self.has_tag_cell = true;
-    }
-
-    // The row, which has room, takes blanks before its next word.
-    fn add_spaces(&mut self, count: u32)
-        requires { length self.old.cells + count ≤ CELLS }
-        ensures { self.new ≡ plain.spaced_by self.old count }
-    {
-        self.gap = self.row.len();
-        self.word = self.gap + count as usize;
-        self.row.add_spaces(count);
-        self.columns += count;
-        self.tag_columns = self.tag_columns.saturating_add(count).min(TAG_COLUMNS);
-        self.has_tag_cell = true;
-    }
-
-    /// The same of words after more blanks, beside the one that is before each word.
-    pub fn add_words_after(&mut self, more: u32, text: &[u8], fonts: &[Font], start: usize)
-        requires plain { plain.is_printable_ascii text.now ≡ true }
-        requires fonts { length fonts.now ≡ length text.now }
-        requires room { length self.old.cells + more + length text.now ≤ CELLS }
-        requires start { (0 < start) × (start ≤ length text.now) }
-        ensures { self.new ≡ plain.words_after self.old more (cells_in text.now fonts.now) start }
-    {
-        let gap = self.row.len();
-        self.add_spaces(more);
-        self.add_words(text, fonts, start);
-        if start == 1 {
-            self.gap = gap;
-        }
     }
 
     /// The row takes cells of bytes that are a column each.

@@ -1,7 +1,6 @@
 -- A machine, which no public clause cites: the fast ways for plain words, which go into the open row or into the next one as a whole.
 use Rattle.std.specs.Prelude.{ℕ, ◌+◌, ◌-◌, Bool, not, ◌&&◌, ◌==◌, nat_le, nat_lt, List, length, take, if◌then◌else◌}
 use Rattle.page_fill_rows.specs.machine.Plain.{ends_before, has_word_room, word_start}
-use Rattle.page_fill.specs.LetteredWords.{first_letters}
 use Rattle.page_fill.specs.machine.Fill.{Edge}
 
 -- a word after blanks, with this count of cells of a column each, goes into the open row
@@ -13,10 +12,6 @@ takes_word e count =
 abbrev pub wraps_word : Edge → ℕ → Bool
 wraps_word e count = not e.word.is_joined && (not e.word.has_tab && (e.word.blanks == 1 && ends_before e.sheet count))
 
--- how many bytes the first word of a text is, with the blank before it
-abbrev pub first_word : List ℕ → ℕ
-first_word text = 1 + first_letters text
-
--- how many bytes of a text, with a blank before each word, are whole words, among the first ones up to a number
+-- how many bytes of a text, with a blank between two words, are whole words, among the first ones up to a number
 abbrev pub whole_words : List ℕ → ℕ → ℕ
 whole_words text room = if nat_le (length text) room then length text else word_start (take (room + 1) text) - 1

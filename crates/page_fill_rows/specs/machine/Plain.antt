@@ -2,6 +2,7 @@
 -- (`Edge::put_words` of page_fill). They are characters of printable ASCII, each a cell of one column, so that an open row with room for them takes them as
 -- a whole.
 use Rattle.std.specs.Prelude.{ℕ, ◌+◌, Bool, true, not, ◌&&◌, ◌||◌, ◌==◌, ◌-◌, nat_le, nat_lt, min, List, [], ◌∷◌, ◌++◌, length, replicate, if◌then◌else◌}
+use Rattle.std.specs.List.{prefix_len}
 use Rattle.page_core_base.specs.declared.cells.Cell.{Cell}
 use Rattle.page_core_base.specs.Laid.{Laid}
 pub use Rattle.page_fill_cells.specs.Cells.{is_printable, is_printable_ascii}
@@ -85,18 +86,16 @@ unfoldable pub word_start : List ℕ → ℕ
 word_start [] = 0
 word_start (b ∷ bytes) = if not (word_start bytes == 0) then word_start bytes + 1 else if b == 32 then 1 else 0
 
--- the row took words with a blank before each, one after another: cells of a column each, of which the last word starts at a place
-abbrev pub words_taken : Sheet → List Cell → ℕ → Sheet
-words_taken s cells start = record s {
-  cells = s.cells ++ cells;
-  gap = length s.cells + (start - 1);
-  word = length s.cells + start;
-  tag_columns = min (s.tag_columns + length cells) TAG_COLUMNS;
+-- how many bytes come before the first blank
+abbrev pub word_end : List ℕ → ℕ
+word_end bytes = prefix_len (λ b. not (b == 32)) bytes
+
+-- the row took blanks and words with a blank between two, one after another: cells of a column each, of which the last word starts at a place
+abbrev pub words_taken : Sheet → ℕ → List Cell → ℕ → Sheet
+words_taken s blanks cells start = record s {
+  cells = s.cells ++ replicate blanks blank ++ cells;
+  gap = if start == 0 then length s.cells else length s.cells + blanks + (start - 1);
+  word = length s.cells + blanks + start;
+  tag_columns = min (s.tag_columns + (blanks + length cells)) TAG_COLUMNS;
   tag_begun = true;
 }
-
--- the same after more blanks: all of them are before the last word where that is the first one
-abbrev pub words_after : Sheet → ℕ → List Cell → ℕ → Sheet
-words_after s more cells start =
-    let t = words_taken (spaced_by s more) cells start in
-    record t { gap = if start == 1 then length s.cells else t.gap }

@@ -1,4 +1,4 @@
-use Rattle.std.proofs.Common.{◌≡◌, ◌≤◌, ◌+◌, length, true}
+use Rattle.std.proofs.Common.{◌≡◌, ◌≤◌, ◌+◌, ◌-◌, drop, length, true}
 use Rattle.page_core_base.specs.Laid.{Laid}
 use Rattle.page_core_base.specs.Latches.{LaysOut}
 use Rattle.page_core_base.specs.declared.limits.TheConstants.{CELLS}
@@ -8,13 +8,16 @@ use Rattle.page_fill.specs.machine.Fill.{Edge}
 use Rattle.page_fill.specs.machine.LetteredWords.{LaysUpTo}
 use Rattle.page_fill.proofs.edges.Edge.put_words.Given as goal
 
-abbrev pub invariant-loop-rest : goal.invariant-loop-rest
-invariant-loop-rest g l =
+abbrev pub invariant-loop-end : goal.invariant-loop-end
+invariant-loop-end g l =
     (is_printable_ascii l.rest ≡ true)
     × (length l.own ≡ length l.rest)
-    × (length l.self.sheet.cells + length l.rest ≤ CELLS)
-    × (is_sound l.fn.self.word ≡ true → is_sound l.self.word ≡ true)
-    × ((given : Laid Edge) × LaysOut g.O.RowOut.left l.fn.out given l.out l.self × LaysUpTo l.fn.self l.blanks l.text l.fonts l.rest l.own given)
+    × (length l.rest ≤ CELLS)
+    × (l.end ≤ length l.rest)
+    × (length l.self.sheet.cells + (length l.rest - l.end) ≤ CELLS)
+    × (is_sound l.self.word ≡ true)
+    × ((given : Laid Edge) × LaysOut g.O.RowOut.left l.fn.out given l.out l.self
+    × LaysUpTo l.fn.self l.blanks l.text l.fonts (drop l.end l.rest) (drop l.end l.own) given)
 
-abbrev pub decreases-loop-rest : goal.decreases-loop-rest
-decreases-loop-rest g l = length l.rest
+abbrev pub decreases-loop-end : goal.decreases-loop-end
+decreases-loop-end g l = length l.rest - l.end
