@@ -37,7 +37,7 @@ use Rattle.page_fill.proofs.WordRunLemmas.{first-length, joined_words, none-whol
 abbrev all_bytes : List (List (Piece (List ℕ))) → List (List ℕ)
 all_bytes words = map word_bytes words
 
-first-is : (word : List (Piece (List ℕ))) (words : List (List (Piece (List ℕ)))) → list_all is_lettered_word (word ∷ words) ≡ true → is_lettered_word word ≡ true
+pub first-is : (word : List (Piece (List ℕ))) (words : List (List (Piece (List ℕ)))) → list_all is_lettered_word (word ∷ words) ≡ true → is_lettered_word word ≡ true
 first-is word words all = grind (arith, all)
 
 others-are : (word : List (Piece (List ℕ))) (words : List (List (Piece (List ℕ)))) → list_all is_lettered_word (word ∷ words) ≡ true → list_all is_lettered_word words ≡ true
@@ -235,7 +235,7 @@ wraps-cells : (s : Sheet) (cells : List Cell) → (length cells == 0) ≡ false 
 wraps-cells s [] some plain ends = absurd (grind (arith, some))
 wraps-cells s (cell ∷ cells) some plain ends = both-cells s cell cells anywhere plain ends
 
-word-some : (word : List (Piece (List ℕ))) → is_lettered_word word ≡ true → (length (word_letters word) == 0) ≡ false
+pub word-some : (word : List (Piece (List ℕ))) → is_lettered_word word ≡ true → (length (word_letters word) == 0) ≡ false
 word-some word is =
     let w = word-is word is in
     let len = length-map (word_letters word) (λ (cell : Cell). cell.c) in

@@ -59,6 +59,7 @@ impl Edge {
 
     // Takes the first words of a text, the first one after a count of blanks: those that the row has room for, or the first one, before which the
     // row ends. Answers how many bytes they are.
+    #[inline(always)]
     fn put_front<O: RowOut>(
         &mut self,
         blanks: u32,

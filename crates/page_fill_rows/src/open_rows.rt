@@ -514,6 +514,7 @@ impl OpenRow {
     }
 
     /// The same of a word of bytes, each in the font beside it.
+    #[inline(always)]
     pub fn wrap_letters<O: RowOut>(&mut self, bytes: &[u8], fonts: &[Font], out: &mut O)
         requires plain { plain.is_printable_ascii bytes.now ≡ true }
         requires fonts { length fonts.now ≡ length bytes.now }
@@ -599,6 +600,7 @@ impl OpenRow {
 
     /// The row, which has room, takes blanks and after them words of letters in fonts, with a blank between two, of which the last starts at a place
     /// of the text.
+    #[inline(always)]
     pub fn add_words(&mut self, blanks: u32, text: &[u8], fonts: &[Font], start: usize)
         requires plain { plain.is_printable_ascii text.now ≡ true }
         requires fonts { length fonts.now ≡ length text.now }

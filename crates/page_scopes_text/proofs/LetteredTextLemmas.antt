@@ -317,16 +317,16 @@ counted_blanks blanks [] items more some e = absurd (omega (arith, some))
 counted_blanks blanks (word ∷ words) items more some e = ap (λ (all : List Item). shown (Blank blanks false) ∷ drop 1 all) e
 
 pub front_came : {P S : Type 0} (left : P → S → List Item → Type 0) (style : TextStyle) (line : ℕ) (pen : Pen) (fonts : Setting Fonts) (text rest : List ℕ)
-    (s t : S) → GoesOn style pen → begins_word text ≡ true → GivesFront style pen text fonts rest (Came left) s t
+    (s t u : S) → GoesOn style pen → begins_word text ≡ true → Came left s [] t → GivesFront style pen text fonts rest (Came left) t u
     → CameUpTo left s (text_items style line pen (words_of style.is_quoted text))
-    (others_items style line (resting fonts (pen.column + (length text - length rest))) (words_of style.is_quoted rest).others) t
-front_came left style line pen fonts text rest s t h begins front = λ plan more k.
+    (others_items style line (resting fonts (pen.column + (length text - length rest))) (words_of style.is_quoted rest).others) u
+front_came left style line pen fonts text rest s t u h begins none front = λ plan more k.
     let after = pen.column + (length text - length rest) in
     let e : after + length rest ≡ pen.column - 1 + suc (length text) = omega (arith, front.less, h.column) in
     let g = front.adds.2.gives line (pen.column - 1) after e in
     let cells : length (lettered_cells g.0) ≡ length front.cells = ap (λ (c : List Cell). length c) (g.2 ∙ sym front.adds.1) in
     let here = text_same style line pen text h begins front.prints ∙ counted_blanks pen.gap g.0 _ _ (omega (arith, cells, front.some)) g.3 in
-    front.gives g.0 g.1 (front.adds.1 ∙ sym g.2) plan _ (rw (here, append_assoc) at k)
+    front.gives g.0 g.1 (front.adds.1 ∙ sym g.2) plan _ (none plan _ (rw (here, append_assoc) at k))
 
 pub front_pen : {S : Type 0} (gave : S → List Item → S → Type 0) (style : TextStyle) (pen : Pen) (fonts : Setting Fonts) (text rest : List ℕ) (s t : S)
     → GoesOn style pen → begins_word text ≡ true → GivesFront style pen text fonts rest gave s t

@@ -180,9 +180,6 @@ fn give_read<'a, O: PieceOut>(
     if !is_ascii_at(text, 0) {
         return None;
     }
-    if !takes_words(out) {
-        return None;
-    }
     let mut letters = Letters::new();
     if !letters.add(Font::R, b" ") {
         return None;
@@ -239,7 +236,7 @@ pub(crate) fn give_lettered_front<'a, O: PieceOut>(
     ensures within { IfSome result (λ rest. Within pen.old text.now pen.new rest.now) }
     ensures ends { IfSome result (λ rest. begins_word rest.now ≡ false) }
 {
-    if !goes_on(style, pen) {
+    if !goes_on(style, pen) || !takes_words(out) {
         return None;
     }
     let (fonts, rest) = give_front(out, style, pen, text)?;

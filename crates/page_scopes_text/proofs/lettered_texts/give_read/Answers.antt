@@ -13,8 +13,7 @@ returns-then-not-give g c =
     let found = c.read_words.result in
     let adds : AddsWords style c.args.pen.now.fonts [] (32 ∷ text) found.0 c.read_words.new.letters found.1.now =
     adds_join style c.args.pen.now.fonts first.next found.0 [] c.read_first.new.letters c.read_words.new.letters (32 ∷ text) first.rest.now found.1.now first.ensures.reads c.read_words.ensures in
-    let left = front_left g.O.PieceOut.left style c.args.pen.now.gap c.args.pen.now.fonts found.0 text found.1.now c.read_words.new.letters _ _ adds (rw c.if-not-give.true at c.give.ensures) in
-    λ plan rest h. left plan rest (c.takes_words.ensures plan rest h)
+    front_left g.O.PieceOut.left style c.args.pen.now.gap c.args.pen.now.fonts found.0 text found.1.now c.read_words.new.letters _ _ adds (rw c.if-not-give.true at c.give.ensures)
 
 pub returns : goal.returns
 returns g c =
@@ -32,5 +31,5 @@ returns g c =
       cells = c.read_words.new.letters;
       some = omega (arith, first.ensures.some, grown);
       adds = adds;
-      gives = λ words are cells plan more h. (rw c.if-not-give.false at c.give.ensures) words are cells plan more (c.takes_words.ensures plan _ h);
+      gives = rw c.if-not-give.false at c.give.ensures;
     }
