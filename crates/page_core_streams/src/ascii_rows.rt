@@ -10,6 +10,12 @@ ghost use Rattle.page_core_streams.specs.RowBytes.{cell_bytes_of};
 use crate::cells::{font_bits, write_ascii};
 use page_core_base::{BLANK_GROUP, Font, LONG_ROW};
 
+/// The characters of a row that are written at a time: a number that the compiler knows, so that it needs no loop over them.
+pub(crate) const TEXT_GROUP: usize = 32;
+
+// The same in a row that has fewer.
+const HALF: usize = 16;
+
 // The characters of a group that are looked at together where they are not all in roman: a number that the compiler knows.
 const PART: usize = 4;
 
@@ -100,6 +106,67 @@ pub(crate) fn write_text(bytes: &mut [u8], start: usize, text: &[u8], fonts: &[F
     write_parts(bytes, start, text, fonts)
 }
 
+// Writes the bytes of the first characters of a group, and answers where they end: quickly where all fonts of the group are roman. What is after
+// them means nothing, so that the whole group can be written.
+#[inline(always)]
+fn write_first(bytes: &mut [u8], start: usize, text: &[u8], fonts: &[Font], count: usize) -> usize
+    requires ascii { AreAscii text.now fonts.now false }
+    requires room { start + 5 * length text.now ≤ length bytes.old }
+    requires within { count ≤ length text.now }
+    ensures front { take result bytes.new ≡ take start bytes.old ++ flat_map cell_bytes_of (cells_in (take count text.now) (take count fonts.now)) }
+    ensures end { result ≤ start + 5 * count }
+{
+    if are_roman(fonts) {
+        let _end = write_roman(bytes, start, text);
+        return start + count;
+    }
+    write_parts(bytes, start, &text[..count], &fonts[..count])
+}
+
+// Writes the bytes of at most two halves of a group, and answers where they end: of the first half only what is before the other.
+#[inline(never)]
+fn write_halves(bytes: &mut [u8], start: usize, text: &[u8], fonts: &[Font]) -> usize
+    requires ascii { AreAscii text.now fonts.now false }
+    requires room { start + 5 * TEXT_GROUP ≤ length bytes.old }
+    requires few { length text.now ≤ TEXT_GROUP }
+    ensures front { take result bytes.new ≡ take start bytes.old ++ flat_map cell_bytes_of (cells_in text.now fonts.now) }
+    ensures end { result ≤ start + 5 * length text.now }
+{
+    if text.len() < HALF {
+        return write_text(bytes, start, text, fonts);
+    }
+    let first = text.len() - HALF;
+    let middle = write_first(bytes, start, &text[..HALF], &fonts[..HALF], first);
+    write_text(bytes, middle, &text[first..], &fonts[first..])
+}
+
+/// Writes the bytes of the first characters of a row, at most a group, from `start` on, and answers where they end.
+#[inline(always)]
+pub(crate) fn write_front(
+    bytes: &mut [u8],
+    start: usize,
+    text: &[u8],
+    fonts: &[Font],
+    count: usize,
+) -> usize
+    requires ascii { AreAscii text.now fonts.now false }
+    requires room { start + 5 * TEXT_GROUP ≤ length bytes.old }
+    requires within { (count ≤ length text.now) × (count ≤ TEXT_GROUP) }
+    ensures front { take result bytes.new ≡ take start bytes.old ++ flat_map cell_bytes_of (cells_in (take count text.now) (take count fonts.now)) }
+    ensures end { result ≤ start + 5 * count }
+{
+    if text.len() < TEXT_GROUP {
+        return write_halves(bytes, start, &text[..count], &fonts[..count]);
+    }
+    write_first(
+        bytes,
+        start,
+        &text[..TEXT_GROUP],
+        &fonts[..TEXT_GROUP],
+        count,
+    )
+}
+
 // Whether a few characters are blanks. All of them are read.
 #[inline(always)]
 fn are_spaces(text: &[u8]) -> bool
@@ -128,6 +195,7 @@ fn len_before_groups(text: &[u8]) -> usize
 }
 
 /// How many characters there are before the blanks at the end of a row, of which it is known whether there is nothing else.
+#[inline(always)]
 pub(crate) fn shown_len(text: &[u8], is_blank: bool) -> usize
     ensures same { (fonts : List Font) → AreAscii text.now fonts is_blank → trimmed (cells_in text.now fonts) ≡ cells_in (take result text.now) (take result fonts) }
     ensures within { result ≤ length text.now }

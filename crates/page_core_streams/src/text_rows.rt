@@ -1,6 +1,6 @@
 //! Rows as bytes of a writer (mandoc(1), "ASCII Output").
 
-ghost use Rattle.std.specs.Prelude.{◌≡◌, ◌+◌, ◌<◌, ◌≤◌, ◌++◌, [], ◌∷◌, MatchOption, length, take, true, false, replicate};
+ghost use Rattle.std.specs.Prelude.{◌≡◌, ◌+◌, ◌<◌, ◌≤◌, ◌++◌, [], ◌∷◌, MatchOption, length, take, drop, true, false, replicate};
 ghost use Rattle.std.specs.Borrow.{GName};
 ghost use Rattle.std.specs.List.{flat_map};
 ghost use Rattle.page_core_base.specs.Rows.{AreAscii, cells_in};
@@ -8,7 +8,7 @@ ghost use Rattle.page_core_streams.specs.Failures.{FailsBy, StopsBy, count_of};
 ghost use Rattle.page_core_streams.specs.Grows.{Adds, AddsInto, GrowsInto, GrowsUpTo, Writes, adds-sink, adds-whole};
 ghost use Rattle.page_core_streams.specs.RowBytes.{row_bytes, printed, cell_bytes_of};
 
-use crate::ascii_rows::{shown_len, write_text};
+use crate::ascii_rows::{TEXT_GROUP, shown_len, write_front, write_text};
 use crate::cells::{without_blanks_at_end, write_group, write_mixed};
 use crate::targets::Target;
 use crate::writing::put;
@@ -20,9 +20,10 @@ const WAITING: usize = 256;
 // The cells of a row that are written at a time: a number that the compiler knows, so that it needs no loop over them.
 const GROUP: usize = 8;
 
-// The same of characters of ASCII. There is room for the bytes that wait, for those of a group, and for a row's end.
-const TEXT_GROUP: usize = 32;
+// The blanks that are put at a time where they are enough.
+const BLANKS: usize = 32;
 
+// There is room for the bytes that wait, for those of a group of either kind, and for a row's end.
 const ROW_BYTES: usize = 640;
 
 /// Writes rows as bytes (mandoc(1), "ASCII Output").
@@ -49,6 +50,28 @@ impl<'a, W: Target> TextRows<'a, W> {
     }
 }
 
+// Puts a count of blanks at the front of the bytes.
+#[inline(always)]
+fn fill_blanks(bytes: &mut [u8; ROW_BYTES], count: usize)
+    requires { count ≤ length bytes.old }
+    ensures { bytes.new ≡ replicate count 32 ++ drop count bytes.old }
+{
+    bytes[..count].fill(b' ');
+}
+
+// The same, or more of them. Few are put as a whole group, for which the compiler needs no loop: those after the count mean nothing.
+#[inline(always)]
+fn put_blanks(bytes: &mut [u8; ROW_BYTES], count: usize)
+    requires { count ≤ length bytes.old }
+    ensures { take count bytes.new ≡ replicate count 32 }
+{
+    if count <= BLANKS {
+        fill_blanks(bytes, BLANKS);
+    } else {
+        fill_blanks(bytes, count);
+    }
+}
+
 // Writes a margin in blanks, but for a few that wait in the bytes, and answers where the next one goes.
 fn put_margin<W: Target>(out: &mut W, bytes: &mut [u8; ROW_BYTES], margin: u32) -> Option<usize>
     ensures writes { MatchOption result
@@ -64,7 +87,7 @@ fn put_margin<W: Target>(out: &mut W, bytes: &mut [u8; ROW_BYTES], margin: u32) 
         }
         left -= WAITING;
     }
-    bytes[..left].fill(b' ');
+    put_blanks(bytes, left);
     Some(left)
 }
 
@@ -125,8 +148,10 @@ fn put_text<W: Target>(
     let Some(mut end) = put_margin(out, bytes, margin) else {
         return false;
     };
-    let mut i = 0;
-    while text.len() - i >= TEXT_GROUP {
+    // The first group has as many as make the others whole ones.
+    let mut i = (text.len() - 1) % TEXT_GROUP + 1;
+    end = write_front(bytes, end, text, fonts, i);
+    while i < text.len() {
         let Some(room) = room_after(out, bytes, end) else {
             return false;
         };
@@ -134,7 +159,6 @@ fn put_text<W: Target>(
         end = write_text(bytes, room, &text[i..next], &fonts[i..next]);
         i = next;
     }
-    end = write_text(bytes, end, &text[i..], &fonts[i..]);
     bytes[end] = b'\n';
     put(out, &bytes[..end + 1])
 }

@@ -22,8 +22,26 @@ type Unsent = ArrayVec<u8, 512>;
 pub(crate) fn write_bytes<W: Write>(out: &mut W, bytes: &[u8]) -> bool
     ensures { Writes result (W.contents out.old) (W.contents out.new) bytes.now }
 {
+    if bytes.is_empty() {
+        return true;
+    }
+    match out.write(bytes) {
+        Ok(count) if count == bytes.len() => true,
+        Ok(count) if count > 0 => write_rest(out, &bytes[count..], INTERRUPTIONS),
+        Err(error) if error.kind() == ErrorKind::Interrupted => {
+            write_rest(out, bytes, INTERRUPTIONS - 1)
+        }
+        _ => false,
+    }
+}
+
+// Writes all bytes in the same way, with a number of tries left. Most writes take all at once, so that this is seldom called.
+#[inline(never)]
+fn write_rest<W: Write>(out: &mut W, bytes: &[u8], tries: u32) -> bool
+    ensures { Writes result (W.contents out.old) (W.contents out.new) bytes.now }
+{
     let mut rest = bytes;
-    let mut tries = INTERRUPTIONS;
+    let mut tries = tries;
     while !rest.is_empty() {
         match out.write(rest) {
             Ok(count) if count > 0 => rest = &rest[count..],
