@@ -1,6 +1,6 @@
 //! Rows as bytes of a writer (mandoc(1), "ASCII Output").
 
-ghost use Rattle.std.specs.Prelude.{◌≡◌, ◌+◌, ◌<◌, ◌≤◌, ◌++◌, [], ◌∷◌, MatchOption, length, take, drop, true, false, replicate};
+ghost use Rattle.std.specs.Prelude.{◌≡◌, ◌+◌, ◌<◌, ◌≤◌, ◌++◌, [], ◌∷◌, MatchOption, length, take, true, false, replicate};
 ghost use Rattle.std.specs.Borrow.{GName};
 ghost use Rattle.std.specs.List.{flat_map};
 ghost use Rattle.page_core_base.specs.Rows.{AreAscii, cells_in};
@@ -8,7 +8,7 @@ ghost use Rattle.page_core_streams.specs.Failures.{FailsBy, StopsBy, count_of};
 ghost use Rattle.page_core_streams.specs.Grows.{Adds, AddsInto, GrowsInto, GrowsUpTo, Writes, adds-sink, adds-whole};
 ghost use Rattle.page_core_streams.specs.RowBytes.{row_bytes, printed, cell_bytes_of};
 
-use crate::ascii_rows::{TEXT_GROUP, shown_len, write_front, write_text};
+use crate::ascii_rows::{TEXT_GROUP, shown_len, write_first};
 use crate::cells::{without_blanks_at_end, write_group, write_mixed};
 use crate::targets::Target;
 use crate::writing::put;
@@ -19,9 +19,6 @@ const WAITING: usize = 256;
 
 // The cells of a row that are written at a time: a number that the compiler knows, so that it needs no loop over them.
 const GROUP: usize = 8;
-
-// The blanks that are put at a time where they are enough.
-const BLANKS: usize = 32;
 
 // There is room for the bytes that wait, for those of a group of either kind, and for a row's end.
 const ROW_BYTES: usize = 640;
@@ -50,25 +47,16 @@ impl<'a, W: Target> TextRows<'a, W> {
     }
 }
 
-// Puts a count of blanks at the front of the bytes.
-#[inline(always)]
-fn fill_blanks(bytes: &mut [u8; ROW_BYTES], count: usize)
-    requires { count ≤ length bytes.old }
-    ensures { bytes.new ≡ replicate count 32 ++ drop count bytes.old }
-{
-    bytes[..count].fill(b' ');
-}
-
-// The same, or more of them. Few are put as a whole group, for which the compiler needs no loop: those after the count mean nothing.
+// Puts a count of blanks at the front of the bytes. Few are put as a whole group, for which the compiler needs no loop: those after the count mean nothing.
 #[inline(always)]
 fn put_blanks(bytes: &mut [u8; ROW_BYTES], count: usize)
     requires { count ≤ length bytes.old }
     ensures { take count bytes.new ≡ replicate count 32 }
 {
-    if count <= BLANKS {
-        fill_blanks(bytes, BLANKS);
+    if count <= TEXT_GROUP {
+        bytes[..TEXT_GROUP].fill(b' ');
     } else {
-        fill_blanks(bytes, count);
+        bytes[..count].fill(b' ');
     }
 }
 
@@ -150,13 +138,13 @@ fn put_text<W: Target>(
     };
     // The first group has as many as make the others whole ones.
     let mut i = (text.len() - 1) % TEXT_GROUP + 1;
-    end = write_front(bytes, end, text, fonts, i);
+    end = write_first(bytes, end, text, fonts, i);
     while i < text.len() {
         let Some(room) = room_after(out, bytes, end) else {
             return false;
         };
         let next = i + TEXT_GROUP;
-        end = write_text(bytes, room, &text[i..next], &fonts[i..next]);
+        end = write_first(bytes, room, &text[i..next], &fonts[i..next], TEXT_GROUP);
         i = next;
     }
     bytes[end] = b'\n';

@@ -1,7 +1,7 @@
-use Rattle.std.proofs.Common.{◌≡◌, ◌++◌, ◌+◌, ◌-◌, ◌/◌, ◌%◌, ◌<◌, ◌==◌, ◌∷◌, [], false, length, replicate, take, drop, set, refl, sym, ◌∙◌, arith}
+use Rattle.std.proofs.Common.{◌≡◌, ◌++◌, ◌+◌, ◌-◌, ◌/◌, ◌%◌, ◌<◌, ◌≤◌, ◌==◌, ◌∷◌, [], false, length, replicate, take, drop, set, refl, sym, ◌∙◌, arith}
 use Rattle.std.specs.List.{flat_map}
 use Rattle.std.proofs.lemmas.Bool.Decides.{nat_tests}
-use Rattle.std.proofs.lemmas.List.{take_more_set}
+use Rattle.std.proofs.lemmas.List.{take-take, take_more_set}
 use Rattle.page_core_base.specs.Rows.{cells_in}
 use Rattle.page_core_streams.specs.RowBytes.{cell_bytes_of, printed}
 use Rattle.page_core_streams.proofs.GrowsLemmas.{GrowsUpTo-start, GrowsUpTo-flow, GrowsUpTo-broken, GrowsUpTo-last}
@@ -26,7 +26,7 @@ loop-i-init g c =
     let front = take c.in-Some.end c.put_margin.new.bytes in
     let count = (length text - 1) % 32 + 1 in
     let f = GrowsUpTo-flow _ (replicate c.args.margin 32) front (flat_map cell_bytes_of cells ++ 10 ∷ []) (GrowsUpTo-start _ (printed c.args.margin cells)) e w.1 in
-    let written = c.write_front-end.ensures in
+    let written = c.write_first-end.ensures in
     let some : 0 < length text = grind (arith, nat_tests, none) in (
       ((length text - 1) / 32, omega (arith, some)),
       omega (arith, written.end, w.0),
@@ -40,11 +40,11 @@ returns-in_default-room_after-clause-writes g c =
     let rest = flat_map cell_bytes_of (cells_in (drop l.i c.args.text.now) (drop l.i c.args.fonts.now)) ++ 10 ∷ [] in
     GrowsUpTo-broken _ (take l.end l.bytes) rest l.invariant.2 refl c.in_default-room_after.ensures.writes
 
-pub slice_bounds-write_text-end-in-loop-i : goal.slice_bounds-write_text-end-in-loop-i
-slice_bounds-write_text-end-in-loop-i g c = omega (arith, c.loop-i-test.true, c.loop-i.invariant.0.1)
+pub slice_bounds-write_first-end-in-loop-i : goal.slice_bounds-write_first-end-in-loop-i
+slice_bounds-write_first-end-in-loop-i g c = omega (arith, c.loop-i-test.true, c.loop-i.invariant.0.1)
 
-pub write_text-end-requires-clause-ascii : goal.write_text-end-requires-clause-ascii
-write_text-end-requires-clause-ascii g c =
+pub write_first-end-requires-in-loop-i-clause-ascii : goal.write_first-end-requires-in-loop-i-clause-ascii
+write_first-end-requires-in-loop-i-clause-ascii g c =
     let i = c.loop-i.i in
     let count : i + 32 - i ≡ 32 = omega arith in
     rw count (ascii-front (drop i c.args.text.now) (drop i c.args.fonts.now) _ 32 (ascii-back c.args.text.now c.args.fonts.now _ i c.requires))
@@ -59,10 +59,12 @@ loop-i-preserved g c =
     let rest = flat_map cell_bytes_of (cells_in (drop l.i text) (drop l.i fonts)) ++ 10 ∷ [] in
     let f = GrowsUpTo-flow _ (take l.end l.bytes) (take room l.bytes) rest l.invariant.2 refl w.1 in
     let count : l.i + 32 - l.i ≡ 32 = omega arith in
-    let written = c.write_text-end.ensures in (
+    let least : 32 ≤ 32 = omega arith in
+    let written = c.write_first-end-in-loop-i.ensures in
+    let front = rw (count, take-take 32 32 (drop l.i text) least, take-take 32 32 (drop l.i fonts) least) at written.front in (
       (l.invariant.0.0 - 1, omega (arith, c.loop-i-test.true, l.invariant.0.1)),
       omega (arith, written.end, w.0),
-      rw (written.front, count) (rw (text-moved (take room l.bytes) text fonts l.i 32) at f),
+      rw front (rw (text-moved (take room l.bytes) text fonts l.i 32) at f),
       c.in-Some-room_after.ensures.fails ∙ l.invariant.3,
     )
 
