@@ -80,8 +80,8 @@ fn write_parts(bytes: &mut [u8], start: usize, text: &[u8], fonts: &[Font]) -> u
     write_each(bytes, end, &text[i..], &fonts[i..])
 }
 
-/// Writes the bytes of the first characters, at most a group, from `start` on, and answers where they end: quickly where there is a group, and all its
-/// fonts are roman. What is after them means nothing, so that then the whole group is written.
+/// Writes the bytes of the first characters, at most a group, from `start` on, and answers where they end: quickly where there is a group that is
+/// all in roman. Then the whole of it is written, and what is after the first characters means nothing.
 #[inline(always)]
 pub(crate) fn write_first(
     bytes: &mut [u8],

@@ -11,7 +11,6 @@ ghost use Rattle.page_core_streams.specs.RowBytes.{row_bytes, printed, cell_byte
 use crate::ascii_rows::{TEXT_GROUP, shown_len, write_first};
 use crate::cells::{without_blanks_at_end, write_group, write_mixed};
 use crate::targets::Target;
-use crate::writing::put;
 use page_core_base::{Cell, Fault, Font, RowSink};
 
 // The bytes of a row that may wait before more of its cells come.
@@ -47,7 +46,7 @@ impl<'a, W: Target> TextRows<'a, W> {
     }
 }
 
-// Puts a count of blanks at the front of the bytes. Few are put as a whole group, for which the compiler needs no loop: those after the count mean nothing.
+// Puts blanks at the front of the bytes. Few are put as a whole group, for which the compiler needs no loop: those after the count mean nothing.
 #[inline(always)]
 fn put_blanks(bytes: &mut [u8; ROW_BYTES], count: usize)
     requires { count ≤ length bytes.old }
@@ -70,7 +69,7 @@ fn put_margin<W: Target>(out: &mut W, bytes: &mut [u8; ROW_BYTES], margin: u32) 
     let mut left = margin as usize;
     while left > WAITING {
         let blanks = [b' '; WAITING];
-        if !put(out, &blanks) {
+        if !out.put(&blanks) {
             return None;
         }
         left -= WAITING;
@@ -90,7 +89,7 @@ fn room_after<W: Target>(out: &mut W, bytes: &[u8], end: usize) -> Option<usize>
     if end <= WAITING {
         return Some(end);
     }
-    put(out, &bytes[..end]).then_some(0)
+    out.put(&bytes[..end]).then_some(0)
 }
 
 // Writes a margin, cells and a line feed, or the line feed alone where there is no cell; the bytes have room for what waits.
@@ -99,7 +98,7 @@ fn put_row<W: Target>(out: &mut W, bytes: &mut [u8; ROW_BYTES], margin: u32, cel
     ensures fails { FailsBy W.counts result (W.failures out.old) (W.failures out.new) }
 {
     if cells.is_empty() {
-        return put(out, b"\n");
+        return out.put(b"\n");
     }
     let Some(mut end) = put_margin(out, bytes, margin) else {
         return false;
@@ -115,7 +114,7 @@ fn put_row<W: Target>(out: &mut W, bytes: &mut [u8; ROW_BYTES], margin: u32, cel
     }
     end = write_group(bytes, end, rest);
     bytes[end] = b'\n';
-    put(out, &bytes[..end + 1])
+    out.put(&bytes[..end + 1])
 }
 
 // Writes a row of characters of ASCII in the same way.
@@ -131,7 +130,7 @@ fn put_text<W: Target>(
     ensures fails { FailsBy W.counts result (W.failures out.old) (W.failures out.new) }
 {
     if text.is_empty() {
-        return put(out, b"\n");
+        return out.put(b"\n");
     }
     let Some(mut end) = put_margin(out, bytes, margin) else {
         return false;
@@ -148,7 +147,7 @@ fn put_text<W: Target>(
         i = next;
     }
     bytes[end] = b'\n';
-    put(out, &bytes[..end + 1])
+    out.put(&bytes[..end + 1])
 }
 
 impl<W: Target> RowSink for TextRows<'_, W> {
@@ -194,7 +193,7 @@ impl<W: Target> RowSink for TextRows<'_, W> {
 
     #[tactic(auto, using(crate::proofs::RowLemmas::blank_bytes))]
     fn blank_row(&mut self, _margin: u32, _cells: &[Cell]) -> Result<(), Fault> {
-        if put(self.out, b"\n") {
+        if self.out.put(b"\n") {
             return Ok(());
         }
         self.failures = self.failures.saturating_add(1);
