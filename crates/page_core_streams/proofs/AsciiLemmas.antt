@@ -142,16 +142,22 @@ bytes-next cs fonts i n =
     rw (cells-front cs fonts (i + n), cells-front cs fonts i, cells-front (drop i cs) (drop i fonts) n, cells-back cs fonts i)
     (ap (flat_map cell_bytes_of) (take-add i n cells) ∙ flat_map-append cell_bytes_of (take i cells) (take n (drop i cells)))
 
--- the first characters of those from a place on come before the others
+-- the first characters come before the others
+pub text-front : (front cs : List ℕ) (fonts : List Font) (n : ℕ)
+    → front ++ (flat_map cell_bytes_of (cells_in cs fonts) ++ 10 ∷ [])
+    ≡ (front ++ flat_map cell_bytes_of (cells_in (take n cs) (take n fonts))) ++ (flat_map cell_bytes_of (cells_in (drop n cs) (drop n fonts)) ++ 10 ∷ [])
+text-front front cs fonts n =
+    let f = flat_map cell_bytes_of (cells_in (take n cs) (take n fonts)) in
+    let l = flat_map cell_bytes_of (cells_in (drop n cs) (drop n fonts)) in
+    ap (λ bytes. front ++ (bytes ++ 10 ∷ [])) (bytes-parts cs fonts n)
+    ∙ (ap (λ bytes. front ++ bytes) (append_assoc f l (10 ∷ [])) ∙ sym (append_assoc front f (l ++ 10 ∷ [])))
+
+-- the same of those from a place on
 pub text-moved : (front cs : List ℕ) (fonts : List Font) (i n : ℕ)
     → front ++ (flat_map cell_bytes_of (cells_in (drop i cs) (drop i fonts)) ++ 10 ∷ [])
     ≡ (front ++ flat_map cell_bytes_of (cells_in (take n (drop i cs)) (take n (drop i fonts))))
     ++ (flat_map cell_bytes_of (cells_in (drop (i + n) cs) (drop (i + n) fonts)) ++ 10 ∷ [])
-text-moved front cs fonts i n =
-    let f = flat_map cell_bytes_of (cells_in (take n (drop i cs)) (take n (drop i fonts))) in
-    let l = flat_map cell_bytes_of (cells_in (drop (i + n) cs) (drop (i + n) fonts)) in
-    let e : flat_map cell_bytes_of (cells_in (drop i cs) (drop i fonts)) ≡ f ++ l = rw (sym (drop-drop n i cs), sym (drop-drop n i fonts)) (bytes-parts (drop i cs) (drop i fonts) n) in
-    ap (λ bytes. front ++ (bytes ++ 10 ∷ [])) e ∙ (ap (λ bytes. front ++ bytes) (append_assoc f l (10 ∷ [])) ∙ sym (append_assoc front f (l ++ 10 ∷ [])))
+text-moved front cs fonts i n = rw (sym (drop-drop n i cs), sym (drop-drop n i fonts)) (text-front front (drop i cs) (drop i fonts) n)
 
 -- the parts of a row that has a character
 pub text-printed : (margin : ℕ) (cs : List ℕ) (fonts : List Font) → length fonts ≡ length cs → (length cs == 0) ≡ false

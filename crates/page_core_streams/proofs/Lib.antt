@@ -4,3 +4,4 @@ pub mod PlainLemmas
 pub mod RowLemmas
 pub mod FailureLemmas
 pub mod AsciiLemmas
+pub mod GroupLemmas

@@ -10,6 +10,9 @@ ghost use Rattle.page_core_streams.specs.RowBytes.{cell_bytes_of};
 use crate::cells::{font_bits, write_ascii};
 use page_core_base::{BLANK_GROUP, Font, LONG_ROW};
 
+/// The characters of a row that are written at a time: a number that the compiler knows, so that it needs no loop over them.
+pub(crate) const TEXT_GROUP: usize = 32;
+
 // The characters of a group that are looked at together where they are not all in roman: a number that the compiler knows.
 const PART: usize = 4;
 
@@ -25,15 +28,18 @@ fn are_roman(fonts: &[Font]) -> bool
     bits == 0
 }
 
-// Writes characters as they are from `start` on, and answers where they end.
+// Writes as many characters as they are from `start` on, and answers where they end. All are read before they are written.
 #[inline(always)]
-fn write_roman(bytes: &mut [u8], start: usize, text: &[u8]) -> usize
-    requires { start + length text.now ≤ length bytes.old }
+fn write_roman<const COUNT: usize>(bytes: &mut [u8], start: usize, text: &[u8]) -> usize
+    requires room { start + COUNT ≤ length bytes.old }
+    requires count { length text.now ≡ COUNT }
     ensures front { take result bytes.new ≡ take start bytes.old ++ text.now }
-    ensures end { result ≡ start + length text.now }
+    ensures end { result ≡ start + COUNT }
 {
-    let end = start + text.len();
-    bytes[start..end].copy_from_slice(text);
+    let mut part = [0u8; COUNT];
+    part.copy_from_slice(text);
+    let end = start + COUNT;
+    bytes[start..end].copy_from_slice(&part);
     end
 }
 
@@ -52,24 +58,7 @@ fn write_each(bytes: &mut [u8], start: usize, text: &[u8], fonts: &[Font]) -> us
     end
 }
 
-// Writes the bytes of a part from `start` on, and answers where they end: quickly where all fonts are roman. All is read before it is written.
-#[inline(always)]
-fn write_part(bytes: &mut [u8], start: usize, text: &[u8], fonts: &[Font]) -> usize
-    requires ascii { AreAscii text.now fonts.now false }
-    requires room { start + 5 * length text.now ≤ length bytes.old }
-    requires size { length text.now ≡ 4 }
-    ensures front { take result bytes.new ≡ take start bytes.old ++ flat_map cell_bytes_of (cells_in text.now fonts.now) }
-    ensures end { result ≤ start + 5 * length text.now }
-{
-    if are_roman(fonts) {
-        let mut part = [0u8; PART];
-        part.copy_from_slice(text);
-        return write_roman(bytes, start, &part);
-    }
-    write_each(bytes, start, text, fonts)
-}
-
-// Writes the bytes of characters part by part from `start` on, and answers where they end: the letters of a word in a font come together.
+// Writes the bytes of characters from `start` on, and answers where they end: quickly each part of which all fonts are roman.
 #[inline(always)]
 fn write_parts(bytes: &mut [u8], start: usize, text: &[u8], fonts: &[Font]) -> usize
     requires ascii { AreAscii text.now fonts.now false }
@@ -80,24 +69,38 @@ fn write_parts(bytes: &mut [u8], start: usize, text: &[u8], fonts: &[Font]) -> u
     let mut end = start;
     let mut i = 0;
     while text.len() - i >= PART {
-        end = write_part(bytes, end, &text[i..i + PART], &fonts[i..i + PART]);
-        i += PART;
+        let next = i + PART;
+        end = if are_roman(&fonts[i..next]) {
+            write_roman::<PART>(bytes, end, &text[i..next])
+        } else {
+            write_each(bytes, end, &text[i..next], &fonts[i..next])
+        };
+        i = next;
     }
     write_each(bytes, end, &text[i..], &fonts[i..])
 }
 
-/// Writes the bytes of a group of characters, or of fewer, from `start` on, and answers where they end: quickly where all fonts are roman.
+/// Writes the bytes of the first characters, at most a group, from `start` on, and answers where they end: quickly where there is a group that is
+/// all in roman. Then the whole of it is written, and what is after the first characters means nothing.
 #[inline(always)]
-pub(crate) fn write_text(bytes: &mut [u8], start: usize, text: &[u8], fonts: &[Font]) -> usize
+pub(crate) fn write_first(
+    bytes: &mut [u8],
+    start: usize,
+    text: &[u8],
+    fonts: &[Font],
+    count: usize,
+) -> usize
     requires ascii { AreAscii text.now fonts.now false }
-    requires room { start + 5 * length text.now ≤ length bytes.old }
-    ensures front { take result bytes.new ≡ take start bytes.old ++ flat_map cell_bytes_of (cells_in text.now fonts.now) }
-    ensures end { result ≤ start + 5 * length text.now }
+    requires room { start + 5 * TEXT_GROUP ≤ length bytes.old }
+    requires within { (count ≤ length text.now) × (count ≤ TEXT_GROUP) }
+    ensures front { take result bytes.new ≡ take start bytes.old ++ flat_map cell_bytes_of (cells_in (take count text.now) (take count fonts.now)) }
+    ensures end { result ≤ start + 5 * count }
 {
-    if are_roman(fonts) {
-        return write_roman(bytes, start, text);
+    if text.len() >= TEXT_GROUP && are_roman(&fonts[..TEXT_GROUP]) {
+        let _end = write_roman::<TEXT_GROUP>(bytes, start, &text[..TEXT_GROUP]);
+        return start + count;
     }
-    write_parts(bytes, start, text, fonts)
+    write_parts(bytes, start, &text[..count], &fonts[..count])
 }
 
 // Whether a few characters are blanks. All of them are read.

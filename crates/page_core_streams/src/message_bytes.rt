@@ -69,27 +69,16 @@ fn put_parts<'a, W: Target>(
         (shown_bytes place.entry level.now text.now detail.now) }
     ensures fails { FailsBy W.counts result (W.failures out.old) (W.failures out.new) }
 {
+    let (file, line, column) = (place.file, place.line, place.column);
     let program: &'a [u8] = b"mandoc: ";
     let colon: &'a [u8] = b":";
     let gap: &'a [u8] = b": ";
-    let before_detail: &'a [u8] = if detail.is_empty() { b"" } else { b": " };
+    let before: &'a [u8] = if detail.is_empty() { b"" } else { b": " };
     let end: &'a [u8] = b"\n";
     put_all(
         out,
         &[
-            program,
-            place.file,
-            colon,
-            place.line,
-            colon,
-            place.column,
-            gap,
-            level,
-            gap,
-            text,
-            before_detail,
-            detail,
-            end,
+            program, file, colon, line, colon, column, gap, level, gap, text, before, detail, end,
         ],
     )
 }

@@ -8,10 +8,9 @@ ghost use Rattle.page_core_streams.specs.Failures.{FailsBy, StopsBy, count_of};
 ghost use Rattle.page_core_streams.specs.Grows.{Adds, AddsInto, GrowsInto, GrowsUpTo, Writes, adds-sink, adds-whole};
 ghost use Rattle.page_core_streams.specs.RowBytes.{row_bytes, printed, cell_bytes_of};
 
-use crate::ascii_rows::{shown_len, write_text};
+use crate::ascii_rows::{TEXT_GROUP, shown_len, write_first};
 use crate::cells::{without_blanks_at_end, write_group, write_mixed};
 use crate::targets::Target;
-use crate::writing::put;
 use page_core_base::{Cell, Fault, Font, RowSink};
 
 // The bytes of a row that may wait before more of its cells come.
@@ -20,9 +19,7 @@ const WAITING: usize = 256;
 // The cells of a row that are written at a time: a number that the compiler knows, so that it needs no loop over them.
 const GROUP: usize = 8;
 
-// The same of characters of ASCII. There is room for the bytes that wait, for those of a group, and for a row's end.
-const TEXT_GROUP: usize = 32;
-
+// There is room for the bytes that wait, for those of a group of either kind, and for a row's end.
 const ROW_BYTES: usize = 640;
 
 /// Writes rows as bytes (mandoc(1), "ASCII Output").
@@ -49,6 +46,19 @@ impl<'a, W: Target> TextRows<'a, W> {
     }
 }
 
+// Puts blanks at the front of the bytes. Few are put as a whole group, for which the compiler needs no loop: those after the count mean nothing.
+#[inline(always)]
+fn put_blanks(bytes: &mut [u8; ROW_BYTES], count: usize)
+    requires { count ≤ length bytes.old }
+    ensures { take count bytes.new ≡ replicate count 32 }
+{
+    if count <= TEXT_GROUP {
+        bytes[..TEXT_GROUP].fill(b' ');
+    } else {
+        bytes[..count].fill(b' ');
+    }
+}
+
 // Writes a margin in blanks, but for a few that wait in the bytes, and answers where the next one goes.
 fn put_margin<W: Target>(out: &mut W, bytes: &mut [u8; ROW_BYTES], margin: u32) -> Option<usize>
     ensures writes { MatchOption result
@@ -59,12 +69,12 @@ fn put_margin<W: Target>(out: &mut W, bytes: &mut [u8; ROW_BYTES], margin: u32) 
     let mut left = margin as usize;
     while left > WAITING {
         let blanks = [b' '; WAITING];
-        if !put(out, &blanks) {
+        if !out.put(&blanks) {
             return None;
         }
         left -= WAITING;
     }
-    bytes[..left].fill(b' ');
+    put_blanks(bytes, left);
     Some(left)
 }
 
@@ -79,7 +89,7 @@ fn room_after<W: Target>(out: &mut W, bytes: &[u8], end: usize) -> Option<usize>
     if end <= WAITING {
         return Some(end);
     }
-    put(out, &bytes[..end]).then_some(0)
+    out.put(&bytes[..end]).then_some(0)
 }
 
 // Writes a margin, cells and a line feed, or the line feed alone where there is no cell; the bytes have room for what waits.
@@ -88,7 +98,7 @@ fn put_row<W: Target>(out: &mut W, bytes: &mut [u8; ROW_BYTES], margin: u32, cel
     ensures fails { FailsBy W.counts result (W.failures out.old) (W.failures out.new) }
 {
     if cells.is_empty() {
-        return put(out, b"\n");
+        return out.put(b"\n");
     }
     let Some(mut end) = put_margin(out, bytes, margin) else {
         return false;
@@ -104,7 +114,7 @@ fn put_row<W: Target>(out: &mut W, bytes: &mut [u8; ROW_BYTES], margin: u32, cel
     }
     end = write_group(bytes, end, rest);
     bytes[end] = b'\n';
-    put(out, &bytes[..end + 1])
+    out.put(&bytes[..end + 1])
 }
 
 // Writes a row of characters of ASCII in the same way.
@@ -120,23 +130,24 @@ fn put_text<W: Target>(
     ensures fails { FailsBy W.counts result (W.failures out.old) (W.failures out.new) }
 {
     if text.is_empty() {
-        return put(out, b"\n");
+        return out.put(b"\n");
     }
     let Some(mut end) = put_margin(out, bytes, margin) else {
         return false;
     };
-    let mut i = 0;
-    while text.len() - i >= TEXT_GROUP {
+    // The first group has as many as make the others whole ones.
+    let mut i = (text.len() - 1) % TEXT_GROUP + 1;
+    end = write_first(bytes, end, text, fonts, i);
+    while i < text.len() {
         let Some(room) = room_after(out, bytes, end) else {
             return false;
         };
         let next = i + TEXT_GROUP;
-        end = write_text(bytes, room, &text[i..next], &fonts[i..next]);
+        end = write_first(bytes, room, &text[i..next], &fonts[i..next], TEXT_GROUP);
         i = next;
     }
-    end = write_text(bytes, end, &text[i..], &fonts[i..]);
     bytes[end] = b'\n';
-    put(out, &bytes[..end + 1])
+    out.put(&bytes[..end + 1])
 }
 
 impl<W: Target> RowSink for TextRows<'_, W> {
@@ -182,7 +193,7 @@ impl<W: Target> RowSink for TextRows<'_, W> {
 
     #[tactic(auto, using(crate::proofs::RowLemmas::blank_bytes))]
     fn blank_row(&mut self, _margin: u32, _cells: &[Cell]) -> Result<(), Fault> {
-        if put(self.out, b"\n") {
+        if self.out.put(b"\n") {
             return Ok(());
         }
         self.failures = self.failures.saturating_add(1);

@@ -13,7 +13,7 @@ use std::io::{ErrorKind, Write};
 pub(crate) const BUFFER: usize = 512;
 
 /// How often an interrupted write is tried again.
-const INTERRUPTIONS: u32 = 1_000_000;
+const TRIES: u32 = 1_000_000;
 
 // Bytes that are still to be written.
 type Unsent = ArrayVec<u8, 512>;
@@ -22,8 +22,23 @@ type Unsent = ArrayVec<u8, 512>;
 pub(crate) fn write_bytes<W: Write>(out: &mut W, bytes: &[u8]) -> bool
     ensures { Writes result (W.contents out.old) (W.contents out.new) bytes.now }
 {
+    if bytes.is_empty() {
+        return true;
+    }
+    match out.write(bytes) {
+        Ok(count) if count == bytes.len() => true,
+        Ok(count) if count > 0 => write_rest(out, &bytes[count..], TRIES),
+        Err(error) if error.kind() == ErrorKind::Interrupted => write_rest(out, bytes, TRIES - 1),
+        _ => false,
+    }
+}
+
+// Writes all bytes in the same way, with a number of tries left. Most writes take all at once, so that this is seldom called.
+#[inline(never)]
+fn write_rest<W: Write>(out: &mut W, bytes: &[u8], mut tries: u32) -> bool
+    ensures { Writes result (W.contents out.old) (W.contents out.new) bytes.now }
+{
     let mut rest = bytes;
-    let mut tries = INTERRUPTIONS;
     while !rest.is_empty() {
         match out.write(rest) {
             Ok(count) if count > 0 => rest = &rest[count..],
@@ -34,28 +49,6 @@ pub(crate) fn write_bytes<W: Write>(out: &mut W, bytes: &[u8]) -> bool
     true
 }
 
-/// Writes all bytes to a target, and says whether that succeeded.
-pub(crate) fn put<W: Target>(out: &mut W, bytes: &[u8]) -> bool
-    ensures writes { Writes result (W.contents out.old) (W.contents out.new) bytes.now }
-    ensures fails { FailsBy W.counts result (W.failures out.old) (W.failures out.new) }
-{
-    out.put(bytes)
-}
-
-// Makes room for a number of bytes, by a write where there is too little.
-fn make_room<W: Target>(out: &mut W, unsent: &mut Unsent, bytes: usize) -> bool
-    requires { bytes ≤ 512 }
-    ensures sent { WritesUpTo result (W.contents out.old)
-        (W.contents out.new) unsent.old.items unsent.new.items }
-    ensures fails { FailsBy W.counts result (W.failures out.old) (W.failures out.new) }
-    ensures room { result ≡ true → length unsent.new.items + bytes ≤ 512 }
-{
-    if unsent.remaining_capacity() >= bytes {
-        return true;
-    }
-    send(out, unsent)
-}
-
 // Collects the bytes of a text, and writes what has no room.
 fn add<W: Target>(out: &mut W, unsent: &mut Unsent, text: &[u8]) -> bool
     ensures sent { WritesUpTo result (W.contents out.old) (W.contents out.new) (unsent.old.items
@@ -63,9 +56,9 @@ fn add<W: Target>(out: &mut W, unsent: &mut Unsent, text: &[u8]) -> bool
     ensures fails { FailsBy W.counts result (W.failures out.old) (W.failures out.new) }
 {
     if text.len() > BUFFER {
-        return send(out, unsent) && put(out, text);
+        return send(out, unsent) && out.put(text);
     }
-    if !make_room(out, unsent, text.len()) {
+    if unsent.remaining_capacity() < text.len() && !send(out, unsent) {
         return false;
     }
     unsent.try_extend_from_slice(text).is_ok()
@@ -77,7 +70,7 @@ fn send<W: Target>(out: &mut W, unsent: &mut Unsent) -> bool
     ensures fails { FailsBy W.counts result (W.failures out.old) (W.failures out.new) }
     ensures empty { result ≡ true → unsent.new.items ≡ [] }
 {
-    if !put(out, unsent.as_slice()) {
+    if !out.put(unsent.as_slice()) {
         return false;
     }
     unsent.clear();
@@ -96,5 +89,5 @@ pub fn put_all<W: Target>(out: &mut W, texts: &[&[u8]]) -> bool
             return false;
         }
     }
-    put(out, unsent.as_slice())
+    out.put(unsent.as_slice())
 }

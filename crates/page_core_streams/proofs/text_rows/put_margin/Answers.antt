@@ -1,5 +1,4 @@
-use Rattle.std.proofs.Common.{◌≡◌, ◌-◌, replicate, drop, length, arith, ap, ◌∙◌}
-use Rattle.std.proofs.lemmas.List.{length-replicate, length-take-le, take_at}
+use Rattle.std.proofs.Common.{◌-◌, replicate, arith, ◌∙◌}
 use Rattle.page_core_streams.proofs.GrowsLemmas.{GrowsUpTo-more, GrowsUpTo-broken}
 use Rattle.page_core_streams.proofs.FailureLemmas.{rises-after}
 use Rattle.page_core_streams.proofs.RowLemmas.{blanks_moved}
@@ -22,9 +21,4 @@ returns-then-not-put-clause-fails g c = rises-after _ _ _ _ c.loop-left.invarian
 
 -- the blanks that wait are at the front of the bytes
 pub returns-clause-writes : goal.returns-clause-writes
-returns-clause-writes g c =
-    let left = c.loop-left.left in
-    let count = length-take-le left c.args.bytes.now (omega (arith, c.told-bytes)) in
-    let blanks : c.fill.new.self ≡ replicate left 32 = c.fill.ensures.after (λ y same. same) ∙ ap (λ n. replicate n 32) count in
-    let b = take_at c.fill.new.self (drop left c.args.bytes.now) left (ap length blanks ∙ length-replicate left 32) ∙ blanks in
-    (omega arith, rw b c.loop-left.invariant.0)
+returns-clause-writes g c = (omega arith, rw c.put_blanks.ensures c.loop-left.invariant.0)
