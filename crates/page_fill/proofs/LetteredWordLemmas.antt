@@ -19,15 +19,15 @@ use Rattle.page_core_base.specs.Rows.{cells_in}
 use Rattle.page_core_base.specs.Words.{blank_words, is_lettered_word, is_word, joined_cells, lettered_cells, lettered_pieces, word_letters}
 use Rattle.page_fill_cells.proofs.PlaceLemmas.{in-drop, in-length, in-take}
 use Rattle.page_fill_rows.specs.declared.TheConstants.{TAG_COLUMNS}
-use Rattle.page_fill_rows.specs.machine.Sheets.{Sheet, blank, cell_columns, columns, letters, over}
-use Rattle.page_fill_rows.specs.machine.Plain.{ends_before, free_cells, has_word_room, is_printable_ascii, spaced_by, taken, word_end, word_start, words_taken, wraps_plain}
+use Rattle.page_fill_rows.specs.machine.Sheets.{Sheet, blank, cell_columns, columns, emptied, gives, letters, opens, over, passes}
+use Rattle.page_fill_rows.specs.machine.Plain.{begun_with, blank_counted, ends_before, free_cells, has_word_room, is_printable_ascii, next_free_cells, spaced_by, taken, word_end, word_start, words_taken, wraps_plain, wraps_words}
 use Rattle.page_fill_rows.proofs.PlainLemmas.{are_plain, cells-fit, columns-blanks, columns-cells, in-plain, spaced-room, taken-cells}
 use Rattle.page_fill_rows.proofs.WordStartLemmas.{start-append}
 use Rattle.page_fill_rows.proofs.WrapLemmas.{both, both-cells}
 use Rattle.page_fill.specs.LetteredWords.{AreWords, first_letters, fits_after, is_in_row}
 use Rattle.page_fill.specs.machine.Fill.{Edge, laid}
 use Rattle.page_fill.specs.machine.LetteredWords.{AreSpaced, LaysUpTo, LaysWords}
-use Rattle.page_fill.specs.machine.PlainWords.{whole_words}
+use Rattle.page_fill.specs.machine.PlainWords.{next_front, whole_words}
 use Rattle.page_fill.proofs.BlankTextLemmas.{laid-append}
 use Rattle.page_fill.proofs.LetteredPieces.{back-is-plain, begun_on, bytes_of, front-is-plain, word-is, word-laid, word-laid-after, word_bytes}
 use Rattle.page_fill.proofs.WordRunLemmas.{first-length, joined_words, none-whole, start-blank, start-letters, start-some, whole-words, word-letters}
@@ -407,10 +407,39 @@ is-one e blanks text ready room fits short = elim (cases_Bool (blanks == 1)) [
 ]
 
 -- the first one, before which the row ends
+first-wraps : (e : Edge) (blanks : ℕ) (text : List ℕ) (fonts : List Font) (word : List (Piece (List ℕ))) (words : List (List (Piece (List ℕ)))) → length fonts ≡ length text
+    → is_printable_ascii text ≡ true → length e.sheet.cells + blanks + length text ≤ CELLS → (blanks == 1 || fits_after e blanks text) ≡ true
+    → whole_words text (free_cells e.sheet - blanks) ≡ 0 → AreWords text fonts (word ∷ words) → is_in_row e ≡ true
+    → (blanks ≡ 1) × (laid e (Blank 1 false ∷ word) ≡ over (wraps_plain e.sheet (word_letters word)) (begun_on e))
+first-wraps e blanks text fonts word words same plain room fits none are ready =
+    let cells = word_letters word in
+    let rest = lettered_cells words in
+    let first = first-is word words are.0 in
+    let text_is = text-is text fonts (word ∷ words) same are.1 in
+    let bytes = word_bytes word in
+    let size : length bytes ≡ length cells = length-map cells (λ (cell : Cell). cell.c) in
+    let letters = word-letters bytes (word-is word first) in
+    let first_is : first_letters text ≡ length cells = ap first_letters text_is ∙ (first-length bytes (all_bytes words) letters ∙ size) in
+    let each : are_plain (cells ++ rest) ≡ true = rw are.1 at (in-plain text fonts plain) in
+    let printable = front-is-plain cells rest each in
+    let whole : length text ≡ length cells + length rest = sym (in-length text fonts same) ∙ (ap (λ (l : List Cell). length l) are.1 ∙ length-append cells rest) in
+    let placed : e.word.is_placed ≡ false = grind (arith, ready) in
+    let filled : e.sheet.literal ≡ false = grind (arith, ready) in
+    let begun : (length e.sheet.cells == 0) ≡ false = grind (arith, nat_tests, ready) in
+    let short = none-whole bytes (all_bytes words) (free_cells e.sheet - blanks) (word-is word first) (rw text_is at none) in
+    let one : blanks ≡ 1 = is-one e blanks text ready room fits (omega (arith, short, size, first_is)) in
+    let within : length e.sheet.cells + 1 + length cells ≤ CELLS = omega (arith, whole, room, one) in
+    let ends = word-ends e.sheet (length cells) filled begun within (omega (arith, short, size, one)) in (
+      one,
+      word-laid e word anywhere placed filled begun first printable within
+          ∙ ap (λ (l : Laid Sheet). over l (begun_on e)) (wraps-cells e.sheet cells (word-some word first) printable ends),
+    )
+
+-- it alone begins the next row
 wraps-first : (e : Edge) (blanks : ℕ) (text : List ℕ) (fonts : List Font) (end : ℕ) → length fonts ≡ length text → is_printable_ascii text ≡ true → 0 < length text
     → length e.sheet.cells + blanks + length text ≤ CELLS → (blanks == 1 || fits_after e blanks text) ≡ true → whole_words text (free_cells e.sheet - blanks) ≡ 0 → end ≡ word_end text
     → (words : List (List (Piece (List ℕ)))) → AreWords text fonts words → is_in_row e ≡ true
-    → let given : Laid Edge = over (wraps_plain e.sheet (cells_in (take end text) (take end fonts))) (begun_on e) in
+    → let given : Laid Edge = over (wraps_words e.sheet (cells_in (take end text) (take end fonts)) (word_start (take end text))) (begun_on e) in
     (left : List (List (Piece (List ℕ)))) × AreSpaced (drop end text) (drop end fonts) left × (is_in_row given.edge ≡ true)
     × (laid e (lettered_pieces blanks words) ≡ join given (laid given.edge (lettered_pieces 1 left)))
 unfolding lettered_pieces
@@ -431,33 +460,154 @@ wraps-first e blanks text fonts end same plain some room fits none is (word ∷ 
     sym (in-take end text fonts) ∙ (ap (take end) are.1 ∙ (ap (λ (k : ℕ). take k (cells ++ rest)) len ∙ take-append_seam cells rest)) in
     let others : cells_in (drop end text) (drop end fonts) ≡ rest =
     sym (in-drop end text fonts same) ∙ (ap (drop end) are.1 ∙ (ap (λ (k : ℕ). drop k (cells ++ rest)) len ∙ drop-append_seam cells rest)) in
-    let each : are_plain (cells ++ rest) ≡ true = rw are.1 at (in-plain text fonts plain) in
-    let printable = front-is-plain cells rest each in
-    let whole : length text ≡ length cells + length rest = sym (in-length text fonts same) ∙ (ap (λ (l : List Cell). length l) are.1 ∙ length-append cells rest) in
-    let placed : e.word.is_placed ≡ false = grind (arith, ready) in
+    let front : take end text ≡ bytes =
+    ap (take end) text_is ∙ (ap (λ (k : ℕ). take k (bytes ++ blank_words (all_bytes words))) (len ∙ sym size) ∙ take-append_seam bytes (blank_words (all_bytes words))) in
+    let start : word_start (take end text) ≡ 0 = ap word_start front ∙ start-letters bytes letters in
+    let wrapped = first-wraps e blanks text fonts word words same plain room fits none are ready in
     let filled : e.sheet.literal ≡ false = grind (arith, ready) in
-    let begun : (length e.sheet.cells == 0) ≡ false = grind (arith, nat_tests, ready) in
-    let short = none-whole bytes (all_bytes words) (free_cells e.sheet - blanks) (word-is word first) (rw text_is at none) in
-    let one : blanks ≡ 1 = is-one e blanks text ready room fits (omega (arith, short, size, first_is)) in
-    let within : length e.sheet.cells + 1 + length cells ≤ CELLS = omega (arith, whole, room, one) in
-    let ends = word-ends e.sheet (length cells) filled begun within (omega (arith, short, size, one)) in
     let there = word-some word first in
     let given : Laid Edge = over (wraps_plain e.sheet cells) (begun_on e) in
-    let laid_is : laid e (Blank 1 false ∷ word) ≡ given =
-    word-laid e word anywhere placed filled begun first printable within
-    ∙ ap (λ (l : Laid Sheet). over l (begun_on e)) (wraps-cells e.sheet cells there printable ends) in
     let all_laid : laid e (lettered_pieces blanks (word ∷ words)) ≡ join given (laid given.edge (lettered_pieces 1 words)) =
-    rw one (laid-append e (Blank 1 false ∷ word) (lettered_pieces 1 words) ∙ ap (λ (l : Laid Edge). join l (laid l.edge (lettered_pieces 1 words))) laid_is) in (
+    rw wrapped.0 (laid-append e (Blank 1 false ∷ word) (lettered_pieces 1 words) ∙ ap (λ (l : Laid Edge). join l (laid l.edge (lettered_pieces 1 words))) wrapped.1) in (
       words,
       (others-are word words are.0, others),
       rw own (grind (arith, nat_tests, filled, there)),
-      rw own all_laid,
+      rw (own, start) all_laid,
     )
 
+-- ---- more words of the next row
+
+-- a row that ends keeps its width and what is set for the next ones
+counted-same : (s : Sheet) → ((blank_counted s).width ≡ s.width) × ((blank_counted s).first ≡ s.first) × ((blank_counted s).literal ≡ s.literal)
+counted-same s = elim (cases_Bool (passes (opens s) blank)) [
+  | inl p ↦ rw p (refl, refl, refl)
+  | inr p ↦ rw p (refl, refl, refl)
+]
+
+-- a word begins the next row, and others go into it
+begun-taken : (s : Sheet) (front back : List Cell) (j : ℕ)
+    → words_taken (taken (emptied s) front) 1 back j ≡ begun_with s (front ++ blank ∷ back) (length front + (1 + j))
+begun-taken s front back j =
+    let begun = taken (emptied s) front in
+    let cells : front ++ replicate 1 blank ++ back ≡ front ++ blank ∷ back = append_assoc front (blank ∷ []) back in
+    let gap : (if j == 0 then length front else length front + 1 + (j - 1)) ≡ length front + (1 + j) - 1 =
+    elim (cases_Bool (j == 0)) [
+      | inl none ↦ let zero : j ≡ 0 = grind (arith, nat_tests, none) in rw none (omega (arith, zero))
+      | inr some ↦ let above : 0 < j = grind (arith, nat_tests, some) in rw some (omega (arith, above))
+    ] in
+    let word : length front + 1 + j ≡ length front + (1 + j) = omega arith in
+    let all = length-append front (blank ∷ back) in
+    let tag : min (min (s.tag_columns + length front) TAG_COLUMNS + (1 + length back)) TAG_COLUMNS ≡ min (s.tag_columns + length (front ++ blank ∷ back)) TAG_COLUMNS =
+    omega (arith, all) in
+    let other_tag = min (min (s.tag_columns + length front) TAG_COLUMNS + (1 + length back)) TAG_COLUMNS in
+    let whole = front ++ blank ∷ back in
+    let last = length front + (1 + j) in
+    ap (λ (l : List Cell). row_with begun l (if j == 0 then length front else length front + 1 + (j - 1)) (length front + 1 + j) other_tag) cells
+    ∙ (ap (λ (g : ℕ). row_with begun whole g (length front + 1 + j) other_tag) gap
+    ∙ (ap (λ (w : ℕ). row_with begun whole (last - 1) w other_tag) word ∙ ap (λ (t : ℕ). row_with begun whole (last - 1) last t) tag))
+
+-- it has room for them
+free-begun : (s : Sheet) (front : List Cell) (count : ℕ) → s.literal ≡ false → (length front == 0) ≡ false → are_plain front ≡ true
+    → length front + count ≤ min CELLS (s.width - s.first) → 0 < count → HasFree (taken (emptied s) front) count
+free-begun s front count filled some plain room above =
+    let wide = columns-cells front plain in
+    record {
+      filled = filled;
+      some = some;
+      cells = omega (arith, room);
+      columns = omega (arith, wide, room, above);
+    }
+
+-- the first words, before which the row ends
+words-wrap : (e : Edge) (word : List (Piece (List ℕ))) (words : List (List (Piece (List ℕ)))) → e.sheet.literal ≡ false → list_all is_lettered_word (word ∷ words) ≡ true
+    → are_plain (joined_cells (word ∷ words)) ≡ true → length (joined_cells (word ∷ words)) ≤ next_free_cells e.sheet
+    → laid e (Blank 1 false ∷ word) ≡ over (wraps_plain e.sheet (word_letters word)) (begun_on e)
+    → laid e (lettered_pieces 1 (word ∷ words))
+    ≡ over (wraps_words e.sheet (joined_cells (word ∷ words)) (word_start (bytes_of (joined_cells (word ∷ words))))) (begun_on e)
+unfolding lettered_cells lettered_pieces laid
+words-wrap e word [] filled all plain room first =
+    let is = first-is word [] all in
+    rw (append-nil word, append-nil (word_letters word), last-start word is) first
+words-wrap e word (more ∷ words) filled all plain room first =
+    let is = first-is word (more ∷ words) all in
+    let cells = word_letters word in
+    let back = joined_cells (more ∷ words) in
+    let front = front-is-plain cells (blank ∷ back) plain in
+    let after : are_plain (blank ∷ back) ≡ true = back-is-plain cells (blank ∷ back) plain in
+    let others : are_plain back ≡ true = grind (arith, after) in
+    let len = length-append cells (blank ∷ back) in
+    let t = (gives (blank_counted e.sheet) e.sheet.cells).edge in
+    let f = begun_on e (taken (emptied t) cells) in
+    let kept = counted-same e.sheet in
+    let free : HasFree f.sheet (1 + length back) =
+    free-begun t cells (1 + length back) (kept.2 ∙ filled) (word-some word is) front (rw (kept.0, kept.1) (omega (arith, len, room))) (omega arith) in
+    let start = word_start (bytes_of back) in
+    let size : length (bytes_of cells) ≡ length cells = length-map cells (λ (cell : Cell). cell.c) in
+    let one = start-blank (bytes_of back) in
+    let last : word_start (bytes_of (cells ++ blank ∷ back)) ≡ length cells + (1 + start) =
+    ap word_start (map-append (λ (cell : Cell). cell.c) cells (blank ∷ back))
+    ∙ (start-append (bytes_of cells) (32 ∷ bytes_of back) (start-some (bytes_of back)) ∙ omega (arith, size, one)) in
+    let next = words-fit f 0 more words refl (others-are word (more ∷ words) all) others free in
+    let given : Laid Edge = over (wraps_plain e.sheet cells) (begun_on e) in
+    laid-append e (Blank 1 false ∷ word) (lettered_pieces 1 (more ∷ words))
+    ∙ (ap (λ (l : Laid Edge). join l (laid l.edge (lettered_pieces 1 (more ∷ words)))) first
+    ∙ (ap (λ (l : Laid Edge). join given l) next
+    ∙ (ap (λ (s : Sheet). join given (nothing (begun_on e s))) (begun-taken t cells back start)
+    ∙ ap (λ (n : ℕ). join given (nothing (begun_on e (begun_with t (cells ++ blank ∷ back) n)))) (sym last))))
+
+-- a count of the words is among them
+counted-wrap : (e : Edge) (word : List (Piece (List ℕ))) (words : List (List (Piece (List ℕ)))) (n : ℕ) → e.sheet.literal ≡ false
+    → list_all is_lettered_word (take n (word ∷ words)) ≡ true → are_plain (joined_cells (take n (word ∷ words))) ≡ true
+    → length (joined_cells (take n (word ∷ words))) ≤ next_free_cells e.sheet → 0 < length (joined_cells (take n (word ∷ words)))
+    → laid e (Blank 1 false ∷ word) ≡ over (wraps_plain e.sheet (word_letters word)) (begun_on e)
+    → laid e (lettered_pieces 1 (take n (word ∷ words)))
+    ≡ over (wraps_words e.sheet (joined_cells (take n (word ∷ words))) (word_start (bytes_of (joined_cells (take n (word ∷ words)))))) (begun_on e)
+counted-wrap e word words zero filled all plain room some first = absurd (omega (arith, some))
+counted-wrap e word words (suc n) filled all plain room some first = words-wrap e word (take n words) filled all plain room first
+
+wrapped-ready : (e : Edge) (cells : List Cell) (start : ℕ) → e.sheet.literal ≡ false → 0 < length cells
+    → is_in_row (over (wraps_words e.sheet cells start) (begun_on e)).edge ≡ true
+wrapped-ready e cells start filled some = grind (arith, nat_tests, filled, some)
+
+-- they are those that the next row has room for
+wraps-more : (e : Edge) (blanks : ℕ) (text : List ℕ) (fonts : List Font) (end : ℕ) → length fonts ≡ length text → is_printable_ascii text ≡ true → 0 < length text
+    → length e.sheet.cells + blanks + length text ≤ CELLS → (blanks == 1 || fits_after e blanks text) ≡ true → whole_words text (free_cells e.sheet - blanks) ≡ 0
+    → end ≡ whole_words text (next_free_cells e.sheet) → end ≤ next_free_cells e.sheet → end ≤ length text → 0 < end
+    → (words : List (List (Piece (List ℕ)))) → AreWords text fonts words → is_in_row e ≡ true
+    → let given : Laid Edge = over (wraps_words e.sheet (cells_in (take end text) (take end fonts)) (word_start (take end text))) (begun_on e) in
+    (left : List (List (Piece (List ℕ)))) × AreSpaced (drop end text) (drop end fonts) left × (is_in_row given.edge ≡ true)
+    × (laid e (lettered_pieces blanks words) ≡ join given (laid given.edge (lettered_pieces 1 left)))
+wraps-more e blanks text fonts end same plain some room fits none is within least above [] are ready =
+    let empty = ap (λ (bytes : List ℕ). length bytes) (text-is text fonts [] same are.1) in
+    absurd (omega (arith, some, empty))
+wraps-more e blanks text fonts end same plain some room fits none is within least above (word ∷ words) are ready =
+    let f = whole-front text fonts end (next_free_cells e.sheet) same plain is least above (word ∷ words) are in
+    let front = take f.count (word ∷ words) in
+    let others = drop f.count (word ∷ words) in
+    let there : 0 < length (joined_cells front) = omega (arith, f.size, above) in
+    let filled : e.sheet.literal ≡ false = grind (arith, ready) in
+    let wrapped = first-wraps e blanks text fonts word words same plain room fits none are ready in
+    let fits_next : length (joined_cells front) ≤ next_free_cells e.sheet = omega (arith, f.size, within) in
+    let wraps = counted-wrap e word words f.count filled f.all f.plain fits_next there wrapped.1 in
+    let given : Laid Edge = over (wraps_words e.sheet (joined_cells front) (word_start (bytes_of (joined_cells front)))) (begun_on e) in
+    let all_laid : laid e (lettered_pieces blanks (word ∷ words)) ≡ join given (laid given.edge (lettered_pieces 1 others)) =
+    rw wrapped.0
+    (ap (laid e) (split-first 1 (word ∷ words) f.count there)
+    ∙ (laid-append e (lettered_pieces 1 front) (lettered_pieces 1 others) ∙ ap (λ (l : Laid Edge). join l (laid l.edge (lettered_pieces 1 others))) wraps)) in
+    (others, f.rest, rw f.cells (wrapped-ready e (joined_cells front) (word_start (take end text)) filled there), rw (f.cells, f.bytes) all_laid)
+
 pub front-wraps : (e : Edge) (blanks : ℕ) (text : List ℕ) (fonts : List Font) (end : ℕ) → length fonts ≡ length text → is_printable_ascii text ≡ true → 0 < length text
-    → length e.sheet.cells + blanks + length text ≤ CELLS → (blanks == 1 || fits_after e blanks text) ≡ true → whole_words text (free_cells e.sheet - blanks) ≡ 0 → end ≡ word_end text
-    → LaysUpTo e blanks text fonts (drop end text) (drop end fonts) (over (wraps_plain e.sheet (cells_in (take end text) (take end fonts))) (begun_on e))
-front-wraps e blanks text fonts end same plain some room fits none is = wraps-first e blanks text fonts end same plain some room fits none is
+    → length e.sheet.cells + blanks + length text ≤ CELLS → (blanks == 1 || fits_after e blanks text) ≡ true → whole_words text (free_cells e.sheet - blanks) ≡ 0
+    → whole_words text (next_free_cells e.sheet) ≤ next_free_cells e.sheet → end ≤ length text → end ≡ next_front e.sheet text
+    → LaysUpTo e blanks text fonts (drop end text) (drop end fonts)
+    (over (wraps_words e.sheet (cells_in (take end text) (take end fonts)) (word_start (take end text))) (begun_on e))
+front-wraps e blanks text fonts end same plain some room fits none within least is = elim (cases_Bool (whole_words text (next_free_cells e.sheet) == 0)) [
+  | inl short ↦ wraps-first e blanks text fonts end same plain some room fits none (rw short at is)
+  | inr more ↦
+      let whole : end ≡ whole_words text (next_free_cells e.sheet) = rw more at is in
+      let above : 0 < whole_words text (next_free_cells e.sheet) = grind (arith, nat_tests, more) in
+      wraps-more e blanks text fonts end same plain some room fits none whole (omega (arith, whole, within)) least (omega (arith, whole, above))
+]
 
 -- ---- some words after others
 

@@ -14,6 +14,7 @@ ghost use Rattle.page_fill.specs.LetteredWords.{AreWords, can_take, fits_after, 
 ghost use Rattle.page_fill.specs.machine.Fill as fill;
 ghost use Rattle.page_fill.specs.machine.LetteredWords.{LaysUpTo, LaysWords};
 ghost use Rattle.page_fill.specs.machine.PlainWords as plain_words;
+ghost use Rattle.page_fill_rows.specs.machine.Plain as rows;
 
 use crate::Edge;
 use crate::edges::OpenWord;
@@ -57,8 +58,18 @@ impl Edge {
             && (blanks == 1 || self.fits_after(blanks, text))
     }
 
-    // Takes the first words of a text, the first one after a count of blanks: those that the row has room for, or the first one, before which the
-    // row ends. Answers how many bytes they are.
+    // How many bytes the first words of a text are, before which the row ends: those that the next row has room for, or the first one.
+    fn front_of_next_row(&self, text: &[u8]) -> usize
+        ensures value { result ≡ plain_words.next_front self.now.sheet text.now }
+        ensures fits { plain_words.whole_words text.now (rows.next_free_cells self.now.sheet) ≤ rows.next_free_cells self.now.sheet }
+        ensures within { result ≤ length text.now }
+    {
+        let end = whole_words(text, self.sheet.next_free_cells());
+        if end > 0 { end } else { word_end(text) }
+    }
+
+    // Takes the first words of a text, the first one after a count of blanks: those that the row has room for, or, where it ends before the
+    // first one, those that the next row has room for. Answers how many bytes they are.
     #[inline(always)]
     fn put_front<O: RowOut>(
         &mut self,
@@ -86,8 +97,10 @@ impl Edge {
                 .add_words(blanks, &text[..end], &fonts[..end], start);
             return end;
         }
-        let end = word_end(text);
-        self.sheet.wrap_letters(&text[..end], &fonts[..end], out);
+        let end = self.front_of_next_row(text);
+        let start = word_start(text, end);
+        self.sheet
+            .wrap_words(&text[..end], &fonts[..end], start, out);
         end
     }
 

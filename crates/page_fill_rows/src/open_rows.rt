@@ -487,15 +487,18 @@ impl OpenRow {
         self.empty();
     }
 
-    // A row begins with cells of bytes that are a column each, in the fonts beside them.
-    fn begin_letters(&mut self, bytes: &[u8], fonts: &[Font])
+    // A row begins with words of bytes that are a column each, in the fonts beside them, of which the last starts at a place of them.
+    fn begin_words(&mut self, bytes: &[u8], fonts: &[Font], start: usize)
         requires plain { plain.is_printable_ascii bytes.now ≡ true }
         requires fonts { length fonts.now ≡ length bytes.now }
         requires room { length bytes.now ≤ CELLS }
-        ensures { self.new ≡ plain.taken (sheet.emptied self.old) (cells_in bytes.now fonts.now) }
+        requires start { start ≤ length bytes.now }
+        ensures { self.new ≡ plain.begun_with self.old (cells_in bytes.now fonts.now) start }
     {
         self.open_row();
         self.row.add_letters(bytes, fonts);
+        self.gap = start.saturating_sub(1);
+        self.word = start;
         let count = bytes.len() as u32;
         self.columns = count;
         self.tag_columns = self.tag_columns.saturating_add(count).min(TAG_COLUMNS);
@@ -513,17 +516,19 @@ impl OpenRow {
         self.add_plain(bytes, font);
     }
 
-    /// The same of a word of bytes, each in the font beside it.
+    /// The row ends, and words of letters in fonts, with a blank between two, begin the next one, which fits them; the last of them starts at a place
+    /// of the text.
     #[inline(always)]
-    pub fn wrap_letters<O: RowOut>(&mut self, bytes: &[u8], fonts: &[Font], out: &mut O)
-        requires plain { plain.is_printable_ascii bytes.now ≡ true }
-        requires fonts { length fonts.now ≡ length bytes.now }
-        requires room { length bytes.now ≤ CELLS }
+    pub fn wrap_words<O: RowOut>(&mut self, text: &[u8], fonts: &[Font], start: usize, out: &mut O)
+        requires plain { plain.is_printable_ascii text.now ≡ true }
+        requires fonts { length fonts.now ≡ length text.now }
+        requires room { length text.now ≤ CELLS }
+        requires start { start ≤ length text.now }
         ensures { LaysOut O.left out.old
-            (plain.wraps_plain self.old (cells_in bytes.now fonts.now)) out.new self.new }
+            (plain.wraps_words self.old (cells_in text.now fonts.now) start) out.new self.new }
     {
         self.end_before_word(out);
-        self.begin_letters(bytes, fonts);
+        self.begin_words(text, fonts, start);
     }
 
     /// The row, which has a cell and room, takes blanks and after them a word of bytes, if these are printable ASCII; says whether they are.
@@ -596,6 +601,15 @@ impl OpenRow {
             .saturating_sub(self.margin)
             .saturating_sub(self.columns);
         (CELLS - self.row.len()).min(free as usize)
+    }
+
+    /// How many cells of a column each the next row takes before it ends, if it is filled.
+    pub fn next_free_cells(&self) -> usize
+        ensures value { result ≡ plain.next_free_cells self.now }
+        ensures bound { result ≤ CELLS }
+    {
+        let free = self.width.saturating_sub(self.first);
+        CELLS.min(free as usize)
     }
 
     /// The row, which has room, takes blanks and after them words of letters in fonts, with a blank between two, of which the last starts at a place

@@ -77,6 +77,18 @@ blank_counted s = if passes (opens s) blank then opens s else counted (opens s) 
 abbrev pub wraps_plain : Sheet → List Cell → Laid Sheet
 wraps_plain s cells = over (gives (blank_counted s) s.cells) (λ t. taken (emptied t) cells)
 
+-- the next row begins with words, cells of a column each, of which the last word starts at a place
+abbrev pub begun_with : Sheet → List Cell → ℕ → Sheet
+begun_with s cells start = record (taken (emptied s) cells) { gap = start - 1; word = start }
+
+-- the row ended before words, which begin the next row
+abbrev pub wraps_words : Sheet → List Cell → ℕ → Laid Sheet
+wraps_words s cells start = over (gives (blank_counted s) s.cells) (λ t. begun_with t cells start)
+
+-- how many cells of a column each go into the next row, which is filled, before it ends
+abbrev pub next_free_cells : Sheet → ℕ
+next_free_cells s = min CELLS (s.width - s.first)
+
 -- how many cells of a column each go into an open row that is filled, before it ends
 abbrev pub free_cells : Sheet → ℕ
 free_cells s = if s.literal || length s.cells == 0 then 0 else min (CELLS - length s.cells) (s.width - s.margin - columns s.cells)

@@ -5,7 +5,7 @@ use Rattle.page_core_base.specs.Laid.{Laid, nothing}
 use Rattle.page_core_base.specs.Rows.{cells_in}
 use Rattle.page_fill_cells.proofs.PlaceLemmas.{in-length}
 use Rattle.page_fill_rows.proofs.PlainLemmas.{parts-plain}
-use Rattle.page_fill_rows.specs.machine.Plain.{free_cells, word_start, words_taken, wraps_plain}
+use Rattle.page_fill_rows.specs.machine.Plain.{free_cells, word_start, words_taken, wraps_words}
 use Rattle.page_fill_rows.specs.machine.Sheets.{Sheet, blank, over}
 use Rattle.page_fill.specs.machine.Fill.{Edge}
 use Rattle.page_fill.specs.machine.PlainWords.{whole_words}
@@ -50,32 +50,33 @@ returns-then-end-gt0-clause-room g c =
     let len = length-append (sheet.cells ++ replicate c.args.blanks blank) (cells_in (take end text) (take end fonts)) in
     omega (arith, new, len, front, blanks, size, some, c.requires.room, within)
 
-pub wrap_letters-requires-clause-plain : goal.wrap_letters-requires-clause-plain
-wrap_letters-requires-clause-plain g c = (parts-plain c.word_end-end.result c.args.text.now c.requires.plain).0
+pub wrap_words-requires-clause-plain : goal.wrap_words-requires-clause-plain
+wrap_words-requires-clause-plain g c = (parts-plain c.front_of_next_row-end.result c.args.text.now c.requires.plain).0
 
 pub returns-clause-gives : goal.returns-clause-gives
 returns-clause-gives g c =
     let e = c.args.self.now in
     let text = c.args.text.now in
     let fonts = c.args.fonts.now in
-    let end = c.word_end-end.result in
+    let end = c.front_of_next_row-end.result in
+    let next = c.front_of_next_row-end.ensures in
     let room : c.saturating_sub-room.result ≡ free_cells e.sheet - c.args.blanks = omega (arith, c.saturating_sub-room.ensures, c.free_cells.ensures.value) in
     let zero : c.whole_words-end.result ≡ 0 = omega (arith, c.if-end-gt0.false) in
     let none : whole_words text (free_cells e.sheet - c.args.blanks) ≡ 0 = ap (whole_words text) (sym room) ∙ (sym c.whole_words-end.ensures.value ∙ zero) in
-    let given : Laid Edge = over (wraps_plain e.sheet (cells_in (take end text) (take end fonts))) (begun_on e) in (
+    let given : Laid Edge = over (wraps_words e.sheet (cells_in (take end text) (take end fonts)) (word_start (take end text))) (begun_on e) in (
       given,
-      (c.wrap_letters.ensures.0, rw (c.wrap_letters.ensures.1, c.begun-self.ensures) refl),
-      λ some. front-wraps e c.args.blanks text fonts end c.requires.fonts c.requires.plain some c.requires.room c.requires.fits none c.word_end-end.ensures.value,
+      (c.wrap_words.ensures.0, rw (c.wrap_words.ensures.1, c.word_start-start-2.ensures.value, c.begun-self.ensures) refl),
+      λ some. front-wraps e c.args.blanks text fonts end c.requires.fonts c.requires.plain some c.requires.room c.requires.fits none next.fits next.within next.value,
     )
 
 pub returns-clause-room : goal.returns-clause-room
 returns-clause-room g c =
     let text = c.args.text.now in
     let fonts = c.args.fonts.now in
-    let end = c.word_end-end.result in
-    let within = c.word_end-end.ensures.bound in
+    let end = c.front_of_next_row-end.result in
+    let within = c.front_of_next_row-end.ensures.within in
     let some : length (take end text) ≡ end = length-take-le end text within in
     let own : length (take end fonts) ≡ end = length-take-le end fonts (omega (arith, within, c.requires.fonts)) in
     let size = in-length (take end text) (take end fonts) (own ∙ sym some) in
-    let new = ap (λ (t : Sheet). length t.cells) c.wrap_letters.ensures.1 in
+    let new = ap (λ (t : Sheet). length t.cells) c.wrap_words.ensures.1 in
     omega (arith, new, size, some, c.requires.room, within)
