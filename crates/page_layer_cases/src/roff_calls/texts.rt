@@ -5,7 +5,7 @@ use crate::bytes::{show_messages, shown};
 use page_core_base::{LINE, NoteLatch};
 use page_core_streams::TextNotes;
 use page_roff_heads::read_conditional;
-use page_roff_values::{Environment, Expansion};
+use page_roff_values::{Environment, Expansion, holds};
 
 /// The most bytes of a text that is shown as it is.
 const MOST: usize = 1_000;
