@@ -328,28 +328,6 @@ pub fn rs_pages()
         (man_page (codes ".RS 4" ∷ codes "x" ∷ codes ".RE" ∷ codes "y" ∷ []))
         (man_rows (codes "           x" ∷ codes "       y" ∷ []))
         [] }
-    // rows after margins of 16 and 36 columns (man(7), RS)
-    ensures rows_after_margins_of_16_and_36_columns { Shows plain
-        (codes ".TH T 1 2020-01-01 S" ∷
-        codes ".SH A" ∷
-        codes "a" ∷
-        codes ".RS 9n" ∷
-        codes "b \\fBc\\fP" ∷
-        codes ".RS 20n" ∷
-        codes "d" ∷
-        codes ".RE" ∷
-        codes ".RE" ∷
-        codes "e" ∷ [])
-        (codes "T(1)                       General Commands Manual                        T(1)" ∷
-        [] ∷
-        codes "AA" ∷
-        codes "       a" ∷
-        codes "                b cc" ∷
-        codes "                                    d" ∷
-        codes "       e" ∷
-        [] ∷
-        codes "S                                 2020-01-01                              T(1)" ∷ [])
-        [] }
     // fewer scopes than are to end (man(7), RE)
     ensures fewer_scopes_than_are_to_end { Shows plain
         (man_page (codes ".RS" ∷ codes ".RE 3" ∷ []))
