@@ -473,3 +473,52 @@ fn gives_no_message_that_is_not_taken(rt: HostRuntime) -> Result<(), Fail> {
     check_number(&rt, len, LINE);
     Ok(())
 }
+
+// Whether a line of a page that is not its first is known to have no backslash.
+fn is_known_as_plain(alloc: Global, line: &str) -> Result<bool, Fail> {
+    let mut notes = KeptNotes::new(alloc);
+    let page = format!(in alloc; "a\n{line}\n")?;
+    if page.len() > 1000 {
+        return Ok(false);
+    }
+    let mut cutter = Cutter::new(alloc, Encoding::Auto)?;
+    let (consumed, whole) = cutter.feed(page.as_bytes());
+    if !whole {
+        return Ok(false);
+    }
+    cutter.decoded_line(&mut notes)?;
+    let (_, whole) = cutter.feed(&page.as_bytes()[consumed..]);
+    if !whole {
+        return Ok(false);
+    }
+    Ok(cutter.decoded_line(&mut notes)?.is_plain)
+}
+
+// Lines, and whether they are known to have no backslash: some of more bytes than a vector has.
+const PLAIN_LINES: [(&str, bool); 7] = [
+    ("words", true),
+    (".SH NAME", true),
+    (
+        "a line of words alone, which has more than thirty-two bytes",
+        true,
+    ),
+    ("a\\fBb\\fP", false),
+    (
+        "a line of words, which has more than thirty-two bytes, and then \\*x",
+        false,
+    ),
+    (
+        "\\*x before a line of words, which has more than thirty-two bytes",
+        false,
+    ),
+    ("ends\\&", false),
+];
+
+#[test]
+fn knows_lines_without_a_backslash(rt: HostRuntime) -> Result<(), Fail> {
+    for (line, want) in PLAIN_LINES {
+        let is_plain = is_known_as_plain(rt.alloc(), line)?;
+        assert!(rt; is_plain == want, "{line}");
+    }
+    Ok(())
+}

@@ -1,6 +1,6 @@
 -- Bytes that all pass a test, and where a vector of them first fails it.
 use Rattle.std.proofs.Common.{◌≡◌, ℕ, zero, suc, ◌+◌, ◌*◌, ◌%◌, ◌^◌, ◌<◌, ◌≤◌, Bool, true, false, not, cond, eqb, List, [], ◌∷◌, ◌++◌, map, length, take, drop, Fits, w8, refl, sym, ap, ap₂, ◌∙◌, arith}
-use Rattle.std.specs.Prelude.{◌&&◌}
+use Rattle.std.specs.Prelude.{◌&&◌, ◌==◌}
 use Rattle.std.specs.List.{prefix_len, list_all}
 use Rattle.std.proofs.lemmas.Simd.{chunk-drop, length-chunk, leading_from_mask_l, trailing_mask_l, mask_l-mod}
 use Rattle.std.proofs.lemmas.List.{length-drop, length-map}
@@ -9,11 +9,12 @@ use Rattle.std.proofs.lemmas.List.Sums.{prefix_len-le-length}
 use Rattle.std.proofs.lemmas.Bool.{eq-eqb, ne_eqb, agree_below, agree_below_at}
 use lib.Lanes.{chunk, mask_l, top, Each1}
 use lib.Count.{count_trailing_zeros}
+use Rattle.page_roff_lines.specs.Bytes.{backslash}
 use Rattle.page_roff_lines.specs.Characters.{is_printable}
 use Rattle.std.proofs.lemmas.Bool.Decides.{nat_tests}
 use Rattle.page_roff_lines.specs.declared.Mode.TheVariants.{Plain}
 use Rattle.page_roff_lines.specs.machine.Run.{ends_run}
-use Rattle.page_roff_lines.specs.machine.Scan.{is_text}
+use Rattle.page_roff_lines.specs.machine.Scan.{is_text, lacks_backslash}
 
 pub and_true : (a b : Bool) → (a && b) ≡ true → (a ≡ true) × (b ≡ true)
 and_true true b h = (refl, h)
@@ -41,6 +42,9 @@ all-front p q w (x ∷ xs) (suc n) h = front-step (p x) q x xs n (prefix_len p x
 
 pub text-printable : (xs : List ℕ) (n : ℕ) → n ≤ prefix_len is_text xs → list_all is_printable (take n xs) ≡ true
 text-printable = all-front is_text is_printable (λ x h. (and_true (is_printable x) _ h).0)
+
+pub text-lacks : (xs : List ℕ) (n : ℕ) → n ≤ prefix_len is_text xs → lacks_backslash (take n xs) ≡ true
+text-lacks = all-front is_text (λ b. not (b == backslash)) (λ x h. (and_true (is_printable x) _ h).1)
 
 -- text ends no run
 pub text-run : (b : ℕ) → is_text b ≡ true → ends_run Plain b ≡ false

@@ -37,10 +37,6 @@ fine-more xs i n above below = record {
   printable = rw (take-add i n xs) (all-append is_printable (take i xs) (take n (drop i xs)) above.printable below.printable);
 }
 
--- none
-pub fine-none : (xs : List ℕ) → IsFine (take 0 xs)
-fine-none xs = record { text = run-front xs 0 (omega arith) (λ k below. absurd (omega arith)); printable = refl }
-
 -- text
 pub fine-text : (ys : List ℕ) (n : ℕ) → n ≤ prefix_len is_text ys → IsFine (take n ys)
 fine-text ys n most = record {

@@ -9,6 +9,7 @@ ghost use Rattle.page_roff_lines.specs.Whole.{whole_lines, lines_made, line_left
 ghost use Rattle.page_core_base.specs.Sinks.{Gives};
 ghost use Rattle.page_core_base.specs.Fails.{FailsAs, Rose};
 ghost use Rattle.page_core_base.specs.Texts.{IsLine};
+ghost use Rattle.page_roff_lines.specs.machine.Scan.{lacks_backslash};
 
 use crate::choosing::choose;
 use crate::decoding::decode;
@@ -17,6 +18,16 @@ use crate::reporting::{report, report_limit};
 use page_core_base::{BoundedText, Encoding, Fault, LINE, NoteSink};
 use std::alloc::Global;
 use std::marker::Model;
+
+/// A line of a page, decoded.
+#[derive(Clone, Copy)]
+pub struct DecodedLine<'l> {
+    pub text: &'l [u8],
+    /// The number of its first physical line.
+    pub number: u32,
+    /// Whether it is known to have no backslash.
+    pub is_plain: bool,
+}
 
 /// Cuts the bytes of a page, in whatever chunks they come, into logical lines (roff(7), "Comments" and "Escape
 /// sequences"), and decodes them (mandoc(1), -K).
@@ -151,17 +162,45 @@ impl Cutter {
         )
     }
 
-    // The text and the number of the line that was given last.
-    fn text_and_number(&self) -> (&[u8], u32)
-        ensures text { result.0.now ≡ self.now.text }
-        ensures number { result.1 ≡ self.now.point.line.number }
+    // The line that was given last.
+    fn decoded(&self) -> DecodedLine<'_>
+        ensures text { result.text.now ≡ self.now.text }
+        ensures number { result.number ≡ self.now.point.line.number }
+        ensures plain { result.is_plain ≡ true → lacks_backslash result.text.now ≡ true }
     {
-        let text = if self.printable {
-            self.line.text()
+        let number = self.line.number();
+        if self.printable {
+            DecodedLine {
+                text: self.line.text(),
+                number,
+                is_plain: self.line.is_plain(),
+            }
         } else {
-            self.decoded.bytes()
-        };
-        (text, self.line.number())
+            DecodedLine {
+                text: self.decoded.bytes(),
+                number,
+                is_plain: false,
+            }
+        }
+    }
+
+    /// The line that is whole, as by [`Cutter::line`], and what is known of it.
+    pub fn decoded_line<N: NoteSink>(&mut self, notes: &mut N) -> Result<DecodedLine<'_>, Fault>
+        requires { self.old.ready ≡ true }
+        ensures text { IfOk result (λ r. r.text.now ≡ (line_of self.old.point).text) }
+        ensures number { IfOk result (λ r. r.number ≡ (line_of self.old.point).number) }
+        ensures plain { IfOk result (λ r. r.is_plain ≡ true → lacks_backslash r.text.now ≡ true) }
+        ensures line { IfOk result (λ r. IsLine r.text.now) }
+        ensures gives { MatchResult result (λ _. N.gave notes.old (line_of self.old.point).notes notes.new)
+            (λ _. N.within notes.old (line_of self.old.point).notes notes.new) }
+        ensures fault { MatchResult result (λ _. N.failed notes.new ≡ N.failed notes.old)
+            (λ e. (e ≡ Fault.WriteNotes) × Rose (N.failed notes.old) (N.failed notes.new)) }
+        ensures same { N.loans notes.new ≡ N.loans notes.old }
+        ensures* after { sem 𝓛 (follows_so the_row the_row self.entry.ghost_name none (λ _ _. ⊤)
+            (λ v. (v.point ≡ self.old.point) × (v.ready ≡ false))) }
+    {
+        self.prepare(notes)?;
+        Ok(self.decoded())
     }
 
     /// The line that is whole: its text, decoded, and the number of its first physical line. What is to be said of
@@ -179,8 +218,8 @@ impl Cutter {
         ensures* after { sem 𝓛 (follows_so the_row the_row self.entry.ghost_name none (λ _ _. ⊤)
             (λ v. (v.point ≡ self.old.point) × (v.ready ≡ false))) }
     {
-        self.prepare(notes)?;
-        Ok(self.text_and_number())
+        let line = self.decoded_line(notes)?;
+        Ok((line.text, line.number))
     }
 }
 

@@ -3,6 +3,7 @@ ghost use Rattle.std.specs.Prelude.{◌≡◌, ◌+◌, ◌^◌, ◌<◌, ◌≤
 ghost use Rattle.std.specs.List.{list_all};
 ghost use Rattle.page_roff_lines.specs.Characters.{is_printable};
 ghost use Rattle.page_roff_lines.specs.machine.Held.{extend, shorten, nothing_held};
+ghost use Rattle.page_roff_lines.specs.machine.Scan.{lacks_backslash};
 
 use crate::characters::is_printable;
 use crate::choosing::is_printable_ascii;
@@ -17,6 +18,8 @@ pub struct HeldText {
     total: u32,
     // Whether the bytes that are held are known to be printable.
     printable: bool,
+    // Whether the bytes that are held are known to have no backslash.
+    plain: bool,
 }
 
 impl Model for HeldText {
@@ -25,13 +28,15 @@ impl Model for HeldText {
     ghost use Rattle.page_core_base.specs.declared.limits.TheConstants.{LINE};
     ghost use Rattle.page_roff_lines.specs.Characters.{is_printable};
     ghost use Rattle.page_roff_lines.specs.machine.Held.{Held};
+    ghost use Rattle.page_roff_lines.specs.machine.Scan.{lacks_backslash};
 
     ghost Value = { Held };
 
     ghost view = { λ h. record { bytes = h.bytes.items; total = h.total } };
 
     ghost invariant = { λ h. (vec_len h.bytes ≤ LINE) × (LINE ≤ vec_capacity h.bytes)
-        × (h.printable ≡ true → list_all is_printable h.bytes.items ≡ true) };
+        × (h.printable ≡ true → list_all is_printable h.bytes.items ≡ true)
+        × (h.plain ≡ true → lacks_backslash h.bytes.items ≡ true) };
 }
 
 impl HeldText {
@@ -44,6 +49,7 @@ impl HeldText {
             bytes,
             total: 0,
             printable: true,
+            plain: false,
         })
     }
 
@@ -72,6 +78,7 @@ impl HeldText {
             self.bytes.push_reserved(byte);
             self.printable = self.printable && is_printable(byte);
         }
+        self.plain = false;
         self.total += 1;
     }
 
@@ -88,6 +95,21 @@ impl HeldText {
         let _ = self.bytes.extend_from_slice(&more[..fits]);
         self.total += more.len() as u32;
         self.printable = self.printable && printable;
+        self.plain = false;
+    }
+
+    /// Takes printable bytes in the place of all, which may be known to have no backslash.
+    #[inline(always)]
+    #[tactic(auto, unfolding(crate::specs::machine::Held::extend))]
+    pub fn set(&mut self, text: &[u8], plain: bool)
+        requires total { length text.now < 2 ^ 31 }
+        requires printable { list_all is_printable text.now ≡ true }
+        requires plain { plain ≡ true → lacks_backslash text.now ≡ true }
+        ensures { self.new ≡ extend nothing_held text.now }
+    {
+        self.clear();
+        self.extend(text, true);
+        self.plain = plain;
     }
 
     /// Whether each byte that is held is a printable one of ASCII or a tab.
@@ -98,6 +120,13 @@ impl HeldText {
         self.printable || is_printable_ascii(self.bytes())
     }
 
+    /// Whether the bytes that are held are known to have no backslash.
+    pub fn is_plain(&self) -> bool
+        ensures { result ≡ true → lacks_backslash self.now.bytes ≡ true }
+    {
+        self.plain
+    }
+
     /// Takes the last byte away.
     #[tactic(auto, unfolding(crate::specs::machine::Held::shorten))]
     pub fn shorten(&mut self)
@@ -105,6 +134,7 @@ impl HeldText {
     {
         self.total = self.total.saturating_sub(1);
         self.bytes.truncate(self.total as usize);
+        self.plain = false;
     }
 
     /// Takes all bytes away.
@@ -114,5 +144,6 @@ impl HeldText {
         self.bytes.clear();
         self.total = 0;
         self.printable = true;
+        self.plain = false;
     }
 }

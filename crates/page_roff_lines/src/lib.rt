@@ -18,7 +18,7 @@ mod open;
 mod reporting;
 mod scanning;
 
-pub use cutter::{Cutter, cut_law, held_law, one_by_one_law, whole_law};
+pub use cutter::{Cutter, DecodedLine, cut_law, held_law, one_by_one_law, whole_law};
 pub use held::HeldText;
 pub use open::OpenLine;
 

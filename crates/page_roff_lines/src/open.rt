@@ -3,6 +3,7 @@ ghost use Rattle.std.specs.Prelude.{◌≡◌, ◌+◌, ◌-◌, ◌^◌, ◌<�
 ghost use Rattle.std.specs.List.{list_all};
 ghost use Rattle.page_roff_lines.specs.machine.Open.{pair_mode as spec_pair_mode};
 ghost use Rattle.page_roff_lines.specs.Characters.{is_printable};
+ghost use Rattle.page_roff_lines.specs.machine.Scan.{lacks_backslash};
 
 use crate::scanning::{comment_run, fine_len, paired_run};
 use crate::{HeldText, Mark, Mode};
@@ -377,20 +378,20 @@ impl OpenLine {
         self.whole && self.mark.is_settled() && matches!(self.mode, Mode::Plain)
     }
 
-    // Takes a text that was read at once, with the line feed after it, as the line after a whole one.
+    // Takes a text that was read at once, which may be known to have no backslash, with the line feed after it, as the line after a whole one.
     #[inline(always)]
     #[tactic(auto, unfolding(crate::specs::machine::Held::extend))]
-    fn put_line(&mut self, text: &[u8])
+    fn put_line(&mut self, text: &[u8], plain: bool)
         requires whole { self.old.whole ≡ true }
         requires reads { ReadsText self.old }
         requires some { 0 < length text.now }
         requires fine { IsFine text.now }
+        requires plain { plain ≡ true → lacks_backslash text.now ≡ true }
         requires consumed { self.old.consumed + length text.now + 1 < 2 ^ 31 }
         ensures next { self.new ≡ next_open (open_after self.old text.now) newline }
         ensures whole { self.new.whole ≡ true }
     {
-        self.text.clear();
-        self.text.extend(text, true);
+        self.text.set(text, plain);
         self.after_return = false;
         self.begun = false;
         self.number = self.physical;
@@ -413,11 +414,11 @@ impl OpenLine {
         if !self.is_before_text() {
             return 0;
         }
-        let len = fine_len(chunk);
+        let (len, plain) = fine_len(chunk);
         if len == 0 || len >= chunk.len() || chunk[len] != NEWLINE {
             return 0;
         }
-        self.put_line(&chunk[..len]);
+        self.put_line(&chunk[..len], plain);
         len + 1
     }
 
@@ -502,6 +503,13 @@ impl OpenLine {
         ensures bound { length self.now.text.bytes ≤ LINE }
     {
         self.text.is_printable()
+    }
+
+    /// Whether the bytes that are kept are known to have no backslash.
+    pub fn is_plain(&self) -> bool
+        ensures { result ≡ true → lacks_backslash self.now.text.bytes ≡ true }
+    {
+        self.text.is_plain()
     }
 
     /// Whether the line has more bytes than are kept.

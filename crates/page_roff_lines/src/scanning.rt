@@ -4,7 +4,7 @@ ghost use Rattle.std.specs.List.{prefix_len, list_all};
 ghost use Rattle.std.specs.Simd.Lanes.{mask_l};
 ghost use Rattle.page_roff_lines.specs.Characters.{is_printable};
 ghost use Rattle.page_roff_lines.specs.machine.Run.{BeginsPair, IsFine, IsText, ends_run as spec_ends_run, stays as spec_stays};
-ghost use Rattle.page_roff_lines.specs.machine.Scan.{is_text as spec_is_text, is_stop};
+ghost use Rattle.page_roff_lines.specs.machine.Scan.{is_text as spec_is_text, is_stop, lacks_backslash};
 
 use crate::Mode;
 use crate::characters::is_printable;
@@ -152,13 +152,15 @@ fn through_vector(chunk: &[u8], from: usize) -> (usize, bool)
     (at + left, true)
 }
 
-/// How many bytes at the front are text and pairs, all printable, as far as whole vectors go.
+// How many bytes at the front are text and pairs, as far as whole vectors go, after so many that are known to be.
 #[inline(always)]
-pub fn fine_len(chunk: &[u8]) -> usize
+fn fine_from(chunk: &[u8], from: usize) -> usize
+    requires within { from ≤ length chunk.now }
+    requires text { IsFine (take from chunk.now) }
     ensures within { result ≤ length chunk.now }
     ensures text { IsFine (take result chunk.now) }
 {
-    let mut at = 0;
+    let mut at = from;
     while chunk.len() - at >= LANES {
         let (end, goes_on) = through_vector(chunk, at);
         at = end;
@@ -167,6 +169,21 @@ pub fn fine_len(chunk: &[u8]) -> usize
         }
     }
     at
+}
+
+/// How many bytes at the front are text and pairs, all printable, pairs as far as whole vectors go, and whether no backslash is known to be
+/// among them.
+#[inline(always)]
+pub fn fine_len(chunk: &[u8]) -> (usize, bool)
+    ensures within { result.0 ≤ length chunk.now }
+    ensures text { IsFine (take result.0 chunk.now) }
+    ensures plain { result.1 ≡ true → lacks_backslash (take result.0 chunk.now) ≡ true }
+{
+    let len = text_len(chunk);
+    if !begins_pair(&chunk[len..]) {
+        return (len, true);
+    }
+    (fine_from(chunk, len), false)
 }
 
 // How many bytes are read at once after text and pairs, with these, and whether they are known to be printable.
@@ -197,7 +214,7 @@ pub fn paired_run(chunk: &[u8]) -> (usize, bool)
     ensures text { IsText (take result.0 chunk.now) }
     ensures printable { result.1 ≡ true → list_all is_printable (take result.0 chunk.now) ≡ true }
 {
-    let len = fine_len(chunk);
+    let (len, _) = fine_len(chunk);
     if len < chunk.len() && chunk[len] == NEWLINE {
         return (len, true);
     }

@@ -38,4 +38,5 @@ invariant_of-self c =
             | then-self w ↦ all-append is_printable bytes _ (c.self.invariant.2 w.if-self.true) (all-take is_printable _ more (c.requires.printable (sym w.self-is ∙ is)))
             | else-self w ↦ cc
           ]),
+      λ is. cc,
     )

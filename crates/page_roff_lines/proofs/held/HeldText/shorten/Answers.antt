@@ -8,4 +8,5 @@ invariant_of-self c = (
   omega (arith, c.truncate.ensures.len),
   omega (arith, c.truncate.ensures.capacity),
   λ is. rw c.truncate.ensures.items (all-take is_printable c.saturating_sub-self-inside.result c.self.inside.bytes.items (c.self.invariant.2 is)),
+  λ is. cc,
 )

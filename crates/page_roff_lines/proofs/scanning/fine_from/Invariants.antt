@@ -1,6 +1,6 @@
 use Rattle.std.proofs.Common.{◌-◌, ◌≤◌, length, take}
 use Rattle.page_roff_lines.specs.machine.Run.{IsFine}
-use Rattle.page_roff_lines.proofs.scanning.fine_len.Given as goal
+use Rattle.page_roff_lines.proofs.scanning.fine_from.Given as goal
 
 -- the bytes before this place are fine
 abbrev pub invariant-loop-at : goal.invariant-loop-at

@@ -1,0 +1,19 @@
+use Rattle.std.proofs.Common.{◌≡◌, not, take, ap, ◌∙◌}
+use Rattle.std.specs.Prelude.{◌==◌}
+use Rattle.page_roff_lines.specs.Bytes.{backslash}
+use Rattle.page_roff_lines.specs.Limit.{line_limit}
+use Rattle.page_roff_lines.specs.machine.Held.{Held, extend}
+use Rattle.page_roff_lines.proofs.ScanLemmas.{all-take}
+use Rattle.page_roff_lines.proofs.held.HeldText.set.Goals as goal
+
+pub invariant_of-self : goal.invariant_of-self
+unfolding extend
+invariant_of-self c =
+    let text = c.args.text.now in
+    let items : c.self.inside.bytes.items ≡ take line_limit text =
+    ap (λ (h : Held). h.bytes) (c.self.view_is ∙ c.extend.ensures ∙ ap (λ (h : Held). extend h text) c.clear.ensures) in (
+      c.self.invariant.0,
+      c.self.invariant.1,
+      c.self.invariant.2,
+      λ is. rw items (all-take (λ b. not (b == backslash)) line_limit text (c.requires.plain is)),
+    )
