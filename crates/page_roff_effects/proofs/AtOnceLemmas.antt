@@ -188,7 +188,7 @@ pub takes_call : (result : AtOnce) (raw name : List ℕ) (old new : Acting) → 
     → CallsIf result name (rest_after raw name) (column_after raw name) old new
     → TakesIf result old raw (λ may_call. leaf_outcome (measured old.setting) may_call raw old.memory) new
 takes_call ways.Nothing raw name old new h short e n o s c = c
-takes_call ways.Line raw name old new h short e n o s c = absurd c
+takes_call (ways.Line taken) raw name old new h short e n o s c = absurd c
 takes_call ways.Call raw name old new h short e n o s c =
     let given = free_call (measured old.setting) raw name old.memory new.call h short e n (is_call name old.memory.definitions s) c.1 in
     record {

@@ -165,6 +165,15 @@ impl Actions {
         self.expansions
     }
 
+    /// Keeps a line that was lent, as the one that was taken last.
+    pub fn keep(&mut self, taken: Taken<'_>)
+        requires { length taken.text.now ≤ LINE }
+        ensures { self.new ≡ record self.old { line = line_view taken.entry } }
+    {
+        self.line
+            .set(taken.form, taken.text, taken.line, taken.name_end);
+    }
+
     /// Lends the line that was taken last, of at most [`LINE`](page_core_base::LINE) bytes.
     pub fn line(&self) -> Taken<'_>
         ensures line { line_view result ≡ self.now.line }

@@ -187,12 +187,11 @@ levels_are l e s = ap₂ (λ (i : Bool) (k : ℕ). level l.bit l.outer i k) e s
 abbrev standing : Stack → Budget → Memory → List Given → At (Budgeted State)
 standing s b m given = at_levels s.top.region s.top.cursor.levels (budgeted b (record { memory = m; out = given }))
 
-pub takes_line : (old new : Runner) (line : List ℕ) (number : ℕ) → is_idle (machine_of old) ≡ true → IsSound old → TakesAtOnce line number old new
-    → Takes line number (machine_of old) (machine_of new)
-takes_line old new line number idle sound h =
+pub takes_line : (old new : Runner) (taken : Line) (line : List ℕ) (number : ℕ) → is_idle (machine_of old) ≡ true → IsSound old
+    → TakesAtOnce taken line number old new → Takes taken line number (machine_of old) (machine_of new)
+takes_line old new taken line number idle sound h =
     let output = old.doing.actions.setting.output in
     let m = numbered number old.doing.actions.memory in
-    let taken = new.doing.actions.line in
     let levels = old.stack.top.cursor.levels in
     let count = old.doing.budget.taken in
     let given = takes taken ∷ [] in
@@ -200,18 +199,19 @@ takes_line old new line number idle sound h =
     sound.setting ∙ ap (acting_setting output) (page_kind old.stack.top.kind h.outside.page) in
     let el = levels_are levels h.outside.loop h.outside.skipped in
     let eo : (may_call : Bool) → leaf_outcome (measured (acting_setting output page)) may_call line m ≡ record { notes = []; product = line_product taken; memory = m } =
-    λ may_call. ap (λ (s : ActingSetting). leaf_outcome (measured s) may_call line m) (sym es) ∙ h.taken.given may_call in
+    λ may_call. ap (λ (s : ActingSetting). leaf_outcome (measured s) may_call line m) (sym es) ∙ h.actions.given may_call in
     let after : stands_after given (machine_of new) ≡ at_levels None (level levels.bit levels.outer false 0) (state_with (count + 1) m given) =
     ap (λ (s : Stack). standing s new.doing.budget new.doing.actions.memory given) h.stack
     ∙ ap (λ (b : Budget). standing old.stack b new.doing.actions.memory given) h.budget
-    ∙ ap (λ (k : Memory). standing old.stack (begun old.doing.budget) k given) h.taken.memory
+    ∙ ap (λ (k : Memory). standing old.stack (begun old.doing.budget) k given) h.actions.left.memory
     ∙ ap₂ (λ (region : Option Opened) (l : Levels). at_levels region l (state_with (count + 1) m given)) h.outside.region el in
     let before : begun_at number (machine_of old) ≡ at_levels None (level levels.bit levels.outer false 0) (state_with count m []) =
     ap₂ (λ (region : Option Opened) (l : Levels). at_levels region l (state_with count m [])) h.outside.region el in
     record {
-      output = ap (λ (s : ActingSetting). s.output) h.taken.setting;
+      output = ap (λ (s : ActingSetting). s.output) h.actions.left.setting;
       idle = ap (λ (s : Stack). is_nothing (next_of s)) h.stack ∙ idle;
-      outcome = after ∙ sym (run_leaf output line levels.bit levels.outer m count taken h.taken.leaf eo)
+      short = h.actions.short;
+      outcome = after ∙ sym (run_leaf output line levels.bit levels.outer m count taken h.actions.leaf eo)
           ∙ sym (ap (run_page (language (acting_effects output)) (line ∷ [])) before);
     }
 
@@ -236,8 +236,9 @@ same_sound old new idle sound outside es ea = record {
   ];
 }
 
-pub taken_sound : (old new : Runner) (line : List ℕ) (number : ℕ) → is_idle (machine_of old) ≡ true → IsSound old → TakesAtOnce line number old new → IsSound new
-taken_sound old new line number idle sound h = same_sound old new idle sound h.outside h.stack h.taken.setting
+pub taken_sound : (old new : Runner) (taken : Line) (line : List ℕ) (number : ℕ) → is_idle (machine_of old) ≡ true → IsSound old
+    → TakesAtOnce taken line number old new → IsSound new
+taken_sound old new taken line number idle sound h = same_sound old new idle sound h.outside h.stack h.actions.left.setting
 
 -- ---- a macro that is called at once
 

@@ -7,6 +7,7 @@ ghost use Rattle.page_core_base.specs.declared.limits.TheConstants.{ARGS, BODY, 
 ghost use Rattle.page_roff_blocks.specs.Caps.{PlaceFits};
 ghost use Rattle.page_core_base.specs.Latches.{Came};
 ghost use Rattle.page_roff_effects.specs.Caps.{MemoryFits};
+ghost use Rattle.page_roff_effects.specs.machine.FreeLines.{lacks_backslash};
 ghost use Rattle.page_roff_machine.specs.machine.Machines.{Advances, BeginsOrTakes, IsNew, Resumes, is_idle, end_memory, end_notes, place_of};
 ghost use Rattle.page_roff_machine.specs.machine.Moving.{IsPassed};
 
@@ -109,26 +110,35 @@ impl Machine {
         self.runner.stack.is_idle()
     }
 
-    /// A source line of this number comes, after the last one is done. It has a budget of its own. Answers whether it is taken at once: then it is
-    /// done, and lent by [`Machine::line`]; else [`Machine::advance`] runs what is left of it.
-    pub fn begin(&mut self, line: &[u8], number: u32) -> bool
+    /// A source line of this number comes, which may be known to have no backslash, after the last one is done. It has a budget of its own. If it is
+    /// taken as it is written, it is lent and done; else [`Machine::advance`] runs what is left of it.
+    pub fn begin<'l>(&mut self, line: &'l [u8], number: u32, plain: bool) -> Option<Taken<'l>>
         requires idle { is_idle self.old ≡ true }
         requires line { IsLine line.now }
+        requires plain { plain ≡ true → lacks_backslash line.now ≡ true }
         requires skips { self.old.stack.top.cursor.levels.skipped < 2 ^ 62 }
         requires count { self.old.budget.taken ≤ 2 ^ 62 }
         ensures { BeginsOrTakes result line.now number self.old self.new }
     {
-        match self.runner.take_at_once(line, number) {
-            AtOnce::Line => true,
-            AtOnce::Call => false,
+        match self.runner.take_at_once(line, number, plain) {
+            AtOnce::Line(taken) => Some(taken),
+            AtOnce::Call => None,
             AtOnce::Nothing => {
                 self.runner.stack.set_line(line);
                 self.runner.doing.actions.leave();
                 self.runner.doing.actions.begin_line(number);
                 self.runner.doing.budget.renew();
-                false
+                None
             }
         }
+    }
+
+    /// Keeps a line that was lent, as the one that was taken last.
+    pub fn keep(&mut self, taken: Taken<'_>)
+        requires { length taken.text.now ≤ LINE }
+        ensures { self.new ≡ record self.old { actions = record self.old.actions { line = line_view taken.entry } } }
+    {
+        self.runner.doing.actions.keep(taken);
     }
 
     /// Runs on until a line is taken, or until the source line is done: whether a line was taken.

@@ -6,6 +6,7 @@ ghost use Rattle.page_core_base.specs.declared.limits.TheConstants.{ARGS};
 ghost use Rattle.page_roff_blocks.specs.Levels as levels;
 ghost use Rattle.page_roff_effects.specs.declared.commands.ProductKind.TheVariants as kinds;
 ghost use Rattle.page_roff_effects.specs.machine.Acting.{IsCallable};
+ghost use Rattle.page_roff_effects.specs.machine.FreeLines.{lacks_backslash};
 ghost use Rattle.page_roff_stack.specs.machine.Stacks.{next_of, part_in, is_part, is_line, may_end, is_nothing};
 ghost use Rattle.page_roff_machine.specs.machine.Doing.{IsIn};
 ghost use Rattle.page_roff_machine.specs.machine.Machines.{Advances};
@@ -386,11 +387,17 @@ impl Runner {
         self.call();
     }
 
-    /// Takes a source line of this number at once, after the last one is done, if it calls a macro or is left to the set of macros, as it is
-    /// written; says which of these it did. If it did neither, the actions may know the number.
-    pub(crate) fn take_at_once(&mut self, line: &[u8], number: u32) -> AtOnce
+    /// Takes a source line of this number, which may be known to have no backslash, at once, after the last one is done, if it calls a macro or is
+    /// left to the set of macros, as it is written; says which of these it did. If it did neither, the actions may know the number.
+    pub(crate) fn take_at_once<'l>(
+        &mut self,
+        line: &'l [u8],
+        number: u32,
+        plain: bool,
+    ) -> AtOnce<'l>
         requires idle { is_nothing (next_of self.old.stack) ≡ true }
         requires line { IsLine line.now }
+        requires plain { plain ≡ true → lacks_backslash line.now ≡ true }
         requires count { self.old.doing.budget.taken ≤ 2 ^ 62 }
         ensures { TakesAtOnceIf result line.now number self.old self.new }
     {
@@ -398,10 +405,10 @@ impl Runner {
             return AtOnce::Nothing;
         }
         self.doing.actions.begin_line(number);
-        let at_once = self.doing.actions.take_at_once(line);
+        let at_once = self.doing.actions.take_at_once(line, plain);
         match at_once {
             AtOnce::Nothing => {}
-            AtOnce::Line => self.doing.budget.begin(),
+            AtOnce::Line(_) => self.doing.budget.begin(),
             AtOnce::Call => {
                 self.doing.budget.begin();
                 self.enter_call();

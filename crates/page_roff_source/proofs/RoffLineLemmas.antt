@@ -1,8 +1,9 @@
 -- The machine that runs a page's lines is at the page's edge: helpers of proofs.
-use Rattle.std.proofs.Common.{◌≡◌, ℕ, ◌+◌, ◌*◌, ◌≤◌, ◌<◌, ◌^◌, Bool, true, false, List, [], ◌∷◌, length, Option, Some, None, refl, sym, ap, subst, ◌∙◌, arith}
+use Rattle.std.proofs.Common.{◌≡◌, ℕ, ◌+◌, ◌*◌, ◌≤◌, ◌<◌, ◌^◌, Bool, true, false, List, [], ◌∷◌, length, Option, Some, None, IfSome, is_some, option_map, refl, sym, ap, subst, ◌∙◌, arith}
 use Rattle.page_core_base.specs.Texts.{IsLine}
 use Rattle.page_core_base.specs.declared.limits.TheConstants.{LINE, REREAD}
-use Rattle.page_core_base.specs.LinesTaken.{Line}
+use Rattle.page_core_base.specs.LinesTaken.{Line, line_view}
+use Rattle.page_core_base.specs.declared.lines_taken.Taken.{Taken}
 use Rattle.page_core_base.specs.Messages.{Message}
 use Rattle.page_core_base.specs.declared.page_settings.Output.{Output}
 use Rattle.page_roff_blocks.specs.Caps.{PlaceFits}
@@ -30,10 +31,10 @@ use Rattle.page_roff_source.specs.Caps.{RoffFits}
 use Rattle.page_roff_source.specs.Edges.{Edge, SourceLine, first_edge, counts_of, end_notes}
 use Rattle.page_roff_source.specs.Parts.{Part, IsPart, edge_at, part_of}
 use Rattle.page_roff_source.specs.Taken.{given_of, line_taken, left_if}
-use Rattle.page_roff_source.specs.machine.Taking.{LinesState, before_line, run_line, run_begun}
+use Rattle.page_roff_source.specs.machine.Taking.{LinesState, before_line, TakesSource, line_done, line_given, run_line, run_begun}
 use Rattle.page_roff_source.specs.declared.roff_lines.Remaining.{Remaining}
 use Rattle.page_roff_source.specs.declared.roff_lines.Remaining.TheVariants as remaining
-use Rattle.page_roff_source.specs.machine.RoffLines.{edge_of, state_of, given_by, begun_as, run_if, IsIdleAs, IsCounted, IsAtEdge, RunsOn}
+use Rattle.page_roff_source.specs.machine.RoffLines.{edge_of, state_of, given_by, run_if, IsIdleAs, IsCounted, IsAtEdge, RunsOn}
 use Rattle.page_roff_source.proofs.CountLemmas.{taken_bound}
 use Rattle.page_roff_source.proofs.RoomLemmas.{done_room}
 use Rattle.page_roff_source.proofs.TextLemmas.{line_texts, runs_as, taken_is, taken_line}
@@ -160,17 +161,39 @@ begun old new source line idle b h l =
     ap (λ (o : Output). begun_with o (outcome_of new) (source + 1)) b.output
     ∙ ap (λ (a : At (Budgeted State)). begun_with (output_of old) a (source + 1)) outcome
 
--- a line that is taken at once, where it is all that the line gives
-pub taken : (old new : Machine) (source : ℕ) (line : SourceLine) → machine.is_idle old ≡ true → Takes line.text line.number old new
-    → HoldsTexts (edge_of old source remaining.Nothing).memory → IsLine line.text → edge_of new (source + 1) remaining.Line ≡ run_begun (edge_of old source remaining.Nothing) line
-unfolding run_line
-taken old new source line idle t h l =
+-- a line that was taken at once is all that the line gives
+gives_taken : (old new : Machine) (source : ℕ) (taken : Line) (line : SourceLine) → machine.is_idle old ≡ true
+    → Takes taken line.text line.number old new → HoldsTexts (edge_of old source remaining.Nothing).memory → IsLine line.text
+    → stands_after (takes taken ∷ []) new ≡ run_line (edge_of old source remaining.Nothing) line
+gives_taken old new source taken line idle t h l =
     let e = before_at old source line (idle_stands old idle) in
-    let given = takes new.actions.line ∷ [] in
-    let outcome = t.outcome ∙ sym (ap (run_page (language_of old) (line.text ∷ [])) e) ∙ runs_as (edge_of old source remaining.Nothing) line h l in
-    ap (λ (a : At (Budgeted State)). edge_with (output_of new) a (source + 1) (Some given)) (idle_stands new t.idle)
+    t.outcome ∙ sym (ap (run_page (language_of old) (line.text ∷ [])) e) ∙ runs_as (edge_of old source remaining.Nothing) line h l
+
+gives_alone : (old new : Machine) (source : ℕ) (taken : Line) (line : SourceLine) → machine.is_idle old ≡ true
+    → Takes taken line.text line.number old new → HoldsTexts (edge_of old source remaining.Nothing).memory → IsLine line.text
+    → line_given (edge_of old source remaining.Nothing) line ≡ takes taken ∷ []
+gives_alone old new source taken line idle t h l =
+    sym (ap (λ (a : At (Budgeted State)). a.state.rest.out) (gives_taken old new source taken line idle t h l))
+
+-- it is kept, to be given
+kept_line : (old new : Machine) (source : ℕ) (taken : Line) (line : SourceLine) → machine.is_idle old ≡ true
+    → Takes taken line.text line.number old new → new.actions.line ≡ taken → HoldsTexts (edge_of old source remaining.Nothing).memory → IsLine line.text
+    → edge_of new (source + 1) remaining.Line ≡ run_begun (edge_of old source remaining.Nothing) line
+kept_line old new source taken line idle t k h l =
+    let given = takes taken ∷ [] in
+    ap (λ (x : Line). edge_with (output_of new) (outcome_of new) (source + 1) (Some (takes x ∷ []))) k
+    ∙ ap (λ (a : At (Budgeted State)). edge_with (output_of new) a (source + 1) (Some given)) (idle_stands new t.idle)
     ∙ ap (λ (o : Output). begun_with o (stands_after given new) (source + 1)) t.output
-    ∙ ap (λ (a : At (Budgeted State)). begun_with (output_of old) a (source + 1)) outcome
+    ∙ ap (λ (a : At (Budgeted State)). begun_with (output_of old) a (source + 1)) (gives_taken old new source taken line idle t h l)
+
+-- it is given, and the line is done
+line_is_done : (old new : Machine) (source : ℕ) (taken : Line) (line : SourceLine) → machine.is_idle old ≡ true
+    → Takes taken line.text line.number old new → HoldsTexts (edge_of old source remaining.Nothing).memory → IsLine line.text
+    → edge_of new (source + 1) remaining.Nothing ≡ line_done (edge_of old source remaining.Nothing) line
+line_is_done old new source taken line idle t h l =
+    ap (λ (a : At (Budgeted State)). edge_with (output_of new) a (source + 1) None) (idle_stands new t.idle)
+    ∙ ap (λ (o : Output). edge_with o (stands_after (takes taken ∷ []) new) (source + 1) None) t.output
+    ∙ ap (λ (a : At (Budgeted State)). edge_with (output_of old) a (source + 1) None) (gives_taken old new source taken line idle t h l)
 
 pub begun_counted : (e : Edge) (line : SourceLine) → IsCounted e → e.source < 2 ^ 31 → length line.text ≤ LINE → IsCounted (run_begun e line)
 begun_counted e line c few short =
@@ -242,37 +265,120 @@ begin_room m source remaining.Line p none = absurd (cc)
 begin_room m source remaining.End p none = absurd (cc)
 begin_room m source remaining.Run p none = absurd (cc)
 
-begin_at : (old new : Machine) (source : ℕ) (is_taken : Bool) (line : List ℕ) (number : ℕ) → machine.is_idle old ≡ true → BeginsOrTakes is_taken line number old new
-    → HoldsTexts (edge_of old source remaining.Nothing).memory → IsLine line
-    → edge_of new (source + 1) (begun_as is_taken) ≡ run_begun (edge_of old source remaining.Nothing) (record { text = line; number = number; notes = [] })
-begin_at old new source true line number idle b h l = taken old new source (record { text = line; number = number; notes = [] }) idle b h l
-begin_at old new source false line number idle b h l = begun old new source (record { text = line; number = number; notes = [] }) idle b h l
+nothing_left : (m : Machine) (source : ℕ) (left : Remaining) → (edge_of m source left).to_come ≡ None → left ≡ remaining.Nothing
+nothing_left m source remaining.Nothing none = refl
+nothing_left m source remaining.Line none = absurd (cc)
+nothing_left m source remaining.End none = absurd (cc)
+nothing_left m source remaining.Run none = absurd (cc)
 
-pub begin_edge : (old new : Machine) (source : ℕ) (left : Remaining) (is_taken : Bool) (line : List ℕ) (number : ℕ) → IsAtEdge old source left
-    → (edge_of old source left).to_come ≡ None → BeginsOrTakes is_taken line number old new → IsLine line
-    → edge_of new (source + 1) (begun_as is_taken) ≡ run_begun (edge_of old source left) (record { text = line; number = number; notes = [] })
-begin_edge old new source remaining.Nothing is_taken line number p none b l = begin_at old new source is_taken line number p.idle b p.texts l
-begin_edge old new source remaining.Line is_taken line number p none b l = absurd (cc)
-begin_edge old new source remaining.End is_taken line number p none b l = absurd (cc)
-begin_edge old new source remaining.Run is_taken line number p none b l = absurd (cc)
+at_nothing : (m : Machine) (source : ℕ) (left : Remaining) → IsAtEdge m source left → (edge_of m source left).to_come ≡ None
+    → IsAtEdge m source remaining.Nothing
+at_nothing m source left p none = subst (IsAtEdge m source) (nothing_left m source left none) p
 
-begun_idle : (old new : Machine) (is_taken : Bool) (line : List ℕ) (number : ℕ) → BeginsOrTakes is_taken line number old new → IsIdleAs (begun_as is_taken) new
-begun_idle old new true line number b = b.idle
-begun_idle old new false line number b = tt
+-- a line begins that is run
+pub begin_edge : (old new : Machine) (source : ℕ) (left : Remaining) (line : List ℕ) (number : ℕ) → IsAtEdge old source left
+    → (edge_of old source left).to_come ≡ None → Begins line number old new → IsLine line
+    → edge_of new (source + 1) remaining.Run ≡ run_begun (edge_of old source left) (record { text = line; number = number; notes = [] })
+begin_edge old new source left line number p none b l =
+    let s : SourceLine = record { text = line; number = number; notes = [] } in
+    let q = at_nothing old source left p none in
+    subst (λ (r : Remaining). edge_of new (source + 1) remaining.Run ≡ run_begun (edge_of old source r) s) (sym (nothing_left old source left none))
+    (begun old new source s q.idle b q.texts l)
 
-pub begin_invariant : (old new : Machine) (source : ℕ) (left : Remaining) (is_taken : Bool) (line : List ℕ) (number : ℕ) → IsAtEdge old source left
-    → (edge_of old source left).to_come ≡ None → BeginsOrTakes is_taken line number old new → source < 2 ^ 31 → IsLine line
-    → IsAtEdge new (source + 1) (begun_as is_taken)
-begin_invariant old new source left is_taken line number p none b few t =
-    let l : SourceLine = record { text = line; number = number; notes = [] } in
-    let e = edge_of old source left in
-    let same = sym (begin_edge old new source left is_taken line number p none b t) in
-    let h = line_texts e l p.texts t in
+-- the invariant at an edge after a line
+begun_invariant : (e : Edge) (new : Machine) (source : ℕ) (left : Remaining) (line : SourceLine) → IsCounted e → HoldsTexts e.memory → e.source < 2 ^ 31
+    → IsLine line.text → edge_of new (source + 1) left ≡ run_begun e line → IsIdleAs left new → IsAtEdge new (source + 1) left
+begun_invariant e new source left line c h few t same idle =
+    let k = line_texts e line h t in
     record {
-      idle = begun_idle old new is_taken line number b;
-      counted = subst IsCounted same (begun_counted e l p.counted few t.bounded);
-      texts = subst (λ (x : Edge). HoldsTexts x.memory) same h.memory;
-      given = subst (λ (x : Edge). AreGiven (given_of x)) same h.out;
+      idle = idle;
+      counted = subst IsCounted (sym same) (begun_counted e line c few t.bounded);
+      texts = subst (λ (x : Edge). HoldsTexts x.memory) (sym same) k.memory;
+      given = subst (λ (x : Edge). AreGiven (given_of x)) (sym same) k.out;
+    }
+
+pub begin_invariant : (old new : Machine) (source : ℕ) (left : Remaining) (line : List ℕ) (number : ℕ) → IsAtEdge old source left
+    → (edge_of old source left).to_come ≡ None → Begins line number old new → source < 2 ^ 31 → IsLine line → IsAtEdge new (source + 1) remaining.Run
+begin_invariant old new source left line number p none b few t =
+    begun_invariant (edge_of old source left) new source remaining.Run (record { text = line; number = number; notes = [] }) p.counted p.texts few t
+    (begin_edge old new source left line number p none b t) tt
+
+-- one begins that is taken at once, and kept
+abbrev with_line : Line → Machine → Machine
+with_line line m = record m { actions = record m.actions { line = line } }
+
+kept_takes : (old new kept : Machine) (taken : Line) (line : List ℕ) (number : ℕ) → Takes taken line number old new → kept ≡ with_line taken new
+    → Takes taken line number old kept
+kept_takes old new kept taken line number t e =
+    let same : Takes taken line number old (with_line taken new) = record { output = t.output; idle = t.idle; short = t.short; outcome = t.outcome } in
+    subst (Takes taken line number old) (sym e) same
+
+pub keep_edge : (old new kept : Machine) (source : ℕ) (left : Remaining) (taken : Line) (line : List ℕ) (number : ℕ) → IsAtEdge old source left
+    → (edge_of old source left).to_come ≡ None → Takes taken line number old new → kept ≡ with_line taken new → IsLine line
+    → edge_of kept (source + 1) remaining.Line ≡ run_begun (edge_of old source left) (record { text = line; number = number; notes = [] })
+keep_edge old new kept source left taken line number p none t e l =
+    let s : SourceLine = record { text = line; number = number; notes = [] } in
+    let q = at_nothing old source left p none in
+    subst (λ (r : Remaining). edge_of kept (source + 1) remaining.Line ≡ run_begun (edge_of old source r) s) (sym (nothing_left old source left none))
+    (kept_line old kept source taken s q.idle (kept_takes old new kept taken line number t e) (ap (λ (m : Machine). m.actions.line) e) q.texts l)
+
+pub keep_invariant : (old new kept : Machine) (source : ℕ) (left : Remaining) (taken : Line) (line : List ℕ) (number : ℕ) → IsAtEdge old source left
+    → (edge_of old source left).to_come ≡ None → Takes taken line number old new → kept ≡ with_line taken new → source < 2 ^ 31 → IsLine line
+    → IsAtEdge kept (source + 1) remaining.Line
+keep_invariant old new kept source left taken line number p none t e few l =
+    begun_invariant (edge_of old source left) kept source remaining.Line (record { text = line; number = number; notes = [] }) p.counted p.texts few l
+    (keep_edge old new kept source left taken line number p none t e l) (kept_takes old new kept taken line number t e).idle
+
+-- one begins that is taken at once, and lent, if there is one
+pub none_begins : (old new : Machine) (result : Option Taken) (line : List ℕ) (number : ℕ) → is_some result ≡ false
+    → BeginsOrTakes result line number old new → Begins line number old new
+none_begins old new None line number e b = b
+none_begins old new (Some taken) line number e b = absurd (cc)
+
+pub none_takes : (result : Option Taken) (line : SourceLine) (old new : Edge) → is_some result ≡ false → new ≡ run_begun old line
+    → TakesSource (option_map line_view result) line old new
+none_takes None line old new e b = b
+none_takes (Some taken) line old new e b = absurd (cc)
+
+pub lend_takes : (old new : Machine) (source : ℕ) (left : Remaining) (result : Option Taken) (line : List ℕ) (number : ℕ) → IsAtEdge old source left
+    → (edge_of old source left).to_come ≡ None → is_some result ≡ true → BeginsOrTakes result line number old new → IsLine line
+    → TakesSource (option_map line_view result) (record { text = line; number = number; notes = [] }) (edge_of old source left)
+    (edge_of new (source + 1) left)
+lend_takes old new source left None line number p none e t l = absurd (cc)
+lend_takes old new source left (Some taken) line number p none e t l =
+    let s : SourceLine = record { text = line; number = number; notes = [] } in
+    let q = at_nothing old source left p none in
+    let view = line_view taken in
+    let left_so = sym (nothing_left old source left none) in
+    subst (λ (r : Remaining). TakesSource (Some view) s (edge_of old source r) (edge_of new (source + 1) r)) left_so
+    (gives_alone old new source view s q.idle t q.texts l, line_is_done old new source view s q.idle t q.texts l)
+
+pub lend_text : (old new : Machine) (source : ℕ) (left : Remaining) (result : Option Taken) (line : List ℕ) (number : ℕ) → IsAtEdge old source left
+    → (edge_of old source left).to_come ≡ None → is_some result ≡ true → BeginsOrTakes result line number old new → IsLine line
+    → IfSome result (λ taken. IsLine taken.text.now)
+lend_text old new source left None line number p none e t l = absurd (cc)
+lend_text old new source left (Some taken) line number p none e t l =
+    let s : SourceLine = record { text = line; number = number; notes = [] } in
+    let alone = (lend_takes old new source left (Some taken) line number p none e t l).0 in
+    let given = line_texts (edge_of old source left) s p.texts l in
+    taken_line true (line_view taken) (takes (line_view taken) ∷ []) (subst AreGiven alone given.out) refl refl
+
+pub lend_invariant : (old new : Machine) (source : ℕ) (left : Remaining) (result : Option Taken) (line : List ℕ) (number : ℕ) → IsAtEdge old source left
+    → (edge_of old source left).to_come ≡ None → is_some result ≡ true → BeginsOrTakes result line number old new → source < 2 ^ 31 → IsLine line
+    → IsAtEdge new (source + 1) left
+unfolding AreGiven
+lend_invariant old new source left None line number p none e t few l = absurd (cc)
+lend_invariant old new source left (Some taken) line number p none e t few l =
+    let s : SourceLine = record { text = line; number = number; notes = [] } in
+    let before = edge_of old source left in
+    let same = sym (lend_takes old new source left (Some taken) line number p none e t l).1 in
+    let c = begun_counted before s p.counted few l.bounded in
+    let counted : IsCounted (line_done before s) = record { source = c.source; taken = c.taken; skipped = c.skipped } in
+    record {
+      idle = subst (λ (r : Remaining). IsIdleAs r new) (sym (nothing_left old source left none)) t.idle;
+      counted = subst IsCounted same counted;
+      texts = subst (λ (x : Edge). HoldsTexts x.memory) same (line_texts before s p.texts l).memory;
+      given = subst (λ (x : Edge). AreGiven (given_of x)) same tt;
     }
 
 -- after the line that was taken at once

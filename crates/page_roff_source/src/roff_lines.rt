@@ -1,19 +1,20 @@
 //! The source lines of a page, run one after another.
 
-ghost use Rattle.std.specs.Prelude.{◌≡◌, ◌≤◌, ◌<◌, ◌^◌, ⊤, [], length, IfOk, IfSome, None, option_map};
+ghost use Rattle.std.specs.Prelude.{◌≡◌, ◌≤◌, ◌<◌, ◌^◌, ⊤, true, [], length, IfOk, IfSome, None, option_map};
 ghost use mathlib.Core.Option.{none};
 ghost use Rattle.std.specs.Borrow.{sem, follows_so};
 ghost use Rattle.page_core_base.specs.LinesTaken.{line_view};
 ghost use Rattle.page_core_base.specs.Texts.{IsLine};
 ghost use Rattle.page_core_base.specs.declared.limits.TheConstants.{LINE};
 ghost use Rattle.page_core_base.specs.Latches.{Came};
+ghost use Rattle.page_roff_effects.specs.machine.FreeLines.{lacks_backslash};
 ghost use Rattle.page_roff_machine.specs.Giving.{notes_before, next_line};
 ghost use Rattle.page_roff_source.specs.Caps.{RoffFits, RunsWithin};
 ghost use Rattle.page_roff_source.specs.Edges.{first_edge, end_notes, counts_of};
 ghost use Rattle.page_roff_source.specs.Taken.{given_of, line_taken, is_idle};
-ghost use Rattle.page_roff_source.specs.machine.Taking.{run_begun};
+ghost use Rattle.page_roff_source.specs.machine.Taking.{run_begun, TakesSource};
 ghost use Rattle.page_roff_source.specs.Parts.{edge_at, part_of};
-ghost use Rattle.page_roff_source.specs.machine.RoffLines.{RunsOn, begun_as, run_if};
+ghost use Rattle.page_roff_source.specs.machine.RoffLines.{RunsOn, run_if};
 
 use crate::counts::Counts;
 use crate::parts::RoffPart;
@@ -33,17 +34,6 @@ pub(crate) enum Remaining {
     End,
     /// What the machine runs.
     Run,
-}
-
-// What remains of a source line that was taken at once, or not.
-fn begun_as(is_taken: bool) -> Remaining
-    ensures { result ≡ begun_as is_taken }
-{
-    if is_taken {
-        Remaining::Line
-    } else {
-        Remaining::Run
-    }
 }
 
 // What remains after the machine ran on up to a line, or up to the end.
@@ -132,7 +122,32 @@ impl RoffLines {
         ensures { self.new.edge ≡ run_begun self.old.edge (record { text = line.now; number = number; notes = [] }) }
     {
         self.source += 1;
-        self.remaining = begun_as(self.machine.begin(line, number));
+        match self.machine.begin(line, number, false) {
+            Some(taken) => {
+                self.machine.keep(taken);
+                self.remaining = Remaining::Line;
+            }
+            None => self.remaining = Remaining::Run,
+        }
+    }
+
+    /// A source line begins as by [`RoffLines::source`], which may be known to have no backslash. Where all that it gives is itself, as it is
+    /// written, it is lent, and is done.
+    pub fn take_source<'l>(&mut self, line: &'l [u8], number: u32, plain: bool) -> Option<Taken<'l>>
+        requires idle { self.old.edge.to_come ≡ None }
+        requires line { IsLine line.now }
+        requires plain { plain ≡ true → lacks_backslash line.now ≡ true }
+        requires count { self.old.edge.source < 2 ^ 31 }
+        ensures takes { TakesSource (option_map line_view result) (record { text = line.now; number = number; notes = [] })
+            self.old.edge self.new.edge }
+        ensures text { IfSome result (λ taken. IsLine taken.text.now) }
+    {
+        self.source += 1;
+        let taken = self.machine.begin(line, number, plain);
+        if taken.is_none() {
+            self.remaining = Remaining::Run;
+        }
+        taken
     }
 
     /// Runs on up to the next finished line; whether there is one.

@@ -1,9 +1,9 @@
 -- What the code's object holds, and what its calls do, in terms of the effects of parts. Trust needs no reading of it.
 -- Source: roff(7), "LANGUAGE SYNTAX".
 use Rattle.std.specs.Prelude.{◌≡◌, ℕ, ◌≤◌, nat_le, Bool, true, List, [], ◌∷◌, length, Option, None, if◌then◌else◌, unwrap_or}
-use Rattle.page_core_base.specs.Limits.{ARGS, BODY}
+use Rattle.page_core_base.specs.Limits.{ARGS, BODY, LINE}
 use Rattle.page_core_base.specs.Messages.{Message}
-use Rattle.page_core_base.specs.LinesTaken.{Line}
+use Rattle.page_core_base.specs.LinesTaken.{Line, line_view}
 use Rattle.page_core_base.specs.declared.lines_taken.Form.{Form}
 use Rattle.page_core_base.specs.declared.lines_taken.Form.TheVariants.{Text, Blank}
 use Rattle.page_core_base.specs.declared.page_settings.Output.{Output}
@@ -166,12 +166,12 @@ pub record IsLeft (old new : Acting) : Type 0 where
   pub setting : new.setting ≡ old.setting
   pub memory : new.memory ≡ old.memory
 
--- a raw line that is one part was taken without a message, whether one more macro may run or not
-pub record IsTaken (old : Acting) (raw : List ℕ) (outcome : Bool → Outcome) (new : Acting) : Type 0 where
+-- a raw line that is one part was taken as this line, without a message, whether one more macro may run or not
+pub record IsTaken (old : Acting) (raw : List ℕ) (outcome : Bool → Outcome) (line : Line) (new : Acting) : Type 0 where
   pub leaf : line_parts raw ≡ Leaf raw ∷ []
-  pub setting : new.setting ≡ old.setting
-  pub memory : new.memory ≡ old.memory
-  pub given : (may_call : Bool) → outcome may_call ≡ record { notes = []; product = line_product new.line; memory = old.memory }
+  pub left : IsLeft old new
+  pub short : length line.text ≤ LINE
+  pub given : (may_call : Bool) → outcome may_call ≡ record { notes = []; product = line_product line; memory = old.memory }
 
 -- it called a macro without a message, where one more may run
 pub record IsCalled (old : Acting) (raw : List ℕ) (outcome : Bool → Outcome) (new : Acting) : Type 0 where
@@ -183,7 +183,7 @@ pub record IsCalled (old : Acting) (raw : List ℕ) (outcome : Bool → Outcome)
 -- what came of a raw line at once
 abbrev pub TakesIf : AtOnce → Acting → List ℕ → (Bool → Outcome) → Acting → Type 0
 TakesIf ways.Nothing old raw outcome new = IsLeft old new
-TakesIf ways.Line old raw outcome new = IsTaken old raw outcome new
+TakesIf (ways.Line taken) old raw outcome new = IsTaken old raw outcome (line_view taken) new
 TakesIf ways.Call old raw outcome new = IsCalled old raw outcome new
 
 -- the call of the macro of a name, with the arguments in the rest of its line, has no message
@@ -196,7 +196,7 @@ pub record IsQuiet (name rest : List ℕ) (column : ℕ) (m : Memory) (call : Ca
 -- it was called, if that has no message
 abbrev pub CallsIf : AtOnce → List ℕ → List ℕ → ℕ → Acting → Acting → Type 0
 CallsIf ways.Nothing name rest column old new = IsLeft old new
-CallsIf ways.Line name rest column old new = ⊥
+CallsIf (ways.Line taken) name rest column old new = ⊥
 CallsIf ways.Call name rest column old new = IsLeft old new × IsQuiet name rest column old.memory new.call
 
 -- an object between two lines remembers this

@@ -1,5 +1,6 @@
 -- A source line that is taken at once, as the code does it. Trust needs no reading of it. Source: roff(7), "LANGUAGE SYNTAX" and "MACRO SYNTAX".
 use Rattle.std.specs.Prelude.{◌≡◌, ◌⊎◌, ℕ, true, false, List, [], None}
+use Rattle.page_core_base.specs.LinesTaken.{Line, line_view}
 use Rattle.page_roff_blocks.specs.machine.Counting.{begun}
 use Rattle.page_roff_effects.specs.declared.at_once.AtOnce.{AtOnce}
 use Rattle.page_roff_effects.specs.declared.at_once.AtOnce.TheVariants as ways
@@ -18,13 +19,13 @@ pub record IsOutside (s : Stack) : Type 0 where
   pub loop : s.top.cursor.levels.in_loop ≡ false
   pub skipped : s.top.cursor.levels.skipped ≡ 0
 
--- a line was taken at once: the stack stays
-pub record TakesAtOnce (line : List ℕ) (number : ℕ) (old new : Runner) : Type 0 where
+-- a line was taken at once, as this one: the stack stays
+pub record TakesAtOnce (taken : Line) (line : List ℕ) (number : ℕ) (old new : Runner) : Type 0 where
   pub outside : IsOutside old.stack
   pub stack : new.stack ≡ old.stack
   pub budget : new.doing.budget ≡ begun old.doing.budget
-  pub taken : let a = with_number number old.doing.actions in
-      IsTaken a line (λ may_call. leaf_outcome (measured a.setting) may_call line a.memory) new.doing.actions
+  pub actions : let a = with_number number old.doing.actions in
+      IsTaken a line (λ may_call. leaf_outcome (measured a.setting) may_call line a.memory) taken new.doing.actions
 
 -- the page went past a line that is one part
 abbrev pub page_after : Runner → Runner
@@ -53,5 +54,5 @@ pub record Keeps (number : ℕ) (old new : Runner) : Type 0 where
 
 abbrev pub TakesAtOnceIf : AtOnce → List ℕ → ℕ → Runner → Runner → Type 0
 TakesAtOnceIf ways.Nothing line number old new = Keeps number old new
-TakesAtOnceIf ways.Line line number old new = TakesAtOnce line number old new
+TakesAtOnceIf (ways.Line taken) line number old new = TakesAtOnce (line_view taken) line number old new
 TakesAtOnceIf ways.Call line number old new = CallsAtOnce line number old new

@@ -1,13 +1,14 @@
 -- The machine that runs a source line, as the code makes its steps: what is still to come of the line. Trust needs no reading of it.
 -- Source: roff(7), "LANGUAGE SYNTAX"; mandoc(1), "DIAGNOSTICS".
-use Rattle.std.specs.Prelude.{◌≡◌, ℕ, Bool, true, false, List, [], ◌∷◌, Option, Some, None}
-use Rattle.page_core_base.specs.LinesTaken.{Line}
+use Rattle.std.specs.Prelude.{◌≡◌, ◌≤◌, ℕ, length, Bool, true, false, List, [], ◌∷◌, Option, Some, None}
+use Rattle.page_core_base.specs.LinesTaken.{Line, line_view}
+use Rattle.page_core_base.specs.declared.lines_taken.Taken.{Taken}
 use Rattle.page_core_base.specs.Messages.{Message}
 use Rattle.page_core_base.specs.declared.page_settings.Output.{Output}
 use Rattle.page_roff_blocks.specs.Levels.{Place}
 use Rattle.page_roff_blocks.specs.Run.{At}
 use Rattle.page_core_base.specs.Latches.{Came}
-use Rattle.page_core_base.specs.Limits.{REREAD}
+use Rattle.page_core_base.specs.Limits.{LINE, REREAD}
 use Rattle.page_roff_blocks.specs.Languages.{Language, run_page}
 use Rattle.page_roff_blocks.specs.machine.Machine.{Running, rest_of}
 use Rattle.page_roff_blocks.specs.Budgets.{Budgeted, language}
@@ -93,15 +94,16 @@ pub record Begins (line : List ℕ) (number : ℕ) (old new : Machine) : Type 0 
 abbrev pub stands_after : List Given → Machine → At (Budgeted State)
 stands_after given m = record { place = place_of m; state = (running_of given m).state }
 
--- all of a line of the page was taken at once: that line is all that it gives, and it is done
-pub record Takes (line : List ℕ) (number : ℕ) (old new : Machine) : Type 0 where
+-- all of a line of the page was taken at once, as this line: that is all that it gives, and it is done
+pub record Takes (taken : Line) (line : List ℕ) (number : ℕ) (old new : Machine) : Type 0 where
   pub output : output_of new ≡ output_of old
   pub idle : is_idle new ≡ true
-  pub outcome : stands_after (takes new.actions.line ∷ []) new ≡ run_page (language_of old) (line ∷ []) (begun_at number old)
+  pub short : length taken.text ≤ LINE
+  pub outcome : stands_after (takes taken ∷ []) new ≡ run_page (language_of old) (line ∷ []) (begun_at number old)
 
-abbrev pub BeginsOrTakes : Bool → List ℕ → ℕ → Machine → Machine → Type 0
-BeginsOrTakes true line number old new = Takes line number old new
-BeginsOrTakes false line number old new = Begins line number old new
+abbrev pub BeginsOrTakes : Option Taken → List ℕ → ℕ → Machine → Machine → Type 0
+BeginsOrTakes (Some taken) line number old new = Takes (line_view taken) line number old new
+BeginsOrTakes None line number old new = Begins line number old new
 
 -- ---- running on
 

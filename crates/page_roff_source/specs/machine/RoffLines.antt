@@ -22,11 +22,6 @@ given_by remaining.Line m = Some (takes m.actions.line ∷ [])
 given_by remaining.End m = Some []
 given_by remaining.Run m = Some (to_come m)
 
--- a line was taken at once, or it is run
-abbrev pub begun_as : Bool → Remaining
-begun_as true = remaining.Line
-begun_as false = remaining.Run
-
 -- the machine ran on up to a line, or up to the end
 abbrev pub run_if : Bool → Remaining
 run_if true = remaining.Run

@@ -1,6 +1,6 @@
 -- A machine: one source line at a time, with a budget of its own. That the lines of a page give what the forest of all of them gives is the law
 -- `forest_law`; trust needs no reading of it. Source: roff(7), "LANGUAGE SYNTAX".
-use Rattle.std.specs.Prelude.{ℕ, ◌+◌, false, List, [], ◌∷◌, Option, Some, None}
+use Rattle.std.specs.Prelude.{◌≡◌, ℕ, ◌+◌, false, List, [], ◌∷◌, Option, Some, None}
 use Rattle.page_core_base.specs.LinesTaken.{Line}
 use Rattle.page_roff_blocks.specs.Run.{At}
 use Rattle.page_roff_values.specs.Values.{units_of}
@@ -8,7 +8,7 @@ use Rattle.page_roff_blocks.specs.Budgets.{Budgeted, language}
 use Rattle.page_roff_blocks.specs.Languages.{run_page}
 use Rattle.page_core_base.specs.Limits.{REREAD}
 use Rattle.page_roff_effects.specs.Effects.{effects}
-use Rattle.page_roff_effects.specs.States.{State, Given, numbered}
+use Rattle.page_roff_effects.specs.States.{State, Given, numbered, takes}
 use Rattle.page_roff_source.specs.Edges.{Edge, SourceLine}
 
 -- The lines of a page as they run: what decides the rest; the finished line that was given last; and the body with the arguments of each
@@ -56,3 +56,8 @@ run_begun e line = left_at e (run_line e line) (Some (line_given e line))
 -- all that it gives was given
 abbrev pub line_done : Edge → SourceLine → Edge
 line_done e line = left_at e (run_line e line) None
+
+-- a line begins; or it gives itself alone, as this line, and that was given
+abbrev pub TakesSource : Option Line → SourceLine → Edge → Edge → Type 0
+TakesSource None line old new = new ≡ run_begun old line
+TakesSource (Some taken) line old new = (line_given old line ≡ takes taken ∷ []) × (new ≡ line_done old line)

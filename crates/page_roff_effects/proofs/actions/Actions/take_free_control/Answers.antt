@@ -12,8 +12,8 @@ overflow_cast-name_end c =
     let w = named_within c.args.raw.now c.args.name.now c.requires.named in
     record { fits = omega (arith, w, c.white_len.ensures.value, c.requires.short) }
 
-pub overflow_cast-name_end-2 : goal.overflow_cast-name_end-2
-overflow_cast-name_end-2 c =
+pub overflow_cast-result : goal.overflow_cast-result
+overflow_cast-result c =
     let w = named_within c.args.raw.now c.args.name.now c.requires.named in
     record { fits = omega (arith, w, c.white_len.ensures.value, c.requires.short) }
 
@@ -69,9 +69,9 @@ returns c =
     let some : (length name == 0) ≡ false = sym c.is_empty.ensures ∙ c.if-is_empty.false in
     let ordinary = c.is_ordinary.ensures c.if-not-is_ordinary.false in
     let pass = is_pass name old.memory.definitions (sym c.is_called.ensures.called ∙ c.if-is_called.false) ordinary in
-    rw (c.is_called.ensures.same, c.set.ensures, c.white_len.ensures.value, bytes, ← c.self.view_is) (record {
+    rw (c.is_called.ensures.same, c.white_len.ensures.value, bytes, ← c.self.view_is) (record {
       leaf = free_named raw name c.requires.free c.requires.named ordinary;
-      setting = refl;
-      memory = refl;
+      left = record { setting = refl; memory = refl };
+      short = c.requires.short;
       given = free_control (measured old.setting) raw name old.memory c.requires.free c.requires.short c.requires.named some pass;
     })

@@ -1,18 +1,19 @@
 use Rattle.std.proofs.Common.{ap, ◌∙◌}
+use Rattle.page_core_base.specs.LinesTaken.{line_view}
 use Rattle.page_roff_effects.specs.machine.Acting.{with_number}
 use Rattle.page_roff_machine.proofs.AtOnceLemmas.{takes_line, taken_sound, calls_line, called_sound, kept_begins, kept_sound}
 use Rattle.page_roff_machine.proofs.machines.Machine.begin.Goals as goal
 
 pub invariant_of-self : goal.invariant_of-self
 invariant_of-self c =
-    taken_sound c.self.inside.runner c.take_at_once.new.self c.args.line.now c.args.number (rw (← c.self.view_is) at c.requires.idle)
-    c.self.invariant (rw c.in-Line.is at c.take_at_once.ensures)
+    taken_sound c.self.inside.runner c.take_at_once.new.self (line_view c.in-Line.taken) c.args.line.now c.args.number
+    (rw (← c.self.view_is) at c.requires.idle) c.self.invariant (rw c.in-Line.is at c.take_at_once.ensures)
 
 pub returns-in-Line : goal.returns-in-Line
 returns-in-Line c =
     rw (← c.self.view_is)
-    (takes_line c.self.inside.runner c.take_at_once.new.self c.args.line.now c.args.number (rw (← c.self.view_is) at c.requires.idle)
-    c.self.invariant (rw c.in-Line.is at c.take_at_once.ensures))
+    (takes_line c.self.inside.runner c.take_at_once.new.self (line_view c.in-Line.taken) c.args.line.now c.args.number
+    (rw (← c.self.view_is) at c.requires.idle) c.self.invariant (rw c.in-Line.is at c.take_at_once.ensures))
 
 pub invariant_of-self-in-Call : goal.invariant_of-self-in-Call
 invariant_of-self-in-Call c =

@@ -1,6 +1,7 @@
 use Rattle.std.proofs.Common.{[], ap, ◌∙◌}
+use Rattle.page_core_base.specs.LinesTaken.{line_view}
 use Rattle.page_roff_source.specs.machine.Taking.{LinesState, run_begun}
-use Rattle.page_roff_source.proofs.RoffLineLemmas.{none_in, few_in, begin_room, begin_edge, begin_invariant}
+use Rattle.page_roff_source.proofs.RoffLineLemmas.{none_in, few_in, begin_room, begin_edge, begin_invariant, keep_edge, keep_invariant}
 use Rattle.page_roff_source.proofs.roff_lines.RoffLines.source.Goals as goal
 
 pub begin-requires-clause-skips : goal.begin-requires-clause-skips
@@ -16,15 +17,27 @@ begin-requires-clause-count c =
 pub invariant_of-self : goal.invariant_of-self
 invariant_of-self c =
     let a = c.self.inside in
-    rw c.begun_as-self-inside.ensures
-    (begin_invariant a.machine c.begin.new.self a.source a.remaining c.begin.result c.args.line.now c.args.number c.self.invariant
-    (none_in a.machine a.source a.remaining _ c.self.view_is c.requires.idle) c.begin.ensures
-    (few_in a.machine a.source a.remaining _ c.self.view_is c.requires.count) c.requires.line)
+    keep_invariant a.machine c.begin.new.self c.keep.new.self a.source a.remaining (line_view c.in-Some.taken) c.args.line.now c.args.number
+    c.self.invariant (none_in a.machine a.source a.remaining _ c.self.view_is c.requires.idle) c.in-Some.ensures c.keep.ensures
+    (few_in a.machine a.source a.remaining _ c.self.view_is c.requires.count) c.requires.line
 
-pub returns : goal.returns
-returns c =
+pub returns-in-Some : goal.returns-in-Some
+returns-in-Some c =
     let a = c.self.inside in
-    rw c.begun_as-self-inside.ensures
-    (begin_edge a.machine c.begin.new.self a.source a.remaining c.begin.result c.args.line.now c.args.number c.self.invariant
-    (none_in a.machine a.source a.remaining _ c.self.view_is c.requires.idle) c.begin.ensures c.requires.line
-    ∙ ap (λ (r : LinesState). run_begun r.edge (record { text = c.args.line.now; number = c.args.number; notes = [] })) c.self.view_is)
+    keep_edge a.machine c.begin.new.self c.keep.new.self a.source a.remaining (line_view c.in-Some.taken) c.args.line.now c.args.number
+    c.self.invariant (none_in a.machine a.source a.remaining _ c.self.view_is c.requires.idle) c.in-Some.ensures c.keep.ensures c.requires.line
+    ∙ ap (λ (r : LinesState). run_begun r.edge (record { text = c.args.line.now; number = c.args.number; notes = [] })) c.self.view_is
+
+pub invariant_of-self-in-None : goal.invariant_of-self-in-None
+invariant_of-self-in-None c =
+    let a = c.self.inside in
+    begin_invariant a.machine c.begin.new.self a.source a.remaining c.args.line.now c.args.number c.self.invariant
+    (none_in a.machine a.source a.remaining _ c.self.view_is c.requires.idle) c.in-None.ensures
+    (few_in a.machine a.source a.remaining _ c.self.view_is c.requires.count) c.requires.line
+
+pub returns-in-None : goal.returns-in-None
+returns-in-None c =
+    let a = c.self.inside in
+    begin_edge a.machine c.begin.new.self a.source a.remaining c.args.line.now c.args.number c.self.invariant
+    (none_in a.machine a.source a.remaining _ c.self.view_is c.requires.idle) c.in-None.ensures c.requires.line
+    ∙ ap (λ (r : LinesState). run_begun r.edge (record { text = c.args.line.now; number = c.args.number; notes = [] })) c.self.view_is
