@@ -5,6 +5,7 @@ ghost use Rattle.page_core_base.specs.Fails.{FailsBySink};
 ghost use Rattle.page_core_base.specs.Laid.{Gets};
 ghost use Rattle.page_core_base.specs.Texts.{IsLine};
 ghost use Rattle.page_roff_lines.specs.Cutting.{line_of};
+ghost use Rattle.page_roff_lines.specs.machine.Scan.{lacks_backslash};
 ghost use Rattle.page_roff_source.specs.Edges.{counts_of};
 ghost use Rattle.page_fill.specs.declared.edges.Edge.{Edge as FillEdge};
 ghost use Rattle.page_engine.specs.machine.Layers.{IsAt};
@@ -140,16 +141,18 @@ impl Layers {
         })
     }
 
-    /// Takes a line, and gives what it settles. After a fault, which is one of a sink, the layers are not to be
-    /// used again.
+    /// Takes a line, which may be known to have no backslash, and gives what it settles. After a fault, which is one of a sink, the layers are not
+    /// to be used again.
     pub(crate) fn feed<R: RowSink, N: NoteSink>(
         &mut self,
         text: &[u8],
         number: u32,
+        plain: bool,
         rows: &mut R,
         notes: &mut N,
     ) -> Result<(), Fault>
         requires line { IsLine text.now }
+        requires plain { plain ≡ true → lacks_backslash text.now ≡ true }
         requires count { self.old.lines.roff.source < 2 ^ 31 }
         ensures gets { (e : Edge) → IsAt self.old e →
             Gets result R.gave R.within N.gave N.within rows.old rows.new notes.old notes.new
@@ -164,7 +167,7 @@ impl Layers {
         ensures notes_same { N.loans notes.new ≡ N.loans notes.old }
     {
         let mut sink = page_sink!(self, rows, notes);
-        let result = self.lines.line(&mut sink, number, text);
+        let result = self.lines.line(&mut sink, number, text, plain);
         self.worst = sink.notes.worst;
         self.last = Some(number);
         result
@@ -197,10 +200,10 @@ impl Layers {
         ensures notes_same { N.loans notes.new ≡ N.loans notes.old }
     {
         let mut filter = level_filter!(self, &mut *notes);
-        let line = cutter.line(&mut filter);
+        let line = cutter.decoded_line(&mut filter);
         self.worst = filter.worst;
-        let (text, number) = line?;
-        self.feed(text, number, rows, notes)
+        let line = line?;
+        self.feed(line.text, line.number, line.is_plain, rows, notes)
     }
 }
 

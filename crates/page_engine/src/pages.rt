@@ -191,7 +191,7 @@ impl Page {
         ensures rows_same { R.loans rows.new ≡ R.loans rows.old }
         ensures notes_same { N.loans notes.new ≡ N.loans notes.old }
     {
-        takes_line!(self, self.layers.feed(text, number, rows, notes))
+        takes_line!(self, self.layers.feed(text, number, false, rows, notes))
     }
 }
 

@@ -106,3 +106,16 @@ pub items_after_notes : {P S : Type 0} (left : P → S → List Item → Type 0)
 items_after_notes left {a = a} front items notes came plan rest x =
     let y : left plan a (map noted front ++ (items ++ rest)) = rw (append_assoc (map noted front) items rest) at x in
     came plan rest (notes (plan, items ++ rest) [] (rw (append-nil front) y))
+
+-- a source line that gives itself alone, after what is before it
+pub lent_items : {P S : Type 0} (left : P → S → List Item → Type 0) → {a b c : S} (body : BodyEdge) (given : List Given) (line : Line) (front : List Item)
+    → given ≡ takes line ∷ [] → Came left a front b → Came left b (line_items body line) c → Came left a (front ++ given_items body given) c
+unfolding given_items
+lent_items left {a = a} body given line front e before came plan rest x =
+    let y : left plan a ((front ++ (line_items body line ++ [])) ++ rest) = rw e at x in
+    let z : left plan a (front ++ (line_items body line ++ rest)) = rw (append-nil (line_items body line), append_assoc front (line_items body line) rest) at y in
+    came plan rest (before plan (line_items body line ++ rest) z)
+
+pub lent_after : (body : BodyEdge) (given : List Given) (line : Line) → given ≡ takes line ∷ [] → body_after body given ≡ line_after body line
+unfolding body_after
+lent_after body given line e = rw e refl

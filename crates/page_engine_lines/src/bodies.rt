@@ -297,6 +297,7 @@ impl Body {
     }
 
     /// Gives the pieces and messages of a finished line, and keeps what it leaves.
+    #[inline(always)]
     pub fn give_line<S: MacroSet, O: PieceOut>(&mut self, set: &S, taken: Taken<'_>, out: &mut O)
         requires { length taken.text.now ≤ LINE }
         ensures { GivesEvents O.left (S.table set.now (line_view taken.entry))

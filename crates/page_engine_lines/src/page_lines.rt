@@ -1,18 +1,19 @@
 //! The layers of a page that make pieces of its source lines: roff, and the macros.
 
-ghost use Rattle.std.specs.Prelude.{◌≡◌, ◌<◌, ◌^◌, IfOk, IfErr};
+ghost use Rattle.std.specs.Prelude.{◌≡◌, ◌<◌, ◌^◌, true, IfOk, IfErr};
 ghost use Rattle.page_core_base.specs.Texts.{IsLine};
 ghost use Rattle.page_core_base.specs.Latches.{Came, Emits};
+ghost use Rattle.page_roff_effects.specs.machine.FreeLines.{lacks_backslash};
 ghost use Rattle.page_roff_source.specs.Caps.{RoffFits};
 ghost use Rattle.page_roff_source.specs.Edges.{counts_of};
-ghost use Rattle.page_engine_lines.specs.Bodies.{has_title};
+ghost use Rattle.page_engine_lines.specs.Bodies.{has_title, start_of};
 ghost use Rattle.page_engine_lines.specs.Caps.{BodyFits};
 ghost use Rattle.page_engine_lines.specs.Edges as edges;
 ghost use Rattle.page_engine_lines.specs.machine.Lines as lines;
 
 use crate::Body;
 use crate::item_outs::ItemOut;
-use crate::taking::{give_taken, report_trailing};
+use crate::taking::{give_finished, give_taken, report_trailing};
 use page_core_base::{Fault, PieceLatch, PieceOut, PieceSink, Settings};
 use page_engine_header::Fields;
 use page_roff_source::{Counts, RoffLines, RoffPart};
@@ -23,7 +24,8 @@ use std::marker::Model;
 #[derive(Drop)]
 pub struct PageLines {
     roff: RoffLines,
-    body: Body,
+    // in memory of its own, so that little is copied when a page is made
+    body: Box<Body>,
 }
 
 impl Model for PageLines {
@@ -32,7 +34,7 @@ impl Model for PageLines {
 
     ghost Value = { LinesEdge };
 
-    ghost view = { λ l. record { roff = l.roff.edge; body = l.body } };
+    ghost view = { λ l. record { roff = l.roff.edge; body = l.body.value } };
 
     ghost invariant = { λ l. l.roff.edge.to_come ≡ None };
 }
@@ -53,13 +55,22 @@ impl Model for LinesPart {
     ghost view = { λ p. record { roff = edge_at p.body.header.measure.output p.roff; body = p.body } };
 }
 
+// The body of a page that begins, in memory of its own. It is a call, so that what comes after it reuses the stack pages that it touched.
+#[inline(never)]
+fn boxed_body(alloc: Global, settings: &Settings) -> Result<Box<Body>, AllocError>
+    ensures { IfOk result (λ body. body.value ≡ start_of settings.now) }
+{
+    let body = Box::new(alloc, Body::new(alloc, settings)?)?;
+    Ok(body)
+}
+
 impl PageLines {
     /// Between two source lines, where this is held. All memory is reserved here.
     pub fn at(alloc: Global, part: &LinesPart) -> Result<PageLines, AllocError>
         ensures { IfOk result (λ l. l ≡ part.now) }
     {
         let roff = RoffLines::at(alloc, part.body.output(), &part.roff)?;
-        let body = part.body.copy(alloc)?;
+        let body = Box::new(alloc, part.body.copy(alloc)?)?;
         Ok(PageLines { roff, body })
     }
 
@@ -80,7 +91,7 @@ impl PageLines {
         let Ok(roff) = RoffLines::new(alloc, settings.output) else {
             return Err(Fault::Memory);
         };
-        let Ok(body) = Body::new(alloc, settings) else {
+        let Ok(body) = boxed_body(alloc, settings) else {
             return Err(Fault::Memory);
         };
         Ok(PageLines { roff, body })
@@ -93,17 +104,26 @@ impl PageLines {
         self.body.has_title()
     }
 
-    // Gives a source line, and keeps what it leaves.
+    // Gives a source line, which may be known to have no backslash, and keeps what it leaves.
     #[tactic(auto, unfolding(crate::specs::machine::Lines::source_items))]
-    fn give_line<L: PieceOut>(&mut self, out: &mut ItemOut<L>, number: u32, text: &[u8])
+    fn give_line<L: PieceOut>(
+        &mut self,
+        out: &mut ItemOut<L>,
+        number: u32,
+        text: &[u8],
+        plain: bool,
+    )
         requires line { IsLine text.now }
+        requires plain { plain ≡ true → lacks_backslash text.now ≡ true }
         requires count { self.old.roff.source < 2 ^ 31 }
         ensures came { Came L.left out.old.latch (lines.source_items self.old number text.now) out.new.latch }
         ensures after { self.new ≡ lines.source_after self.old number text.now }
     {
         report_trailing(out, number, text);
-        self.roff.source(text, number);
-        give_taken(&mut self.roff, &mut self.body, out);
+        match self.roff.take_source(text, number, plain) {
+            Some(taken) => give_finished(&mut self.body, taken, out),
+            None => give_taken(&mut self.roff, &mut self.body, out),
+        }
     }
 
     // Gives what roff left open, and the end of the body.
@@ -125,9 +145,16 @@ impl PageLines {
 }
 
 impl PageLines {
-    /// Takes a source line, and gives its pieces and messages.
-    pub fn line<O: PieceSink>(&mut self, out: &mut O, number: u32, text: &[u8]) -> Result<(), Fault>
+    /// Takes a source line, which may be known to have no backslash, and gives its pieces and messages.
+    pub fn line<O: PieceSink>(
+        &mut self,
+        out: &mut O,
+        number: u32,
+        text: &[u8],
+        plain: bool,
+    ) -> Result<(), Fault>
         requires line { IsLine text.now }
+        requires plain { plain ≡ true → lacks_backslash text.now ≡ true }
         requires count { self.old.roff.source < 2 ^ 31 }
         ensures gives { Emits result O.took O.broke out.old
             (lines.source_items self.old number text.now) out.new }
@@ -137,7 +164,7 @@ impl PageLines {
         let mut items = ItemOut {
             latch: PieceLatch::new(out),
         };
-        self.give_line(&mut items, number, text);
+        self.give_line(&mut items, number, text, plain);
         items.latch.done()
     }
 

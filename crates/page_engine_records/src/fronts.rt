@@ -48,7 +48,7 @@ impl PageFront {
         ensures lines { self.new.lines ≡ source_after self.old.lines number text.now }
         ensures name { self.new.name ≡ read self.old.name (source_items self.old.lines number text.now) }
     {
-        let _ = self.lines.line(&mut self.name, number, text);
+        let _ = self.lines.line(&mut self.name, number, text, false);
     }
 
     /// Reads the line that a cutter has.

@@ -16,9 +16,9 @@ loop-taken-preserved g c =
     let p = c.loop-taken.body in
     let i = c.loop-taken.invariant in
     let s = c.in-Some.ensures in (
-      items_taken g.L.PieceOut.left p e f line c.give_finished.new.body (given_items c.args.body.now (given_of c.args.roff.now.edge))
-          c.take_into.follows.holds-at-none s.line c.give_finished.ensures.after i.0 s.came c.give_finished.ensures.came,
-      body_taken p e line c.give_finished.new.body f (body_after c.args.body.now (given_of c.args.roff.now.edge)) c.take_into.follows.holds-at-none s.line c.give_finished.ensures.after i.1,
+      items_taken g.L.PieceOut.left p e f line c.give_made.new.body (given_items c.args.body.now (given_of c.args.roff.now.edge))
+          c.take_into.follows.holds-at-none s.line c.give_made.ensures.after i.0 s.came c.give_made.ensures.came,
+      body_taken p e line c.give_made.new.body f (body_after c.args.body.now (given_of c.args.roff.now.edge)) c.take_into.follows.holds-at-none s.line c.give_made.ensures.after i.1,
       same_but_taken c.args.roff.now.edge e f c.take_into.follows.holds-at-none i.2,
     )
 
@@ -31,5 +31,5 @@ pub returns-clause-body : goal.returns-clause-body
 returns-clause-body g c =
     body_done c.loop-taken.body c.loop-taken.roff.edge (body_after c.args.body.now (given_of c.args.roff.now.edge)) c.in_default.ensures.line c.loop-taken.invariant.1
 
-pub give_finished-requires : goal.give_finished-requires
-give_finished-requires g c = c.in-Some.ensures.text.bounded
+pub give_made-requires : goal.give_made-requires
+give_made-requires g c = c.in-Some.ensures.text.bounded

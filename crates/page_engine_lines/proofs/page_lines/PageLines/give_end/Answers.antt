@@ -9,4 +9,4 @@ unfolding end_items
 returns-clause-came g c =
     let l = c.self.inside in
     rw (← c.self.view_is)
-    (items_after_notes g.L.PieceOut.left (end_notes l.roff.edge) (bodies.end_items l.body c.args.number) c.end_into.ensures.came c.give_end.ensures.came)
+    (items_after_notes g.L.PieceOut.left (end_notes l.roff.edge) (bodies.end_items l.body.value c.args.number) c.end_into.ensures.came (rw c.deref_mut.ensures.value at c.give_end.ensures.came))
