@@ -22,6 +22,9 @@ use std::alloc::{AllocError, Global};
 /// where the settings are refused by their check, where `makewhatis` has no directory, and where `whatis` has no word, or an empty one. A
 /// directory without a name is refused too: it would stand for the root of all files.
 /// Want of memory is [`Refusal::Memory`], at any words.
+///
+/// It is a call, so that what comes after it reuses the stack pages that it touched.
+#[inline(never)]
 #[tactic(auto, unfolding(crate::specs::Line::wanted))]
 pub fn command(alloc: Global, words: &[&str]) -> Result<Command, Refusal>
     ensures wanted { MatchResult result

@@ -14,6 +14,7 @@ use std::io::{BufWriter, Write};
 ///
 /// A page or a folder that can't be read is reported on `err`, and the others go on, also where that line can't be printed. An index, or
 /// records, that can't be written end it.
+#[inline(never)]
 pub fn make_indexes<R: LockedFiles, W: Write, V: Write>(
     rt: &R,
     alloc: Global,

@@ -15,6 +15,7 @@ const FOUND: u8 = 0;
 const NOT_FOUND: u8 = 1;
 
 /// Prints the rows of an index that words match, and answers the status (whatis(1), EXIT STATUS).
+#[inline(never)]
 pub fn search<R: Files, W: Write, V: Write>(
     rt: &R,
     alloc: Global,
