@@ -1,7 +1,6 @@
 //! Texts that begin with words of letters, after blanks: their first words are given at once (roff(7), "LANGUAGE SYNTAX").
 
-ghost use Rattle.std.specs.Prelude.{◌≡◌, ◌≤◌, ◌<◌, ◌+◌, ◌==◌, ◌∷◌, not, false, true, [], drop, length, take, IfSome, MatchOption};
-ghost use Rattle.std.specs.List.{list_all};
+ghost use Rattle.std.specs.Prelude.{◌≡◌, ◌≤◌, ◌<◌, ◌+◌, ◌∷◌, not, false, true, [], drop, length, take, IfSome, MatchOption};
 ghost use Rattle.page_core_base.specs.Latches.{Came, CameUpTo};
 ghost use Rattle.page_core_escapes.specs.Tokens.{begins_word};
 ghost use Rattle.page_scopes_text.specs.Parted.{words_of};

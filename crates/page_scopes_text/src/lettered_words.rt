@@ -323,7 +323,8 @@ pub(crate) fn read_words<'a>(
     (fonts, rest)
 }
 
-/// Whether there is a byte of ASCII at a place of a text: else no look is taken for words of letters there, since most words of some languages have none.
+/// Whether there is a byte of ASCII at a place of a text: else no look is taken for words of letters there, since most words of some languages have
+/// none.
 #[inline(always)]
 pub(crate) fn is_ascii_at(text: &[u8], place: usize) -> bool
     ensures { result ≡ is_ascii_at text.now place }

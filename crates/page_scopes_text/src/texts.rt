@@ -60,8 +60,8 @@ fn give_spaced<'a, O: PieceOut>(
     }
 }
 
-// Gives the words at a text's front that print themselves, with one blank before each: in rows that are filled they only move the pen's column. Where only
-// a `whole` text of roman words is to be given, it gives none of another. What is left of the text.
+// Gives the words at a text's front that print themselves, with one blank before each: in rows that are filled they only move the pen's column. Where
+// only a `whole` text of roman words is to be given, it gives none of another. What is left of the text.
 #[inline(always)]
 fn give_plain_words<'a, O: PieceOut>(
     out: &mut O,

@@ -34,7 +34,8 @@ fn free_len(text: &[u8]) -> usize
     found.trailing_zeros() as usize
 }
 
-/// How many bytes the token at a text's front has, where it prints itself, is printable ASCII, has no hyphen and is short, and the text goes on; else 0.
+/// How many bytes the token at a text's front has, where it prints itself, is printable ASCII, has no hyphen and is short, and the text goes on;
+/// else 0.
 #[inline(always)]
 pub fn part_len(quoted: bool, text: &[u8]) -> usize
     ensures within { result ≤ length text.now }

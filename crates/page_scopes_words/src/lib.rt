@@ -3,8 +3,8 @@
 //!
 //! `page_scopes_text` reads the words of a text by these, and `page_engine_header` the fields of a title. Read `specs/Words.antt` first, then
 //! `Tokens.antt` and `Pens.antt`. Widths are the columns of what a text prints, and those that an argument of a list or a display asks for
-//! (`specs/Names.antt`, `Widths.antt`). `Letters`, `part_len` and `going_len` are for the fast ways of `page_scopes_text`, and their definitions are in
-//! `specs/machine/`.
+//! (`specs/Names.antt`, `Widths.antt`). `Letters`, `part_len` and `going_len` are for the fast ways of `page_scopes_text`, and their definitions are
+//! in `specs/machine/`.
 //!
 //! Proved: `report_token`, `give_token`, `token_prints`, `fonts_after`, `give_white_cells`, and what they call: what a token reports and prints, and
 //! the fonts after it (`specs/Words.antt`, `Tokens.antt`, `Fonts.antt`). `Pen`: what is known after a token, a word and white space

@@ -44,6 +44,7 @@ fn without_blanks(ends_blank: bool, text: &[u8]) -> &[u8]
 
 /// Whether a text ends with a sentence. `ends_blank` says whether white space ends it: a blank there can be an escape's, too, and then it
 /// is the last byte of the text's last word.
+#[inline(always)]
 pub fn ends_sentence(ends_blank: bool, text: &[u8]) -> bool
     ensures { result ≡ ends_sentence ends_blank text.now }
 {

@@ -4,7 +4,7 @@ use Rattle.std.specs.List.{list_all}
 use Rattle.page_core_base.specs.Pieces.{Item}
 use Rattle.page_core_base.specs.declared.cells.Cell.{Cell}
 use Rattle.page_core_base.specs.declared.cells.Font.{Font}
-use Rattle.page_core_base.specs.declared.cells.Font.TheVariants.{R}
+use Rattle.page_core_base.specs.declared.cells.Font.TheVariants.{R, I, B, BI}
 use Rattle.page_core_base.specs.declared.places.Place.{Place}
 use Rattle.page_scopes_words.specs.machine.Letters.{GivesLetters}
 use Rattle.page_scopes_words.specs.declared.fonts.Fonts.{Fonts}
@@ -26,7 +26,9 @@ pub record GoesOn (style : TextStyle) (pen : Pen) : Type 0 where
 -- words with a blank between two are given in the roman font, and one word in any
 abbrev pub is_in_font : Font → List ℕ → Bool
 is_in_font R text = true
-is_in_font _ text = list_all (λ byte. not (byte == 32)) text
+is_in_font I text = list_all (λ byte. not (byte == 32)) text
+is_in_font B text = list_all (λ byte. not (byte == 32)) text
+is_in_font BI text = list_all (λ byte. not (byte == 32)) text
 
 -- the first word of a text prints something, and has no message
 abbrev pub PrintsFirst : Bool → Setting Fonts → List ℕ → Type 0

@@ -2,8 +2,8 @@
 use Rattle.std.specs.Prelude.{◌≡◌, ℕ, suc, ◌≤◌, ◌<◌, ◌==◌, ◌&&◌, ◌||◌, not, Bool, false, List, get_or}
 use Rattle.page_core_base.specs.Words.{hyphen, is_printable}
 
--- whether a run ends at a byte, by the one after it: a hyphen, what is not printable ASCII, a backslash, in a quoted argument a quote, or a blank before
--- a blank
+-- whether a run ends at a byte, by the one after it: a hyphen, what is not printable ASCII, a backslash, in a quoted argument a quote, or a blank
+-- before a blank
 abbrev pub ends_run : Bool → ℕ → ℕ → Bool
 ends_run quoted byte next = byte == hyphen || ((not (is_printable byte) || (byte == 92 || (quoted && byte == 34))) || (byte == 32 && next == 32))
 
