@@ -126,6 +126,7 @@ TakesWords {S} blanks text fonts taken gave s t =
 -- a piece of such a row whose characters are letters or blanks; the row does not end where a word may be parted
 abbrev pub is_kept : Piece (List ℕ) → Bool
 is_kept (Text text font place) = nat_lt 0 (length text)
+is_kept (Char c font place) = true
 is_kept Split = true
 is_kept other = false
 

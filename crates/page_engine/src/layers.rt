@@ -3,9 +3,8 @@
 ghost use Rattle.std.specs.Prelude.{◌≡◌, ◌<◌, ◌+◌, ◌^◌, true, false, OnOk, IfOk, IfErr, MatchResult, Some, None};
 ghost use Rattle.page_core_base.specs.Fails.{FailsBySink};
 ghost use Rattle.page_core_base.specs.Laid.{Gets};
-ghost use Rattle.page_core_base.specs.Texts.{IsLine};
+ghost use Rattle.page_core_base.specs.Texts.{IsLine, lacks_backslash};
 ghost use Rattle.page_roff_lines.specs.Cutting.{line_of};
-ghost use Rattle.page_roff_lines.specs.machine.Scan.{lacks_backslash};
 ghost use Rattle.page_roff_source.specs.Edges.{counts_of};
 ghost use Rattle.page_fill.specs.declared.edges.Edge.{Edge as FillEdge};
 ghost use Rattle.page_engine.specs.machine.Layers.{IsAt};

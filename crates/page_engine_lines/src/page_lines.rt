@@ -1,9 +1,8 @@
 //! The layers of a page that make pieces of its source lines: roff, and the macros.
 
 ghost use Rattle.std.specs.Prelude.{◌≡◌, ◌<◌, ◌^◌, true, IfOk, IfErr};
-ghost use Rattle.page_core_base.specs.Texts.{IsLine};
+ghost use Rattle.page_core_base.specs.Texts.{IsLine, lacks_backslash};
 ghost use Rattle.page_core_base.specs.Latches.{Came, Emits};
-ghost use Rattle.page_roff_effects.specs.machine.FreeLines.{lacks_backslash};
 ghost use Rattle.page_roff_source.specs.Caps.{RoffFits};
 ghost use Rattle.page_roff_source.specs.Edges.{counts_of};
 ghost use Rattle.page_engine_lines.specs.Bodies.{has_title, start_of};

@@ -22,7 +22,7 @@ use Rattle.page_fill_rows.proofs.PlainLemmas.{are_plain, characters_of-plain, of
 use Rattle.page_fill.specs.KeptTexts.{AreKept, goes_on, has_kept_room}
 use Rattle.page_fill.specs.machine.Fill.{Edge, laid, laid_piece, on_sheet, text}
 use Rattle.page_fill.proofs.LetteredPieces.{text-printable}
-use Rattle.page_fill.proofs.PlainWordLemmas.{text-part}
+use Rattle.page_fill.proofs.PlainWordLemmas.{character-text, text-part}
 
 -- the row with these cells
 abbrev pub with_cells : Edge → List Cell → Edge
@@ -64,6 +64,16 @@ text-kept e bytes font place kept plain goes room =
     let fits : has_part_room e.sheet (length bytes) ≡ true = grind (arith, nat_tests, goes, room) in
     ap (λ cs. text e cs font place) (characters_of-plain bytes printable) ∙ text-part e bytes font place printable some joined fits
 
+-- a character of such a row
+char-kept : (e : Edge) (c : ℕ) (font : Font) (place : Place) → are_plain (cell_of font c ∷ []) ≡ true
+    → goes_on e ≡ true → length e.sheet.cells + 1 ≤ CELLS → laid_piece e (Char c font place) ≡ nothing (on_sheet e (taken e.sheet (cell_of font c ∷ [])))
+unfolding laid_piece
+char-kept e c font place plain goes room =
+    let printable = text-printable font (c ∷ []) plain in
+    let joined : e.word.is_joined ≡ true = grind (arith, goes) in
+    let fits : has_part_room e.sheet 1 ≡ true = grind (arith, nat_tests, goes, room) in
+    character-text e c font place ∙ text-part e (c ∷ []) font place printable refl joined fits
+
 -- a piece lays its cells
 piece-kept : (e : Edge) (p : Piece (List ℕ)) → is_kept p ≡ true → are_plain (letters_of p) ≡ true → goes_on e ≡ true
     → length e.sheet.cells + length (letters_of p) ≤ CELLS → laid_piece e p ≡ nothing (with_cells e (letters_of p))
@@ -76,7 +86,7 @@ piece-kept e Split kept plain goes room =
     let joined : e.word.is_joined ≡ true = grind (arith, goes) in
     let literal : e.sheet.literal ≡ true = grind (arith, goes) in
     rw (joined, literal) refl
-piece-kept e (Char c font place) kept plain goes room = absurd (grind (arith, kept))
+piece-kept e (Char c font place) kept plain goes room = char-kept e c font place plain goes room
 piece-kept e (Glyph name font place) kept plain goes room = absurd (grind (arith, kept))
 piece-kept e (Tab font place) kept plain goes room = absurd (grind (arith, kept))
 piece-kept e (Blank count has_tab) kept plain goes room = absurd (grind (arith, kept))

@@ -17,7 +17,8 @@ use Rattle.page_roff_parts.specs.machine.Verbatim.{IsFree, may_call}
 use Rattle.page_roff_parts.proofs.VerbatimLemmas.{verbatim_free}
 use Rattle.page_roff_values.specs.machine.Verbatim.{GivesItself}
 use Rattle.page_roff_values.proofs.CopiedLemmas.{gives_itself}
-use Rattle.page_roff_effects.specs.machine.FreeLines.{IsFreeFrom, IsFreeLine, is_backslash, is_key, lacks_backslash}
+use Rattle.page_roff_effects.specs.machine.FreeLines.{IsFreeFrom, IsFreeLine, is_backslash, is_key}
+use Rattle.page_core_base.specs.Texts.{lacks_backslash}
 
 -- ---- lines without a backslash
 

@@ -5,7 +5,8 @@ ghost use Rattle.page_core_base.specs.LinesTaken.{line_view};
 ghost use Rattle.page_core_base.specs.declared.limits.TheConstants.{LINE};
 ghost use Rattle.page_roff_syntax.specs.LineForms.{form_of, name_of};
 ghost use Rattle.page_roff_effects.specs.machine.Acting.{measured, CallsIf, IsTaken, TakesIf};
-ghost use Rattle.page_roff_effects.specs.machine.FreeLines.{IsFreeLine, lacks_backslash};
+ghost use Rattle.page_roff_effects.specs.machine.FreeLines.{IsFreeLine};
+ghost use Rattle.page_core_base.specs.Texts.{lacks_backslash};
 ghost use Rattle.page_roff_effects.specs.Leaves.{leaf_outcome};
 
 use crate::actions::Actions;

@@ -14,7 +14,8 @@ use Rattle.page_roff_lines.specs.Characters.{is_printable}
 use Rattle.std.proofs.lemmas.Bool.Decides.{nat_tests}
 use Rattle.page_roff_lines.specs.declared.Mode.TheVariants.{Plain}
 use Rattle.page_roff_lines.specs.machine.Run.{ends_run}
-use Rattle.page_roff_lines.specs.machine.Scan.{is_text, lacks_backslash}
+use Rattle.page_roff_lines.specs.machine.Scan.{is_text}
+use Rattle.page_core_base.specs.Texts.{lacks_backslash}
 
 pub and_true : (a b : Bool) → (a && b) ≡ true → (a ≡ true) × (b ≡ true)
 and_true true b h = (refl, h)

@@ -8,8 +8,7 @@ ghost use Rattle.page_roff_lines.specs.Cutting.{Point, first_point, point_after,
 ghost use Rattle.page_roff_lines.specs.Whole.{whole_lines, lines_made, line_left};
 ghost use Rattle.page_core_base.specs.Sinks.{Gives};
 ghost use Rattle.page_core_base.specs.Fails.{FailsAs, Rose};
-ghost use Rattle.page_core_base.specs.Texts.{IsLine};
-ghost use Rattle.page_roff_lines.specs.machine.Scan.{lacks_backslash};
+ghost use Rattle.page_core_base.specs.Texts.{IsLine, lacks_backslash};
 
 use crate::choosing::choose;
 use crate::decoding::decode;

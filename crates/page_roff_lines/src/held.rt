@@ -3,7 +3,7 @@ ghost use Rattle.std.specs.Prelude.{◌≡◌, ◌+◌, ◌^◌, ◌<◌, ◌≤
 ghost use Rattle.std.specs.List.{list_all};
 ghost use Rattle.page_roff_lines.specs.Characters.{is_printable};
 ghost use Rattle.page_roff_lines.specs.machine.Held.{extend, shorten, nothing_held};
-ghost use Rattle.page_roff_lines.specs.machine.Scan.{lacks_backslash};
+ghost use Rattle.page_core_base.specs.Texts.{lacks_backslash};
 
 use crate::characters::is_printable;
 use crate::choosing::is_printable_ascii;
@@ -28,7 +28,7 @@ impl Model for HeldText {
     ghost use Rattle.page_core_base.specs.declared.limits.TheConstants.{LINE};
     ghost use Rattle.page_roff_lines.specs.Characters.{is_printable};
     ghost use Rattle.page_roff_lines.specs.machine.Held.{Held};
-    ghost use Rattle.page_roff_lines.specs.machine.Scan.{lacks_backslash};
+    ghost use Rattle.page_core_base.specs.Texts.{lacks_backslash};
 
     ghost Value = { Held };
 

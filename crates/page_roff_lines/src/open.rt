@@ -3,7 +3,7 @@ ghost use Rattle.std.specs.Prelude.{◌≡◌, ◌+◌, ◌-◌, ◌^◌, ◌<�
 ghost use Rattle.std.specs.List.{list_all};
 ghost use Rattle.page_roff_lines.specs.machine.Open.{pair_mode as spec_pair_mode};
 ghost use Rattle.page_roff_lines.specs.Characters.{is_printable};
-ghost use Rattle.page_roff_lines.specs.machine.Scan.{lacks_backslash};
+ghost use Rattle.page_core_base.specs.Texts.{lacks_backslash};
 
 use crate::scanning::{comment_run, fine_len, paired_run};
 use crate::{HeldText, Mark, Mode};

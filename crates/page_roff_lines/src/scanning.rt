@@ -4,7 +4,8 @@ ghost use Rattle.std.specs.List.{prefix_len, list_all};
 ghost use Rattle.std.specs.Simd.Lanes.{mask_l};
 ghost use Rattle.page_roff_lines.specs.Characters.{is_printable};
 ghost use Rattle.page_roff_lines.specs.machine.Run.{BeginsPair, IsFine, IsText, ends_run as spec_ends_run, stays as spec_stays};
-ghost use Rattle.page_roff_lines.specs.machine.Scan.{is_text as spec_is_text, is_stop, lacks_backslash};
+ghost use Rattle.page_roff_lines.specs.machine.Scan.{is_text as spec_is_text, is_stop};
+ghost use Rattle.page_core_base.specs.Texts.{lacks_backslash};
 
 use crate::Mode;
 use crate::characters::is_printable;

@@ -2,12 +2,11 @@
 
 ghost use Rattle.std.specs.Prelude.{◌≡◌, ◌+◌, ◌*◌, ◌<◌, ◌≤◌, ◌^◌, true, IfOk, length, sum_by};
 ghost use Rattle.page_core_base.specs.LinesTaken.{line_view};
-ghost use Rattle.page_core_base.specs.Texts.{IsLine};
+ghost use Rattle.page_core_base.specs.Texts.{IsLine, lacks_backslash};
 ghost use Rattle.page_core_base.specs.declared.limits.TheConstants.{ARGS, BODY, CALLS, LINE};
 ghost use Rattle.page_roff_blocks.specs.Caps.{PlaceFits};
 ghost use Rattle.page_core_base.specs.Latches.{Came};
 ghost use Rattle.page_roff_effects.specs.Caps.{MemoryFits};
-ghost use Rattle.page_roff_effects.specs.machine.FreeLines.{lacks_backslash};
 ghost use Rattle.page_roff_machine.specs.machine.Machines.{Advances, BeginsOrTakes, IsNew, Resumes, is_idle, end_memory, end_notes, place_of};
 ghost use Rattle.page_roff_machine.specs.machine.Moving.{IsPassed};
 

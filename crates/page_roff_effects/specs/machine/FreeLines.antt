@@ -1,8 +1,7 @@
 -- A fast way of the code, which no public clause cites: raw lines in which no comment, no end of a block and no interpolation begins. Trust needs
 -- no reading of it.
 -- Source: roff(7), "LANGUAGE SYNTAX" and "Escape sequences".
-use Rattle.std.specs.Prelude.{◌≡◌, ◌==◌, ◌||◌, ◌&&◌, ◌+◌, ◌<◌, ◌≤◌, ℕ, Bool, not, false, List, length, get_or}
-use Rattle.std.specs.List.{list_all}
+use Rattle.std.specs.Prelude.{◌≡◌, ◌==◌, ◌||◌, ◌&&◌, ◌+◌, ◌<◌, ◌≤◌, ℕ, Bool, false, List, length, get_or}
 
 -- a backslash (92)
 abbrev pub is_backslash : ℕ → Bool
@@ -23,7 +22,3 @@ IsFreeFrom at n line = (k : ℕ) → at ≤ k → k < at + n → key_at line k �
 -- nowhere in a line
 abbrev pub IsFreeLine : List ℕ → Type 0
 IsFreeLine line = (k : ℕ) → k + 1 < length line → key_at line k ≡ false
-
--- a line without a backslash, which is one of these
-abbrev pub lacks_backslash : List ℕ → Bool
-lacks_backslash line = list_all (λ byte. not (is_backslash byte)) line

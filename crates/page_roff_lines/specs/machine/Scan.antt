@@ -1,6 +1,5 @@
 -- A fast way of the code, which no public clause cites: text, bytes that stand for themselves in each encoding. Trust needs no reading of it.
-use Rattle.std.specs.Prelude.{ℕ, Bool, not, ◌==◌, ◌&&◌, List}
-use Rattle.std.specs.List.{list_all}
+use Rattle.std.specs.Prelude.{ℕ, Bool, not, ◌==◌, ◌&&◌}
 use Rattle.page_roff_lines.specs.Bytes.{backslash}
 use Rattle.page_roff_lines.specs.Characters.{is_printable}
 
@@ -10,7 +9,3 @@ is_text b = is_printable b && not (b == backslash)
 
 abbrev pub is_stop : ℕ → Bool
 is_stop b = not (is_text b)
-
--- no byte of a text is a backslash
-abbrev pub lacks_backslash : List ℕ → Bool
-lacks_backslash text = list_all (λ b. not (b == backslash)) text
