@@ -2,9 +2,9 @@
 
 use crate::pages::run_lines;
 use crate::streams::{Shows, Streams};
+use page_checks::{Cuts, Ending, FILE};
 use page_core::{Fault, Settings};
 use page_engine::{Outcome, run_page};
-use page_feeds_checks::{Cuts, Ending, FILE};
 use page_test_streams::{Fails, Store};
 use std::alloc::Global;
 

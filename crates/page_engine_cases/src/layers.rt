@@ -2,8 +2,8 @@
 //! cuts lines is made alone, and never put down.
 
 use crate::refused::Refusals;
+use page_checks::Lack;
 use page_core::{Fault, Settings};
-use page_feeds_checks::Lack;
 use page_fill::Filler;
 use page_roff::Cutter;
 use page_scopes::Scopes;

@@ -19,8 +19,8 @@ mod streams;
 mod words;
 
 use failing::Whole;
+use page_checks::{Cuts, Ending, Lack};
 use page_engine::Outcome;
-use page_feeds_checks::{Cuts, Ending, Lack};
 use page_test_streams::is_cheap;
 use pages::run_lines;
 use refused::{Case, bare_difference, refusal_difference};

@@ -3,9 +3,9 @@
 ghost use Rattle.page_core_base.specs.Texts.{IsLine};
 
 use crate::streams::Streams;
+use page_checks::{BYTES, CutFeed, Cuts, Ending, FILE, Feed, Lack, Lines, PutDown, run};
 use page_core::{Fault, Settings, TextNotes, TextRows};
 use page_engine::{Edge, Outcome, Page};
-use page_feeds_checks::{BYTES, CutFeed, Cuts, Ending, FILE, Feed, Lack, Lines, PutDown, run};
 use page_test_streams::Scarcity;
 use std::alloc::Global;
 

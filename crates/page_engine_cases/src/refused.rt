@@ -5,8 +5,8 @@ use crate::layers::layer_difference;
 use crate::pages::run_lines;
 use crate::roffs::run_roff;
 use crate::streams::{Shows, Streams};
+use page_checks::{Cuts, Ending, Lack};
 use page_core::{Fault, Settings};
-use page_feeds_checks::{Cuts, Ending, Lack};
 use page_test_streams::{Ended, Fails, Scarce, Scarcity, scarce_difference};
 use std::alloc::Global;
 

@@ -2,9 +2,9 @@
 
 ghost use Rattle.page_core_base.specs.Texts.{IsLine};
 
+use page_checks::{BYTES, CutFeed, Cuts, Ending, FILE, Feed, Lack, Lines, PutDown, run};
 use page_core::{Fault, Settings, TextNotes};
 use page_engine::Outcome;
-use page_feeds_checks::{BYTES, CutFeed, Cuts, Ending, FILE, Feed, Lack, Lines, PutDown, run};
 use page_roff::{Roff, RoffPart};
 use page_test_streams::{Fails, Scarcity, Store};
 use std::alloc::Global;

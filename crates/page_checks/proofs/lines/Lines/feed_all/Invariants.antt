@@ -1,5 +1,5 @@
 use Rattle.std.proofs.Common.{◌≡◌, ◌+◌, ◌≤◌, false, length}
-use Rattle.page_feeds_checks.proofs.lines.Lines.feed_all.Given as goal
+use Rattle.page_checks.proofs.lines.Lines.feed_all.Given as goal
 
 -- no line waits, and the part before this place came
 abbrev pub invariant-parts : goal.invariant-parts
