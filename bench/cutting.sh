@@ -8,7 +8,7 @@ room=$(mktemp -d) || exit 1
 trap 'rm -rf "$room"' EXIT
 program=$room/crates/cutting
 mkdir -p "$program/src" "$program/proofs/take_chunk" "$program/proofs/take_all"
-crates="page_core_base page_core_streams page_roff_lines"
+crates="page_core_base page_core_streams page_roff_decoding page_roff_lines"
 for crate in $crates; do
     cp -R "crates/$crate" "$room/crates/"
     grep "^$crate:" crates.txt >> "$room/crates.txt"

@@ -5,7 +5,7 @@ use Rattle.page_core_base.specs.Messages.{Message}
 use Rattle.page_core_base.specs.Rows.{LaidRow}
 use Rattle.page_core_base.specs.Sinks.{IsSink}
 use Rattle.page_core_base.specs.Laid.{Gave, nothing}
-use Rattle.page_roff_lines.specs.Decoding.{Line}
+use Rattle.page_roff_lines.specs.Lines.{Line}
 use Rattle.page_roff_lines.specs.Cutting.{Point, point_after, lines_within, next_point, point_at}
 use Rattle.page_roff_lines.specs.machine.Open.{open_after}
 use Rattle.page_roff_lines.proofs.OpenLaws.{open_after-consumed}

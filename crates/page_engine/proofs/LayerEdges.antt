@@ -6,7 +6,7 @@ use Rattle.page_core_base.specs.declared.page_settings.Output.{Output}
 use Rattle.page_fill.specs.machine.ByPiece.{laid_items}
 use Rattle.page_fill.specs.Filling.{filled}
 use Rattle.page_fill.specs.declared.edges.Edge.{Edge as FillEdge}
-use Rattle.page_roff_lines.specs.Decoding.{Line}
+use Rattle.page_roff_lines.specs.Lines.{Line}
 use Rattle.page_roff_source.specs.Edges.{Edge as RoffEdge}
 use Rattle.page_roff_source.specs.Given.{done}
 use Rattle.page_engine_lines.specs.Bodies.{BodyEdge}

@@ -1,7 +1,7 @@
 -- What lists of lines count.
 use Rattle.std.proofs.Common.{◌≡◌, ◌+◌, ◌*◌, ◌≤◌, List, length, refl, ap}
 use Rattle.std.proofs.lemmas.List.{length-map}
-use Rattle.page_roff_lines.specs.Decoding.{Line}
+use Rattle.page_roff_lines.specs.Lines.{Line}
 use Rattle.page_core_base.specs.declared.limits.TheConstants.{EXPAND, REREAD}
 use Rattle.page_roff_source.specs.Each.{EachIsWithin}
 use Rattle.page_roff_source.proofs.CountLemmas.{lines_bound, lines_expansions, each_bound}

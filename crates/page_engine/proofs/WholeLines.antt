@@ -13,7 +13,7 @@ use Rattle.page_fill.specs.Filling.{filled, row_end}
 use Rattle.page_fill.proofs.FillerLaw.{items-law}
 use Rattle.page_fill.proofs.FillingLaw.{cut-law, held-law}
 use Rattle.page_fill.proofs.HeldSheets.{fresh-held}
-use Rattle.page_roff_lines.specs.Decoding.{Line}
+use Rattle.page_roff_lines.specs.Lines.{Line}
 use Rattle.page_roff_source.specs.Edges.{SourceLine}
 use Rattle.page_engine_lines.specs.Acts.{lines_items, lines_after}
 use Rattle.page_engine_lines.specs.Edges.{LinesEdge, footer_items}

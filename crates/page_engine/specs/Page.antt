@@ -7,7 +7,7 @@ use Rattle.page_engine_lines.specs.Acts.{raw_line, lines_items, lines_after, pag
 use Rattle.page_engine_lines.specs.Edges.{footer_items}
 use Rattle.page_fill.specs.declared.edges.Edge.{Edge as FillEdge}
 use Rattle.page_fill.specs.Filling.{filled, row_end}
-use Rattle.page_roff_lines.specs.Decoding.{Line}
+use Rattle.page_roff_lines.specs.Lines.{Line}
 use Rattle.page_roff_source.specs.Edges.{SourceLine}
 pub use Rattle.page_engine.specs.Edges.{Edge, IsReached, counts_at, last_line, lines_at, moved, start}
 use Rattle.page_engine.specs.Levels.{reported, worst_of}

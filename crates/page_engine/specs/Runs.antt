@@ -6,7 +6,7 @@ use Rattle.page_core_base.specs.declared.faults.Fault.{Fault}
 use Rattle.page_core_base.specs.declared.faults.Fault.TheVariants.{Memory, Read, WriteText, WriteNotes, TooLong, Settings, Failed, Ended, BadIndex}
 use Rattle.page_core_base.specs.declared.page_settings.Settings.{Settings as PageSettings}
 use Rattle.page_core_base.specs.Laid.{Laid, nothing}
-use Rattle.page_roff_lines.specs.Decoding.{lines}
+use Rattle.page_roff_lines.specs.Lines.{lines}
 use Rattle.page_roff_lines.specs.Whole.{whole_lines, lines_made, line_left}
 use Rattle.page_core_base.specs.Checks.{IsGood, IsFirst}
 use Rattle.page_engine.specs.declared.runs.Outcome.{Outcome}

@@ -3,7 +3,7 @@
 ghost use Rattle.std.specs.Prelude.{◌≡◌, ◌≤◌, ◌+◌, ◌*◌, List, ◌++◌, length};
 ghost use Rattle.page_core_base.specs.Laid.{join};
 ghost use Rattle.page_core_base.specs.declared.page_settings.Settings.{Settings};
-ghost use Rattle.page_roff_lines.specs.Decoding.{Line};
+ghost use Rattle.page_roff_lines.specs.Lines.{Line};
 ghost use Rattle.page_roff_source.specs.Each.{EachIsWithin};
 ghost use Rattle.page_core_base.specs.declared.limits.TheConstants.{EXPAND, REREAD};
 ghost use Rattle.page_engine_lines.specs.Acts.{lines_after};

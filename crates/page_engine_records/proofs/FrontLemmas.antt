@@ -6,7 +6,7 @@ use Rattle.page_engine_lines.specs.Acts.{lines_items}
 use Rattle.page_engine_lines.specs.Edges.{LinesEdge}
 use Rattle.page_engine_lines.specs.machine.Lines.{source_after, source_items}
 use Rattle.page_engine_lines.proofs.TreeLemmas.{one_items, one_after, ending_is}
-use Rattle.page_roff_lines.specs.Decoding.{Line}
+use Rattle.page_roff_lines.specs.Lines.{Line}
 use Rattle.page_engine_records.specs.machine.Fronts.{Front, after_line, after_lines, ended, is_settled}
 use Rattle.page_engine_records.specs.PageRecords.{raw}
 use Rattle.page_engine_records.specs.machine.NameTexts.{read}

@@ -14,7 +14,7 @@ use Rattle.page_core_streams.specs.Sources.{SourceState}
 use Rattle.page_core_streams.proofs.GivenLemmas.{given_none, lean_none}
 use Rattle.page_engine_index.specs.declared.records.Record.{Record}
 use Rattle.page_roff_lines.specs.Cutting.{Point, first_point, last_line, lines_from, lines_within, point_after}
-use Rattle.page_roff_lines.specs.Decoding.{Line}
+use Rattle.page_roff_lines.specs.Lines.{Line}
 use Rattle.page_roff_lines.proofs.LineAgreement.{lines-one_by_one}
 use Rattle.page_roff_lines.proofs.PointLemmas.{lines_within-append, point_after-append}
 use Rattle.page_engine_records.specs.machine.NameTexts.{kept_of}

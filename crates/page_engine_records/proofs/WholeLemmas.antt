@@ -7,7 +7,7 @@ use Rattle.page_engine_lines.specs.Bodies.{has_title}
 use Rattle.page_engine_lines.specs.Acts.{lines_items, lines_after, ending_items, page_items}
 use Rattle.page_engine_lines.specs.Edges.{LinesEdge, start_of}
 use Rattle.page_engine_lines.proofs.TreeLemmas.{ending_is, end_items_after, lines_after-append, lines_items-append, no_items, none_after, title_after}
-use Rattle.page_roff_lines.specs.Decoding.{Line}
+use Rattle.page_roff_lines.specs.Lines.{Line}
 use Rattle.page_roff_source.specs.Edges.{Edge, SourceLine}
 use Rattle.page_roff_source.proofs.LineLemmas.{done-idle}
 use Rattle.page_engine_records.specs.machine.Fronts.{Front, after_line, after_lines, ended, front_record, is_settled, start}

@@ -6,7 +6,7 @@ use Rattle.page_core_base.specs.declared.faults.Fault.{Fault}
 use Rattle.page_core_base.specs.Fails.{IsSinkFault}
 use Rattle.page_core_base.specs.Laid.{Laid, join, nothing}
 use Rattle.page_core_base.specs.Sinks.{IsSink}
-use Rattle.page_roff_lines.specs.Decoding.{Line}
+use Rattle.page_roff_lines.specs.Lines.{Line}
 use Rattle.page_engine.specs.machine.ByLine as by_line
 use Rattle.page_engine.specs.Page.{Edge, IsReached, settled, edge, counts_at}
 use Rattle.page_engine.specs.States.{PageState, IsOpenAt, line_fault}

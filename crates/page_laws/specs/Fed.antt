@@ -1,7 +1,7 @@
 -- What a page and its sinks are after a list of lines.
 use Rattle.std.specs.Prelude.{List, map, Result, MatchResult}
 use Rattle.page_core_base.specs.declared.faults.Fault.{Fault}
-use Rattle.page_roff_lines.specs.Decoding.{Line}
+use Rattle.page_roff_lines.specs.Lines.{Line}
 use Rattle.page_engine.specs.Page.{Edge, text_line, settled, edge}
 use Rattle.page_engine.specs.States.{PageState, IsOpenAt}
 use Rattle.page_engine.specs.Streams.{Sinks, Came, Front}

@@ -3,10 +3,10 @@ use Rattle.std.proofs.Common.{◌≡◌, ℕ, ◌-◌, ◌≤◌, Bool, true, fa
 use Rattle.std.specs.Prelude.{◌==◌}
 use Rattle.std.proofs.lemmas.List.{length-take}
 use Rattle.page_core_base.specs.declared.page_settings.Encoding.{Encoding}
+use Rattle.page_roff_decoding.specs.Limit.{line_limit, line_limit_is}
 use Rattle.page_roff_lines.specs.declared.Mode.{Mode}
 use Rattle.page_roff_lines.specs.declared.Mode.TheVariants.{Plain, Backslash, Comment, Dropped}
 use Rattle.page_roff_lines.specs.Bytes.{newline, hash}
-use Rattle.page_roff_lines.specs.Limit.{line_limit, line_limit_is}
 use Rattle.page_roff_lines.specs.machine.Held.{Held, extend, shorten}
 use Rattle.page_roff_lines.specs.machine.Open.{Open, restart, close, count_byte, put, put_plain, put_pair, put_in, without_return, newline_in, put_newline, put_byte, ends_mark, next_open}
 use Rattle.page_roff_lines.specs.Cutting.{Point, first_point, point_at, next_point, point_after, IsAfter}

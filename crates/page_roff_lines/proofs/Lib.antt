@@ -1,5 +1,4 @@
 pub mod HeldLemmas
-pub mod ScanLemmas
 pub mod OpenLaws
 pub mod ReadLemmas
 pub mod RunLemmas
@@ -7,15 +6,10 @@ pub mod Spots
 pub mod SpotReadings
 pub mod Agreement
 pub mod MarkLemmas
-pub mod CharacterLemmas
-pub mod ReportLemmas
-pub mod ChoiceLemmas
 pub mod PointLemmas
 pub mod PairLemmas
-pub mod PlainLemmas
+pub mod PlainLines
 pub mod LineAgreement
-pub mod SequenceLemmas
-pub mod FineLemmas
 pub mod HeldLaws
 pub mod WholeLemmas
 pub mod VectorLemmas

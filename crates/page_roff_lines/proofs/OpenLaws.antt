@@ -1,8 +1,9 @@
 -- The page's bytes one by one, and cut anywhere.
 use Rattle.std.proofs.Common.{◌≡◌, ℕ, ◌+◌, ◌-◌, ◌<◌, ◌≤◌, Bool, true, false, cond, List, [], ◌∷◌, ◌++◌, length, take, drop, get_or, refl, sym, ap, ◌∙◌, append_assoc, append-nil, arith}
 use Rattle.std.specs.Prelude.{◌==◌}
-use Rattle.std.proofs.lemmas.List.{take_more, take_all, length-drop}
+use Rattle.std.proofs.lemmas.List.{take_more}
 use Rattle.std.proofs.Math.Seq.{take-add}
+use Rattle.page_roff_decoding.proofs.ScanLemmas.{rest_of}
 use Rattle.page_roff_lines.specs.declared.Mode.{Mode}
 use Rattle.page_roff_lines.specs.declared.Mode.TheVariants.{Plain, Backslash, Comment, Dropped}
 use Rattle.page_roff_lines.specs.declared.Mark.{Mark}
@@ -91,10 +92,6 @@ pub whole_lines-next : (o : Open) (xs : List ℕ) (i : ℕ) → i < length xs
     → whole_lines o (take (i + 1) xs) ≡ whole_lines o (take i xs) ++ if_whole (next_open (open_after o (take i xs)) (get_or xs i 0))
 unfolding whole_lines
 whole_lines-next o xs i h = rw (take_more xs i 0 h, whole_lines-append o (take i xs) (get_or xs i 0 ∷ []), append-nil) refl
-
--- what is left of a chunk from a point on, as a program writes it
-pub rest_of : (xs : List ℕ) (i : ℕ) → take (length xs - i) (drop i xs) ≡ drop i xs
-rest_of xs i = take_all (length xs - i) (drop i xs) (omega (arith, length-drop i xs))
 
 -- a run more of a chunk
 pub run-open_after : (o p q : Open) (xs : List ℕ) (i n : ℕ) → p ≡ open_after o (take i xs) → q ≡ open_after p (take n (take (length xs - i) (drop i xs)))

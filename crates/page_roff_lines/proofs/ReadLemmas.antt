@@ -4,18 +4,18 @@ use Rattle.std.specs.Prelude.{◌==◌, not, ◌&&◌}
 use Rattle.std.specs.List.{list_all}
 use Rattle.std.proofs.Math.Seq.{take-add}
 use Rattle.std.proofs.lemmas.List.{get_or-append-add, get_or-take, length-drop, length-take-le}
+use Rattle.page_roff_decoding.specs.Characters.{is_printable}
+use Rattle.page_roff_decoding.proofs.ScanLemmas.{rest_of, all-append, and_true}
 use Rattle.page_roff_lines.specs.declared.Mode.{Mode}
 use Rattle.page_roff_lines.specs.declared.Mode.TheVariants.{Plain, Comment, Dropped}
 use Rattle.page_roff_lines.specs.declared.Mark.{Mark}
 use Rattle.page_roff_lines.specs.Bytes.{quote, hash}
-use Rattle.page_roff_lines.specs.Characters.{is_printable}
 use Rattle.page_roff_lines.specs.machine.Held.{Held, nothing_held}
 use Rattle.page_roff_lines.specs.machine.Open.{Open, open_after, restart, whole_lines}
 use Rattle.page_roff_lines.specs.machine.Run.{BeginsPair, IsRead, IsText, ends_run, is_settled, run_in, with_run}
-use Rattle.page_roff_lines.proofs.OpenLaws.{open_after-append, rest_of, whole_lines-append}
+use Rattle.page_roff_lines.proofs.OpenLaws.{open_after-append, whole_lines-append}
 use Rattle.page_roff_lines.proofs.PairLemmas.{front_two, open_after-pair, whole_lines-pair}
 use Rattle.page_roff_lines.proofs.RunLemmas.{IsRun, any, extend-extend, last_of, open_after-restart, open_after-run, st, whole_lines-restart, whole_lines-run}
-use Rattle.page_roff_lines.proofs.ScanLemmas.{all-append, and_true}
 
 pub run-read : (o : Open) (run : List ℕ) → IsRun o run → IsRead o run
 run-read o run is = record { after = λ some. open_after-run o run some is; none = whole_lines-run o run is }

@@ -1,18 +1,23 @@
 -- Text and pairs that the mask of a vector's stops finds are read at once, and printable.
-use Rattle.std.proofs.Common.{◌≡◌, ℕ, zero, suc, ◌+◌, ◌-◌, ◌*◌, ◌/◌, ◌^◌, ◌<◌, ◌≤◌, Bool, true, false, cond, List, [], ◌∷◌, map, length, take, drop, slice_index, refl, sym, ap, ◌∙◌, arith}
+use Rattle.std.proofs.Common.{◌≡◌, ℕ, zero, suc, ◌+◌, ◌-◌, ◌*◌, ◌/◌, ◌^◌, ◌<◌, ◌≤◌, Bool, true, false, cond, List, [], ◌∷◌, map, length, take, drop, slice_index, sym, ap, ◌∙◌, arith}
 use Rattle.std.specs.List.{prefix_len}
 use Rattle.std.proofs.Math.Seq.{take-add}
+use Rattle.std.proofs.lemmas.Bool.Decides.{nat_tests}
 use Rattle.std.proofs.lemmas.List.{drop-drop, drop-map, drop-take}
 use Rattle.std.proofs.lemmas.List.Sums.{prefix_len-le-length, prefix_len_passes}
 use native.Mathlib.Nat.{pow-suc, mul_comm, zero-div, div-one, div-div-eq-div-mul}
 use lib.Lanes.{mask_l}
 use lib.Count.{count_trailing_zeros}
-use Rattle.page_roff_lines.specs.Characters.{is_printable}
-use Rattle.page_roff_lines.specs.machine.Run.{BeginsPair, IsFine}
-use Rattle.page_roff_lines.specs.machine.Scan.{is_text, is_stop}
-use Rattle.page_roff_lines.proofs.OpenLaws.{rest_of}
+use Rattle.page_roff_decoding.specs.Characters.{is_printable}
+use Rattle.page_roff_decoding.specs.machine.Scan.{is_text, is_stop}
+use Rattle.page_roff_decoding.proofs.ScanLemmas.{rest_of, all-append, not-not, run_bound, run_stops, run_through, text-printable}
+use Rattle.page_roff_lines.specs.declared.Mode.TheVariants.{Plain}
+use Rattle.page_roff_lines.specs.machine.Run.{BeginsPair, IsFine, ends_run}
 use Rattle.page_roff_lines.proofs.ReadLemmas.{pair-printable, run-front, text-more, text-pair}
-use Rattle.page_roff_lines.proofs.ScanLemmas.{all-append, not-not, run_bound, run_stops, run_through, text-printable, text-run}
+
+-- text ends no run
+pub text-run : (b : ℕ) → is_text b ≡ true → ends_run Plain b ≡ false
+text-run b h = grind (arith, nat_tests)
 
 -- ---- masks
 

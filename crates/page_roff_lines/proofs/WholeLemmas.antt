@@ -10,7 +10,7 @@ use Rattle.page_roff_lines.specs.declared.Mark.{Mark}
 use Rattle.page_roff_lines.specs.declared.Mark.TheVariants.{Unread, First, Second, Absent, Present}
 use Rattle.page_roff_lines.specs.Bytes.{newline, hash}
 use Rattle.page_roff_lines.specs.machine.Open.{Open, restart, close, count_byte, put, put_plain, put_pair, pair_mode, put_in, without_return, newline_in, put_newline, put_byte, ends_mark, mark_after, next_open, end_open}
-use Rattle.page_roff_lines.specs.Decoding.{lines}
+use Rattle.page_roff_lines.specs.Lines.{lines}
 use Rattle.page_roff_lines.specs.Cutting.{Point, first_point, point_at, next_point, end_point, point_after, line_at, lines_within, last_line}
 use Rattle.page_roff_lines.specs.Whole.{letter, whole_lines, lines_made, line_left}
 use Rattle.page_roff_lines.proofs.OpenLaws.{next_open-mark}

@@ -17,14 +17,6 @@ backslash = 92
 abbrev pub quote : ℕ
 quote = 34
 
--- `?`
-abbrev pub question_mark : ℕ
-question_mark = 63
-
--- the tab
-abbrev pub tab : ℕ
-tab = 9
-
 -- `#`
 abbrev pub hash : ℕ
 hash = 35

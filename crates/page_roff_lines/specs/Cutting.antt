@@ -2,8 +2,9 @@
 use Rattle.std.specs.Prelude.{◌≡◌, ℕ, Bool, List, [], ◌∷◌, ◌++◌, if◌then◌else◌}
 use Rattle.page_core_base.specs.declared.page_settings.Encoding.{Encoding}
 use Rattle.page_core_base.specs.declared.page_settings.Encoding.TheVariants.{Utf8}
+use Rattle.page_roff_decoding.specs.Decoding.{choice_of}
 use Rattle.page_roff_lines.specs.machine.Open.{Open, first_open, next_open, end_open, is_marked, kept_of}
-use Rattle.page_roff_lines.specs.Decoding.{Line, lines, decode_line, or_else, choice_of}
+use Rattle.page_roff_lines.specs.Lines.{Line, lines, decode_line, or_else}
 
 -- what is known of a page at a point between two of its bytes: its open line,
 -- and its encoding where that is decided

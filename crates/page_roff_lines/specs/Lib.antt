@@ -1,8 +1,6 @@
 pub mod Bytes
-pub mod Characters
 pub mod Cutting
-pub mod Decoding
-pub mod Limit
+pub mod Lines
 pub mod Logical
 pub mod Physical
 pub mod Whole

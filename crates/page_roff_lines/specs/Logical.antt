@@ -2,7 +2,7 @@
 use Rattle.std.specs.Prelude.{ℕ, ◌+◌, Bool, nat_eq, nat_lt, List, [], ◌∷◌, ◌++◌, length, take, drop, map, if◌then◌else◌}
 use Rattle.std.specs.List.{starts_with}
 use Rattle.std.specs.Str.Lines.{lines as physical_lines}
-use Rattle.page_roff_lines.specs.Limit.{line_limit}
+use Rattle.page_roff_decoding.specs.Limit.{line_limit}
 use Rattle.page_roff_lines.specs.Bytes.{byte_order_mark}
 use Rattle.page_roff_lines.specs.Physical.{read}
 

@@ -1,7 +1,7 @@
 -- The lines of a page that are whole: what some of its bytes have given for good, whatever follows them.
 use Rattle.std.specs.Prelude.{ℕ, ◌-◌, List, [], ◌∷◌, ◌++◌, length, take, drop}
 use Rattle.page_core_base.specs.declared.page_settings.Encoding.{Encoding}
-use Rattle.page_roff_lines.specs.Decoding.{Line, lines}
+use Rattle.page_roff_lines.specs.Lines.{Line, lines}
 
 abbrev pub letter : ℕ
 letter = 97

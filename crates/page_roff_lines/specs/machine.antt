@@ -1,6 +1,4 @@
 -- The code's own steps and fast ways. Trust needs no reading of them.
-pub mod Fronts
 pub mod Held
 pub mod Open
 pub mod Run
-pub mod Scan

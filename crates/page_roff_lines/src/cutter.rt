@@ -3,18 +3,17 @@ ghost use Rattle.std.specs.Prelude.{◌≡◌, ℕ, List, ◌++◌, ◌+◌, ◌
 ghost use mathlib.Core.Option.{none};
 ghost use Rattle.std.specs.Borrow.{sem, follows_so};
 ghost use Rattle.page_core_base.specs.declared.page_settings.Encoding.{Encoding as AnyEncoding};
-ghost use Rattle.page_roff_lines.specs.Decoding.{lines, choice_of};
+ghost use Rattle.page_roff_decoding.specs.Decoding.{choice_of};
+ghost use Rattle.page_roff_lines.specs.Lines.{lines};
 ghost use Rattle.page_roff_lines.specs.Cutting.{Point, first_point, point_after, lines_within, last_line, lines_from};
 ghost use Rattle.page_roff_lines.specs.Whole.{whole_lines, lines_made, line_left};
 ghost use Rattle.page_core_base.specs.Sinks.{Gives};
 ghost use Rattle.page_core_base.specs.Fails.{FailsAs, Rose};
 ghost use Rattle.page_core_base.specs.Texts.{IsLine, lacks_backslash};
 
-use crate::choosing::choose;
-use crate::decoding::decode;
 use crate::open::OpenLine;
-use crate::reporting::{report, report_limit};
 use page_core_base::{BoundedText, Encoding, Fault, LINE, NoteSink};
+use page_roff_decoding::{choose, decode, report, report_limit};
 use std::alloc::Global;
 use std::marker::Model;
 

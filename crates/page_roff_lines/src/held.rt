@@ -1,13 +1,12 @@
 //! The first bytes of a text that grows and shrinks at its end.
 ghost use Rattle.std.specs.Prelude.{◌≡◌, ◌+◌, ◌^◌, ◌<◌, ◌≤◌, ◌∷◌, [], length, true, IfOk};
 ghost use Rattle.std.specs.List.{list_all};
-ghost use Rattle.page_roff_lines.specs.Characters.{is_printable};
+ghost use Rattle.page_roff_decoding.specs.Characters.{is_printable};
 ghost use Rattle.page_roff_lines.specs.machine.Held.{extend, shorten, nothing_held};
 ghost use Rattle.page_core_base.specs.Texts.{lacks_backslash};
 
-use crate::characters::is_printable;
-use crate::choosing::is_printable_ascii;
 use page_core_base::LINE;
+use page_roff_decoding::{is_printable, is_printable_ascii};
 use std::alloc::{AllocError, Global};
 use std::marker::Model;
 
@@ -26,7 +25,7 @@ impl Model for HeldText {
     ghost use Rattle.std.specs.Prelude.{◌≡◌, ◌≤◌, true, vec_len, vec_capacity};
     ghost use Rattle.std.specs.List.{list_all};
     ghost use Rattle.page_core_base.specs.declared.limits.TheConstants.{LINE};
-    ghost use Rattle.page_roff_lines.specs.Characters.{is_printable};
+    ghost use Rattle.page_roff_decoding.specs.Characters.{is_printable};
     ghost use Rattle.page_roff_lines.specs.machine.Held.{Held};
     ghost use Rattle.page_core_base.specs.Texts.{lacks_backslash};
 

@@ -1,8 +1,8 @@
 //! The open logical line of a page.
 ghost use Rattle.std.specs.Prelude.{◌≡◌, ◌+◌, ◌-◌, ◌^◌, ◌<◌, ◌≤◌, ◌∷◌, [], length, take, true, false, IfOk, if◌then◌else◌};
 ghost use Rattle.std.specs.List.{list_all};
+ghost use Rattle.page_roff_decoding.specs.Characters.{is_printable};
 ghost use Rattle.page_roff_lines.specs.machine.Open.{pair_mode as spec_pair_mode};
-ghost use Rattle.page_roff_lines.specs.Characters.{is_printable};
 ghost use Rattle.page_core_base.specs.Texts.{lacks_backslash};
 
 use crate::scanning::{comment_run, fine_len, paired_run};
@@ -513,7 +513,7 @@ impl OpenLine {
     }
 
     /// Whether the line has more bytes than are kept.
-    #[tactic(auto, using(crate::specs::Limit::line_limit_is))]
+    #[tactic(auto, using(page_roff_decoding::specs::Limit::line_limit_is))]
     pub fn is_cut(&self) -> bool
         ensures { result ≡ (kept_of self.now).cut }
     {

@@ -36,20 +36,21 @@ unfoldable pub use Rattle.page_roff_blocks.specs.LineParts.{part_of as u143, lin
 unfoldable pub use Rattle.page_roff_blocks.specs.Loops.{left_of as u145, len_of as u146, loop_text as u147, first_text as u148}
 unfoldable pub use Rattle.page_roff_blocks.specs.Parts.{written_part as u149}
 unfoldable pub use Rattle.page_roff_blocks.specs.Run.{fresh as u150, past as u151, guarded as u152, meet_as as u153, meet as u154, value as u155, keep_if as u156, read as u157, end_region as u158, pass_region as u159, pass as u160, gather as u161, leaf_if as u162, guard_if as u163, refuse_if as u164, enter_if as u165, block_by as u166, loop_by as u167, loop_if as u168, run as u169, here_at as u170, here_in as u171, here as u172, enter_loop as u173, enter_opening as u174, enter_at as u175, enter_in as u176, enter_block as u177, end_by as u178, leave_block as u179, meet_at as u180, meet_in as u181, open_region as u182, read_at as u183, run_source as u184, run_inside as u185, run_from as u186, run_lines as u187, headed as u188, each_line as u189}
-unfoldable pub use Rattle.page_roff_definitions.specs.Definitions.{outcome_of as u190}
-unfoldable pub use Rattle.page_roff_effects.specs.Commands.{command_of as u191}
-unfoldable pub use Rattle.page_roff_effects.specs.Effects.{answer_of as u192, budget_outcome as u193, block_outcome as u194, end_of_block_outcome as u195, done_by as u196, done_after as u197, tested_after as u198, effects as u199}
-unfoldable pub use Rattle.page_roff_effects.specs.Leaves.{command_outcome as u200, control_outcome as u201, leaf_outcome as u202}
-unfoldable pub use Rattle.page_roff_effects.specs.LoopLines.{loop_outcome as u203, collect_outcome as u204, close_outcome as u205}
-unfoldable pub use Rattle.page_roff_effects.specs.RegionLines.{head_outcome as u206, line_outcome as u207, end_outcome as u208, finish_outcome as u209}
-unfoldable pub use Rattle.page_roff_heads.specs.Conditions.{kind_of as u210, read_test as u211, condition_of as u212, condition_len as u213}
-unfoldable pub use Rattle.page_roff_heads.specs.Heads.{guarded_of as u214, conditional_of as u215, block_end_of as u216}
-unfoldable pub use Rattle.page_roff_heads.specs.Loops.{first_of as u217, loop_of as u218}
-unfoldable pub use Rattle.page_roff_heads.specs.Texts.{remainder_of as u219}
-unfoldable pub use Rattle.page_roff_lines.specs.Characters.{is_second as u220, sequence_length as u221, high_character as u222, character as u223, high_later_length as u224, later_length as u225, characters_after as u226}
-unfoldable pub use Rattle.page_roff_lines.specs.Cutting.{encoding_after as u227, point_at as u228, next_point as u229, end_point as u230, line_at as u231, lines_within as u232, point_after as u233}
-unfoldable pub use Rattle.page_roff_lines.specs.Decoding.{characters_within as u234, bad_notes as u235, decode_line as u236, choice_of as u237}
-unfoldable pub use Rattle.page_roff_lines.specs.Limit.{line_limit as u238}
+unfoldable pub use Rattle.page_roff_decoding.specs.Characters.{is_second as u190, sequence_length as u191, high_character as u192, character as u193, high_later_length as u194, later_length as u195, characters_after as u196}
+unfoldable pub use Rattle.page_roff_decoding.specs.Decoding.{characters_within as u197, bad_notes as u198, choice_of as u199}
+unfoldable pub use Rattle.page_roff_decoding.specs.Limit.{line_limit as u200}
+unfoldable pub use Rattle.page_roff_definitions.specs.Definitions.{outcome_of as u201}
+unfoldable pub use Rattle.page_roff_effects.specs.Commands.{command_of as u202}
+unfoldable pub use Rattle.page_roff_effects.specs.Effects.{answer_of as u203, budget_outcome as u204, block_outcome as u205, end_of_block_outcome as u206, done_by as u207, done_after as u208, tested_after as u209, effects as u210}
+unfoldable pub use Rattle.page_roff_effects.specs.Leaves.{command_outcome as u211, control_outcome as u212, leaf_outcome as u213}
+unfoldable pub use Rattle.page_roff_effects.specs.LoopLines.{loop_outcome as u214, collect_outcome as u215, close_outcome as u216}
+unfoldable pub use Rattle.page_roff_effects.specs.RegionLines.{head_outcome as u217, line_outcome as u218, end_outcome as u219, finish_outcome as u220}
+unfoldable pub use Rattle.page_roff_heads.specs.Conditions.{kind_of as u221, read_test as u222, condition_of as u223, condition_len as u224}
+unfoldable pub use Rattle.page_roff_heads.specs.Heads.{guarded_of as u225, conditional_of as u226, block_end_of as u227}
+unfoldable pub use Rattle.page_roff_heads.specs.Loops.{first_of as u228, loop_of as u229}
+unfoldable pub use Rattle.page_roff_heads.specs.Texts.{remainder_of as u230}
+unfoldable pub use Rattle.page_roff_lines.specs.Cutting.{encoding_after as u231, point_at as u232, next_point as u233, end_point as u234, line_at as u235, lines_within as u236, point_after as u237}
+unfoldable pub use Rattle.page_roff_lines.specs.Lines.{decode_line as u238}
 unfoldable pub use Rattle.page_roff_lines.specs.Logical.{join_texts as u239, logical_lines as u240}
 unfoldable pub use Rattle.page_roff_lines.specs.Physical.{read as u241, read_pair as u242}
 unfoldable pub use Rattle.page_roff_names.specs.Names.{first_passed as u243}

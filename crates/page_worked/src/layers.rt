@@ -18,7 +18,7 @@ ghost use Rattle.page_roff_blocks.specs.Forest.{source_of, ends, empty, line, le
 ghost use Rattle.page_roff_blocks.specs.declared.line_parts.Branch.TheVariants.{If};
 ghost use Rattle.page_roff_blocks.specs.declared.line_parts.Opening.TheVariants as openings;
 ghost use Rattle.page_roff_heads.specs.declared.conditions.Test.TheVariants.{Always};
-ghost use Rattle.page_roff_lines.specs.Decoding.{lines};
+ghost use Rattle.page_roff_lines.specs.Lines.{lines};
 ghost use Rattle.page_roff_syntax.specs.Arguments.{arguments};
 ghost use Rattle.page_roff_syntax.specs.declared.quotes.Quoting.TheVariants.{Bare, Closed};
 ghost use Rattle.page_worked.specs.Pages.{plain};

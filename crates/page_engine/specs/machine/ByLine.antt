@@ -9,7 +9,7 @@ use Rattle.page_fill.specs.machine.ByPiece.{laid_items}
 use Rattle.page_fill.specs.Filling.{row_end}
 use Rattle.page_fill.specs.Edges as fill
 use Rattle.page_fill.specs.declared.edges.Edge.{Edge as FillEdge}
-use Rattle.page_roff_lines.specs.Decoding.{Line}
+use Rattle.page_roff_lines.specs.Lines.{Line}
 use Rattle.page_engine.specs.Page.{Edge, last_line, lines_at, moved, of_page}
 
 -- ---- lines

@@ -6,7 +6,7 @@ use Rattle.page_engine_lines.specs.Bodies.{has_title}
 use Rattle.page_engine_index.specs.declared.records.Record.{Record}
 use Rattle.page_engine_lines.specs.Acts.{lines_items, lines_after, ending_items}
 use Rattle.page_engine_lines.specs.Edges.{LinesEdge, start_of}
-use Rattle.page_roff_lines.specs.Decoding.{Line}
+use Rattle.page_roff_lines.specs.Lines.{Line}
 use Rattle.page_engine_records.specs.machine.NameTexts.{has_ended, kept_of, read, reader_at}
 use Rattle.page_engine_records.specs.PageRecords.{raw}
 use Rattle.page_engine_records.specs.Records.{record_by}

@@ -1,7 +1,7 @@
 -- A machine: the open logical line of a page, as it is known after some of the page's bytes, and what the next byte
 -- does to it. That it gives the logical lines of the page is the law `one_by_one_law`.
 use Rattle.std.specs.Prelude.{ℕ, ◌+◌, Bool, true, false, nat_lt, ◌==◌, List, [], ◌∷◌, ◌++◌, if◌then◌else◌}
-use Rattle.page_roff_lines.specs.Limit.{line_limit}
+use Rattle.page_roff_decoding.specs.Limit.{line_limit}
 use Rattle.page_roff_lines.specs.declared.Mode.{Mode}
 use Rattle.page_roff_lines.specs.declared.Mode.TheVariants.{Plain, Backslash, Comment, Dropped}
 use Rattle.page_roff_lines.specs.declared.Mark.{Mark}

@@ -1,5 +1,5 @@
 use Rattle.std.proofs.Common.{arith}
-use Rattle.page_roff_lines.proofs.ScanLemmas.{text-lacks}
+use Rattle.page_roff_decoding.proofs.ScanLemmas.{text-lacks}
 use Rattle.page_roff_lines.proofs.VectorLemmas.{fine-text}
 use Rattle.page_roff_lines.proofs.scanning.fine_len.Goals as goal
 

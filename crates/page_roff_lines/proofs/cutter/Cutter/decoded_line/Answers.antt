@@ -1,5 +1,5 @@
 use Rattle.std.proofs.Common.{refl, ap, ◌∙◌}
-use Rattle.page_roff_lines.specs.Decoding.{decode_line}
+use Rattle.page_roff_lines.specs.Lines.{decode_line}
 use Rattle.page_roff_lines.specs.Cutting.{Point}
 use Rattle.page_roff_lines.proofs.cutter.Cutter.decoded_line.Goals as goal
 

@@ -1,10 +1,10 @@
 use Rattle.std.proofs.Common.{◌≡◌, ◌++◌, ◌-◌, take, length, min, ap, refl, sym, ◌∙◌, arith}
 use Rattle.std.proofs.lemmas.List.{take_min, length-take-le}
-use Rattle.page_roff_lines.specs.Characters.{is_printable}
-use Rattle.page_roff_lines.specs.Limit.{line_limit, line_limit_is}
+use Rattle.page_roff_decoding.specs.Characters.{is_printable}
+use Rattle.page_roff_decoding.specs.Limit.{line_limit, line_limit_is}
+use Rattle.page_roff_decoding.proofs.ScanLemmas.{all-append, all-take}
 use Rattle.page_roff_lines.specs.machine.Held.{extend}
 use Rattle.page_roff_lines.proofs.HeldLemmas.{take-append-room, if_ok}
-use Rattle.page_roff_lines.proofs.ScanLemmas.{all-append, all-take}
 use Rattle.page_roff_lines.proofs.held.HeldText.extend.Goals as goal
 use Rattle.page_roff_lines.proofs.held.HeldText.extend.Goals.{then-self, else-self}
 

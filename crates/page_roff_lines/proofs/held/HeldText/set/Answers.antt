@@ -1,9 +1,9 @@
 use Rattle.std.proofs.Common.{◌≡◌, not, take, ap, ◌∙◌}
 use Rattle.std.specs.Prelude.{◌==◌}
+use Rattle.page_roff_decoding.specs.Limit.{line_limit}
+use Rattle.page_roff_decoding.proofs.ScanLemmas.{all-take}
 use Rattle.page_roff_lines.specs.Bytes.{backslash}
-use Rattle.page_roff_lines.specs.Limit.{line_limit}
 use Rattle.page_roff_lines.specs.machine.Held.{Held, extend}
-use Rattle.page_roff_lines.proofs.ScanLemmas.{all-take}
 use Rattle.page_roff_lines.proofs.held.HeldText.set.Goals as goal
 
 pub invariant_of-self : goal.invariant_of-self

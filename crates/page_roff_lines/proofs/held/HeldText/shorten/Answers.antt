@@ -1,6 +1,6 @@
 use Rattle.std.proofs.Common.{arith}
-use Rattle.page_roff_lines.specs.Characters.{is_printable}
-use Rattle.page_roff_lines.proofs.ScanLemmas.{all-take}
+use Rattle.page_roff_decoding.specs.Characters.{is_printable}
+use Rattle.page_roff_decoding.proofs.ScanLemmas.{all-take}
 use Rattle.page_roff_lines.proofs.held.HeldText.shorten.Goals as goal
 
 pub invariant_of-self : goal.invariant_of-self

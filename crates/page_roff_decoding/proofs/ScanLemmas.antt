@@ -1,0 +1,94 @@
+-- Bytes that all pass a test, and where a vector of them first fails it.
+use Rattle.std.proofs.Common.{◌≡◌, ℕ, zero, suc, ◌+◌, ◌-◌, ◌*◌, ◌%◌, ◌^◌, ◌<◌, ◌≤◌, Bool, true, false, not, cond, eqb, List, [], ◌∷◌, ◌++◌, map, length, take, drop, Fits, w8, refl, sym, ap, ap₂, ◌∙◌, arith}
+use Rattle.std.specs.Prelude.{◌&&◌, ◌==◌}
+use Rattle.std.specs.List.{prefix_len, list_all}
+use Rattle.std.proofs.lemmas.Simd.{chunk-drop, length-chunk, leading_from_mask_l, trailing_mask_l, mask_l-mod}
+use Rattle.std.proofs.lemmas.List.{length-drop, length-map, take_all}
+use Rattle.std.proofs.lemmas.List.Folds.{prefix_len-append, list_all-append}
+use Rattle.std.proofs.lemmas.List.Sums.{prefix_len-le-length}
+use Rattle.std.proofs.lemmas.Bool.{eq-eqb, ne_eqb, agree_below, agree_below_at}
+use lib.Lanes.{chunk, mask_l, top, Each1}
+use lib.Count.{count_trailing_zeros}
+use Rattle.page_roff_decoding.specs.Characters.{is_printable}
+use Rattle.page_roff_decoding.specs.machine.Scan.{is_text}
+use Rattle.page_core_base.specs.Texts.{lacks_backslash}
+
+pub and_true : (a b : Bool) → (a && b) ≡ true → (a ≡ true) × (b ≡ true)
+and_true true b h = (refl, h)
+and_true false b h = cc
+
+-- what all of a list passes, a front of it passes
+pub all-take : (p : ℕ → Bool) (n : ℕ) (xs : List ℕ) → list_all p xs ≡ true → list_all p (take n xs) ≡ true
+all-take p zero xs h = refl
+all-take p (suc n) [] h = refl
+all-take p (suc n) (x ∷ xs) h = let both = and_true (p x) (list_all p xs) h in rw both.0 (all-take p n xs both.1)
+
+pub all-append : (p : ℕ → Bool) (xs ys : List ℕ) → list_all p xs ≡ true → list_all p ys ≡ true → list_all p (xs ++ ys) ≡ true
+all-append p xs ys h g = rw (list_all-append p xs ys, h, g) refl
+
+-- the front of a list, no longer than where it first fails a test
+front-step : (b : Bool) (q : ℕ → Bool) (x : ℕ) (xs : List ℕ) (n m : ℕ) → (b ≡ true → q x ≡ true) → suc n ≤ cond b (1 + m) 0
+    → (n ≤ m → list_all q (take n xs) ≡ true) → list_all q (take (suc n) (x ∷ xs)) ≡ true
+front-step true q x xs n m w h g = rw (w refl) (g (omega arith))
+front-step false q x xs n m w h g = absurd (omega arith)
+
+pub all-front : (p q : ℕ → Bool) → ((x : ℕ) → p x ≡ true → q x ≡ true) → (xs : List ℕ) (n : ℕ) → n ≤ prefix_len p xs → list_all q (take n xs) ≡ true
+all-front p q w xs zero h = refl
+all-front p q w [] (suc n) h = refl
+all-front p q w (x ∷ xs) (suc n) h = front-step (p x) q x xs n (prefix_len p xs) (w x) h (all-front p q w xs n)
+
+pub text-printable : (xs : List ℕ) (n : ℕ) → n ≤ prefix_len is_text xs → list_all is_printable (take n xs) ≡ true
+text-printable = all-front is_text is_printable (λ x h. (and_true (is_printable x) _ h).0)
+
+pub text-lacks : (xs : List ℕ) (n : ℕ) → n ≤ prefix_len is_text xs → lacks_backslash (take n xs) ≡ true
+text-lacks = all-front is_text (λ b. not (b == 92)) (λ x h. (and_true (is_printable x) _ h).1)
+
+-- a test of lanes, read from the top bits of what was computed lane by lane
+each_byte : (f : ℕ → ℕ) (p : ℕ → Bool) → agree_below (λ x. top 7 (f x)) p 256 ≡ true → (v : List ℕ) → Each1 (Fits w8) v → map (top 7) (map f v) ≡ map p v
+each_byte f p all [] fits = refl
+each_byte f p all (x ∷ xs) fits = ap₂ (λ a b. a ∷ b) (agree_below_at (λ y. top 7 (f y)) p 256 x all fits.0.fits) (each_byte f p all xs fits.1)
+
+pub masked : (f : ℕ → ℕ) (p : ℕ → Bool) (v z : List ℕ) → length v ≤ 64 → Each1 (Fits w8) v → z ≡ map f v → agree_below (λ x. top 7 (f x)) p 256 ≡ true
+    → mask_l (map (top 7) z) % 2 ^ 64 ≡ mask_l (map p v)
+masked f p v z short fits e all =
+    ap (λ l. mask_l l % 2 ^ 64) (ap (map (top 7)) e ∙ each_byte f p all v fits) ∙ mask_l-mod (map p v) 64 (omega (arith, length-map v p))
+
+-- what is left of a chunk from a point on, as a program writes it
+pub rest_of : (xs : List ℕ) (i : ℕ) → take (length xs - i) (drop i xs) ≡ drop i xs
+rest_of xs i = take_all (length xs - i) (drop i xs) (omega (arith, length-drop i xs))
+
+pub run_bound : (q : ℕ → Bool) (d : List ℕ) (i : ℕ) → i ≤ length d → i + prefix_len q (drop i d) ≤ length d
+run_bound q d i h = omega (arith, prefix_len-le-length q (drop i d), length-drop i d)
+
+pub not-not : (b : Bool) → b ≡ not (not b)
+not-not true = refl
+not-not false = refl
+
+none_fails : (b : Bool) (n l m : ℕ) → n ≤ l → cond (not b) (1 + n) 0 ≡ 1 + l → (n ≡ l → m ≡ 0) → cond b 1 0 + 2 * m ≡ 0
+none_fails true n l m le e ih = let no : ⊥ = omega arith in absurd no
+none_fails false n l m le e ih = let z = ih (omega arith) in omega arith
+
+-- a run of bytes that pass q, by the vectors in which none or some fail it
+module _ (p q : ℕ → Bool) (opposite : (x : ℕ) → q x ≡ not (p x)) where
+  same_run : (xs : List ℕ) → prefix_len q xs ≡ prefix_len (λ x. not (p x)) xs
+  same_run [] = refl
+  same_run (x ∷ xs) = ap₂ (λ b n. cond b (1 + n) 0) (opposite x) (same_run xs)
+
+  all_pass : (xs : List ℕ) → prefix_len (λ x. not (p x)) xs ≡ length xs → mask_l (map p xs) ≡ 0
+  all_pass [] e = refl
+  all_pass (x ∷ xs) e = none_fails (p x) _ (length xs) _ (prefix_len-le-length (λ y. not (p y)) xs) (omega arith) (all_pass xs)
+
+  split : (d : List ℕ) (i n : ℕ) → prefix_len q (drop i d) ≡ cond (eqb (prefix_len q (chunk i n d)) (length (chunk i n d))) (length (chunk i n d) + prefix_len q (drop (i + n) d)) (prefix_len q (chunk i n d))
+  split d i n = ap (prefix_len q) (chunk-drop i n d) ∙ prefix_len-append q (chunk i n d) (drop (i + n) d)
+
+  pub run_through : (d : List ℕ) (i n : ℕ) → i + n ≤ length d → mask_l (map p (chunk i n d)) ≡ 0 → prefix_len q (drop i d) ≡ n + prefix_len q (drop (i + n) d)
+  run_through d i n room none =
+      let c = chunk i n d in
+      split d i n ∙ ap (λ b. cond b (length c + prefix_len q (drop (i + n) d)) (prefix_len q c)) (eq-eqb _ _ (same_run c ∙ leading_from_mask_l p c none))
+      ∙ ap (λ k. k + prefix_len q (drop (i + n) d)) (length-chunk i n d room)
+
+  pub run_stops : (d : List ℕ) (i n : ℕ) → i + n ≤ length d → n ≤ 64 → 0 < mask_l (map p (chunk i n d)) → prefix_len q (drop i d) ≡ count_trailing_zeros 64 (mask_l (map p (chunk i n d)))
+  run_stops d i n room short some =
+      let c = chunk i n d in
+      split d i n ∙ ap (λ b. cond b (length c + prefix_len q (drop (i + n) d)) (prefix_len q c)) (ne_eqb _ _ (λ (e : prefix_len q c ≡ length c). omega (arith, all_pass c (sym (same_run c) ∙ e))))
+      ∙ same_run c ∙ sym (trailing_mask_l p 64 c (omega (arith, length-chunk i n d room)) some)

@@ -1,0 +1,4 @@
+pub mod Characters
+pub mod Decoding
+pub mod Limit
+pub mod machine

@@ -1,0 +1,29 @@
+-- A line of printable bytes is decoded to itself.
+use Rattle.std.proofs.Common.{◌≡◌, ℕ, ◌≤◌, Bool, true, false, length, refl, append-nil, arith}
+use Rattle.std.specs.Prelude.{nat_lt, ◌||◌}
+use Rattle.std.specs.List.{list_all}
+use Rattle.std.proofs.lemmas.Bool.Decides.{nat_tests}
+use Rattle.page_core_base.specs.declared.page_settings.Encoding.{Encoding}
+use Rattle.page_roff_decoding.specs.Limit.{line_limit}
+use Rattle.page_roff_decoding.specs.Characters.{is_printable}
+use Rattle.page_roff_decoding.specs.Decoding.{limit_notes}
+use Rattle.page_roff_decoding.proofs.PlainLemmas.{singles, characters-plain, characters_within-singles, all_bytes-singles, bad_notes-singles}
+use Rattle.page_roff_lines.specs.Logical.{Kept}
+use Rattle.page_roff_lines.specs.Lines.{decode_line}
+
+below_itself : (n : ℕ) → nat_lt n n ≡ false
+below_itself n = grind (arith, nat_tests)
+
+or_false : (c : Bool) → (c || false) ≡ c
+or_false true = refl
+or_false false = refl
+
+pub decode_line-plain : (e : Encoding) (k : Kept) → list_all is_printable k.text ≡ true → length k.text ≤ line_limit
+    → ((decode_line e k).text ≡ k.text) × ((decode_line e k).notes ≡ limit_notes k.cut k.number)
+unfolding decode_line
+decode_line-plain e k plain short =
+    let chars = characters-plain e k.text plain in
+    let stay = characters_within-singles line_limit k.text short in (
+      rw (chars, stay) (all_bytes-singles k.text),
+      rw (chars, stay, below_itself (length (singles k.text)), or_false k.cut, bad_notes-singles k.number 1 k.text) (append-nil (limit_notes k.cut k.number)),
+    )

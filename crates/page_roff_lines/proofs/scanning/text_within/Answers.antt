@@ -1,6 +1,0 @@
-use Rattle.std.proofs.Common.{arith}
-use Rattle.page_roff_lines.proofs.ScanLemmas.{text-printable}
-use Rattle.page_roff_lines.proofs.scanning.text_within.Goals as goal
-
-pub returns-clause-text : goal.returns-clause-text
-returns-clause-text c = text-printable c.args.bytes.now c.min.result (omega arith)
