@@ -198,11 +198,12 @@ impl Layers {
         ensures rows_same { R.loans rows.new ≡ R.loans rows.old }
         ensures notes_same { N.loans notes.new ≡ N.loans notes.old }
     {
+        let plain = cutter.is_plain();
         let mut filter = level_filter!(self, &mut *notes);
-        let line = cutter.decoded_line(&mut filter);
+        let line = cutter.line(&mut filter);
         self.worst = filter.worst;
-        let line = line?;
-        self.feed(line.text, line.number, line.is_plain, rows, notes)
+        let (text, number) = line?;
+        self.feed(text, number, plain, rows, notes)
     }
 }
 

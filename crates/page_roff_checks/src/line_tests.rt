@@ -486,12 +486,12 @@ fn is_known_as_plain(alloc: Global, line: &str) -> Result<bool, Fail> {
     if !whole {
         return Ok(false);
     }
-    cutter.decoded_line(&mut notes)?;
+    cutter.line(&mut notes)?;
     let (_, whole) = cutter.feed(&page.as_bytes()[consumed..]);
     if !whole {
         return Ok(false);
     }
-    Ok(cutter.decoded_line(&mut notes)?.is_plain)
+    Ok(cutter.is_plain())
 }
 
 // Lines, and whether they are known to have no backslash: some of more bytes than a vector has.

@@ -17,16 +17,6 @@ use page_roff_decoding::{choose, decode, report, report_limit};
 use std::alloc::Global;
 use std::marker::Model;
 
-/// A line of a page, decoded.
-#[derive(Clone, Copy)]
-pub struct DecodedLine<'l> {
-    pub text: &'l [u8],
-    /// The number of its first physical line.
-    pub number: u32,
-    /// Whether it is known to have no backslash.
-    pub is_plain: bool,
-}
-
 /// Cuts the bytes of a page, in whatever chunks they come, into logical lines (roff(7), "Comments" and "Escape
 /// sequences"), and decodes them (mandoc(1), -K).
 #[derive(Drop)]
@@ -160,45 +150,25 @@ impl Cutter {
         )
     }
 
-    // The line that was given last.
-    fn decoded(&self) -> DecodedLine<'_>
-        ensures text { result.text.now ≡ self.now.text }
-        ensures number { result.number ≡ self.now.point.line.number }
-        ensures plain { result.is_plain ≡ true → lacks_backslash result.text.now ≡ true }
+    // The text and the number of the line that was given last.
+    fn text_and_number(&self) -> (&[u8], u32)
+        ensures text { result.0.now ≡ self.now.text }
+        ensures number { result.1 ≡ self.now.point.line.number }
     {
-        let number = self.line.number();
-        if self.printable {
-            DecodedLine {
-                text: self.line.text(),
-                number,
-                is_plain: self.line.is_plain(),
-            }
+        let text = if self.printable {
+            self.line.text()
         } else {
-            DecodedLine {
-                text: self.decoded.bytes(),
-                number,
-                is_plain: false,
-            }
-        }
+            self.decoded.bytes()
+        };
+        (text, self.line.number())
     }
 
-    /// The line that is whole, as by [`Cutter::line`], and what is known of it.
-    pub fn decoded_line<N: NoteSink>(&mut self, notes: &mut N) -> Result<DecodedLine<'_>, Fault>
-        requires { self.old.ready ≡ true }
-        ensures text { IfOk result (λ r. r.text.now ≡ (line_of self.old.point).text) }
-        ensures number { IfOk result (λ r. r.number ≡ (line_of self.old.point).number) }
-        ensures plain { IfOk result (λ r. r.is_plain ≡ true → lacks_backslash r.text.now ≡ true) }
-        ensures line { IfOk result (λ r. IsLine r.text.now) }
-        ensures gives { MatchResult result (λ _. N.gave notes.old (line_of self.old.point).notes notes.new)
-            (λ _. N.within notes.old (line_of self.old.point).notes notes.new) }
-        ensures fault { MatchResult result (λ _. N.failed notes.new ≡ N.failed notes.old)
-            (λ e. (e ≡ Fault.WriteNotes) × Rose (N.failed notes.old) (N.failed notes.new)) }
-        ensures same { N.loans notes.new ≡ N.loans notes.old }
-        ensures* after { sem 𝓛 (follows_so the_row the_row self.entry.ghost_name none (λ _ _. ⊤)
-            (λ v. (v.point ≡ self.old.point) × (v.ready ≡ false))) }
+    /// Whether the line that is whole is known to have no backslash, which is asked before [`Cutter::line`].
+    pub fn is_plain(&self) -> bool
+        requires { self.now.ready ≡ true }
+        ensures { result ≡ true → lacks_backslash (line_of self.now.point).text ≡ true }
     {
-        self.prepare(notes)?;
-        Ok(self.decoded())
+        self.line.is_plain() && self.line.is_printable()
     }
 
     /// The line that is whole: its text, decoded, and the number of its first physical line. What is to be said of
@@ -216,8 +186,8 @@ impl Cutter {
         ensures* after { sem 𝓛 (follows_so the_row the_row self.entry.ghost_name none (λ _ _. ⊤)
             (λ v. (v.point ≡ self.old.point) × (v.ready ≡ false))) }
     {
-        let line = self.decoded_line(notes)?;
-        Ok((line.text, line.number))
+        self.prepare(notes)?;
+        Ok(self.text_and_number())
     }
 }
 

@@ -1,0 +1,21 @@
+use Rattle.std.proofs.Common.{◌≡◌, ◌≤◌, true, length, sym, ap, ◌∙◌, arith}
+use Rattle.std.specs.List.{list_all}
+use Rattle.page_roff_decoding.specs.Limit.{line_limit, line_limit_is}
+use Rattle.page_roff_decoding.specs.Characters.{is_printable}
+use Rattle.page_roff_lines.specs.machine.Open.{kept_of}
+use Rattle.page_roff_lines.specs.Lines.{decode_line}
+use Rattle.page_roff_lines.specs.Cutting.{Cutting, line_of}
+use Rattle.page_roff_lines.proofs.PlainLines.{decode_line-plain}
+use Rattle.page_roff_lines.proofs.cutter.Cutter.is_plain.Goals as goal
+
+pub returns-then-is_plain : goal.returns-then-is_plain
+returns-then-is_plain c = λ is.
+    let point = c.args.self.now.point in
+    let line = c.self.inside.line in
+    let limit = line_limit_is in
+    let printable : list_all is_printable line.text.bytes ≡ true = sym c.is_printable.ensures.value ∙ is in
+    let short : length line.text.bytes ≤ line_limit = omega (arith, limit, c.is_printable.ensures.bound) in
+    let text : (line_of point).text ≡ line.text.bytes =
+    ap (λ (v : Cutting). (decode_line point.encoding (kept_of v.point.line)).text) (sym c.self.view_is)
+    ∙ (decode_line-plain point.encoding (kept_of line) printable short).0 in
+    rw text (c.is_plain.ensures c.if-is_plain.true)
