@@ -3,3 +3,4 @@ pub mod WordSpanLemmas
 pub mod FewLemmas
 pub mod PartLemmas
 pub mod WordLemmas
+pub mod NameLengthLemmas

@@ -22,6 +22,7 @@ pub fn word_delimiter(word: Argument<&[u8]>) -> Option<Delimiter>
 }
 
 /// What a word calls in a line whose words can; a word with quotes calls nothing.
+#[inline(always)]
 #[tactic(auto, unfolding(crate::specs::LineWords::word_call))]
 pub fn word_call(name: Argument<&[u8]>) -> Option<Inline>
     ensures { result ≡ words.word_call (argument_view name.entry) }

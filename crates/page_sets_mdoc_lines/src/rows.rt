@@ -3,6 +3,7 @@
 
 ghost use Rattle.std.specs.Prelude.{◌≡◌};
 ghost use Rattle.page_sets_mdoc_lines.specs.Rows as rows;
+ghost use Rattle.page_sets_mdoc_lines.specs.machine.NameLengths.{has_name_len};
 
 use crate::blocks::{Block, LineMacro, Sentence};
 use crate::macros::{Defaulted, Inline, Pair, System};
@@ -60,10 +61,22 @@ pub fn row_of(name: &[u8]) -> Option<MacroRow>
     row_named(list_for(&MACROS, name), name)
 }
 
+// Whether a text is as long as names of macros are. Most words of a line are not, and are not looked for in the table.
+#[inline(always)]
+fn has_name_len(text: &[u8]) -> bool
+    ensures { result ≡ has_name_len text.now }
+{
+    text.len() == 2 || text.len() == 3
+}
+
 /// What a word of a line calls, if it names a macro that words can call ("Callable").
+#[inline(always)]
 pub fn called(name: &[u8]) -> Option<Inline>
     ensures { result ≡ rows.called name.now }
 {
+    if !has_name_len(name) {
+        return None;
+    }
     let row = row_of(name)?;
     match row.begins {
         LineMacro::Inline(inline) if row.is_callable => Some(inline),
