@@ -22,7 +22,7 @@ use page_sets_mdoc_lines::{
     Cursor, Inline, LineMacro, MacroRow, Rest, Sentence, Words, find_words,
 };
 use page_sets_mdoc_words::{
-    MacroName, give_include, give_macro, give_printed, give_sentence, step_event,
+    MacroName, give_found, give_include, give_macro, give_printed, give_sentence, step_event,
 };
 
 // The closing delimiters at the line's end, after the end of its enclosures.
@@ -54,7 +54,7 @@ fn give_rest<'a, O: EventTaker<'a>>(out: &mut O, number: u32, text: &'a [u8], re
                     text: call.name.text,
                 };
                 let (words, after) = find_words(text, Some(call.inline), call.after, true);
-                give_macro(out, false, name, call.inline, text, words);
+                give_macro(out, false, name, call.inline, text, &words);
                 rest = after;
             }
             Rest::Tail(cursor) => {
@@ -90,7 +90,7 @@ fn give_head<'a, O: EventTaker<'a>>(
     };
     let text = line.text();
     let (words, rest) = find_words(text, Some(inline), line_cursor(line), parsed);
-    give_macro(out, true, name, inline, text, words);
+    give_macro(out, true, name, inline, text, &words);
     give_rest(out, line.number(), text, rest);
 }
 
@@ -102,7 +102,7 @@ fn give_phrase<'a, O: EventTaker<'a>>(out: &mut O, parsed: bool, line: &ControlL
 {
     let text = line.text();
     let (words, rest) = find_words(text, None, line_cursor(line), parsed);
-    give_printed(out, line.number(), None, text, words.all);
+    give_found(out, line.number(), None, text, &words);
     give_rest(out, line.number(), text, rest);
 }
 

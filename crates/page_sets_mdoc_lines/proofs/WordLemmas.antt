@@ -1,14 +1,15 @@
 -- The words of a macro: helpers of proofs.
-use Rattle.std.proofs.Common.{◌≡◌, ℕ, zero, suc, ◌+◌, ◌-◌, ◌≤◌, ◌==◌, Bool, true, false, ◌&&◌, List, [], ◌∷◌, length, take, drop, refl, sym, ap, ◌∙◌, inl, inr, add-one, arith, Option, None, Some, if◌then◌else◌}
+use Rattle.std.proofs.Common.{◌≡◌, ◌≢◌, ℕ, zero, suc, ◌+◌, ◌-◌, ◌≤◌, ◌==◌, Bool, true, false, ◌&&◌, List, [], ◌∷◌, length, take, drop, refl, sym, ap, ◌∙◌, inl, inr, add-one, arith, Option, None, Some, if◌then◌else◌}
 use Rattle.std.specs.List.{list_any}
 use Rattle.std.proofs.lemmas.Bool.{both_ways, cases_Bool}
 use Rattle.std.proofs.lemmas.List.{drop-take, take-take, take_all}
 use Rattle.page_roff_syntax.specs.declared.quotes.Argument.{Argument}
 use Rattle.page_sets_mdoc_lines.specs.declared.macros.Inline.{Inline}
+use Rattle.page_sets_mdoc_lines.specs.declared.word_spans.ReadWord.{ReadWord}
 use Rattle.page_sets_mdoc_lines.specs.declared.word_spans.WordSpan.{WordSpan}
 use Rattle.page_sets_mdoc_lines.specs.LineWords.{arguments_after, is_closing, is_real, takes_next, word_call}
 use Rattle.page_sets_mdoc_lines.specs.Parts.{Call, LineParts, call_first, front_len, has_calls, if_parsed, is_something, parts, parts_arguments, rest_parts, span_of, tail_alone}
-use Rattle.page_sets_mdoc_lines.specs.Words.{TakesWord, inside, outside, taken_onto}
+use Rattle.page_sets_mdoc_lines.specs.Words.{FirstIs, TakesWord, inside, outside, taken_onto}
 use Rattle.page_sets_mdoc_lines.proofs.CursorLemmas.{few_left}
 use Rattle.page_sets_mdoc_lines.proofs.PartLemmas.{none_taken, rest_goes_on, whole, words_taken}
 use Rattle.page_sets_mdoc_lines.proofs.WordSpanLemmas.{closing_calls}
@@ -24,6 +25,18 @@ take_none (suc n) words e = rw e refl
 
 pub all_left : (text : List ℕ) (start : ℕ) → length text ≤ 65536 → take 65536 (arguments_after start text) ≡ arguments_after start text
 all_left text start h = take_all 65536 (arguments_after start text) (few_left text start h)
+
+-- ---- the first word, which was read
+
+pub first_stays : (text : List ℕ) (arguments : List (Argument (List ℕ))) (n m : ℕ) (first : Option ReadWord)
+    → n ≢ 0 → FirstIs text arguments n first → FirstIs text arguments m first
+first_stays text arguments n m None some is = absurd (some is)
+first_stays text arguments n m (Some read) some is = is
+
+pub first_of_less : (text : List ℕ) (arguments : List (Argument (List ℕ))) (n m : ℕ) (first : Option ReadWord)
+    → n ≤ m → FirstIs text arguments m first → FirstIs text arguments n first
+first_of_less text arguments n m None less is = omega (arith, less, is)
+first_of_less text arguments n m (Some read) less is = is
 
 -- ---- the word that a macro takes
 

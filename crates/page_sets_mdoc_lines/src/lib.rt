@@ -29,5 +29,5 @@ pub use line_words::{is_closing, is_real, word_call, word_delimiter};
 pub use macros::{Defaulted, Inline, Pair, System};
 pub use rests::{Call, Rest};
 pub use rows::{MacroRow, called, row_of};
-pub use word_spans::WordSpan;
+pub use word_spans::{ReadWord, WordSpan};
 pub use words::{MacroWords, Words, find_words};

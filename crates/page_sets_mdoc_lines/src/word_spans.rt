@@ -6,6 +6,7 @@ ghost use Rattle.page_sets_mdoc_lines.specs.LineWords.{arguments_after, word_cal
 ghost use Rattle.page_sets_mdoc_lines.specs.Parts.{parts, span_of, if_parsed, rest_parts};
 ghost use Rattle.page_sets_mdoc_lines.specs.machine.Cursors.{IsCursorOf};
 ghost use Rattle.page_sets_mdoc_lines.specs.Rests.{IsRestOf, rest_view};
+ghost use Rattle.page_sets_mdoc_lines.specs.Words.{FirstIs};
 
 use crate::cursors::Cursor;
 use crate::line_words::{is_closing, is_real, word_call};
@@ -34,10 +35,19 @@ fn call_of(argument: Argument<&[u8]>, parsed: bool) -> Option<Inline>
     if parsed { word_call(argument) } else { None }
 }
 
+/// A word of a line that was read, and where the line goes on after it.
+#[derive(Clone, Copy)]
+pub struct ReadWord<'a> {
+    pub word: Argument<&'a [u8]>,
+    pub after: Cursor,
+}
+
 // The span of a macro's words, and where the line goes on after them.
 #[derive(Clone, Copy)]
 pub(crate) struct Found<'a> {
     pub(crate) span: WordSpan,
+    // The first of them, or the first closing delimiter after none.
+    pub(crate) first: Option<ReadWord<'a>>,
     // After the last of them that is no closing delimiter.
     pub(crate) outside: Cursor,
     pub(crate) rest: Rest<'a>,
@@ -50,6 +60,7 @@ pub(crate) fn find_span(text: &[u8], cursor: Cursor, parsed: bool) -> Found<'_>
     requires within { IsCursorOf text.now cursor }
     ensures span { result.span ≡ span_of (parts None parsed (arguments_after cursor.rest text.now)) }
     ensures stand { IsCursorOf text.now result.outside × IsRestOf text.now result.rest }
+    ensures first { FirstIs text.now (arguments_after cursor.rest text.now) result.span.words result.first }
     ensures outside { arguments_after result.outside.rest text.now
         ≡ drop result.span.inside (arguments_after cursor.rest text.now) }
     ensures rest { rest_view text.now result.rest ≡ rest_parts (parts None parsed (arguments_after cursor.rest text.now)) }
@@ -62,6 +73,7 @@ pub(crate) fn find_span(text: &[u8], cursor: Cursor, parsed: bool) -> Found<'_>
     };
     let mut ahead = cursor;
     let mut outside = cursor;
+    let mut first = None;
     while let Some(argument) = ahead.read(text) {
         if let Some(inline) = call_of(argument, parsed) {
             span.follows = true;
@@ -72,9 +84,16 @@ pub(crate) fn find_span(text: &[u8], cursor: Cursor, parsed: bool) -> Found<'_>
             };
             return Found {
                 span,
+                first,
                 outside,
                 rest: Rest::Next(call),
             };
+        }
+        if span.words == 0 {
+            first = Some(ReadWord {
+                word: argument,
+                after: ahead,
+            });
         }
         if !is_closing(argument) {
             span.inside = span.words + 1;
@@ -88,6 +107,7 @@ pub(crate) fn find_span(text: &[u8], cursor: Cursor, parsed: bool) -> Found<'_>
     span.words = span.inside;
     Found {
         span,
+        first,
         outside,
         rest: Rest::Tail(outside),
     }

@@ -8,13 +8,13 @@ ghost use Rattle.page_sets_mdoc_lines.specs.LineWords.{arguments_after};
 ghost use Rattle.page_sets_mdoc_lines.specs.Parts.{parts, has_calls, rest_parts};
 ghost use Rattle.page_sets_mdoc_lines.specs.machine.Cursors.{IsCursorOf};
 ghost use Rattle.page_sets_mdoc_lines.specs.Rests.{IsRestOf, rest_view};
-ghost use Rattle.page_sets_mdoc_lines.specs.Words.{words_view, AreKnown, AreIn, TakesWord};
+ghost use Rattle.page_sets_mdoc_lines.specs.Words.{words_view, AreKnown, AreIn, IsFirstKnown, TakesWord};
 
 use crate::Inline;
 use crate::cursors::Cursor;
 use crate::line_words::{may_take, takes_next};
 use crate::rests::Rest;
-use crate::word_spans::find_span;
+use crate::word_spans::{ReadWord, find_span};
 use page_core_base::LINE;
 use page_roff_syntax::Argument;
 
@@ -32,6 +32,8 @@ pub struct MacroWords<'a> {
     pub taken: Option<Argument<&'a [u8]>>,
     /// Its other words.
     pub all: Words,
+    /// The first of these, which was read when they were found.
+    pub first: Option<ReadWord<'a>>,
     /// Those up to the closing delimiters at their end.
     pub inside: Words,
     /// These delimiters.
@@ -114,6 +116,7 @@ pub fn find_words(
     ensures fits { GivenFits (given_view result.0.taken) }
     ensures stand { AreIn text.now result.0 }
     ensures known { AreKnown text.now result.0 }
+    ensures first { IsFirstKnown text.now result.0 }
     ensures taken { given_view result.0.taken ≡ (parts begun parsed (arguments_after cursor.rest text.now)).taken }
     ensures words { words_view text.now result.0.all ≡ (parts begun parsed (arguments_after cursor.rest text.now)).words }
     ensures follows { result.0.follows ≡ has_calls (parts begun parsed (arguments_after cursor.rest text.now)).calls }
@@ -130,6 +133,7 @@ pub fn find_words(
             count,
             cursor: ahead,
         },
+        first: if count > 0 { found.first } else { None },
         inside: Words {
             count: inside,
             cursor: ahead,

@@ -2,3 +2,4 @@ pub mod PrintLemmas
 pub mod MacroPrintLemmas
 pub mod SentenceLemmas
 pub mod SynopsisLemmas
+pub mod ReadLemmas

@@ -67,14 +67,14 @@ pub(crate) fn give_opened<'a, O: EventTaker<'a>>(
     name: MacroName<'a>,
     pair: Pair,
     text: &'a [u8],
-    words: MacroWords<'a>,
+    words: &MacroWords<'a>,
 )
     requires short { length text.now ≤ LINE }
-    requires stand { AreIn text.now words }
-    requires known { AreKnown text.now words }
-    requires fits { GivenFits (given_view words.taken) }
+    requires stand { AreIn text.now words.now }
+    requires known { AreKnown text.now words.now }
+    requires fits { GivenFits (given_view words.now.taken) }
     ensures { Came O.left out.old (inlines.opened name.entry.place name.entry.text.now pair
-        (given_view words.entry.taken) (words_view text.now words.entry.all)) out.new }
+        (given_view words.now.taken) (words_view text.now words.now.all)) out.new }
 {
     match pair {
         Pair::Quotation(quotation) => {

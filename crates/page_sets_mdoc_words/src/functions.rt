@@ -68,12 +68,12 @@ pub(crate) fn give_function<'a, O: EventTaker<'a>>(
     out: &mut O,
     place: Place,
     text: &'a [u8],
-    words: MacroWords<'a>,
+    words: &MacroWords<'a>,
 )
     requires short { length text.now ≤ LINE }
-    requires stand { AreIn text.now words }
-    ensures { Came O.left out.old (inlines.function_words place (words_view text.now words.entry.inside)
-        ++ inlines.function_end place (words_view text.now words.entry.outside)) out.new }
+    requires stand { AreIn text.now words.now }
+    ensures { Came O.left out.old (inlines.function_words place (words_view text.now words.now.inside)
+        ++ inlines.function_end place (words_view text.now words.now.outside)) out.new }
 {
     give_function_words(out, place, text, words.inside);
     out.give(step_event(place, LineStep::FunctionEnd));

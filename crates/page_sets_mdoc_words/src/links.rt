@@ -62,12 +62,12 @@ pub(crate) fn give_link<'a, O: EventTaker<'a>>(
     out: &mut O,
     place: Place,
     text: &'a [u8],
-    words: MacroWords<'a>,
+    words: &MacroWords<'a>,
 )
     requires short { length text.now ≤ LINE }
-    requires stand { AreIn text.now words }
-    ensures { Came O.left out.old (inlines.link_words place (words_view text.now words.entry.inside)
-        ++ printed place.line None (words_view text.now words.entry.outside)) out.new }
+    requires stand { AreIn text.now words.now }
+    ensures { Came O.left out.old (inlines.link_words place (words_view text.now words.now.inside)
+        ++ printed place.line None (words_view text.now words.now.outside)) out.new }
 {
     give_link_words(out, place, text, words.inside);
     give_printed(out, place.line, None, text, words.outside);

@@ -10,7 +10,7 @@ ghost use Rattle.page_sets_lines.specs.declared.openers.LineOpener.TheVariants a
 ghost use Rattle.page_sets_names.specs.declared.generated_texts.GeneratedText.TheVariants.{Apostrophe};
 ghost use Rattle.page_sets_lines.specs.declared.events.Join.TheVariants.{Glued};
 ghost use Rattle.page_sets_mdoc_lines.specs.machine.Cursors.{IsCursorOf};
-ghost use Rattle.page_sets_mdoc_lines.specs.Words.{AreIn, AreKnown, words_view};
+ghost use Rattle.page_sets_mdoc_lines.specs.Words.{AreIn, AreKnown, IsFirstKnown, words_view};
 ghost use Rattle.page_sets_mdoc_words.specs.Inlines as inlines;
 ghost use Rattle.page_sets_mdoc_words.specs.Printed.{printed, step_event};
 ghost use Rattle.page_sets_mdoc_words.specs.Synopses as synopses;
@@ -20,7 +20,7 @@ use crate::flags::give_flags;
 use crate::functions::{give_function, give_next_arguments};
 use crate::links::give_link;
 use crate::names::{Lone, give_lone, give_named};
-use crate::plain::{MacroName, give_printed, give_refused};
+use crate::plain::{MacroName, give_found, give_printed, give_refused};
 use crate::printed::step_event;
 use crate::references::give_reference;
 use crate::synopses::{after_words, before_words};
@@ -89,17 +89,18 @@ fn give_font_words<'a, O: EventTaker<'a>>(
     name: MacroName<'a>,
     font: Font,
     text: &'a [u8],
-    words: MacroWords<'a>,
+    words: &MacroWords<'a>,
 )
     requires short { length text.now ≤ LINE }
-    requires stand { AreIn text.now words }
-    requires known { AreKnown text.now words }
+    requires stand { AreIn text.now words.now }
+    requires known { AreKnown text.now words.now }
+    requires first { IsFirstKnown text.now words.now }
     ensures { Came O.left out.old (inlines.with_words name.entry.place name.entry.text.now
-        (words_view text.now words.entry.all)
-        (printed name.entry.place.line (Some font) (words_view text.now words.entry.all))) out.new }
+        (words_view text.now words.now.all)
+        (printed name.entry.place.line (Some font) (words_view text.now words.now.all))) out.new }
 {
     if words.has_real {
-        give_printed(out, name.place.line, Some(font), text, words.all);
+        give_found(out, name.place.line, Some(font), text, words);
     } else {
         give_refused(out, name, text, words.all);
     }
@@ -119,17 +120,18 @@ fn give_inline<'a, O: EventTaker<'a>>(
     name: MacroName<'a>,
     inline: Inline,
     text: &'a [u8],
-    words: MacroWords<'a>,
+    words: &MacroWords<'a>,
 )
     requires short { length text.now ≤ LINE }
-    requires stand { AreIn text.now words }
-    requires known { AreKnown text.now words }
-    requires fits { GivenFits (given_view words.taken) }
+    requires stand { AreIn text.now words.now }
+    requires known { AreKnown text.now words.now }
+    requires first { IsFirstKnown text.now words.now }
+    requires fits { GivenFits (given_view words.now.taken) }
     ensures { Came O.left out.old (inlines.inline_events name.entry.place name.entry.text.now inline
-        (given_view words.entry.taken) (words_view text.now words.entry.all) words.entry.follows) out.new }
+        (given_view words.now.taken) (words_view text.now words.now.all) words.now.follows) out.new }
 {
     let place = name.place;
-    let MacroWords { all, has_real, .. } = words;
+    let (all, has_real) = (words.all, words.has_real);
     match inline {
         Inline::Words(font) => give_font_words(out, name, font, text, words),
         Inline::Declaration => give_font_words(out, name, Font::B, text, words),
@@ -137,7 +139,7 @@ fn give_inline<'a, O: EventTaker<'a>>(
         Inline::Author => give_author(out, name, words.taken, text, all, has_real),
         Inline::Name if has_real => give_named(out, place, text, all),
         Inline::Name => give_lone(out, place, Lone::ManualName, text, all),
-        Inline::Defaulted(_) if has_real => give_printed(out, place.line, Some(Font::I), text, all),
+        Inline::Defaulted(_) if has_real => give_found(out, place.line, Some(Font::I), text, words),
         Inline::Defaulted(default) => {
             give_lone(out, place, Lone::Default(default), text, all);
         }
@@ -184,14 +186,15 @@ pub fn give_macro<'a, O: EventTaker<'a>>(
     name: MacroName<'a>,
     inline: Inline,
     text: &'a [u8],
-    words: MacroWords<'a>,
+    words: &MacroWords<'a>,
 )
     requires short { length text.now ≤ LINE }
-    requires stand { AreIn text.now words }
-    requires known { AreKnown text.now words }
-    requires fits { GivenFits (given_view words.taken) }
+    requires stand { AreIn text.now words.now }
+    requires known { AreKnown text.now words.now }
+    requires first { IsFirstKnown text.now words.now }
+    requires fits { GivenFits (given_view words.now.taken) }
     ensures { Came O.left out.old (synopses.placed_events first name.entry.place name.entry.text.now inline
-        (given_view words.entry.taken) (words_view text.now words.entry.all) words.entry.follows) out.new }
+        (given_view words.now.taken) (words_view text.now words.now.all) words.now.follows) out.new }
 {
     let before = before_words(first, inline, words.has_real);
     let after = after_words(first, inline, words.has_real);

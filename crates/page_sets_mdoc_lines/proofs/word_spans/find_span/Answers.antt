@@ -3,10 +3,11 @@ use Rattle.page_roff_syntax.specs.Arguments.{argument_view}
 use Rattle.page_sets_mdoc_lines.specs.declared.word_spans.WordSpan.{WordSpan}
 use Rattle.page_sets_mdoc_lines.specs.LineWords.{arguments_after, is_closing, is_real}
 use Rattle.page_sets_mdoc_lines.specs.Parts.{is_call, is_something}
+use Rattle.page_sets_mdoc_lines.specs.Words.{FirstIs}
 use Rattle.page_sets_mdoc_lines.proofs.WordSpanLemmas.{call_passed, cut_words, one_more, word_passed, pass_is}
 use Rattle.page_sets_mdoc_lines.proofs.CursorLemmas.{few_left}
-use Rattle.page_sets_mdoc_lines.proofs.WordLemmas.{call_is, drop_next, tail_is}
-use Rattle.page_sets_mdoc_lines.proofs.word_spans.find_span.Goals.{then-not-is_closing, else-not-is_closing, then-is_real, else-is_real}
+use Rattle.page_sets_mdoc_lines.proofs.WordLemmas.{call_is, drop_next, first_of_less, first_stays, tail_is}
+use Rattle.page_sets_mdoc_lines.proofs.word_spans.find_span.Goals.{then-span-eq0, else-span-eq0, then-not-is_closing, else-not-is_closing, then-is_real, else-is_real}
 use Rattle.page_sets_mdoc_lines.proofs.word_spans.find_span.Goals as goal
 
 pub loop-argument-init : goal.loop-argument-init
@@ -16,6 +17,8 @@ loop-argument-init c = record {
   stands = c.requires.within;
   ends = c.requires.within;
   follows = refl;
+  first = refl;
+  less = omega arith;
   outside = refl;
   rest = refl;
 }
@@ -59,12 +62,24 @@ loop-argument-preserved c =
       | then-not-is_closing w ↦ rw w.outside-is c.in-Some.ensures.stands
       | else-not-is_closing w ↦ rw w.outside-is l.invariant.ends
     ] in
+    let first : FirstIs text all (c.if-is_real.span.words + 1) c.if-span-eq0.first =
+    elim c.if-span-eq0.branch [
+      | then-span-eq0 w ↦ rw w.first-is record { word = sym (rw w.if-span-eq0.true at l.invariant.rest) ∙ next; within = c.in-Some.ensures.stands; fits = c.in-Some.ensures.fits }
+      | else-span-eq0 w ↦ rw w.first-is (first_stays text all l.span.words _ l.first w.if-span-eq0.false l.invariant.first)
+    ] in
+    let most : c.if-not-is_closing.span.inside ≤ l.span.words + 1 =
+    elim c.if-not-is_closing.branch [
+      | then-not-is_closing w ↦ rw w.span-is (omega arith)
+      | else-not-is_closing w ↦ rw w.span-is (omega (arith, l.invariant.less))
+    ] in
     record {
       passes = rw one (sym went ∙ passes);
       few = omega (arith, size, few);
       stands = c.in-Some.ensures.stands;
       ends = ends;
       follows = ap (λ (span : WordSpan). span.follows) one ∙ l.invariant.follows;
+      first = first;
+      less = omega (arith, inside, size, most);
       outside = rw inside outs;
       rest = rw size step;
     }
@@ -82,6 +97,11 @@ returns-in-Some-call_of-clause-rest c =
     let went = call_passed is_closing (is_call c.args.parsed) is_real word after l.span (ap is_something calls) in
     let span : WordSpan = record l.span { follows = true } in
     call_is c.args.parsed all word after c.in-Some-call_of.inline span (sym went ∙ passes) (sym next ∙ l.invariant.rest) calls
+
+pub returns-clause-first : goal.returns-clause-first
+returns-clause-first c =
+    let l = c.loop-argument in
+    first_of_less c.args.text.now (arguments_after c.args.cursor.rest c.args.text.now) l.span.inside l.span.words l.first l.invariant.less l.invariant.first
 
 pub returns-clause-rest : goal.returns-clause-rest
 returns-clause-rest c =

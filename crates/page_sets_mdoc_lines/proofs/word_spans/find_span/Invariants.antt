@@ -2,6 +2,7 @@ use Rattle.std.proofs.Common.{◌≡◌, ◌+◌, ◌≤◌, length, drop, false
 use Rattle.page_sets_mdoc_lines.specs.machine.Cursors.{IsCursorOf}
 use Rattle.page_sets_mdoc_lines.specs.LineWords.{arguments_after, is_closing, is_real}
 use Rattle.page_sets_mdoc_lines.specs.Parts.{parts, span_of, is_call}
+use Rattle.page_sets_mdoc_lines.specs.Words.{FirstIs}
 use Rattle.page_sets_mdoc_lines.proofs.WordSpanLemmas.{passed}
 use Rattle.page_sets_mdoc_lines.proofs.word_spans.find_span.Given as goal
 
@@ -13,6 +14,8 @@ invariant-loop-argument l = record {
   stands : IsCursorOf l.text l.ahead;
   ends : IsCursorOf l.text l.outside;
   follows : l.span.follows ≡ false;
+  first : FirstIs l.text (arguments_after l.fn.cursor.rest l.text) l.span.words l.first;
+  less : l.span.inside ≤ l.span.words;
   outside : arguments_after l.outside.rest l.text ≡ drop l.span.inside (arguments_after l.fn.cursor.rest l.text);
   rest : arguments_after l.ahead.rest l.text ≡ drop l.span.words (arguments_after l.fn.cursor.rest l.text);
 }
