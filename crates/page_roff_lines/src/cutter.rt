@@ -106,6 +106,7 @@ impl Cutter {
     }
 
     // The encoding with the line that is whole, which may be known to be printable.
+    #[inline(always)]
     #[tactic(auto, unfolding(crate::specs::Cutting::encoding_after))]
     fn line_encoding(&self, printable: bool) -> Encoding
         requires waits { self.now.ready ≡ true }
