@@ -243,6 +243,16 @@ const EACH_DELIMITER_AMONG_WORDS: &[(&str, &str)] = &[
     (".Em a \"Sy\" b", "5 word I a; 8 word I Sy; 12 word I b"),
 ];
 
+// A word calls if it is the name of a macro, of two letters or of three.
+const WORDS_THAT_CALL: &[(&str, &str)] = &[
+    (".Em a Sy b", "5 word I a"),
+    (".Em a Brq b", "5 word I a"),
+    (".Em a %B b", "5 word I a; 7 word I %B; 10 word I b"),
+    (".Em a S b", "5 word I a; 7 word I S; 9 word I b"),
+    (".Em a Syx b", "5 word I a; 7 word I Syx; 11 word I b"),
+    (".Em a Brqx b", "5 word I a; 7 word I Brqx; 12 word I b"),
+];
+
 const MORE_WORDS_THAN_A_MACRO_TAKES: &[(&str, &str)] = &[
     (
         ".Xr a 1 b c",
@@ -294,6 +304,7 @@ fn words_of_macros(rt: HostRuntime) {
         EACH_MACRO_WITH_A_FONT,
         EACH_MACRO_WITHOUT_WORDS,
         EACH_DELIMITER_AMONG_WORDS,
+        WORDS_THAT_CALL,
         MORE_WORDS_THAN_A_MACRO_TAKES,
         EACH_ENCLOSURE,
     ] {
