@@ -169,7 +169,7 @@ impl Cutter {
         requires { self.now.ready ≡ true }
         ensures { result ≡ true → lacks_backslash (line_of self.now.point).text ≡ true }
     {
-        self.line.is_plain() && self.line.is_printable()
+        self.line.is_plain()
     }
 
     /// The line that is whole: its text, decoded, and the number of its first physical line. What is to be said of

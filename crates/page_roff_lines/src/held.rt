@@ -17,7 +17,7 @@ pub struct HeldText {
     total: u32,
     // Whether the bytes that are held are known to be printable.
     printable: bool,
-    // Whether the bytes that are held are known to have no backslash.
+    // Whether they are known to be printable, and to have no backslash.
     plain: bool,
 }
 
@@ -35,7 +35,7 @@ impl Model for HeldText {
 
     ghost invariant = { λ h. (vec_len h.bytes ≤ LINE) × (LINE ≤ vec_capacity h.bytes)
         × (h.printable ≡ true → list_all is_printable h.bytes.items ≡ true)
-        × (h.plain ≡ true → lacks_backslash h.bytes.items ≡ true) };
+        × (h.plain ≡ true → (lacks_backslash h.bytes.items ≡ true) × (list_all is_printable h.bytes.items ≡ true)) };
 }
 
 impl HeldText {
@@ -119,9 +119,11 @@ impl HeldText {
         self.printable || is_printable_ascii(self.bytes())
     }
 
-    /// Whether the bytes that are held are known to have no backslash.
+    /// Whether the bytes that are held are known to have no backslash, and each to be a printable one of ASCII or a tab.
     pub fn is_plain(&self) -> bool
-        ensures { result ≡ true → lacks_backslash self.now.bytes ≡ true }
+        ensures plain { result ≡ true → lacks_backslash self.now.bytes ≡ true }
+        ensures printable { result ≡ true → list_all is_printable self.now.bytes ≡ true }
+        ensures bound { length self.now.bytes ≤ LINE }
     {
         self.plain
     }

@@ -505,9 +505,11 @@ impl OpenLine {
         self.text.is_printable()
     }
 
-    /// Whether the bytes that are kept are known to have no backslash.
+    /// Whether the bytes that are kept are known to have no backslash, and each to be a printable one of ASCII or a tab.
     pub fn is_plain(&self) -> bool
-        ensures { result ≡ true → lacks_backslash self.now.text.bytes ≡ true }
+        ensures plain { result ≡ true → lacks_backslash self.now.text.bytes ≡ true }
+        ensures printable { result ≡ true → list_all is_printable self.now.text.bytes ≡ true }
+        ensures bound { length self.now.text.bytes ≤ LINE }
     {
         self.text.is_plain()
     }

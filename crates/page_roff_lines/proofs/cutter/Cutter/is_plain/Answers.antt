@@ -8,14 +8,14 @@ use Rattle.page_roff_lines.specs.Cutting.{Cutting, line_of}
 use Rattle.page_roff_lines.proofs.PlainLines.{decode_line-plain}
 use Rattle.page_roff_lines.proofs.cutter.Cutter.is_plain.Goals as goal
 
-pub returns-then-is_plain : goal.returns-then-is_plain
-returns-then-is_plain c = λ is.
+pub returns : goal.returns
+returns c = λ is.
     let point = c.args.self.now.point in
     let line = c.self.inside.line in
     let limit = line_limit_is in
-    let printable : list_all is_printable line.text.bytes ≡ true = sym c.is_printable.ensures.value ∙ is in
-    let short : length line.text.bytes ≤ line_limit = omega (arith, limit, c.is_printable.ensures.bound) in
+    let plain = c.is_plain.ensures in
+    let short : length line.text.bytes ≤ line_limit = omega (arith, limit, plain.bound) in
     let text : (line_of point).text ≡ line.text.bytes =
     ap (λ (v : Cutting). (decode_line point.encoding (kept_of v.point.line)).text) (sym c.self.view_is)
-    ∙ (decode_line-plain point.encoding (kept_of line) printable short).0 in
-    rw text (c.is_plain.ensures c.if-is_plain.true)
+    ∙ (decode_line-plain point.encoding (kept_of line) (plain.printable is) short).0 in
+    rw text (plain.plain is)

@@ -1,6 +1,7 @@
 use Rattle.std.proofs.Common.{◌≡◌, not, take, ap, ◌∙◌}
 use Rattle.std.specs.Prelude.{◌==◌}
 use Rattle.page_roff_decoding.specs.Limit.{line_limit}
+use Rattle.page_roff_decoding.specs.Characters.{is_printable}
 use Rattle.page_roff_decoding.proofs.ScanLemmas.{all-take}
 use Rattle.page_roff_lines.specs.Bytes.{backslash}
 use Rattle.page_roff_lines.specs.machine.Held.{Held, extend}
@@ -15,5 +16,5 @@ invariant_of-self c =
       c.self.invariant.0,
       c.self.invariant.1,
       c.self.invariant.2,
-      λ is. rw items (all-take (λ b. not (b == backslash)) line_limit text (c.requires.plain is)),
+      λ is. rw items (all-take (λ b. not (b == backslash)) line_limit text (c.requires.plain is), all-take is_printable line_limit text c.requires.printable),
     )
