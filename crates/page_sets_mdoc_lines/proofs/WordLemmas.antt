@@ -1,6 +1,7 @@
 -- The words of a macro: helpers of proofs.
-use Rattle.std.proofs.Common.{◌≡◌, ◌≢◌, ℕ, zero, suc, ◌+◌, ◌-◌, ◌≤◌, ◌==◌, Bool, true, false, ◌&&◌, List, [], ◌∷◌, length, take, drop, refl, sym, ap, ◌∙◌, inl, inr, add-one, arith, Option, None, Some, if◌then◌else◌}
+use Rattle.std.proofs.Common.{◌≡◌, ℕ, zero, suc, ◌+◌, ◌-◌, ◌≤◌, ◌==◌, Bool, true, false, ◌&&◌, List, [], ◌∷◌, length, take, drop, refl, sym, ap, ◌∙◌, inl, inr, add-one, arith, Option, None, Some, if◌then◌else◌}
 use Rattle.std.specs.List.{list_any}
+use Rattle.std.specs.Option.{option_or}
 use Rattle.std.proofs.lemmas.Bool.{both_ways, cases_Bool}
 use Rattle.std.proofs.lemmas.List.{drop-take, take-take, take_all}
 use Rattle.page_roff_syntax.specs.declared.quotes.Argument.{Argument}
@@ -9,7 +10,7 @@ use Rattle.page_sets_mdoc_lines.specs.declared.word_spans.ReadWord.{ReadWord}
 use Rattle.page_sets_mdoc_lines.specs.declared.word_spans.WordSpan.{WordSpan}
 use Rattle.page_sets_mdoc_lines.specs.LineWords.{arguments_after, is_closing, is_real, takes_next, word_call}
 use Rattle.page_sets_mdoc_lines.specs.Parts.{Call, LineParts, call_first, front_len, has_calls, if_parsed, is_something, parts, parts_arguments, rest_parts, span_of, tail_alone}
-use Rattle.page_sets_mdoc_lines.specs.Words.{FirstIs, TakesWord, inside, outside, taken_onto}
+use Rattle.page_sets_mdoc_lines.specs.Words.{FirstIs, IsFirstOf, TakesWord, inside, outside, taken_onto}
 use Rattle.page_sets_mdoc_lines.proofs.CursorLemmas.{few_left}
 use Rattle.page_sets_mdoc_lines.proofs.PartLemmas.{none_taken, rest_goes_on, whole, words_taken}
 use Rattle.page_sets_mdoc_lines.proofs.WordSpanLemmas.{closing_calls}
@@ -28,10 +29,10 @@ all_left text start h = take_all 65536 (arguments_after start text) (few_left te
 
 -- ---- the first word, which was read
 
-pub first_stays : (text : List ℕ) (arguments : List (Argument (List ℕ))) (n m : ℕ) (first : Option ReadWord)
-    → n ≢ 0 → FirstIs text arguments n first → FirstIs text arguments m first
-first_stays text arguments n m None some is = absurd (some is)
-first_stays text arguments n m (Some read) some is = is
+pub first_or : (text : List ℕ) (arguments : List (Argument (List ℕ))) (n m : ℕ) (first : Option ReadWord) (read : ReadWord)
+    → FirstIs text arguments n first → (n ≡ 0 → IsFirstOf text arguments read) → FirstIs text arguments m (option_or first (Some read))
+first_or text arguments n m None read is now = now is
+first_or text arguments n m (Some earlier) read is now = is
 
 pub first_of_less : (text : List ℕ) (arguments : List (Argument (List ℕ))) (n m : ℕ) (first : Option ReadWord)
     → n ≤ m → FirstIs text arguments m first → FirstIs text arguments n first

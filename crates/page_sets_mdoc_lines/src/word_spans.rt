@@ -28,6 +28,13 @@ pub struct WordSpan {
     pub follows: bool,
 }
 
+const NO_WORDS: WordSpan = WordSpan {
+    words: 0,
+    inside: 0,
+    has_real: false,
+    follows: false,
+};
+
 // What a word calls, where words can.
 fn call_of(argument: Argument<&[u8]>, parsed: bool) -> Option<Inline>
     ensures { result ≡ if_parsed parsed (word_call (argument_view argument.entry)) }
@@ -65,12 +72,7 @@ pub(crate) fn find_span(text: &[u8], cursor: Cursor, parsed: bool) -> Found<'_>
         ≡ drop result.span.inside (arguments_after cursor.rest text.now) }
     ensures rest { rest_view text.now result.rest ≡ rest_parts (parts None parsed (arguments_after cursor.rest text.now)) }
 {
-    let mut span = WordSpan {
-        words: 0,
-        inside: 0,
-        has_real: false,
-        follows: false,
-    };
+    let mut span = NO_WORDS;
     let mut ahead = cursor;
     let mut outside = cursor;
     let mut first = None;
@@ -89,12 +91,10 @@ pub(crate) fn find_span(text: &[u8], cursor: Cursor, parsed: bool) -> Found<'_>
                 rest: Rest::Next(call),
             };
         }
-        if span.words == 0 {
-            first = Some(ReadWord {
-                word: argument,
-                after: ahead,
-            });
-        }
+        first = first.or(Some(ReadWord {
+            word: argument,
+            after: ahead,
+        }));
         if !is_closing(argument) {
             span.inside = span.words + 1;
             outside = ahead;

@@ -1,4 +1,4 @@
-use Rattle.std.proofs.Common.{◌≡◌, ◌∙◌, refl, sym}
+use Rattle.std.proofs.Common.{◌∙◌, refl, sym}
 use Rattle.page_sets_mdoc_lines.proofs.NameLengthLemmas.{no_row}
 use Rattle.page_sets_mdoc_lines.proofs.rows.called.Goals as goal
 

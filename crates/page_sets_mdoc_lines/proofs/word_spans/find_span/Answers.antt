@@ -6,8 +6,8 @@ use Rattle.page_sets_mdoc_lines.specs.Parts.{is_call, is_something}
 use Rattle.page_sets_mdoc_lines.specs.Words.{FirstIs}
 use Rattle.page_sets_mdoc_lines.proofs.WordSpanLemmas.{call_passed, cut_words, one_more, word_passed, pass_is}
 use Rattle.page_sets_mdoc_lines.proofs.CursorLemmas.{few_left}
-use Rattle.page_sets_mdoc_lines.proofs.WordLemmas.{call_is, drop_next, first_of_less, first_stays, tail_is}
-use Rattle.page_sets_mdoc_lines.proofs.word_spans.find_span.Goals.{then-span-eq0, else-span-eq0, then-not-is_closing, else-not-is_closing, then-is_real, else-is_real}
+use Rattle.page_sets_mdoc_lines.proofs.WordLemmas.{call_is, drop_next, first_of_less, first_or, tail_is}
+use Rattle.page_sets_mdoc_lines.proofs.word_spans.find_span.Goals.{then-not-is_closing, else-not-is_closing, then-is_real, else-is_real}
 use Rattle.page_sets_mdoc_lines.proofs.word_spans.find_span.Goals as goal
 
 pub loop-argument-init : goal.loop-argument-init
@@ -62,11 +62,9 @@ loop-argument-preserved c =
       | then-not-is_closing w ↦ rw w.outside-is c.in-Some.ensures.stands
       | else-not-is_closing w ↦ rw w.outside-is l.invariant.ends
     ] in
-    let first : FirstIs text all (c.if-is_real.span.words + 1) c.if-span-eq0.first =
-    elim c.if-span-eq0.branch [
-      | then-span-eq0 w ↦ rw w.first-is record { word = sym (rw w.if-span-eq0.true at l.invariant.rest) ∙ next; within = c.in-Some.ensures.stands; fits = c.in-Some.ensures.fits }
-      | else-span-eq0 w ↦ rw w.first-is (first_stays text all l.span.words _ l.first w.if-span-eq0.false l.invariant.first)
-    ] in
+    let first : FirstIs text all (c.if-is_real.span.words + 1) c.or-first.result =
+    rw c.or-first.ensures (first_or text all l.span.words _ l.first _ l.invariant.first
+    (λ none. record { word = sym (rw none at l.invariant.rest) ∙ next; within = c.in-Some.ensures.stands; fits = c.in-Some.ensures.fits })) in
     let most : c.if-not-is_closing.span.inside ≤ l.span.words + 1 =
     elim c.if-not-is_closing.branch [
       | then-not-is_closing w ↦ rw w.span-is (omega arith)
