@@ -115,6 +115,7 @@ fn apostrophe<'a>(place: Place) -> Event<&'a [u8]>
 }
 
 // A macro with its words.
+#[inline(always)]
 fn give_inline<'a, O: EventTaker<'a>>(
     out: &mut O,
     name: MacroName<'a>,

@@ -64,6 +64,7 @@ pub fn give_printed<'a, O: EventTaker<'a>>(
 }
 
 /// Gives all words of a macro in a font, or in the font around them. The first of them is given as it was found.
+#[inline(always)]
 pub fn give_found<'a, O: EventTaker<'a>>(
     out: &mut O,
     number: u32,
