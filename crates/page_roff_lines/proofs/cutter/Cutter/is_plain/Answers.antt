@@ -1,7 +1,5 @@
-use Rattle.std.proofs.Common.{◌≡◌, ◌≤◌, true, length, sym, ap, ◌∙◌, arith}
-use Rattle.std.specs.List.{list_all}
+use Rattle.std.proofs.Common.{◌≡◌, ◌≤◌, length, sym, ap, ◌∙◌, arith}
 use Rattle.page_roff_decoding.specs.Limit.{line_limit, line_limit_is}
-use Rattle.page_roff_decoding.specs.Characters.{is_printable}
 use Rattle.page_roff_lines.specs.machine.Open.{kept_of}
 use Rattle.page_roff_lines.specs.Lines.{decode_line}
 use Rattle.page_roff_lines.specs.Cutting.{Cutting, line_of}
