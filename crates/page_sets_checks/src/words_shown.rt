@@ -197,7 +197,7 @@ fn show(shown: &mut ShownEvents, first: bool, line: Taken<'_>)
         };
         let cursor = Cursor::new(text, line.name_end());
         let (words, _) = find_words(text, Some(inline), cursor, row.is_parsed);
-        give_macro(shown, first, name, inline, text, words);
+        give_macro(shown, first, name, inline, text, &words);
     }
 }
 
