@@ -1,11 +1,10 @@
 -- The parts of a word, byte by byte.
-use Rattle.std.proofs.Common.{◌≡◌, ℕ, zero, suc, ◌+◌, ◌-◌, ◌<◌, ◌≤◌, true, false, not, ◌==◌, List, [], ◌∷◌, ◌++◌, length, take, drop, get_or, if◌then◌else◌, refl, sym, ap, subst, ◌∙◌, arith, inl, inr}
-use Rattle.std.specs.Bool.{⊤}
+use Rattle.std.proofs.Common.{◌≡◌, ℕ, zero, suc, ◌+◌, ◌-◌, ◌<◌, ◌≤◌, true, false, not, ◌==◌, List, [], ◌∷◌, ◌++◌, length, take, drop, get_or, refl, sym, ap, subst, ◌∙◌, arith, inl, inr}
 use Rattle.std.specs.List.{list_all, list_any}
 use Rattle.std.proofs.lemmas.List.{drop-drop, drop_all, drop_more, take_all, take_more}
 use Rattle.std.proofs.lemmas.Bool.{cases_Bool}
 use Rattle.std.proofs.lemmas.Bool.Decides.{nat_tests}
-use Rattle.page_core_base.specs.Words.{starts_with_letter, ends_part, hyphen, in_first, parts_after, parts_of}
+use Rattle.page_core_base.specs.Words.{ends_part, hyphen, in_first, parts_after, parts_of}
 
 pub parts-end : (before b : ℕ) (bytes : List ℕ) → ends_part before b bytes ≡ true → parts_after before (b ∷ bytes) ≡ (b ∷ []) ∷ parts_after b bytes
 unfolding parts_after

@@ -8,7 +8,7 @@ use Rattle.page_roff_blocks.specs.declared.levels.Ended.TheVariants as endings
 use Rattle.page_roff_syntax.specs.RegionHeads.{is_ending}
 use Rattle.page_roff_blocks.specs.Levels.{BlockCursor, at_line, after_part, leave, what_ends, first_place}
 use Rattle.page_roff_syntax.specs.OpenRegions.{Opened}
-use Rattle.page_roff_blocks.specs.Run.{Meaning, At, end_by, run_lines, headed}
+use Rattle.page_roff_blocks.specs.Run.{Meaning, At, end_by, headed}
 use Rattle.page_roff_blocks.specs.Run as blocks
 use Rattle.page_roff_blocks.specs.machine.Steps.{met, step_leaf, step_loop, step_end, step_region, step_parts, step_inside, step_from, step, step_lines}
 use Rattle.page_roff_blocks.proofs.FoldLemmas.{run_is_steps, run_lines-append}

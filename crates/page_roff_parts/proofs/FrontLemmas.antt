@@ -8,7 +8,7 @@ use Rattle.page_roff_parts.specs.declared.parts.Part.{Part}
 use Rattle.page_roff_parts.specs.declared.parts.Part.TheVariants.{Copied, Called}
 use Rattle.std.specs.Prelude.{⊤, IfSome}
 use Rattle.page_roff_parts.specs.declared.parts.Call.{Call}
-use Rattle.page_roff_parts.specs.declared.parts.Call.TheVariants.{String, Register, Argument, Width}
+use Rattle.page_roff_parts.specs.declared.parts.Call.TheVariants.{String, Register, Width}
 use Rattle.page_roff_parts.specs.Parts.{CutText, SeenText, after_plain, begins_escape, call_cut, calls, character_len, copies, escape, is_doubled, name_cut, pair, parts, parts_up_to, plain, seen, width_cut}
 use Rattle.page_roff_parts.specs.machine.Fronts.{IsFront, copied_front}
 use Rattle.page_roff_parts.specs.machine.Verbatim.{IsVerbatim, copied_bytes, may_call}

@@ -1,5 +1,5 @@
 -- Texts that are their own value: helpers of proofs.
-use Rattle.std.proofs.Common.{◌≡◌, ℕ, zero, suc, ◌+◌, ◌-◌, ◌%◌, ◌^◌, ◌<◌, ◌≤◌, ◌==◌, Bool, true, false, not, ◌||◌, ◌&&◌, cond, min, bit_and, List, [], ◌∷◌, ◌++◌, map, length, take, drop, get_or, if◌then◌else◌, Fits, w8, Option, None, Some, option_map, is_none, unwrap_or, refl, sym, ap, ap₂, ◌∙◌, add_assoc, arith, append_assoc, append-nil, length-append, length-drop}
+use Rattle.std.proofs.Common.{◌≡◌, ℕ, zero, suc, ◌+◌, ◌-◌, ◌%◌, ◌^◌, ◌<◌, ◌≤◌, ◌==◌, Bool, true, false, not, ◌||◌, ◌&&◌, cond, min, bit_and, List, [], ◌∷◌, map, length, take, drop, get_or, if◌then◌else◌, Fits, w8, Option, None, Some, is_none, unwrap_or, refl, sym, ap, ap₂, ◌∙◌, add_assoc, arith, length-drop}
 use Rattle.std.specs.Int.{bit_at}
 use Rattle.std.proofs.Math.Seq.{drop-length}
 use Rattle.std.proofs.lemmas.Bool.{eqb-true, agree_below, agree_below_at}
@@ -8,11 +8,8 @@ use Rattle.std.proofs.lemmas.Nat.Bits.{bit_at_and, bit_at-zero}
 use Rattle.std.proofs.lemmas.Simd.{bit_mask_l, get_or-chunk, length-chunk, mask_l-mod, none_from_empty_mask}
 use lib.Lanes.{chunk, mask_l, top, Each1}
 use Rattle.memchr.specs.Find.{IsFirstByte, is_byte}
-use Rattle.page_roff_parts.specs.declared.parts.Call.{Call}
-use Rattle.page_roff_parts.specs.declared.parts.Part.{Part}
-use Rattle.page_roff_parts.specs.declared.parts.Part.TheVariants.{Copied, Called}
 use Rattle.page_roff_parts.specs.Parts.{after_plain, call_cut, character_len, copies, parts, parts_up_to, plain, seen}
-use Rattle.page_roff_parts.specs.machine.Verbatim.{IsFree, IsFreeFrom, IsVerbatim, copied_bytes, is_backslash, may_call}
+use Rattle.page_roff_parts.specs.machine.Verbatim.{IsFree, IsFreeFrom, IsVerbatim, is_backslash, may_call}
 use Rattle.page_roff_parts.proofs.ReadLemmas.{escape_alone, escape_pair, parts_more, plain_part}
 
 -- ---- what is read

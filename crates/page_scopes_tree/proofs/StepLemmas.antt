@@ -4,7 +4,7 @@ use Rattle.page_core_base.specs.Latches.{Came}
 use Rattle.page_core_base.specs.Pieces.{Item}
 use Rattle.page_scopes_tree.proofs.RunLemmas.{left_labels}
 use Rattle.page_scopes_tree.specs.Layouts.{Edge, Layout, labels}
-use Rattle.page_scopes_tree.specs.machine.Machines.{ended_items, ended_state, placed_items, placed_scopes, placed_state, step, step_items}
+use Rattle.page_scopes_tree.specs.machine.Machines.{ended_items, ended_state, placed_items, placed_scopes, placed_state, step_items}
 use Rattle.page_scopes_tree.specs.Nestings.{Standing, as_nothing}
 use Rattle.page_scopes_tree.specs.declared.nestings.Scope.{Scope}
 use Rattle.page_sets_lines.specs.declared.events.Event.{Event}

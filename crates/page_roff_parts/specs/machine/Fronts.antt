@@ -1,4 +1,4 @@
--- A fast way of the code, which no public clause cites: the bytes at a text's front that are copied as they are. Trust needs no reading of it.
+-- A fast way of the code, which only calls between our crates cite: the bytes at a text's front that are copied as they are. Trust needs no reading of it.
 use Rattle.std.specs.Prelude.{◌≡◌, ℕ, zero, suc, ◌-◌, Bool, List, [], ◌∷◌, ◌++◌, length, take, drop, Option, Some, None, option_map}
 use Rattle.page_roff_parts.specs.declared.parts.Part.{Part}
 use Rattle.page_roff_parts.specs.declared.parts.Part.TheVariants.{Copied, Called}

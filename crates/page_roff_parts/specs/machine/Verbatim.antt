@@ -1,5 +1,5 @@
--- A fast way of the code, which no public clause cites: texts of which all bytes are copied, since no interpolation begins in them. Trust needs
--- no reading of it.
+-- A fast way of the code, which only calls between our crates cite: texts of which all bytes are copied, since no interpolation begins in them.
+-- Trust needs no reading of it.
 -- Source: roff(7), "Escape sequences".
 use Rattle.std.specs.Prelude.{◌≡◌, ◌==◌, ◌||◌, ◌&&◌, ◌+◌, ◌<◌, ◌≤◌, ℕ, Bool, false, List, [], ◌∷◌, ◌++◌, length, get_or, Option, Some, None, option_map}
 use Rattle.page_roff_parts.specs.declared.parts.Part.{Part}

@@ -1,4 +1,4 @@
--- A machine, which no public clause cites: how the code's own reading of a text goes on from its front. Source: roff(7).
+-- A machine, which only calls between our crates cite: how the code's own reading of a text goes on from its front. Source: roff(7).
 use Rattle.std.specs.Prelude.{◌≡◌, ℕ, ◌≤◌, ◌<◌, ◌+◌, ◌^◌, Bool, true, false, List, [], ◌∷◌, length, drop}
 use Rattle.page_core_base.specs.Words.{is_word}
 use Rattle.page_core_escapes.specs.Tokens.{begins_word, plain, token_len}

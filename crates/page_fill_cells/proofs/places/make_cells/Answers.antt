@@ -1,7 +1,6 @@
-use Rattle.std.proofs.Common.{◌≡◌, length, take, drop, ◌++◌, sym, ap, ◌∙◌, arith}
+use Rattle.std.proofs.Common.{◌≡◌, length, take, ap, ◌∙◌}
 use Rattle.page_core_base.specs.Rows.{cells_in}
-use Rattle.page_fill_cells.specs.machine.Places.{put_at}
-use Rattle.page_fill_cells.proofs.PlaceLemmas.{given-back, in-length, put-first, put-length}
+use Rattle.page_fill_cells.proofs.PlaceLemmas.{given-back, in-length, put-first}
 use Rattle.page_fill_cells.proofs.places.make_cells.Goals as goal
 
 pub returns-clause-cells : goal.returns-clause-cells

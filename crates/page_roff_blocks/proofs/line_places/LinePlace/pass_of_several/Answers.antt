@@ -1,4 +1,4 @@
-use Rattle.std.proofs.Common.{false, ◌≤◌, length, drop, ◌∷◌, ap, sym, ◌∙◌}
+use Rattle.std.proofs.Common.{false, ◌≤◌, length, drop, ap, sym, ◌∙◌}
 use Rattle.page_roff_blocks.specs.LineParts.{part_of}
 use Rattle.page_roff_blocks.specs.machine.LinePlaces.{place_after, parts_at}
 use Rattle.page_roff_blocks.proofs.EndLemmas.{slice_ends, slice_parts, place_within}

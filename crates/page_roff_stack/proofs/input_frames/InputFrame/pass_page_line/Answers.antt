@@ -1,4 +1,4 @@
-use Rattle.std.proofs.Common.{◌≡◌, ◌<◌, ◌^◌, [], None, refl, ap, ◌∙◌, arith}
+use Rattle.std.proofs.Common.{◌<◌, ◌^◌, [], None, refl, ap, ◌∙◌, arith}
 use Rattle.page_roff_blocks.specs.Levels.{BlockCursor, after_part}
 use Rattle.page_roff_blocks.specs.Languages.{page}
 use Rattle.page_roff_stack.specs.declared.input_frames.InputFrame.{InputFrame}
