@@ -1,5 +1,5 @@
 -- Tokens at a text's front that are taken as letters.
-use Rattle.std.proofs.Common.{◌≡◌, ℕ, zero, suc, ◌+◌, ◌<◌, ◌≤◌, ◌==◌, ◌||◌, Bool, true, false, not, cond, List, [], ◌∷◌, ◌++◌, length, take, drop, refl, ap, sym, ◌∙◌, append-nil, arith}
+use Rattle.std.proofs.Common.{◌≡◌, ℕ, zero, suc, ◌+◌, ◌<◌, ◌≤◌, ◌==◌, ◌||◌, Bool, true, false, not, cond, List, [], ◌∷◌, ◌++◌, length, take, drop, refl, ap, sym, ◌∙◌, append-nil, Option, None, Some, MatchOption, arith}
 use Rattle.std.specs.List.{list_any, prefix_len}
 use Rattle.std.proofs.lemmas.List.{length-take-le}
 use Rattle.std.proofs.lemmas.Bool.Decides.{nat_tests}
@@ -88,3 +88,9 @@ font_reads quoted fonts cells text font n short known =
       next_fonts = rw token (ap (λ (b : Bool). record { value = face_fonts font fonts.value; is_set = b }) (set_anyway fonts.is_set (is_known font) known));
       left = ap (λ (k : ℕ). drop k text) (sym len);
     }
+
+-- ---- what is read, or not
+
+pub option_both : {X : Type 0} (o : Option X) (N M : Type 0) (F G : X → Type 0) → (N → M) → ((x : X) → F x → G x) → MatchOption o N F → MatchOption o M G
+option_both None N M F G none some h = none h
+option_both (Some x) N M F G none some h = some x h

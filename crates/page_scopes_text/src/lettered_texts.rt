@@ -151,11 +151,12 @@ fn read_first<'a>(
     if let Some(rest) = read_front(style, fonts, letters, len, text) {
         return Some((fonts, rest));
     }
-    let found = read_letters(style.is_quoted, fonts, letters, text)?;
+    let mut next = fonts;
+    let rest = read_letters(style.is_quoted, &mut next, letters, text)?;
     if letters.len() == 1 {
         return None;
     }
-    Some(found)
+    Some((next, rest))
 }
 
 // Gives the words of letters at the front of a text that begins with a word: the fonts after them, and what is left of the text.
@@ -183,8 +184,8 @@ fn give_read<'a, O: PieceOut>(
     if !letters.add(Font::R, b" ") {
         return None;
     }
-    let (next, rest) = read_first(style, pen.fonts, &mut letters, len, text)?;
-    let (next, rest) = read_words(style, next, &mut letters, rest);
+    let (mut next, first) = read_first(style, pen.fonts, &mut letters, len, text)?;
+    let rest = read_words(style, &mut next, &mut letters, first);
     if !letters.give(out, pen.gap) {
         return None;
     }

@@ -104,115 +104,112 @@ fn read_part<'a>(
     Some(&text[len..])
 }
 
-// Reads the escape at a text's front, where few bytes say that it asks for a font: the fonts after it, and what is left of the text.
+// Reads the escape at a text's front, where few bytes say that it asks for a font, and goes on with the fonts after it: what is left of the text.
 #[inline(always)]
-fn read_font(fonts: Setting<Fonts>, text: &[u8]) -> Option<(Setting<Fonts>, &[u8])>
-    ensures { IfSome result (λ found. ReadsFont fonts text.now found.0 found.1.now) }
+fn read_font<'a>(fonts: &mut Setting<Fonts>, text: &'a [u8]) -> Option<&'a [u8]>
+    ensures { MatchOption result (fonts.new ≡ fonts.old) (λ rest. ReadsFont fonts.old text.now fonts.new rest.now) }
 {
     let (name, len) = short_font(text)?;
     if !name.is_known() {
         return None;
     }
-    let fonts = Setting {
+    *fonts = Setting {
         value: fonts.value.named(name),
         is_set: true,
     };
-    Some((fonts, &text[len..]))
+    Some(&text[len..])
 }
 
-// Reads the token at a text's front as letters, if it is one of the most frequent ones: the fonts after it, and what is left of the text.
+// Reads the token at a text's front as letters, if it is one of the most frequent ones, and goes on with the fonts after it: what is left of the
+// text.
 #[inline(always)]
 fn read_frequent<'a>(
     quoted: bool,
-    fonts: Setting<Fonts>,
+    fonts: &mut Setting<Fonts>,
     letters: &mut Letters,
     text: &'a [u8],
-) -> Option<(Setting<Fonts>, &'a [u8])>
+) -> Option<&'a [u8]>
     requires { begins_word text.now ≡ true }
-    ensures { MatchOption result (letters.new ≡ letters.old)
-        (λ found. ReadsToken quoted fonts letters.old text.now found.0 letters.new found.1.now) }
+    ensures { MatchOption result ((letters.new ≡ letters.old) × (fonts.new ≡ fonts.old))
+        (λ rest. ReadsToken quoted fonts.old letters.old text.now fonts.new letters.new rest.now) }
 {
     if text[0] == b'\\' {
-        let (next, rest) = read_font(fonts, text)?;
-        return Some((next, rest));
+        return read_font(fonts, text);
     }
-    let rest = read_part(quoted, fonts, letters, text)?;
-    Some((fonts, rest))
+    read_part(quoted, *fonts, letters, text)
 }
 
-// Reads the token at a text's front as letters, if it is no more than that: the fonts after it, and what is left of the text.
+// Reads the token at a text's front as letters, if it is no more than that, and goes on with the fonts after it: what is left of the text.
 #[inline(always)]
 fn read_other<'a>(
     quoted: bool,
-    fonts: Setting<Fonts>,
+    fonts: &mut Setting<Fonts>,
     letters: &mut Letters,
     text: &'a [u8],
-) -> Option<(Setting<Fonts>, &'a [u8])>
+) -> Option<&'a [u8]>
     requires { (length text.now ≤ LINE) × (begins_word text.now ≡ true) }
     ensures { MatchOption result (letters.new ≡ letters.old)
-        (λ found. ReadsToken quoted fonts letters.old text.now found.0 letters.new found.1.now) }
+        (λ rest. ReadsToken quoted fonts.old letters.old text.now fonts.new letters.new rest.now) }
 {
     let token = read_token(quoted, text);
     if !take_token(letters, fonts.value.font, &token) {
         return None;
     }
-    Some((fonts_after(&token, fonts), &text[token.len()..]))
+    *fonts = fonts_after(&token, *fonts);
+    Some(&text[token.len()..])
 }
 
 // The same, where most tokens are one of the most frequent ones.
 #[inline(always)]
 fn read_letter_token<'a>(
     quoted: bool,
-    fonts: Setting<Fonts>,
+    fonts: &mut Setting<Fonts>,
     letters: &mut Letters,
     text: &'a [u8],
-) -> Option<(Setting<Fonts>, &'a [u8])>
+) -> Option<&'a [u8]>
     requires { (length text.now ≤ LINE) × (begins_word text.now ≡ true) }
     ensures { MatchOption result (letters.new ≡ letters.old)
-        (λ found. ReadsToken quoted fonts letters.old text.now found.0 letters.new found.1.now) }
+        (λ rest. ReadsToken quoted fonts.old letters.old text.now fonts.new letters.new rest.now) }
 {
-    if let Some(found) = read_frequent(quoted, fonts, letters, text) {
-        return Some(found);
+    if let Some(rest) = read_frequent(quoted, fonts, letters, text) {
+        return Some(rest);
     }
     read_other(quoted, fonts, letters, text)
 }
 
-/// Reads the word at a text's front as letters: the fonts after it, and what is left of the text.
+/// Reads the word at a text's front as letters, and goes on with the fonts after it: what is left of the text.
 #[inline(always)]
 pub(crate) fn read_letters<'a>(
     quoted: bool,
-    fonts: Setting<Fonts>,
+    fonts: &mut Setting<Fonts>,
     letters: &mut Letters,
     text: &'a [u8],
-) -> Option<(Setting<Fonts>, &'a [u8])>
+) -> Option<&'a [u8]>
     requires { length text.now ≤ LINE }
     ensures grows { Grows letters.old letters.new }
-    ensures reads { IfSome result (λ found.
-        AddsWord quoted fonts letters.old text.now found.0 letters.new found.1.now × (begins_word found.1.now ≡ false)) }
+    ensures reads { IfSome result (λ rest.
+        AddsWord quoted fonts.old letters.old text.now fonts.new letters.new rest.now × (begins_word rest.now ≡ false)) }
 {
-    let mut fonts = fonts;
     let mut rest = text;
     while begins_word(rest) {
-        let (next, after) = read_letter_token(quoted, fonts, letters, rest)?;
-        fonts = next;
-        rest = after;
+        rest = read_letter_token(quoted, fonts, letters, rest)?;
     }
-    Some((fonts, rest))
+    Some(rest)
 }
 
 // Reads one blank at a text's front, and the word after it as letters.
 #[inline(always)]
 fn read_blank_letters<'a>(
     style: TextStyle,
-    fonts: Setting<Fonts>,
+    fonts: &mut Setting<Fonts>,
     letters: &mut Letters,
     text: &'a [u8],
-) -> Option<(Setting<Fonts>, &'a [u8])>
+) -> Option<&'a [u8]>
     requires literal { style.is_literal ≡ false }
     requires short { length text.now ≤ LINE }
     ensures grows { Grows letters.old letters.new }
-    ensures less { IfSome result (λ found. length found.1.now < length text.now) }
-    ensures reads { IfSome result (λ found. AddsWords style fonts letters.old text.now found.0 letters.new found.1.now) }
+    ensures less { IfSome result (λ rest. length rest.now < length text.now) }
+    ensures reads { IfSome result (λ rest. AddsWords style fonts.old letters.old text.now fonts.new letters.new rest.now) }
 {
     if text.is_empty() || text[0] != b' ' || !begins_word(&text[1..]) {
         return None;
@@ -221,31 +218,33 @@ fn read_blank_letters<'a>(
     if !letters.add(Font::R, b" ") {
         return None;
     }
-    let found = read_letters(style.is_quoted, fonts, letters, &text[1..])?;
+    let rest = read_letters(style.is_quoted, fonts, letters, &text[1..])?;
     if letters.len() == start + 1 {
         return None;
     }
-    Some(found)
+    Some(rest)
 }
 
 // Reads one blank and a word at a text's front as letters, or takes nothing.
 #[inline(always)]
 fn read_word<'a>(
     style: TextStyle,
-    fonts: Setting<Fonts>,
+    fonts: &mut Setting<Fonts>,
     letters: &mut Letters,
     text: &'a [u8],
-) -> Option<(Setting<Fonts>, &'a [u8])>
+) -> Option<&'a [u8]>
     requires literal { style.is_literal ≡ false }
     requires short { length text.now ≤ LINE }
-    ensures none { MatchOption result (letters.new ≡ letters.old) (λ found. length found.1.now < length text.now) }
-    ensures reads { IfSome result (λ found. AddsWords style fonts letters.old text.now found.0 letters.new found.1.now) }
+    ensures none { MatchOption result ((letters.new ≡ letters.old) × (fonts.new ≡ fonts.old)) (λ rest. length rest.now < length text.now) }
+    ensures reads { IfSome result (λ rest. AddsWords style fonts.old letters.old text.now fonts.new letters.new rest.now) }
 {
     let start = letters.len();
-    if let Some(found) = read_blank_letters(style, fonts, letters, text) {
-        return Some(found);
+    let before = *fonts;
+    if let Some(rest) = read_blank_letters(style, fonts, letters, text) {
+        return Some(rest);
     }
     letters.cut(start);
+    *fonts = before;
     None
 }
 
@@ -281,46 +280,44 @@ fn read_run<'a>(
     Some(rest)
 }
 
-// Reads a run of roman words, or one word: the fonts after it, and what is left of the text.
+// Reads a run of roman words, or one word, and goes on with the fonts after it: what is left of the text.
 #[inline(always)]
 fn read_some<'a>(
     style: TextStyle,
-    fonts: Setting<Fonts>,
+    fonts: &mut Setting<Fonts>,
     letters: &mut Letters,
     text: &'a [u8],
-) -> Option<(Setting<Fonts>, &'a [u8])>
+) -> Option<&'a [u8]>
     requires literal { style.is_literal ≡ false }
     requires short { length text.now ≤ LINE }
     requires word { begins_word text.now ≡ false }
-    ensures none { MatchOption result (letters.new ≡ letters.old) (λ found. length found.1.now < length text.now) }
-    ensures reads { IfSome result (λ found. AddsWords style fonts letters.old text.now found.0 letters.new found.1.now) }
+    ensures none { MatchOption result ((letters.new ≡ letters.old) × (fonts.new ≡ fonts.old)) (λ rest. length rest.now < length text.now) }
+    ensures reads { IfSome result (λ rest. AddsWords style fonts.old letters.old text.now fonts.new letters.new rest.now) }
 {
-    if let Some(rest) = read_run(style, fonts, letters, text) {
-        return Some((fonts, rest));
+    if let Some(rest) = read_run(style, *fonts, letters, text) {
+        return Some(rest);
     }
     read_word(style, fonts, letters, text)
 }
 
-/// Reads words of letters at a text's front, as many as there is room for: the fonts after them, and what is left of the text.
+/// Reads words of letters at a text's front, as many as there is room for, and goes on with the fonts after them: what is left of the text.
 #[inline(always)]
 pub(crate) fn read_words<'a>(
     style: TextStyle,
-    fonts: Setting<Fonts>,
+    fonts: &mut Setting<Fonts>,
     letters: &mut Letters,
     text: &'a [u8],
-) -> (Setting<Fonts>, &'a [u8])
+) -> &'a [u8]
     requires literal { style.is_literal ≡ false }
     requires short { length text.now ≤ LINE }
     requires word { begins_word text.now ≡ false }
-    ensures { AddsWords style fonts letters.old text.now result.0 letters.new result.1.now }
+    ensures { AddsWords style fonts.old letters.old text.now fonts.new letters.new result.now }
 {
-    let mut fonts = fonts;
     let mut rest = text;
-    while let Some((next, after)) = read_some(style, fonts, letters, rest) {
-        fonts = next;
+    while let Some(after) = read_some(style, fonts, letters, rest) {
         rest = after;
     }
-    (fonts, rest)
+    rest
 }
 
 /// Whether there is a byte of ASCII at a place of a text: else no look is taken for words of letters there, since most words of some languages have
@@ -356,7 +353,8 @@ pub(crate) fn give_lettered_words<'a, O: PieceOut>(
         return text;
     }
     let mut letters = Letters::new();
-    let (fonts, rest) = read_words(style, pen.fonts, &mut letters, text);
+    let mut fonts = pen.fonts;
+    let rest = read_words(style, &mut fonts, &mut letters, text);
     if rest.len() == text.len() {
         return text;
     }

@@ -129,6 +129,37 @@ fn give_many<'a, O: PieceOut>(
     }
 }
 
+// So many bytes that a call gave at once ended where its room did, or nearly: more may be given at once.
+const MANY: usize = 64;
+
+// Gives the white space at a text's front, and the word after it, unless there is none, or words of so many bytes were given at once just now: what
+// is left of the text.
+#[inline(always)]
+fn give_next<'a, O: PieceOut>(
+    out: &mut O,
+    style: TextStyle,
+    line: u32,
+    pen: &mut Pen,
+    given: usize,
+    text: &'a [u8],
+) -> &'a [u8]
+    requires fits { Fits pen.old text.now }
+    requires word { begins_word text.now ≡ false }
+    ensures came { CameUpTo O.left out.old
+        (texts.others_items style line pen.old (words_of style.is_quoted text.now).others)
+        (texts.others_items style line pen.new (words_of style.is_quoted result.now).others) out.new }
+    ensures pen { texts.others_after style pen.new (words_of style.is_quoted result.now).others
+        ≡ texts.others_after style pen.old (words_of style.is_quoted text.now).others }
+    ensures within { Within pen.old text.now pen.new result.now }
+    ensures ends { begins_word result.now ≡ false }
+    ensures less { given < MANY → 0 < length text.now → length result.now < length text.now }
+{
+    if text.is_empty() || given >= MANY {
+        return text;
+    }
+    give_spaced(out, style, line, pen, text)
+}
+
 // Gives the words at a text's front, each with white space before it. It is a call, since most texts have only words that print themselves, with one
 // blank before each.
 #[inline(never)]
@@ -146,10 +177,10 @@ fn give_spaced_words<O: PieceOut>(
     ensures pen { pen.new ≡ texts.others_after style pen.old (words_of style.is_quoted text.now).others }
 {
     let mut tries = true;
-    let mut rest = give_many(out, style, line, pen, &mut tries, text);
+    let mut rest = text;
     while !rest.is_empty() {
-        let after = give_spaced(out, style, line, pen, rest);
-        rest = give_many(out, style, line, pen, &mut tries, after);
+        let after = give_many(out, style, line, pen, &mut tries, rest);
+        rest = give_next(out, style, line, pen, rest.len() - after.len(), after);
     }
 }
 

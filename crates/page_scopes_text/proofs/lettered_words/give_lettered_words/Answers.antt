@@ -8,15 +8,15 @@ pub returns-then-not-tries-clause-came : goal.returns-then-not-tries-clause-came
 returns-then-not-tries-clause-came g c =
     let pen = c.args.pen.now in
     let text = c.args.text.now in
-    let found = c.read_words.result in
-    let adds : AddsWords c.args.style pen.fonts [] text found.0 c.read_words.new.letters found.1.now = rw c.new-letters.ensures at c.read_words.ensures in
-    lettered_left g.O.PieceOut.left c.args.style pen found.0 text found.1.now c.read_words.new.letters _ _ _ adds (rw c.if-not-tries.true at c.give.ensures)
+    let rest = c.read_words-rest.result.now in
+    let adds : AddsWords c.args.style pen.fonts [] text c.read_words-rest.new.fonts c.read_words-rest.new.letters rest = rw c.new-letters.ensures at c.read_words-rest.ensures in
+    lettered_left g.O.PieceOut.left c.args.style pen c.read_words-rest.new.fonts text rest c.read_words-rest.new.letters _ _ _ adds (rw c.if-not-tries.true at c.give.ensures)
 
 pub returns-clause-came : goal.returns-clause-came
 returns-clause-came g c =
     let pen = c.args.pen.now in
     let text = c.args.text.now in
-    let found = c.read_words.result in
+    let rest = c.read_words-rest.result.now in
     let rests : pen ≡ resting pen.fonts pen.column = c.is_resting.ensures (search rules) in
-    let adds : AddsWords c.args.style pen.fonts [] text found.0 c.read_words.new.letters found.1.now = rw c.new-letters.ensures at c.read_words.ensures in
-    lettered_came g.O.PieceOut.left c.args.style c.args.line pen _ found.0 text found.1.now c.read_words.new.letters _ _ rests refl adds (rw c.if-not-tries.false at c.give.ensures)
+    let adds : AddsWords c.args.style pen.fonts [] text c.read_words-rest.new.fonts c.read_words-rest.new.letters rest = rw c.new-letters.ensures at c.read_words-rest.ensures in
+    lettered_came g.O.PieceOut.left c.args.style c.args.line pen _ c.read_words-rest.new.fonts text rest c.read_words-rest.new.letters _ _ rests refl adds (rw c.if-not-tries.false at c.give.ensures)

@@ -9,4 +9,4 @@ returns c = λ quoted cells.
     let text = c.args.text.now in
     let name = c.in_ok-name in
     rw (take_rest text name.len, c.named.ensures)
-    (font_reads quoted c.args.fonts cells text (face_view name.name) name.len name.ensures (sym c.if-not-is_known.ensures))
+    (font_reads quoted c.args.fonts.now cells text (face_view name.name) name.len name.ensures (sym c.if-not-is_known.ensures))

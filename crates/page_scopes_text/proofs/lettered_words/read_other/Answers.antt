@@ -20,7 +20,7 @@ returns c =
     let n = c.len.result in
     let is : n ≡ token_len quoted text = c.len.ensures ∙ ap (λ u. length (token_bytes u)) t.value in
     let some = t.some (begins_some text c.requires.1) in
-    let reads : ReadsToken quoted c.args.fonts c.args.letters.now text c.fonts_after.result c.take_token.new.letters (drop n text) =
+    let reads : ReadsToken quoted c.args.fonts.now c.args.letters.now text c.fonts_after.result c.take_token.new.letters (drop n text) =
     record {
       takes = rw t.value at (c.if-not-take_token.ensures.taken refl);
       some = omega (arith, some, is, c.len.ensures);
