@@ -1,11 +1,14 @@
 -- What tokens print, and its columns: helpers of proofs.
-use Rattle.std.proofs.Common.{◌≡◌, ℕ, ◌+◌, ◌<◌, ◌≤◌, ◌*◌, false, List, [], ◌∷◌, ◌++◌, length, codes, refl, ap, sym, ◌∙◌, arith, inl, inr, append_assoc, IsUtf8, chars, encode_utf8}
+use Rattle.std.proofs.Common.{◌≡◌, ℕ, ◌+◌, ◌-◌, ◌<◌, ◌≤◌, ◌*◌, ◌==◌, nat_lt, true, false, List, [], ◌∷◌, ◌++◌, length, replicate, codes, refl, ap, sym, ◌∙◌, arith, inl, inr, append_assoc, IsAscii, IsUtf8, chars, encode_utf8}
 use Rattle.std.specs.Str.{is_utf8}
-use Rattle.std.proofs.lemmas.Bool.{cases_Bool}
+use Rattle.std.proofs.lemmas.Bool.{and_parts, cases_Bool}
+use Rattle.std.proofs.lemmas.Bool.Decides.{nat_tests}
+use Rattle.std.proofs.lemmas.List.{replicate-append-replicate}
 use Rattle.std.proofs.lemmas.List.Sums.{sum_by-append}
 use Rattle.std.proofs.lemmas.Str.{chars-nil, chars_past_char, encodes-chars, length-le-encodes, chars-IsAscii, IsUtf8-from_ascii, is_utf8-from_IsUtf8, IsUtf8-from_is_utf8}
 use Rattle.std.proofs.lemmas.Str.Ascii.{IsAscii-nil, IsAscii-cons}
 use Rattle.page_core_base.specs.Pieces.{shown}
+use Rattle.page_core_base.specs.Words.{is_printable, is_printable_ascii}
 use Rattle.page_core_base.specs.declared.pieces.Piece.TheVariants.{Char}
 use Rattle.page_core_base.specs.declared.cells.Font.{Font}
 use Rattle.page_core_base.specs.declared.page_settings.Output.{Output}
@@ -65,6 +68,41 @@ chars-more bytes rest c u h = rw (chars_past_char bytes rest c u h) (omega arith
 -- a text has no more characters than bytes
 pub chars-within : (bytes : List ℕ) → IsUtf8 bytes → length (chars bytes) ≤ length bytes
 chars-within bytes u = let h = length-le-encodes (chars bytes) in rw (encodes-chars bytes u) at h
+
+-- ---- printable ASCII
+
+printable_byte : (output : Output) (c : ℕ) → is_printable c ≡ true → (char_printed output c).characters ≡ c ∷ []
+printable_byte output c is =
+    let tab : (c == 9) ≡ false = grind (arith, nat_tests, is) in
+    let blank : (c == 160) ≡ false = grind (arith, nat_tests, is) in
+    let ascii : nat_lt c 128 ≡ true = grind (arith, nat_tests, is) in
+    rw (tab, blank, ascii) refl
+
+printable_bytes : (output : Output) (text : List ℕ) → is_printable_ascii text ≡ true → plain_printed output text ≡ text
+printable_bytes output [] all = refl
+printable_bytes output (c ∷ cs) all =
+    let parts = and_parts (is_printable c) (is_printable_ascii cs) all in
+    rw (printable_byte output c parts.0) (ap (λ (bytes : List ℕ). c ∷ bytes) (printable_bytes output cs parts.1))
+
+are_ascii : (text : List ℕ) → is_printable_ascii text ≡ true → IsAscii text
+are_ascii [] all = IsAscii-nil
+are_ascii (c ∷ cs) all =
+    let parts = and_parts (is_printable c) (is_printable_ascii cs) all in
+    let low : c < 128 = grind (arith, nat_tests, parts) in
+    IsAscii-cons c cs low (are_ascii cs parts.1)
+
+-- each of its bytes is a character, in every output
+pub plain_printable : (output : Output) (text : List ℕ) → is_printable_ascii text ≡ true → plain_printed output (chars text) ≡ text
+plain_printable output text all = ap (plain_printed output) (chars-IsAscii text (are_ascii text all)) ∙ printable_bytes output text all
+
+-- ---- blanks, some at a time
+
+pub fewer_blanks : (font : Font) (place : Place) (run left : ℕ) → run ≤ left
+    → in_font font place (replicate left 32) ≡ in_font font place (replicate run 32) ++ in_font font place (replicate (left - run) 32)
+fewer_blanks font place run left h =
+    let e : left ≡ run + (left - run) = omega arith in
+    ap (λ (n : ℕ). in_font font place (replicate n 32)) e
+    ∙ ap (in_font font place) (sym (replicate-append-replicate run (left - run) 32)) ∙ in_font_append font place (replicate run 32) (replicate (left - run) 32)
 
 -- ---- a character of a text
 

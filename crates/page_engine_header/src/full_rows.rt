@@ -5,7 +5,8 @@ ghost use Rattle.page_core_base.specs.Pieces.{Item};
 ghost use Rattle.page_core_base.specs.declared.limits.TheConstants.{CELLS};
 ghost use Rattle.page_engine_header.specs.machine.RowPlans.{RowPlanned, RowLeft};
 
-use page_core_base::{CELLS, Note, Piece, PieceOut};
+use crate::run_outs::{RunOut, give_each};
+use page_core_base::{CELLS, Font, Note, Piece, PieceOut, Place};
 
 /// Hands on the characters of a row, each a piece, and ends the row before one that it has no room for.
 #[derive(Drop)]
@@ -49,6 +50,17 @@ impl<O: PieceOut> PieceOut for FullRows<'_, O> {
             self.room = CELLS - 1;
             self.out.give(Piece::Break);
             self.out.report(note);
+        }
+    }
+}
+
+impl<O: PieceOut> RunOut for FullRows<'_, O> {
+    // At once, where the row has room for all of them and they are taken so.
+    fn give_run(&mut self, font: Font, place: Place, text: &[u8]) {
+        if text.len() <= self.room && self.out.give_kept(text, font) {
+            self.room -= text.len();
+        } else {
+            give_each(self, font, place, text);
         }
     }
 }

@@ -8,7 +8,7 @@ ghost use Rattle.page_engine_header.specs.Header.{second_start, third_start, par
 use crate::fields::volume_of;
 use crate::full_rows::FullRows;
 use crate::printing::give_blanks;
-use crate::{Fields, Part};
+use crate::{Fields, Part, RunOut};
 use page_core_base::{Font, NoteKind, Output, Piece, PieceOut, Place};
 use page_scopes_words::report;
 
@@ -42,7 +42,7 @@ fn third_start(width: u32, first: u32, second: u32, third: u32) -> u32
 
 // Gives the characters of a row of three parts.
 #[tactic(auto, unfolding(crate::specs::Header::row_characters))]
-fn give_characters<O: PieceOut>(
+fn give_characters<O: RunOut>(
     out: &mut O,
     measure: Measure,
     place: Place,

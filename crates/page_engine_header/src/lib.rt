@@ -15,8 +15,10 @@ mod full_rows;
 mod headers;
 mod parts;
 mod printing;
+mod run_outs;
 
 pub use field_texts::Field;
 pub use fields::{Fields, report_cut_fields};
 pub use headers::{Measure, give_footer_row, give_header};
 pub use parts::Part;
+pub use run_outs::RunOut;

@@ -7,8 +7,9 @@ ghost use Rattle.page_scopes_words.specs.Fonts.{roman_fonts};
 ghost use Rattle.page_engine_header.specs.Printing.{tokens_columns, tokens_items};
 ghost use Rattle.page_engine_header.specs.Header.{name_tokens, part_tokens, IsShort};
 
+use crate::RunOut;
 use crate::printing::{give_char, give_text, text_columns};
-use page_core_base::{Output, PieceOut, Place};
+use page_core_base::{Output, Place};
 use page_scopes_words::ROMAN;
 
 /// A part of a header or a footer.
@@ -21,7 +22,7 @@ pub enum Part<'a> {
 }
 
 // Gives a title with its section in brackets.
-fn give_name<O: PieceOut>(out: &mut O, output: Output, place: Place, title: &[u8], section: &[u8])
+fn give_name<O: RunOut>(out: &mut O, output: Output, place: Place, title: &[u8], section: &[u8])
     requires title { length title.now ≤ 256 }
     requires section { length section.now ≤ 256 }
     ensures { Came O.left out.old
@@ -49,7 +50,7 @@ impl Part<'_> {
     }
 
     /// Gives what the part prints.
-    pub fn give<O: PieceOut>(self, out: &mut O, output: Output, place: Place)
+    pub fn give<O: RunOut>(self, out: &mut O, output: Output, place: Place)
         requires { IsShort self }
         ensures { Came O.left out.old
             (tokens_items output place roman_fonts (part_tokens self.entry)) out.new }

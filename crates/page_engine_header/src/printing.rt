@@ -3,13 +3,15 @@
 
 ghost use Rattle.std.specs.Prelude.{◌≡◌, ◌≤◌, ◌<◌, ◌*◌, [], ◌∷◌, false, length, replicate, chars};
 ghost use Rattle.page_core_base.specs.Latches.{Came};
+ghost use Rattle.page_core_base.specs.Words.{is_printable_ascii};
 ghost use Rattle.page_core_escapes.specs.Escapes.{meaning_view};
 ghost use Rattle.page_core_escapes.specs.Tokens.{token_bytes, token_view, tokens_of};
 ghost use Rattle.page_core_numbers.specs.Columns.{characters_columns, printed_escape};
 ghost use Rattle.page_core_tables.specs.Printed.{printed_view};
 ghost use Rattle.page_engine_header.specs.Printing.{plain_printed, token_printed, tokens_columns, in_font, tokens_items, fonts_after};
 
-use page_core_base::{Font, Output, Piece, PieceOut, Place};
+use crate::RunOut;
+use page_core_base::{BLANK_TEXT, Font, Output, Piece, Place, blank_text};
 use page_core_escapes::{Escape, Token, Tokens};
 use page_core_numbers::{escape_columns, printed_columns};
 use page_core_tables::{Printed, printed_char, printed_glyph};
@@ -61,54 +63,57 @@ pub(crate) fn text_columns(output: Output, text: &[u8]) -> u32
 }
 
 /// Gives a character.
-pub(crate) fn give_char<O: PieceOut>(out: &mut O, font: Font, place: Place, c: char)
+pub(crate) fn give_char<O: RunOut>(out: &mut O, font: Font, place: Place, c: char)
     ensures { Came O.left out.old (in_font font place (c ∷ [])) out.new }
 {
     out.give(Piece::Char { c, font, place });
 }
 
 /// Gives blanks.
-pub(crate) fn give_blanks<O: PieceOut>(out: &mut O, font: Font, place: Place, count: u32)
+pub(crate) fn give_blanks<O: RunOut>(out: &mut O, font: Font, place: Place, count: u32)
     ensures { Came O.left out.old (in_font font place (replicate count 32)) out.new }
 {
-    let mut left = count;
+    let mut left = count as usize;
     while left > 0 {
-        give_char(out, font, place, ' ');
-        left -= 1;
-    }
-}
-
-// Gives the characters of a spelling in ASCII.
-fn give_spelling<O: PieceOut>(out: &mut O, font: Font, place: Place, spelling: &str)
-    ensures { Came O.left out.old (in_font font place spelling.now) out.new }
-{
-    for byte in spelling.as_bytes() {
-        give_char(out, font, place, *byte as char);
+        let run = left.min(BLANK_TEXT);
+        out.give_run(font, place, blank_text(run));
+        left -= run;
     }
 }
 
 // Gives what a character or a glyph prints.
-fn give_printed<O: PieceOut>(out: &mut O, font: Font, place: Place, printed: Printed<'_>)
+fn give_printed<O: RunOut>(out: &mut O, font: Font, place: Place, printed: Printed<'_>)
     ensures { Came O.left out.old (in_font font place (printed_view printed.entry).characters) out.new }
 {
     match printed {
         Printed::Char(c) => give_char(out, font, place, c),
-        Printed::Spelling(spelling) => give_spelling(out, font, place, spelling),
-        Printed::NoSpelling(_) | Printed::NoGlyph(_) => give_spelling(out, font, place, "<?>"),
+        Printed::Spelling(spelling) => out.give_run(font, place, spelling.as_bytes()),
+        Printed::NoSpelling(_) | Printed::NoGlyph(_) => out.give_run(font, place, b"<?>"),
     }
 }
 
+// Whether bytes are printable ASCII, of which each is a character in every output.
+fn are_printable(bytes: &[u8]) -> bool
+    ensures { result ≡ is_printable_ascii bytes.now }
+{
+    bytes.iter().all(|byte| b' ' <= *byte && *byte <= b'~')
+}
+
 // Gives characters that print themselves.
-fn give_plain<O: PieceOut>(out: &mut O, output: Output, font: Font, place: Place, text: &str)
+fn give_plain<O: RunOut>(out: &mut O, output: Output, font: Font, place: Place, text: &str)
     ensures { Came O.left out.old (in_font font place (plain_printed output (chars text.now))) out.new }
 {
+    if are_printable(text.as_bytes()) {
+        out.give_run(font, place, text.as_bytes());
+        return;
+    }
     for c in text.chars() {
         give_printed(out, font, place, printed_char(output, c));
     }
 }
 
 // Gives what an escape prints.
-fn give_escape<O: PieceOut>(
+fn give_escape<O: RunOut>(
     out: &mut O,
     output: Output,
     font: Font,
@@ -133,7 +138,7 @@ fn give_escape<O: PieceOut>(
 }
 
 // Gives what a token prints.
-fn give_token<O: PieceOut>(out: &mut O, output: Output, font: Font, place: Place, token: &Token<'_>)
+fn give_token<O: RunOut>(out: &mut O, output: Output, font: Font, place: Place, token: &Token<'_>)
     requires { length (token_bytes (token_view token.now)) ≤ 256 }
     ensures { Came O.left out.old (in_font font place (token_printed output (token_view token.now))) out.new }
 {
@@ -150,7 +155,7 @@ fn give_token<O: PieceOut>(out: &mut O, output: Output, font: Font, place: Place
 }
 
 /// Gives what a text prints, from the fonts before it; the fonts after it.
-pub(crate) fn give_text<O: PieceOut>(
+pub(crate) fn give_text<O: RunOut>(
     out: &mut O,
     output: Output,
     fonts: Fonts,
