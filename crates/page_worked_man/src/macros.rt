@@ -1,7 +1,7 @@
 //! The macros of man(7): worked pages. Written by tools/worked, from the cases of `page_cases`.
 
 ghost use Rattle.std.specs.Prelude.{[], ◌∷◌, ◌++◌, codes, replicate};
-ghost use Rattle.page_worked.specs.Pages.{Shows, plain, bold, italic, man_page, man_rows};
+ghost use Rattle.page_worked.specs.Pages.{Shows, plain, utf8, bold, italic, man_page, man_rows};
 
 /// man(7), TH.
 pub fn th_pages_1()
@@ -16,6 +16,16 @@ pub fn th_pages_1()
         codes "       a" ∷
         [] ∷
         codes "S \"T\"                              20   20                              A-B(1)" ∷ [])
+        [] }
+    // a title and a source that are not all ASCII (man(7), TH)
+    ensures a_title_and_a_source_that_are_not_all_ascii { Shows plain
+        (utf8 (codes ".TH CÆSAR 1 2020-01-01 \"Été 一\"") ∷ codes ".SH A" ∷ codes "a" ∷ [])
+        (codes "CAESAR(1)                  General Commands Manual                   CAESAR(1)" ∷
+        [] ∷
+        bold (codes "A") ∷
+        codes "       a" ∷
+        [] ∷
+        codes "Ete <?>                           2020-01-01                         CAESAR(1)" ∷ [])
         [] }
     // requests before the body have no effect (man(7), TH)
     ensures requests_before_the_body_have_no_effect { Shows plain
@@ -120,6 +130,10 @@ pub fn th_pages_1()
         [] ∷
         codes "S                                 2020-01-01                              T(8)" ∷ [])
         [] }
+{}
+
+/// man(7), TH.
+pub fn th_pages_2()
     // the volume of section 9 (man(7), TH)
     ensures the_volume_of_section_9 { Shows plain
         (codes ".TH T 9 2020-01-01 S" ∷ codes ".SH A" ∷ codes "x" ∷ [])
@@ -130,10 +144,6 @@ pub fn th_pages_1()
         [] ∷
         codes "S                                 2020-01-01                              T(9)" ∷ [])
         [] }
-{}
-
-/// man(7), TH.
-pub fn th_pages_2()
     // the volume of a section with letters is that of its digit (man(7), TH)
     ensures the_volume_of_a_section_with_letters_is_that_of { Shows plain
         (codes ".TH T 3p 2020-01-01 S" ∷ codes ".SH A" ∷ codes "x" ∷ [])
