@@ -10,10 +10,23 @@ ghost use Rattle.page_core_base.specs.Words.{blank_words, is_printable_ascii, wo
 ghost use Rattle.page_core_escapes.specs.Tokens.{begins_word};
 ghost use Rattle.page_scopes_text.specs.machine.Runs.{BeginsRun, BeginsWith, TakesFront, is_whole_word};
 ghost use Rattle.page_scopes_text.specs.Words as words;
+ghost use Rattle.page_scopes_words.specs.machine.RunEnds.{GoesOn};
 
 use crate::parts::give_parts;
 use page_core_base::{Font, LINE, Piece, PieceOut, Place};
 use page_scopes_words::{ROOM, blank_before, equal_fonts, going_len};
+
+// How many bytes at a text's front, at most a number, come before the first at which a run of words ends. No more of the text is looked at.
+#[inline(always)]
+fn going_within(quoted: bool, text: &[u8], most: usize) -> usize
+    ensures within { result ≤ length text.now }
+    ensures goes { GoesOn quoted text.now 0 result }
+{
+    if text.len() <= most {
+        return going_len(quoted, text);
+    }
+    going_len(quoted, &text[..most + 1]).min(most)
+}
 
 /// How many bytes at a text's front, at most a number, are words of printable ASCII, with one blank before each, and without a hyphen.
 #[inline(always)]
@@ -24,10 +37,7 @@ pub(crate) fn run_len(quoted: bool, text: &[u8], most: usize) -> usize
     ensures ascii { is_printable_ascii (take result text.now) ≡ true }
     ensures run { BeginsRun quoted text.now (take result text.now) (drop result text.now) }
 {
-    let len = going_len(quoted, text);
-    if most < len {
-        return blank_before(text, most);
-    }
+    let len = going_within(quoted, text, most);
     if len == text.len() || text[len] == b' ' {
         return len;
     }
