@@ -15,8 +15,11 @@ pub fn shown(name: &str) -> ShownName<'_> {
 
 impl Display for ShownName<'_> {
     fn fmt<W: fmt::Write>(&self, f: &mut fmt::Formatter<W>) -> fmt::Result {
-        for c in self.name.chars() {
-            f.write_char(if c.is_control() { '?' } else { c })?;
+        for (count, part) in self.name.split(|c: char| c.is_control()).enumerate() {
+            if count > 0 {
+                f.write_char('?')?;
+            }
+            f.write_str(part)?;
         }
         Ok(())
     }
