@@ -117,6 +117,15 @@ def tabs_of_columns(part):
     return HEAD + ".Bl -column a b\n.It a\n", "\t" * (16_000 * part) + "x\n"
 
 
+def cells_of_a_letter(part):
+    return HEAD + ".Bl -column a b c\n", ".It " + "a\t" * (8_000 * part) + "\n"
+
+
+def long_words(part):
+    """Words of which few have room together, and a blank at the line's end."""
+    return MAN, ("a" * 128 + " ") * (126 * part) + "\n"
+
+
 LINES_OF = [
     ("\\w without ends, in a value", in_widths(unended)),
     ("the same, two values in turn", in_widths(unended, "ab")),
@@ -128,9 +137,11 @@ LINES_OF = [
     ("widths of CJK, all different", in_different_widths(lambda size: chr(0x4E00) * (size // 3))),
     ("widths of glyphs, all different", in_different_widths(lambda size: "\\(bu" * (size // 4))),
     ("widths of \\h, all different", in_different_widths(lambda size: "\\h'1'" * (size // 5))),
+    ("widths of \\h'(((', all different", in_different_widths(lambda size: ("\\h'" + "(" * 15 + "'") * (size // 19))),
     ("widths of plain letters", in_widths(lambda size, at: "x" * size)),
     ("Nm of blanks", names_of("\\h'999'", 36)),
     ("Nm of blanks in two fonts", names_of("\\h'999'\\fB\\h'999'\\fI", 12)),
+    ("Nm of blanks and letters", names_of("\\h'999'\u00e9", 28)),
     ("Nm of plain letters", names_of("x", 256)),
     ("Nm of CJK letters", names_of(chr(0x4E00), 84)),
     ("Nm of glyphs", names_of("\\(bu", 64)),
@@ -138,6 +149,8 @@ LINES_OF = [
     ("Nm of \\&", names_of("\\&", 128)),
     ("\\h'999'", blanks),
     ("tabs of columns", tabs_of_columns),
+    ("cells of a letter", cells_of_a_letter),
+    ("words of 128 letters", long_words),
 ]
 
 
