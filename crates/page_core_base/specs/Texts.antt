@@ -1,6 +1,5 @@
 -- The text of a line. Source: mandoc(1), -K; roff(7), "LANGUAGE SYNTAX".
-use Rattle.std.specs.Prelude.{ℕ, ◌≤◌, ◌≡◌, Bool, true, not, ◌&&◌, ◌||◌, ◌==◌, nat_lt, List, [], ◌∷◌, length, IsUtf8}
-use Rattle.std.specs.List.{list_all}
+use Rattle.std.specs.Prelude.{ℕ, ◌+◌, ◌<◌, ◌≤◌, ◌≡◌, Bool, true, false, not, ◌&&◌, ◌||◌, ◌==◌, nat_lt, List, [], ◌∷◌, length, get_or, IsUtf8}
 use Rattle.page_core_base.specs.Limits.{LINE}
 
 -- a byte after another belongs to no control character but the tab; of those above ASCII the first byte is 0xC2 and the second below 0xA0
@@ -17,6 +16,18 @@ pub record IsLine (text : List ℕ) : Type 0 where
   pub bounded : length text ≤ LINE
   pub plain : has_no_control 0 text ≡ true
 
--- no byte of a line is a backslash (92), so no escape, comment or joined line begins in it
-abbrev pub lacks_backslash : List ℕ → Bool
-lacks_backslash line = list_all (λ byte. not (byte == 92)) line
+-- a backslash (92)
+abbrev pub is_backslash : ℕ → Bool
+is_backslash byte = byte == 92
+
+-- a byte that after a backslash begins a comment (" 34, # 35), ends a block (} 125) or may begin an interpolation (* 42, n 110, $ 36, w 119)
+abbrev pub is_key : ℕ → Bool
+is_key byte = byte == 34 || (byte == 35 || (byte == 125 || (byte == 42 || (byte == 110 || (byte == 36 || byte == 119)))))
+
+-- whether a backslash and such a byte are at a place
+abbrev pub key_at : List ℕ → ℕ → Bool
+key_at line k = is_backslash (get_or line k 0) && is_key (get_or line (k + 1) 0)
+
+-- nowhere in a line, so no comment, no end of a block and no interpolation begins in it
+abbrev pub IsFreeLine : List ℕ → Type 0
+IsFreeLine line = (k : ℕ) → k + 1 < length line → key_at line k ≡ false

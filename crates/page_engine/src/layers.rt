@@ -3,7 +3,7 @@
 ghost use Rattle.std.specs.Prelude.{◌≡◌, ◌<◌, ◌+◌, ◌^◌, true, false, OnOk, IfOk, IfErr, MatchResult, Some, None};
 ghost use Rattle.page_core_base.specs.Fails.{FailsBySink};
 ghost use Rattle.page_core_base.specs.Laid.{Gets};
-ghost use Rattle.page_core_base.specs.Texts.{IsLine, lacks_backslash};
+ghost use Rattle.page_core_base.specs.Texts.{IsLine, IsFreeLine};
 ghost use Rattle.page_roff_lines.specs.Cutting.{line_of};
 ghost use Rattle.page_roff_source.specs.Edges.{counts_of};
 ghost use Rattle.page_fill.specs.declared.edges.Edge.{Edge as FillEdge};
@@ -140,18 +140,18 @@ impl Layers {
         })
     }
 
-    /// Takes a line, which may be known to have no backslash, and gives what it settles. After a fault, which is one of a sink, the layers are not
+    /// Takes a line, which may be known to be free, and gives what it settles. After a fault, which is one of a sink, the layers are not
     /// to be used again.
     pub(crate) fn feed<R: RowSink, N: NoteSink>(
         &mut self,
         text: &[u8],
         number: u32,
-        plain: bool,
+        free: bool,
         rows: &mut R,
         notes: &mut N,
     ) -> Result<(), Fault>
         requires line { IsLine text.now }
-        requires plain { plain ≡ true → lacks_backslash text.now ≡ true }
+        requires free { free ≡ true → IsFreeLine text.now }
         requires count { self.old.lines.roff.source < 2 ^ 31 }
         ensures gets { (e : Edge) → IsAt self.old e →
             Gets result R.gave R.within N.gave N.within rows.old rows.new notes.old notes.new
@@ -166,7 +166,7 @@ impl Layers {
         ensures notes_same { N.loans notes.new ≡ N.loans notes.old }
     {
         let mut sink = page_sink!(self, rows, notes);
-        let result = self.lines.line(&mut sink, number, text, plain);
+        let result = self.lines.line(&mut sink, number, text, free);
         self.worst = sink.notes.worst;
         self.last = Some(number);
         result
@@ -198,12 +198,12 @@ impl Layers {
         ensures rows_same { R.loans rows.new ≡ R.loans rows.old }
         ensures notes_same { N.loans notes.new ≡ N.loans notes.old }
     {
-        let plain = cutter.is_plain();
+        let free = cutter.is_free();
         let mut filter = level_filter!(self, &mut *notes);
         let line = cutter.line(&mut filter);
         self.worst = filter.worst;
         let (text, number) = line?;
-        self.feed(text, number, plain, rows, notes)
+        self.feed(text, number, free, rows, notes)
     }
 }
 

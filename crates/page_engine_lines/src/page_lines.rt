@@ -1,7 +1,7 @@
 //! The layers of a page that make pieces of its source lines: roff, and the macros.
 
 ghost use Rattle.std.specs.Prelude.{◌≡◌, ◌<◌, ◌^◌, true, IfOk, IfErr};
-ghost use Rattle.page_core_base.specs.Texts.{IsLine, lacks_backslash};
+ghost use Rattle.page_core_base.specs.Texts.{IsLine, IsFreeLine};
 ghost use Rattle.page_core_base.specs.Latches.{Came, Emits};
 ghost use Rattle.page_roff_source.specs.Caps.{RoffFits};
 ghost use Rattle.page_roff_source.specs.Edges.{counts_of};
@@ -103,23 +103,17 @@ impl PageLines {
         self.body.has_title()
     }
 
-    // Gives a source line, which may be known to have no backslash, and keeps what it leaves.
+    // Gives a source line, which may be known to be free, and keeps what it leaves.
     #[tactic(auto, unfolding(crate::specs::machine::Lines::source_items))]
-    fn give_line<L: PieceOut>(
-        &mut self,
-        out: &mut ItemOut<L>,
-        number: u32,
-        text: &[u8],
-        plain: bool,
-    )
+    fn give_line<L: PieceOut>(&mut self, out: &mut ItemOut<L>, number: u32, text: &[u8], free: bool)
         requires line { IsLine text.now }
-        requires plain { plain ≡ true → lacks_backslash text.now ≡ true }
+        requires free { free ≡ true → IsFreeLine text.now }
         requires count { self.old.roff.source < 2 ^ 31 }
         ensures came { Came L.left out.old.latch (lines.source_items self.old number text.now) out.new.latch }
         ensures after { self.new ≡ lines.source_after self.old number text.now }
     {
         report_trailing(out, number, text);
-        match self.roff.take_source(text, number, plain) {
+        match self.roff.take_source(text, number, free) {
             Some(taken) => give_finished(&mut self.body, taken, out),
             None => give_taken(&mut self.roff, &mut self.body, out),
         }
@@ -144,16 +138,16 @@ impl PageLines {
 }
 
 impl PageLines {
-    /// Takes a source line, which may be known to have no backslash, and gives its pieces and messages.
+    /// Takes a source line, which may be known to be free, and gives its pieces and messages.
     pub fn line<O: PieceSink>(
         &mut self,
         out: &mut O,
         number: u32,
         text: &[u8],
-        plain: bool,
+        free: bool,
     ) -> Result<(), Fault>
         requires line { IsLine text.now }
-        requires plain { plain ≡ true → lacks_backslash text.now ≡ true }
+        requires free { free ≡ true → IsFreeLine text.now }
         requires count { self.old.roff.source < 2 ^ 31 }
         ensures gives { Emits result O.took O.broke out.old
             (lines.source_items self.old number text.now) out.new }
@@ -163,7 +157,7 @@ impl PageLines {
         let mut items = ItemOut {
             latch: PieceLatch::new(out),
         };
-        self.give_line(&mut items, number, text, plain);
+        self.give_line(&mut items, number, text, free);
         items.latch.done()
     }
 

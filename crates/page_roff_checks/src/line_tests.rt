@@ -474,10 +474,12 @@ fn gives_no_message_that_is_not_taken(rt: HostRuntime) -> Result<(), Fail> {
     Ok(())
 }
 
-// Whether a line of a page that is not its first is known to have no backslash.
-fn is_known_as_plain(alloc: Global, line: &str) -> Result<bool, Fail> {
+// Whether a line of a page that is not its first, nor its last, is known to be free.
+fn is_known_as_free(alloc: Global, line: &str) -> Result<bool, Fail> {
     let mut notes = KeptNotes::new(alloc);
-    let page = format!(in alloc; "a\n{line}\n")?;
+    let page = format!(in alloc;
+        "a\n{line}\nmore words of the page, which follow the line that is looked at\n"
+    )?;
     if page.len() > 1000 {
         return Ok(false);
     }
@@ -491,18 +493,24 @@ fn is_known_as_plain(alloc: Global, line: &str) -> Result<bool, Fail> {
     if !whole {
         return Ok(false);
     }
-    Ok(cutter.is_plain())
+    Ok(cutter.is_free())
 }
 
-// Lines, and whether they are known to have no backslash: some of more bytes than a vector has.
-const PLAIN_LINES: [(&str, bool); 7] = [
+// Lines, and whether they are known to be free: no comment, no end of a block and no interpolation begins in them. Some have more bytes than a
+// vector has.
+const FREE_LINES: [(&str, bool); 16] = [
     ("words", true),
     (".SH NAME", true),
     (
         "a line of words alone, which has more than thirty-two bytes",
         true,
     ),
-    ("a\\fBb\\fP", false),
+    ("a\\fBb\\fP", true),
+    ("ends\\&", true),
+    (
+        "\\fBwords\\fP with \\- and \\(bu in them, which have more than thirty-two bytes",
+        true,
+    ),
     (
         "a line of words, which has more than thirty-two bytes, and then \\*x",
         false,
@@ -511,14 +519,21 @@ const PLAIN_LINES: [(&str, bool); 7] = [
         "\\*x before a line of words, which has more than thirty-two bytes",
         false,
     ),
-    ("ends\\&", false),
+    ("\\fBa\\fP\\*(xx", false),
+    ("a string \\*x", false),
+    ("a register \\nx", false),
+    ("an argument \\$1", false),
+    ("a width \\w'x'", false),
+    ("the end of a block \\}", false),
+    ("a comment \\\" of words", false),
+    ("a backslash \\\\*x", false),
 ];
 
 #[test]
-fn knows_lines_without_a_backslash(rt: HostRuntime) -> Result<(), Fail> {
-    for (line, want) in PLAIN_LINES {
-        let is_plain = is_known_as_plain(rt.alloc(), line)?;
-        assert!(rt; is_plain == want, "{line}");
+fn knows_lines_that_are_free(rt: HostRuntime) -> Result<(), Fail> {
+    for (line, want) in FREE_LINES {
+        let is_free = is_known_as_free(rt.alloc(), line)?;
+        assert!(rt; is_free == want, "{line}");
     }
     Ok(())
 }

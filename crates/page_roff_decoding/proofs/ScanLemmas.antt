@@ -11,7 +11,6 @@ use lib.Lanes.{chunk, mask_l, top, Each1}
 use lib.Count.{count_trailing_zeros}
 use Rattle.page_roff_decoding.specs.Characters.{is_printable}
 use Rattle.page_roff_decoding.specs.machine.Scan.{is_text}
-use Rattle.page_core_base.specs.Texts.{lacks_backslash}
 
 pub and_true : (a b : Bool) → (a && b) ≡ true → (a ≡ true) × (b ≡ true)
 and_true true b h = (refl, h)
@@ -39,9 +38,6 @@ all-front p q w (x ∷ xs) (suc n) h = front-step (p x) q x xs n (prefix_len p x
 
 pub text-printable : (xs : List ℕ) (n : ℕ) → n ≤ prefix_len is_text xs → list_all is_printable (take n xs) ≡ true
 text-printable = all-front is_text is_printable (λ x h. (and_true (is_printable x) _ h).0)
-
-pub text-lacks : (xs : List ℕ) (n : ℕ) → n ≤ prefix_len is_text xs → lacks_backslash (take n xs) ≡ true
-text-lacks = all-front is_text (λ b. not (b == 92)) (λ x h. (and_true (is_printable x) _ h).1)
 
 -- a test of lanes, read from the top bits of what was computed lane by lane
 each_byte : (f : ℕ → ℕ) (p : ℕ → Bool) → agree_below (λ x. top 7 (f x)) p 256 ≡ true → (v : List ℕ) → Each1 (Fits w8) v → map (top 7) (map f v) ≡ map p v

@@ -25,7 +25,7 @@ use Rattle.page_roff_effects.specs.declared.at_once.AtOnce.TheVariants as ways
 use Rattle.page_roff_effects.specs.declared.commands.Command.TheVariants.{Call, Pass}
 use Rattle.page_roff_effects.specs.declared.commands.ProductKind.TheVariants as kinds
 use Rattle.page_roff_effects.specs.machine.Acting.{Acting, measured, plain_form, CallsIf, IsOrdinary, IsQuiet, TakesIf}
-use Rattle.page_roff_effects.specs.machine.FreeLines.{IsFreeLine}
+use Rattle.page_core_base.specs.Texts.{IsFreeLine}
 use Rattle.page_roff_effects.specs.Commands.{called_body, command_of, command_or, request_command}
 use Rattle.page_roff_effects.specs.Leaves.{ControlLine, calls, control_outcome, command_outcome, does, leaf_outcome, rest_column, rest_of, text_outcome}
 use Rattle.page_roff_effects.specs.States.{Memory, Outcome, Setting, call_product, gives_line, surroundings}

@@ -1,7 +1,7 @@
 -- Free lines, and the vectors by which they are found: helpers of proofs.
-use Rattle.std.proofs.Common.{◌≡◌, ℕ, ◌+◌, ◌-◌, ◌<◌, ◌≤◌, ◌==◌, Bool, true, false, not, ◌||◌, ◌&&◌, nat_lt, cond, min, bit_and, List, [], ◌∷◌, zero, suc, map, length, get_or, None, refl, sym, ap, ap₂, ◌∙◌, arith}
+use Rattle.std.proofs.Common.{◌≡◌, ℕ, ◌+◌, ◌-◌, ◌<◌, ◌≤◌, ◌==◌, Bool, true, false, not, ◌||◌, ◌&&◌, nat_lt, cond, min, bit_and, List, map, length, get_or, None, refl, sym, ap, ap₂, ◌∙◌, arith}
 use Rattle.std.specs.Int.{bit_at}
-use Rattle.std.proofs.lemmas.Bool.{and_parts, eqb-true}
+use Rattle.std.proofs.lemmas.Bool.{eqb-true}
 use Rattle.std.proofs.lemmas.Bool.Decides.{nat_tests}
 use Rattle.std.proofs.lemmas.List.{get_or-map}
 use Rattle.std.proofs.lemmas.Nat.Bits.{bit_at_and, bit_at-zero}
@@ -17,22 +17,8 @@ use Rattle.page_roff_parts.specs.machine.Verbatim.{IsFree, may_call}
 use Rattle.page_roff_parts.proofs.VerbatimLemmas.{verbatim_free}
 use Rattle.page_roff_values.specs.machine.Verbatim.{GivesItself}
 use Rattle.page_roff_values.proofs.CopiedLemmas.{gives_itself}
-use Rattle.page_roff_effects.specs.machine.FreeLines.{IsFreeFrom, IsFreeLine, is_backslash, is_key}
-use Rattle.page_core_base.specs.Texts.{lacks_backslash}
-
--- ---- lines without a backslash
-
-not_key : (b c : Bool) → not b ≡ true → (b && c) ≡ false
-not_key true c h = let no : ⊥ = cc in absurd no
-not_key false c h = refl
-
-lacking : (line : List ℕ) → lacks_backslash line ≡ true → (k : ℕ) → not (is_backslash (get_or line k 0)) ≡ true
-lacking [] h k = refl
-lacking (x ∷ xs) h zero = (and_parts (not (is_backslash x)) (lacks_backslash xs) h).0
-lacking (x ∷ xs) h (suc k) = lacking xs (and_parts (not (is_backslash x)) (lacks_backslash xs) h).1 k
-
-pub lacking_free : (line : List ℕ) → lacks_backslash line ≡ true → IsFreeLine line
-lacking_free line h = λ k l. not_key (is_backslash (get_or line k 0)) (is_key (get_or line (k + 1) 0)) (lacking line h k)
+use Rattle.page_core_base.specs.Texts.{IsFreeLine, is_backslash, is_key}
+use Rattle.page_roff_effects.specs.machine.FreeLines.{IsFreeFrom}
 
 -- ---- what a free line lacks
 

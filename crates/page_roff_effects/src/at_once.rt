@@ -5,8 +5,7 @@ ghost use Rattle.page_core_base.specs.LinesTaken.{line_view};
 ghost use Rattle.page_core_base.specs.declared.limits.TheConstants.{LINE};
 ghost use Rattle.page_roff_syntax.specs.LineForms.{form_of, name_of};
 ghost use Rattle.page_roff_effects.specs.machine.Acting.{measured, CallsIf, IsTaken, TakesIf};
-ghost use Rattle.page_roff_effects.specs.machine.FreeLines.{IsFreeLine};
-ghost use Rattle.page_core_base.specs.Texts.{lacks_backslash};
+ghost use Rattle.page_core_base.specs.Texts.{IsFreeLine};
 ghost use Rattle.page_roff_effects.specs.Leaves.{leaf_outcome};
 
 use crate::actions::Actions;
@@ -83,16 +82,15 @@ impl Actions {
         })
     }
 
-    /// Takes a raw line, which may be known to have no backslash, if it is one part that calls a macro or is left to the set of macros, as it is
+    /// Takes a raw line, which may be known to be free, if it is one part that calls a macro or is left to the set of macros, as it is
     /// written: it heads and defines nothing, and nothing in it is interpolated. Says which it was, and lends the line; the call is lent from then on.
     /// There is no message, and nothing else changes.
-    #[tactic(auto, using(crate::proofs::FreeLemmas::lacking_free))]
-    pub fn take_at_once<'l>(&mut self, raw: &'l [u8], plain: bool) -> AtOnce<'l>
+    pub fn take_at_once<'l>(&mut self, raw: &'l [u8], free: bool) -> AtOnce<'l>
         requires short { length raw.now ≤ LINE }
-        requires plain { plain ≡ true → lacks_backslash raw.now ≡ true }
+        requires free { free ≡ true → IsFreeLine raw.now }
         ensures { TakesIf result self.old raw.now (λ may_call. leaf_outcome (measured self.old.setting) may_call raw.now self.old.memory) self.new }
     {
-        if !plain && !is_free(raw) {
+        if !free && !is_free(raw) {
             return AtOnce::Nothing;
         }
         match control_name(raw) {

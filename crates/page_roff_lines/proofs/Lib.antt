@@ -13,4 +13,5 @@ pub mod LineAgreement
 pub mod HeldLaws
 pub mod WholeLemmas
 pub mod VectorLemmas
+pub mod FreeLines
 pub mod LineLemmas

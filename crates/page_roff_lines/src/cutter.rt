@@ -9,7 +9,7 @@ ghost use Rattle.page_roff_lines.specs.Cutting.{Point, first_point, point_after,
 ghost use Rattle.page_roff_lines.specs.Whole.{whole_lines, lines_made, line_left};
 ghost use Rattle.page_core_base.specs.Sinks.{Gives};
 ghost use Rattle.page_core_base.specs.Fails.{FailsAs, Rose};
-ghost use Rattle.page_core_base.specs.Texts.{IsLine, lacks_backslash};
+ghost use Rattle.page_core_base.specs.Texts.{IsLine, IsFreeLine};
 
 use crate::open::OpenLine;
 use page_core_base::{BoundedText, Encoding, Fault, LINE, NoteSink};
@@ -164,12 +164,13 @@ impl Cutter {
         (text, self.line.number())
     }
 
-    /// Whether the line that is whole is known to have no backslash, which is asked before [`Cutter::line`].
-    pub fn is_plain(&self) -> bool
+    /// Whether the line that is whole is known to be free: no comment, no end of a block and no interpolation of roff begins in it. It is asked before
+    /// [`Cutter::line`].
+    pub fn is_free(&self) -> bool
         requires { self.now.ready ≡ true }
-        ensures { result ≡ true → lacks_backslash (line_of self.now.point).text ≡ true }
+        ensures { result ≡ true → IsFreeLine (line_of self.now.point).text }
     {
-        self.line.is_plain()
+        self.line.is_free()
     }
 
     /// The line that is whole: its text, decoded, and the number of its first physical line. What is to be said of

@@ -3,7 +3,7 @@ ghost use Rattle.std.specs.Prelude.{◌≡◌, ◌+◌, ◌^◌, ◌<◌, ◌≤
 ghost use Rattle.std.specs.List.{list_all};
 ghost use Rattle.page_roff_decoding.specs.Characters.{is_printable};
 ghost use Rattle.page_roff_lines.specs.machine.Held.{extend, shorten, nothing_held};
-ghost use Rattle.page_core_base.specs.Texts.{lacks_backslash};
+ghost use Rattle.page_core_base.specs.Texts.{IsFreeLine};
 
 use page_core_base::LINE;
 use page_roff_decoding::{is_printable, is_printable_ascii};
@@ -17,8 +17,8 @@ pub struct HeldText {
     total: u32,
     // Whether the bytes that are held are known to be printable.
     printable: bool,
-    // Whether they are known to be printable, and to have no backslash.
-    plain: bool,
+    // Whether they are known to be printable, and to be free: no comment, no end of a block and no interpolation begins in them.
+    free: bool,
 }
 
 impl Model for HeldText {
@@ -27,7 +27,7 @@ impl Model for HeldText {
     ghost use Rattle.page_core_base.specs.declared.limits.TheConstants.{LINE};
     ghost use Rattle.page_roff_decoding.specs.Characters.{is_printable};
     ghost use Rattle.page_roff_lines.specs.machine.Held.{Held};
-    ghost use Rattle.page_core_base.specs.Texts.{lacks_backslash};
+    ghost use Rattle.page_core_base.specs.Texts.{IsFreeLine};
 
     ghost Value = { Held };
 
@@ -35,7 +35,7 @@ impl Model for HeldText {
 
     ghost invariant = { λ h. (vec_len h.bytes ≤ LINE) × (LINE ≤ vec_capacity h.bytes)
         × (h.printable ≡ true → list_all is_printable h.bytes.items ≡ true)
-        × (h.plain ≡ true → (lacks_backslash h.bytes.items ≡ true) × (list_all is_printable h.bytes.items ≡ true)) };
+        × (h.free ≡ true → IsFreeLine h.bytes.items × (list_all is_printable h.bytes.items ≡ true)) };
 }
 
 impl HeldText {
@@ -48,7 +48,7 @@ impl HeldText {
             bytes,
             total: 0,
             printable: true,
-            plain: false,
+            free: false,
         })
     }
 
@@ -77,7 +77,7 @@ impl HeldText {
             self.bytes.push_reserved(byte);
             self.printable = self.printable && is_printable(byte);
         }
-        self.plain = false;
+        self.free = false;
         self.total += 1;
     }
 
@@ -94,21 +94,21 @@ impl HeldText {
         let _ = self.bytes.extend_from_slice(&more[..fits]);
         self.total += more.len() as u32;
         self.printable = self.printable && printable;
-        self.plain = false;
+        self.free = false;
     }
 
-    /// Takes printable bytes in the place of all, which may be known to have no backslash.
+    /// Takes printable bytes in the place of all, which may be known to be free.
     #[inline(always)]
     #[tactic(auto, unfolding(crate::specs::machine::Held::extend))]
-    pub fn set(&mut self, text: &[u8], plain: bool)
+    pub fn set(&mut self, text: &[u8], free: bool)
         requires total { length text.now < 2 ^ 31 }
         requires printable { list_all is_printable text.now ≡ true }
-        requires plain { plain ≡ true → lacks_backslash text.now ≡ true }
+        requires free { free ≡ true → IsFreeLine text.now }
         ensures { self.new ≡ extend nothing_held text.now }
     {
         self.clear();
         self.extend(text, true);
-        self.plain = plain;
+        self.free = free;
     }
 
     /// Whether each byte that is held is a printable one of ASCII or a tab.
@@ -119,13 +119,13 @@ impl HeldText {
         self.printable || is_printable_ascii(self.bytes())
     }
 
-    /// Whether the bytes that are held are known to have no backslash, and each to be a printable one of ASCII or a tab.
-    pub fn is_plain(&self) -> bool
-        ensures plain { result ≡ true → lacks_backslash self.now.bytes ≡ true }
+    /// Whether the bytes that are held are known to be free, and each to be a printable one of ASCII or a tab.
+    pub fn is_free(&self) -> bool
+        ensures free { result ≡ true → IsFreeLine self.now.bytes }
         ensures printable { result ≡ true → list_all is_printable self.now.bytes ≡ true }
         ensures bound { length self.now.bytes ≤ LINE }
     {
-        self.plain
+        self.free
     }
 
     /// Takes the last byte away.
@@ -135,7 +135,7 @@ impl HeldText {
     {
         self.total = self.total.saturating_sub(1);
         self.bytes.truncate(self.total as usize);
-        self.plain = false;
+        self.free = false;
     }
 
     /// Takes all bytes away.
@@ -145,6 +145,6 @@ impl HeldText {
         self.bytes.clear();
         self.total = 0;
         self.printable = true;
-        self.plain = false;
+        self.free = false;
     }
 }

@@ -3,7 +3,7 @@ ghost use Rattle.std.specs.Prelude.{◌≡◌, ◌+◌, ◌-◌, ◌^◌, ◌<�
 ghost use Rattle.std.specs.List.{list_all};
 ghost use Rattle.page_roff_decoding.specs.Characters.{is_printable};
 ghost use Rattle.page_roff_lines.specs.machine.Open.{pair_mode as spec_pair_mode};
-ghost use Rattle.page_core_base.specs.Texts.{lacks_backslash};
+ghost use Rattle.page_core_base.specs.Texts.{IsFreeLine};
 
 use crate::scanning::{comment_run, fine_len, paired_run};
 use crate::{HeldText, Mark, Mode};
@@ -378,20 +378,20 @@ impl OpenLine {
         self.whole && self.mark.is_settled() && matches!(self.mode, Mode::Plain)
     }
 
-    // Takes a text that was read at once, which may be known to have no backslash, with the line feed after it, as the line after a whole one.
+    // Takes a text that was read at once, which may be known to be free, with the line feed after it, as the line after a whole one.
     #[inline(always)]
     #[tactic(auto, unfolding(crate::specs::machine::Held::extend))]
-    fn put_line(&mut self, text: &[u8], plain: bool)
+    fn put_line(&mut self, text: &[u8], free: bool)
         requires whole { self.old.whole ≡ true }
         requires reads { ReadsText self.old }
         requires some { 0 < length text.now }
         requires fine { IsFine text.now }
-        requires plain { plain ≡ true → lacks_backslash text.now ≡ true }
+        requires free { free ≡ true → IsFreeLine text.now }
         requires consumed { self.old.consumed + length text.now + 1 < 2 ^ 31 }
         ensures next { self.new ≡ next_open (open_after self.old text.now) newline }
         ensures whole { self.new.whole ≡ true }
     {
-        self.text.set(text, plain);
+        self.text.set(text, free);
         self.after_return = false;
         self.begun = false;
         self.number = self.physical;
@@ -414,11 +414,11 @@ impl OpenLine {
         if !self.is_before_text() {
             return 0;
         }
-        let (len, plain) = fine_len(chunk);
+        let (len, free) = fine_len(chunk);
         if len == 0 || len >= chunk.len() || chunk[len] != NEWLINE {
             return 0;
         }
-        self.put_line(&chunk[..len], plain);
+        self.put_line(&chunk[..len], free);
         len + 1
     }
 
@@ -505,13 +505,13 @@ impl OpenLine {
         self.text.is_printable()
     }
 
-    /// Whether the bytes that are kept are known to have no backslash, and each to be a printable one of ASCII or a tab.
-    pub fn is_plain(&self) -> bool
-        ensures plain { result ≡ true → lacks_backslash self.now.text.bytes ≡ true }
+    /// Whether the bytes that are kept are known to be free, and each to be a printable one of ASCII or a tab.
+    pub fn is_free(&self) -> bool
+        ensures free { result ≡ true → IsFreeLine self.now.text.bytes }
         ensures printable { result ≡ true → list_all is_printable self.now.text.bytes ≡ true }
         ensures bound { length self.now.text.bytes ≤ LINE }
     {
-        self.text.is_plain()
+        self.text.is_free()
     }
 
     /// Whether the line has more bytes than are kept.

@@ -2,8 +2,8 @@
 ghost use Rattle.std.specs.Prelude.{◌≡◌, ℕ, ◌+◌, ◌<◌, ◌≤◌, length, take, slice_index, true, false};
 ghost use Rattle.std.specs.List.{list_all};
 ghost use Rattle.page_roff_decoding.specs.Characters.{is_printable};
-ghost use Rattle.page_roff_lines.specs.machine.Run.{BeginsPair, IsFine, IsText, ends_run as spec_ends_run, stays as spec_stays};
-ghost use Rattle.page_core_base.specs.Texts.{lacks_backslash};
+ghost use Rattle.page_roff_lines.specs.machine.Run.{BeginsPair, IsFine, IsFreeTo, IsText, is_quiet, ends_run as spec_ends_run, stays as spec_stays};
+ghost use Rattle.page_core_base.specs.Texts.{IsFreeLine};
 
 use crate::Mode;
 use crate::open::{BACKSLASH, HASH, NEWLINE, QUOTE};
@@ -58,14 +58,40 @@ fn begins_pair(chunk: &[u8]) -> bool
     stays(chunk[1])
 }
 
-// Reads on through the text and the pairs of one vector: to where, and whether they may go on after that.
+// The bytes that do more after a backslash than an escape of a finished line does, and the backslash itself: a set of bits for each 64 bytes.
+const LOUD: [u64; 4] = [
+    1 << b'"' | 1 << b'#' | 1 << b'$' | 1 << b'*',
+    1 << (b'\\' - 64) | 1 << (b'n' - 64) | 1 << (b'w' - 64) | 1 << (b'}' - 64),
+    0,
+    0,
+];
+
+// Whether a byte after a backslash begins no comment, no end of a block and no interpolation with it, and is no backslash.
 #[inline(always)]
-fn through_vector(chunk: &[u8], from: usize) -> (usize, bool)
+fn is_quiet(byte: u8) -> bool
+    ensures { result ≡ is_quiet byte }
+{
+    LOUD[(byte / 64) as usize] >> (byte % 64) & 1 == 0
+}
+
+// How far text and pairs go on, whether they are known to be free, and whether more of them may follow.
+#[derive(Clone, Copy)]
+struct Reach {
+    len: usize,
+    free: bool,
+    goes_on: bool,
+}
+
+// Reads on through the text and the pairs of one vector, after bytes that may be known to be free.
+#[inline(always)]
+fn through_vector(chunk: &[u8], from: usize, mut free: bool) -> Reach
     requires room { from + 32 ≤ length chunk.now }
     requires text { IsFine (take from chunk.now) }
-    ensures within { result.0 ≤ length chunk.now }
-    ensures text { IsFine (take result.0 chunk.now) }
-    ensures further { result.1 ≡ true → from < result.0 }
+    requires free { free ≡ true → IsFreeTo from chunk.now }
+    ensures within { result.len ≤ length chunk.now }
+    ensures text { IsFine (take result.len chunk.now) }
+    ensures free { result.free ≡ true → IsFreeTo result.len chunk.now }
+    ensures further { result.goes_on ≡ true → from < result.len }
 {
     let mut at = from;
     let mut left = LANES;
@@ -74,50 +100,67 @@ fn through_vector(chunk: &[u8], from: usize) -> (usize, bool)
         let len = found.trailing_zeros() as usize;
         at += len;
         if !begins_pair(&chunk[at..]) {
-            return (at, false);
+            return Reach {
+                len: at,
+                free,
+                goes_on: false,
+            };
         }
+        free &= is_quiet(chunk[at + 1]);
         at += 2;
         if left <= len + 2 {
-            return (at, true);
+            return Reach {
+                len: at,
+                free,
+                goes_on: true,
+            };
         }
         left -= len + 2;
         found >>= len + 2;
     }
-    (at + left, true)
+    Reach {
+        len: at + left,
+        free,
+        goes_on: true,
+    }
 }
 
-// How many bytes at the front are text and pairs, as far as whole vectors go, after so many that are known to be.
+// How many bytes at the front are text and pairs, as far as whole vectors go, after so many that are known to be, and to be free; and whether all
+// are known to be free.
 #[inline(always)]
-fn fine_from(chunk: &[u8], from: usize) -> usize
+fn fine_from(chunk: &[u8], from: usize) -> (usize, bool)
     requires within { from ≤ length chunk.now }
     requires text { IsFine (take from chunk.now) }
-    ensures within { result ≤ length chunk.now }
-    ensures text { IsFine (take result chunk.now) }
+    requires free { IsFreeTo from chunk.now }
+    ensures within { result.0 ≤ length chunk.now }
+    ensures text { IsFine (take result.0 chunk.now) }
+    ensures free { result.1 ≡ true → IsFreeTo result.0 chunk.now }
 {
     let mut at = from;
+    let mut free = true;
     while chunk.len() - at >= LANES {
-        let (end, goes_on) = through_vector(chunk, at);
-        at = end;
-        if !goes_on {
-            return at;
+        let reach = through_vector(chunk, at, free);
+        at = reach.len;
+        free = reach.free;
+        if !reach.goes_on {
+            return (at, free);
         }
     }
-    at
+    (at, free)
 }
 
-/// How many bytes at the front are text and pairs, all printable, pairs as far as whole vectors go, and whether no backslash is known to be
-/// among them.
+/// How many bytes at the front are text and pairs, all printable, pairs as far as whole vectors go, and whether they are known to be free.
 #[inline(always)]
 pub fn fine_len(chunk: &[u8]) -> (usize, bool)
     ensures within { result.0 ≤ length chunk.now }
     ensures text { IsFine (take result.0 chunk.now) }
-    ensures plain { result.1 ≡ true → lacks_backslash (take result.0 chunk.now) ≡ true }
+    ensures free { result.1 ≡ true → IsFreeLine (take result.0 chunk.now) }
 {
     let len = text_len(chunk);
     if !begins_pair(&chunk[len..]) {
         return (len, true);
     }
-    (fine_from(chunk, len), false)
+    fine_from(chunk, len)
 }
 
 // How many bytes are read at once after text and pairs, with these, and whether they are known to be printable.

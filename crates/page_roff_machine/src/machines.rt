@@ -2,7 +2,7 @@
 
 ghost use Rattle.std.specs.Prelude.{◌≡◌, ◌+◌, ◌*◌, ◌<◌, ◌≤◌, ◌^◌, true, IfOk, length, sum_by};
 ghost use Rattle.page_core_base.specs.LinesTaken.{line_view};
-ghost use Rattle.page_core_base.specs.Texts.{IsLine, lacks_backslash};
+ghost use Rattle.page_core_base.specs.Texts.{IsLine, IsFreeLine};
 ghost use Rattle.page_core_base.specs.declared.limits.TheConstants.{ARGS, BODY, CALLS, LINE};
 ghost use Rattle.page_roff_blocks.specs.Caps.{PlaceFits};
 ghost use Rattle.page_core_base.specs.Latches.{Came};
@@ -109,17 +109,17 @@ impl Machine {
         self.runner.stack.is_idle()
     }
 
-    /// A source line of this number comes, which may be known to have no backslash, after the last one is done. It has a budget of its own. If it is
+    /// A source line of this number comes, which may be known to be free, after the last one is done. It has a budget of its own. If it is
     /// taken as it is written, it is lent and done; else [`Machine::advance`] runs what is left of it.
-    pub fn begin<'l>(&mut self, line: &'l [u8], number: u32, plain: bool) -> Option<Taken<'l>>
+    pub fn begin<'l>(&mut self, line: &'l [u8], number: u32, free: bool) -> Option<Taken<'l>>
         requires idle { is_idle self.old ≡ true }
         requires line { IsLine line.now }
-        requires plain { plain ≡ true → lacks_backslash line.now ≡ true }
+        requires free { free ≡ true → IsFreeLine line.now }
         requires skips { self.old.stack.top.cursor.levels.skipped < 2 ^ 62 }
         requires count { self.old.budget.taken ≤ 2 ^ 62 }
         ensures { BeginsOrTakes result line.now number self.old self.new }
     {
-        match self.runner.take_at_once(line, number, plain) {
+        match self.runner.take_at_once(line, number, free) {
             AtOnce::Line(taken) => Some(taken),
             AtOnce::Call => None,
             AtOnce::Nothing => {

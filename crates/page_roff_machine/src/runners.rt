@@ -1,7 +1,7 @@
 //! The steps of the machine: what comes next is done, and the input stack moves on.
 
 ghost use Rattle.std.specs.Prelude.{◌≡◌, ◌≤◌, ◌^◌, true, false, None, length};
-ghost use Rattle.page_core_base.specs.Texts.{IsLine, lacks_backslash};
+ghost use Rattle.page_core_base.specs.Texts.{IsLine, IsFreeLine};
 ghost use Rattle.page_core_base.specs.declared.limits.TheConstants.{ARGS};
 ghost use Rattle.page_roff_blocks.specs.Levels as levels;
 ghost use Rattle.page_roff_effects.specs.declared.commands.ProductKind.TheVariants as kinds;
@@ -386,17 +386,12 @@ impl Runner {
         self.call();
     }
 
-    /// Takes a source line of this number, which may be known to have no backslash, at once, after the last one is done, if it calls a macro or is
+    /// Takes a source line of this number, which may be known to be free, at once, after the last one is done, if it calls a macro or is
     /// left to the set of macros, as it is written; says which of these it did. If it did neither, the actions may know the number.
-    pub(crate) fn take_at_once<'l>(
-        &mut self,
-        line: &'l [u8],
-        number: u32,
-        plain: bool,
-    ) -> AtOnce<'l>
+    pub(crate) fn take_at_once<'l>(&mut self, line: &'l [u8], number: u32, free: bool) -> AtOnce<'l>
         requires idle { is_nothing (next_of self.old.stack) ≡ true }
         requires line { IsLine line.now }
-        requires plain { plain ≡ true → lacks_backslash line.now ≡ true }
+        requires free { free ≡ true → IsFreeLine line.now }
         requires count { self.old.doing.budget.taken ≤ 2 ^ 62 }
         ensures { TakesAtOnceIf result line.now number self.old self.new }
     {
@@ -404,7 +399,7 @@ impl Runner {
             return AtOnce::Nothing;
         }
         self.doing.actions.begin_line(number);
-        let at_once = self.doing.actions.take_at_once(line, plain);
+        let at_once = self.doing.actions.take_at_once(line, free);
         match at_once {
             AtOnce::Nothing => {}
             AtOnce::Line(_) => self.doing.budget.begin(),

@@ -4,7 +4,7 @@ ghost use Rattle.std.specs.Prelude.{◌≡◌, ◌≤◌, ◌<◌, ◌^◌, ⊤,
 ghost use mathlib.Core.Option.{none};
 ghost use Rattle.std.specs.Borrow.{sem, follows_so};
 ghost use Rattle.page_core_base.specs.LinesTaken.{line_view};
-ghost use Rattle.page_core_base.specs.Texts.{IsLine, lacks_backslash};
+ghost use Rattle.page_core_base.specs.Texts.{IsLine, IsFreeLine};
 ghost use Rattle.page_core_base.specs.declared.limits.TheConstants.{LINE};
 ghost use Rattle.page_core_base.specs.Latches.{Came};
 ghost use Rattle.page_roff_machine.specs.Giving.{notes_before, next_line};
@@ -130,19 +130,19 @@ impl RoffLines {
         }
     }
 
-    /// A source line begins as by [`RoffLines::source`], which may be known to have no backslash. Where all that it gives is itself, as it is
-    /// written, it is lent, and is done.
-    pub fn take_source<'l>(&mut self, line: &'l [u8], number: u32, plain: bool) -> Option<Taken<'l>>
+    /// A source line begins as by [`RoffLines::source`], which may be known to be free: no comment, no end of a block and no
+    /// interpolation begins in it. Where all that it gives is itself, as it is written, it is lent, and is done.
+    pub fn take_source<'l>(&mut self, line: &'l [u8], number: u32, free: bool) -> Option<Taken<'l>>
         requires idle { self.old.edge.to_come ≡ None }
         requires line { IsLine line.now }
-        requires plain { plain ≡ true → lacks_backslash line.now ≡ true }
+        requires free { free ≡ true → IsFreeLine line.now }
         requires count { self.old.edge.source < 2 ^ 31 }
         ensures takes { TakesSource (option_map line_view result) (record { text = line.now; number = number; notes = [] })
             self.old.edge self.new.edge }
         ensures text { IfSome result (λ taken. IsLine taken.text.now) }
     {
         self.source += 1;
-        let taken = self.machine.begin(line, number, plain);
+        let taken = self.machine.begin(line, number, free);
         if taken.is_none() {
             self.remaining = Remaining::Run;
         }

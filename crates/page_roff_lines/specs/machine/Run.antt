@@ -2,6 +2,7 @@
 use Rattle.std.specs.Prelude.{◌≡◌, ℕ, ◌+◌, ◌-◌, ◌<◌, ◌≤◌, Bool, true, false, not, ◌&&◌, ◌==◌, List, [], length, slice_index}
 use Rattle.std.specs.List.{list_all}
 use Rattle.memchr.specs.Find.{is_byte, is_byte2}
+use Rattle.page_core_base.specs.Texts.{is_backslash, is_key, key_at}
 use Rattle.page_roff_decoding.specs.Characters.{is_printable}
 use Rattle.page_roff_lines.specs.declared.Mode.{Mode}
 use Rattle.page_roff_lines.specs.declared.Mode.TheVariants.{Plain, Backslash, Comment, Dropped}
@@ -35,6 +36,14 @@ pub record BeginsPair (bytes : List ℕ) : Type 0 where
   pub long : 2 ≤ length bytes
   pub escapes : slice_index bytes 0 ≡ backslash
   pub stays : stays (slice_index bytes 1) ≡ true
+
+-- the byte after a backslash begins no comment, no end of a block and no interpolation with it, and is no backslash
+abbrev pub is_quiet : ℕ → Bool
+is_quiet b = not (is_key b) && not (is_backslash b)
+
+-- no comment, no end of a block and no interpolation begins before a place of some bytes
+abbrev pub IsFreeTo : ℕ → List ℕ → Type 0
+IsFreeTo n bytes = (k : ℕ) → k < n → key_at bytes k ≡ false
 
 -- text and pairs are read here as they are
 pub record ReadsText (o : Open) : Type 0 where

@@ -36,5 +36,5 @@ returns-clause-faults g c = λ e h.
     let z = c.feed.ensures.faults (laid_notes e m.notes).edge i in search rules in
     faults_after c.feed.result _ _ _ _ _ c.in_ok-text.ensures.fault f
 
-pub feed-requires-clause-plain : goal.feed-requires-clause-plain
-feed-requires-clause-plain g c = λ is. rw c.in_ok-text.ensures.text (c.is_plain-plain.ensures is)
+pub feed-requires-clause-free : goal.feed-requires-clause-free
+feed-requires-clause-free g c = λ is. rw c.in_ok-text.ensures.text (c.is_free-free.ensures is)

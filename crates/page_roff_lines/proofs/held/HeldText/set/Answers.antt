@@ -1,10 +1,9 @@
-use Rattle.std.proofs.Common.{◌≡◌, not, take, ap, ◌∙◌}
-use Rattle.std.specs.Prelude.{◌==◌}
+use Rattle.std.proofs.Common.{◌≡◌, take, ap, ◌∙◌}
 use Rattle.page_roff_decoding.specs.Limit.{line_limit}
 use Rattle.page_roff_decoding.specs.Characters.{is_printable}
 use Rattle.page_roff_decoding.proofs.ScanLemmas.{all-take}
-use Rattle.page_roff_lines.specs.Bytes.{backslash}
 use Rattle.page_roff_lines.specs.machine.Held.{Held, extend}
+use Rattle.page_roff_lines.proofs.FreeLines.{less-free}
 use Rattle.page_roff_lines.proofs.held.HeldText.set.Goals as goal
 
 pub invariant_of-self : goal.invariant_of-self
@@ -16,5 +15,5 @@ invariant_of-self c =
       c.self.invariant.0,
       c.self.invariant.1,
       c.self.invariant.2,
-      λ is. rw items (all-take (λ b. not (b == backslash)) line_limit text (c.requires.plain is), all-take is_printable line_limit text c.requires.printable),
+      λ is. rw items (less-free text line_limit (c.requires.free is), all-take is_printable line_limit text c.requires.printable),
     )
