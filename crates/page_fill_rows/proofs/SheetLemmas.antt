@@ -1,5 +1,5 @@
 -- Blanks and cells one by one.
-use Rattle.std.proofs.Common.{◌≡◌, ℕ, suc, ◌+◌, ◌-◌, ◌<◌, ◌≤◌, [], ◌∷◌, replicate, append-nil, ap, refl, arith}
+use Rattle.std.proofs.Common.{◌≡◌, ℕ, zero, suc, ◌+◌, ◌-◌, ◌<◌, ◌≤◌, [], ◌∷◌, length, replicate, append-nil, ap, refl, arith}
 use Rattle.page_core_base.specs.declared.cells.Cell.{Cell}
 use Rattle.page_core_base.specs.declared.places.Place.{Place}
 use Rattle.page_core_base.specs.Laid.{join, nothing}
@@ -13,6 +13,12 @@ spaces-more s n i place h = let e : n - i ≡ suc (n - (i + 1)) = omega arith in
 pub spaces-done : (s : Sheet) (n i : ℕ) (place : Place) → n ≤ i → spaces s (n - i) place ≡ nothing s
 unfolding spaces
 spaces-done s n i place h = let e : n - i ≡ 0 = omega arith in rw e refl
+
+-- where no row is open blanks are dropped
+pub spaces-none : (s : Sheet) (n : ℕ) (place : Place) → length s.cells ≡ 0 → spaces s n place ≡ nothing s
+unfolding spaces space
+spaces-none s zero place none = refl
+spaces-none s (suc n) place none = rw none (spaces-none s n place none)
 
 -- a cell again and again: the first of them, and the others
 pub cells-more : (s : Sheet) (n : ℕ) (cell : Cell) (place : Place) → 0 < n

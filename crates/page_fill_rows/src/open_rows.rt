@@ -705,11 +705,14 @@ impl OpenRow {
         self.word = self.row.len();
     }
 
-    // Puts blanks before the row's next word.
+    // Puts blanks before the row's next word: up to one before which the row ends, since those after it are dropped.
     fn put_spaces<O: RowOut>(&mut self, count: u32, place: Place, out: &mut O)
         ensures { LaysOut O.left out.old (sheet.spaces self.old count place) out.new self.new }
     {
         for _ in 0..count {
+            if self.row.is_empty() {
+                return;
+            }
             self.put_space(place, out);
         }
     }

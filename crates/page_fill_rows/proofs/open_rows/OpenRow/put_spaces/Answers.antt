@@ -1,5 +1,7 @@
-use Rattle.std.proofs.Common.{◌≡◌, ◌-◌, append_assoc, ap, arith, refl, sym, ◌∙◌}
-use Rattle.page_fill_rows.proofs.SheetLemmas.{spaces-more, spaces-done}
+use Rattle.std.proofs.Common.{◌≡◌, ◌-◌, length, append_assoc, ap, arith, refl, sym, ◌∙◌}
+use Rattle.std.proofs.lemmas.Bool.{eqb-true}
+use Rattle.page_fill_rows.specs.machine.Sheets.{Sheet}
+use Rattle.page_fill_rows.proofs.SheetLemmas.{spaces-more, spaces-done, spaces-none}
 use Rattle.page_fill_rows.proofs.open_rows.OpenRow.put_spaces.Goals as goal
 
 pub loop-init : goal.loop-init
@@ -18,4 +20,12 @@ pub returns : goal.returns
 returns g c =
     let l = c.loop in
     let done = spaces-done l.self c.args.count l.counter c.args.place (omega arith) in
+    ((λ plan rows notes h. rw done at (l.invariant.0 plan rows notes h)), rw done at l.invariant.1)
+
+pub returns-then-is_empty : goal.returns-then-is_empty
+returns-then-is_empty g c =
+    let l = c.loop in
+    let none : length l.self.cells ≡ 0 =
+    ap (λ (s : Sheet). length s.cells) (sym c.self.view_is) ∙ eqb-true (length c.self.inside.row) 0 (sym c.is_empty.ensures ∙ c.if-is_empty.true) in
+    let done = spaces-none l.self (c.args.count - l.counter) c.args.place none in
     ((λ plan rows notes h. rw done at (l.invariant.0 plan rows notes h)), rw done at l.invariant.1)
