@@ -20,6 +20,7 @@ use page_scopes_words::{ROOM, blank_before, equal_fonts, going_len};
 #[inline(always)]
 fn going_within(quoted: bool, text: &[u8], most: usize) -> usize
     ensures within { result ≤ length text.now }
+    ensures most { result ≤ most }
     ensures goes { GoesOn quoted text.now 0 result }
 {
     if text.len() <= most {
@@ -34,6 +35,7 @@ pub(crate) fn run_len(quoted: bool, text: &[u8], most: usize) -> usize
     requires short { length text.now ≤ LINE }
     requires word { begins_word text.now ≡ false }
     ensures within { result ≤ length text.now }
+    ensures most { result ≤ most }
     ensures ascii { is_printable_ascii (take result text.now) ≡ true }
     ensures run { BeginsRun quoted text.now (take result text.now) (drop result text.now) }
 {

@@ -129,7 +129,7 @@ fn give_many<'a, O: PieceOut>(
     }
 }
 
-// So many bytes that a call gave at once ended where its room did, or nearly: more may be given at once.
+// A call that gave at least so many bytes at once probably ended where its room did, so the next words may go down at once, too.
 const MANY: usize = 64;
 
 // Gives the white space at a text's front, and the word after it, unless there is none, or words of so many bytes were given at once just now: what
