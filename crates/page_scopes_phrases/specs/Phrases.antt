@@ -20,7 +20,7 @@ use Rattle.page_scopes_words.specs.declared.pens.TextStyle.{TextStyle}
 use Rattle.page_scopes_words.specs.Fonts.{with_font}
 use Rattle.page_scopes_words.specs.declared.fonts.Fonts.{Fonts}
 use Rattle.page_sets_lines.specs.declared.events.Join.{Join}
-use Rattle.page_sets_lines.specs.declared.events.Join.TheVariants.{Apart, Glued}
+use Rattle.page_sets_lines.specs.declared.events.Join.TheVariants.{Apart, Glued, Parted}
 
 -- a phrase of the program, with what its text holds
 abbrev pub phrase_view : Phrase (Bor (List ℕ)) → Phrase (List ℕ)
@@ -42,10 +42,11 @@ abbrev pub own_fonts : Option Font → Setting Fonts → Setting Fonts
 own_fonts None fonts = fonts
 own_fonts (Some font) fonts = record { value = with_font font fonts.value; is_set = fonts.is_set }
 
--- where rows are filled, blanks at a text's end part it from the next one even where that is glued
+-- where rows are filled, blanks at a text's end part it from the next one even where that is glued; what is parted has a blank at least, after `Sm off` too
 abbrev pub joined_gap : Join → Bool → ℕ → ℕ
 joined_gap Apart parts gap = gap
 joined_gap Glued parts gap = if parts then gap else 0
+joined_gap Parted parts gap = max gap 1
 
 abbrev pub is_tag : PagePart → Bool
 is_tag parts.Tag = true

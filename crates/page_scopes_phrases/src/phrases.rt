@@ -82,6 +82,7 @@ pub fn joined_gap(join: Join, parts: bool, gap: u32) -> u32
     match join {
         Join::Apart => gap,
         Join::Glued => { if parts { gap } else { 0 } }
+        Join::Parted => gap.max(1),
     }
 }
 

@@ -516,23 +516,23 @@ const FUNCTIONS_AND_DECLARATIONS: &[(&str, &str)] = &[
 const SENTENCES_AND_SPACING: &[(&str, &str)] = &[
     (
         ".Ex -std",
-        "2 mark The; 2 manual; 2 mark utility exits 0 on success, and >0 if an error occurs.; 1 filled",
+        "2 mark_ The; 2 manual; 2 _mark utility exits 0 on success, and >0 if an error occurs.; 1 filled",
     ),
     (
         ".Ex -std a",
-        "2 mark The; 10 word B a; 2 mark utility exits 0 on success, and >0 if an error occurs.; 1 filled",
+        "2 mark_ The; 10 word_ B a; 2 mark utility exits 0 on success, and >0 if an error occurs.; 1 filled",
     ),
     (
         ".Ex a b",
-        "2 mark The; 5 word B a; 2 mark and; 7 word B b; 2 mark utilities exit 0 on success, and >0 if an error occurs.; 1 filled",
+        "2 mark_ The; 5 word_ B a; 2 mark_ and; 7 word_ B b; 2 mark utilities exit 0 on success, and >0 if an error occurs.; 1 filled",
     ),
     (
         ".Ex -std a b c",
-        "2 mark The; 10 word B a; 2 +mark ,; 12 word B b; 2 +mark ,; 2 mark and; 14 word B c; 2 mark utilities exit 0 on success, and >0 if an error occurs.; 1 filled",
+        "2 mark_ The; 10 word_ B a; 2 +mark_ ,; 12 word_ B b; 2 +mark_ ,; 2 mark_ and; 14 word_ B c; 2 mark utilities exit 0 on success, and >0 if an error occurs.; 1 filled",
     ),
     (
         ".Ex \"-std",
-        "5 note! quote; 2 mark The; 2 manual; 2 mark utility exits 0 on success, and >0 if an error occurs.; 1 filled",
+        "5 note! quote; 2 mark_ The; 2 manual; 2 _mark utility exits 0 on success, and >0 if an error occurs.; 1 filled",
     ),
     (".Sm on", "2 spacing on; 1 filled"),
     (".Sm off x", "2 spacing off; 1 filled"),
@@ -541,13 +541,13 @@ const SENTENCES_AND_SPACING: &[(&str, &str)] = &[
     (".Sm \"on", "5 note quote; 2 spacing on; 1 filled"),
     (
         ".Rv -std a b c",
-        "2 mark The; 10 word B a; 2 +mark (),; 12 word B b; 2 +mark (),; 2 mark and; 14 word B c; 2 +mark (); 2 mark \
+        "2 mark_ The; 10 word_ B a; 2 +mark_ (),; 12 word_ B b; 2 +mark_ (),; 2 mark_ and; 14 word_ B c; 2 +mark_ (); 2 mark \
         functions return the value 0 if successful; otherwise the value -1 is returned \
         and the global variable errno is set to indicate the error.; 1 filled",
     ),
     (
         ".Rv",
-        "2 mark The; 2 manual; 2 +mark (); 2 mark \
+        "2 mark_ The; 2 manual; 2 +mark_ (); 2 _mark \
         function returns the value 0 if successful; otherwise the value -1 is returned \
         and the global variable errno is set to indicate the error.; 1 filled",
     ),

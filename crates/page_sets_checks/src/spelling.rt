@@ -1,5 +1,5 @@
 //! Events as short texts: column, kind, name and texts, as in `2 open TP 4`. A quoted text keeps the quotes that
-//! it has.
+//! it has. A `+` before or after the kind says that no blank is there, and a `_` that one is there after `Sm off` too.
 
 ghost use Rattle.std.specs.Prelude.{◌≤◌, length};
 
@@ -16,7 +16,9 @@ pub type Spelling = ArrayVec<u8, 500>;
 // An event to be spelled.
 #[derive(Drop)]
 struct Shown<'a> {
+    before: Join,
     kind: &'static str,
+    after: Join,
     name: &'static str,
     first: Option<Argument<&'a [u8]>>,
     second: Option<Argument<&'a [u8]>>,
@@ -32,7 +34,9 @@ fn with<'a>(
     first: Option<Argument<&'a [u8]>>,
 ) -> Shown<'a> {
     Shown {
+        before: Join::Apart,
         kind,
+        after: Join::Apart,
         name,
         first,
         second: None,
@@ -64,42 +68,31 @@ fn font_name(font: Option<Font>) -> &'static str {
     }
 }
 
-// A kind with a sign on each side that is glued.
-fn joined(before: Join, after: Join, kinds: [&'static str; 4]) -> &'static str {
-    match (before, after) {
-        (Join::Apart, Join::Apart) => kinds[0],
-        (Join::Apart, Join::Glued) => kinds[1],
-        (Join::Glued, Join::Apart) => kinds[2],
-        (Join::Glued, Join::Glued) => kinds[3],
+fn show_word<'a>(word: Word<&'a [u8]>) -> Shown<'a> {
+    let kind = match word.role {
+        Role::Line => "line",
+        Role::Argument => "word",
+        Role::Delimiter => "delimiter",
+        Role::Name { .. } => "name",
+    };
+    Shown {
+        before: word.before,
+        after: word.after,
+        ..with(kind, font_name(word.font), Some(word.arg))
     }
 }
 
-fn show_word<'a>(word: Word<&'a [u8]>) -> Shown<'a> {
-    let kinds = match word.role {
-        Role::Line => ["line", "line+", "+line", "+line+"],
-        Role::Argument => ["word", "word+", "+word", "+word+"],
-        Role::Delimiter => ["delimiter", "delimiter+", "+delimiter", "+delimiter+"],
-        Role::Name { .. } => ["name", "name+", "+name", "+name+"],
-    };
-    with(
-        joined(word.before, word.after, kinds),
-        font_name(word.font),
-        Some(word.arg),
-    )
-}
-
 fn show_generated<'a>(word: GeneratedWord) -> Shown<'a> {
-    let kinds = ["mark", "mark+", "+mark", "+mark+"];
-    let after = if word.text.joins_next() {
-        Join::Glued
-    } else {
-        word.after
-    };
-    with(
-        joined(word.before, after, kinds),
-        font_name(word.font),
-        Some(bare(word.text.text().as_bytes())),
-    )
+    let text = bare(word.text.text().as_bytes());
+    Shown {
+        before: word.before,
+        after: if word.text.joins_next() {
+            Join::Glued
+        } else {
+            word.after
+        },
+        ..with("mark", font_name(word.font), Some(text))
+    }
 }
 
 // How a display is opened: literal or not, and compact or not.
@@ -150,10 +143,8 @@ fn show_opener<'a>(opener: Opener<&'a [u8]>) -> Shown<'a> {
         Opener::Paragraph(name) => alone("open", name.name()),
         Opener::Tagged(hang) => with("open", "TP", given(hang)),
         Opener::Indented { tag, hang } => Shown {
-            kind: "open",
-            name: "IP",
-            first: tag,
             second: given(hang),
+            ..with("open", "IP", tag)
         },
         Opener::Hanging(hang) => with("open", "HP", given(hang)),
         Opener::RelativeMargin(columns) => with("open", "RS", given(columns)),
@@ -273,6 +264,22 @@ fn put(out: &mut Spelling, text: &[u8]) {
     let _ = out.try_extend_from_slice(text);
 }
 
+// How a word is beside another.
+fn sign(join: Join) -> &'static str {
+    match join {
+        Join::Apart => "",
+        Join::Glued => "+",
+        Join::Parted => "_",
+    }
+}
+
+fn put_kind(out: &mut Spelling, shown: &Shown<'_>) {
+    put(out, b" ");
+    put(out, sign(shown.before).as_bytes());
+    put(out, shown.kind.as_bytes());
+    put(out, sign(shown.after).as_bytes());
+}
+
 fn put_name(out: &mut Spelling, name: &str) {
     if !name.is_empty() {
         put(out, b" ");
@@ -307,7 +314,7 @@ fn put_event(out: &mut Spelling, event: Event<&[u8]>) {
     }
     let shown = show(event.kind);
     put_column(out, event.place.column);
-    put_name(out, shown.kind);
+    put_kind(out, &shown);
     put_name(out, shown.name);
     put_text(out, shown.first);
     put_text(out, shown.second);

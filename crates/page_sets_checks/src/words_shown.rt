@@ -1,5 +1,5 @@
 //! The events of a macro's words as short texts: column, kind, font and text, as in `5 word I a`. A `+` before or after
-//! the kind says that no blank is there.
+//! the kind says that no blank is there, and a `_` that one is there after `Sm off` too.
 
 ghost use Rattle.std.specs.Prelude.{◌≤◌, length};
 
@@ -24,15 +24,20 @@ fn put_part(out: &mut Shown, text: &[u8]) {
     put(out, text);
 }
 
+// How a word is beside another.
+fn put_sign(out: &mut Shown, join: Join) {
+    match join {
+        Join::Apart => {}
+        Join::Glued => put(out, b"+"),
+        Join::Parted => put(out, b"_"),
+    }
+}
+
 fn put_kind(out: &mut Shown, before: Join, kind: &str, after: Join) {
     put(out, b" ");
-    if let Join::Glued = before {
-        put(out, b"+");
-    }
+    put_sign(out, before);
     put(out, kind.as_bytes());
-    if let Join::Glued = after {
-        put(out, b"+");
-    }
+    put_sign(out, after);
 }
 
 fn put_font(out: &mut Shown, font: Option<Font>) {

@@ -18,6 +18,8 @@ pub enum Join {
     Apart,
     /// Nothing does.
     Glued,
+    /// A blank parts them, also where `Sm off` asks for none.
+    Parted,
 }
 
 /// What a word is in its line.

@@ -16,7 +16,7 @@ use Rattle.page_sets_lines.proofs.OrderLemmas.{IsTaken, Takes, TakesInOrder, tak
 use Rattle.page_sets_mdoc_lines.specs.declared.delimiters.Delimiter.{Delimiter}
 use Rattle.page_sets_mdoc_lines.specs.declared.delimiters.Delimiter.TheVariants.{Opening, Middle, Closing}
 use Rattle.page_sets_mdoc_lines.specs.LineWords.{word_delimiter, is_real}
-use Rattle.page_sets_mdoc_words.specs.Printed.{word_or_delimiter, real_word, printed_word, printed, is_opening}
+use Rattle.page_sets_mdoc_words.specs.Printed.{word_or_delimiter, printed_word, printed, is_opening}
 use Rattle.page_sets_mdoc_words.specs.Inlines.{lone, named, flags, section, reference, more_arguments, arguments, function_words, function_end, next_arguments, function_opened, bsd, address, link_words, missing_quote}
 use Rattle.page_sets_lines.specs.declared.line_steps.SynopsisStep.{SynopsisStep}
 use Rattle.page_sets_names.specs.declared.generated_texts.GeneratedText.{GeneratedText}
@@ -24,7 +24,7 @@ use Rattle.page_sets_mdoc_lines.specs.declared.blocks.Sentence.{Sentence}
 use Rattle.page_sets_mdoc_words.specs.declared.sentences.NameCount.{NameCount}
 use Rattle.page_sets_mdoc_words.specs.declared.sentences.NameCount.TheVariants as counts
 use Rattle.page_sets_mdoc_words.specs.Synopses.{preceded, followed, framed}
-use Rattle.page_sets_mdoc_words.specs.Sentences.{name_count, has_comma, name_mark, marked, names_events, given_names, sentence_events, file_events, include_events}
+use Rattle.page_sets_mdoc_words.specs.Sentences.{name_count, has_comma, name_mark, sentence_name, marked, names_events, given_names, sentence_events, file_events, include_events}
 
 -- the texts of events are slices of the line, their words are some of these in their order, and there are few of them
 pub record Prints (line : List ℕ) (more : ℕ) (words : List (Argument (List ℕ))) (events : List (Event (List ℕ))) : Type 0 where
@@ -319,7 +319,7 @@ include_prints line place (word ∷ words) h =
 -- what is glued to a name takes the room of an argument's second event
 name_first : (line : List ℕ) (more : ℕ) (place : Place) (mark : Option GeneratedText) (name : Argument (List ℕ)) (names : List (Argument (List ℕ))) (events : List (Event (List ℕ)))
     → IsArgument line name → Prints line more names events
-    → Prints line more (name ∷ names) (real_word place.line (Some B) name ∷ marked place mark events)
+    → Prints line more (name ∷ names) (sentence_name place.line name ∷ marked place mark events)
 name_first line more place None name names events h p = word_first line more name names _ events h (first_taken name names) p
 name_first line more place (Some text) name names events h p = record {
   slices = (h, (tt, p.slices));

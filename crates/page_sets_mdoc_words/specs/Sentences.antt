@@ -4,7 +4,9 @@ use Rattle.page_core_base.specs.declared.cells.Font.TheVariants.{B}
 use Rattle.page_core_base.specs.declared.places.Place.{Place}
 use Rattle.page_roff_syntax.specs.declared.quotes.Argument.{Argument}
 use Rattle.page_sets_lines.specs.declared.events.Event.{Event}
-use Rattle.page_sets_lines.specs.declared.events.Join.TheVariants.{Apart, Glued}
+use Rattle.page_sets_lines.specs.declared.events.Role.TheVariants as roles
+use Rattle.page_sets_lines.specs.declared.events.Join.{Join}
+use Rattle.page_sets_lines.specs.declared.events.Join.TheVariants.{Apart, Glued, Parted}
 use Rattle.page_sets_names.specs.declared.generated_texts.GeneratedText.{GeneratedText}
 use Rattle.page_sets_names.specs.declared.generated_texts.GeneratedText.TheVariants as owns
 use Rattle.page_sets_lines.specs.declared.line_steps.LineStep.TheVariants as steps
@@ -14,8 +16,8 @@ use Rattle.page_sets_mdoc_lines.specs.declared.blocks.Sentence.TheVariants.{Exit
 use Rattle.page_sets_mdoc_lines.specs.LineWords.{is_real}
 use Rattle.page_sets_mdoc_words.specs.declared.sentences.NameCount.{NameCount}
 use Rattle.page_sets_mdoc_words.specs.declared.sentences.NameCount.TheVariants as counts
-use Rattle.page_sets_mdoc_words.specs.Printed.{real_word, printed_word, printed, step_event}
-use Rattle.page_sets_lines.specs.PlainLines.{generated_word}
+use Rattle.page_sets_mdoc_words.specs.Printed.{printed_word, printed, step_event}
+use Rattle.page_sets_lines.specs.PlainLines.{generated_word, word_event}
 use Rattle.page_sets_mdoc_words.specs.Synopses.{synopsis_event}
 
 -- ---- `Ex`, `Rv`
@@ -57,11 +59,23 @@ sentence_end Exit false = owns.UtilityExits
 sentence_end Return true = owns.FunctionsReturn
 sentence_end Return false = owns.FunctionReturns
 
+-- a word that is not the last one: a blank is after it, also where `Sm off` asks for none
 abbrev pub sentence_word : Place → GeneratedText → Event (List ℕ)
-sentence_word place text = generated_word place text None Apart Apart
+sentence_word place text = generated_word place text None Apart Parted
+
+abbrev pub sentence_name : ℕ → Argument (List ℕ) → Event (List ℕ)
+sentence_name number name = word_event number roles.Argument (Some B) Apart Parted name
+
+-- the name of the manual, which stands where no name is given, has no such blank after it: there the rest of the sentence has it before it
+abbrev pub end_join : (all : NameCount) → Join
+end_join counts.Zero = Parted
+end_join _ = Apart
+
+abbrev pub end_word : Place → (all : NameCount) → GeneratedText → Event (List ℕ)
+end_word place all text = generated_word place text None (end_join all) Apart
 
 abbrev pub mark_word : Place → GeneratedText → Event (List ℕ)
-mark_word place text = generated_word place text None Glued Apart
+mark_word place text = generated_word place text None Glued Parted
 
 abbrev pub marked : Place → Option GeneratedText → List (Event (List ℕ)) → List (Event (List ℕ))
 marked place None events = events
@@ -74,9 +88,9 @@ joined place _ events = events
 
 -- the names that are left of this many, in bold, and the rest of the sentence
 abbrev pub names_events : Place → Sentence → NameCount → List (Argument (List ℕ)) → List (Event (List ℕ))
-names_events place sentence all [] = sentence_word place (sentence_end sentence (is_plural all)) ∷ []
+names_events place sentence all [] = end_word place all (sentence_end sentence (is_plural all)) ∷ []
 names_events place sentence all (name ∷ names) =
-    real_word place.line (Some B) name
+    sentence_name place.line name
     ∷ marked place (name_mark sentence (has_comma all (name_count names)))
     (joined place (name_count names) (names_events place sentence all names))
 

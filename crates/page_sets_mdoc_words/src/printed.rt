@@ -12,8 +12,8 @@ use page_roff_syntax::Argument;
 use page_sets_lines::{Event, EventKind, Join, Leaf, LineStep, Role, event_at, word_event};
 use page_sets_mdoc_lines::{Delimiter, word_delimiter};
 
-/// A word that is no delimiter, or stands for none, between blanks.
-pub fn real_word(number: u32, font: Option<Font>, word: Argument<&[u8]>) -> Event<&[u8]>
+// A word that is no delimiter, between blanks.
+fn real_word(number: u32, font: Option<Font>, word: Argument<&[u8]>) -> Event<&[u8]>
     ensures { event_view result ≡ printed.real_word number font (argument_view word.entry) }
 {
     word_event(number, Role::Argument, font, Join::Apart, Join::Apart, word)

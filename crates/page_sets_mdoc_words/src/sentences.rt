@@ -3,15 +3,19 @@
 ghost use Rattle.std.specs.Prelude.{◌≡◌, ◌≤◌, [], ◌∷◌, false, length, if◌then◌else◌};
 ghost use Rattle.page_sets_lines.specs.declared.line_steps.LineStep.TheVariants.{ManualName};
 ghost use Rattle.page_core_base.specs.Latches.{Came};
+ghost use Rattle.page_roff_syntax.specs.Arguments.{argument_view};
 ghost use Rattle.page_sets_lines.specs.Events.{event_view};
 ghost use Rattle.page_sets_mdoc_lines.specs.machine.Cursors.{IsCursorOf};
 ghost use Rattle.page_sets_mdoc_lines.specs.Words.{words_view};
 ghost use Rattle.page_sets_mdoc_words.specs.Printed.{step_event};
 ghost use Rattle.page_sets_mdoc_words.specs.Sentences as sentences;
 
-use crate::printed::{real_word, step_event};
+use crate::printed::step_event;
 use page_core_base::{Font, LINE, Place};
-use page_sets_lines::{Event, EventTaker, GeneratedText, Join, LineStep, generated_word};
+use page_roff_syntax::Argument;
+use page_sets_lines::{
+    Event, EventTaker, GeneratedText, Join, LineStep, Role, generated_word, word_event,
+};
 use page_sets_mdoc_lines::{Sentence, Words};
 
 /// How many names there are.
@@ -81,11 +85,43 @@ fn sentence_end(sentence: Sentence, is_plural: bool) -> GeneratedText
     }
 }
 
-// A word of the sentence.
+// A word of the sentence that is not its last one.
 fn sentence_word<'a>(place: Place, text: GeneratedText) -> Event<&'a [u8]>
     ensures { event_view result ≡ sentences.sentence_word place text }
 {
-    generated_word(place, text, None, Join::Apart, Join::Apart)
+    generated_word(place, text, None, Join::Apart, Join::Parted)
+}
+
+// A name in the sentence.
+fn sentence_name(number: u32, name: Argument<&[u8]>) -> Event<&[u8]>
+    ensures { event_view result ≡ sentences.sentence_name number (argument_view name.entry) }
+{
+    let font = Some(Font::B);
+    word_event(
+        number,
+        Role::Argument,
+        font,
+        Join::Apart,
+        Join::Parted,
+        name,
+    )
+}
+
+// How the rest of the sentence is beside what comes before it; the name of the manual does not part it.
+fn end_join(all: NameCount) -> Join
+    ensures { result ≡ sentences.end_join all }
+{
+    match all {
+        NameCount::Zero => Join::Parted,
+        NameCount::One | NameCount::Two | NameCount::More => Join::Apart,
+    }
+}
+
+// The rest of the sentence as a word.
+fn end_word<'a>(place: Place, all: NameCount, text: GeneratedText) -> Event<&'a [u8]>
+    ensures { event_view result ≡ sentences.end_word place all text }
+{
+    generated_word(place, text, None, end_join(all), Join::Apart)
 }
 
 // What is glued to a name.
@@ -93,7 +129,7 @@ fn give_mark<'a, O: EventTaker<'a>>(out: &mut O, place: Place, mark: Option<Gene
     ensures { Came O.left out.old (sentences.marked place mark []) out.new }
 {
     if let Some(text) = mark {
-        out.give(generated_word(place, text, None, Join::Glued, Join::Apart));
+        out.give(generated_word(place, text, None, Join::Glued, Join::Parted));
     }
 }
 
@@ -124,12 +160,12 @@ fn give_names<'a, O: EventTaker<'a>>(
     let mut left = names;
     while let Some(name) = left.read(text) {
         let others = name_count(text, left);
-        out.give(real_word(place.line, Some(Font::B), name));
+        out.give(sentence_name(place.line, name));
         give_mark(out, place, name_mark(sentence, has_comma(all, others)));
         give_and(out, place, others);
     }
     let end = sentence_end(sentence, is_plural(all));
-    out.give(sentence_word(place, end));
+    out.give(end_word(place, all, end));
 }
 
 // The name of the manual, where no name is given, with what is glued to it.
