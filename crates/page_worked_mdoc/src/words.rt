@@ -493,62 +493,20 @@ pub fn sm_pages()
         [] }
     // blanks in the sentence of Ex stay where Sm asks for none (mdoc(7), Ex, Sm)
     ensures blanks_in_the_sentence_of_ex_stay_where_sm_asks { Shows plain
-        (codes ".Dd 2020-01-01" ∷
-        codes ".Dt T 1" ∷
-        codes ".Os S" ∷
-        codes ".Sh A" ∷
-        codes "x" ∷
-        codes ".Sm off" ∷
-        codes ".Ex -std a" ∷
-        codes "y" ∷
-        codes ".Sm on" ∷
-        codes "z" ∷ [])
-        (codes "T(1)                       General Commands Manual                        T(1)" ∷
-        [] ∷
-        bold (codes "A") ∷
-        (codes "     x The " ++ (bold (codes "a") ++ codes " utility exits 0 on success, and >0 if an error occurs.y z")) ∷
-        [] ∷
-        codes "S                                 2020-01-01                              T(1)" ∷ [])
+        (mdoc_page (codes "x" ∷ codes ".Sm off" ∷ codes ".Ex -std a" ∷ codes "y" ∷ codes ".Sm on" ∷ codes "z" ∷ []))
+        (mdoc_rows ((codes "     x The " ++ (bold (codes "a") ++ codes " utility exits 0 on success, and >0 if an error occurs.y z")) ∷ []))
         [] }
     // blanks in the sentence of Rv stay too (mdoc(7), Rv, Sm)
     ensures blanks_in_the_sentence_of_rv_stay_too { Shows plain
-        (codes ".Dd 2020-01-01" ∷
-        codes ".Dt T 1" ∷
-        codes ".Os S" ∷
-        codes ".Sh A" ∷
-        codes "x" ∷
-        codes ".Sm off" ∷
-        codes ".Rv -std f g h" ∷
-        codes "y" ∷
-        codes ".Sm on" ∷
-        codes "z" ∷ [])
-        (codes "T(1)                       General Commands Manual                        T(1)" ∷
-        [] ∷
-        bold (codes "A") ∷
-        (codes "     x The " ++ (bold (codes "f") ++ (codes "(), " ++ (bold (codes "g") ++ (codes "(), and " ++ (bold (codes "h") ++ codes "() functions return the value 0 if successful;")))))) ∷
+        (mdoc_page (codes "x" ∷ codes ".Sm off" ∷ codes ".Rv -std f g h" ∷ codes "y" ∷ codes ".Sm on" ∷ codes "z" ∷ []))
+        (mdoc_rows ((codes "     x The " ++ (bold (codes "f") ++ (codes "(), " ++ (bold (codes "g") ++ (codes "(), and " ++ (bold (codes "h") ++ codes "() functions return the value 0 if successful;")))))) ∷
         codes "     otherwise the value -1 is returned and the global variable errno is set" ∷
-        codes "     to indicate the error.y z" ∷
-        [] ∷
-        codes "S                                 2020-01-01                              T(1)" ∷ [])
+        codes "     to indicate the error.y z" ∷ []))
         [] }
     // blanks beside the name of the manual in a sentence stay too (mdoc(7), Ex, Nm, Sm)
     ensures blanks_beside_the_name_of_the_manual_in_a_sentence { Shows plain
-        (codes ".Dd 2020-01-01" ∷
-        codes ".Dt T 1" ∷
-        codes ".Os S" ∷
-        codes ".Sh A" ∷
-        codes ".Nm foo" ∷
-        codes ".Sm off" ∷
-        codes ".Ex -std" ∷
-        codes "y" ∷
-        codes ".Sm on" ∷
-        codes "z" ∷ [])
-        (codes "T(1)                       General Commands Manual                        T(1)" ∷
-        [] ∷
-        bold (codes "A") ∷
-        (codes "     " ++ (bold (codes "foo") ++ (codes " The " ++ (bold (codes "foo") ++ codes " utility exits 0 on success, and >0 if an error occurs.y z")))) ∷
-        [] ∷
-        codes "S                                 2020-01-01                              T(1)" ∷ [])
+        (mdoc_page (codes ".Nm foo" ∷ codes ".Sm off" ∷ codes ".Ex -std" ∷ codes "y" ∷ codes ".Sm on" ∷ codes "z" ∷ []))
+        (mdoc_rows ((codes "     " ++ (bold (codes "foo") ++ (codes " The " ++ (bold (codes "foo") ++ codes " utility exits 0 on success, and >0 if an error occurs.y z")))) ∷ []))
         [] }
 {}
 
