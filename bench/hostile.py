@@ -64,15 +64,15 @@ EACH = 1000
 PLAIN = MAN + ("These words are as plain as the words of a page can be, and a row ends after some of them.\n" * 11_000)
 
 
-def in_widths(value, names="a", each=4):
-    """A line of widths, each of a value several times: as many interpolations as a line may have."""
+def in_widths(value, names="a", each=4, within=0):
+    """A line of widths, each of a value several times: as many interpolations as a line may have, of which this many are within each value."""
 
     def made(part):
         size = min(VALUE, VALUES // len(names)) * part // 4
         texts = [value(size, at) for at, _ in enumerate(names)]
         values = "".join(f".ds {name} {text}\n" for name, text in zip(names, texts))
         width = "\\w'" + "".join(f"\\\\*{names[at % len(names)]}" for at in range(each)) + "'"
-        return MAN + values + ".ds z " + width * (EACH // (each + 1) - 1) + "\n", "\\*z\n"
+        return MAN + values + ".ds z " + width * (EACH // (each * (1 + within) + 1) - 1) + "\n", "\\*z\n"
 
     return made
 
@@ -98,11 +98,45 @@ def between_registers(size, at):
     return "".join("\\w" + part + ("\\\\n[x]" if k % 100 == 99 else "") for k, part in enumerate(parts))
 
 
+# A backslash and a letter above ASCII, which is no escape.
+PAIR = "\\\u00e9"
+
+
+def pairs(size, at=0):
+    """Pairs, with what could be a width at the end."""
+    return PAIR * (size // len(PAIR.encode()) - 2) + "\\\\\\\\w"
+
+
+def pairs_of_a_page(part):
+    """Pairs in a line of the page itself, with a register at its end."""
+    return MAN, PAIR * (5_400 * part) + "\\nx\n"
+
+
+def width_of_pairs(part):
+    """A line with one width alone."""
+    return MAN + ".ds a " + pairs(VALUE * part // 4) + "\n", "\\w'\\*a'\n"
+
+
+def backslashes(size, at):
+    """A width that is closed behind as many backslashes as there is room for."""
+    return "\\wA" + "\\\\\\\\" * (size // 2 - 6) + "\\AA"
+
+
+def few_unended(size, at):
+    """Eight widths without ends, each before a register, and what prints nothing."""
+    widths = "".join("\\w\\&\\w" + chr(0x4E00 + k) + "\\\\nx" for k in range(8))
+    return widths + "\\&" * (size // 2 - len(widths))
+
+
+def widths_in_a_condition(part):
+    return MAN, ".if " + "".join("\\w" + chr(0x4E00 + at) for at in range(3_200 * part)) + "\n"
+
+
 def names_of(word, times):
     """A name of many cells, printed as often as a line has room for it."""
 
     def made(part):
-        head = HEAD.replace(".Nm bench\n", ".Nm " + word * (times * part // 4) + "\n")
+        head = HEAD.replace(".Nm bench\n", ".Nm \"" + word * (times * part // 4) + "\"\n")
         return head + ".ds a " + "Nm " * 5400 + "\n", ".No \\*a\\*a\\*a\\*a\n"
 
     return made
@@ -138,6 +172,17 @@ LINES_OF = [
     ("widths of glyphs, all different", in_different_widths(lambda size: "\\(bu" * (size // 4))),
     ("widths of \\h, all different", in_different_widths(lambda size: "\\h'1'" * (size // 5))),
     ("widths of \\h'(((', all different", in_different_widths(lambda size: ("\\h'" + "(" * 15 + "'") * (size // 19))),
+    ("widths of \\h'+(+(+(', all different", in_different_widths(lambda size: ("\\h'" + "+(" * 15 + "'") * (size // 34))),
+    ("widths of \\h'1+1+1', all different", in_different_widths(lambda size: ("\\h'" + "1+" * 15 + "1'") * (size // 35))),
+    ("widths of \\h'\\v'1'', all different", in_different_widths(lambda size: "\\h'\\v'1''" * (size // 10))),
+    ("widths of \\s[1], all different", in_different_widths(lambda size: "\\s[1]" * (size // 5))),
+    ("widths of pairs", in_widths(pairs, "a", 1)),
+    ("pairs in a line of the page", pairs_of_a_page),
+    ("one width of pairs", width_of_pairs),
+    ("widths of \\n[ without a bracket", in_widths(lambda size, at: "\\\\n[" * (size // 3), "a", 1)),
+    ("widths of backslashes", in_widths(backslashes, "a", 1, 1)),
+    ("widths of few \\w without ends", in_widths(few_unended, "a", 1, 8)),
+    ("\\w without ends, in a condition", widths_in_a_condition),
     ("widths of plain letters", in_widths(lambda size, at: "x" * size)),
     ("Nm of blanks", names_of("\\h'999'", 36)),
     ("Nm of blanks in two fonts", names_of("\\h'999'\\fB\\h'999'\\fI", 12)),
@@ -146,6 +191,9 @@ LINES_OF = [
     ("Nm of CJK letters", names_of(chr(0x4E00), 84)),
     ("Nm of glyphs", names_of("\\(bu", 64)),
     ("Nm of tabs", names_of("\\t", 128)),
+    ("Nm of \\~", names_of("\\~", 128)),
+    ("Nm of words and of blanks", names_of("a \\h'999' ", 24)),
+    ("Nm of blanks before words", names_of("\\h'999' a ", 24)),
     ("Nm of \\&", names_of("\\&", 128)),
     ("\\h'999'", blanks),
     ("tabs of columns", tabs_of_columns),

@@ -38,10 +38,6 @@ pub trait NoteSink {
         true
     }
 
-    /// How often a call failed, up to 2^64 - 1.
-    fn failures(&self) -> u64
-        ensures { result ≡ failed self.now };
-
     ghost laws: { IsSink gave within };
 
     ghost whole: { (s t : Self) (xs : List Message) → gave s xs t → within s xs t };

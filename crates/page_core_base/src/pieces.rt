@@ -130,10 +130,6 @@ pub trait PieceSink: NoteSink {
         Ok(false)
     }
 
-    /// How often rows failed, up to 2^64 - 1.
-    fn row_failures(&self) -> u64
-        ensures { result ≡ row_failed self.now };
-
     ghost items: { (f : Fault) → IsSink took (λ s xs t. broke s f xs t) };
 
     // What comes by `note` are items too.

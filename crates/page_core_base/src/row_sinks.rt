@@ -60,10 +60,6 @@ pub trait RowSink {
         self.row(margin, places)
     }
 
-    /// How often a call failed, up to 2^64 - 1.
-    fn failures(&self) -> u64
-        ensures { result ≡ failed self.now };
-
     ghost laws: { IsSink gave within };
 
     ghost whole: { (s t : Self) (xs : List LaidRow) → gave s xs t → within s xs t };

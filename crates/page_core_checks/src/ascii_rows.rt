@@ -4,7 +4,7 @@ ghost use Rattle.std.specs.Prelude.{◌≡◌};
 ghost use Rattle.std.specs.List.{list_all};
 ghost use Rattle.page_core_base.specs.Rows.{is_ascii};
 
-use crate::checks::{check_answer, check_bytes, check_failures};
+use crate::checks::{check_answer, check_bytes};
 use crate::writers::narrow_writer;
 use page_core::{Font, RowSink, TextRows};
 use page_core_base::{are_blank, put_ascii};
@@ -48,7 +48,6 @@ fn check_row(rt: &impl Abort, alloc: Global, row: Given, want: &[u8]) -> Result<
     let mut rows = TextRows::new(&mut out);
     let given = rows.ascii_row(row.margin, text, fonts, is_blank, &mut places);
     check_answer(rt, given, Ok(()));
-    check_failures(rt, rows.failures(), 0);
     drop(rows);
     check_bytes(rt, out.got.as_slice(), want, "a row of ASCII");
     Ok(())

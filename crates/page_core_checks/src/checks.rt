@@ -19,10 +19,6 @@ pub(crate) fn check_count(rt: &impl Abort, got: usize, want: usize, at: &str) {
     assert_eq!(rt; got, want, "at {at}");
 }
 
-pub(crate) fn check_failures(rt: &impl Abort, got: u64, want: u64) {
-    assert_eq!(rt; got, want);
-}
-
 pub(crate) fn check_answer(rt: &impl Abort, got: Result<(), Fault>, want: Result<(), Fault>) {
     assert_eq!(rt; got, want);
 }

@@ -1,6 +1,6 @@
 //! Messages: their kinds, levels and details, and how they are written and kept.
 
-use crate::checks::{check, check_answer, check_bytes, check_count, check_failures, check_text};
+use crate::checks::{check, check_answer, check_bytes, check_count, check_text};
 use crate::writers::{narrow_writer, note};
 use page_core::{Fault, KeptNotes, Level, Note, NoteKind, NoteSink, Place, TextNotes, write_note};
 use std::process::Abort;
@@ -302,7 +302,6 @@ fn notes_are_written_as_lines(rt: HostRuntime) {
     );
     check_answer(&rt, notes.note(&first), Ok(()));
     check_answer(&rt, notes.note(&second), Ok(()));
-    check_failures(&rt, notes.failures(), 0);
     drop(notes);
     check_bytes(&rt, out.as_slice(), want.as_bytes(), "two messages");
 }
@@ -316,9 +315,7 @@ fn a_note_to_a_bad_writer(rt: HostRuntime) {
         out.takes_none = takes_none;
         let mut notes = TextNotes::new(&mut out, "b.7");
         check_answer(&rt, notes.note(&first), Err(Fault::WriteNotes));
-        check_failures(&rt, notes.failures(), 1);
         check_answer(&rt, notes.note(&first), Err(Fault::WriteNotes));
-        check_failures(&rt, notes.failures(), 2);
         drop(notes);
         check_count(&rt, out.got.len(), room, "what is written");
         check(&rt, want.starts_with(out.got.as_slice()), "a front");
@@ -327,7 +324,7 @@ fn a_note_to_a_bad_writer(rt: HostRuntime) {
 
 // Gives a message, which is kept as the last one.
 fn check_kept(rt: &impl Abort, kept: &mut KeptNotes, note: &Note) {
-    let (before, failures) = (kept.notes.len(), kept.failures());
+    let before = kept.notes.len();
     check_answer(rt, kept.note(note), Ok(()));
     check(rt, kept.notes.last() == Some(note), "the last");
     check_count(
@@ -336,7 +333,6 @@ fn check_kept(rt: &impl Abort, kept: &mut KeptNotes, note: &Note) {
         before.saturating_add(1),
         "a message more",
     );
-    check_failures(rt, kept.failures(), failures);
 }
 
 #[test]

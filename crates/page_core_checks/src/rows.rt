@@ -1,6 +1,6 @@
 //! Rows and cells: how they are written and kept.
 
-use crate::checks::{check, check_answer, check_bytes, check_count, check_failures};
+use crate::checks::{check, check_answer, check_bytes, check_count};
 use crate::writers::{cells, narrow_writer};
 use page_core::{Cell, Fault, Font, KeptRows, Row, RowSink, TextRows, cell_bytes};
 use std::process::Abort;
@@ -43,7 +43,6 @@ fn rows_are_written_as_bytes(rt: HostRuntime) -> Result<(), Fail> {
         let mut out = Vec::new(rt.alloc());
         let mut rows = TextRows::new(&mut out);
         check_answer(&rt, rows.row(margin, row.as_slice()), Ok(()));
-        check_failures(&rt, rows.failures(), 0);
         drop(rows);
         check_bytes(&rt, out.as_slice(), want.as_bytes(), want);
     }
@@ -84,9 +83,7 @@ fn a_row_to_a_bad_writer(rt: HostRuntime) -> Result<(), Fail> {
         out.takes_none = takes_none;
         let mut rows = TextRows::new(&mut out);
         check_answer(&rt, rows.row(2, row.as_slice()), Err(Fault::WriteText));
-        check_failures(&rt, rows.failures(), 1);
         check_answer(&rt, rows.row(2, row.as_slice()), Err(Fault::WriteText));
-        check_failures(&rt, rows.failures(), 2);
         drop(rows);
         check(
             &rt,
@@ -99,7 +96,7 @@ fn a_row_to_a_bad_writer(rt: HostRuntime) -> Result<(), Fail> {
 
 // Gives a row, which is kept as the last one.
 fn check_kept(rt: &impl Abort, kept: &mut KeptRows, margin: u32, cells: &[Cell]) {
-    let (before, failures) = (kept.rows.len(), kept.failures());
+    let before = kept.rows.len();
     check_answer(rt, kept.row(margin, cells), Ok(()));
     let is_last = kept
         .rows
@@ -107,7 +104,6 @@ fn check_kept(rt: &impl Abort, kept: &mut KeptRows, margin: u32, cells: &[Cell])
         .is_some_and(|row| is_row(row, margin, cells));
     check(rt, is_last, "the last");
     check_count(rt, kept.rows.len(), before.saturating_add(1), "a row more");
-    check_failures(rt, kept.failures(), failures);
 }
 
 #[test]

@@ -5,10 +5,13 @@ use Rattle.std.specs.Prelude.{Some, option_map, option_and_then, codes, if◌the
 use Rattle.std.proofs.Math.Dec.{leb-zero}
 use Rattle.std.proofs.lemmas.Bool.{cases_Bool, cond-true}
 use Rattle.page_core_escapes.specs.Escapes.{escape_of}
+use Rattle.page_core_escapes.specs.declared.letters.Shape.TheVariants.{Alone}
+use Rattle.page_core_escapes.specs.declared.letters.Kind.{Kind}
+use Rattle.page_core_escapes.specs.declared.letters.Letter.{Letter}
 use Rattle.page_core_escapes.specs.Extents.{character_len, written_len, name_len}
 use Rattle.page_core_escapes.specs.Lengths.{extent_len, escape_len_by, escape_len}
 use Rattle.page_core_escapes.specs.Letters.{letter_of}
-use Rattle.page_core_escapes.specs.Meanings.{Face, Meaning, character, nothing, face, face_of, is_one_of, meaning_of, roman, italic, bold, bold_italic, former, unknown}
+use Rattle.page_core_escapes.specs.Meanings.{Face, Meaning, face, face_of, is_one_of, letter_meaning, meaning_by, meaning_of, roman, italic, bold, bold_italic, former, unknown}
 use Rattle.page_core_escapes.specs.machine.ShortEscapes.{ShortEscape, ShortFont}
 use Rattle.page_core_escapes.specs.machine.Steps.{FontLetter}
 
@@ -59,36 +62,22 @@ code_font (x ∷ y ∷ z ∷ u ∷ v ∷ rest) h a b c d e =
     let fifth : v ≡ 87 = e in
     record { backslash = a; escape = record { not_empty = omega arith; within = h; escape = λ pairs. rw (first, second, third, fourth, fifth) (code_escape pairs rest) } }
 
--- escapes of a letter alone
-nothing_escape : (pairs : Bool) (rest : List ℕ) → escape_of pairs (92 ∷ 38 ∷ rest) ≡ (nothing, 2)
-unfolding escape_of escape_len escape_len_by extent_len letter_of meaning_of
-nothing_escape pairs rest = rw (written_alone pairs 38 rest refl refl) refl
+-- an escape of a letter alone, whose row has this kind
+alone_escape : (letter : ℕ) (kind : Kind) → letter_of letter ≡ record { shape = Alone; kind = kind } → continuation_len letter ≡ 0 → (34 == letter) ≡ false
+    → (pairs : Bool) (rest : List ℕ) → escape_of pairs (92 ∷ letter ∷ rest) ≡ (meaning_by kind [] (letter ∷ []), 2)
+unfolding escape_of escape_len escape_len_by extent_len meaning_of
+alone_escape letter kind row ascii other pairs rest =
+    let by : Letter → Meaning × ℕ = λ l. (letter_meaning pairs l (letter ∷ []), 2) in
+    rw (row, written_alone pairs letter rest ascii other) (ap by row)
 
-minus_escape : (pairs : Bool) (rest : List ℕ) → escape_of pairs (92 ∷ 45 ∷ rest) ≡ (character 45, 2)
-unfolding escape_of escape_len escape_len_by extent_len letter_of meaning_of
-minus_escape pairs rest = rw (written_alone pairs 45 rest refl refl) refl
-
-backslash_escape : (pairs : Bool) (rest : List ℕ) → escape_of pairs (92 ∷ 101 ∷ rest) ≡ (character 92, 2)
-unfolding escape_of escape_len escape_len_by extent_len letter_of meaning_of
-backslash_escape pairs rest = rw (written_alone pairs 101 rest refl refl) refl
-
-short : (letter : ℕ) (meaning : Meaning) → ((pairs : Bool) (rest : List ℕ) → escape_of pairs (92 ∷ letter ∷ rest) ≡ (meaning, 2)) → (text : List ℕ) → 2 ≤ length text → get_or text 0 0 ≡ 92
-    → get_or text 1 0 ≡ letter → ShortEscape text meaning 2
-short letter meaning is [] h a b = absurd (omega (arith, h))
-short letter meaning is (x ∷ []) h a b = absurd (omega (arith, h))
-short letter meaning is (x ∷ y ∷ rest) h a b =
+pub short_alone : (letter : ℕ) (kind : Kind) → letter_of letter ≡ record { shape = Alone; kind = kind } → continuation_len letter ≡ 0 → (34 == letter) ≡ false
+    → (text : List ℕ) → 2 ≤ length text → get_or text 0 0 ≡ 92 → get_or text 1 0 ≡ letter → ShortEscape text (meaning_by kind [] (letter ∷ [])) 2
+short_alone letter kind row ascii other [] h a b = absurd (omega (arith, h))
+short_alone letter kind row ascii other (x ∷ []) h a b = absurd (omega (arith, h))
+short_alone letter kind row ascii other (x ∷ y ∷ rest) h a b =
     let first : x ≡ 92 = a in
     let second : y ≡ letter = b in
-    record { not_empty = omega arith; within = h; escape = λ pairs. rw (first, second) (is pairs rest) }
-
-pub short_nothing : (text : List ℕ) → 2 ≤ length text → get_or text 0 0 ≡ 92 → get_or text 1 0 ≡ 38 → ShortEscape text nothing 2
-short_nothing text h a b = short 38 nothing nothing_escape text h a b
-
-pub short_minus : (text : List ℕ) → 2 ≤ length text → get_or text 0 0 ≡ 92 → get_or text 1 0 ≡ 45 → ShortEscape text (character 45) 2
-short_minus text h a b = short 45 (character 45) minus_escape text h a b
-
-pub short_backslash : (text : List ℕ) → 2 ≤ length text → get_or text 0 0 ≡ 92 → get_or text 1 0 ≡ 101 → ShortEscape text (character 92) 2
-short_backslash text h a b = short 101 (character 92) backslash_escape text h a b
+    record { not_empty = omega arith; within = h; escape = λ pairs. rw (first, second) (alone_escape letter kind row ascii other pairs rest) }
 
 -- the letters
 pub roman_letter : FontLetter 82 roman

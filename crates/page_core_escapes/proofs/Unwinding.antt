@@ -1,7 +1,9 @@
 -- What is left of arguments that are inside one another: the content of the innermost, its delimiter, then the rest of the next.
-use Rattle.std.proofs.Common.{◌≡◌, ℕ, ◌+◌, ◌-◌, ◌<◌, ◌≤◌, Bool, true, false, cond, eqb, nat_eq, List, [], ◌∷◌, length, take, drop, Option, Some, None, option_map, refl, sym, ap, ap₂, ◌∙◌, arith, length-drop, unwrap_or, zero-add, add-zero, ◌++◌, map, reverse, slice_get, drop_of_length-le, subst, get_or}
+use Rattle.std.proofs.Common.{◌≡◌, ℕ, ◌+◌, ◌-◌, ◌<◌, ◌≤◌, Bool, true, false, cond, eqb, nat_eq, List, [], ◌∷◌, length, take, drop, Option, Some, None, option_map, refl, sym, ap, ap₂, ◌∙◌, arith, length-drop, unwrap_or, zero-add, add-zero, ◌++◌, map, reverse, slice_get, drop_of_length-le, subst, get_or, not, inl, inr}
 use Rattle.std.specs.Option.{option_and_then}
-use Rattle.std.specs.List.{starts_with}
+use Rattle.std.specs.List.{starts_with, prefix_len}
+use Rattle.std.proofs.lemmas.Bool.{cases_Bool, and_parts, not-true}
+use Rattle.std.proofs.lemmas.Bool.Decides.{nat_tests}
 use Rattle.std.proofs.lemmas.List.{drop-drop, length-take, length-take-le, take_all, reverse-append, take-append-drop, drop_more}
 use Rattle.std.proofs.lemmas.Option.{slice_get_within, get_or_from_slice_get, slice_get-get_or}
 use Rattle.page_core_escapes.specs.declared.extents.Extent.{Extent}
@@ -10,7 +12,7 @@ use Rattle.page_core_escapes.specs.declared.quoted.Step.{Step}
 use Rattle.page_core_escapes.specs.declared.quoted.Step.TheVariants.{Passes, Opens, Closes}
 use Rattle.page_core_escapes.specs.Extents.{written_len, extent_of}
 use Rattle.page_core_escapes.specs.Lengths.{quoted_len, extent_len, escape_len_by, content_len}
-use Rattle.page_core_escapes.specs.machine.Steps.{first_character, step_over, step_of, StepFits}
+use Rattle.page_core_escapes.specs.machine.Steps.{first_character, is_inner, step_over, step_of, StepFits}
 use Rattle.page_core_escapes.proofs.Options.{and_then-same, and_then-map, map-and_then, map-map, map-same}
 use Rattle.page_core_escapes.proofs.Contents.{written_len-fits, next_content, content_len-next}
 
@@ -184,6 +186,29 @@ module _ (pairs : Bool) where
 
   pub total_len-passes : (d : List ℕ) (ds : List (List ℕ)) (t : List ℕ) (at n : ℕ) → step_of pairs d (drop at t) ≡ Some (Passes n) → total_len (d ∷ ds) t at ≡ total_len (d ∷ ds) t (at + n)
   total_len-passes d ds t at n is = total_len-step d ds t at _ is ∙ total_len-further (d ∷ ds) t at n
+
+  -- as many bytes further on as begin neither an escape nor the delimiter
+  pub total_len-inner : (d : List ℕ) (ds : List (List ℕ)) (t : List ℕ) (at : ℕ) → 0 < length d
+      → total_len (d ∷ ds) t at ≡ total_len (d ∷ ds) t (at + prefix_len (is_inner (get_or d 0 0)) (drop at t))
+  total_len-inner d ds t at some = go (drop at t) at refl
+    where
+      passes : (d : List ℕ) → 0 < length d → (b : ℕ) (bs : List ℕ) → is_inner (get_or d 0 0) b ≡ true → step_of pairs d (b ∷ bs) ≡ Some (Passes 1)
+      passes [] some b bs inner = absurd (omega arith)
+      passes (x ∷ xs) some b bs inner =
+          let parts = and_parts (not (eqb b 0x5C)) (not (eqb b x)) inner in
+          let other : eqb x b ≡ false = grind (arith, nat_tests, not-true (eqb b x) parts.1) in
+          rw (not-true (eqb b 0x5C) parts.0, other) refl
+
+      go : (u : List ℕ) (at : ℕ) → drop at t ≡ u → total_len (d ∷ ds) t at ≡ total_len (d ∷ ds) t (at + prefix_len (is_inner (get_or d 0 0)) u)
+      go [] at e = ap (total_len (d ∷ ds) t) (omega arith)
+      go (b ∷ bs) at e =
+          elim (cases_Bool (is_inner (get_or d 0 0) b)) [
+            | inl inner ↦
+                rw inner (total_len-passes d ds t at 1 (ap (step_of pairs d) e ∙ passes d some b bs inner)
+                ∙ go bs (at + 1) (sym (drop-drop 1 at t) ∙ ap (drop 1) e)
+                ∙ ap (total_len (d ∷ ds) t) (omega arith))
+            | inr other ↦ rw other (ap (total_len (d ∷ ds) t) (omega arith))
+          ]
 
   pub total_len-closes : (d : List ℕ) (ds : List (List ℕ)) (t : List ℕ) (at n : ℕ) → step_of pairs d (drop at t) ≡ Some (Closes n) → total_len (d ∷ ds) t at ≡ total_len ds t (at + n)
   total_len-closes d ds t at n is = total_len-step d ds t at _ is ∙ total_len-further ds t at n

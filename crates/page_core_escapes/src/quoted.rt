@@ -1,15 +1,22 @@
 //! How many bytes a quoted argument takes.
-ghost use Rattle.std.specs.Prelude.{◌≡◌, ◌+◌, ◌<◌, ◌≤◌, length, IfSome, option_and_then};
+ghost use Rattle.std.specs.Prelude.{◌≡◌, ◌+◌, ◌<◌, ◌≤◌, length, nat_eq, IfSome, IfOk, IsOk, option_and_then};
+ghost use Rattle.std.specs.List.{prefix_len, starts_with};
 ghost use Rattle.page_core_escapes.specs.Extents.{written_len, extent_of};
 ghost use Rattle.page_core_escapes.specs.Lengths.{quoted_len, content_len};
-ghost use Rattle.page_core_escapes.specs.machine.Steps.{first_character, opening_of, step_of, step_over, StepFits};
+ghost use Rattle.page_core_escapes.specs.machine.Steps.{first_character, is_inner, opening_of, step_of, step_over, StepFits};
 
 use crate::extents::{Extent, read_extent, written_len};
 use arrayvec::ArrayVec;
 use page_core_base::LINE;
 
-// One more than the arguments that can be inside one another on a line: each takes three bytes at least.
+// The places that are kept first, as a function pays for all of them, and one more than the arguments that can be inside one another on a
+// line: each takes three bytes at least.
+const FEW: usize = 256;
+
 const NESTING: usize = 21_846;
+
+// More arguments are inside one another than there are places for.
+struct TooDeep;
 
 /// What is read in a quoted argument.
 #[derive(Clone, Copy)]
@@ -29,6 +36,18 @@ fn first_character(pairs: bool, text: &[u8]) -> &[u8]
     &text[..written_len(pairs, text).unwrap_or(0)]
 }
 
+// Whether a text begins with a delimiter, which mostly is one byte.
+#[inline(always)]
+fn begins_with(text: &[u8], delimiter: &[u8]) -> bool
+    requires { 0 < length text.now }
+    ensures { result ≡ starts_with nat_eq text.now delimiter.now }
+{
+    if delimiter.len() == 1 {
+        return delimiter[0] == text[0];
+    }
+    text.starts_with(delimiter)
+}
+
 // What is read next in an argument with this delimiter, none where an escape there has no end. A backslash begins an escape, also where it
 // is the delimiter.
 fn next_step(pairs: bool, delimiter: &[u8], text: &[u8]) -> Option<Step>
@@ -38,7 +57,7 @@ fn next_step(pairs: bool, delimiter: &[u8], text: &[u8]) -> Option<Step>
     if *text.first()? == b'\\' {
         return escape_step(pairs, text);
     }
-    if text.starts_with(delimiter) {
+    if begins_with(text, delimiter) {
         return Some(Step::Closes(delimiter.len()));
     }
     Some(Step::Passes(1))
@@ -67,6 +86,25 @@ fn opening(pairs: bool, text: &[u8], from: usize) -> Option<Step>
     Some(Step::Opens(from, mark))
 }
 
+// Whether a byte begins neither an escape nor a delimiter, of which this is the first byte.
+#[inline(always)]
+fn is_inner(delimiter: u8, byte: u8) -> bool
+    ensures { result ≡ is_inner delimiter byte }
+{
+    byte != b'\\' && byte != delimiter
+}
+
+// How many bytes at a text's front begin neither an escape nor a delimiter, of which this is the first byte.
+#[inline(always)]
+fn inner_len(delimiter: u8, text: &[u8]) -> usize
+    ensures value { result ≡ prefix_len (is_inner delimiter) text.now }
+    ensures within { result ≤ length text.now }
+{
+    text.iter()
+        .take_while(|byte| is_inner(delimiter, **byte))
+        .count()
+}
+
 /// The bytes of a quoted argument with its delimiters: it begins with any character and ends at its next occurrence outside
 /// escapes. None where it has no end.
 pub(crate) fn quoted_len(pairs: bool, text: &[u8]) -> Option<usize>
@@ -77,6 +115,7 @@ pub(crate) fn quoted_len(pairs: bool, text: &[u8]) -> Option<usize>
     let mut at = written_len(pairs, text)?;
     let delimiter = &text[..at];
     loop {
+        at += inner_len(text[0], &text[at..]);
         match next_step(pairs, delimiter, &text[at..])? {
             Step::Passes(len) => at += len,
             Step::Opens(_, _) => return nested_len(pairs, text),
@@ -85,21 +124,54 @@ pub(crate) fn quoted_len(pairs: bool, text: &[u8]) -> Option<usize>
     }
 }
 
-// The same where arguments are inside the argument: the places of the open ones' delimiters are kept, from the outside in.
-// No call but one that needs these places pays for them.
-#[inline(never)]
+// The same where arguments are inside the argument.
 fn nested_len(pairs: bool, text: &[u8]) -> Option<usize>
     requires { length text.now ≤ LINE }
     ensures value { result ≡ quoted_len pairs (content_len pairs) text.now }
     ensures bound { IfSome result (λ len. len ≤ length text.now) }
 {
-    let mut at = written_len(pairs, text)?;
-    let mut open = ArrayVec::<u16, NESTING>::new();
+    match nested_len_in::<FEW>(pairs, text) {
+        Ok(len) => len,
+        Err(TooDeep) => deep_len(pairs, text),
+    }
+}
+
+// The same where they are many.
+fn deep_len(pairs: bool, text: &[u8]) -> Option<usize>
+    requires { length text.now ≤ LINE }
+    ensures value { result ≡ quoted_len pairs (content_len pairs) text.now }
+    ensures bound { IfSome result (λ len. len ≤ length text.now) }
+{
+    match nested_len_in::<NESTING>(pairs, text) {
+        Ok(len) => len,
+        Err(TooDeep) => None,
+    }
+}
+
+// The same, where the places of the open arguments' delimiters are kept, from the outside in. No call but one that needs these places pays
+// for them.
+#[inline(never)]
+fn nested_len_in<const PLACES: usize>(pairs: bool, text: &[u8]) -> Result<Option<usize>, TooDeep>
+    requires line { length text.now ≤ LINE }
+    requires some { (0 < PLACES) × (PLACES ≤ NESTING) }
+    ensures value { IfOk result (λ len. len ≡ quoted_len pairs (content_len pairs) text.now) }
+    ensures bound { IfOk result (λ len. IfSome len (λ n. n ≤ length text.now)) }
+    ensures room { PLACES ≡ NESTING → IsOk result }
+{
+    let Some(mark) = written_len(pairs, text) else {
+        return Ok(None);
+    };
+    let mut at = mark;
+    let mut open = ArrayVec::<u16, PLACES>::new();
     open.push(0);
     while let Some(place) = open.last() {
         let delimiter = first_character(pairs, &text[*place as usize..]);
-        match next_step(pairs, delimiter, &text[at..])? {
+        let Some(step) = next_step(pairs, delimiter, &text[at..]) else {
+            return Ok(None);
+        };
+        match step {
             Step::Passes(len) => at += len,
+            Step::Opens(_, _) if open.is_full() => return Err(TooDeep),
             Step::Opens(from, mark) => {
                 open.push((at + from) as u16);
                 at += from + mark;
@@ -110,5 +182,5 @@ fn nested_len(pairs: bool, text: &[u8]) -> Option<usize>
             }
         }
     }
-    Some(at)
+    Ok(Some(at))
 }

@@ -193,6 +193,8 @@ fn short_escape(text: &[u8]) -> Option<(Escape<'_>, usize)>
         b'&' => Some((Escape::Nothing, 2)),
         b'-' => Some((Escape::Char('-'), 2)),
         b'e' => Some((Escape::Char('\\'), 2)),
+        b't' => Some((Escape::Tab, 2)),
+        b'~' | b' ' | b'0' => Some((Escape::Blank, 2)),
         _ => None,
     }
 }

@@ -1,11 +1,16 @@
 -- Operands and operations.
-use Rattle.std.proofs.Common.{◌≡◌, ℕ, zero, suc, ◌-◌, ◌<◌, ◌≤◌, ◌==◌, false, List, [], ◌∷◌, length, get_or, Option, None, Some, fold, ℤ, inl, inr, refl, sym, ap, ◌∙◌, arith}
+use Rattle.std.proofs.Common.{◌≡◌, ℕ, zero, suc, ◌+◌, ◌-◌, ◌<◌, ◌≤◌, ◌==◌, ◌||◌, Bool, true, false, List, [], ◌∷◌, length, take, drop, min, get_or, if◌then◌else◌, Option, None, Some, fold, ℤ, inl, inr, refl, sym, ap, ◌∙◌, arith}
+use Rattle.std.specs.List.{prefix_len}
 use Rattle.std.proofs.lemmas.Bool.{cases_Bool, cond-true, cond-false, eqb-true}
+use Rattle.std.proofs.lemmas.List.{drop_more, get_or-take, length-take}
+use Rattle.std.proofs.lemmas.List.Sums.{prefix_len-le-length, prefix_len_passes}
 use Rattle.page_core_numbers.specs.declared.scales.Scale.{Scale}
 use Rattle.page_core_numbers.specs.declared.operators.Operator.{Operator}
 use Rattle.page_core_numbers.specs.declared.troubles.Trouble.TheVariants.{Parentheses}
 use Rattle.page_core_numbers.specs.Numbers.{number_at}
-use Rattle.page_core_numbers.specs.Expressions.{Read, no_operand, number, operand_inside, in_parentheses, operand_by, first, after_operation, next_operator, operations_at, expression_by, expression_within}
+use Rattle.page_core_numbers.specs.Operators.{operator_at}
+use Rattle.page_core_numbers.specs.Expressions.{Read, no_operand, number, operand_inside, in_parentheses, operand_by, after_close, first, after_operation, next_operator, operations_at, expression_by, expression_within}
+use Rattle.page_core_numbers.specs.machine.Operations.{Goes, done, is_opening, is_over}
 use Rattle.page_core_numbers.specs.machine.Signs.{inside_of, after_open}
 
 pub number_at-nil : (scale : Scale) → number_at scale [] ≡ None
@@ -66,12 +71,6 @@ expression-is (suc room) scale text = refl
 
 -- ---- operations
 
--- the operations that follow what was read so far, done on it
-abbrev pub done : (operand_of : List ℕ → Read (Option ℤ)) → ℕ → Read ℤ → Read ℤ
-done operand_of steps so_far =
-    fold (λ (r : Read ℤ) (operation : Operator × Read (Option ℤ)). after_operation r operation.0 operation.1) so_far
-    (operations_at operand_of steps (next_operator so_far.ends so_far.rest))
-
 done-next : (operand_of : List ℕ → Read (Option ℤ)) (steps : ℕ) (so_far : Read ℤ) (operator : Operator) (rest : List ℕ)
     → next_operator so_far.ends so_far.rest ≡ Some (operator, rest) → done operand_of (suc steps) so_far ≡ done operand_of steps (after_operation so_far operator (operand_of rest))
 unfolding operations_at
@@ -82,11 +81,6 @@ unfolding operations_at
 done-none operand_of steps so_far next = rw next refl
 
 -- with steps enough all operations that follow are done
-pub record Goes (operand_of : List ℕ → Read (Option ℤ)) (all so_far : Read ℤ) : Type 0 where
-  pub steps : ℕ
-  pub enough : length so_far.rest < steps
-  pub same : all ≡ done operand_of steps so_far
-
 pub goes-from : (operand_of : List ℕ → Read (Option ℤ)) (text : List ℕ) (all so_far : Read ℤ) → all ≡ expression_by operand_of text
     → so_far ≡ first (operand_of text) → length so_far.rest ≤ length text → Goes operand_of all so_far
 unfolding expression_by
@@ -111,3 +105,72 @@ goes-end operand_of all so_far g next = at g.steps g.enough g.same
     at : (n : ℕ) → length so_far.rest < n → all ≡ done operand_of n so_far → so_far ≡ all
     at zero enough same = absurd (omega arith)
     at (suc n) enough same = sym (same ∙ done-none operand_of n so_far next)
+
+-- the first operand of an expression, and the operations after it
+pub goes-first : (room : ℕ) (scale : Scale) (text : List ℕ) (so_far : Read ℤ) → so_far ≡ first (operand_by (inside_of room scale) scale text)
+    → length so_far.rest ≤ length text → Goes (operand_by (inside_of room scale) scale) (expression_within room scale text) so_far
+goes-first room scale text so_far f h = goes-from (operand_by (inside_of room scale) scale) text _ so_far (expression-is room scale text) f h
+
+-- ---- parentheses that open at a text's front, from the inside out
+
+-- the operand that they are
+operand-around : (room : ℕ) (scale : Scale) (text inner : List ℕ) (so_far : Read ℤ) → text ≡ 40 ∷ inner → so_far ≡ expression_within room scale inner
+    → operand_by (inside_of (room + 1) scale) scale text ≡ in_parentheses so_far
+operand-around room scale text inner so_far is e =
+    let room_inside : room + 1 - 1 ≡ room = omega arith in
+    operand-inside (room + 1) scale text inner (ap after_open is) (omega arith)
+    ∙ ap (λ n. in_parentheses (expression_within n scale inner)) room_inside ∙ ap in_parentheses (sym e)
+
+pub goes-around : (room : ℕ) (scale : Scale) (text inner : List ℕ) (so_far more : Read ℤ) → text ≡ 40 ∷ inner → so_far ≡ expression_within room scale inner
+    → more ≡ first (in_parentheses so_far) → length more.rest ≤ length text
+    → Goes (operand_by (inside_of (room + 1) scale) scale) (expression_within (room + 1) scale text) more
+goes-around room scale text inner so_far more is e m h =
+    goes-first (room + 1) scale text more (m ∙ ap first (sym (operand-around room scale text inner so_far is e))) h
+
+over-rest : (ends : Bool) (rest : List ℕ) → (ends || length rest == 0) ≡ true → rest ≡ (if ends then rest else after_close rest)
+over-rest true rest over = refl
+over-rest false [] over = refl
+over-rest false (b ∷ bs) over = let none = eqb-true (length (b ∷ bs)) 0 over in absurd (omega arith)
+
+over-none : (ends : Bool) (rest : List ℕ) → (ends || length rest == 0) ≡ true → next_operator ends rest ≡ None
+unfolding operator_at
+over-none true rest over = refl
+over-none false [] over = refl
+over-none false (b ∷ bs) over = let none = eqb-true (length (b ∷ bs)) 0 over in absurd (omega arith)
+
+-- an expression that is over is that in parentheses
+over-around : (room : ℕ) (scale : Scale) (text inner : List ℕ) (so_far : Read ℤ) → text ≡ 40 ∷ inner → so_far ≡ expression_within room scale inner
+    → is_over so_far ≡ true → so_far ≡ expression_within (room + 1) scale text
+unfolding expression_by
+over-around room scale text inner so_far is e over =
+    let operand_of = operand_by (inside_of (room + 1) scale) scale in
+    let with_rest : List ℕ → Read ℤ = λ rest. record { value = so_far.value; troubles = so_far.troubles; ends = so_far.ends; rest = rest } in
+    let same : so_far ≡ first (in_parentheses so_far) = ap with_rest (over-rest so_far.ends so_far.rest over) in
+    let operand : so_far ≡ first (operand_of text) = same ∙ ap first (sym (operand-around room scale text inner so_far is e)) in
+    sym (expression-is (room + 1) scale text ∙ ap (done operand_of (suc (length text))) (sym operand)
+    ∙ done-none operand_of (length text) so_far (over-none so_far.ends so_far.rest over))
+
+-- the same of several
+pub over-all : (count room : ℕ) (scale : Scale) (text : List ℕ) (so_far : Read ℤ) → ((k : ℕ) → k < count → drop k text ≡ 40 ∷ drop (k + 1) text)
+    → so_far ≡ expression_within room scale (drop count text) → is_over so_far ≡ true → so_far ≡ expression_within (room + count) scale text
+over-all zero room scale text so_far opening e over =
+    let none : room ≡ room + 0 = omega arith in
+    e ∙ ap (λ n. expression_within n scale text) none
+over-all (suc count) room scale text so_far opening e over =
+    let one_more : suc count ≡ count + 1 = omega arith in
+    let all : room + 1 + count ≡ room + suc count = omega arith in
+    let below : (k : ℕ) → k < count → drop k text ≡ 40 ∷ drop (k + 1) text = λ k h. opening k (omega arith) in
+    let inner : so_far ≡ expression_within room scale (drop (count + 1) text) = e ∙ ap (λ n. expression_within room scale (drop n text)) one_more in
+    let around : so_far ≡ expression_within (room + 1) scale (drop count text) =
+    over-around room scale (drop count text) (drop (count + 1) text) so_far (opening count (omega arith)) inner over in
+    over-all count (room + 1) scale text so_far below around over ∙ ap (λ n. expression_within n scale text) all
+
+-- each of the first parentheses, and what is after it
+pub opening-drop : (text : List ℕ) (room k : ℕ) → k < prefix_len is_opening (take (min (length text) room) text) → drop k text ≡ 40 ∷ drop (k + 1) text
+opening-drop text room k below =
+    let n = min (length text) room in
+    let within = prefix_len-le-length is_opening (take n text) in
+    let size = length-take n text in
+    let front : k < n = omega arith in
+    let is : get_or text k 0 ≡ 40 = sym (get_or-take n text k 0 front) ∙ eqb-true _ 40 (prefix_len_passes is_opening (take n text) k 0 below) in
+    drop_more text k 0 (omega arith) ∙ ap (λ b. b ∷ drop (k + 1) text) is

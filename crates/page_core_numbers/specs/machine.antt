@@ -2,5 +2,6 @@
 pub mod CodeValues
 pub mod Evaluations
 pub mod Fronts
+pub mod Operations
 pub mod Plain
 pub mod Signs

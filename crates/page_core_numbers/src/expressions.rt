@@ -1,11 +1,13 @@
 //! Expressions: roff(7), "Numerical expressions". Each operation is done as its operand was read; an expression in parentheses is read
 //! by a call inside the call.
 
-ghost use Rattle.std.specs.Prelude.{◌≡◌, ◌≤◌, ◌<◌, ◌+◌, ◌^◌, length, option_map, IfSome, None, is_some, option_copied};
-ghost use Rattle.page_core_numbers.specs.Expressions.{expression_within, operand_by, no_operand, number, in_parentheses, first, after_operation, next_operator, after_close};
+ghost use Rattle.std.specs.Prelude.{◌≡◌, ◌≤◌, ◌<◌, ◌+◌, ◌^◌, length, take, min, ℤ, option_map, IfSome, None, is_some, option_copied};
+ghost use Rattle.std.specs.List.{prefix_len};
+ghost use Rattle.page_core_numbers.specs.Expressions.{Read, expression_within, operand_by, no_operand, number, in_parentheses, first, after_operation, next_operator, after_close};
 ghost use Rattle.page_core_numbers.specs.Numbers.{number_at};
 ghost use Rattle.page_core_numbers.specs.machine.CodeValues.{operand_view, expression_view, found_view, count_of};
 ghost use Rattle.page_core_numbers.specs.machine.Signs.{after_signs, minus_count, negated_times, negated_value, inside_of, after_open};
+ghost use Rattle.page_core_numbers.specs.machine.Operations.{Goes, is_opening, is_over};
 
 use crate::decimals::read_number;
 use crate::operators::{FoundOperator, Operator, read_operator};
@@ -214,19 +216,55 @@ fn after_operation<'a>(
     }
 }
 
-/// The expression at a text's front, inside which `room` parentheses more may be open.
+// An expression with the operations that follow it, inside which `room` parentheses more may be open.
+#[cycle(expression)]
+fn after_operations<'a>(so_far: Expression<'a>, scale: Scale, room: u32) -> Expression<'a>
+    requires { count_of so_far.troubles + length so_far.rest.now < 2 ^ 64 }
+    ensures value { (all : Read ℤ) → Goes (operand_by (inside_of room scale) scale) all (expression_view so_far.entry)
+        → expression_view result ≡ all }
+    ensures bound { count_of result.troubles + length result.rest.now
+        ≤ count_of so_far.entry.troubles + length so_far.entry.rest.now }
+{
+    let mut read = so_far;
+    while let Some(found) = next_operator(read) {
+        read = after_operation(read, found.operator, read_operand(found.rest, scale, room));
+    }
+    read
+}
+
+// How many parentheses open one after another at a text's front, up to `room`.
+fn opening_count(text: &[u8], room: u32) -> u32
+    ensures value { result ≡ prefix_len is_opening (take (min (length text.now) room) text.now) }
+    ensures within { result ≤ length text.now }
+    ensures room { result ≤ room }
+{
+    let front = &text[..text.len().min(room as usize)];
+    front.iter().take_while(|byte| **byte == b'(').count() as u32
+}
+
+// Whether nothing can change an expression's value any longer, be there parentheses around it or not.
+fn is_over(so_far: Expression<'_>) -> bool
+    ensures { result ≡ is_over (expression_view so_far.entry) }
+{
+    so_far.troubles.stopped.is_some() || so_far.rest.is_empty()
+}
+
+/// The expression at a text's front, inside which `room` parentheses more may be open. Those that open one after another at its front are
+/// read in a loop, from the inside out.
 #[cycle(expression)]
 pub(crate) fn read_expression<'a>(text: &'a [u8], scale: Scale, room: u32) -> Expression<'a>
     ensures value { expression_view result ≡ expression_within room scale text.now }
     ensures bound { count_of result.troubles + length result.rest.now ≤ length text.now }
 {
-    let mut so_far = first(read_operand(text, scale, room));
-    while let Some(found) = next_operator(so_far) {
-        so_far = after_operation(
-            so_far,
-            found.operator,
-            read_operand(found.rest, scale, room),
-        );
+    let opening = opening_count(text, room);
+    let inside = room - opening;
+    let operand = read_operand(&text[opening as usize..], scale, inside);
+    let mut so_far = after_operations(first(operand), scale, inside);
+    for around in inside..room {
+        if is_over(so_far) {
+            return so_far;
+        }
+        so_far = after_operations(first(in_parentheses(so_far)), scale, around + 1);
     }
     so_far
 }

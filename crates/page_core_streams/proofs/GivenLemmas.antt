@@ -1,7 +1,7 @@
 -- What a source gave, call by call.
-use Rattle.std.proofs.Common.{◌≡◌, ℕ, ◌+◌, ◌-◌, List, [], ◌++◌, length, refl, sym, ap, ◌∙◌, append_assoc, append-nil, arith, length-append, Option, Some, None}
+use Rattle.std.proofs.Common.{◌≡◌, ℕ, ◌+◌, ◌-◌, ◌^◌, ◌<◌, List, [], ◌++◌, length, refl, sym, ap, ◌∙◌, append_assoc, append-nil, arith, length-append, inl, inr, Option, Some, None}
 use Rattle.std.specs.Io.KnownBytes.{Consumes}
-use Rattle.page_core_streams.specs.Sources.{SourceState, HasGiven, IsBusy, IsLean, counted}
+use Rattle.page_core_streams.specs.Sources.{SourceState, HasGiven, IsBusy, IsLean, IsTooLong, counted}
 
 pub consumes_none : (a : Option (List ℕ)) → Consumes a a []
 consumes_none None = tt
@@ -55,3 +55,9 @@ busy_lean asked xs b = record { idle = b.idle; empty = b.empty; most = omega (ar
 
 pub busy_end : {s t u : SourceState} (asked : ℕ) (xs : List ℕ) → IsBusy s t asked xs → u.empty ≡ t.empty → IsLean s u (asked + 1) xs
 busy_end asked xs b e = record { idle = b.idle; empty = e ∙ b.empty; most = omega (arith, b.most) }
+
+-- where no call is empty, each gave a byte, but for one
+pub lean_long : {s t : SourceState} (asked : ℕ) (bytes : List ℕ) → s.empty ≡ 0 → t.empty ≡ 0 → IsLean s t asked bytes → IsTooLong asked bytes
+    → 2 ^ 31 - 1 < length bytes
+lean_long asked bytes d e l (inl bound) = omega (arith, bound, l.most, l.empty, d, e)
+lean_long asked bytes d e l (inr more) = more

@@ -93,10 +93,6 @@ impl RowSink for KeptRows {
         self.failures = self.failures.saturating_add(1);
         Err(Fault::WriteText)
     }
-
-    fn failures(&self) -> u64 {
-        self.failures
-    }
 }
 
 /// Keeps messages.
@@ -140,9 +136,5 @@ impl NoteSink for KeptNotes {
         }
         self.failures = self.failures.saturating_add(1);
         Err(Fault::WriteNotes)
-    }
-
-    fn failures(&self) -> u64 {
-        self.failures
     }
 }

@@ -21,14 +21,6 @@ pub trait Target {
     fn put(&mut self, bytes: &[u8]) -> bool
         ensures writes { Writes result (contents self.old) (contents self.new) bytes.now }
         ensures fails { FailsBy counts result (failures self.old) (failures self.new) };
-
-    /// Whether its failures are counted.
-    fn is_counted(&self) -> bool
-        ensures { result ≡ counts };
-
-    /// How often it has failed, where that is counted.
-    fn failures(&self) -> u64
-        ensures { result ≡ failures self.now };
 }
 
 impl<W: Write> Target for W {
@@ -42,14 +34,6 @@ impl<W: Write> Target for W {
 
     fn put(&mut self, bytes: &[u8]) -> bool {
         write_bytes(self, bytes)
-    }
-
-    fn is_counted(&self) -> bool {
-        false
-    }
-
-    fn failures(&self) -> u64 {
-        0
     }
 }
 
@@ -90,14 +74,6 @@ impl<W: Write> Target for CountedWriter<'_, W> {
         self.failures = self.failures.saturating_add(1);
         false
     }
-
-    fn is_counted(&self) -> bool {
-        true
-    }
-
-    fn failures(&self) -> u64 {
-        self.failures
-    }
 }
 
 /// Takes bytes, and keeps none: it never fails.
@@ -116,13 +92,5 @@ impl Target for Nowhere {
     fn put(&mut self, bytes: &[u8]) -> bool {
         let _ = bytes;
         true
-    }
-
-    fn is_counted(&self) -> bool {
-        true
-    }
-
-    fn failures(&self) -> u64 {
-        0
     }
 }

@@ -56,12 +56,4 @@ impl<W: Target> NoteSink for TextNotes<'_, '_, W> {
         self.failures = self.failures.saturating_add(1);
         Err(Fault::WriteNotes)
     }
-
-    fn failures(&self) -> u64 {
-        if self.out.is_counted() {
-            self.out.failures()
-        } else {
-            self.failures
-        }
-    }
 }

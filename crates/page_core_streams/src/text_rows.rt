@@ -199,12 +199,4 @@ impl<W: Target> RowSink for TextRows<'_, W> {
         self.failures = self.failures.saturating_add(1);
         Err(Fault::WriteText)
     }
-
-    fn failures(&self) -> u64 {
-        if self.out.is_counted() {
-            self.out.failures()
-        } else {
-            self.failures
-        }
-    }
 }

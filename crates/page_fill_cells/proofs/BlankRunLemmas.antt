@@ -1,10 +1,10 @@
 -- Places of a row that are known to have blanks.
-use Rattle.std.proofs.Common.{◌≡◌, ℕ, zero, suc, ◌+◌, ◌-◌, ◌<◌, ◌≤◌, max, nat_lt, true, List, [], ◌∷◌, ◌++◌, length, take, get_or, replicate, set, append_assoc, append-nil, add-one, inl, inr, refl, sym, ap, ◌∙◌, arith}
+use Rattle.std.proofs.Common.{◌≡◌, ℕ, zero, suc, ◌+◌, ◌-◌, ◌<◌, ◌≤◌, max, nat_lt, true, List, [], ◌∷◌, ◌++◌, length, take, drop, get_or, replicate, set, append_assoc, append-nil, add-one, inl, inr, refl, sym, ap, ◌∙◌, arith}
 use Rattle.std.specs.List.{list_all}
 use Rattle.std.proofs.Math.Nat.{le-max_left, le-max_right}
 use Rattle.std.proofs.lemmas.Bool.{cases_Bool}
 use Rattle.std.proofs.lemmas.Bool.Decides.{nat_tests}
-use Rattle.std.proofs.lemmas.List.{get_or-take, get_or-append_right, get_or-replicate, get_or-set_other, length-take-le, replicate-append-replicate, take-take, take_more}
+use Rattle.std.proofs.lemmas.List.{get_or-drop, get_or-take, get_or-append_right, get_or-replicate, get_or-set_other, length-take-le, replicate-append-replicate, take-take, take_more}
 use Rattle.page_core_base.specs.declared.cells.Cell.{Cell}
 use Rattle.page_core_base.specs.declared.cells.Font.{Font}
 use Rattle.page_core_base.specs.Rows.{is_blank_row, row_of}
@@ -115,6 +115,18 @@ put-run old new start count font put within = record {
       ∙ (ap (λ cells. get_or cells k cell) put
       ∙ (get_or-append_right (take start old) (replicate count cell) start k cell (length-take-le start old within) h
       ∙ get_or-replicate count (k - start) cell cell behind));
+}
+
+-- blanks came to the front
+pub moved-run : (old new : List Cell) (first last start end : ℕ) (font : Font) → HasRun old first last font → first ≤ start → end ≤ last
+    → take (end - start) new ≡ drop start (take end old) → HasRun new 0 (end - start) font
+moved-run old new first last start end font run from to moved = record {
+  at = λ k h g.
+      let cell = cell_of font 32 in
+      sym (get_or-take (end - start) new k cell g)
+      ∙ (ap (λ cells. get_or cells k cell) moved
+      ∙ (get_or-drop start (take end old) k cell
+      ∙ (get_or-take end old (start + k) cell (omega (arith, g)) ∙ run.at (start + k) (omega (arith, from)) (omega (arith, g, to)))));
 }
 
 -- blanks were put behind others

@@ -1,8 +1,6 @@
 //! Printable characters of ASCII and their fonts, apart: the places of a row in which there is nothing else.
 
 ghost use Rattle.std.specs.Prelude.{◌≡◌, ◌+◌, ◌<◌, ◌≤◌, length, set, replicate};
-ghost use Rattle.std.specs.List.{list_all};
-ghost use Rattle.page_fill_cells.specs.machine.BlankRuns.{is_blank_byte};
 ghost use Rattle.page_fill_cells.specs.machine.Places.{put_at};
 
 use page_core_base::Font;
@@ -61,16 +59,4 @@ pub(crate) fn put_byte(bytes: &mut [u8], fonts: &mut [Font], place: usize, byte:
 {
     bytes[place] = byte;
     fonts[place] = font;
-}
-
-/// Whether there are blanks alone.
-pub(crate) fn is_blank_text(bytes: &[u8]) -> bool
-    ensures { result ≡ list_all is_blank_byte bytes.now }
-{
-    for byte in bytes {
-        if *byte != b' ' {
-            return false;
-        }
-    }
-    true
 }

@@ -1,6 +1,6 @@
 //! Places of a row that are known to have blanks, so that blanks that come again cost nothing.
 
-ghost use Rattle.std.specs.Prelude.{◌≡◌, ◌<◌, ◌≤◌, List, length, set, take, true, max};
+ghost use Rattle.std.specs.Prelude.{◌≡◌, ◌<◌, ◌≤◌, ◌-◌, List, length, set, take, drop, true, max};
 ghost use Rattle.std.specs.List.{list_all};
 ghost use Rattle.page_core_base.specs.declared.cells.Cell.{Cell};
 ghost use Rattle.page_fill_cells.specs.machine.BlankRuns.{HasRun, is_blank_byte};
@@ -93,6 +93,23 @@ impl BlankRun {
         }
     }
 
+    /// What is known where the places from a start up to an end came to the front.
+    pub(crate) fn moved(self, start: usize, end: usize) -> BlankRun
+        requires { start ≤ end }
+        ensures { (old new : List Cell) → HasRun old self.start self.end self.font
+            → take (end - start) new ≡ drop start (take end old)
+            → HasRun new result.start result.end result.font }
+    {
+        if self.start <= start && end <= self.end {
+            return BlankRun {
+                start: 0,
+                end: end - start,
+                font: self.font,
+            };
+        }
+        NO_RUN
+    }
+
     /// The places before an end are put anew.
     pub(crate) fn cut(&mut self, end: usize)
         ensures start { self.new.start ≡ max self.old.start end }
@@ -144,6 +161,21 @@ fn are_long_blanks(bytes: &[u8]) -> bool
     } else {
         groups_blank::<128>(bytes)
     }
+}
+
+/// Whether there are blanks alone. A long text that begins with one mostly has no other byte, and is read in groups.
+pub(crate) fn is_blank_text(bytes: &[u8]) -> bool
+    ensures { result ≡ list_all is_blank_byte bytes.now }
+{
+    if bytes.len() >= LONG && bytes[0] == b' ' {
+        return are_long_blanks(bytes);
+    }
+    for byte in bytes {
+        if *byte != b' ' {
+            return false;
+        }
+    }
+    true
 }
 
 /// Whether a text is so long that its blanks are worth a look, and all of its bytes are blanks.

@@ -6,7 +6,8 @@ ghost use Rattle.page_core_base.specs.Rows.{cells_in, is_blank_row, row_of};
 ghost use Rattle.page_fill_cells.specs.Cells as cells;
 ghost use Rattle.page_fill_cells.specs.machine.Places.{put_at};
 
-use crate::ascii_places::{is_blank_text, put_blank_text, put_byte, put_letters, put_text};
+use crate::ascii_places::{put_blank_text, put_byte, put_letters, put_text};
+use crate::blank_runs::is_blank_text;
 use crate::cell_places::{move_to_front, put_blanks, put_cells, put_cells_in};
 use crate::cell_widths::{BLANK, columns, is_blank};
 use page_core_base::{CELLS, Cell, Font, RowOut};

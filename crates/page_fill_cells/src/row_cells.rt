@@ -164,15 +164,29 @@ impl RowCells {
         self.blanks = usize::from(cell.c == ' ');
     }
 
-    /// Takes the cells before a start away.
-    pub fn keep_from(&mut self, start: usize)
+    // Takes the cells before a start away.
+    fn keep_from(&mut self, start: usize)
         requires { start ≤ length self.old }
         ensures { self.new ≡ drop start self.old }
     {
-        self.run = NO_RUN;
-        self.blanks = 0;
         self.places.move_to_front(start, self.len);
+        self.run = self.run.moved(start, self.len);
+        self.blanks = 0;
         self.len -= start;
+    }
+
+    /// Takes the cells before a start away, and appends a cell. Where all of these are blanks, they stay known as such.
+    pub fn carry(&mut self, start: usize, cell: Cell)
+        requires within { start ≤ length self.old }
+        requires room { length (drop start self.old) < CELLS }
+        ensures { self.new ≡ drop start self.old ++ cell ∷ [] }
+    {
+        self.keep_from(start);
+        if cell.c == ' ' {
+            self.add_blanks(1, cell.font);
+        } else {
+            self.push(cell);
+        }
     }
 
     /// Appends a count of blanks.

@@ -69,10 +69,6 @@ impl RowSink for Sheet {
         add_row(&mut self.text, margin, cells);
         Ok(())
     }
-
-    fn failures(&self) -> u64 {
-        self.failures
-    }
 }
 
 fn add_row(text: &mut Vec<u8>, margin: u32, cells: &[Cell]) {
@@ -106,10 +102,6 @@ impl NoteSink for Sheet {
         }
         add_note(&mut self.text, note);
         Ok(())
-    }
-
-    fn failures(&self) -> u64 {
-        self.failures
     }
 }
 

@@ -285,8 +285,7 @@ impl OpenRow {
         requires { 0 < self.old.gap }
         ensures { self.new ≡ sheet.begins self.old (drop self.old.word self.old.cells ++ cell ∷ []) }
     {
-        self.row.keep_from(self.word);
-        self.row.push(cell);
+        self.row.carry(self.word, cell);
         self.columns = self.row.columns();
         self.margin = self.first;
         self.first = self.rest;

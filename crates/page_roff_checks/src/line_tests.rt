@@ -437,10 +437,6 @@ impl NoteSink for Counting {
     fn takes(&self, kind: NoteKind) -> bool {
         !matches!(kind, NoteKind::BadChar)
     }
-
-    fn failures(&self) -> u64 {
-        0
-    }
 }
 
 // How many messages come of a page's last line, and how many bytes it has.

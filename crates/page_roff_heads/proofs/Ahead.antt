@@ -12,9 +12,11 @@ use Rattle.page_roff_heads.specs.declared.conditions.Test.{Test}
 use Rattle.page_roff_heads.specs.declared.conditions.Test.TheVariants as tests
 use Rattle.page_roff_heads.specs.declared.conditions.TestRead.{TestRead}
 use Rattle.page_roff_heads.specs.Conditions.{both_len, condition_len, condition_of, has_both, is_odd, kind_of, longer, name_after, name_len, named, read_kind, read_test, reads, second_of, text_before, texts_after, texts_at, turn_len}
-use Rattle.page_roff_heads.specs.Delimiters.{argument_len, delimiter_len, delimiter_of, expression_len, expression_rest, place_of, quoted_len, width_len}
+use Rattle.page_roff_heads.specs.Expressions.{argument_len, expression_len, expression_rest}
+use Rattle.page_roff_syntax.specs.Delimiters.{character_len, delimiter_of, place_of, quoted_len, width_len}
 use Rattle.page_roff_heads.specs.Texts.{after_blanks, blank_len, placed}
-use Rattle.page_roff_heads.proofs.Reading.{quoted_none, quoted_some, texts_together}
+use Rattle.page_roff_heads.proofs.Reading.{texts_together}
+use Rattle.page_roff_syntax.proofs.DelimiterLemmas.{quoted_none, quoted_some}
 
 -- ---- runs
 
@@ -117,7 +119,7 @@ no_more : (n : ℕ) → n ≤ 0 → n ≡ 0
 no_more n h = omega arith
 
 -- where the first delimiter is in the front
-quoted_inside : (w r : List ℕ) (m : ℕ) → m ≡ delimiter_len (w ++ r) → m ≡ delimiter_len w → 0 < m → m ≤ length w → quoted_len (w ++ r) ≤ length w
+quoted_inside : (w r : List ℕ) (m : ℕ) → m ≡ character_len (w ++ r) → m ≡ character_len w → 0 < m → m ≤ length w → quoted_len (w ++ r) ≤ length w
     → quoted_len (w ++ r) ≡ quoted_len w
 quoted_inside w r m a b some fits h =
     let d = take m w in
@@ -140,10 +142,10 @@ quoted_inside w r m a b some fits h =
     ]
 
 -- where it does not
-quoted_past : (w r : List ℕ) (m : ℕ) → m ≡ delimiter_len (w ++ r) → length w < m → length w ≤ delimiter_len w → quoted_len (w ++ r) ≤ length w
+quoted_past : (w r : List ℕ) (m : ℕ) → m ≡ character_len (w ++ r) → length w < m → length w ≤ character_len w → quoted_len (w ++ r) ≤ length w
     → quoted_len (w ++ r) ≡ quoted_len w
 quoted_past w r m a past all h =
-    let k = delimiter_len w in
+    let k = character_len w in
     let none : 0 ≡ quoted_len w = quoted_none w (take k w) [] k 0 refl refl (sym (drop_of_length-le w all)) refl (omega arith) in
     let d = take m (w ++ r) in
     let v = drop m (w ++ r) in
@@ -157,7 +159,7 @@ quoted_past w r m a past all h =
 quoted_ahead : (w r : List ℕ) → quoted_len (w ++ r) ≤ length w → quoted_len (w ++ r) ≡ quoted_len w
 quoted_ahead [] r h = no_more (quoted_len r) h
 quoted_ahead (x ∷ w) r h =
-    let m = delimiter_len (x ∷ (w ++ r)) in
+    let m = character_len (x ∷ (w ++ r)) in
     let l = length-append w r in
     elim (cases_Bool (nat_lt (length (x ∷ w)) m)) [
       | inl t ↦
@@ -270,13 +272,13 @@ after_ahead d column v r some h =
 texts_ahead : (column x : ℕ) (w r : List ℕ) → (texts_at column (x ∷ (w ++ r))).len < length (x ∷ w) → texts_at column (x ∷ (w ++ r)) ≡ texts_at column (x ∷ w)
 texts_ahead column x w r h =
     let t = x ∷ (w ++ r) in
-    let m = delimiter_len t in
+    let m = character_len t in
     let g : m + (texts_after (delimiter_of t) (column + m) (drop m t)).len < length (x ∷ w) = h in
     let fits : m ≤ length (x ∷ w) = omega (arith, g) in
     let d = take m (x ∷ w) in
     let v = drop m (x ∷ w) in
     let l = length-append w r in
-    let is : m ≡ delimiter_len (x ∷ w) = omega (arith, fits, l) in
+    let is : m ≡ character_len (x ∷ w) = omega (arith, fits, l) in
     let some : 0 < m = omega (arith, l) in
     let whole = texts_together t d (v ++ r) column m refl (sym (take-append-le m (x ∷ w) r fits)) (sym (drop-append-le m (x ∷ w) r fits)) in
     let front = texts_together (x ∷ w) d v column m is refl refl in

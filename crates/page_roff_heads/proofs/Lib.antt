@@ -1,4 +1,3 @@
 pub mod Ahead
 pub mod Reading
-pub mod Searches
 pub mod Within

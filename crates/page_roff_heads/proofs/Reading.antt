@@ -1,6 +1,5 @@
 -- Texts that are read pairwise: helpers of proofs.
-use Rattle.std.proofs.Common.{◌≡◌, ◌≢◌, ℕ, zero, suc, ◌+◌, ◌<◌, ◌≤◌, ◌==◌, nat_eq, nat_lt, Bool, true, false, not, List, [], ◌∷◌, length, take, drop, get_or, if◌then◌else◌, refl, sym, ap, ◌∙◌, inl, inr, arith, length-drop}
-use Rattle.std.specs.List.{starts_with}
+use Rattle.std.proofs.Common.{◌≡◌, ◌≢◌, ℕ, zero, suc, ◌+◌, ◌<◌, ◌≤◌, ◌==◌, Bool, true, false, not, List, [], ◌∷◌, length, take, drop, get_or, if◌then◌else◌, refl, sym, ap, ◌∙◌, inl, inr, arith, length-drop}
 use Rattle.std.proofs.lemmas.Bool.Decides.{nat_tests}
 use Rattle.std.proofs.lemmas.List.{drop_more, drop_all, drop-drop, get_or-drop}
 use Rattle.std.proofs.lemmas.List.Sums.{prefix_len_stops, prefix_len-le-length}
@@ -10,32 +9,13 @@ use Rattle.std.specs.Prelude.{◌&&◌, ◌||◌}
 use Rattle.page_roff_syntax.specs.machine.Pairs.{LacksPair}
 use Rattle.page_roff_syntax.proofs.PairLemmas.{lacks_later}
 use Rattle.page_roff_syntax.specs.LineForms.{is_white, is_plain, begins_comment}
-use Rattle.page_roff_heads.specs.Delimiters.{delimiter_len, place_of, quoted_len, argument_len, expression_rest, expression_len}
+use Rattle.page_roff_syntax.specs.Delimiters.{character_len, width_len}
+use Rattle.page_roff_heads.specs.Expressions.{argument_len, expression_rest, expression_len}
 use Rattle.page_roff_heads.specs.Conditions.{longer, texts_after, texts_at}
 use Rattle.page_roff_heads.specs.Heads.{end_place}
 
--- ---- delimiters
-
-pub place_here : (delimiter text : List ℕ) → starts_with nat_eq text delimiter ≡ true → place_of delimiter text ≡ 0
-place_here delimiter [] s = refl
-place_here delimiter (x ∷ []) s = rw s refl
-place_here delimiter (x ∷ y ∷ ys) s = rw s refl
-
--- a text in delimiters
-pub quoted_some : (text delimiter inner : List ℕ) (m n : ℕ) → m ≡ delimiter_len text → delimiter ≡ take m text → inner ≡ drop m text → n ≡ place_of delimiter inner
-    → n < length inner → m + n + m ≡ quoted_len text
-quoted_some text delimiter inner m n a b e f h =
-    let t : nat_lt n (length inner) ≡ true = grind (arith, nat_tests) in
-    rw (← a, ← b, ← e, ← f, t) refl
-
-pub quoted_none : (text delimiter inner : List ℕ) (m n : ℕ) → m ≡ delimiter_len text → delimiter ≡ take m text → inner ≡ drop m text → n ≡ place_of delimiter inner
-    → length inner ≤ n → 0 ≡ quoted_len text
-quoted_none text delimiter inner m n a b e f h =
-    let t : nat_lt n (length inner) ≡ false = grind (arith, nat_tests) in
-    rw (← a, ← b, ← e, ← f, t) refl
-
 -- two texts with their delimiters
-pub texts_together : (text delimiter rest : List ℕ) (column m : ℕ) → m ≡ delimiter_len text → delimiter ≡ take m text → rest ≡ drop m text
+pub texts_together : (text delimiter rest : List ℕ) (column m : ℕ) → m ≡ character_len text → delimiter ≡ take m text → rest ≡ drop m text
     → longer m (texts_after delimiter (column + m) rest) ≡ texts_at column text
 texts_together text delimiter rest column m a b e = rw (b, e, a) refl
 
@@ -82,6 +62,14 @@ expression_pair text i n h s e f m k =
     let p = passed n (drop (i + 2) text) k in
     let q = expression_two (get_or text i 0) (get_or text (i + 1) 0) (drop (i + 2) text) s t u in
     rw (a, b, c) (q ∙ rw (sym m, p, d) (omega arith))
+
+-- a width without its end
+pub lone_argument : (letter : ℕ) (text : List ℕ) → width_len text ≡ 0 → 0 ≡ argument_len letter text
+lone_argument letter text e = by (letter == 119)
+  where
+    by : (b : Bool) → 0 ≡ (if b then width_len text else 0)
+    by true = sym e
+    by false = refl
 
 expression_none : (x : ℕ) (xs : List ℕ) → is_white x ≡ true → expression_len (x ∷ xs) ≡ 0
 expression_none x [] s = rw s refl

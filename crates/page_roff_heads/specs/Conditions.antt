@@ -3,6 +3,7 @@ use Rattle.std.specs.Prelude.{ℕ, ◌+◌, ◌≤◌, ◌%◌, Bool, true, fals
 use Rattle.std.specs.List.{prefix_len, list_any}
 use Rattle.std.specs.Borrow.{Bor}
 use Rattle.page_core_base.specs.Limits.{LINE}
+use Rattle.page_roff_syntax.specs.Delimiters.{character_len, delimiter_of, place_of}
 use Rattle.page_roff_syntax.specs.LineForms.{is_name}
 use Rattle.page_roff_heads.specs.declared.conditions.Condition.{Condition}
 use Rattle.page_roff_heads.specs.declared.conditions.Kind.{Kind}
@@ -10,7 +11,7 @@ use Rattle.page_roff_heads.specs.declared.conditions.Kind.TheVariants.{True, Fal
 use Rattle.page_roff_heads.specs.declared.conditions.Test.{Test}
 use Rattle.page_roff_heads.specs.declared.conditions.Test.TheVariants as tests
 use Rattle.page_roff_heads.specs.declared.conditions.TestRead.{TestRead}
-use Rattle.page_roff_heads.specs.Delimiters.{delimiter_len, delimiter_of, place_of, expression_len}
+use Rattle.page_roff_heads.specs.Expressions.{expression_len}
 use Rattle.page_roff_heads.specs.Texts.{placed, placed_view, FitsPlaced, blank_len, after_blanks}
 
 abbrev pub is_among : List ℕ → ℕ → Bool
@@ -82,8 +83,8 @@ longer before read = reads read.test (before + read.len)
 
 abbrev pub texts_at : ℕ → List ℕ → TestRead (List ℕ)
 texts_at column text =
-    longer (delimiter_len text)
-    (texts_after (delimiter_of text) (column + delimiter_len text) (drop (delimiter_len text) text))
+    longer (character_len text)
+    (texts_after (delimiter_of text) (column + character_len text) (drop (character_len text) text))
 
 abbrev pub named : (List ℕ → Test (List ℕ)) → List ℕ → TestRead (List ℕ)
 named test text = reads (test (name_after text)) (1 + (blank_len text + name_len text))

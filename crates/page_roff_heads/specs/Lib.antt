@@ -1,5 +1,5 @@
 pub mod Texts
-pub mod Delimiters
+pub mod Expressions
 pub mod Conditions
 pub mod Heads
 pub mod Loops

@@ -9,11 +9,10 @@ ghost use Rattle.page_roff_heads.specs.declared.conditions.Kind.TheVariants as k
 ghost use Rattle.page_roff_heads.specs.declared.conditions.Test.TheVariants as tests;
 ghost use Rattle.page_roff_heads.specs.Texts.{blank_len};
 
-use crate::delimiters::{delimiter_len, place_of};
 use crate::expressions::expression_len;
 use crate::texts::{Placed, blank_len};
 use page_core_base::LINE;
-use page_roff_syntax::{is_white, uncommented_len};
+use page_roff_syntax::{character_len, is_white, place_of, uncommented_len};
 
 /// What a condition asks; `W` is a text.
 #[derive(Clone, Copy)]
@@ -175,7 +174,7 @@ fn read_texts(text: &[u8], column: u32) -> TestRead<&[u8]>
     ensures within { result.len ≤ length text.now }
     ensures fits { FitsTest (test_view result.test) }
 {
-    let len = delimiter_len(text);
+    let len = character_len(text);
     let (delimiter, rest) = text.split_at(len);
     let read = texts_after(delimiter, rest, column + len as u32);
     TestRead {

@@ -9,7 +9,6 @@
 #![tactic(auto)]
 
 mod conditions;
-mod delimiters;
 mod expressions;
 mod heads;
 mod loops;

@@ -1,12 +1,15 @@
 -- What is known of the brackets in a text: helpers of proofs.
-use Rattle.std.proofs.Common.{◌≡◌, ℕ, zero, suc, ◌+◌, ◌<◌, Bool, true, false, not, ◌&&◌, ◌||◌, ◌==◌, List, [], ◌∷◌, length, get_or, drop, take, if◌then◌else◌, Option, None, Some, MatchOption, option_map, unwrap_or, position, refl, arith}
+use Rattle.std.proofs.Common.{◌≡◌, ◌≢◌, ℕ, zero, suc, ◌+◌, ◌<◌, Bool, true, false, not, ◌&&◌, ◌||◌, ◌==◌, List, [], ◌∷◌, length, get_or, drop, take, if◌then◌else◌, Option, None, Some, MatchOption, option_map, unwrap_or, position, refl, arith}
+use Rattle.std.proofs.lemmas.Bool.Decides.{nat_tests}
+use Rattle.std.proofs.lemmas.List.{drop_more}
 use Rattle.std.proofs.lemmas.Bool.{eqb-true, le-ltb, lt-ltb}
 use Rattle.std.proofs.lemmas.List.Sums.{position_or_len_is}
 use Rattle.memchr.specs.Find.{IsFirstByte, is_byte}
 use Rattle.page_roff_parts.specs.declared.parts.Call.{Call}
 use Rattle.page_roff_parts.specs.declared.parts.Call.TheVariants.{String, Register, Width}
+use Rattle.page_roff_syntax.specs.Delimiters.{begins_pair, character_len}
 use Rattle.page_roff_parts.specs.machine.Brackets.{has_bracket, IsKnown}
-use Rattle.page_roff_parts.specs.Parts.{CutText, SeenText, copies, calls, cut, character_len, two_characters, bracketed, name_cut, content_len, delimited, width_cut, plain, after_plain, argument_call, call_cut, pair, is_doubled, escape, begins_escape, seen}
+use Rattle.page_roff_parts.specs.Parts.{CutText, SeenText, copies, calls, cut, two_characters, bracketed, name_cut, content_len, delimited, width_cut, plain, after_plain, argument_call, call_cut, pair, is_doubled, escape, begins_escape, seen}
 
 abbrev pub Lacks : List ℕ → Type 0
 Lacks text = has_bracket text ≡ false
@@ -97,11 +100,9 @@ name_lacks (b ∷ bs) h =
     (cut_if (b == 91) (bracketed bs) one (cut_lacks 1 bs (position (λ c. c == 93) bs) later) (lacks_drop (character_len (b ∷ bs) + 0) (b ∷ bs) h))
 
 width_lacks : (text : List ℕ) → Lacks text → CutLacks (width_cut text)
-width_lacks [] h = tt
-width_lacks (b ∷ bs) h =
-    let n = character_len (b ∷ bs) in
-    cut_if (b == 92) None (delimited n (b ∷ bs)) tt
-    (cut_lacks n (drop n (b ∷ bs)) (content_len (take n (b ∷ bs)) 0 (drop n (b ∷ bs))) (lacks_drop n (b ∷ bs) h))
+width_lacks text h =
+    let n = character_len text in
+    cut_if (begins_pair text) None (delimited n text) tt (cut_lacks n (drop n text) (content_len (take n text) (drop n text)) (lacks_drop n text h))
 
 call_lacks : (copy : Bool) (letter : ℕ) (bs : List ℕ) → Lacks bs → SeenLacks (call_cut copy letter bs)
 call_lacks copy letter bs h =
@@ -159,3 +160,10 @@ known_call false text e n h = refl
 known_call true [] e n h = refl
 known_call true (b ∷ []) e n h = rw (eqb-true b 92 e) refl
 known_call true (b ∷ c ∷ bs) e n h = rw (eqb-true b 92 e, n) h
+
+-- where no bracket closes behind a byte that is none
+pub known_byte : (u : Bool) (text : List ℕ) (at : ℕ) → at < length text → get_or text at 0 ≢ 93 → IsKnown u (drop (at + 1) text) → IsKnown u (drop at text)
+known_byte false text at l n h = refl
+known_byte true text at l n h =
+    let e : (get_or text at 0 == 93) ≡ false = grind (arith, nat_tests) in
+    rw (drop_more text at 0 l, e) h

@@ -1,7 +1,7 @@
 -- The bytes at a text's front that are copied as they are: helpers of proofs.
-use Rattle.std.proofs.Common.{not, zero-add, ◌&&◌, if◌then◌else◌, option_map, ◌∙◌, length-append, length-take, ◌≡◌, ℕ, zero, suc, ◌+◌, ◌-◌, ◌<◌, ◌≤◌, ◌==◌, Bool, true, false, nat_lt, List, [], ◌∷◌, ◌++◌, length, take, drop, get_or, Option, None, Some, is_none, unwrap_or, refl, sym, ap, arith, append_assoc, append-nil, length-drop}
+use Rattle.std.proofs.Common.{inl, inr, not, zero-add, ◌&&◌, if◌then◌else◌, option_map, ◌∙◌, length-append, length-take, ◌≡◌, ℕ, zero, suc, ◌+◌, ◌-◌, ◌<◌, ◌≤◌, ◌==◌, Bool, true, false, nat_lt, List, [], ◌∷◌, ◌++◌, length, take, drop, get_or, Option, None, Some, is_none, unwrap_or, refl, sym, ap, arith, append_assoc, append-nil, length-drop}
 use Rattle.std.proofs.Math.Seq.{drop-length, take-add, take-length}
-use Rattle.std.proofs.lemmas.Bool.{lt-ltb, ltb-true}
+use Rattle.std.proofs.lemmas.Bool.{cases_Bool}
 use Rattle.std.proofs.lemmas.List.{drop-drop}
 use Rattle.memchr.specs.Find.{IsFirstByte, is_byte}
 use Rattle.page_roff_parts.specs.declared.parts.Part.{Part}
@@ -9,25 +9,56 @@ use Rattle.page_roff_parts.specs.declared.parts.Part.TheVariants.{Copied, Called
 use Rattle.std.specs.Prelude.{⊤, IfSome}
 use Rattle.page_roff_parts.specs.declared.parts.Call.{Call}
 use Rattle.page_roff_parts.specs.declared.parts.Call.TheVariants.{String, Register, Width}
-use Rattle.page_roff_parts.specs.Parts.{CutText, SeenText, after_plain, begins_escape, call_cut, calls, character_len, copies, escape, is_doubled, name_cut, pair, parts, parts_up_to, plain, seen, width_cut}
+use Rattle.page_roff_parts.specs.Parts.{CutText, SeenText, after_plain, call_cut, calls, content_len, copies, escape, is_doubled, name_cut, pair, parts, parts_up_to, plain, seen, width_cut}
 use Rattle.page_roff_parts.specs.machine.Fronts.{IsFront, copied_front}
-use Rattle.page_roff_parts.specs.machine.Verbatim.{IsVerbatim, copied_bytes, may_call}
-use Rattle.page_roff_parts.proofs.ReadLemmas.{escape_pair, parts_more, plain_part, seen_shorter}
-use Rattle.page_roff_parts.proofs.VerbatimLemmas.{no_call}
+use Rattle.page_roff_parts.specs.machine.Verbatim.{IsVerbatim, copied_bytes}
+use Rattle.page_roff_parts.specs.machine.Brackets.{has_bracket}
+use Rattle.page_roff_syntax.specs.Delimiters.{begins_pair, character_len, place_of, width_len}
+use Rattle.page_roff_parts.proofs.BracketLemmas.{lacking}
+use Rattle.page_roff_parts.proofs.ReadLemmas.{parts_more, plain_part, seen_shorter}
 
--- a backslash and a letter of ASCII that makes no interpolation
-letter_len : (c : ℕ) (bs : List ℕ) → c < 128 → character_len (c ∷ bs) ≡ 1
-letter_len c bs h = rw (lt-ltb c 128 h) (omega arith)
+-- ---- interpolations without an end
 
-pair_of : (copy : Bool) (text : List ℕ) → begins_escape text ≡ true → 2 ≤ length text → is_doubled copy (get_or text 1 0) ≡ false
-    → call_cut copy (get_or text 1 0) (drop 2 text) ≡ None → get_or text 1 0 < 128 → copies (take 2 text) (drop 2 text) ≡ seen copy text
-pair_of copy [] e h d n l = absurd (omega arith)
-pair_of copy (b ∷ []) e h d n l = absurd (omega arith)
-pair_of copy (b ∷ c ∷ bs) e h d n l = rw (letter_len c bs l) at (escape_pair copy (b ∷ c ∷ bs) e d h n)
+none_of : (b : Bool) (o : Option SeenText) → o ≡ None → (if b then o else None) ≡ None
+none_of true o e = e
+none_of false o e = refl
 
-pub letter_pair : (copy : Bool) (text : List ℕ) → begins_escape text ≡ true → 2 ≤ length text → may_call (get_or text 1 0) ≡ false
-    → is_doubled copy (get_or text 1 0) ≡ false → nat_lt (get_or text 1 0) 128 ≡ true → copies (take 2 text) (drop 2 text) ≡ seen copy text
-letter_pair copy text e h m d l = pair_of copy text e h d (no_call copy (get_or text 1 0) (drop 2 text) m) (ltb-true (get_or text 1 0) 128 l)
+width_none : (text : List ℕ) → width_len text ≡ 0 → width_cut text ≡ None
+unfolding content_len
+width_none [] h = refl
+width_none (b ∷ bs) h =
+    elim (cases_Bool (b == 92)) [
+      | inl p ↦ rw p refl
+      | inr p ↦ elim (cases_Bool (nat_lt (place_of d u) (length u))) [
+        | inl x ↦ absurd (let n = rw (p, x) at h in omega (arith, n))
+        | inr x ↦ rw (p, x) refl
+      ]
+    ]
+  where
+    d : List ℕ
+    d = take (character_len (b ∷ bs)) (b ∷ bs)
+
+    u : List ℕ
+    u = drop (character_len (b ∷ bs)) (b ∷ bs)
+
+pub lone_width : (copy : Bool) (letter : ℕ) (rest : List ℕ) → letter ≡ 119 → width_len rest ≡ 0 → call_cut copy letter rest ≡ None
+lone_width copy letter rest e h = rw (e, width_none rest h) (none_of (not copy) None refl)
+
+pub bare_width : (copy : Bool) (letter : ℕ) (rest : List ℕ) → letter ≡ 119 → begins_pair rest ≡ true → call_cut copy letter rest ≡ None
+bare_width copy letter rest e f = lone_width copy letter rest e (rw f refl)
+
+-- a name in brackets of which none closes
+name_none : (text : List ℕ) → 0 < length text → get_or text 0 0 ≡ 91 → has_bracket text ≡ false → name_cut text ≡ None
+name_none [] l e h = absurd (omega arith)
+name_none (b ∷ bs) l e h = rw e (lacking bs (rw e at h))
+
+pub lone_string : (copy : Bool) (letter : ℕ) (rest : List ℕ) → letter ≡ 42 → 0 < length rest → get_or rest 0 0 ≡ 91 → has_bracket rest ≡ false → call_cut copy letter rest ≡ None
+lone_string copy letter rest e l f h = rw (e, name_none rest l f h) refl
+
+pub lone_register : (copy : Bool) (letter : ℕ) (rest : List ℕ) → letter ≡ 110 → 0 < length rest → get_or rest 0 0 ≡ 91 → has_bracket rest ≡ false → call_cut copy letter rest ≡ None
+lone_register copy letter rest e l f h = rw (e, name_none rest l f h) refl
+
+-- ---- fronts
 
 -- no bytes
 pub front_none : (copy : Bool) (text : List ℕ) → IsFront copy 0 text
@@ -92,10 +123,6 @@ front_run copy (b ∷ bs) (suc k) f = front_part copy (b ∷ bs) (suc k) (omega 
 pub front_all : (copy : Bool) (text : List ℕ) → IsFirstByte (is_byte 92) text None → IsFront copy (length text) text
 front_all copy [] f = front_none copy []
 front_all copy (b ∷ bs) f = front_part copy (b ∷ bs) (length (b ∷ bs)) (omega arith) (omega arith) (plain_part copy (b ∷ bs) None f (omega arith) (omega arith))
-
--- a pair
-pub front_pair : (copy : Bool) (text : List ℕ) → 2 ≤ length text → copies (take 2 text) (drop 2 text) ≡ seen copy text → IsFront copy 2 text
-front_pair copy text l x = front_part copy text 2 (omega arith) l x
 
 -- all bytes, where the rest has no backslash
 pub front_end : (copy : Bool) (text : List ℕ) (at : ℕ) (r : Option ℕ) → at ≤ length text → IsFirstByte (is_byte 92) (drop at text) r → is_none r ≡ true

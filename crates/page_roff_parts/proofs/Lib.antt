@@ -2,8 +2,5 @@ pub mod BracketLemmas
 pub mod EndLemmas
 pub mod FrontLemmas
 pub mod KnownLemmas
-pub mod LoneLemmas
-pub mod MetLemmas
 pub mod ReadLemmas
-pub mod SearchLemmas
 pub mod VerbatimLemmas

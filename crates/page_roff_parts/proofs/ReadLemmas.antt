@@ -1,13 +1,11 @@
 -- How a text is read: helpers of proofs.
-use Rattle.std.proofs.Common.{◌≡◌, ℕ, zero, suc, ◌+◌, ◌<◌, ◌≤◌, Bool, true, false, not, ◌&&◌, ◌==◌, nat_eq, List, [], ◌∷◌, length, get_or, take, drop, if◌then◌else◌, Option, None, Some, MatchOption, option_map, unwrap_or, position, refl, sym, ap, ◌∙◌, add_assoc, is_none, arith, length-drop, length-take}
-use Rattle.std.proofs.lemmas.List.{get_or-take, get_or-drop}
+use Rattle.std.proofs.Common.{◌≡◌, ℕ, zero, suc, ◌+◌, ◌<◌, ◌≤◌, Bool, true, false, not, ◌&&◌, ◌==◌, List, [], ◌∷◌, length, get_or, take, drop, if◌then◌else◌, Option, None, Some, MatchOption, option_map, unwrap_or, position, refl, ap, arith, length-drop}
 use Rattle.std.proofs.lemmas.Bool.{eqb-true}
-use Rattle.std.specs.List.{starts_with}
-use Rattle.std.specs.Cmp.Lexicographic.{same_text}
-use Rattle.memchr.specs.Find.{IsFirstByte, is_byte, OccursAt, FindsNeedle}
+use Rattle.memchr.specs.Find.{IsFirstByte, is_byte}
+use Rattle.page_roff_syntax.specs.Delimiters.{begins_pair, character_len}
 use Rattle.page_roff_parts.specs.declared.parts.Call.{Call}
 use Rattle.page_roff_parts.specs.declared.parts.Call.TheVariants.{String, Register, Argument, Width}
-use Rattle.page_roff_parts.specs.Parts.{CutText, SeenText, copies, calls, cut, character_len, two_characters, bracketed, name_cut, further, paired_len, unit_len, content_len, delimited, width_cut, plain, after_plain, argument_call, call_cut, pair, is_doubled, escape, begins_escape, seen, parts_up_to, parts}
+use Rattle.page_roff_parts.specs.Parts.{CutText, SeenText, copies, calls, cut, two_characters, bracketed, name_cut, content_len, delimited, width_cut, plain, after_plain, argument_call, call_cut, pair, is_doubled, escape, begins_escape, seen, parts_up_to, parts}
 
 -- ---- copies
 
@@ -84,70 +82,6 @@ argument_view copy (b ∷ c ∷ bs) e h k =
     let s : 2 + n ≡ suc (suc n) = omega arith in
     rw (s, k, eqb-true b 92 e) refl
 
--- ---- delimiters
-
-pub further_further : (j k : ℕ) (o : Option ℕ) → further j (further k o) ≡ further (j + k) o
-further_further j k None = refl
-further_further j k (Some n) = ap (λ m. Some m) (sym (add_assoc j k n))
-
-pub further_none : (o : Option ℕ) → o ≡ further 0 o
-further_none None = refl
-further_none (Some n) = ap (λ m. Some m) (omega arith)
-
--- bytes that are passed over
-skip_some : (delimiter : List ℕ) (k : ℕ) (text : List ℕ) → content_len delimiter k text ≡ further k (content_len delimiter 0 (drop k text))
-unfolding content_len
-skip_some delimiter zero text = further_none (content_len delimiter 0 text)
-skip_some delimiter (suc k) [] = refl
-skip_some delimiter (suc k) (b ∷ bs) =
-    let e : 1 + k ≡ suc k = omega arith in
-    ap (further 1) (skip_some delimiter k bs) ∙ (further_further 1 k (content_len delimiter 0 (drop k bs)) ∙ ap (λ n. further n (content_len delimiter 0 (drop k bs))) e)
-
--- no delimiter begins here
-pub content_past : (delimiter : List ℕ) (text : List ℕ) → 0 < length text → starts_with nat_eq text delimiter ≡ false
-    → content_len delimiter 0 text ≡ further (unit_len text) (content_len delimiter 0 (drop (unit_len text) text))
-unfolding content_len
-content_past delimiter [] h e = absurd (omega arith)
-content_past delimiter (b ∷ bs) h e =
-    let k = paired_len b bs in
-    let n : 1 + k ≡ suc k = omega arith in
-    rw e (ap (further 1) (skip_some delimiter k bs) ∙ (further_further 1 k (content_len delimiter 0 (drop k bs)) ∙ ap (λ m. further m (content_len delimiter 0 (drop k bs))) n))
-
-pub content_here : (delimiter : List ℕ) (text : List ℕ) → 0 < length text → starts_with nat_eq text delimiter ≡ true
-    → content_len delimiter 0 text ≡ Some 0
-unfolding content_len
-content_here delimiter [] h e = absurd (omega arith)
-content_here delimiter (b ∷ bs) h e = rw e refl
-
-pub content_none : (delimiter : List ℕ) → content_len delimiter 0 [] ≡ None
-unfolding content_len
-content_none delimiter = refl
-
--- a delimiter that is nowhere
-pub here_occurs : (text d : List ℕ) (k : ℕ) → k ≤ length text → d ≡ take (length d) (drop k text) → OccursAt text d k
-here_occurs text d k h e = record {
-  fits = let n = ap length e in omega (arith, n, length-take (length d) (drop k text), length-drop k text);
-  reads = λ j l. sym (ap (λ xs. get_or xs j 0) e ∙ get_or-take (length d) (drop k text) j 0 l ∙ get_or-drop k text j 0);
-}
-
-nowhere : (delimiter : List ℕ) (text : List ℕ) → FindsNeedle text delimiter 0 None → (k : ℕ) → k ≤ length text → starts_with nat_eq (drop k text) delimiter ≡ false
-nowhere delimiter text h k l =
-    not_true (starts_with nat_eq (drop k text) delimiter)
-    (λ e. h k (omega arith) (omega arith) (here_occurs text delimiter k l (same_text delimiter (take (length delimiter) (drop k text)) (sym e))))
-
-never : (delimiter : List ℕ) (skipped : ℕ) (text : List ℕ) → ((k : ℕ) → k ≤ length text → starts_with nat_eq (drop k text) delimiter ≡ false)
-    → content_len delimiter skipped text ≡ None
-unfolding content_len
-never delimiter skipped [] h = refl
-never delimiter (suc skipped) (b ∷ bs) h =
-    ap (further 1) (never delimiter skipped bs (λ k l. h (suc k) (omega arith)))
-never delimiter zero (b ∷ bs) h =
-    rw (h 0 (omega arith)) (ap (further 1) (never delimiter (paired_len b bs) bs (λ k l. h (suc k) (omega arith))))
-
-pub content_absent : (delimiter text : List ℕ) (r : Option ℕ) → is_none r ≡ true → FindsNeedle text delimiter 0 r → content_len delimiter 0 text ≡ None
-content_absent delimiter text None e h = never delimiter 0 text (nowhere delimiter text h)
-content_absent delimiter text (Some k) e h = let no : ⊥ = cc in absurd no
-
 -- ---- what follows is shorter
 
 after_if : (c : Bool) (b : ℕ) (bs : List ℕ) → length (after_plain bs) ≤ length bs → length (if c then b ∷ bs else after_plain bs) ≤ suc (length bs)
@@ -207,11 +141,9 @@ delimited_at n text None = tt
 delimited_at n text (Some k) = let h = drop_le (k + n) (drop n text) in let g = drop_le n text in omega arith
 
 width_within : (text : List ℕ) → CutWithin (length text) (width_cut text)
-width_within [] = tt
-width_within (b ∷ bs) =
-    let n = character_len (b ∷ bs) in
-    cut_if (b == 92) (suc (length bs)) None (delimited n (b ∷ bs)) tt
-    (delimited_at n (b ∷ bs) (content_len (take n (b ∷ bs)) 0 (drop n (b ∷ bs))))
+width_within text =
+    let n = character_len text in
+    cut_if (begins_pair text) (length text) None (delimited n text) tt (delimited_at n text (content_len (take n text) (drop n text)))
 
 call_within : (copy : Bool) (letter : ℕ) (bs : List ℕ) → SeenWithin (length bs) (call_cut copy letter bs)
 call_within copy letter bs =

@@ -8,7 +8,8 @@ use Rattle.std.proofs.lemmas.Nat.Bits.{bit_at_and, bit_at-zero}
 use Rattle.std.proofs.lemmas.Simd.{bit_mask_l, get_or-chunk, length-chunk, mask_l-mod, none_from_empty_mask}
 use lib.Lanes.{chunk, mask_l, top, Each1}
 use Rattle.memchr.specs.Find.{IsFirstByte, is_byte}
-use Rattle.page_roff_parts.specs.Parts.{after_plain, call_cut, character_len, copies, parts, parts_up_to, plain, seen}
+use Rattle.page_roff_syntax.specs.Delimiters.{character_len}
+use Rattle.page_roff_parts.specs.Parts.{after_plain, call_cut, copies, parts, parts_up_to, plain, seen}
 use Rattle.page_roff_parts.specs.machine.Verbatim.{IsFree, IsFreeFrom, IsVerbatim, is_backslash, may_call}
 use Rattle.page_roff_parts.proofs.ReadLemmas.{escape_alone, escape_pair, parts_more, plain_part}
 

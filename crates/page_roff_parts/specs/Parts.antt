@@ -1,18 +1,12 @@
 -- What a text is made of: bytes that are copied, and interpolations. Source: roff(7), "Escape sequences", `\*`, `\n`, `\$`, `\w`,
 -- and on copy mode.
-use Rattle.std.specs.Prelude.{ℕ, zero, suc, ◌+◌, Bool, false, not, ◌==◌, nat_eq, ◌&&◌, min, List, [], ◌∷◌, length, take, drop, position}
+use Rattle.std.specs.Prelude.{ℕ, zero, suc, ◌+◌, Bool, false, not, ◌==◌, nat_lt, ◌&&◌, List, [], ◌∷◌, length, take, drop, position}
 use Rattle.std.specs.Prelude.{Option, Some, None, option_map, unwrap_or, if◌then◌else◌}
-use Rattle.std.specs.List.{starts_with}
-use Rattle.std.specs.Str.{continuation_len}
+use Rattle.page_roff_syntax.specs.Delimiters.{begins_pair, character_len, place_of}
 use Rattle.page_roff_parts.specs.declared.parts.Call.{Call}
 use Rattle.page_roff_parts.specs.declared.parts.Call.TheVariants.{String, Register, Argument, Width}
 use Rattle.page_roff_parts.specs.declared.parts.Part.{Part}
 use Rattle.page_roff_parts.specs.declared.parts.Part.TheVariants.{Copied, Called}
-
--- the bytes of a text's first character, of which the first says how many there are
-abbrev pub character_len : List ℕ → ℕ
-character_len [] = 0
-character_len (b ∷ bs) = min (continuation_len b + 1) (suc (length bs))
 
 -- what is read of a text, and what follows that
 pub record CutText : Type 0 where
@@ -43,36 +37,17 @@ name_cut (b ∷ bs) =
 
 -- ---- texts between two delimiters
 
--- how many bytes the character after a byte has, where that is a backslash (92): both are a pair
-abbrev pub paired_len : ℕ → List ℕ → ℕ
-paired_len b bs = if b == 92 then character_len bs else 0
-
--- the bytes of a pair, or of one byte that begins none
-abbrev pub unit_len : List ℕ → ℕ
-unit_len [] = 0
-unit_len (b ∷ bs) = suc (paired_len b bs)
-
-abbrev pub further : ℕ → Option ℕ → Option ℕ
-further n None = None
-further n (Some k) = Some (n + k)
-
--- how many bytes are before a delimiter's next occurrence; a backslash and its next character are a pair, which is passed over.
--- The first `skipped` bytes are passed over, too.
-unfoldable pub content_len : (delimiter : List ℕ) → (skipped : ℕ) → List ℕ → Option ℕ
-content_len delimiter skipped [] = None
-content_len delimiter (suc skipped) (b ∷ bs) = further 1 (content_len delimiter skipped bs)
-content_len delimiter zero (b ∷ bs) =
-    if starts_with nat_eq (b ∷ bs) delimiter then Some 0
-    else further 1 (content_len delimiter (paired_len b bs) bs)
+-- how many bytes are before a delimiter's next occurrence outside pairs
+unfoldable pub content_len : (delimiter : List ℕ) → List ℕ → Option ℕ
+content_len delimiter text = let place = place_of delimiter text in if nat_lt place (length text) then Some place else None
 
 -- the first character is the delimiter
 abbrev pub delimited : ℕ → List ℕ → Option CutText
-delimited n text = option_map (λ k. cut k n (drop n text)) (content_len (take n text) 0 (drop n text))
+delimited n text = option_map (λ k. cut k n (drop n text)) (content_len (take n text) (drop n text))
 
 -- None where the text ends before the second delimiter. A backslash (92) begins a pair, so it is none.
 abbrev pub width_cut : List ℕ → Option CutText
-width_cut [] = None
-width_cut (b ∷ bs) = if b == 92 then None else delimited (character_len (b ∷ bs)) (b ∷ bs)
+width_cut text = if begins_pair text then None else delimited (character_len text) text
 
 -- ---- parts
 

@@ -1,7 +1,6 @@
 -- The code's own steps and fast ways. Trust needs no reading of them.
 pub mod Brackets
 pub mod Fronts
-pub mod Lone
-pub mod Searches
+pub mod Known
 pub mod Verbatim
 pub mod Views

@@ -12,8 +12,8 @@ mod fronts;
 mod known_fronts;
 mod laws;
 mod lone_widths;
-mod met;
 mod parts;
+mod room;
 mod unread;
 mod verbatim;
 
@@ -21,5 +21,6 @@ pub use endings::{after, without_lone};
 pub use laws::parts_law;
 pub use lone_widths::LoneWidths;
 pub use parts::{Call, Cut, Part, Seen};
+pub use room::append;
 pub use unread::Unread;
 pub use verbatim::is_verbatim;

@@ -3,11 +3,11 @@
 ghost use Rattle.std.specs.Prelude.{◌≡◌, ◌<◌, ◌≤◌, ◌+◌, ◌==◌, length, Some, None, IsTrue, option_map, IfSome, take, drop, get_or};
 ghost use Rattle.page_roff_parts.specs.machine.Brackets.{IsKnown};
 ghost use Rattle.page_roff_parts.specs.Parts as reading;
-ghost use Rattle.page_roff_parts.specs.machine.Searches.{EndsUnits, IsPassed};
 ghost use Rattle.page_roff_parts.specs.machine.Views.{seen_of, cut_of, call_of};
 
 use crate::endings::after;
-use memchr::{memchr, memmem};
+use memchr::memchr;
+use page_roff_syntax::{begins_pair, character_len, place_of};
 
 /// An interpolation: of a string, a number register, an argument (the escape as it is written), or the width of a text.
 #[derive(Drop)]
@@ -37,25 +37,6 @@ pub struct Seen<'e> {
 pub struct Cut<'e> {
     pub front: &'e [u8],
     pub rest: &'e [u8],
-}
-
-/// The bytes of a text's first character.
-pub(crate) fn character_len(text: &[u8]) -> usize
-    ensures value { result ≡ reading.character_len text.now }
-    ensures within { result ≤ length text.now }
-{
-    match text.first() {
-        None => 0,
-        Some(first) => {
-            let len = match *first {
-                0..=0x7F => 1,
-                0x80..=0xDF => 2,
-                0xE0..=0xEF => 3,
-                _ => 4,
-            };
-            len.min(text.len())
-        }
-    }
 }
 
 // This many bytes of a text; some more after them are passed over.
@@ -113,82 +94,18 @@ fn read_name<'e>(text: &'e [u8], is_unclosed: &mut bool) -> Option<Cut<'e>>
     }
 }
 
-/// The bytes of a pair, or of one byte that begins none.
-pub(crate) fn unit_len(text: &[u8]) -> usize
-    requires { 0 < length text.now }
-    ensures value { result ≡ reading.unit_len text.now }
-    ensures some { 0 < result }
-    ensures within { result ≤ length text.now }
-{
-    if text[0] == b'\\' {
-        1 + character_len(after(text, 1))
-    } else {
-        1
-    }
-}
-
-// Whether no pair that begins before a place goes beyond it.
-fn ends_units(text: &[u8], place: usize) -> bool
-    requires { place ≤ length text.now }
-    ensures { IsTrue result → EndsUnits place text.now }
-{
-    // A pair has five bytes at most.
-    for start in place.saturating_sub(4)..place {
-        if place < start + unit_len(after(text, start)) {
-            return false;
-        }
-    }
-    true
-}
-
-// The last place up to another one beyond which no pair goes.
-fn unit_end(text: &[u8], until: usize) -> usize
-    requires { until ≤ length text.now }
-    ensures ends { EndsUnits result text.now }
-    ensures within { result ≤ until }
-{
-    let mut place = until;
-    while 0 < place && !ends_units(text, place) {
-        place -= 1;
-    }
-    place
-}
-
-// How many bytes are passed over where a delimiter is at none of the places before one: as many, or more where a pair goes beyond that.
-fn passed_len(text: &[u8], until: usize) -> usize
-    requires { until ≤ length text.now }
-    ensures passed { IsPassed until result text.now }
-    ensures least { until ≤ result }
-    ensures within { result ≤ length text.now }
-{
-    let mut len = unit_end(text, until);
-    while len < until {
-        len += unit_len(after(text, len));
-    }
-    len
-}
-
-// How many bytes are before a delimiter's next occurrence outside pairs. Pairs are read only where it occurs: a line of nothing but widths
-// without their ends would be walked up to its end for each of them.
+// How many bytes are before a delimiter's next occurrence outside pairs.
+#[tactic(auto, unfolding(crate::specs::Parts::content_len))]
 fn content_len(delimiter: &[u8], text: &[u8]) -> Option<usize>
-    ensures value { result ≡ reading.content_len delimiter.now 0 text.now }
+    ensures value { result ≡ reading.content_len delimiter.now text.now }
     ensures bound { IfSome result (λ len. len + length delimiter.now ≤ length text.now) }
 {
-    let mut at = 0;
-    while at < text.len() {
-        let rest = after(text, at);
-        match memmem::find(rest, delimiter) {
-            None => return None,
-            Some(found) => {
-                let passed = passed_len(rest, found);
-                if passed == found {
-                    return Some(at + found);
-                }
-                at += passed;
-            }
-        }
+    let place = place_of(delimiter, text);
+    if place < text.len() {
+        Some(place)
+    } else {
+        None
     }
-    None
 }
 
 // The text between two delimiters of so many bytes, of which one begins it.
@@ -207,17 +124,11 @@ fn read_delimited(text: &[u8], mark: usize) -> Option<Cut<'_>>
 fn read_width(text: &[u8]) -> Option<Cut<'_>>
     ensures { option_map cut_of result ≡ reading.width_cut text.now }
 {
-    match text {
-        [] | [b'\\', ..] => None,
-        _ => read_delimited(text, character_len(text)),
+    if begins_pair(text) {
+        None
+    } else {
+        read_delimited(text, character_len(text))
     }
-}
-
-/// Whether a width at a text's front has an end.
-pub(crate) fn has_width(text: &[u8]) -> bool
-    requires { 2 ≤ length text.now }
-{
-    read_width(after(text, 2)).is_some()
 }
 
 /// Whether a backslash and this byte make one backslash.

@@ -65,7 +65,7 @@ impl<'e> Unread<'e> {
         ensures within { length result.now ≤ length self.old }
         ensures fits { length result.now ≤ fits }
     {
-        let len = front_len(self.text, copy, fits);
+        let len = front_len(self.text, copy, self.is_unclosed, fits);
         let front = &self.text[..len];
         self.text = after(self.text, len);
         front

@@ -7,7 +7,8 @@ use Rattle.page_roff_effects.proofs.AlikeLemmas.{HasTexts}
 use Rattle.page_roff_syntax.specs.LineForms.{without_comment}
 use Rattle.page_roff_heads.specs.declared.conditions.Condition.{Condition}
 use Rattle.page_roff_heads.specs.Conditions.{is_among, is_letter, begins_expression, kind_of, second_of, has_both, texts_after, texts_at, read_kind, read_test, turn_len, condition_of}
-use Rattle.page_roff_heads.specs.Delimiters.{delimiter_len, delimiter_of, place_of, expression_len}
+use Rattle.page_roff_heads.specs.Expressions.{expression_len}
+use Rattle.page_roff_syntax.specs.Delimiters.{character_len, delimiter_of, place_of}
 use Rattle.page_roff_heads.specs.Heads.{conditional_of}
 use Rattle.page_roff_heads.specs.Texts.{blank_len, after_blanks}
 use Rattle.page_roff_values.specs.machine.Texts.{IsText}
@@ -39,7 +40,7 @@ delimited_texts : (column b : ℕ) (bs : List ℕ) → IsText (b ∷ bs) → Has
 delimited_texts column b bs h =
     let t = b ∷ bs in
     let first = taken b bs h.utf8 in
-    after_texts (delimiter_of t) (drop (delimiter_len t) t) first.first.code (column + delimiter_len t) first.bytes (text_cut t (delimiter_len t) h first.cut).1
+    after_texts (delimiter_of t) (drop (character_len t) t) first.first.code (column + character_len t) first.bytes (text_cut t (character_len t) h first.cut).1
 
 -- what both of two kinds of tests have, the one that is chosen has
 pick : {K : Type 0} (P : K → Type 0) (c : Bool) (x y : K) → P x → P y → P (if c then x else y)

@@ -3,6 +3,7 @@ pub mod Requests
 pub mod Ends
 pub mod LineForms
 pub mod Arguments
+pub mod Delimiters
 pub mod machine
 pub mod RegionHeads
 pub mod OpenRegions

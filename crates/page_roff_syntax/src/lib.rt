@@ -11,11 +11,14 @@
 //! far as a field has room for it. `Request::of`, `RegionKind::name`, `fixed_ending`: which names
 //! are requests, and what each is, by one table (`specs/Requests.antt`, `Regions.antt`), with which the rows of the program are compared.
 //! `region_head`, `is_ending`: what the head of a region names and which raw line ends it (`specs/RegionHeads.antt`). `OpenRegion`: what of the head
-//! decides the rest, its names within their limit (`specs/OpenRegions.antt`). `name_room_law`: the room of a name is that of the definition.
+//! decides the rest, its names within their limit (`specs/OpenRegions.antt`). `place_of`, `width_len`: where a delimiter comes again outside
+//! pairs (`specs/Delimiters.antt`); `mark_closed`: which widths have no end, by one reading of a text. `name_room_law`: the room of a name is that of the definition.
 #![tactic(auto)]
 
 mod arguments;
+mod closed_widths;
 mod comments;
+mod delimiters;
 mod ends;
 mod laws;
 mod line_forms;
@@ -29,7 +32,9 @@ mod requests;
 mod values;
 
 pub use arguments::{Arguments, has_arguments, read_argument};
+pub use closed_widths::{MET_WORDS, is_lone, mark_closed};
 pub use comments::{begins_comment, plain_len, uncommented_len};
+pub use delimiters::{begins_pair, character_len, place_of, width_len};
 pub use ends::kept_len;
 pub use laws::arguments_law;
 pub use line_forms::{

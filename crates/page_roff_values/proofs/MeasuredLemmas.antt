@@ -1,5 +1,5 @@
 -- Widths of texts that are remembered: helpers of proofs.
-use Rattle.std.proofs.Common.{◌≡◌, ℕ, ◌+◌, ◌-◌, Bool, true, false, if◌then◌else◌, List, [], ◌∷◌, ◌++◌, length, take, drop, arith, length-append, length-drop, sym}
+use Rattle.std.proofs.Common.{◌≡◌, ℕ, ◌+◌, ◌-◌, List, [], ◌∷◌, ◌++◌, length, take, drop, arith, length-append, length-drop, sym}
 use Rattle.std.proofs.lemmas.List.{drop-append-le, take-append-le, take_all, drop_at}
 use Rattle.std.proofs.lemmas.List.Elements.{All-weaker, All-push}
 use Rattle.page_roff_values.specs.declared.known_widths.KnownWidth.{KnownWidth}
@@ -27,8 +27,7 @@ measured_last texts text width s e h =
     rw (n, drop_at texts text width.start (sym s)) (take_all (length text) text (omega arith)) in
     (omega arith, omega (arith, length-append texts text), rw whole h)
 
--- one more width, or none more
-pub measured_push : (texts : List ℕ) (widths new : List KnownWidth) (width : KnownWidth) (b : Bool) → AreMeasured texts widths → IsMeasured texts width
-    → new ≡ (if b then widths ++ width ∷ [] else widths) → AreMeasured texts new
-measured_push texts widths new width true h k e = rw e (All-push (IsMeasured texts) widths width h k)
-measured_push texts widths new width false h k e = rw e h
+-- one more width
+pub measured_push : (texts : List ℕ) (widths new : List KnownWidth) (width : KnownWidth) → AreMeasured texts widths → IsMeasured texts width
+    → new ≡ widths ++ width ∷ [] → AreMeasured texts new
+measured_push texts widths new width h k e = rw e (All-push (IsMeasured texts) widths width h k)

@@ -1,21 +1,23 @@
 -- The parts of a text are texts: helpers of proofs.
-use Rattle.std.proofs.Common.{◌≡◌, ℕ, zero, suc, ◌+◌, ◌<◌, ◌==◌, Bool, true, false, not, ◌&&◌, nat_le, nat_eq, min, List, [], ◌∷◌, ◌++◌, length, take, drop, get_or, if◌then◌else◌, Option, Some, None, MatchOption, option_map, unwrap_or, position, refl, sym, ap, ◌∙◌, subst, inl, inr, arith, add-zero}
+use Rattle.std.proofs.Common.{◌≡◌, ℕ, zero, suc, ◌+◌, ◌<◌, ◌==◌, Bool, true, false, not, ◌&&◌, nat_le, nat_lt, nat_eq, min, List, [], ◌∷◌, ◌++◌, length, take, drop, get_or, if◌then◌else◌, Option, Some, None, MatchOption, option_map, unwrap_or, position, refl, sym, ap, ◌∙◌, subst, inl, inr, arith, add-zero}
 use Rattle.std.specs.Prelude.{IsUtf8, ◌⊎◌}
 use Rattle.std.specs.List.{starts_with}
 use Rattle.std.specs.Str.{continuation_len}
 use Rattle.std.proofs.Math.Utf8.{encode}
 use Rattle.std.proofs.lemmas.List.Quantifiers.{position-Some}
 use Rattle.std.proofs.lemmas.Bool.Decides.{nat_tests}
-use Rattle.std.proofs.lemmas.Bool.{eqb-true}
+use Rattle.std.proofs.lemmas.Bool.{eqb-true, ltb-true}
 use Rattle.std.proofs.lemmas.Str.{IsCharBoundary-after_ascii}
 use Rattle.page_core_escapes.specs.Extents as escapes
 use Rattle.page_core_escapes.proofs.Characters.{CutsAt, CutsAt-add, Taken, first_of, character_len-encode, character_len-taken}
 use Rattle.page_core_escapes.proofs.Boundaries.{character_begins, character_ends}
+use Rattle.page_roff_syntax.specs.Delimiters.{character_len, place_of}
+use Rattle.page_roff_syntax.proofs.DelimiterLemmas.{place_found}
 use Rattle.page_roff_parts.specs.declared.parts.Call.{Call}
 use Rattle.page_roff_parts.specs.declared.parts.Call.TheVariants.{String, Register, Argument, Width}
 use Rattle.page_roff_parts.specs.declared.parts.Part.{Part}
 use Rattle.page_roff_parts.specs.declared.parts.Part.TheVariants.{Copied, Called}
-use Rattle.page_roff_parts.specs.Parts.{CutText, SeenText, copies, calls, cut, character_len, two_characters, bracketed, name_cut, further, paired_len, content_len, delimited, width_cut, plain, after_plain, argument_call, call_cut, pair, is_doubled, escape, begins_escape, seen, parts_up_to, parts, without_lone}
+use Rattle.page_roff_parts.specs.Parts.{CutText, SeenText, copies, calls, cut, two_characters, bracketed, name_cut, content_len, delimited, width_cut, plain, after_plain, argument_call, call_cut, pair, is_doubled, escape, begins_escape, seen, parts_up_to, parts, without_lone}
 use Rattle.page_roff_values.specs.machine.Texts.{IsText}
 use Rattle.page_roff_values.proofs.PlainTexts.{nil_text, ascii_text, text_append, text_cut, text_at, text_after, text_seam}
 
@@ -82,21 +84,13 @@ name_rest (b ∷ bs) h =
 abbrev EndsAt : List ℕ → List ℕ → Option ℕ → Type 0
 EndsAt d t o = MatchOption o (Unit {0}) (λ k. starts_with nat_eq (drop k t) d ≡ true)
 
-ends_if : (c : Bool) (d t : List ℕ) (o p : Option ℕ) → (c ≡ true → EndsAt d t o) → (c ≡ false → EndsAt d t p) → EndsAt d t (if c then o else p)
-ends_if true d t o p h k = h refl
-ends_if false d t o p h k = k refl
-
-ends_further : (d : List ℕ) (b : ℕ) (bs : List ℕ) (o : Option ℕ) → EndsAt d bs o → EndsAt d (b ∷ bs) (further 1 o)
-ends_further d b bs None h = tt
-ends_further d b bs (Some k) h = let e : 1 + k ≡ suc k = omega arith in rw e h
-
-content_ends : (d : List ℕ) (skipped : ℕ) (t : List ℕ) → EndsAt d t (content_len d skipped t)
+content_ends : (d t : List ℕ) → EndsAt d t (content_len d t)
 unfolding content_len
-content_ends d skipped [] = tt
-content_ends d (suc skipped) (b ∷ bs) = ends_further d b bs (content_len d skipped bs) (content_ends d skipped bs)
-content_ends d zero (b ∷ bs) =
-    ends_if (starts_with nat_eq (b ∷ bs) d) d (b ∷ bs) (Some 0) (further 1 (content_len d (paired_len b bs) bs))
-    (λ e. e) (λ _. ends_further d b bs (content_len d (paired_len b bs) bs) (content_ends d (paired_len b bs) bs))
+content_ends d t = by (nat_lt (place_of d t) (length t)) refl
+  where
+    by : (b : Bool) → nat_lt (place_of d t) (length t) ≡ b → EndsAt d t (if b then Some (place_of d t) else None)
+    by true e = (place_found d t (ltb-true (place_of d t) (length t) e)).1
+    by false e = tt
 
 -- both what is between the delimiters and what follows
 abbrev CutTexts : Option CutText → Type 0
@@ -113,7 +107,7 @@ delimited_texts b bs h =
     let first = taken b bs h.utf8 in
     let u = drop n t in
     let inner : IsText u = (text_cut t n h first.cut).1 in
-    go n u (take n t) first.first.code first.bytes first.len inner (content_len (take n t) 0 u) (content_ends (take n t) 0 u)
+    go n u (take n t) first.first.code first.bytes first.len inner (content_len (take n t) u) (content_ends (take n t) u)
   where
     go : (n : ℕ) (u d : List ℕ) (c : ℕ) → d ≡ encode c → length (encode c) ≡ n → IsText u → (o : Option ℕ) → EndsAt d u o
         → CutTexts (option_map (λ k. cut k n u) o)
@@ -124,6 +118,7 @@ delimited_texts b bs h =
         ((text_cut u k inner (character_begins u k c inner.utf8 e)).0, (text_cut u (k + n) inner (rw len at more)).1)
 
 width_texts : (t : List ℕ) → IsText t → CutTexts (width_cut t)
+unfolding content_len
 width_texts [] h = tt
 width_texts (b ∷ bs) h = texts_if (b == 92) None (delimited (character_len (b ∷ bs)) (b ∷ bs)) tt (delimited_texts b bs h)
 

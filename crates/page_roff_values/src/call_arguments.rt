@@ -8,7 +8,7 @@ ghost use Rattle.page_roff_names.specs.Names.{Lends};
 
 use memchr::memchr;
 use page_core_base::ARGS;
-use page_roff_parts::{Cut, after};
+use page_roff_parts::{Cut, after, append};
 use std::alloc::{AllocError, Global};
 use std::marker::Model;
 
@@ -34,18 +34,6 @@ impl Model for CallArguments {
 
     ghost invariant = { λ a. AreHeld a.count a.packed.items a.joined.items a.quoted.items
         (vec_capacity a.packed) (vec_capacity a.joined) (vec_capacity a.quoted) };
-}
-
-// Puts bytes at the end, within what is reserved.
-fn append(text: &mut Vec<u8>, more: &[u8])
-    requires { vec_len text.old + length more.now ≤ vec_capacity text.old }
-    ensures items { text.new.items ≡ text.old.items ++ more.now }
-    ensures capacity { vec_capacity text.old ≤ vec_capacity text.new }
-{
-    match text.extend_from_slice(more) {
-        Ok(()) => (),
-        Err(_) => unreachable!(),
-    }
 }
 
 // Puts an argument at the end, with a blank before it.

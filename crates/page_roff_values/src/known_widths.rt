@@ -1,11 +1,12 @@
 //! Long texts that are remembered with their widths (roff(7), `\w`): a line may measure a text of one string as often as it may interpolate.
 
-ghost use Rattle.std.specs.Prelude.{◌≡◌, ◌+◌, ◌-◌, ◌≤◌, length, take, drop, IfSome, IsTrue};
-ghost use Rattle.page_roff_values.specs.declared.known_widths.TheConstants.{TEXTS};
+ghost use Rattle.std.specs.Prelude.{◌≡◌, ◌+◌, ◌-◌, ◌<◌, ◌≤◌, length, vec_capacity, take, drop, IfSome, IsTrue};
+ghost use Rattle.page_roff_values.specs.declared.known_widths.TheConstants.{TEXTS, WIDTHS};
 ghost use Rattle.page_roff_values.specs.machine.Measured.{AreMeasured, IsMeasured};
 ghost use Rattle.page_roff_values.specs.machine.Views.{units_of_bytes};
 
 use page_core_base::Output;
+use page_roff_parts::append;
 use std::alloc::{AllocError, Global};
 
 // The bytes of all texts: more than the definitions of a page have together.
@@ -32,6 +33,7 @@ pub(crate) struct KnownWidths {
     texts: Vec<u8>,
     widths: Vec<KnownWidth>,
     ghost within: { length texts.items ≤ TEXTS },
+    ghost room: { (TEXTS ≤ vec_capacity texts) × (WIDTHS ≤ vec_capacity widths) },
     ghost known: { AreMeasured texts.items widths.items },
 }
 
@@ -74,7 +76,8 @@ impl KnownWidths {
     // Makes room for one more text. Where there is none, all are forgotten.
     fn make_room(&mut self, len: usize)
         requires { len ≤ TEXTS }
-        ensures { length self.new.texts.items + len ≤ TEXTS }
+        ensures texts { length self.new.texts.items + len ≤ TEXTS }
+        ensures widths { length self.new.widths.items < WIDTHS }
     {
         if TEXTS - len < self.texts.len() || WIDTHS <= self.widths.len() {
             self.widths.clear();
@@ -91,15 +94,13 @@ impl KnownWidths {
         }
         self.make_room(text.len());
         let start = self.texts.len() as u32;
-        if self.texts.extend_from_slice(text).is_err() {
-            return;
-        }
+        append(&mut self.texts, text);
         let width = KnownWidth {
             start,
             end: self.texts.len() as u32,
             output,
             units,
         };
-        let _ = self.widths.push(width);
+        self.widths.push_reserved(width);
     }
 }

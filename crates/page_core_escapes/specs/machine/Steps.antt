@@ -1,6 +1,6 @@
 -- Of the code's own steps, which no public clause cites: what is read next in a quoted argument, a byte, an escape, an argument inside it
 -- or the delimiter at its end; and fonts that one letter names.
-use Rattle.std.specs.Prelude.{ℕ, ◌≡◌, ◌+◌, ◌<◌, ◌≤◌, ◌==◌, nat_eq, Bool, List, [], ◌∷◌, length, take, drop, if◌then◌else◌, Option, Some, None, option_map, option_and_then, unwrap_or}
+use Rattle.std.specs.Prelude.{ℕ, ◌≡◌, ◌+◌, ◌<◌, ◌≤◌, ◌==◌, nat_eq, Bool, not, ◌&&◌, List, [], ◌∷◌, length, take, drop, if◌then◌else◌, Option, Some, None, option_map, option_and_then, unwrap_or}
 use Rattle.std.specs.List.{starts_with}
 use Rattle.page_core_escapes.specs.declared.extents.Extent.{Extent}
 use Rattle.page_core_escapes.specs.declared.extents.Extent.TheVariants.{Whole, QuotedFrom}
@@ -9,6 +9,10 @@ use Rattle.page_core_escapes.specs.declared.quoted.Step.TheVariants.{Passes, Ope
 use Rattle.page_core_escapes.specs.Bytes.{backslash}
 use Rattle.page_core_escapes.specs.Extents.{written_len, extent_of, name_len}
 use Rattle.page_core_escapes.specs.Meanings.{Face, bare_name, face_of}
+
+-- a byte begins neither an escape nor a delimiter, of which this is the first byte
+abbrev pub is_inner : (delimiter byte : ℕ) → Bool
+is_inner delimiter byte = not (byte == backslash) && not (byte == delimiter)
 
 module _ (pairs : Bool) where
   -- the first character of a text, as it is written

@@ -1,9 +1,9 @@
 use Rattle.std.proofs.Common.{◌≡◌, ◌≤◌, ◌+◌, ◌-◌, length, drop}
-use Rattle.page_roff_heads.specs.Delimiters.{expression_len}
+use Rattle.page_roff_heads.specs.Expressions.{expression_len}
 use Rattle.page_roff_heads.proofs.expressions.expression_len.Given as goal
 
-abbrev pub invariant-loop-len : goal.invariant-loop-len
-invariant-loop-len l = (l.len ≤ length l.text) × (expression_len l.text ≡ l.len + expression_len (drop l.len l.text))
+abbrev pub invariant-loop-step : goal.invariant-loop-step
+invariant-loop-step l = (l.len ≤ length l.text) × (expression_len l.text ≡ l.len + expression_len (drop l.len l.text)) × (l.searches ≤ l.len)
 
-abbrev pub decreases-loop-len : goal.decreases-loop-len
-decreases-loop-len l = length l.text - l.len
+abbrev pub decreases-loop-step : goal.decreases-loop-step
+decreases-loop-step l = length l.text - l.len

@@ -1,0 +1,39 @@
+-- Texts between delimiters. Source: roff(7), "Conditional expressions" and "Escape sequences", `\w`.
+use Rattle.std.specs.Prelude.{ℕ, Bool, false, ◌+◌, ◌==◌, nat_eq, nat_lt, min, List, [], ◌∷◌, length, take, drop, if◌then◌else◌}
+use Rattle.std.specs.List.{starts_with}
+use Rattle.std.specs.Str.{continuation_len}
+
+-- the bytes of a text's first character, of which the first says how many there are
+abbrev pub character_len : List ℕ → ℕ
+character_len [] = 0
+character_len (byte ∷ bytes) = min (continuation_len byte + 1) (length (byte ∷ bytes))
+
+-- a delimiter is a character
+abbrev pub delimiter_of : List ℕ → List ℕ
+delimiter_of text = take (character_len text) text
+
+-- The bytes before the delimiter's next occurrence, where a backslash (92) and its next byte are a pair; all of
+-- them where there is none.
+abbrev pub place_of : List ℕ → List ℕ → ℕ
+place_of delimiter [] = 0
+place_of delimiter (byte ∷ []) = if starts_with nat_eq (byte ∷ []) delimiter then 0 else 1
+place_of delimiter (byte ∷ next ∷ bytes) =
+    if starts_with nat_eq (byte ∷ next ∷ bytes) delimiter then 0
+    else if byte == 92 then 2 + place_of delimiter bytes
+    else 1 + place_of delimiter (next ∷ bytes)
+
+-- the bytes of a text in delimiters, with these; none where the second is missing
+abbrev pub quoted_len : List ℕ → ℕ
+quoted_len text =
+    let inner = drop (character_len text) text in
+    let place = place_of (delimiter_of text) inner in
+    if nat_lt place (length inner) then character_len text + place + character_len text else 0
+
+-- a backslash (92)
+abbrev pub begins_pair : List ℕ → Bool
+begins_pair [] = false
+begins_pair (byte ∷ bytes) = byte == 92
+
+-- those of a width, of which a pair is no delimiter
+abbrev pub width_len : List ℕ → ℕ
+width_len text = if begins_pair text then 0 else quoted_len text

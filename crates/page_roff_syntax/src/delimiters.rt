@@ -1,0 +1,102 @@
+//! Texts between delimiters.
+
+ghost use Rattle.std.specs.Prelude.{◌≡◌, ◌≤◌, ◌<◌, ◌+◌, length};
+ghost use Rattle.std.specs.Str.{continuation_len};
+ghost use Rattle.page_roff_syntax.specs.Delimiters.{begins_pair, character_len, place_of, quoted_len, width_len};
+ghost use Rattle.page_roff_syntax.specs.machine.Closed.{is_outside};
+
+use memchr::memmem;
+
+// The number of bytes of a character with this first byte.
+fn len_by(first: u8) -> usize
+    ensures { result ≡ continuation_len first + 1 }
+{
+    match first {
+        0..=0x7F => 1,
+        0x80..=0xDF => 2,
+        0xE0..=0xEF => 3,
+        _ => 4,
+    }
+}
+
+/// The number of bytes of a text's first character.
+pub fn character_len(text: &[u8]) -> usize
+    ensures value { result ≡ character_len text.now }
+    ensures within { result ≤ length text.now }
+{
+    match text.first() {
+        None => 0,
+        Some(first) => text.len().min(len_by(*first)),
+    }
+}
+
+/// Whether a place is outside pairs: an even number of backslashes is before it, one after another.
+pub(crate) fn is_outside(text: &[u8], at: usize) -> bool
+    requires { at ≤ length text.now }
+    ensures { result ≡ is_outside at text.now }
+{
+    let mut place = at;
+    let mut is_even = true;
+    while 0 < place && text[place - 1] == b'\\' {
+        place -= 1;
+        is_even = !is_even;
+    }
+    is_even
+}
+
+/// The number of bytes before a delimiter, or of all of them where it is missing. A backslash and its next byte are a pair, and none is there.
+pub fn place_of(delimiter: &[u8], text: &[u8]) -> usize
+    ensures value { result ≡ place_of delimiter.now text.now }
+    ensures within { result ≤ length text.now }
+    ensures fits { result < length text.now → result + length delimiter.now ≤ length text.now }
+{
+    let mut place = 0;
+    while place < text.len() {
+        let rest = &text[place..];
+        match memmem::find(rest, delimiter) {
+            None => return text.len(),
+            Some(found) => {
+                if is_outside(rest, found) {
+                    return place + found;
+                }
+                // It is the second half of a pair.
+                place += found + 1;
+            }
+        }
+    }
+    place
+}
+
+// The number of bytes of a text in delimiters with these, or 0 where the second is missing.
+fn quoted_len(text: &[u8]) -> usize
+    ensures value { result ≡ quoted_len text.now }
+    ensures within { result ≤ length text.now }
+{
+    let len = character_len(text);
+    let (delimiter, inner) = text.split_at(len);
+    let place = place_of(delimiter, inner);
+    if place < inner.len() {
+        len + place + len
+    } else {
+        0
+    }
+}
+
+/// Whether a text begins with a backslash.
+pub fn begins_pair(text: &[u8]) -> bool
+    ensures { result ≡ begins_pair text.now }
+{
+    matches!(text, [b'\\', ..])
+}
+
+/// The number of bytes of a width's text in its delimiters, or 0 where one is missing. A pair is none.
+pub fn width_len(text: &[u8]) -> usize
+    ensures value { result ≡ width_len text.now }
+    ensures within { result ≤ length text.now }
+{
+    if begins_pair(text) {
+        0
+    } else {
+        quoted_len(text)
+    }
+}
