@@ -1,12 +1,13 @@
 -- Runs over bytes in memory.
-use Rattle.std.proofs.Common.{◌≡◌, ℕ, ◌<◌, ◌-◌, ◌^◌, List, ◌++◌, length, take, Some, Result, Ok, Err, refl, ap, ◌∙◌, append-nil, arith, length-append, inl, inr}
+use Rattle.std.proofs.Common.{◌≡◌, ℕ, ◌<◌, ◌-◌, ◌^◌, List, ◌++◌, length, take, Some, Result, Ok, Err, refl, ap, ◌∙◌, append-nil, arith, length-append}
 use Rattle.page_core_base.specs.Laid.{Laid, nothing}
 use Rattle.page_core_base.specs.Messages.{Message}
 use Rattle.page_core_base.specs.Rows.{LaidRow}
 use Rattle.page_core_base.specs.declared.faults.Fault.{Fault}
 use Rattle.page_core_base.specs.declared.faults.Fault.TheVariants.{Memory, Read, WriteText, WriteNotes, TooLong, Settings, Failed, Ended, BadIndex}
 use Rattle.page_core_base.specs.declared.page_settings.Settings.{Settings as PageSettings}
-use Rattle.page_core_streams.specs.Sources.{SourceState, source_state, IsLean, IsTooLong}
+use Rattle.page_core_streams.specs.Sources.{SourceState, source_state}
+use Rattle.page_core_streams.proofs.GivenLemmas.{lean_long}
 use Rattle.page_engine.specs.declared.runs.Outcome.{Outcome}
 use Rattle.page_engine.specs.Page.{start}
 use Rattle.page_engine.specs.Runs.{RunsOver, RunsIn, whole_page, settled_page}
@@ -16,11 +17,6 @@ use Rattle.std.proofs.lemmas.List.{take-append-le}
 -- a source over bytes before the first call, and after calls
 abbrev from_bytes : List ℕ → SourceState
 from_bytes bytes = source_state (Some bytes) 0 0 0 0
-
--- each call gave a byte, but for one
-long : (b : SourceState) (bytes xs : List ℕ) (asked : ℕ) → b.empty ≡ 0 → IsLean (from_bytes bytes) b asked xs → IsTooLong asked xs → 2 ^ 31 - 1 < length xs
-long b bytes xs asked e l (inl bound) = omega (arith, bound, l.most, l.empty, e)
-long b bytes xs asked e l (inr more) = more
 
 -- of bytes that are more than so many, the first so many are those of a front that is more
 longer : {R N : Type 0} (j : Streams R N) {r r' : R} {n n' : N} (s : PageSettings) (most : ℕ) (all xs rest : List ℕ) → all ≡ xs ++ rest → most < length xs
@@ -37,7 +33,7 @@ runs_in k s all rest xs calls given (Ok o) h =
 runs_in k s all rest xs calls given (Err Memory) h = (h.runs.0, h.runs.2)
 runs_in k s all rest xs calls given (Err Read) h = absurd (omega (arith, h.cause (omega arith)))
 runs_in k s all rest xs calls given (Err TooLong) h =
-    let more = long (source_state (Some rest) 0 calls given 0) all xs h.asked refl h.lean h.cause in
+    let more = lean_long h.asked xs refl refl h.lean h.cause in
     let l = longer k.to s (2 ^ 31 - 1) all xs rest h.source.read more h.runs.1 in
     (h.runs.0, l.0, l.1)
 runs_in k s all rest xs calls given (Err WriteText) h = (h.runs.0, record { read = xs; left = rest; parts = h.source.read; front = h.runs.1 })

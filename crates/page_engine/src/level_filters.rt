@@ -65,8 +65,4 @@ impl<N: NoteSink> NoteSink for LevelFilter<'_, N> {
     fn takes(&self, kind: NoteKind) -> bool {
         is_reported(self.least, kind.level())
     }
-
-    fn failures(&self) -> u64 {
-        self.notes.failures()
-    }
 }

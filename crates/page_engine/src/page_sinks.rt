@@ -57,10 +57,6 @@ impl<R: RowSink, N: NoteSink> NoteSink for PageSink<'_, '_, '_, R, N> {
     fn note(&mut self, note: &Note) -> Result<(), Fault> {
         self.notes.note(note)
     }
-
-    fn failures(&self) -> u64 {
-        self.notes.failures()
-    }
 }
 
 impl<R: RowSink, N: NoteSink> PieceSink for PageSink<'_, '_, '_, R, N> {
@@ -128,9 +124,5 @@ impl<R: RowSink, N: NoteSink> PieceSink for PageSink<'_, '_, '_, R, N> {
     fn take_kept(&mut self, text: &[u8], font: Font) -> Result<bool, Fault> {
         self.filler.held_law();
         Ok(self.filler.take_kept(text, font))
-    }
-
-    fn row_failures(&self) -> u64 {
-        self.rows.failures()
     }
 }

@@ -68,8 +68,4 @@ impl<R: RowSink> RowSink for Shown<'_, R> {
         }
         self.rows.ascii_row(margin, bytes, fonts, is_blank, places)
     }
-
-    fn failures(&self) -> u64 {
-        self.rows.failures()
-    }
 }

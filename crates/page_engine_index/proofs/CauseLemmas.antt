@@ -40,6 +40,7 @@ module _ {L W : Type 0} (k : RowsTo L) (i : RowsTo W) (f : L → W) (o : LieOver
     asked = h.asked;
     few = h.few;
     source = h.source;
+    lean = h.lean;
     ends = shown_on s t q bytes b.remaining number h.ends;
     cause = quiet_on a b s t h.cause;
   }
@@ -47,6 +48,7 @@ module _ {L W : Type 0} (k : RowsTo L) (i : RowsTo W) (f : L → W) (o : LieOver
     asked = h.asked;
     few = h.few;
     source = h.source;
+    lean = h.lean;
     ends = (h.ends.0, o.gave s t [] h.ends.1);
     cause = (h.cause.0, ap f h.cause.1);
   }
@@ -54,6 +56,7 @@ module _ {L W : Type 0} (k : RowsTo L) (i : RowsTo W) (f : L → W) (o : LieOver
     asked = h.asked;
     few = h.few;
     source = h.source;
+    lean = h.lean;
     ends = whole_on s t q bytes h.ends;
     cause = (h.cause.0, same_on s t h.cause.1);
   }
@@ -61,6 +64,7 @@ module _ {L W : Type 0} (k : RowsTo L) (i : RowsTo W) (f : L → W) (o : LieOver
     asked = h.asked;
     few = h.few;
     source = h.source;
+    lean = h.lean;
     ends = whole_on s t q _ h.ends;
     cause = (h.cause.0, quiet_on a b s t h.cause.1);
   }
@@ -68,6 +72,7 @@ module _ {L W : Type 0} (k : RowsTo L) (i : RowsTo W) (f : L → W) (o : LieOver
     asked = h.asked;
     few = h.few;
     source = h.source;
+    lean = h.lean;
     ends = o.within s t _ h.ends;
     cause = (h.cause.0, rose_on s t h.cause.1);
   }
@@ -75,6 +80,7 @@ module _ {L W : Type 0} (k : RowsTo L) (i : RowsTo W) (f : L → W) (o : LieOver
     asked = h.asked;
     few = h.few;
     source = h.source;
+    lean = h.lean;
     ends = bad_on s t q bytes b.remaining number h.ends;
     cause = quiet_on a b s t h.cause;
   }

@@ -370,7 +370,7 @@ pub over_fault : {L : Type 0} (fault : Fault) (k : RowsTo L) (a b : SourceState)
     → Stops a b bytes fault → Here k q s t run bytes → (all : List ℕ) × SearchesOver (Err fault) k a b s t q all
 over_fault Read k a b s t q run bytes w h = (
   bytes,
-  record { asked = w.0; few = w.1.few; source = w.1.source; ends = read_whole k q s t run bytes h; cause = (w.2, h.quiet) },
+  record { asked = w.0; few = w.1.few; source = w.1.source; lean = w.1.lean; ends = read_whole k q s t run bytes h; cause = (w.2, h.quiet) },
 )
 over_fault TooLong k a b s t q run bytes w h = (
   w.1,
@@ -378,6 +378,7 @@ over_fault TooLong k a b s t q run bytes w h = (
     asked = w.0;
     few = w.2.few;
     source = w.2.source;
+    lean = w.2.lean;
     ends = rw w.4 (read_whole k q s t run bytes h);
     cause = (w.3, record { source = w.5; rows = h.quiet });
   },

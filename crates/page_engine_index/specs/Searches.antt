@@ -4,7 +4,7 @@ use Rattle.std.specs.Io.KnownBytes.{IsAtEnd}
 use Rattle.page_core_base.specs.Fails.{Rose}
 use Rattle.page_core_base.specs.declared.faults.Fault.{Fault}
 use Rattle.page_core_base.specs.declared.faults.Fault.TheVariants.{Memory, Read, WriteText, WriteNotes, TooLong, Settings, Failed, Ended, BadIndex}
-use Rattle.page_core_streams.specs.Sources.{SourceState, HasGiven, IsTooLong}
+use Rattle.page_core_streams.specs.Sources.{SourceState, HasGiven, IsLean, IsTooLong}
 use Rattle.page_engine_index.specs.Entries.{index, whole_index}
 use Rattle.page_engine_index.specs.Whatis.{Asked, rows}
 
@@ -77,11 +77,12 @@ HasCause k a b s t asked bytes (Settings fault) = ⊥
 HasCause k a b s t asked bytes Failed = ⊥
 HasCause k a b s t asked bytes Ended = ⊥
 
--- a search over a source: by this number of calls, at most 2^32 - 1, it gave these bytes
+-- a search over a source: by this number of calls, at most 2^32 - 1, it gave these bytes; but for one of them, each gave a byte or was empty
 pub record SearchesOver {L : Type 0} (res : Result ℕ Fault) (k : RowsTo L) (a b : SourceState) (s t : L) (q : Asked)
     (bytes : List ℕ) : Type 0 where
   pub asked : ℕ
   pub few : asked ≤ 2 ^ 32 - 1
   pub source : HasGiven a b asked bytes
+  pub lean : IsLean a b asked bytes
   pub ends : Searches res k.to s t q bytes b.remaining
   pub cause : MatchResult res (λ _. Quiet k a b s t) (λ fault. HasCause k a b s t asked bytes fault)

@@ -218,10 +218,6 @@ impl NoteSink for NameReader {
     fn takes(&self, _kind: NoteKind) -> bool {
         false
     }
-
-    fn failures(&self) -> u64 {
-        0
-    }
 }
 
 impl PieceSink for NameReader {
@@ -247,9 +243,5 @@ impl PieceSink for NameReader {
             self.take(piece);
         }
         Ok(())
-    }
-
-    fn row_failures(&self) -> u64 {
-        0
     }
 }

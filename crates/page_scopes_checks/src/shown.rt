@@ -55,10 +55,6 @@ impl NoteSink for Pieces {
         self.brief.show_message(note);
         Ok(())
     }
-
-    fn failures(&self) -> u64 {
-        0
-    }
 }
 
 impl PieceSink for Pieces {
@@ -88,9 +84,5 @@ impl PieceSink for Pieces {
     fn piece(&mut self, piece: Piece<&[u8]>) -> Result<(), Fault> {
         self.brief.show_piece(piece);
         Ok(())
-    }
-
-    fn row_failures(&self) -> u64 {
-        0
     }
 }

@@ -8,6 +8,7 @@ use Rattle.page_sets_lines.specs.declared.lists.ListKind.TheVariants as kinds
 use Rattle.page_scopes_layout.specs.Begins.{flat, font_begun}
 use Rattle.page_scopes_layout.specs.Margins.{MARGIN, hold, further_in}
 use Rattle.page_scopes_layout.specs.declared.contexts.Context.{Context}
+use Rattle.page_scopes_layout.specs.declared.contexts.PagePart.{PagePart}
 use Rattle.page_scopes_layout.specs.declared.contexts.PagePart.TheVariants as parts
 use Rattle.page_scopes_layout.specs.declared.lists.ColumnWidths.{ColumnWidths}
 use Rattle.page_scopes_layout.specs.declared.lists.OpenList.{OpenList}
@@ -89,13 +90,18 @@ item_begun None c = c
 abbrev pub tag_at : ℕ → Context → Context
 tag_at margin c = record c { first = Some margin; has_row = false; part = parts.Tag }
 
+-- a head that is no tag stays in the tag that it is in
+abbrev pub head_part : PagePart → PagePart
+head_part parts.Tag = parts.Tag
+head_part _ = parts.Head
+
 -- a head is a tag (`-tag`, `-hang`), or words of a row (`-inset`, `-ohang`, and `-diag` in bold)
 abbrev pub head_of : ListKind → ℕ → Context → Context
 head_of kinds.Tag margin c = tag_at margin c
 head_of kinds.Hang margin c = tag_at margin c
-head_of kinds.Inset margin c = record c { part = parts.Head }
-head_of kinds.Ohang margin c = record c { part = parts.Head }
-head_of kinds.Diag margin c = record (font_begun B c) { part = parts.Head }
+head_of kinds.Inset margin c = record c { part = head_part c.part }
+head_of kinds.Ohang margin c = record c { part = head_part c.part }
+head_of kinds.Diag margin c = record (font_begun B c) { part = head_part c.part }
 head_of _ margin c = c
 
 abbrev pub head_begun : Option OpenList → Context → Context

@@ -176,6 +176,16 @@ impl Context {
         }
     }
 
+    // The part of the page that a head is which is no tag: in a tag it stays there.
+    fn head_part(self) -> PagePart
+        ensures { result ≡ lists.head_part self.part }
+    {
+        match self.part {
+            PagePart::Tag => PagePart::Tag,
+            _ => PagePart::Head,
+        }
+    }
+
     // The head of an item of a list begins.
     fn head_of(self, list: OpenList) -> Context
         ensures { result ≡ lists.head_of list.kind list.head self }
@@ -183,11 +193,11 @@ impl Context {
         match list.kind {
             ListKind::Hang | ListKind::Tag => self.tag_at(list.head),
             ListKind::Inset | ListKind::Ohang => Context {
-                part: PagePart::Head,
+                part: self.head_part(),
                 ..self
             },
             ListKind::Diag => Context {
-                part: PagePart::Head,
+                part: self.head_part(),
                 ..self.font_begun(Font::B)
             },
             _ => self,

@@ -28,7 +28,7 @@ edge_of m n xs ys s t h k l = rw (h, k, l) refl
 
 pub step-taken : {P O S B : Type 0} (left : P → O → List Item → Type 0) (tables : Tables S B) (act : Act (Event (List ℕ))) (skips next : Bool)
     (inner mid last : List (Scope Label B)) (s t u : S) (out ended given : O) (n : ℕ)
-    → is_passed_over skips act ≡ false → n ≡ act_ends act (labels inner) → mid ≡ drop n inner → next ≡ act_skips skips act (labels mid)
+    → is_passed_over skips act ≡ false → n ≡ act_ends act (labels inner) → mid ≡ drop n inner → next ≡ act_skips skips act n (labels mid)
     → t ≡ ended_state (framed tables) n (does act) inner s → Came left out (ended_items (framed tables) n (does act) inner s) ended
     → Came left ended (placed_items (framed tables) (standing_by act (act_placement act n (labels mid))) (does act) t) given
     → u ≡ placed_state (framed tables) (standing_by act (act_placement act n (labels mid))) (does act) t
@@ -52,7 +52,7 @@ step-taken {P} {O} {S} {B} left tables act skips next inner mid last s t u out e
       came = λ plan rest h. placed plan rest (came plan (placed_items lays stands (does act) t ++ rest)
           (subst (λ all. left plan out all) (ap (λ all. all ++ rest) items ∙ append_assoc (ended_items lays n (does act) inner s) (placed_items lays stands (does act) t) rest) h));
       edge = sym (edge_of _ next _ last _ u
-          (ap (λ (m : ℕ). act_skips skips act (drop m (labels inner))) ends ∙ ap (act_skips skips act) remaining ∙ sym skip)
+          (ap (λ (m : ℕ). act_skips skips act m (drop m (labels inner))) ends ∙ ap (act_skips skips act n) remaining ∙ sym skip)
           (ap (λ (m : ℕ). placed_scopes lays (of_ends m) (does act) (drop m inner) (ended_state lays m (does act) inner s)) ends
           ∙ ap (λ (st : Standing Label Fact). placed_scopes lays st (does act) (drop n inner) (ended_state lays n (does act) inner s)) standing
           ∙ ap (λ (x : S). placed_scopes lays stands (does act) (drop n inner) x) (sym state)

@@ -33,7 +33,7 @@ step_standing skips (does act) n remaining = if is_passed_over skips act then as
 
 abbrev pub step_skips : Bool → Step → ℕ → List Label → Bool
 step_skips skips (comes event) n remaining = skips
-step_skips skips (does act) n remaining = act_skips skips act remaining
+step_skips skips (does act) n remaining = act_skips skips act n remaining
 
 -- the tables of events as a nesting of scopes
 abbrev pub scopes_nesting : Nesting Bool Label Step Fact

@@ -1,5 +1,5 @@
 -- What becomes of an event itself, once it ended what it ends. Source: man(7), "MACRO OVERVIEW"; mdoc(7), "MACRO REFERENCE".
-use Rattle.std.specs.Prelude.{ℕ, zero, suc, Bool, true, false, ◌||◌, ◌&&◌, not, nat_lt, nat_le, List, [], ◌∷◌, length, Some, if◌then◌else◌}
+use Rattle.std.specs.Prelude.{ℕ, zero, suc, ◌==◌, Bool, true, false, ◌||◌, ◌&&◌, not, nat_lt, nat_le, List, [], ◌∷◌, length, Some, if◌then◌else◌}
 use Rattle.page_sets_lines.specs.Blocks.{opened_block}
 use Rattle.page_sets_lines.specs.declared.events.Event.{Event}
 use Rattle.page_sets_lines.specs.declared.events.EventKind.{EventKind}
@@ -130,16 +130,22 @@ opens_row Description = true
 opens_row (OneLine name) = true
 opens_row _ = false
 
--- whether the rest of the line is passed over after an event
-abbrev pub kind_skips : Bool → EventKind (List ℕ) → List Label → Bool
-kind_skips skips (kinds.End fills) remaining = false
-kind_skips skips (kinds.Open opener) remaining = skips || opener_skips opener remaining
-kind_skips skips (kinds.LineScope opener) remaining = skips || (opens_row opener && not (has_room remaining))
-kind_skips skips _ remaining = skips
+-- so does the closer of a link that ended none (`UE`, `ME`): its further words are nothing either
+abbrev pub closer_skips : Closer (List ℕ) → ℕ → Bool
+closer_skips (closers.Target link suffix) n = n == 0
+closer_skips _ n = false
 
-abbrev pub act_skips : Bool → Act (Event (List ℕ)) → List Label → Bool
-act_skips skips (acts.Event event) remaining = kind_skips skips event.kind remaining
-act_skips skips (acts.PageEnd line) remaining = skips
+-- whether the rest of the line is passed over after an event that ended this many scopes
+abbrev pub kind_skips : Bool → EventKind (List ℕ) → ℕ → List Label → Bool
+kind_skips skips (kinds.End fills) n remaining = false
+kind_skips skips (kinds.Open opener) n remaining = skips || opener_skips opener remaining
+kind_skips skips (kinds.LineScope opener) n remaining = skips || (opens_row opener && not (has_room remaining))
+kind_skips skips (kinds.Close closer) n remaining = closer_skips closer n || skips
+kind_skips skips _ n remaining = skips
+
+abbrev pub act_skips : Bool → Act (Event (List ℕ)) → ℕ → List Label → Bool
+act_skips skips (acts.Event event) n remaining = kind_skips skips event.kind n remaining
+act_skips skips (acts.PageEnd line) n remaining = skips
 
 -- what ends a line is never passed over, nor is the page's end
 abbrev pub ends_line : EventKind (List ℕ) → Bool

@@ -294,32 +294,49 @@ fn opens_row(opener: LineOpener) -> bool
     matches!(opener, LineOpener::Description | LineOpener::OneLine(_))
 }
 
-// Whether the rest of the line is passed over after an event.
+// Whether a closer of a link that ended none, after which the rest of its line is passed over.
+fn closer_skips(closer: &Closer<&[u8]>, count: usize) -> bool
+    ensures { result ≡ placements.closer_skips (closer_view closer.now) count }
+{
+    match closer {
+        Closer::Target(_, _) => count == 0,
+        _ => false,
+    }
+}
+
+// Whether the rest of the line is passed over after an event that ended this many scopes.
 #[inline(always)]
-fn kind_skips<B>(skips: bool, kind: &EventKind<&[u8]>, remaining: &[Scope<Label, B>]) -> bool
+fn kind_skips<B>(
+    skips: bool,
+    kind: &EventKind<&[u8]>,
+    count: usize,
+    remaining: &[Scope<Label, B>],
+) -> bool
     requires { length remaining.now ≤ SCOPES }
-    ensures { result ≡ placements.kind_skips skips (kind_view kind.now) (labels (reverse remaining.now)) }
+    ensures { result ≡ placements.kind_skips skips (kind_view kind.now) count (labels (reverse remaining.now)) }
 {
     match kind {
         EventKind::End { .. } => false,
         EventKind::Open(opener) => skips || opener_skips(opener, remaining),
         EventKind::LineScope(opener) => skips || (opens_row(*opener) && !has_room(remaining)),
+        EventKind::Close(closer) => closer_skips(closer, count) || skips,
         _ => skips,
     }
 }
 
-/// Whether the rest of the line is passed over after an act that leaves these scopes.
+/// Whether the rest of the line is passed over after an act that ended this many scopes and leaves these.
 #[inline(always)]
 pub(crate) fn skips_after<B>(
     skips: bool,
     act: &Act<&Event<&[u8]>>,
+    count: usize,
     remaining: &[Scope<Label, B>],
 ) -> bool
     requires { length remaining.now ≤ SCOPES }
-    ensures { result ≡ placements.act_skips skips (act_view act.now) (labels (reverse remaining.now)) }
+    ensures { result ≡ placements.act_skips skips (act_view act.now) count (labels (reverse remaining.now)) }
 {
     match act {
-        Act::Event(event) => kind_skips(skips, &event.kind, remaining),
+        Act::Event(event) => kind_skips(skips, &event.kind, count, remaining),
         Act::PageEnd(_) => skips,
     }
 }

@@ -181,7 +181,7 @@ fn take_nesting<Y: Renderer, O: PieceOut>(
     }
     let count = count_ended(act, scopes.as_slice());
     end_scopes(scopes, state, count, act, out);
-    *skips = skips_after(*skips, act, scopes.as_slice());
+    *skips = skips_after(*skips, act, count, scopes.as_slice());
     place_act(scopes, state, count, act, out);
 }
 
@@ -202,7 +202,7 @@ fn take_alone<Y: Renderer, O: PieceOut>(
         (record { mode = skips.new; scopes = reverse scopes.now; state = state.new }) out.new }
 {
     if !is_passed_over(*skips, act) {
-        *skips = skips_after(*skips, act, scopes);
+        *skips = skips_after(*skips, act, 0, scopes);
         state.leaf(act, out);
     }
 }

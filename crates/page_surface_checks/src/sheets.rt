@@ -93,10 +93,6 @@ impl NoteSink for Sheet {
         let _ = self.kept.notes.note(note);
         Ok(())
     }
-
-    fn failures(&self) -> u64 {
-        0
-    }
 }
 
 impl PieceSink for Sheet {
@@ -128,9 +124,5 @@ impl PieceSink for Sheet {
             self.has_failed = true;
         }
         Ok(())
-    }
-
-    fn row_failures(&self) -> u64 {
-        0
     }
 }

@@ -121,10 +121,6 @@ impl RowSink for Rows {
         put_row(&mut self.text, margin, cells);
         Ok(())
     }
-
-    fn failures(&self) -> u64 {
-        self.failures
-    }
 }
 
 impl NoteSink for Notes {
@@ -156,9 +152,5 @@ impl NoteSink for Notes {
         let _ = write_note(&mut self.text, "x.1", note);
         self.worst = worse(self.worst, note.kind.level());
         Ok(())
-    }
-
-    fn failures(&self) -> u64 {
-        self.failures
     }
 }

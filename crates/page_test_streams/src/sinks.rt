@@ -65,10 +65,6 @@ impl RowSink for CountingSink {
             Err(Fault::WriteText)
         }
     }
-
-    fn failures(&self) -> u64 {
-        self.failures
-    }
 }
 
 impl NoteSink for CountingSink {
@@ -98,9 +94,5 @@ impl NoteSink for CountingSink {
         } else {
             Err(Fault::WriteNotes)
         }
-    }
-
-    fn failures(&self) -> u64 {
-        self.failures
     }
 }

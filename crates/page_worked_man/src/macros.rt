@@ -483,6 +483,12 @@ pub fn ur_pages()
         (man_page (codes ".ft B" ∷ codes ".MT a@b" ∷ codes "foo" ∷ codes ".ME . \"so on" ∷ codes "\\fRbar" ∷ []))
         (man_rows ((codes "       " ++ (bold (codes "foo") ++ (codes " " ++ (bold (codes "<a@b>.") ++ (codes " " ++ (bold (codes "so") ++ (codes " " ++ (bold (codes "on") ++ codes " bar")))))))) ∷ []))
         (codes "mandoc: x.1:6:7: WARNING: unterminated quoted argument" ∷ []) }
+    // the end of a link where none is open prints nothing, its words neither (man(7), UR and MT)
+    ensures the_end_of_a_link_where_none_is_open_prints { Shows plain
+        (man_page (codes "x" ∷ codes ".UE a b c" ∷ codes "y" ∷ codes ".ME d e" ∷ codes "z" ∷ []))
+        (man_rows (codes "       x y z" ∷ []))
+        (codes "mandoc: x.1:4:2: ERROR: skipping end of block that is not open: UE" ∷
+        codes "mandoc: x.1:6:2: ERROR: skipping end of block that is not open: ME" ∷ []) }
 {}
 
 /// man(7), SY.

@@ -1,7 +1,7 @@
 //! Lists of mdoc(7): worked pages. Written by tools/worked, from the cases of `page_cases`.
 
 ghost use Rattle.std.specs.Prelude.{[], ◌∷◌, ◌++◌, codes};
-ghost use Rattle.page_worked.specs.Pages.{Shows, plain, bold, italic};
+ghost use Rattle.page_worked.specs.Pages.{Shows, plain, bold, italic, mdoc_page, mdoc_rows};
 
 /// mdoc(7), Bl.
 pub fn bl_pages_1()
@@ -583,6 +583,36 @@ pub fn bl_pages_2()
         [] ∷
         codes "S                                 2020-01-01                              T(1)" ∷ [])
         [] }
+    // no row ends after a hyphen in a head of -ohang that is in a tag (mdoc(7), Bl)
+    ensures no_row_ends_after_a_hyphen_in_a_head_of_ohang_that { Shows plain
+        (mdoc_page (codes ".Bl -tag -width 6n" ∷
+        codes ".It Xo" ∷
+        codes ".Bl -ohang" ∷
+        codes ".It aaaaaaaaaaaaaaaaaaaaaaaaaaaaaa-bbbbbbbbbbbbbbbbbbbbbbbbbbbbbbbbbbbbbbbb" ∷ []))
+        (mdoc_rows (codes "             aaaaaaaaaaaaaaaaaaaaaaaaaaaaaa-bbbbbbbbbbbbbbbbbbbbbbbbbbbbbbbbbbbbbbbb" ∷ []))
+        (codes "mandoc: x.1:8:1: ERROR: appending missing end of block: Bl" ∷
+        codes "mandoc: x.1:8:1: ERROR: appending missing end of block: Xo" ∷
+        codes "mandoc: x.1:8:1: ERROR: appending missing end of block: Bl" ∷ []) }
+    // no row ends after a hyphen in a head of -inset that is in a tag (mdoc(7), Bl)
+    ensures no_row_ends_after_a_hyphen_in_a_head_of_inset_that { Shows plain
+        (mdoc_page (codes ".Bl -tag -width 6n" ∷
+        codes ".It Xo" ∷
+        codes ".Bl -inset" ∷
+        codes ".It aaaaaaaaaaaaaaaaaaaaaaaaaaaaaa-bbbbbbbbbbbbbbbbbbbbbbbbbbbbbbbbbbbbbbbb" ∷ []))
+        (mdoc_rows (codes "             aaaaaaaaaaaaaaaaaaaaaaaaaaaaaa-bbbbbbbbbbbbbbbbbbbbbbbbbbbbbbbbbbbbbbbb" ∷ []))
+        (codes "mandoc: x.1:8:1: ERROR: appending missing end of block: Bl" ∷
+        codes "mandoc: x.1:8:1: ERROR: appending missing end of block: Xo" ∷
+        codes "mandoc: x.1:8:1: ERROR: appending missing end of block: Bl" ∷ []) }
+    // no row ends after a hyphen in a head of -diag that is in a tag (mdoc(7), Bl)
+    ensures no_row_ends_after_a_hyphen_in_a_head_of_diag_that { Shows plain
+        (mdoc_page (codes ".Bl -tag -width 6n" ∷
+        codes ".It Xo" ∷
+        codes ".Bl -diag" ∷
+        codes ".It aaaaaaaaaaaaaaaaaaaaaaaaaaaaaa-bbbbbbbbbbbbbbbbbbbbbbbbbbbbbbbbbbbbbbbb" ∷ []))
+        (mdoc_rows ((codes "             " ++ bold (codes "aaaaaaaaaaaaaaaaaaaaaaaaaaaaaa-bbbbbbbbbbbbbbbbbbbbbbbbbbbbbbbbbbbbbbbb")) ∷ []))
+        (codes "mandoc: x.1:8:1: ERROR: appending missing end of block: Bl" ∷
+        codes "mandoc: x.1:8:1: ERROR: appending missing end of block: Xo" ∷
+        codes "mandoc: x.1:8:1: ERROR: appending missing end of block: Bl" ∷ []) }
 {}
 
 /// mdoc(7), Ta.

@@ -1,5 +1,6 @@
 //! The heads of conditionals, and the ends of blocks.
 
+use super::texts::show_bytes;
 use crate::bytes::shown;
 use page_core_base::LINE;
 use page_roff_heads::{Guarded, Placed, Test, block_end, read_conditional, read_guarded};
@@ -72,7 +73,9 @@ fn show_remainder(rt: &HostRuntime, remainder: Option<Placed<&[u8]>>) {
 }
 
 fn show_placed(rt: &HostRuntime, word: &str, placed: Placed<&[u8]>) {
-    let _ = print!(rt; " {word} {} at {}", shown(placed.text), placed.column);
+    let _ = print!(rt; " {word} ");
+    show_bytes(rt, placed.text);
+    let _ = print!(rt; " at {}", placed.column);
 }
 
 fn show_word(rt: &HostRuntime, word: &str) {

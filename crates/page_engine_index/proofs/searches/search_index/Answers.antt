@@ -1,5 +1,5 @@
 use Rattle.std.proofs.Common.{refl, [], arith}
-use Rattle.page_core_streams.proofs.GivenLemmas.{given_none}
+use Rattle.page_core_streams.proofs.GivenLemmas.{given_none, lean_none}
 use Rattle.page_engine_index.proofs.searches.search_index.Goals as goal
 
 pub returns-in-Err-clause-searches : goal.returns-in-Err-clause-searches
@@ -9,6 +9,7 @@ returns-in-Err-clause-searches g c = (
     asked = 0;
     few = omega arith;
     source = given_none _;
+    lean = lean_none _;
     ends = (refl, g.met.L.LineSink.laws.none _);
     cause = (refl, refl);
   }),

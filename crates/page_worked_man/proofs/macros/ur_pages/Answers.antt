@@ -14,4 +14,5 @@ returns c = record {
   a_target_with_one_byte_more_is_cut = record { prints = refl; reports = refl };
   words_after_a_suffix_are_words_of_the_text = record { prints = refl; reports = refl };
   words_after_a_suffix_in_the_font_that_stands_there = record { prints = refl; reports = refl };
+  the_end_of_a_link_where_none_is_open_prints = record { prints = refl; reports = refl };
 }

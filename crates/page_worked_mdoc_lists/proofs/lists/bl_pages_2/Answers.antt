@@ -12,4 +12,7 @@ returns c = record {
   a_list_in_an_item_and_a_heading_that_ends_both = record { prints = refl; reports = refl };
   items_with_their_numbers = record { prints = refl; reports = refl };
   columns = record { prints = refl; reports = refl };
+  no_row_ends_after_a_hyphen_in_a_head_of_ohang_that = record { prints = refl; reports = refl };
+  no_row_ends_after_a_hyphen_in_a_head_of_inset_that = record { prints = refl; reports = refl };
+  no_row_ends_after_a_hyphen_in_a_head_of_diag_that = record { prints = refl; reports = refl };
 }

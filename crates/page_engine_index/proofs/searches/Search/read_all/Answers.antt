@@ -1,5 +1,6 @@
 use Rattle.std.proofs.Common.{◌++◌, [], refl, ◌∙◌, length-append, arith}
 use Rattle.std.proofs.lemmas.Result.{err_from_is_err_and}
+use Rattle.page_core_streams.proofs.GivenLemmas.{busy_lean}
 use Rattle.page_engine_index.specs.Searches.{rows_to}
 use Rattle.page_engine_index.specs.Whatis.{asked_of}
 use Rattle.page_engine_index.proofs.SearchLemmas.{here_start, over_end, over_fault, over_stopped}
@@ -69,7 +70,7 @@ returns-in_err-take_chunk-clause-searches g c =
     let p = err_from_is_err_and c.from_residual-in_err-take_chunk.result c.from_residual-in_err-take_chunk.ensures.1 in
     rw (p.1, p.2) (
       i.0 ++ chunk,
-      record { asked = r.asked; few = omega (arith, r.calls); source = rw c.chunk.ensures.value r.given; ends = w.0; cause = w.1 },
+      record { asked = r.asked; few = omega (arith, r.calls); source = rw c.chunk.ensures.value r.given; lean = rw c.chunk.ensures.value (busy_lean r.asked _ r.busy); ends = w.0; cause = w.1 },
     )
 
 pub returns-clause-searches : goal.returns-clause-searches
@@ -80,4 +81,4 @@ returns-clause-searches g c =
     let r = rw c.if-branch.false at (c.in_ok-read.ensures.reads (g.S.Source.state c.args.source.now) i.0 i.1) in
     let w = over_end c.finish.result k (g.S.Source.state c.args.source.now) (g.S.Source.state c.read.new.source) c.args.out.now c.loop-self.out c.finish.new.out
     (asked_of c.args.query.now) c.loop-self.self r.0 i.0 r.3 r.2 i.2 c.finish.ensures.ends in
-    (i.0, record { asked = r.0; few = r.1.few; source = r.1.source; ends = w.0; cause = w.1 })
+    (i.0, record { asked = r.0; few = r.1.few; source = r.1.source; lean = r.1.lean; ends = w.0; cause = w.1 })

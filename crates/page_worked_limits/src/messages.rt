@@ -173,4 +173,23 @@ pub fn messages_pages_2()
         (codes ".TH T 1 2020-01-01 S" ∷ codes ".SH NAME" ∷ codes "t \\- x " ∷ codes "\\*(zz" ∷ codes ".ZZ" ∷ [])
         []
         [] }
+    // an argument of a macro where none runs (roff(7), Escape sequences; mandoc(1), DIAGNOSTICS)
+    ensures an_argument_of_a_macro_where_none_runs { Shows plain
+        (man_page (codes "x\\$1y" ∷ []))
+        (man_rows (codes "       xy" ∷ []))
+        (codes "mandoc: x.1:3:2: ERROR: using macro argument outside macro: \\$1" ∷ []) }
+    // a number is missing (roff(7), Numerical expressions; mandoc(1), DIAGNOSTICS)
+    ensures a_number_is_missing { Shows plain
+        (man_page (codes ".nr a x" ∷ codes "\\na" ∷ []))
+        (man_rows (codes "       0" ∷ []))
+        (codes "mandoc: x.1:3:2: ERROR: argument is not numeric, using 0" ∷ []) }
+{}
+
+/// Messages.
+pub fn messages_pages_3()
+    // a condition by a letter that names none (roff(7), if; mandoc(1), DIAGNOSTICS)
+    ensures a_condition_by_a_letter_that_names_none { Shows plain
+        (man_page (codes ".if q x" ∷ codes "y" ∷ []))
+        (man_rows (codes "       y" ∷ []))
+        (codes "mandoc: x.1:3:5: ERROR: unknown condition, using false: q" ∷ []) }
 {}

@@ -257,6 +257,11 @@ pub fn bounds_pages_1()
         codes ".m1" ∷ []))
         (man_rows [])
         (codes "mandoc: x.1:54:2: ERROR: input stack limit exceeded, infinite loop?: CALLS" ∷ []) }
+    // sixty-four open blocks, and one more (roff(7), if; mandoc(1), DIAGNOSTICS)
+    ensures sixty_four_open_blocks_and_one_more { Shows plain
+        (man_page (replicate 65 (codes ".if n \\{") ++ codes "x" ∷ codes ".\\}" ∷ codes "y" ∷ []))
+        (man_rows (codes "       y" ∷ []))
+        (codes "mandoc: x.1:67:2: ERROR: limit exceeded, skipping: CONDS" ∷ []) }
     // two macros that call each other (mandoc(1), DIAGNOSTICS)
     ensures two_macros_that_call_each_other { Shows plain
         (man_page (codes ".de a" ∷
@@ -313,8 +318,12 @@ pub fn bounds_pages_1()
         codes "\\*[s15]" ∷ []))
         (man_rows (codes "       x" ∷ []))
         [] }
+{}
+
+/// Bounds.
+pub fn bounds_pages_2()
     // seventeen of them (roff(7), ds; mandoc(1), DIAGNOSTICS)
-    ensures seventeen_of_them_too { Shows plain
+    ensures seventeen_of_them { Shows plain
         (man_page (codes ".ds s0 x" ∷
         codes ".ds s1 \\\\*[s0]" ∷
         codes ".ds s2 \\\\*[s1]" ∷
@@ -335,10 +344,18 @@ pub fn bounds_pages_1()
         codes "\\*[s16]" ∷ []))
         (man_rows [])
         (codes "mandoc: x.1:20:1: ERROR: input stack limit exceeded, infinite loop?: NEST" ∷ []) }
-{}
-
-/// Bounds.
-pub fn bounds_pages_2()
+    // a name of 64 bytes, and one of a byte more (roff(7), ds)
+    ensures a_name_of_64_bytes_and_one_of_a_byte_more { Shows plain
+        (man_page (codes ".ds nnnnnnnnnnnnnnnnnnnnnnnnnnnnnnnnnnnnnnnnnnnnnnnnnnnnnnnnnnnnnnnn a" ∷
+        codes ".ds nnnnnnnnnnnnnnnnnnnnnnnnnnnnnnnnnnnnnnnnnnnnnnnnnnnnnnnnnnnnnnnnn b" ∷
+        codes "\\*[nnnnnnnnnnnnnnnnnnnnnnnnnnnnnnnnnnnnnnnnnnnnnnnnnnnnnnnnnnnnnnnn]" ∷ []))
+        (man_rows (codes "       a" ∷ []))
+        (codes "mandoc: x.1:4:2: ERROR: limit exceeded, skipping: NAME" ∷ []) }
+    // seventeen of them are no number (roff(7), Numbers)
+    ensures seventeen_of_them_are_no_number { Shows plain
+        (man_page (codes ".nr a (((((((((((((((((1)))))))))))))))))" ∷ codes "\\na" ∷ []))
+        (man_rows (codes "       0" ∷ []))
+        (codes "mandoc: x.1:3:2: ERROR: limit exceeded, skipping: PARENS" ∷ []) }
     // sixteen widths of columns (mdoc(7), Bl)
     ensures sixteen_widths_of_columns { Shows plain
         (codes ".Dd d" ∷
