@@ -25,10 +25,21 @@ impl Done {
     }
 }
 
-/// Reports a file that can't be opened, or a folder that can't be listed; the next one goes on, also where that line can't be printed.
+/// Reports a file that can't be opened, or a folder that can't be listed. Where it is passed over, the next one goes on, also where that line
+/// can't be printed.
 pub fn report_unopened<V: Write>(err: &mut V, name: &str) -> Done {
     let _ = writeln!(err, "mandoc: {}: cannot open", shown(name));
     Done::with(SYSTEM_FAILURE)
+}
+
+/// Says how many pages of a directory are compressed, if some are.
+pub fn report_compressed<V: Write>(err: &mut V, dir: &str, count: u64) {
+    let dir = shown(dir);
+    let _ = match count {
+        0 => Ok(()),
+        1 => writeln!(err, "mandoc: {dir}: 1 compressed page passed over"),
+        _ => writeln!(err, "mandoc: {dir}: {count} compressed pages passed over"),
+    };
 }
 
 /// Reports a fault at a file. After one of writing nothing further can be written.

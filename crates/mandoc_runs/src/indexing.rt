@@ -1,6 +1,6 @@
 //! Indexes made of the pages of directories (makewhatis(8)).
 
-use crate::faults::{Done, report_fault, report_index_fault};
+use crate::faults::{Done, report_fault, report_index_fault, report_unopened};
 use crate::page_records::{Form, Pages};
 use crate::unfinished::{LockedFiles, create_locked, is_name_of, keep_mode, remove_own};
 use mandoc_command::Makewhatis;
@@ -12,8 +12,8 @@ use std::io::{BufWriter, Write};
 /// Makes the indexes of directories in their order, or prints the records of their pages, and answers the worst status (makewhatis(8),
 /// EXIT STATUS).
 ///
-/// A page or a folder that can't be read is reported on `err`, and the others go on, also where that line can't be printed. An index, or
-/// records, that can't be written end it.
+/// A page that can't be read is reported on `err`, and the others go on, also where that line can't be printed. An index, or records, that
+/// can't be written end it; so does an index that has to stay as it was.
 #[inline(never)]
 pub fn make_indexes<R: LockedFiles, W: Write, V: Write>(
     rt: &R,
@@ -37,7 +37,7 @@ pub fn make_indexes<R: LockedFiles, W: Write, V: Write>(
     worst
 }
 
-// Prints the records of the pages in a directory.
+// Prints the records of the pages in a directory, if it is one.
 fn print_records<R: Files, W: Write, V: Write>(
     rt: &R,
     alloc: Global,
@@ -45,6 +45,9 @@ fn print_records<R: Files, W: Write, V: Write>(
     out: &mut W,
     err: &mut V,
 ) -> Done {
+    if !fs::metadata(rt, dir).is_ok_and(|found| found.is_dir()) {
+        return report_unopened(err, dir);
+    }
     match give_buffered(rt, alloc, dir, Form::Printed, out, err) {
         Ok(status) => Done::with(status),
         Err(fault) => report_fault(err, dir, fault),
@@ -88,7 +91,7 @@ fn replace_index<R: LockedFiles, V: Write>(
     finished
 }
 
-// Writes an index into a file, with the mode of the one that is there.
+// Writes an index into a file, with the permissions of the one that is there.
 fn write_index<R: Files, V: Write>(
     rt: &R,
     alloc: Global,
@@ -138,6 +141,7 @@ fn give_buffered<R: Files, W: Write, V: Write>(
         dir,
         form,
         err,
+        compressed: 0,
     };
     let given = pages.give_all(&mut records);
     let flushed = records.flush();

@@ -1,17 +1,24 @@
 //! What a command line asks for, done over any files, reader and writers: pages from their bytes to rows, messages and a status (mandoc(1)),
 //! and indexes of pages that are made and searched (makewhatis(8), whatis(1)).
 //!
-//! Each file is one run (`page_engine`, `page_engine_records`, `page_engine_index`) of what the words say (`mandoc_command`). It has no
-//! contract of its own. The program is one call of it (`mandoc_cli`).
+//! Each file is one run (`page_engine`, `page_engine_records`, `page_engine_index`) of what the words say (`mandoc_command`). What is done with
+//! files and streams has no contract. The program is one call of it (`mandoc_cli`).
+//!
+//! Proved: `bearing_of_folder`, `bearing_of_file`, `bearing_of_page`: what a fault means for an index (`specs/Bearings.antt`). `is_compressed`:
+//! which pages are compressed (`Compressed.antt`). `kept_mode`: the mode of an index (`IndexModes.antt`). `is_hidden`: which characters a name
+//! doesn't show (`ShownNames.antt`).
 //!
 //! Read first: `run_command` in `commands.rt`, then `format_all` in `formatting.rt` and `make_indexes` in `indexing.rt`.
 #![tactic(auto)]
 
+mod bearings;
 mod commands;
 mod faults;
 mod formatting;
 mod indexing;
+mod page_files;
 mod page_records;
+mod regular_files;
 mod searching;
 mod shown_names;
 mod standard_numbers;

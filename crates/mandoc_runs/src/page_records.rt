@@ -3,10 +3,11 @@
 ghost use Rattle.std.specs.Prelude.{◌≡◌, true};
 ghost use Rattle.page_engine_index.specs.Fields.{is_field};
 
-use crate::faults::{report_fault, report_unopened};
-use page_core_base::{Fault, Settings};
+use crate::bearings::{Bearing, bearing_of_folder, bearing_of_page};
+use crate::faults::{report_compressed, report_fault, report_unopened};
+use crate::page_files::{Found, Unread, find_record};
+use page_core_base::Fault;
 use page_engine_index::{FIRST_LINE, Record, is_field, print_record, write_record};
-use page_engine_records::name_record;
 use std::alloc::Global;
 use std::fs::{self, Files};
 use std::io::{self, ErrorKind, Write};
@@ -25,7 +26,7 @@ pub enum Form {
     Printed,
 }
 
-/// The pages in a directory, the form of their records, and where faults are reported.
+/// The pages in a directory, the form of their records, where faults are reported, and how many pages were compressed.
 #[derive(Drop)]
 pub struct Pages<'a, R, V> {
     pub rt: &'a R,
@@ -33,12 +34,14 @@ pub struct Pages<'a, R, V> {
     pub dir: &'a str,
     pub form: Form,
     pub err: &'a mut V,
+    pub compressed: u64,
 }
 
 impl<R: Files, V: Write> Pages<'_, R, V> {
     /// Gives the records of all pages, folder by folder, each in the order of the bytes of its files' names, and answers the worst status.
     ///
-    /// Its fault is [`Fault::WriteText`] where a record can't be written. What can't be read is reported, and the next page follows.
+    /// Its fault is [`Fault::WriteText`] where a record can't be written, or where an index has to stay as it was. What can't be read is
+    /// reported; pages that are compressed are counted, and their number is said at the end.
     pub fn give_all<W: Write>(&mut self, out: &mut W) -> Result<u8, Fault> {
         self.give_first_line(out)?;
         let mut worst = 0;
@@ -46,6 +49,7 @@ impl<R: Files, V: Write> Pages<'_, R, V> {
             let status = self.give_folder(out, folder)?;
             worst = worst.max(status);
         }
+        report_compressed(self.err, self.dir, self.compressed);
         Ok(worst)
     }
 
@@ -64,16 +68,39 @@ impl<R: Files, V: Write> Pages<'_, R, V> {
         };
         match names_in(self.rt, self.alloc, path.as_str()) {
             Ok(names) => self.give_files(out, folder, names.as_slice()),
-            Err(error) => Ok(self.report_unlisted(path.as_str(), error.kind())),
+            Err(error) => self.report_unlisted(path.as_str(), error.kind()),
         }
     }
 
-    // Reports a folder that can't be listed, unless there is none, and answers the status.
-    fn report_unlisted(&mut self, folder: &str, kind: ErrorKind) -> u8 {
-        match kind {
+    // Reports a folder that can't be listed, unless there is none, and goes on.
+    fn report_unlisted(&mut self, folder: &str, kind: ErrorKind) -> Result<u8, Fault> {
+        let status = match kind {
             ErrorKind::NotFound => 0,
             ErrorKind::OutOfMemory => report_fault(self.err, folder, Fault::Memory).status,
             _ => report_unopened(self.err, folder).status,
+        };
+        self.go_on(bearing_of_folder(kind), status)
+    }
+
+    // Reports a page that can't be read, and goes on.
+    fn report_unread(&mut self, path: &str, unread: Unread) -> Result<u8, Fault> {
+        match unread {
+            Unread::Unopened(bearing) => {
+                let status = report_unopened(self.err, path).status;
+                self.go_on(bearing, status)
+            }
+            Unread::Fault(fault) => {
+                let status = report_fault(self.err, path, fault).status;
+                self.go_on(bearing_of_page(fault), status)
+            }
+        }
+    }
+
+    // Goes on after a fault that was reported, and answers the status. Where the old index has to stay, the new one can't be written.
+    fn go_on(&self, bearing: Bearing, status: u8) -> Result<u8, Fault> {
+        match (self.form, bearing) {
+            (Form::Index, Bearing::KeepsOld) => Err(Fault::WriteText),
+            _ => Ok(status),
         }
     }
 
@@ -103,27 +130,14 @@ impl<R: Files, V: Write> Pages<'_, R, V> {
         let Ok(path) = format!(in self.alloc; "{}/{file}", self.dir) else {
             return Err(Fault::Memory);
         };
-        match self.record_in(path.as_str()) {
-            Ok(Some(record)) => {
-                give_record(out, self.form, &record, file)?;
+        match find_record(self.rt, self.alloc, path.as_str()) {
+            Ok(Found::Record(record)) => give_record(out, self.form, &record, file).map(|()| 0),
+            Ok(Found::Nothing) => Ok(0),
+            Ok(Found::Compressed) => {
+                self.compressed = self.compressed.saturating_add(1);
                 Ok(0)
             }
-            Ok(None) => Ok(0),
-            Err(status) => Ok(status),
-        }
-    }
-
-    // The record of the page in a file, if it is one and has one; where it can't be read, the status after it was reported.
-    fn record_in(&mut self, path: &str) -> Result<Option<Record>, u8> {
-        if !is_file(self.rt, path) {
-            return Ok(None);
-        }
-        match fs::open(self.rt, path) {
-            Ok(mut file) => match name_record(self.alloc, &mut file, &Settings::new()) {
-                Ok(record) => Ok(record),
-                Err(fault) => Err(report_fault(self.err, path, fault).status),
-            },
-            Err(_) => Err(report_unopened(self.err, path).status),
+            Err(unread) => self.report_unread(path.as_str(), unread),
         }
     }
 }
@@ -140,14 +154,6 @@ fn names_in<R: Files>(rt: &R, alloc: Global, folder: &str) -> io::Result<Vec<Str
     }
     names.sort_unstable();
     Ok(names)
-}
-
-// Whether a path leads to a file, and not to a folder or a device. Where that can't be found out, it is seen when it is opened.
-fn is_file<R: Files>(rt: &R, path: &str) -> bool {
-    match fs::metadata(rt, path) {
-        Ok(metadata) => metadata.is_file(),
-        Err(_) => true,
-    }
 }
 
 // Gives a record in a form.

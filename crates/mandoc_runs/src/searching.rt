@@ -1,11 +1,13 @@
 //! Words looked for in the index of a directory (whatis(1)).
 
 use crate::faults::{report_fault, report_index_fault, report_unopened};
+use crate::regular_files::open_regular;
+use crate::shown_names::ShownRows;
 use mandoc_command::Whatis;
 use page_core_base::Fault;
 use page_engine_index::{Show, whatis};
 use std::alloc::Global;
-use std::fs::{self, Files};
+use std::fs::Files;
 use std::io::{BufWriter, Read, Write};
 
 /// The status where a row was printed.
@@ -30,13 +32,13 @@ pub fn search<R: Files, W: Write, V: Write>(
     let Ok(name) = format!(in alloc; "{dir}/whatis.idx") else {
         return report_index_fault(err, dir, Fault::Memory).status;
     };
-    match fs::open(rt, name.as_str()) {
-        Ok(mut index) => match search_buffered(alloc, &mut index, asked, out) {
+    match open_regular(rt, name.as_str()) {
+        Ok(Some(mut index)) => match search_buffered(alloc, &mut index, asked, out) {
             Ok(0) => NOT_FOUND,
             Ok(_) => FOUND,
             Err(fault) => report_fault(err, name.as_str(), fault).status,
         },
-        Err(_) => report_unopened(err, name.as_str()).status,
+        _ => report_unopened(err, name.as_str()).status,
     }
 }
 
@@ -79,10 +81,10 @@ fn search_index<I: Read, W: Write>(
         Some(section) => Some(section.as_str()),
         None => None,
     };
-    let show = if asked.shows_files {
-        Show::File
-    } else {
-        Show::Entry
-    };
-    whatis(alloc, index, out, words.as_slice(), section, show)
+    let words = words.as_slice();
+    if asked.shows_files {
+        let mut out = ShownRows::new(out);
+        return whatis(alloc, index, &mut out, words, section, Show::File);
+    }
+    whatis(alloc, index, out, words, section, Show::Entry)
 }

@@ -3,9 +3,12 @@
 //! Its file is made anew and locked, and stays locked until it has the name of the index or is removed. Only a run that holds the lock of the
 //! file that has the name may take that name from it, so runs of this program never take it from one another.
 
-use std::fs::{self, File, Files, OpenFile, TryLockError};
+ghost use Rattle.std.specs.Prelude.{◌≡◌};
+ghost use Rattle.mandoc_runs.specs.IndexModes.{kept_mode};
+
+use std::fs::{self, File, Files, OpenFile, Permissions, TryLockError};
 use std::io::{self, ErrorKind};
-use std::os::unix::fs::MetadataExt;
+use std::os::unix::fs::{MetadataExt, PermissionsExt};
 
 /// Files that a run can lock for itself.
 pub trait LockedFiles: Files {
@@ -52,12 +55,23 @@ pub fn remove_own<R: Files>(rt: &R, file: &R::File, name: &str) {
     }
 }
 
-/// Gives an open file the mode of the one whose place it is to take, if there is one.
+/// Gives an open file the permissions of the one whose place it is to take, where that one is a file of the same owner, who is the user that
+/// this run works for.
 pub fn keep_mode<R: Files>(rt: &R, file: &R::File, name: &str) -> io::Result<()> {
-    match fs::symlink_metadata(rt, name) {
-        Ok(old) if old.is_file() => file.set_permissions(old.permissions()),
-        _ => Ok(()),
+    let (Ok(new), Ok(old)) = (file.metadata(), fs::symlink_metadata(rt, name)) else {
+        return Ok(());
+    };
+    match kept_mode(old.is_file() && old.uid() == new.uid(), old.mode()) {
+        Some(mode) => file.set_permissions(Permissions::from_mode(mode)),
+        None => Ok(()),
     }
+}
+
+// What is kept of the mode of an old index: its permissions, and no bit by which a file is run as another user.
+fn kept_mode(is_own_file: bool, mode: u32) -> Option<u32>
+    ensures { result ≡ kept_mode is_own_file mode }
+{
+    is_own_file.then_some(mode & 0o777)
 }
 
 // Removes what has a name, if it is no file that another run has locked.

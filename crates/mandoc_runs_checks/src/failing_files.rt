@@ -29,6 +29,10 @@ pub enum Call {
     Flush,
     /// A file is given another name.
     Rename,
+    /// Rows or messages are written or put out.
+    Print,
+    /// It is looked at what has a name. (This one fails only where it is named, since most programs go on after it.)
+    Look,
 }
 
 /// Which call fails, and how many of its kind come before it.
@@ -55,9 +59,13 @@ impl Failure {
         self.has_come.get()
     }
 
-    // Counts a call, and fails it if it is the one.
-    fn at(&self, call: Call) -> io::Result<()> {
-        if self.has_come.get() || self.call.is_some_and(|wanted| wanted != call) {
+    /// Counts a call, and fails it if it is the one.
+    pub fn at(&self, call: Call) -> io::Result<()> {
+        let counts = match self.call {
+            Some(wanted) => wanted == call,
+            None => call != Call::Look,
+        };
+        if self.has_come.get() || !counts {
             return Ok(());
         }
         if let Some(left) = self.before.get().checked_sub(1) {
@@ -199,6 +207,7 @@ impl<'a, R: Files + AllocGlobal> Files for FailingFiles<'a, R> {
     }
 
     fn metadata(&self, path: &str) -> io::Result<Metadata> {
+        self.failure.at(Call::Look)?;
         let path = self.path(path)?;
         self.rt.metadata(path.as_str())
     }

@@ -1,6 +1,6 @@
 //! What becomes of pages where a writer takes all bytes and then fails at a flush (mandoc(1), EXIT STATUS).
 
-use crate::runs::{Fails, NO_INDEX, Run, check, in_folder};
+use crate::runs::{Fails, NEVER, NO_INDEX, Run, check, in_folder};
 use std::process;
 
 const LOST: &str = "[notes]mandoc: quiet.1: cannot write\n";
@@ -15,6 +15,36 @@ const FOOT: &str =
     "\nS                                 2020-01-01                              T(1)\n";
 
 const FLUSHED: &str = "[out flushed][notes flushed]";
+
+const MESSAGE: &str =
+    "[notes]mandoc: <stdin>:4:1: WARNING: blank line in fill mode, using .sp\n[notes flushed]";
+
+// Nothing is lost where a signal interrupts each read and each write at first, and rows and messages are put out before each read.
+const TYPED: &[Run] = &[Run {
+    words: &["-Wall"],
+    fails: NEVER,
+    written: &[
+        FLUSHED,
+        FLUSHED,
+        "[out]",
+        HEAD,
+        TEXT,
+        "\n[out flushed]",
+        MESSAGE,
+        FLUSHED,
+        "[out]       y\n",
+        FOOT,
+        FLUSHED,
+    ],
+    status: 2,
+    index: NO_INDEX,
+}];
+
+#[test]
+fn goes_on_after_a_signal(rt: HostRuntime) {
+    let made = in_folder(&rt, process::id(rt.process()), "signals", &TYPED);
+    check(&rt, made.is_ok(), &[], "the folder");
+}
 
 // Nothing follows a writer that fails.
 const PAGES: &[Run] = &[

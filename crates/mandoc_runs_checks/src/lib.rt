@@ -1,5 +1,6 @@
-//! Tests of the command line, on public calls, and of what command lines do where a call fails that no run can make fail: a flush, the reading of a folder's names, and each call of files
-//! in turn (mandoc(1), makewhatis(8)). All else that a command line does is shown by runs of the program (`tools/program_cases`).
+//! Tests of the command line, on public calls, and of what command lines do where no run can make it so: a flush or the reading of a folder's names
+//! fails, each call of files and streams fails in turn, and a signal interrupts reads and writes (mandoc(1), makewhatis(8), whatis(1)). All else
+//! that a command line does is shown by runs of the program (`tools/program_cases`).
 #![tactic(auto)]
 
 #[cfg(test)]

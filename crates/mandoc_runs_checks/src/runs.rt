@@ -5,17 +5,21 @@ use mandoc_command::command;
 use mandoc_runs::{LockedFiles, run_command};
 use std::alloc::Global;
 use std::cell::RefCell;
-use std::io::{self, ErrorKind, Write};
+use std::io::{self, ErrorKind, Read, Write};
 use std::process::Abort;
 use std::rt::{Env, Files};
 use std::{env, fs};
 
 const FOLDERS: &[&str] = &["man1", "man1/sub.1", "man8", "man10"];
 
+// A page with a warning.
+const BLANK: &str = ".TH T 1 2020-01-01 S\n.SH NAME\nt \\- x\n\ny\n";
+
 // A page without a message to be formatted, and pages in folders: the name of one can't be in an index, one has no record, and one isn't
 // where pages are.
 const FILES: &[(&str, &str)] = &[
     ("quiet.1", ".TH T 1 2020-01-01 S\n.SH NAME\nt \\- x\n"),
+    ("blank.1", BLANK),
     ("man1/ls.1", ".TH LS 1p\n.SH NAME\nls, dir \\- list files\n"),
     ("man1/Zed.1", ".TH ZED 1\n.SH NAME\nzed \\- last\n"),
     (
@@ -137,22 +141,49 @@ fn log_flush(journal: &RefCell<Journal>, writer: Writer) -> io::Result<()> {
     Ok(())
 }
 
-// A writer that logs each write and flush in a journal.
+// A writer that logs each write and flush in a journal. A signal interrupts each write at first.
 #[derive(Drop)]
 struct Journaled<'a> {
     writer: Writer,
     journal: &'a RefCell<Journal>,
+    failure: &'a Failure,
     // How many flushes there are before one that fails.
     left: Option<u32>,
+    is_interrupted: bool,
+}
+
+// A page on the standard input. A signal interrupts each read at first.
+#[derive(Drop)]
+struct Typed {
+    page: &'static str,
+    is_interrupted: bool,
+}
+
+impl Read for Typed {
+    fn read(&mut self, buffer: &mut [u8]) -> io::Result<usize> {
+        self.is_interrupted = !self.is_interrupted;
+        if self.is_interrupted {
+            return Err(io::Error::from(ErrorKind::Interrupted));
+        }
+        let count = self.page.as_bytes().read(buffer)?;
+        self.page = "";
+        Ok(count)
+    }
 }
 
 impl Write for Journaled<'_> {
     fn write(&mut self, bytes: &[u8]) -> io::Result<usize> {
+        self.is_interrupted = !self.is_interrupted;
+        if self.is_interrupted {
+            return Err(io::Error::from(ErrorKind::Interrupted));
+        }
+        self.failure.at(Call::Print)?;
         log_bytes(self.journal, self.writer, bytes)?;
         Ok(bytes.len())
     }
 
     fn flush(&mut self) -> io::Result<()> {
+        self.failure.at(Call::Print)?;
         if let Some(left) = self.left {
             let Some(rest) = left.checked_sub(1) else {
                 return Err(io::Error::from(ErrorKind::StorageFull));
@@ -163,11 +194,12 @@ impl Write for Journaled<'_> {
     }
 }
 
-// Runs words over files, where flushes fail so, and answers the status. A refused command line has the status 5.
+// Runs words over files, where calls and flushes fail so, and answers the status. A refused command line has the status 5.
 fn run_over<F: LockedFiles>(
     files: &F,
     alloc: Global,
     words: &[&str],
+    failure: &Failure,
     fails: Fails,
     journal: &RefCell<Journal>,
 ) -> u8 {
@@ -177,14 +209,22 @@ fn run_over<F: LockedFiles>(
     let mut out = Journaled {
         writer: Writer::Rows,
         journal,
+        failure,
         left: fails.rows,
+        is_interrupted: false,
     };
     let mut notes = Journaled {
         writer: Writer::Messages,
         journal,
+        failure,
         left: fails.messages,
+        is_interrupted: false,
     };
-    run_command(files, alloc, &asked, &mut io::empty(), &mut out, &mut notes)
+    let mut input = Typed {
+        page: BLANK,
+        is_interrupted: false,
+    };
+    run_command(files, alloc, &asked, &mut input, &mut out, &mut notes)
 }
 
 /// What a run gave its writers, and its status.
@@ -208,7 +248,7 @@ pub fn run_failing<R: LockedFiles + AllocGlobal>(
         dir: good.dir,
         failure,
     };
-    let status = run_over(&files, alloc, words, fails, &journal);
+    let status = run_over(&files, alloc, words, failure, fails, &journal);
     Ran {
         written: journal.into_inner().text,
         status,

@@ -1,0 +1,4 @@
+pub mod Bearings
+pub mod Compressed
+pub mod IndexModes
+pub mod ShownNames
