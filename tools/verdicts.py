@@ -1,0 +1,84 @@
+"""What `rt ci` tells, line by line: what it proved, refused and ran, and what is a failure here though its status is 0.
+
+Such are an edit that can't be made or whose text the prover can't read (`BAD EDIT`), one that is refused only by a limit of the prover, which gives no
+verdict, one that nothing is told of, and a program that one of the two compilers did not build.
+"""
+import re
+import subprocess
+
+# The compilers that build each program, by what is told of a run.
+COMPILERS = {"": "LLVM", " (built by Rattle's own compiler)": "Rattle's own compiler"}
+
+CRATE = re.compile(r"rt: (\w+)(?:: its tests are)? (proved$|NOT PROVED|is kept: )")
+EDIT = re.compile(r"rt: (?:must-fail )?(\S+): ((?:refused, as it must be|BAD EDIT|NOT TRIED|NOT REFUSED).*)")
+# (a proof file may name what an edit took away: that is a refusal as well)
+REFUSED = re.compile(r"refused, as it must be($|: | \(only because a proof file names )")
+RAN = re.compile(r"rt: (\w+) ran( \(built by Rattle's own compiler\))?, and wrote what its file stdout has$")
+TESTED = re.compile(r"test result: \w+\. (\d+) passed; (\d+) failed")
+BEGUN = re.compile(r"== (\w+)")
+NOTE = re.compile(r"rt: note: (Rattle's own compiler did not compile this program, .*)")
+
+
+class Verdicts:
+    """What was told so far: crates that are proved, edits that are refused, tests that passed, each beside those that were tried; the programs that ran, each
+    with its compiler; and what is wrong with edits though it fails nothing in `rt ci`."""
+
+    def __init__(self):
+        self.crates, self.unproved, self.edits, self.refused, self.wrong = set(), set(), set(), set(), []
+        self.tests, self.failed_tests, self.ran, self.notes, self.begun = 0, 0, set(), {}, ""
+
+    @property
+    def proved(self):
+        return self.crates - self.unproved
+
+    def hear(self, line):
+        """Takes a line."""
+        if found := EDIT.match(line):
+            self.hear_of_edit(*found.groups())
+        elif found := CRATE.match(line):
+            self.crates.add(found[1])
+            self.unproved |= {found[1]} if found[2] == "NOT PROVED" else set()
+        elif found := RAN.match(line):
+            self.ran.add((found[1], COMPILERS[found[2] or ""]))
+        elif found := TESTED.match(line):
+            self.tests, self.failed_tests = self.tests + int(found[1]), self.failed_tests + int(found[2])
+        elif found := BEGUN.match(line):
+            self.begun = found[1]
+        elif found := NOTE.match(line):
+            self.notes[self.begun] = found[1]
+
+    def hear_of_edit(self, edit, said):
+        """Takes what is told of an edit."""
+        self.edits.add(edit)
+        if REFUSED.match(said):
+            self.refused.add(edit)
+        elif not said.startswith(("NOT TRIED", "NOT REFUSED")):
+            self.wrong.append(f"{edit}: {said}")
+
+    def wrong_edits(self, edits):
+        """What is wrong with edits of proved crates, each by its crate and file, though it fails nothing in `rt ci`."""
+        untold = (edit for edit in edits if edit.split("/")[0] in self.proved and edit not in self.edits)
+        return self.wrong + [f"{edit}: NOT TRIED: nothing is told of it" for edit in untold]
+
+    def missing_builds(self, programs):
+        """The proved programs that one of the compilers did not build, or that it built and that did not run as they must."""
+        for program in sorted(self.proved & set(programs)):
+            for compiler in COMPILERS.values():
+                if (program, compiler) not in self.ran:
+                    yield f"{program}: no run of what {compiler} builds. {self.notes.get(program, '')}".rstrip()
+
+
+def run(words, folder, hear):
+    """Runs a command, shows what it prints but for a last line 'N passed, M failed', has `hear` take each line, and answers the two numbers. A status
+    that is not 0 is at least one failure."""
+    last = ""
+    with subprocess.Popen(words, cwd=folder, stdout=subprocess.PIPE, text=True, errors="replace") as ran:
+        for line in ran.stdout:
+            print(last, end="", flush=True)
+            last = line
+            hear(line.rstrip("\n"))
+    found = re.fullmatch(r"(\d+) passed, (\d+) failed\n?", last)
+    if not found:
+        print(last, end="", flush=True)
+        return 0, 1
+    return int(found[1]), max(int(found[2]), int(ran.returncode != 0))
