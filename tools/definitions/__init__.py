@@ -1,0 +1,1 @@
+"""Definitions of a page, read from `specs/` and computed: tools/define prints what they give."""

@@ -1,0 +1,79 @@
+"""What the definitions give for a page: its rows, its messages and its worst level, by `whole_page`, `row_bytes` and `message_bytes`."""
+import os
+import subprocess
+from dataclasses import dataclass
+
+from . import values
+from .code import Program
+
+TOP = os.path.dirname(os.path.dirname(os.path.dirname(os.path.abspath(__file__))))
+ENGINE, STREAMS = "Rattle.page_engine.specs", "Rattle.page_core_streams.specs"
+# so many results are kept for the next page, as rows of tables that it may name too
+MOST = 1_500_000
+
+
+@dataclass(frozen=True)
+class Settings:
+    """How a page is formatted, in the words of the settings' type."""
+    output: str = "Ascii"
+    width: int = 78
+    indent: int | None = None
+    language: str = "Auto"
+    encoding: str = "Auto"
+    least: str | None = None
+    os: bytes = b""
+
+    def value(self):
+        fields = {
+            "output": values.constructed(self.output), "width": self.width, "indent": optional(self.indent),
+            "language": values.constructed(self.language), "encoding": values.constructed(self.encoding),
+            "least": optional(self.least and values.constructed(self.least)), "os": record({"bytes": values.onto(self.os, None), "spare": None}),
+        }
+        return record(fields)
+
+
+@dataclass(frozen=True)
+class Shown:
+    """Rows and messages as bytes, the worst level or none, and how many lines there are, are taken, and interpolations are made."""
+    rows: bytes
+    messages: bytes
+    worst: str | None
+    counts: tuple
+
+
+def optional(value):
+    return values.constructed("None") if value is None else values.constructed("Some", value)
+
+
+def record(fields):
+    labels = sorted(fields)
+    return values.maker(tuple(f"of_{label}" for label in labels))(*(fields[label] for label in labels))
+
+
+def kit():
+    """The folder of the kit's library."""
+    start = subprocess.run(["rt", "doc"], capture_output=True, text=True, check=True).stdout.strip()
+    return f"{os.path.dirname(start)}/rattle"
+
+
+class Pages:
+    """The definitions of a page."""
+
+    def __init__(self, crates=f"{TOP}/crates"):
+        self.program = Program(crates, kit())
+        self.whole_page = self.program.function(f"{ENGINE}.Runs", "whole_page")
+        self.row_bytes = self.program.function(f"{STREAMS}.RowBytes", "row_bytes")
+        self.message_bytes = self.program.function(f"{STREAMS}.MessageBytes", "message_bytes")
+
+    def show(self, settings, page, name):
+        """What a page of these bytes gives, in a file of this name."""
+        laid = self.whole_page(settings.value(), values.onto(page, None))
+        file = values.onto(name.encode(), None)
+        rows = [bytes(values.items(self.row_bytes(row))) for row in values.items(laid.of_rows)]
+        messages = [bytes(values.items(self.message_bytes(file, note))) for note in values.items(laid.of_notes)]
+        worst, counts = laid.of_edge.of_worst, laid.of_edge.of_roff.of_counts
+        self.program.forget_many(MOST)
+        return Shown(
+            b"".join(rows), b"".join(messages), worst.arguments[0].name if worst.arguments else None,
+            (counts.of_source, counts.of_taken, counts.of_expansions),
+        )
