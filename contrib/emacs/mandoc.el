@@ -14,11 +14,15 @@
                       1 2 3 (4 . 5)))
 (add-to-list 'compilation-error-regexp-alist 'mandoc)
 
+(defun mandoc-lint-command (page)
+  "The command that says what is wrong with PAGE."
+  (format "%s -T lint %s" (shell-quote-argument mandoc-program) (shell-quote-argument page)))
+
 (defun mandoc-lint ()
   "Show what mandoc says of the page of this buffer."
   (interactive)
   (unless buffer-file-name (user-error "This buffer is no file"))
-  (compile (format "%s -T lint %s" (shell-quote-argument mandoc-program) (shell-quote-argument buffer-file-name))))
+  (compile (mandoc-lint-command buffer-file-name)))
 
 (provide 'mandoc)
 ;;; mandoc.el ends here

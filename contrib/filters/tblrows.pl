@@ -10,11 +10,30 @@ my $GAP = 3;              # columns between two cells
 my $LEAST = 8;            # columns that a cell of text has at least
 
 # An escape of roff, and the letters of those that print nothing.
-my $ESCAPE = qr/\\(?:f(?:\(..|\[[^]]*\]|.)|\[[^]]*\]|\(..|\*\(..|\*\[[^]]*\]|\*.|s[-+]?\d|[hvm]'[^']*'|m\[[^]]*\]|.)/;
+my $ESCAPE = qr/\\(?:f(?:\(..|\[[^]\\]*\]|.)|\[[^]\\]*\]|\(..|\*\(..|\*\[[^]\\]*\]|\*.|s[-+]?\d|[hvm]'[^']*'|m\[[^]\\]*\]|.)/;
 my $SILENT = qr/^\\[fshvm&|^%\/,:c]/;
 
-# A word: blanks that are escaped are part of it.
-my $WORD = qr/(?:\\ |\S)+/;
+# A word: a blank after a backslash is part of it.
+my $WORD = qr/(?:[^\s\\]++|\\.?)++/;
+
+# Macros of fonts with the fonts of their words in turn, macros with words, and other macros and requests: any other line of a table is a row.
+my %FONTS = map { $_ => [split //] } qw(B I R BI BR IB IR RB RI);
+@FONTS{qw(SB SM)} = (['B'], ['R']);
+my %WORDS = map { $_ => 1 } qw(
+    Ad An Ao Aq Ar At Bo Bq Bro Brq Bsx Bx Cd Cm D1 Dl Do Dq Dv Dx Em En Eo Er Es Ev Fa Fd Fl Fn Fo Fr Ft Fx Ic In Lb Li Lk Ms Mt Nd Nm No
+    Nx Oo Op Ot Ox Pa Pf Po Pq Ql Qo Qq So Sq St Sx Sy Tn Ux Va Vt Xr nop
+    MR MT ME UR UE
+);
+my %REQUESTS = map { $_ => 1 } qw(
+    TH SH SS TP TQ LP PP P IP HP RS RE EX EE SY YS OP DT PD AT UC TS TE EQ EN PS PE
+    Ac Ap Bc Bd Bf Bk Bl Brc Bt Db Dc Dd Dt Ec Ed Ef Ek El Ex Fc Hf It Lp Ns Oc Os Pc Pp Qc Re Rs Rv Sc Sh Sm Ss Ta Tg Ud Xc Xo
+    ad af am am1 as as1 bp br c2 cc ce cflags ch cs cu da de de1 di ds ds1 dt ec el em eo ev ex fc fi fp fspecial ft ftr hc hcode hla hw hy
+    ie if ig in it lc lf lg ll ls lt mc mk na ne nf nh nm nn nr ns nx os pc pi pl pm pn po ps rd rj rm rn rr rs rt so sp ss sv ta tc ti tl
+    tm tr uf ul vs warn wh while color cp do fam fcolor gcolor mso nroff shift tkf trf troff
+);
+
+# The line at which a table ends.
+my $END = qr/^\.[ \t]*TE\b/;
 
 sub largest {
     my $most = shift;
@@ -24,8 +43,7 @@ sub largest {
 
 sub trimmed {
     my ($text) = @_;
-    $text =~ s/^\s+|\s+$//g;
-    return $text;
+    return $text =~ /^\s*(.*\S)/s ? $1 : '';
 }
 
 # How many columns a text has.
@@ -36,11 +54,11 @@ sub columns {
     return length $text;
 }
 
-# The words of a macro's line, with their quotes taken away.
+# The words of a macro's line, as roff parts them: a backslash and the next character are a pair, and a comment ends the line.
 sub arguments {
     my ($rest) = @_;
     my @words;
-    while ($rest =~ /\G\s*(?:"((?:[^"]|"")*)"?|(\S+))/g) {
+    while ($rest =~ /\G *(?:"([^"\\]*+(?:(?:""|\\(?!["#]).?)[^"\\]*+)*+)"?|((?:[^ \\]++|\\(?!["#]).?)++))/gs) {
         my ($quoted, $bare) = ($1, $2);
         $quoted =~ s/""/"/g if defined $quoted;
         push @words, $quoted // $bare;
@@ -48,24 +66,24 @@ sub arguments {
     return @words;
 }
 
-# The lines of a cell of text as one text: macros of fonts become escapes, and other requests go away.
+# The text of a line of a table: that of a macro of fonts or links with escapes in its place, of a row the line itself, and none of another request.
+sub text_of_line {
+    my ($line) = @_;
+    return $line if $line !~ /^[.'][ \t]*([^ \t\\]*)[ \t]*(.*)/s;
+    my ($name, @words) = ($1, arguments($2));
+    my $fonts = $FONTS{$name};
+    return undef if $name eq '' || $REQUESTS{$name} || !@words && ($fonts || $WORDS{$name});
+    return "\\f$$fonts[0]@words\\fR" if $fonts && @$fonts == 1;
+    my $count = 0;
+    return join('', map { "\\f$$fonts[$count++ % 2]$_" } @words) . '\\fR' if $fonts;
+    return "\\fI$words[0]\\fR" . (@words > 1 ? "($words[1])" : '') . join '', @words[2 .. $#words] if $name =~ /^(?:MR|Xr)$/;
+    return "<$words[0]>" if $name =~ /^(?:UR|MT)$/;
+    return $WORDS{$name} ? "@words" : $line;
+}
+
+# The lines of a cell of text as one text.
 sub text_of_lines {
-    my %font = (B => 'B', I => 'I', R => 'R', SB => 'B', SM => 'R');
-    my @texts;
-    for my $line (@_) {
-        if ($line !~ /^[.'][ \t]*(\w*)[ \t]*(.*)/) { push @texts, $line; next }
-        my ($name, @words) = ($1, arguments($2));
-        if ($font{$name}) {
-            push @texts, "\\f$font{$name}@words\\fR";
-        } elsif ($name =~ /^[BIR][BIR]$/) {
-            my $count = 0;
-            push @texts, join('', map { '\\f' . substr($name, $count++ % 2, 1) . $_ } @words) . '\\fR';
-        } elsif ($name eq 'MR') {
-            push @words, ('') x 3;
-            push @texts, "\\fI$words[0]\\fR($words[1])$words[2]";
-        }
-    }
-    return join "\n", @texts;
+    return join "\n", grep { defined } map { text_of_line($_) } @_;
 }
 
 # A text as rows of so many columns. A font goes on in the next row, and ends in each.
@@ -87,7 +105,7 @@ sub wrapped {
     my @whole;
     for my $row (@rows, "@row") {
         my $begun = $font . $row;
-        $font = $1 =~ /^[RP1]/ ? '' : "\\f$1" while $row =~ /\\f(\(..|\[[^]]*\]|.)/g;
+        $font = $1 =~ /^[RP1]/ ? '' : "\\f$1" while $row =~ /\\f(\(..|\[[^]\\]*\]|.)/g;
         push @whole, $begun . ($font ? '\\fR' : '');
     }
     return @whole;
@@ -100,7 +118,7 @@ sub formats {
     my @rows;
     for my $part (split /[\n,]/, $text) {
         my @row;
-        while ($part =~ /([lrcnas^])((?:[bixezudt]|f(?:\(..|\[[^]]*\]|[birp])|w(?:\([^)]*\)|\d+)|[pvm]-?\d+|\d+|\s)*)|[|_=-]/gi) {
+        while ($part =~ /([lrcnas^])((?:[bixezudt]|f(?:\(..|\[[^][]*\]|[birp])|w(?:\([^()]*\)|\d+)|[pvm]-?\d+|\d+|\s)*)|[|_=-]/gi) {
             next unless defined $1;
             my ($kind, $options) = (lc $1, $2 // '');
             push @row, { kind => $kind, font => $options =~ /b/i ? 'B' : $options =~ /i/i ? 'I' : '' };
@@ -115,34 +133,33 @@ sub take_formats {
     my ($lines) = @_;
     my $text = '';
     while (@$lines) {
-        $text .= shift(@$lines) . "\n";
-        last if $text =~ /\.\s*$/;
+        my $line = shift @$lines;
+        $text .= "$line\n";
+        last if $line =~ /\.\s*$/;
     }
     return formats($text);
 }
 
 # The cells of a row, each a text and whether it is filled: the row's first line, and the lines of its cells between T{ and T}, which are taken.
 sub take_cells {
-    my ($rest, $tab, $lines) = @_;
+    my ($line, $tab, $lines) = @_;
+    my @rest = split /\Q$tab\E/, $line, -1;
     my @cells;
-    while (1) {
-        my $is_last = $rest !~ /^(.*?)\Q$tab\E(.*)$/s;
-        my ($cell, $tail) = $is_last ? ($rest, '') : ($1, $2);
+    while (@rest) {
+        my $cell = shift @rest;
         if ($cell =~ /^\s*T\{\s*$/) {
             my @body;
             push @body, shift @$lines while @$lines && $lines->[0] !~ /^T\}/;
             push @cells, [text_of_lines(@body), 1];
-            $rest = substr(@$lines ? shift @$lines : 'T}', 2);
-            return @cells unless $rest =~ s/^\Q$tab\E//;
+            (undef, @rest) = split /\Q$tab\E/, @$lines ? shift @$lines : '', -1;
         } else {
             push @cells, [trimmed($cell), 0];
-            return @cells if $is_last;
-            $rest = $tail;
         }
     }
+    return @cells;
 }
 
-# The rows of a table, each with its cells and their formats; a row that is blank has none.
+# The rows of a table, each with its cells and their formats; a row that is blank has none, and that of a macro has its text besides.
 sub rows_of {
     my @lines = @_;
     my $tab = "\t";
@@ -151,11 +168,14 @@ sub rows_of {
     my (@rows, $count);
     while (@lines) {
         my $line = shift @lines;
+        my $text = text_of_line($line);
         if ($line =~ /^\.T&/) {
             @formats = take_formats(\@lines);
             $count = 0;
-        } elsif ($line =~ /^[.'](?!\d)/) {
-            push @rows, [[], []] if $line =~ /^\.sp/;
+        } elsif (!defined $text) {
+            push @rows, [[], []] if $line =~ /^\.[ \t]*sp\b/;
+        } elsif ($text ne $line) {
+            push @rows, [[], [], $text];
         } elsif ($line !~ /^\s*\\?[_=]\s*$/) {
             my @cells = take_cells($line, $tab, \@lines);
             my $place = largest(0, $#formats) < ($count //= 0) ? $#formats : $count;
@@ -166,7 +186,7 @@ sub rows_of {
     return @rows;
 }
 
-# How wide each column of a table is. A column of text gets what the others leave, the narrowest first.
+# How wide each column of a table is, at most as a whole row. A column of text gets what the others leave, the narrowest first.
 sub widths_of {
     my @rows = @_;
     my $count = largest(1, map { scalar @{$_->[0]} } @rows);
@@ -194,7 +214,7 @@ sub widths_of {
         $wide[$j] = largest($wide[$j], $wanted[$j] < $share ? $wanted[$j] : $share);
         $free -= $wide[$j];
     }
-    return @wide;
+    return map { $_ < $WIDTH ? $_ : $WIDTH } @wide;
 }
 
 # A text in a cell of so many columns.
@@ -208,21 +228,22 @@ sub padded {
 
 # The lines of a row of cells.
 sub lines_of {
-    my ($cells, $formats, @wide) = @_;
+    my ($wide, $cells, $formats, $macro) = @_;
+    return wrapped($macro, $WIDTH) if defined $macro;
     return '' unless @$cells;
     my @parts;
     for my $j (0 .. $#$cells) {
         my ($text, $is_filled) = @{$cells->[$j]};
         my $format = $formats->[$j] // { kind => 'l', font => '' };
-        my @texts = $is_filled ? wrapped($text, $wide[$j]) : ($text);
+        my @texts = $is_filled ? wrapped($text, $$wide[$j]) : ($text);
         @texts = map { length $_ ? "\\f$format->{font}$_\\fR" : $_ } @texts if $format->{font};
         push @parts, [@$cells > 1 ? $format->{kind} : 'l', @texts];
     }
     my @lines;
     for my $y (1 .. largest(map { $#$_ } @parts)) {
-        my $line = join ' ' x $GAP, map { padded($parts[$_][$y] // '', $parts[$_][0], $wide[$_]) } 0 .. $#parts;
-        $line =~ s/ +$//;
-        push @lines, $line =~ /^[.']/ ? "\\&$line" : $line;
+        my $line = join ' ' x $GAP, map { padded($parts[$_][$y] // '', $parts[$_][0], $$wide[$_]) } 0 .. $#parts;
+        ($line) = $line =~ /^(.*[^ ]|)/s;
+        push @lines, $line;
     }
     return @lines;
 }
@@ -231,7 +252,7 @@ sub lines_of {
 sub table {
     my @rows = rows_of(@_);
     my @wide = widths_of(@rows);
-    return ('.nf', (map { lines_of(@$_, @wide) } @rows), '.fi');
+    return ('.nf', (map { /^[.']/ ? "\\&$_" : $_ } map { lines_of(\@wide, @$_) } @rows), '.fi');
 }
 
 sub main {
@@ -240,15 +261,16 @@ sub main {
         $WIDTH = $ARGV[1];
     }
     my @lines = split /\n/, do { local $/; <STDIN> } // '', -1;
+    my $last = largest(-1, grep { $lines[$_] =~ $END } 0 .. $#lines);
+    $REQUESTS{$_} = 1 for map { /^[.'][ \t]*(?:(?:de|am)1?|als)[ \t]+([^ \t\\]+)/ } @lines;    # macros of the page
     my @out;
-    while (@lines) {
-        my $line = shift @lines;
-        my ($end) = $line =~ /^\.[ \t]*TS\b/ ? grep { $lines[$_] =~ /^\.[ \t]*TE\b/ } 0 .. $#lines : ();
-        if (defined $end) {
-            push @out, table(@lines[0 .. $end - 1]);
-            splice @lines, 0, $end + 1;
+    for (my $at = 0; $at < @lines; $at++) {
+        if ($at < $last && $lines[$at] =~ /^\.[ \t]*TS\b/) {
+            my $begin = ++$at;
+            $at++ until $lines[$at] =~ $END;
+            push @out, table(@lines[$begin .. $at - 1]);
         } else {
-            push @out, $line;
+            push @out, $lines[$at];
         }
     }
     print join "\n", @out;

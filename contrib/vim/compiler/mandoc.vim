@@ -8,7 +8,7 @@ let current_compiler = 'mandoc'
 let s:cpo = &cpo
 set cpo&vim
 
-execute 'CompilerSet makeprg=' . escape(get(g:, 'mandoc_program', 'mandoc') . ' -T lint %:S', ' \|"')
+execute 'CompilerSet makeprg=' . escape(get(g:, 'mandoc_program', 'mandoc') . ' -T lint -- %:S', ' \|"')
 CompilerSet errorformat=%Emandoc:\ %f:%l:%c:\ ERROR:\ %m,
     \%Wmandoc:\ %f:%l:%c:\ WARNING:\ %m,
     \%Wmandoc:\ %f:%l:%c:\ UNSUPP:\ %m,

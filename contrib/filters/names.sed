@@ -1,0 +1,150 @@
+# For: what pages of mdoc(7) have by name: libraries (Lb), standards (St), versions of AT&T UNIX (At), lp and rp; and Rv without a function's name.
+# Needs: GNU sed.
+# Use: LC_ALL=C sed -f names.sed PAGE | mandoc
+
+# Parentheses of functions' types
+/^\.[ \t]*Dd[ \t]/ a\
+.ds lp (\
+.ds rp )
+
+# Libraries: each row puts a title behind a name, and the last two make one argument of both
+/^\.[ \t]*Lb[ \t]/ {
+s/\<libarm\>/&<ARM Architecture Library>/
+s/\<libarm32\>/&<ARM32 Architecture Library>/
+s/\<libbluetooth\>/&<Bluetooth Library>/
+s/\<libbsm\>/&<Basic Security Module Library>/
+s/\<libc\>/&<Standard C Library>/
+s/\<libc_r\>/&<Reentrant C Library>/
+s/\<libcalendar\>/&<Calendar Arithmetic Library>/
+s/\<libcam\>/&<Common Access Method User Library>/
+s/\<libcdk\>/&<Curses Development Kit Library>/
+s/\<libcipher\>/&<FreeSec Crypt Library>/
+s/\<libcompat\>/&<Compatibility Library>/
+s/\<libcrypt\>/&<Crypt Library>/
+s/\<libcurses\>/&<Curses Library>/
+s/\<libdevinfo\>/&<Device and Resource Information Utility Library>/
+s/\<libdevstat\>/&<Device Statistics Library>/
+s/\<libdisk\>/&<Interface to Slice and Partition Labels Library>/
+s/\<libdwarf\>/&<DWARF Access Library>/
+s/\<libedit\>/&<Command Line Editor Library>/
+s/\<libelf\>/&<ELF Access Library>/
+s/\<libevent\>/&<Event Notification Library>/
+s/\<libfetch\>/&<File Transfer Library>/
+s/\<libform\>/&<Curses Form Library>/
+s/\<libgeom\>/&<Userland API Library for Kernel GEOM subsystem>/
+s/\<libi386\>/&<i386 Architecture Library>/
+s/\<libintl\>/&<Internationalized Message Handling Library>/
+s/\<libipsec\>/&<IPsec Policy Control Library>/
+s/\<libiscsi\>/&<iSCSI protocol library>/
+s/\<libjail\>/&<Jail Library>/
+s/\<libkiconv\>/&<Kernel-side iconv Library>/
+s/\<libkse\>/&<N:M Threading Library>/
+s/\<libkvm\>/&<Kernel Data Access Library>/
+s/\<libm\>/&<Math Library>/
+s/\<libm68k\>/&<m68k Architecture Library>/
+s/\<libmagic\>/&<Magic Number Recognition Library>/
+s/\<libmd\>/&<Message Digest (MD4, MD5, etc.) Support Library>/
+s/\<libmemstat\>/&<Kernel Memory Allocator Statistics Library>/
+s/\<libmenu\>/&<Curses Menu Library>/
+s/\<libnetgraph\>/&<Netgraph User Library>/
+s/\<libnetpgp\>/&<Netpgp Signing, Verification, Encryption and Decryption>/
+s/\<libnv\>/&<Name\/value pairs library>/
+s/\<libossaudio\>/&<OSS Audio Emulation Library>/
+s/\<libpam\>/&<Pluggable Authentication Module Library>/
+s/\<libpcap\>/&<Packet capture Library>/
+s/\<libpci\>/&<PCI Bus Access Library>/
+s/\<libpmc\>/&<Performance Counters Library>/
+s/\<libposix\>/&<POSIX Compatibility Library>/
+s/\<libprop\>/&<Property Container Object Library>/
+s/\<libpthread\>/&<POSIX Threads Library>/
+s/\<libpuffs\>/&<puffs Convenience Library>/
+s/\<librefuse\>/&<File System in Userspace Convenience Library>/
+s/\<libresolv\>/&<DNS Resolver Library>/
+s/\<librpcsec_gss\>/&<RPC GSS-API Authentication Library>/
+s/\<librpcsvc\>/&<RPC Service Library>/
+s/\<librt\>/&<POSIX Real-time Library>/
+s/\<libsdp\>/&<Bluetooth Service Discovery Protocol User Library>/
+s/\<libssp\>/&<Buffer Overflow Protection Library>/
+s/\<libtermcap\>/&<Termcap Access Library>/
+s/\<libterminfo\>/&<Terminal Information Library>/
+s/\<libthr\>/&<1:1 Threading Library>/
+s/\<libufs\>/&<UFS File System Access Library>/
+s/\<libugidfw\>/&<File System Firewall Interface Library>/
+s/\<libulog\>/&<User Login Record Library>/
+s/\<libusbhid\>/&<USB Human Interface Devices Library>/
+s/\<libutil\>/&<System Utilities Library>/
+s/\<libvgl\>/&<Video Graphics Library>/
+s/\<libx86_64\>/&<x86_64 Architecture Library>/
+s/\<libz\>/&<Compression Library>/
+s/\<lib\([A-Za-z0-9_]*\)<\([^>]*\)>/"\2 (lib\1, -l\1)"/g
+s/\([ \t]\)\(lib[A-Za-z0-9_+-]*\)$/\1"library \\(lq\2\\(rq"/
+}
+
+# Standards, also in the line of another macro
+/^\.\(.*[ \t]\)\{0,1\}St[ \t]\{1,\}-/ {
+s/\([. \t]St[ \t]\{1,\}\)\(-[^ \t]*\)/\1<\2>/
+s/<-ansiC>/"ANSI X3.159-1989 (\\(lqANSI C89\\(rq)"/
+s/<-ansiC-89>/"ANSI X3.159-1989 (\\(lqANSI C89\\(rq)"/
+s/<-ieee754>/"IEEE Std 754-1985"/
+s/<-iso8601>/"ISO 8601"/
+s/<-iso8802-3>/"ISO 8802-3: 1989"/
+s/<-iso9945-1-90>/"ISO\/IEC 9945-1:1990 (\\(lqPOSIX.1\\(rq)"/
+s/<-iso9945-1-96>/"ISO\/IEC 9945-1:1996 (\\(lqPOSIX.1\\(rq)"/
+s/<-iso9945-2-93>/"ISO\/IEC 9945-2:1993 (\\(lqPOSIX.2\\(rq)"/
+s/<-isoC>/"ISO\/IEC 9899:1990 (\\(lqISO C90\\(rq)"/
+s/<-isoC-2011>/"ISO\/IEC 9899:2011 (\\(lqISO C11\\(rq)"/
+s/<-isoC-90>/"ISO\/IEC 9899:1990 (\\(lqISO C90\\(rq)"/
+s/<-isoC-99>/"ISO\/IEC 9899:1999 (\\(lqISO C99\\(rq)"/
+s/<-p1003\.1>/"IEEE Std 1003.1 (\\(lqPOSIX.1\\(rq)"/
+s/<-p1003\.1-2001>/"IEEE Std 1003.1-2001 (\\(lqPOSIX.1\\(rq)"/
+s/<-p1003\.1-2004>/"IEEE Std 1003.1-2004 (\\(lqPOSIX.1\\(rq)"/
+s/<-p1003\.1-2008>/"IEEE Std 1003.1-2008 (\\(lqPOSIX.1\\(rq)"/
+s/<-p1003\.1-88>/"IEEE Std 1003.1-1988 (\\(lqPOSIX.1\\(rq)"/
+s/<-p1003\.1-90>/"IEEE Std 1003.1-1990 (\\(lqPOSIX.1\\(rq)"/
+s/<-p1003\.1-96>/"ISO\/IEC 9945-1:1996 (\\(lqPOSIX.1\\(rq)"/
+s/<-p1003\.1b-93>/"IEEE Std 1003.1b-1993 (\\(lqPOSIX.1b\\(rq)"/
+s/<-p1003\.1c-95>/"IEEE Std 1003.1c-1995 (\\(lqPOSIX.1c\\(rq)"/
+s/<-p1003\.1g-2000>/"IEEE Std 1003.1g-2000 (\\(lqPOSIX.1g\\(rq)"/
+s/<-p1003\.1i-95>/"IEEE Std 1003.1i-1995 (\\(lqPOSIX.1i\\(rq)"/
+s/<-p1003\.2>/"IEEE Std 1003.2 (\\(lqPOSIX.2\\(rq)"/
+s/<-p1003\.2-92>/"IEEE Std 1003.2-1992 (\\(lqPOSIX.2\\(rq)"/
+s/<-p1003\.2a-92>/"IEEE Std 1003.2a-1992 (\\(lqPOSIX.2\\(rq)"/
+s/<-susv2>/"Version 2 of the Single UNIX Specification (\\(lqSUSv2\\(rq)"/
+s/<-susv3>/"Version 3 of the Single UNIX Specification (\\(lqSUSv3\\(rq)"/
+s/<-susv4>/"Version 4 of the Single UNIX Specification (\\(lqSUSv4\\(rq)"/
+s/<-svid4>/"System V Interface Definition, Fourth Edition (\\(lqSVID4\\(rq)"/
+s/<-xbd5>/"X\/Open Base Definitions Issue 5 (\\(lqXBD5\\(rq)"/
+s/<-xcu5>/"X\/Open Commands and Utilities Issue 5 (\\(lqXCU5\\(rq)"/
+s/<-xcurses4\.2>/"X\/Open Curses Issue 4, Version 2 (\\(lqXCURSES4.2\\(rq)"/
+s/<-xns5>/"X\/Open Networking Services Issue 5 (\\(lqXNS5\\(rq)"/
+s/<-xns5\.2>/"X\/Open Networking Services Issue 5.2 (\\(lqXNS5.2\\(rq)"/
+s/<-xpg3>/"X\/Open Portability Guide Issue 3 (\\(lqXPG3\\(rq)"/
+s/<-xpg4>/"X\/Open Portability Guide Issue 4 (\\(lqXPG4\\(rq)"/
+s/<-xpg4\.2>/"X\/Open Portability Guide Issue 4, Version 2 (\\(lqXPG4.2\\(rq)"/
+s/<-xsh5>/"X\/Open System Interfaces and Headers Issue 5 (\\(lqXSH5\\(rq)"/
+s/\([. \t]St[ \t]\{1,\}\)<\(-[^ \t]*\)>/\1\2/
+}
+
+# Versions of AT&T UNIX
+/^\.[ \t]*At\([ \t]\|$\)/ {
+s/At[ \t]*$/At "AT\&T UNIX"/
+s/At[ \t]\{1,\}\([^" \t]\{1,\}\)/At <\1>/
+s/<v1>/"Version 1 AT\&T UNIX"/
+s/<v2>/"Version 2 AT\&T UNIX"/
+s/<v3>/"Version 3 AT\&T UNIX"/
+s/<v4>/"Version 4 AT\&T UNIX"/
+s/<v5>/"Version 5 AT\&T UNIX"/
+s/<v6>/"Version 6 AT\&T UNIX"/
+s/<v7>/"Version 7 AT\&T UNIX"/
+s/<32v>/"Version 7 AT\&T UNIX\/32V"/
+s/<III>/"AT\&T System III UNIX"/
+s/<V>/"AT\&T System V UNIX"/
+s/<V\.1>/"AT\&T System V Release 1 UNIX"/
+s/<V\.2>/"AT\&T System V Release 2 UNIX"/
+s/<V\.3>/"AT\&T System V Release 3 UNIX"/
+s/<V\.4>/"AT\&T System V Release 4 UNIX"/
+s/<\([^<>]*\)>/\1/
+}
+
+s/^\.[ \t]*Rv[ \t]*-std[ \t]*$/Upon successful completion, the value 0 is returned;\
+otherwise the value \\-1 is returned and the global variable errno is set to indicate the error./
