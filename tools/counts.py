@@ -10,6 +10,7 @@ import re
 import subprocess
 
 from rooms import TOP, lines
+from sizes import BOUND
 
 PRODUCT = "mandoc_cli"
 FILE = "docs/counts.txt"
@@ -85,8 +86,9 @@ def in_files():
 
 
 def counts_text():
-    """What docs/counts.txt has to say."""
-    return HEAD + "".join(f"{name}: {number}\n" for name, number in in_files().items())
+    """What docs/counts.txt has to say. The bound of lines stays as it is: it is raised by hand."""
+    rows = {**in_files(), BOUND: stated()[BOUND]}
+    return HEAD + "".join(f"{name}: {number}\n" for name, number in rows.items())
 
 
 @functools.lru_cache
@@ -100,5 +102,5 @@ def wrong_counts():
     """What docs/counts.txt says otherwise than the files have it."""
     said, there = stated(), in_files()
     for name in {**said, **there}:
-        if said.get(name) != there.get(name):
+        if name != BOUND and said.get(name) != there.get(name):
             yield f"{FILE}: {name}: {said.get(name, 'no number')}, and the files have {there.get(name, 'none')}"

@@ -267,32 +267,32 @@ pub(crate) fn row_of(name: &[u8]) -> Option<Row>
 
 // The table: the names by their first letter. The place of a list is its letter's number: from 1 for `A`.
 static MACROS: [&[(&[u8], Row)]; 26] = [
-    &[],
-    &[(b"AT", ignored!())],
-    &[
+    &[], // before A
+    &[(b"AT", ignored!())], // A
+    &[ // B
         (b"B", font_words!(FontMacro::B, Font::B)),
         (b"BR", alternating!(Font::B, Font::R)),
         (b"BI", alternating!(Font::B, Font::I)),
     ],
-    &[],
-    &[(b"DT", ignored!())],
-    &[
+    &[], // C
+    &[(b"DT", ignored!())], // D
+    &[ // E
         (b"EX", quiet!(Sets::Example(true))),
         (b"EE", quiet!(Sets::Example(false))),
     ],
-    &[],
-    &[],
-    &[(b"HP", opening!(0, Opens::Hanging))],
-    &[
+    &[], // F
+    &[], // G
+    &[(b"HP", opening!(0, Opens::Hanging))], // H
+    &[ // I
         (b"I", font_words!(FontMacro::I, Font::I)),
         (b"IP", opening!(1, Opens::Indented)),
         (b"IR", alternating!(Font::I, Font::R)),
         (b"IB", alternating!(Font::I, Font::B)),
     ],
-    &[],
-    &[],
-    &[(b"LP", opening!(0, Opens::Paragraph(ParagraphName::LP)))],
-    &[
+    &[], // J
+    &[], // K
+    &[(b"LP", opening!(0, Opens::Paragraph(ParagraphName::LP)))], // L
+    &[ // M
         (b"MT", opening_with_argument!(Opens::Target(Link::MT))),
         (
             b"ME",
@@ -308,7 +308,8 @@ static MACROS: [&[(&[u8], Row)]; 26] = [
             ),
         ),
     ],
-    &[],
+    &[], // N
+    // O
     &[(
         b"OP",
         needs_words!(
@@ -318,19 +319,19 @@ static MACROS: [&[(&[u8], Row)]; 26] = [
             Last::Mark(GeneratedText::CloseBracket)
         ),
     )],
-    &[
+    &[ // P
         (b"PP", opening!(0, Opens::Paragraph(ParagraphName::PP))),
         (b"P", opening!(0, Opens::Paragraph(ParagraphName::P))),
         (b"PD", quiet!(Sets::Distance)),
     ],
-    &[],
-    &[
+    &[], // Q
+    &[ // R
         (b"RB", alternating!(Font::R, Font::B)),
         (b"RI", alternating!(Font::R, Font::I)),
         (b"RS", opening!(0, Opens::RelativeMargin)),
         (b"RE", closing!(Closes::RelativeMargin)),
     ],
-    &[
+    &[ // S
         (b"SH", heading!(Opens::Section)),
         (b"SS", heading!(Opens::Subsection)),
         (b"SM", font_words!(FontMacro::SM, Font::R)),
@@ -340,7 +341,7 @@ static MACROS: [&[(&[u8], Row)]; 26] = [
             with_further_words!(Alone::Empty, Effect::Opens(Opens::Syntax)),
         ),
     ],
-    &[
+    &[ // T
         (b"TP", opening!(0, Opens::Tagged)),
         (
             b"TQ",
@@ -352,7 +353,7 @@ static MACROS: [&[(&[u8], Row)]; 26] = [
         ),
         (b"TH", quiet!(Sets::Title)),
     ],
-    &[
+    &[ // U
         (b"UR", opening_with_argument!(Opens::Target(Link::UR))),
         (
             b"UE",
@@ -360,8 +361,8 @@ static MACROS: [&[(&[u8], Row)]; 26] = [
         ),
         (b"UC", ignored!()),
     ],
-    &[],
-    &[],
-    &[],
-    &[(b"YS", closing!(Closes::Syntax))],
+    &[], // V
+    &[], // W
+    &[], // X
+    &[(b"YS", closing!(Closes::Syntax))], // Y
 ];

@@ -1,0 +1,64 @@
+"""How many lines there are of each kind, in all `.rt` and `.antt` files: what the program is made of, what is believed of it, and what proves and tests it.
+
+The number of them all stays below a bound, which stands in docs/counts.txt: a change that needs more raises it, and its commit says what the lines buy.
+"""
+import collections
+import glob
+import re
+
+from rooms import TOP, lines
+
+BOUND = "lines of .rt and .antt, at most"
+# What begins a line of a contract, or of what only contracts use; it goes on in the lines that are further right than this one.
+CONTRACT = re.compile(r"\s*(?:requires|ensures|ghost|prove!|#\[tactic)\b")
+TESTS = re.compile(r"_(?:checks|cases|streams)$|^page_(?:worked|outline|preview)")
+
+
+def contracts_in(text):
+    """How many lines of a source are contracts."""
+    margin, count = None, 0
+    for line in filter(str.strip, text):
+        begins = len(line) - len(line.lstrip())
+        if CONTRACT.match(line):
+            margin = begins
+        elif margin is None or begins <= margin:
+            margin = None
+            continue
+        count += 1
+    return count
+
+
+def sizes():
+    """The number of lines of each kind."""
+    found = collections.Counter({kind: 0 for kind in ("code", "contracts", "definitions", "machines", "proofs", "tests")})
+    for crate in lines():
+        for path in glob.glob(f"{TOP}/crates/{crate}/*/**/*", recursive=True):
+            if not path.endswith((".rt", ".antt")) or f"/{crate}/out/" in path:
+                continue
+            with open(path, encoding="utf-8") as file:
+                text = file.readlines()
+            if TESTS.search(crate):
+                found["tests"] += len(text)
+            elif path.endswith(".rt"):
+                found["contracts"] += contracts_in(text)
+                found["code"] += len(text) - contracts_in(text)
+            elif "/proofs/" in path:
+                found["proofs"] += len(text)
+            else:
+                found["machines" if "/specs/machine" in path else "definitions"] += len(text)
+    return found
+
+
+def print_sizes():
+    """Prints them, and their sum."""
+    found = sizes()
+    for kind, count in found.items():
+        print(f"{count:7,} {kind}")
+    print(f"{sum(found.values()):7,} lines of .rt and .antt")
+
+
+def wrong_sizes(bound):
+    """Whether there are more lines than the bound says."""
+    count = sum(sizes().values())
+    if count > bound:
+        yield f"docs/counts.txt: there are {count:,} lines of .rt and .antt, and it says {bound:,} at most"
