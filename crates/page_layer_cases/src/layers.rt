@@ -7,6 +7,8 @@ pub(crate) enum Layer {
     Core,
     /// Lines, names, conditions and definitions, and a source of lines.
     Roff,
+    /// What sets of macros make of lines.
+    Sets,
     /// What the events of lines open and close.
     Scopes,
 }
@@ -16,6 +18,7 @@ pub(crate) fn layer_below(line: &str) -> Option<Layer> {
     match line {
         "==== core" => Some(Layer::Core),
         "==== roff" => Some(Layer::Roff),
+        "==== sets" => Some(Layer::Sets),
         "==== scopes" => Some(Layer::Scopes),
         _ => None,
     }

@@ -19,13 +19,14 @@ mod names;
 mod sources;
 mod texts;
 
+use crate::bytes::repeated;
 use crate::layers::{Layer, layer_below};
 use changes::{show_change, show_given, show_meaning};
 use definitions::{show_mode, show_request};
 use forms::{show_form, show_kept, show_others, show_words};
 use heads::{show_end, show_guarded, show_head};
 use names::{Roff, show_number, show_register, show_string};
-use sources::{Page, repeated};
+use sources::Page;
 use std::io;
 use texts::{show_condition, show_more, show_text};
 

@@ -1,11 +1,11 @@
 //! The lines of a script, of which what opens and closes scopes is passed over.
 
+use crate::collected::events_of;
 use page_core_base::{Form, Taken};
 use page_roff_syntax::{LineForm, form_of};
 use page_scopes_nodes::give_kind;
 use page_scopes_phrases::Formatting;
 use page_sets::{Event, EventKind, Leaf, Man};
-use page_sets_checks::events_of;
 use page_test_streams::Shown;
 use std::alloc::Global;
 use std::process::Abort;

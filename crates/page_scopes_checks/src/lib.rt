@@ -4,6 +4,8 @@
 #![tactic(auto)]
 
 #[cfg(test)]
+mod collected;
+#[cfg(test)]
 mod context_tests;
 #[cfg(test)]
 mod leaf_pages;

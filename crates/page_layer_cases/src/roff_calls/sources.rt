@@ -4,7 +4,7 @@ use crate::bytes::shown;
 use page_core_base::{Fault, Form, Settings, Taken, is_line};
 use page_core_streams::TextNotes;
 use page_roff_source::Roff;
-use std::alloc::{AllocError, Global};
+use std::alloc::Global;
 use std::io::{self, Write};
 
 /// What a source line may give at most: its finished lines, and that there are no more.
@@ -106,19 +106,4 @@ fn show_times(rt: &HostRuntime, line: &[u8], times: u32) {
         1 => print!(rt; "\n{line}"),
         _ => print!(rt; "\n{times} times {line}"),
     };
-}
-
-/// A text in which each `~N*TEXT~` stands for the text N times.
-pub(crate) fn repeated(alloc: Global, text: &str) -> Result<String, AllocError> {
-    let mut whole = String::new(alloc);
-    for (index, part) in text.split('~').enumerate() {
-        let (times, part) = match part.split_once('*') {
-            Some((times, repeats)) if index % 2 == 1 => (times.parse().unwrap_or(1u32), repeats),
-            _ => (1, part),
-        };
-        for _ in 0..times {
-            whole.push_str(part)?;
-        }
-    }
-    Ok(whole)
 }

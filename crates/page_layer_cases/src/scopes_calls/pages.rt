@@ -1,16 +1,17 @@
 //! A page, whose lines come one by one.
 
-ghost use Rattle.std.specs.Prelude.{◌≡◌, ◌≤◌, length};
+ghost use Rattle.std.specs.Prelude.{◌≤◌, length};
 ghost use Rattle.page_sets_lines.specs.Fits.{KindFits};
 ghost use Rattle.page_sets_lines.specs.Events.{kind_view};
 
 use super::shown::{Shown, nothing};
+use super::spelled::{read_spelled, spelled_kind, spelled_list};
+use crate::lines::{taken, unnamed};
+use crate::verbatim::Verbatim;
 use page_core_base::{Form, LINE, Output, Place, Taken};
-use page_roff_syntax::{LineForm, form_of};
 use page_scopes::OpenScopes;
 use page_scopes_nodes::PageLayout;
 use page_sets::Man;
-use page_sets_checks::{Verbatim, read_spelled, spelled_kind, spelled_list};
 use page_sets_lines::{Event, EventKind, MacroSet};
 use std::alloc::{AllocError, Global};
 
@@ -21,43 +22,14 @@ pub(crate) struct Page {
     line: u32,
 }
 
-// What a line is, and the bytes up to the end of its name.
-fn form_and_name(text: &[u8]) -> (Form, u32)
-    requires { length text.now ≤ LINE }
-{
-    match form_of(text) {
-        LineForm::Control { rest_column, .. } => (Form::Control, rest_column.saturating_sub(1)),
-        LineForm::Comment | LineForm::BlankLine => (Form::Blank, 0),
-        LineForm::Text(_) => (Form::Text, 0),
-    }
-}
-
-// A line of a table.
-fn raw_line(text: &[u8], line: u32) -> Taken<'_>
-    ensures { result.text.now ≡ text.now }
-{
-    Taken {
-        form: Form::Raw,
-        text,
-        line,
-        name_end: 0,
-    }
-}
-
-// A line as roff hands it to a macro set.
-fn taken(text: &[u8], line: u32) -> Taken<'_>
+// A line as roff hands it to a macro set; one that begins with `|` is one of a table.
+fn line_of(text: &[u8], line: u32) -> Taken<'_>
     requires { length text.now ≤ LINE }
     ensures { length result.text.now ≤ length text.now }
 {
-    if let [b'|', raw @ ..] = text {
-        return raw_line(raw, line);
-    }
-    let (form, name_end) = form_and_name(text);
-    Taken {
-        form,
-        text,
-        line,
-        name_end,
+    match text {
+        [b'|', raw @ ..] => unnamed(Form::Raw, raw, line),
+        _ => taken(text, line),
     }
 }
 
@@ -134,10 +106,10 @@ impl Page {
         requires { length text.now ≤ LINE }
     {
         if let [b'^', raw @ ..] = text {
-            let line = raw_line(raw, self.line);
+            let line = unnamed(Form::Raw, raw, self.line);
             give_line(&Verbatim, line, &mut self.scopes, out);
         } else {
-            give_line(&Man, taken(text, self.line), &mut self.scopes, out);
+            give_line(&Man, line_of(text, self.line), &mut self.scopes, out);
         }
     }
 

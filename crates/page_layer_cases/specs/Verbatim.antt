@@ -7,8 +7,8 @@ use Rattle.page_core_base.specs.LinesTaken.{Line}
 use Rattle.page_sets_lines.specs.Laws.{AreSlices, AreInOrder}
 use Rattle.page_sets_lines.specs.PlainLines.{event_at, line_end, line_start}
 use Rattle.page_sets_lines.proofs.LawLemmas.{whole_part}
-use Rattle.page_sets_checks.specs.declared.verbatim.Stage.{Stage}
-use Rattle.page_sets_checks.specs.declared.verbatim.Stage.TheVariants.{Start, Shown, Ended}
+use Rattle.page_layer_cases.specs.declared.verbatim.Stage.{Stage}
+use Rattle.page_layer_cases.specs.declared.verbatim.Stage.TheVariants.{Start, Shown, Ended}
 
 abbrev pub verbatim_events : Line → List (Event (List ℕ))
 verbatim_events line = event_at (line_start line.number) (Raw line.text) ∷ line_end line.number false ∷ []

@@ -1,21 +1,17 @@
-//! Events as short texts: column, kind, name and texts, as in `2 open TP 4`. A quoted text keeps the quotes that
-//! it has. A `+` before or after the kind says that no blank is there, and a `_` that one is there after `Sm off` too.
+//! Events as short texts: column, kind, name and texts, as in `2 open TP 4`. A quoted text keeps the quotes that it has. A `+` before or after the
+//! kind says that no blank is there, and a `_` that one is there after `Sm off` too.
 
-ghost use Rattle.std.specs.Prelude.{◌≤◌, length};
-
-use arrayvec::ArrayVec;
-use page_core_base::{Font, LINE, NoteKind, Taken};
+use crate::bytes::shown;
+use page_core_base::{Font, NoteKind};
 use page_roff_syntax::{Argument, Quoting};
 use page_sets::{
     BlockCloser, BlockOpener, Closer, Event, EventKind, GeneratedWord, Join, Leaf, LineStep,
-    MacroSet, Opener, Request, Role, SynopsisStep, Word,
+    Opener, Request, Role, SynopsisStep, Word,
 };
-
-pub type Spelling = ArrayVec<u8, 500>;
 
 // An event to be spelled.
 #[derive(Drop)]
-struct Shown<'a> {
+struct Spelled<'a> {
     before: Join,
     kind: &'static str,
     after: Join,
@@ -24,7 +20,7 @@ struct Shown<'a> {
     second: Option<Argument<&'a [u8]>>,
 }
 
-fn alone<'a>(kind: &'static str, name: &'static str) -> Shown<'a> {
+fn alone<'a>(kind: &'static str, name: &'static str) -> Spelled<'a> {
     with(kind, name, None)
 }
 
@@ -32,8 +28,8 @@ fn with<'a>(
     kind: &'static str,
     name: &'static str,
     first: Option<Argument<&'a [u8]>>,
-) -> Shown<'a> {
-    Shown {
+) -> Spelled<'a> {
+    Spelled {
         before: Join::Apart,
         kind,
         after: Join::Apart,
@@ -68,23 +64,23 @@ fn font_name(font: Option<Font>) -> &'static str {
     }
 }
 
-fn show_word<'a>(word: Word<&'a [u8]>) -> Shown<'a> {
+fn spelled_word<'a>(word: Word<&'a [u8]>) -> Spelled<'a> {
     let kind = match word.role {
         Role::Line => "line",
         Role::Argument => "word",
         Role::Delimiter => "delimiter",
         Role::Name { .. } => "name",
     };
-    Shown {
+    Spelled {
         before: word.before,
         after: word.after,
         ..with(kind, font_name(word.font), Some(word.arg))
     }
 }
 
-fn show_generated<'a>(word: GeneratedWord) -> Shown<'a> {
+fn spelled_generated<'a>(word: GeneratedWord) -> Spelled<'a> {
     let text = bare(word.text.text().as_bytes());
-    Shown {
+    Spelled {
         before: word.before,
         after: if word.text.joins_next() {
             Join::Glued
@@ -105,7 +101,7 @@ fn display_kind(is_literal: bool, is_compact: bool) -> &'static str {
     }
 }
 
-fn show_block_opener<'a>(opener: BlockOpener<&'a [u8]>) -> Shown<'a> {
+fn spelled_block_opener<'a>(opener: BlockOpener<&'a [u8]>) -> Spelled<'a> {
     let name = opener.block().name();
     match opener {
         BlockOpener::List {
@@ -127,7 +123,7 @@ fn show_block_opener<'a>(opener: BlockOpener<&'a [u8]>) -> Shown<'a> {
     }
 }
 
-fn show_block_closer<'a>(closer: BlockCloser<&'a [u8]>) -> Shown<'a> {
+fn spelled_block_closer<'a>(closer: BlockCloser<&'a [u8]>) -> Spelled<'a> {
     let name = closer.block().closer_name();
     match closer {
         BlockCloser::Custom(mark) => with("close", name, mark),
@@ -135,14 +131,14 @@ fn show_block_closer<'a>(closer: BlockCloser<&'a [u8]>) -> Shown<'a> {
     }
 }
 
-fn show_opener<'a>(opener: Opener<&'a [u8]>) -> Shown<'a> {
+fn spelled_opener<'a>(opener: Opener<&'a [u8]>) -> Spelled<'a> {
     match opener {
         Opener::Item => alone("open", "It"),
         Opener::Section => alone("open", "SH"),
         Opener::Subsection => alone("open", "SS"),
         Opener::Paragraph(name) => alone("open", name.name()),
         Opener::Tagged(hang) => with("open", "TP", given(hang)),
-        Opener::Indented { tag, hang } => Shown {
+        Opener::Indented { tag, hang } => Spelled {
             second: given(hang),
             ..with("open", "IP", tag)
         },
@@ -150,22 +146,22 @@ fn show_opener<'a>(opener: Opener<&'a [u8]>) -> Shown<'a> {
         Opener::RelativeMargin(columns) => with("open", "RS", given(columns)),
         Opener::Target(link, target) => with("open", link.name(), Some(target)),
         Opener::Syntax(name) => with("open", "SY", Some(name)),
-        Opener::Block(opener) => show_block_opener(opener),
+        Opener::Block(opener) => spelled_block_opener(opener),
     }
 }
 
-fn show_closer<'a>(closer: Closer<&'a [u8]>) -> Shown<'a> {
+fn spelled_closer<'a>(closer: Closer<&'a [u8]>) -> Spelled<'a> {
     match closer {
         Closer::Line => alone("close", "lines"),
         Closer::RelativeMargin(number) => with("close", "RE", given(number)),
         Closer::Target(link, suffix) => with("close", link.closer_name(), suffix),
         Closer::Syntax => alone("close", "YS"),
         Closer::Enclosures => alone("close", "enclosures"),
-        Closer::Block(closer) => show_block_closer(closer),
+        Closer::Block(closer) => spelled_block_closer(closer),
     }
 }
 
-fn show_request<'a>(request: Request<&'a [u8]>) -> Shown<'a> {
+fn spelled_request<'a>(request: Request<&'a [u8]>) -> Spelled<'a> {
     match request {
         Request::Break => alone("request", "br"),
         Request::Space(rows) => with("request", "sp", given(rows)),
@@ -194,7 +190,7 @@ fn synopsis_name(step: SynopsisStep) -> &'static str {
     }
 }
 
-fn show_step<'a>(step: LineStep<&'a [u8]>) -> Shown<'a> {
+fn spelled_step<'a>(step: LineStep<&'a [u8]>) -> Spelled<'a> {
     match step {
         LineStep::NextColumn => alone("column", ""),
         LineStep::Glue => alone("glue", ""),
@@ -209,22 +205,22 @@ fn show_step<'a>(step: LineStep<&'a [u8]>) -> Shown<'a> {
     }
 }
 
-fn show_leaf<'a>(leaf: Leaf<&'a [u8]>) -> Shown<'a> {
+fn spelled_leaf<'a>(leaf: Leaf<&'a [u8]>) -> Spelled<'a> {
     match leaf {
         Leaf::BlankLine => alone("blank", ""),
         Leaf::Wordless(text) => with("wordless", "", Some(bare(text))),
-        Leaf::Request(request) => show_request(request),
+        Leaf::Request(request) => spelled_request(request),
         Leaf::Prologue(name, rest) => with("title", name.name(), Some(bare(rest))),
-        Leaf::Generated(word) => show_generated(word),
+        Leaf::Generated(word) => spelled_generated(word),
         Leaf::Example(begins) => alone("example", if begins { "EX" } else { "EE" }),
         Leaf::Distance(rows) => with("distance", "PD", given(rows)),
         Leaf::Fonts(font) => alone("fonts", font_name(font)),
         Leaf::FurtherTag => alone("tag", "TQ"),
-        Leaf::Step(step) => show_step(step),
+        Leaf::Step(step) => spelled_step(step),
     }
 }
 
-fn show_note<'a>(kind: NoteKind, detail: &'a [u8], begins_body: bool) -> Shown<'a> {
+fn spelled_note<'a>(kind: NoteKind, detail: &'a [u8], begins_body: bool) -> Spelled<'a> {
     let name = match kind {
         NoteKind::EmptyMacro => "empty",
         NoteKind::UnknownMacro => "unknown",
@@ -242,13 +238,13 @@ fn show_note<'a>(kind: NoteKind, detail: &'a [u8], begins_body: bool) -> Shown<'
     with(if begins_body { "note!" } else { "note" }, name, detail)
 }
 
-fn show<'a>(kind: EventKind<&'a [u8]>) -> Shown<'a> {
+fn spelled<'a>(kind: EventKind<&'a [u8]>) -> Spelled<'a> {
     match kind {
-        EventKind::Word(word) => show_word(word),
-        EventKind::Open(opener) => show_opener(opener),
-        EventKind::Close(closer) => show_closer(closer),
+        EventKind::Word(word) => spelled_word(word),
+        EventKind::Open(opener) => spelled_opener(opener),
+        EventKind::Close(closer) => spelled_closer(closer),
         EventKind::LineScope(opener) => alone("scope", opener.name()),
-        EventKind::Leaf(leaf) => show_leaf(leaf),
+        EventKind::Leaf(leaf) => spelled_leaf(leaf),
         EventKind::Raw(text) => with("raw", "", Some(bare(text))),
         EventKind::End { fills } => alone(if fills { "filled" } else { "end" }, ""),
         EventKind::Note {
@@ -256,12 +252,8 @@ fn show<'a>(kind: EventKind<&'a [u8]>) -> Shown<'a> {
             detail,
             begins_body,
             ..
-        } => show_note(kind, detail, begins_body),
+        } => spelled_note(kind, detail, begins_body),
     }
-}
-
-fn put(out: &mut Spelling, text: &[u8]) {
-    let _ = out.try_extend_from_slice(text);
 }
 
 // How a word is beside another.
@@ -273,63 +265,29 @@ fn sign(join: Join) -> &'static str {
     }
 }
 
-fn put_kind(out: &mut Spelling, shown: &Shown<'_>) {
-    put(out, b" ");
-    put(out, sign(shown.before).as_bytes());
-    put(out, shown.kind.as_bytes());
-    put(out, sign(shown.after).as_bytes());
+fn show_text(rt: &HostRuntime, text: Option<Argument<&[u8]>>) {
+    let Some(argument) = text else {
+        return;
+    };
+    let (before, after) = match argument.quoting {
+        Quoting::Bare => ("", ""),
+        Quoting::Closed => ("\"", "\""),
+        Quoting::Unclosed => ("\"", ""),
+    };
+    let _ = print!(rt; " {before}{}{after}", shown(argument.text));
 }
 
-fn put_name(out: &mut Spelling, name: &str) {
-    if !name.is_empty() {
-        put(out, b" ");
-        put(out, name.as_bytes());
+/// Shows an event after a mark.
+pub(crate) fn show_event(rt: &HostRuntime, mark: &str, event: Event<&[u8]>) {
+    let spelled = spelled(event.kind);
+    let (before, after) = (sign(spelled.before), sign(spelled.after));
+    let _ = print!(rt;
+        "{mark}{} {before}{}{after}",
+        event.place.column, spelled.kind
+    );
+    if !spelled.name.is_empty() {
+        let _ = print!(rt; " {}", spelled.name);
     }
-}
-
-fn put_text(out: &mut Spelling, text: Option<Argument<&[u8]>>) {
-    if let Some(argument) = text {
-        put(out, b" ");
-        if argument.is_quoted() {
-            put(out, b"\"");
-        }
-        put(out, argument.text);
-        if let Quoting::Closed = argument.quoting {
-            put(out, b"\"");
-        }
-    }
-}
-
-// A column below 100.
-fn put_column(out: &mut Spelling, column: u32) {
-    if column >= 10 {
-        put(out, &[b'0' + (column / 10 % 10) as u8]);
-    }
-    put(out, &[b'0' + (column % 10) as u8]);
-}
-
-fn put_event(out: &mut Spelling, event: Event<&[u8]>) {
-    if !out.is_empty() {
-        put(out, b"; ");
-    }
-    let shown = show(event.kind);
-    put_column(out, event.place.column);
-    put_kind(out, &shown);
-    put_name(out, shown.name);
-    put_text(out, shown.first);
-    put_text(out, shown.second);
-}
-
-/// The events that a set gives of a line.
-pub fn spelled<S: MacroSet>(set: &S, line: Taken<'_>) -> Spelling
-where
-    S::Place: Drop,
-    requires { length line.text.now ≤ LINE }
-{
-    let mut out = ArrayVec::new();
-    let mut place = set.start(line);
-    while let Some(event) = set.next(line, &mut place) {
-        put_event(&mut out, event);
-    }
-    out
+    show_text(rt, spelled.first);
+    show_text(rt, spelled.second);
 }

@@ -230,7 +230,7 @@ fn unworded_kind<'a>(name: &str) -> EventKind<&'a [u8]>
 }
 
 /// What an event does, by its name in a column and its text.
-pub fn spelled_kind<'a>(
+pub(crate) fn spelled_kind<'a>(
     name: &str,
     column: u32,
     text: Option<Argument<&'a [u8]>>,
@@ -259,7 +259,7 @@ pub fn spelled_kind<'a>(
 }
 
 /// The list that begins with these arguments.
-pub fn spelled_list<'a>(options: &'a [u8]) -> EventKind<&'a [u8]>
+pub(crate) fn spelled_list<'a>(options: &'a [u8]) -> EventKind<&'a [u8]>
     ensures { KindFits (kind_view result) }
 {
     if options.len() > MOST {
@@ -274,7 +274,7 @@ pub fn spelled_list<'a>(options: &'a [u8]) -> EventKind<&'a [u8]>
 }
 
 /// The name and the text of an event that begins in a column.
-pub fn read_spelled(part: &str, column: u32) -> (&str, Option<Argument<&[u8]>>)
+pub(crate) fn read_spelled(part: &str, column: u32) -> (&str, Option<Argument<&[u8]>>)
     ensures { GivenFits (given_view result.1) }
 {
     let Some((name, text)) = part.split_once('=') else {

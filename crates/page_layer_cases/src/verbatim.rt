@@ -16,7 +16,7 @@ pub enum Stage {
 }
 
 impl MacroSet for Verbatim {
-    ghost use Rattle.page_sets_checks.specs.Verbatim.{verbatim_events, events_from, verbatim_slices, stage_slices, verbatim_in_order, verbatim_few};
+    ghost use Rattle.page_layer_cases.specs.Verbatim.{verbatim_events, events_from, verbatim_slices, stage_slices, verbatim_in_order, verbatim_few};
 
     type Place = Stage;
 
