@@ -2,6 +2,9 @@
 
 use std::alloc::{AllocError, Global};
 
+/// The most bytes of a text that is shown as it is.
+const MOST: usize = 1_000;
+
 /// A text that a call gives.
 pub(crate) fn shown(text: &[u8]) -> &str {
     std::str::from_utf8(text).unwrap_or("not UTF-8")
@@ -27,4 +30,34 @@ pub(crate) fn repeated(alloc: Global, text: &str) -> Result<String, AllocError> 
         }
     }
     Ok(whole)
+}
+
+/// Shows a text; of a long one each run of a character, as `N*C`.
+pub(crate) fn show_runs(rt: &HostRuntime, text: &str) {
+    if text.len() <= MOST {
+        let _ = print!(rt; "{text}");
+        return;
+    }
+    let mut run = None;
+    let mut times = 0u32;
+    for character in text.chars() {
+        if run != Some(character) {
+            show_run(rt, run, times);
+            run = Some(character);
+            times = 0;
+        }
+        times = times.saturating_add(1);
+    }
+    show_run(rt, run, times);
+}
+
+fn show_run(rt: &HostRuntime, run: Option<char>, times: u32) {
+    let Some(character) = run else {
+        return;
+    };
+    let _ = if times == 1 {
+        print!(rt; "{character}")
+    } else {
+        print!(rt; "{times}*{character}")
+    };
 }

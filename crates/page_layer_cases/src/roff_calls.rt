@@ -9,13 +9,15 @@
 //! - `set-string` .. `rename`, `is` and `given`: changes that may exceed a limit, and what they leave (`changes.rt`).
 //! - `if`, `text`, `copy` and `more`: a condition, and texts that are expanded (`texts.rt`).
 //! - `mode` and `request`: the requests for definitions (`definitions.rt`).
-//! - `line`, `lines N` and `page-end`: lines of the page, and its end (`sources.rt`).
+//! - `parts` and `loop-text`: the parts of a line, and what of it belongs to a loop (`parts.rt`).
+//! - `line`, `lines N`, `page-end` and `counts`: lines of the page, its end, and what is counted (`sources.rt`).
 
 mod changes;
 mod definitions;
 mod forms;
 mod heads;
 mod names;
+mod parts;
 mod sources;
 mod texts;
 
@@ -26,6 +28,7 @@ use definitions::{show_mode, show_request};
 use forms::{show_form, show_kept, show_others, show_words};
 use heads::{show_end, show_guarded, show_head};
 use names::{Roff, show_number, show_register, show_string};
+use parts::{show_loop_text, show_parts};
 use sources::Page;
 use std::io;
 use texts::{show_condition, show_more, show_text};
@@ -128,6 +131,8 @@ fn show_line_part(rt: &HostRuntime, call: &str, text: &str) {
         "words" => show_words(rt, text),
         "kept" => show_kept(rt, text),
         "others" => show_others(rt, text),
+        "parts" => show_parts(rt, text),
+        "loop-text" => show_loop_text(rt, text),
         _ => {}
     }
 }
@@ -144,6 +149,7 @@ fn show_source(rt: &HostRuntime, page: &mut Page, call: &str, text: &str) {
     match call {
         "line" | "lines" => page.show_lines(rt, times.parse().unwrap_or(1), text.as_str()),
         "page-end" => page.show_end(rt),
+        "counts" => page.show_counts(rt),
         _ => {}
     }
 }

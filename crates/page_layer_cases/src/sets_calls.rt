@@ -12,36 +12,16 @@ mod lines;
 mod rows;
 mod words;
 
-use crate::layers::{Layer, layer_below};
 use lines::{show_count, show_indents, show_man, show_mdoc, show_named, show_other, show_unnamed};
-use page_core_base::Form;
+use page_core_base::{Form, LINE};
 use rows::{show_delimiter, show_row};
-use std::io;
 use words::show_words;
 
-/// Shows lines up to a heading, and answers its layer, if one came.
-pub(crate) fn show_sets(rt: &HostRuntime) -> io::Result<Option<Layer>> {
-    for line in rt.lines(rt.alloc()) {
-        let line = line?;
-        show_line(rt, line.as_str());
-        if let Some(layer) = layer_below(line.as_str()) {
-            return Ok(Some(layer));
-        }
+/// Shows what a call gives.
+pub(crate) fn show_call(rt: &HostRuntime, call: &str, text: &str) {
+    if text.len() > LINE {
+        return;
     }
-    Ok(None)
-}
-
-// A line of the input, with what its call gives.
-fn show_line(rt: &HostRuntime, line: &str) {
-    let _ = print!(rt; "{line}");
-    let (call, text) = line.split_once(' ').unwrap_or((line, ""));
-    if text.len() < 1_000 {
-        show_call(rt, call, text);
-    }
-    let _ = println!(rt; "");
-}
-
-fn show_call(rt: &HostRuntime, call: &str, text: &str) {
     match call {
         "man" => show_man(rt, text),
         "mdoc" => show_mdoc(rt, text),

@@ -51,6 +51,15 @@ impl Page {
         show_given(rt, shown(given.as_slice()));
     }
 
+    /// Shows how many source lines came, how many lines were taken, and how many interpolations made.
+    pub(crate) fn show_counts(&self, rt: &HostRuntime) {
+        let counts = self.roff.counts();
+        let _ = print!(rt;
+            " -> {} {} {}",
+            counts.source, counts.taken, counts.expansions
+        );
+    }
+
     // Runs a line, and adds what it gives: its finished lines and messages, each with a line feed.
     fn run_line(&mut self, given: &mut Vec<u8>, text: &[u8]) -> Result<(), Fault> {
         if !is_line(text) || !self.roff.idle() || self.roff.counts().source > 1_000_000 {

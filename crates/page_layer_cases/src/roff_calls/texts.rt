@@ -1,14 +1,11 @@
 //! Conditions, and texts with their interpolations.
 
 use super::names::Roff;
-use crate::bytes::{show_messages, shown};
+use crate::bytes::{show_messages, show_runs, shown};
 use page_core_base::{LINE, NoteLatch};
 use page_core_streams::TextNotes;
 use page_roff_heads::read_conditional;
 use page_roff_values::{Environment, Expansion, holds};
-
-/// The most bytes of a text that is shown as it is.
-const MOST: usize = 1_000;
 
 /// Shows whether the condition of a head in line 7 holds, of which what follows `.if` is given, and its messages.
 pub(crate) fn show_condition(rt: &HostRuntime, roff: &mut Roff, rest: &str) {
@@ -46,25 +43,6 @@ fn show_expanded(rt: &HostRuntime, line: &Expansion, is_plain: bool, text: &str)
     show_runs(rt, if is_plain { text } else { shown(line.text()) });
 }
 
-// Shows a text; of a long one each run of a character, as `N*C`.
-fn show_runs(rt: &HostRuntime, text: &str) {
-    if text.len() <= MOST {
-        let _ = print!(rt; "{text}");
-        return;
-    }
-    let mut run = None;
-    let mut times = 0u32;
-    for character in text.chars() {
-        if run != Some(character) {
-            show_run(rt, run, times);
-            run = Some(character);
-            times = 0;
-        }
-        times = times.saturating_add(1);
-    }
-    show_run(rt, run, times);
-}
-
 /// Shows a text, of a long one each run of a character.
 pub(crate) fn show_bytes(rt: &HostRuntime, text: &[u8]) {
     show_runs(rt, shown(text));
@@ -73,17 +51,6 @@ pub(crate) fn show_bytes(rt: &HostRuntime, text: &[u8]) {
 /// Shows a word after an arrow.
 pub(crate) fn show_word(rt: &HostRuntime, word: &str) {
     let _ = print!(rt; " -> {word}");
-}
-
-fn show_run(rt: &HostRuntime, run: Option<char>, times: u32) {
-    let Some(character) = run else {
-        return;
-    };
-    let _ = if times == 1 {
-        print!(rt; "{character}")
-    } else {
-        print!(rt; "{times}*{character}")
-    };
 }
 
 /// Expands a text N TEXT after what is finished of its line, with N bytes before it, and shows how many interpolations the line makes, what it

@@ -1,5 +1,5 @@
 use Rattle.std.proofs.Common.{◌≡◌, ◌+◌, ◌≤◌, false, length}
-use Rattle.page_roff_checks.proofs.line_tests.feed_all.Given as goal
+use Rattle.page_layer_cases.proofs.lines_calls.feed_all.Given as goal
 
 -- no line waits, and the part before this place came
 abbrev pub invariant-parts : goal.invariant-parts

@@ -1,5 +1,5 @@
 use Rattle.std.proofs.Common.{◌≡◌, ◌≤◌, false, length}
-use Rattle.page_roff_checks.proofs.line_tests.lines_of.Given as goal
+use Rattle.page_layer_cases.proofs.lines_calls.lines_of.Given as goal
 
 -- no line waits, and the page came as far as this
 abbrev pub invariant-chunks : goal.invariant-chunks
