@@ -1,13 +1,11 @@
-//! Tests of messages, settings, writers, and of escapes, columns and numbers where lines are long or writers fail, through the door `page_core`;
-//! the cases of escapes, glyphs, columns and numbers are those of `page_layer_cases`.
+//! Tests of settings, and of writers that fail or take few bytes, through the door `page_core`; `page_layer_cases` has the cases of escapes, glyphs,
+//! columns, numbers, rows, lines and messages.
 #![tactic(auto)]
 
 #[cfg(test)]
 mod ascii_rows;
 #[cfg(test)]
 mod checks;
-#[cfg(test)]
-mod escapes;
 #[cfg(test)]
 mod notes;
 #[cfg(test)]
@@ -16,7 +14,5 @@ mod numbers;
 mod rows;
 #[cfg(test)]
 mod settings;
-#[cfg(test)]
-mod texts;
 #[cfg(test)]
 mod writers;

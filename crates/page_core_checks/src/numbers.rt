@@ -1,10 +1,9 @@
-//! Numbers whose messages fail, and columns of a whole line; `page_layer_cases` has the others.
+//! Numbers whose messages fail; `page_layer_cases` has the others.
 
-use crate::checks::{check_bytes, check_count};
+use crate::checks::check_bytes;
 use crate::writers::narrow_writer;
-use page_core::{Fault, LINE, Output, Scale, TextNotes, columns, number};
+use page_core::{Fault, Scale, TextNotes, number};
 use std::process::Abort;
-use std::test::Fail;
 
 // Reads a number whose messages go to a writer with this room, and checks the answer, and what was written.
 fn check_number(
@@ -35,25 +34,4 @@ fn a_failing_sink_gets_a_front(rt: HostRuntime) {
         }
     }
     check_number(&rt, b"1+2*3", 0, Ok((9, 5)), b"");
-}
-
-fn check_columns(rt: &impl Abort, text: &str, output: Output, want: usize) {
-    assert!(rt; text.len() <= LINE);
-    let found = columns(text.as_bytes(), output);
-    check_count(rt, found as usize, want, "columns of a line");
-}
-
-#[test]
-fn a_long_line_has_columns(rt: HostRuntime) -> Result<(), Fail> {
-    let mut line = String::new(rt.alloc());
-    for _ in 0..8192 {
-        line.push_str("\\h'999i'")?;
-    }
-    check_columns(&rt, line.as_str(), Output::Utf8, 8_192_000);
-    let mut line = String::new(rt.alloc());
-    for _ in 0..32_768 {
-        line.push_str("\u{3b1}")?;
-    }
-    check_columns(&rt, line.as_str(), Output::Ascii, 229_376);
-    Ok(())
 }

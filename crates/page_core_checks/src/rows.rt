@@ -1,53 +1,10 @@
-//! Rows and cells: how they are written and kept.
+//! Rows: long ones, writers that fail, and rows that are kept.
 
 use crate::checks::{check, check_answer, check_bytes, check_count};
 use crate::writers::{cells, narrow_writer};
-use page_core::{Cell, Fault, Font, KeptRows, Row, RowSink, TextRows, cell_bytes};
+use page_core::{Cell, Fault, Font, KeptRows, Row, RowSink, TextRows};
 use std::process::Abort;
 use std::test::Fail;
-
-#[test]
-fn cells_are_marked_by_their_font(rt: HostRuntime) {
-    let cases = [
-        ('x', Font::R, "x"),
-        ('x', Font::B, "x\u{8}x"),
-        ('x', Font::I, "_\u{8}x"),
-        ('x', Font::BI, "_\u{8}x\u{8}x"),
-        (' ', Font::R, " "),
-        (' ', Font::B, " "),
-        (' ', Font::I, " "),
-        (' ', Font::BI, " "),
-        ('é', Font::R, "é"),
-        ('é', Font::B, "é\u{8}é"),
-        ('—', Font::I, "_\u{8}—"),
-        ('\u{10ffff}', Font::BI, "_\u{8}\u{10ffff}\u{8}\u{10ffff}"),
-    ];
-    for (c, font, want) in cases {
-        let bytes = cell_bytes(Cell { c, font });
-        check_bytes(&rt, bytes.as_slice(), want.as_bytes(), want);
-    }
-}
-
-#[test]
-fn rows_are_written_as_bytes(rt: HostRuntime) -> Result<(), Fail> {
-    let cases = [
-        (0, "ab", Font::R, "ab\n"),
-        (7, "a b", Font::R, "       a b\n"),
-        (2, "a b  ", Font::B, "  a\u{8}a b\u{8}b\n"),
-        (1, "  é", Font::I, "   _\u{8}é\n"),
-        (7, "", Font::R, "\n"),
-        (7, "   ", Font::B, "\n"),
-    ];
-    for (margin, text, font, want) in cases {
-        let row = cells(rt.alloc(), text, font)?;
-        let mut out = Vec::new(rt.alloc());
-        let mut rows = TextRows::new(&mut out);
-        check_answer(&rt, rows.row(margin, row.as_slice()), Ok(()));
-        drop(rows);
-        check_bytes(&rt, out.as_slice(), want.as_bytes(), want);
-    }
-    Ok(())
-}
 
 // A row of more bytes than are collected before a write: 600 blanks and 600 bytes of cells.
 #[test]

@@ -1,4 +1,4 @@
-//! Bytes that calls give, as text; and texts with parts that occur several times.
+//! Bytes that calls give, as text; and texts whose parts occur several times, or are bytes.
 
 use std::alloc::{AllocError, Global};
 
@@ -60,4 +60,40 @@ fn show_run(rt: &HostRuntime, run: Option<char>, times: u32) {
     } else {
         print!(rt; "{times}*{character}")
     };
+}
+
+/// The bytes of a text in which `^` and two digits of base 16 stand for a byte, and `~N*TEXT~` for the text N times.
+pub(crate) fn bytes_of(alloc: Global, text: &str) -> Result<Vec<u8>, AllocError> {
+    let text = repeated(alloc, text)?;
+    let mut bytes = Vec::new(alloc);
+    for (index, part) in text.as_str().split('^').enumerate() {
+        match part.as_bytes() {
+            [high, low, rest @ ..] if index > 0 => {
+                bytes.push(digit(*high).wrapping_mul(16).wrapping_add(digit(*low)))?;
+                bytes.extend_from_slice(rest)?;
+            }
+            all => bytes.extend_from_slice(all)?,
+        }
+    }
+    Ok(bytes)
+}
+
+// The value of a digit.
+fn digit(byte: u8) -> u8 {
+    match byte {
+        b'0'..=b'9' => byte - b'0',
+        b'A'..=b'F' => byte - b'A' + 10,
+        _ => 0,
+    }
+}
+
+/// Shows rows, with a bar after each.
+pub(crate) fn show_rows(rt: &HostRuntime, rows: &str) {
+    let mut mark = " -> ";
+    for row in rows.lines() {
+        let _ = print!(rt; "{mark}");
+        show_runs(rt, row);
+        let _ = print!(rt; "|");
+        mark = "";
+    }
 }

@@ -11,7 +11,7 @@
 mod pieces;
 mod words;
 
-use crate::bytes::{show_messages, show_runs, shown};
+use crate::bytes::{show_messages, show_rows, shown};
 use crate::layers::{Layer, layer_below};
 use page_core_base::{Fault, NoteSink, Output, RowSink, Settings};
 use page_core_streams::{TextNotes, TextRows};
@@ -104,16 +104,6 @@ fn show_step(rt: &HostRuntime, filler: &mut Filler, call: &str, text: &str) {
     };
     show_rows(rt, shown(rows.as_slice()));
     show_messages(rt, messages.as_slice());
-}
-
-fn show_rows(rt: &HostRuntime, rows: &str) {
-    let mut mark = " -> ";
-    for row in rows.lines() {
-        let _ = print!(rt; "{mark}");
-        show_runs(rt, row);
-        let _ = print!(rt; "|");
-        mark = "";
-    }
 }
 
 // Takes a step, whose rows and messages are added; and answers whether what it gives is taken.

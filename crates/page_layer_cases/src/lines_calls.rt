@@ -7,11 +7,11 @@
 
 ghost use Rattle.std.specs.Prelude.{◌≡◌, ◌+◌, ◌^◌, ◌<◌, ◌≤◌, length, false, true, OnOk};
 
-use crate::bytes::{repeated, show_runs, shown};
+use crate::bytes::{bytes_of, show_runs, shown};
 use page_core_base::{Encoding, Fault, LINE, Note, NoteKind};
 use page_core_streams::KeptNotes;
 use page_roff::Cutter;
-use std::alloc::{AllocError, Global};
+use std::alloc::Global;
 
 /// The bytes of a page at most.
 const BYTES: usize = 20_000_000;
@@ -25,33 +25,8 @@ pub(crate) fn show_call(rt: &HostRuntime, call: &str, text: &str) {
         "utf8" => Encoding::Utf8,
         _ => return,
     };
-    if let Ok(page) = page_of(rt.alloc(), text) {
+    if let Ok(page) = bytes_of(rt.alloc(), text) {
         let _ = show_page(rt, encoding, page.as_slice());
-    }
-}
-
-// The bytes of a page.
-fn page_of(alloc: Global, text: &str) -> Result<Vec<u8>, AllocError> {
-    let text = repeated(alloc, text)?;
-    let mut page = Vec::new(alloc);
-    for (index, part) in text.as_str().split('^').enumerate() {
-        match part.as_bytes() {
-            [high, low, rest @ ..] if index > 0 => {
-                page.push(digit(*high).wrapping_mul(16).wrapping_add(digit(*low)))?;
-                page.extend_from_slice(rest)?;
-            }
-            bytes => page.extend_from_slice(bytes)?,
-        }
-    }
-    Ok(page)
-}
-
-// The value of a digit.
-fn digit(byte: u8) -> u8 {
-    match byte {
-        b'0'..=b'9' => byte - b'0',
-        b'A'..=b'F' => byte - b'A' + 10,
-        _ => 0,
     }
 }
 

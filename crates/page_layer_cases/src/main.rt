@@ -18,6 +18,7 @@
 mod bytes;
 mod core_calls;
 mod filling_calls;
+mod fonts;
 mod layers;
 mod lines;
 mod lines_calls;

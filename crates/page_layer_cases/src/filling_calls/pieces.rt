@@ -2,7 +2,7 @@
 
 ghost use Rattle.std.specs.Prelude.{◌<◌, length};
 
-use super::words::font_named;
+use crate::fonts::font_named;
 use page_core_base::{Fault, Font, NoteSink, Place, RowSink};
 use page_fill::{Filler, Piece, TagForm};
 

@@ -3,18 +3,9 @@
 ghost use Rattle.std.specs.Prelude.{◌≡◌};
 ghost use Rattle.page_core_base.specs.Words.{is_printable_ascii};
 
+use crate::fonts::font_named;
 use page_core_base::{Fault, Font, NoteSink, RowSink};
 use page_fill::Filler;
-
-/// The font that a letter stands for.
-pub(crate) fn font_named(letter: Option<u8>) -> Font {
-    match letter {
-        Some(b'B') => Font::B,
-        Some(b'I') => Font::I,
-        Some(b'X') => Font::BI,
-        _ => Font::R,
-    }
-}
 
 fn fonts_named(letters: &[u8]) -> [Font; 32] {
     let mut fonts = [Font::R; 32];
