@@ -158,13 +158,13 @@ pub record Spaces (quoted : Bool) (text white after word rest : List ℕ) (n : �
   pub plain_word : ReadsPlain quoted after word rest
   pub word_whole : after ≡ word ++ rest
 
-spaced_kept : (style : TextStyle) (line : ℕ) (pen : Pen) (text white after word rest : List ℕ) (n : ℕ) → Spaces style.is_quoted text white after word rest n
+spaced_kept : (style : TextStyle) (line last : ℕ) (pen : Pen) (text white after word rest : List ℕ) (n : ℕ) → Spaces style.is_quoted text white after word rest n
     → style.is_literal ≡ true → pen.fonts.value.font ≡ R
-    → spaced_items style line pen (spaced_front style.is_quoted text)
+    → spaced_items style line last pen (spaced_front style.is_quoted text)
     ≡ map shown (blank_pieces (place_after line pen white) white ++ word_pieces pen.splits (at line (pen.column + length white)) word)
-spaced_kept style line pen text white after word rest n s literal roman =
+spaced_kept style line last pen text white after word rest n s literal roman =
     let word_first = plain_begins style.is_quoted after word rest s.plain_word in
-    let parts = spaced_word style line pen text white after n s.len s.front s.back word_first in
+    let parts = spaced_word style line last pen text white after n s.len s.front s.back word_first in
     let pen_white = white_after style pen white in
     let gap : pen_white.gap ≡ 0 = rw literal refl in
     let printed = kept_word style line (has_tab white) pen_white word literal gap roman in
@@ -192,18 +192,18 @@ are_both front back first others a b = (
     letters-append [] others = refl
     letters-append (p ∷ ps) others = ap (λ (cells : List Cell). letters_of p ++ cells) (letters-append ps others) ∙ sym (append_assoc (letters_of p) (word_letters ps) (word_letters others))
 
-gives_word : (style : TextStyle) (line : ℕ) (pen : Pen) (text white after word rest : List ℕ) (n : ℕ) → Spaces style.is_quoted text white after word rest n
+gives_word : (style : TextStyle) (line last : ℕ) (pen : Pen) (text white after word rest : List ℕ) (n : ℕ) → Spaces style.is_quoted text white after word rest n
     → style.is_literal ≡ true → pen.fonts.value.font ≡ R
     → (pieces : List (Piece (List ℕ))) × AreCells (white ++ word) pieces
-    × (others_items style line pen (words_of style.is_quoted text).others
-    ≡ map shown pieces ++ others_items style line (kept_pen pen (white ++ word)) (words_of style.is_quoted rest).others)
-gives_word style line pen text white after word rest n s literal roman =
+    × (others_items style line last pen (words_of style.is_quoted text).others
+    ≡ map shown pieces ++ others_items style line last (kept_pen pen (white ++ word)) (words_of style.is_quoted rest).others)
+gives_word style line last pen text white after word rest n s literal roman =
     let blanks = blank_pieces (place_after line pen white) white in
     let letters = word_pieces pen.splits (at line (pen.column + length white)) word in (
       blanks ++ letters,
       are_both white word blanks letters (white_are (place_after line pen white) white s.blanks s.no_tab) (word_are pen.splits (at line (pen.column + length white)) word s.plain_word.is_a_word),
-      others_more style line pen text s.begins
-          ∙ rw (spaced_kept style line pen text white after word rest n s literal roman, after_kept style pen text white after word rest n s literal, rest_others style.is_quoted text white after word rest n s) refl,
+      others_more style line last pen text s.begins
+          ∙ rw (spaced_kept style line last pen text white after word rest n s literal roman, after_kept style pen text white after word rest n s literal, rest_others style.is_quoted text white after word rest n s) refl,
     )
 
 after_word : (style : TextStyle) (pen : Pen) (text white after word rest : List ℕ) (n : ℕ) → Spaces style.is_quoted text white after word rest n
@@ -217,7 +217,7 @@ pub reads_word : (style : TextStyle) (text white after word rest : List ℕ) (n 
 reads_word style text white after word rest n s = record {
   front = white ++ word;
   whole = sym (take-append-drop n text) ∙ (rw (← s.front, ← s.back, s.word_whole) (sym (append_assoc white word rest)));
-  gives = λ line pen is. gives_word style line pen text white after word rest n s is.literal is.roman;
+  gives = λ line last pen is. gives_word style line last pen text white after word rest n s is.literal is.roman;
   after = λ pen is. after_word style pen text white after word rest n s is.literal;
 }
 
@@ -227,7 +227,7 @@ pub reads_none : (style : TextStyle) (text : List ℕ) → ReadsKept style text 
 reads_none style text = record {
   front = [];
   whole = refl;
-  gives = λ line pen is. ([], (refl, refl), refl);
+  gives = λ line last pen is. ([], (refl, refl), refl);
   after = λ pen is. refl;
 }
 
@@ -235,12 +235,12 @@ pub reads_more : (style : TextStyle) (text middle rest : List ℕ) → ReadsKept
 reads_more style text middle rest a b = record {
   front = a.front ++ b.front;
   whole = a.whole ∙ (ap (λ (bytes : List ℕ). a.front ++ bytes) b.whole ∙ sym (append_assoc a.front b.front rest));
-  gives = λ line pen is.
-      let first = a.gives line pen is in
-      let others = b.gives line (kept_pen pen a.front) (kept_still style pen a.front is) in
-      let left = others_items style line (kept_pen pen (a.front ++ b.front)) (words_of style.is_quoted rest).others in
-      let later : others_items style line (kept_pen pen a.front) (words_of style.is_quoted middle).others ≡ map shown others.0 ++ left =
-      others.2 ∙ ap (λ (p : Pen). map shown others.0 ++ others_items style line p (words_of style.is_quoted rest).others) (kept_both pen a.front b.front) in
+  gives = λ line last pen is.
+      let first = a.gives line last pen is in
+      let others = b.gives line last (kept_pen pen a.front) (kept_still style pen a.front is) in
+      let left = others_items style line last (kept_pen pen (a.front ++ b.front)) (words_of style.is_quoted rest).others in
+      let later : others_items style line last (kept_pen pen a.front) (words_of style.is_quoted middle).others ≡ map shown others.0 ++ left =
+      others.2 ∙ ap (λ (p : Pen). map shown others.0 ++ others_items style line last p (words_of style.is_quoted rest).others) (kept_both pen a.front b.front) in
       let both : map shown first.0 ++ (map shown others.0 ++ left) ≡ map shown (first.0 ++ others.0) ++ left =
       sym (append_assoc (map shown first.0) (map shown others.0) left) ∙ ap (λ (items : List Item). items ++ left) (sym (map-append shown first.0 others.0)) in (
         first.0 ++ others.0,

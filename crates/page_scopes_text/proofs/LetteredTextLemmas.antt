@@ -28,7 +28,7 @@ use Rattle.page_scopes_text.proofs.RomanRunLemmas.{run_words}
 use Rattle.page_scopes_text.proofs.RunWordLemmas.{run_to_blank, run_to_end}
 use Rattle.page_scopes_text.proofs.TextLemmas.{after_others_more, after_spaced_word, after_text_word, others_more, spaced_word, text_word}
 use Rattle.page_scopes_text.specs.Parted.{Parted, Spaced, spaced_front, words_of}
-use Rattle.page_scopes_text.specs.Texts.{others_after, others_items, spaced_items, text_after, text_items}
+use Rattle.page_scopes_text.specs.Texts.{others_after, others_items, spaced_items, text_after, words_items}
 use Rattle.page_scopes_text.specs.Words.{body_items, empty_items, gap_items, tokens_items, word_items, word_notes}
 use Rattle.page_scopes_words.specs.Pens.{gap_after, pen_after, pen_through, word_after, word_begun, word_ended}
 use Rattle.page_scopes_words.specs.machine.Pens.{resting}
@@ -234,12 +234,12 @@ here_gives style line pen word h notes =
     ap₂ (λ (n i : List Item). n ++ i) notes (ap₂ (λ (g b : List Item). g ++ b) gap body)
 
 -- and after a blank of the text
-there_gives : (style : TextStyle) (line : ℕ) (fonts : Setting Fonts) (column : ℕ) (text : List ℕ) → style.is_literal ≡ false → begins_word text ≡ true
+there_gives : (style : TextStyle) (line last : ℕ) (fonts : Setting Fonts) (column : ℕ) (text : List ℕ) → style.is_literal ≡ false → begins_word text ≡ true
     → word_notes style.is_quoted (at line (column + 1)) (words_of style.is_quoted text).word ≡ []
-    → spaced_items style line (resting fonts column) (spaced_front style.is_quoted (32 ∷ text))
+    → spaced_items style line last (resting fonts column) (spaced_front style.is_quoted (32 ∷ text))
     ≡ shown (Blank 1 false) ∷ prints_word style.is_quoted (at line (column + 1)) fonts (column + 1) (words_of style.is_quoted text).word
-there_gives style line fonts column text literal begins notes =
-    spaced_word style line (resting fonts column) (32 ∷ text) (32 ∷ []) text 1 (sym (blank_len style.is_quoted text begins)) refl refl begins ∙ rw (literal, notes) refl
+there_gives style line last fonts column text literal begins notes =
+    spaced_word style line last (resting fonts column) (32 ∷ text) (32 ∷ []) text 1 (sym (blank_len style.is_quoted text begins)) refl refl begins ∙ rw (literal, notes) refl
 
 -- a word that prints something ends so
 abbrev ended : Pen → Pen
@@ -264,10 +264,10 @@ here_rests style pen word h has =
     here ∙ sym there
 
 -- a text gives what it gives with a blank at its front, but for the count of blanks
-text_same : (style : TextStyle) (line : ℕ) (pen : Pen) (text : List ℕ) → GoesOn style pen → begins_word text ≡ true → PrintsFirst style.is_quoted pen.fonts text
-    → text_items style line pen (words_of style.is_quoted text)
-    ≡ shown (Blank pen.gap false) ∷ drop 1 (others_items style line (resting pen.fonts (pen.column - 1)) (words_of style.is_quoted (32 ∷ text)).others)
-text_same style line pen text h begins prints =
+text_same : (style : TextStyle) (line last : ℕ) (pen : Pen) (text : List ℕ) → GoesOn style pen → begins_word text ≡ true → PrintsFirst style.is_quoted pen.fonts text
+    → words_items style line last pen (words_of style.is_quoted text)
+    ≡ shown (Blank pen.gap false) ∷ drop 1 (others_items style line last (resting pen.fonts (pen.column - 1)) (words_of style.is_quoted (32 ∷ text)).others)
+text_same style line last pen text h begins prints =
     let quoted = style.is_quoted in
     let word = (words_of quoted text).word in
     let c = pen.column - 1 in
@@ -275,19 +275,19 @@ text_same style line pen text h begins prints =
     let one = blank_len quoted text begins in
     let rests = after_spaced_word style (resting pen.fonts c) (32 ∷ text) (32 ∷ []) text 1 (sym one) refl refl begins in
     let quiet = prints.1 (at line pen.column) in
-    let there = there_gives style line pen.fonts c text h.filled begins (rw back quiet) in
+    let there = there_gives style line last pen.fonts c text h.filled begins (rw back quiet) in
     let others = (words_of quoted text).others in
     let left : (words_of quoted (drop (token_len quoted (32 ∷ text)) (32 ∷ text))).others ≡ others = ap (λ (n : ℕ). (words_of quoted (drop n (32 ∷ text))).others) one in
-    let here : text_items style line pen (words_of quoted text)
-    ≡ shown (Blank pen.gap false) ∷ (prints_word quoted (at line pen.column) pen.fonts pen.column word ++ others_items style line (word_after style (white_pen style pen.fonts c) word) others) =
-    text_word style line pen text begins
-    ∙ ap₂ (λ (i : List Item) (p : Pen). i ++ others_items style line p others) (here_gives style line pen word h quiet) (here_rests style pen word h (prints.0 pen.column)) in
-    let other : others_items style line (resting pen.fonts c) (words_of quoted (32 ∷ text)).others
-    ≡ shown (Blank 1 false) ∷ (prints_word quoted (at line pen.column) pen.fonts pen.column word ++ others_items style line (word_after style (white_pen style pen.fonts c) word) others) =
-    others_more style line (resting pen.fonts c) (32 ∷ text) refl
-    ∙ ap₂ (λ (i : List Item) (p : Pen). i ++ others_items style line p (words_of quoted (drop (token_len quoted (32 ∷ text)) (32 ∷ text))).others)
+    let here : words_items style line last pen (words_of quoted text)
+    ≡ shown (Blank pen.gap false) ∷ (prints_word quoted (at line pen.column) pen.fonts pen.column word ++ others_items style line last (word_after style (white_pen style pen.fonts c) word) others) =
+    text_word style line last pen text begins
+    ∙ ap₂ (λ (i : List Item) (p : Pen). i ++ others_items style line last p others) (here_gives style line pen word h quiet) (here_rests style pen word h (prints.0 pen.column)) in
+    let other : others_items style line last (resting pen.fonts c) (words_of quoted (32 ∷ text)).others
+    ≡ shown (Blank 1 false) ∷ (prints_word quoted (at line pen.column) pen.fonts pen.column word ++ others_items style line last (word_after style (white_pen style pen.fonts c) word) others) =
+    others_more style line last (resting pen.fonts c) (32 ∷ text) refl
+    ∙ ap₂ (λ (i : List Item) (p : Pen). i ++ others_items style line last p (words_of quoted (drop (token_len quoted (32 ∷ text)) (32 ∷ text))).others)
     (there ∙ ap (λ (n : ℕ). shown (Blank 1 false) ∷ prints_word quoted (at line n) pen.fonts n word) back) rests
-    ∙ ap (λ (o : List Spaced). shown (Blank 1 false) ∷ prints_word quoted (at line pen.column) pen.fonts pen.column word ++ others_items style line (word_after style (white_pen style pen.fonts c) word) o) left in
+    ∙ ap (λ (o : List Spaced). shown (Blank 1 false) ∷ prints_word quoted (at line pen.column) pen.fonts pen.column word ++ others_items style line last (word_after style (white_pen style pen.fonts c) word) o) left in
     here ∙ sym (ap (λ (items : List Item). shown (Blank pen.gap false) ∷ drop 1 items) other)
 
 after_same : (style : TextStyle) (pen : Pen) (text : List ℕ) → GoesOn style pen → begins_word text ≡ true → PrintsFirst style.is_quoted pen.fonts text
@@ -316,16 +316,16 @@ unfolding lettered_cells lettered_pieces
 counted_blanks blanks [] items more some e = absurd (omega (arith, some))
 counted_blanks blanks (word ∷ words) items more some e = ap (λ (all : List Item). shown (Blank blanks false) ∷ drop 1 all) e
 
-pub front_came : {P S : Type 0} (left : P → S → List Item → Type 0) (style : TextStyle) (line : ℕ) (pen : Pen) (fonts : Setting Fonts) (text rest : List ℕ)
+pub front_came : {P S : Type 0} (left : P → S → List Item → Type 0) (style : TextStyle) (line last : ℕ) (pen : Pen) (fonts : Setting Fonts) (text rest : List ℕ)
     (s t u : S) → GoesOn style pen → begins_word text ≡ true → Came left s [] t → GivesFront style pen text fonts rest (Came left) t u
-    → CameUpTo left s (text_items style line pen (words_of style.is_quoted text))
-    (others_items style line (resting fonts (pen.column + (length text - length rest))) (words_of style.is_quoted rest).others) u
-front_came left style line pen fonts text rest s t u h begins none front = λ plan more k.
+    → CameUpTo left s (words_items style line last pen (words_of style.is_quoted text))
+    (others_items style line last (resting fonts (pen.column + (length text - length rest))) (words_of style.is_quoted rest).others) u
+front_came left style line last pen fonts text rest s t u h begins none front = λ plan more k.
     let after = pen.column + (length text - length rest) in
     let e : after + length rest ≡ pen.column - 1 + suc (length text) = omega (arith, front.less, h.column) in
-    let g = front.adds.2.gives line (pen.column - 1) after e in
+    let g = front.adds.2.gives line last (pen.column - 1) after e in
     let cells : length (lettered_cells g.0) ≡ length front.cells = ap (λ (c : List Cell). length c) (g.2 ∙ sym front.adds.1) in
-    let here = text_same style line pen text h begins front.prints ∙ counted_blanks pen.gap g.0 _ _ (omega (arith, cells, front.some)) g.3 in
+    let here = text_same style line last pen text h begins front.prints ∙ counted_blanks pen.gap g.0 _ _ (omega (arith, cells, front.some)) g.3 in
     front.gives g.0 g.1 (front.adds.1 ∙ sym g.2) plan _ (none plan _ (rw (here, append_assoc) at k))
 
 pub front_pen : {S : Type 0} (gave : S → List Item → S → Type 0) (style : TextStyle) (pen : Pen) (fonts : Setting Fonts) (text rest : List ℕ) (s t : S)
@@ -341,7 +341,7 @@ front_pen gave style pen fonts text rest s t h begins front =
 pub front_left : {P S : Type 0} (left : P → S → List Item → Type 0) (style : TextStyle) (blanks : ℕ) (fonts next : Setting Fonts) (text rest : List ℕ) (cells : List Cell)
     (s t : S) → AddsWords style fonts [] (32 ∷ text) next cells rest → GivesLetters blanks cells false (Came left) s t → Came left s [] t
 front_left left style blanks fonts next text rest cells s t adds gives =
-    let g = adds.2.gives 0 0 (suc (length text) - length rest) (omega (arith, adds.2.less)) in
+    let g = adds.2.gives 0 0 0 (suc (length text) - length rest) (omega (arith, adds.2.less)) in
     gives g.0 g.1 (adds.1 ∙ sym g.2)
 
 -- ---- no words

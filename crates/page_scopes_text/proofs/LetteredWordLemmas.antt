@@ -96,20 +96,20 @@ word_reads style fonts tail next rest cells literal begins ends some r =
     record {
       less = omega (arith, r.less);
       ends = ends;
-      gives = λ line column after e.
+      gives = λ line last column after e.
           let i = r.items (at line (column + 1)) (column + 1) after (omega (arith, e)) in
           let items : tokens_items quoted (at line (column + 1)) (inside fonts (column + 1) false) word ≡ map shown i.0 = i.3 ∙ rw none (append-nil (map shown i.0)) in
           let notes : word_notes quoted (at line (column + 1)) word ≡ [] = r.notes (at line (column + 1)) ∙ rw none refl in
-          let first : spaced_items style line (resting fonts column) (spaced_front quoted (32 ∷ tail)) ≡ shown (Blank 1 false) ∷ map shown i.0 =
-          spaced_word style line (resting fonts column) (32 ∷ tail) (32 ∷ []) tail 1 (sym one) refl refl begins
+          let first : spaced_items style line last (resting fonts column) (spaced_front quoted (32 ∷ tail)) ≡ shown (Blank 1 false) ∷ map shown i.0 =
+          spaced_word style line last (resting fonts column) (32 ∷ tail) (32 ∷ []) tail 1 (sym one) refl refl begins
           ∙ word_gives style line fonts next column after word i.0 literal notes items (through column after e) in (
             i.0 ∷ [],
             rw (has_piece i.0 cells i.2 some, i.1) refl,
             one_cells i.0 cells i.2,
-            others_more style line (resting fonts column) (32 ∷ tail) refl
-                ∙ ap₂ (λ (a : List Item) (p : Pen). a ++ others_items style line p later) first (rests column after e)
-                ∙ ap (λ (o : List Spaced). (shown (Blank 1 false) ∷ map shown i.0) ++ others_items style line (resting next after) o) left
-                ∙ ap (λ (p : List (Piece (List ℕ))). map shown p ++ others_items style line (resting next after) (words_of quoted rest).others) (sym (one_pieces i.0)),
+            others_more style line last (resting fonts column) (32 ∷ tail) refl
+                ∙ ap₂ (λ (a : List Item) (p : Pen). a ++ others_items style line last p later) first (rests column after e)
+                ∙ ap (λ (o : List Spaced). (shown (Blank 1 false) ∷ map shown i.0) ++ others_items style line last (resting next after) o) left
+                ∙ ap (λ (p : List (Piece (List ℕ))). map shown p ++ others_items style line last (resting next after) (words_of quoted rest).others) (sym (one_pieces i.0)),
           );
       pens = λ column after e.
           sym (after_others_more style (resting fonts column) (32 ∷ tail) refl ∙ ap (λ (p : Pen). others_after style p later) (rests column after e)
@@ -131,15 +131,15 @@ run_reads_as style fonts text run rest cells literal size begins are =
     record {
       less = omega (arith, size);
       ends = r.ends;
-      gives = λ line column after e.
+      gives = λ line last column after e.
           let place = at line column in
           let columns : column + length (blank_words words) ≡ after = omega (arith, e, size, len) in
           let items : run_word_items font place words ≡ map shown (lettered_pieces 1 (run_words font place words)) = run_pieces font place words r.are in (
             run_words font place words,
             run_lettered font place words r.are,
             are place,
-            ap (others_items style line (resting fonts column)) r.others ∙ run_items style line fonts column words others literal
-                ∙ ap₂ (λ (i : List Item) (n : ℕ). i ++ others_items style line (resting fonts n) others) items columns,
+            ap (others_items style line last (resting fonts column)) r.others ∙ run_items style line last fonts column words others literal
+                ∙ ap₂ (λ (i : List Item) (n : ℕ). i ++ others_items style line last (resting fonts n) others) items columns,
           );
       pens = λ column after e.
           let columns : column + length (blank_words words) ≡ after = omega (arith, e, size, len) in
@@ -181,7 +181,7 @@ words_none : (style : TextStyle) (fonts : Setting Fonts) (text : List ℕ) → b
 words_none style fonts text ends = record {
   less = omega arith;
   ends = ends;
-  gives = λ line column after e. let same : after ≡ column = omega (arith, e) in ([], refl, no_cells, rw (same, no_pieces) refl);
+  gives = λ line last column after e. let same : after ≡ column = omega (arith, e) in ([], refl, no_cells, rw (same, no_pieces) refl);
   pens = λ column after e. let same : after ≡ column = omega (arith, e) in rw same refl;
 }
 
@@ -190,13 +190,13 @@ words_join : (style : TextStyle) (fonts : Setting Fonts) (text : List ℕ) (mid 
 words_join style fonts text mid middle next rest a b r s = record {
   less = omega (arith, r.less, s.less);
   ends = s.ends;
-  gives = λ line column after e.
+  gives = λ line last column after e.
       let m = column + length text - length middle in
       let here : m + length middle ≡ column + length text = omega (arith, r.less) in
       let there : after + length rest ≡ m + length middle = omega (arith, e, here) in
-      let x = r.gives line column m here in
-      let y = s.gives line m after there in
-      let others = others_items style line (resting next after) (words_of style.is_quoted rest).others in (
+      let x = r.gives line last column m here in
+      let y = s.gives line last m after there in
+      let others = others_items style line last (resting next after) (words_of style.is_quoted rest).others in (
         x.0 ++ y.0,
         list_all-append is_lettered_word x.0 y.0 ∙ ap₂ (λ (c d : Bool). c && d) x.1 y.1,
         cells-append x.0 y.0 ∙ ap₂ (λ (c d : List Cell). c ++ d) x.2 y.2,
@@ -224,20 +224,20 @@ adds_join style fonts mid next before between after text middle rest x y = (
 
 -- ---- words that were read, and are taken
 
-pub lettered_came : {P S : Type 0} (left : P → S → List Item → Type 0) (style : TextStyle) (line : ℕ) (pen next : Pen) (fonts : Setting Fonts) (text rest : List ℕ) (cells : List Cell)
+pub lettered_came : {P S : Type 0} (left : P → S → List Item → Type 0) (style : TextStyle) (line last : ℕ) (pen next : Pen) (fonts : Setting Fonts) (text rest : List ℕ) (cells : List Cell)
     (s t : S) → pen ≡ resting pen.fonts pen.column → next ≡ record pen { fonts = fonts; column = pen.column + (length text - length rest) }
     → AddsWords style pen.fonts [] text fonts cells rest → GivesLetters 1 cells true (Came left) s t
-    → CameUpTo left s (others_items style line pen (words_of style.is_quoted text).others) (others_items style line next (words_of style.is_quoted rest).others) t
-lettered_came left style line pen next fonts text rest cells s t rests is adds gives = λ plan more h.
+    → CameUpTo left s (others_items style line last pen (words_of style.is_quoted text).others) (others_items style line last next (words_of style.is_quoted rest).others) t
+lettered_came left style line last pen next fonts text rest cells s t rests is adds gives = λ plan more h.
     let after = pen.column + (length text - length rest) in
     let r = adds.2 in
     let e : after + length rest ≡ pen.column + length text = omega (arith, r.less) in
-    let g = r.gives line pen.column after e in
+    let g = r.gives line last pen.column after e in
     let there : next ≡ resting fonts after = is ∙ ap (λ (p : Pen). record p { fonts = fonts; column = after }) rests in
-    let here : others_items style line pen (words_of style.is_quoted text).others
-    ≡ map shown (lettered_pieces 1 g.0) ++ others_items style line next (words_of style.is_quoted rest).others =
-    ap (λ (p : Pen). others_items style line p (words_of style.is_quoted text).others) rests ∙ g.3
-    ∙ ap (λ (p : Pen). map shown (lettered_pieces 1 g.0) ++ others_items style line p (words_of style.is_quoted rest).others) (sym there) in
+    let here : others_items style line last pen (words_of style.is_quoted text).others
+    ≡ map shown (lettered_pieces 1 g.0) ++ others_items style line last next (words_of style.is_quoted rest).others =
+    ap (λ (p : Pen). others_items style line last p (words_of style.is_quoted text).others) rests ∙ g.3
+    ∙ ap (λ (p : Pen). map shown (lettered_pieces 1 g.0) ++ others_items style line last p (words_of style.is_quoted rest).others) (sym there) in
     gives g.0 g.1 (adds.1 ∙ sym g.2) plan _ (rw (here, append_assoc) at h)
 
 pub lettered_pen : (style : TextStyle) (pen next : Pen) (fonts : Setting Fonts) (text rest : List ℕ) (cells : List Cell)
@@ -258,7 +258,7 @@ pub lettered_left : {P S : Type 0} (left : P → S → List Item → Type 0) (st
 lettered_left left style pen fonts text rest cells s t items adds gives = λ plan more h.
     let r = adds.2 in
     let after = pen.column + (length text - length rest) in
-    let g = r.gives 0 pen.column after (omega (arith, r.less)) in
+    let g = r.gives 0 0 pen.column after (omega (arith, r.less)) in
     gives g.0 g.1 (adds.1 ∙ sym g.2) plan _ h
 
 -- ---- one blank and a word, from a text's front

@@ -26,16 +26,16 @@ after_blank_word : (style : TextStyle) (fonts : Setting Fonts) (column : ℕ) (w
     → spaced_after style (resting fonts column) (blank_word word) ≡ resting fonts (column + 1 + length word)
 after_blank_word style fonts column word = rw (or-false fonts.is_set) refl
 
-one_blank_word : (style : TextStyle) (line : ℕ) (fonts : Setting Fonts) (column : ℕ) (word : List ℕ) → style.is_literal ≡ false
-    → spaced_items style line (resting fonts column) (blank_word word) ≡ shown (Blank 1 false) ∷ parts_items fonts.value.font (at line (column + 1)) word
-one_blank_word style line fonts column word h = rw (h, append-nil (parts_items fonts.value.font (at line (column + 1)) word), append-nil (parts_items fonts.value.font (at line (column + 1)) word)) refl
+one_blank_word : (style : TextStyle) (line last : ℕ) (fonts : Setting Fonts) (column : ℕ) (word : List ℕ) → style.is_literal ≡ false
+    → spaced_items style line last (resting fonts column) (blank_word word) ≡ shown (Blank 1 false) ∷ parts_items fonts.value.font (at line (column + 1)) word
+one_blank_word style line last fonts column word h = rw (h, append-nil (parts_items fonts.value.font (at line (column + 1)) word), append-nil (parts_items fonts.value.font (at line (column + 1)) word)) refl
 
-pub blank_word_items : (style : TextStyle) (line : ℕ) (fonts : Setting Fonts) (column : ℕ) (word : List ℕ) (others : List Spaced) → style.is_literal ≡ false
-    → others_items style line (resting fonts column) (blank_word word ∷ others)
-    ≡ shown (Blank 1 false) ∷ (parts_items fonts.value.font (at line (column + 1)) word ++ others_items style line (resting fonts (column + 1 + length word)) others)
-blank_word_items style line fonts column word others h =
-    ap (λ (t : List Item). t ++ others_items style line (spaced_after style (resting fonts column) (blank_word word)) others) (one_blank_word style line fonts column word h)
-    ∙ ap (λ (p : Pen). shown (Blank 1 false) ∷ (parts_items fonts.value.font (at line (column + 1)) word ++ others_items style line p others)) (after_blank_word style fonts column word)
+pub blank_word_items : (style : TextStyle) (line last : ℕ) (fonts : Setting Fonts) (column : ℕ) (word : List ℕ) (others : List Spaced) → style.is_literal ≡ false
+    → others_items style line last (resting fonts column) (blank_word word ∷ others)
+    ≡ shown (Blank 1 false) ∷ (parts_items fonts.value.font (at line (column + 1)) word ++ others_items style line last (resting fonts (column + 1 + length word)) others)
+blank_word_items style line last fonts column word others h =
+    ap (λ (t : List Item). t ++ others_items style line last (spaced_after style (resting fonts column) (blank_word word)) others) (one_blank_word style line last fonts column word h)
+    ∙ ap (λ (p : Pen). shown (Blank 1 false) ∷ (parts_items fonts.value.font (at line (column + 1)) word ++ others_items style line last p others)) (after_blank_word style fonts column word)
 
 pub blank_word_after : (style : TextStyle) (fonts : Setting Fonts) (column : ℕ) (word : List ℕ) (others : List Spaced)
     → others_after style (resting fonts column) (blank_word word ∷ others) ≡ others_after style (resting fonts (column + 1 + length word)) others

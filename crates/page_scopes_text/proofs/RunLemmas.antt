@@ -56,18 +56,18 @@ word_items-append font place (x ∷ xs) ys =
 
 -- ---- the pieces of a run, and the pen after it
 
-pub run_items : (style : TextStyle) (line : ℕ) (fonts : Setting Fonts) (column : ℕ) (words : List (List ℕ)) (others : List Spaced) → style.is_literal ≡ false
-    → others_items style line (resting fonts column) (map blank_word words ++ others)
-    ≡ word_items fonts.value.font (at line column) words ++ others_items style line (resting fonts (column + length (blank_words words))) others
+pub run_items : (style : TextStyle) (line last : ℕ) (fonts : Setting Fonts) (column : ℕ) (words : List (List ℕ)) (others : List Spaced) → style.is_literal ≡ false
+    → others_items style line last (resting fonts column) (map blank_word words ++ others)
+    ≡ word_items fonts.value.font (at line column) words ++ others_items style line last (resting fonts (column + length (blank_words words))) others
 unfolding blank_words
-run_items style line fonts column [] others h = let none : column + 0 ≡ column = omega arith in rw (no_first fonts.value.font (at line column), none) refl
-run_items style line fonts column (word ∷ words) others h =
+run_items style line last fonts column [] others h = let none : column + 0 ≡ column = omega arith in rw (no_first fonts.value.font (at line column), none) refl
+run_items style line last fonts column (word ∷ words) others h =
     let columns : column + 1 + length word + length (blank_words words) ≡ column + suc (length (word ++ blank_words words)) = omega (arith, length-append word (blank_words words)) in
     let next : column + (1 + length word) ≡ column + 1 + length word = omega arith in
     let here = at line (column + 1) in
-    let left = others_items style line (resting fonts (column + 1 + length word + length (blank_words words))) others in
-    blank_word_items style line fonts column word (map blank_word words ++ others) h
-    ∙ (ap (λ (items : List Item). shown (Blank 1 false) ∷ (parts_items fonts.value.font here word ++ items)) (run_items style line fonts (column + 1 + length word) words others h)
+    let left = others_items style line last (resting fonts (column + 1 + length word + length (blank_words words))) others in
+    blank_word_items style line last fonts column word (map blank_word words ++ others) h
+    ∙ (ap (λ (items : List Item). shown (Blank 1 false) ∷ (parts_items fonts.value.font here word ++ items)) (run_items style line last fonts (column + 1 + length word) words others h)
     ∙ rw (next_items fonts.value.font (at line column) word words, columns, next)
     (ap (λ (items : List Item). shown (Blank 1 false) ∷ items) (sym (append_assoc (parts_items fonts.value.font here word) (word_items fonts.value.font (at line (column + 1 + length word)) words) _))))
 
@@ -211,20 +211,20 @@ comes_all left font start first text s place rest none h words are bytes = λ pl
 
 -- ---- the run at a text's front
 
-pub run_came : {P S : Type 0} (left : P → S → List Item → Type 0) (style : TextStyle) (line : ℕ) (pen : Pen) (text run rest : List ℕ) (s t : S)
+pub run_came : {P S : Type 0} (left : P → S → List Item → Type 0) (style : TextStyle) (line last : ℕ) (pen : Pen) (text run rest : List ℕ) (s t : S)
     → style.is_literal ≡ false → pen ≡ resting pen.fonts pen.column → BeginsRun style.is_quoted text run rest
     → ((words : List (List ℕ)) → list_all is_whole_word words ≡ true → run ≡ blank_words words → Came left s (word_items pen.fonts.value.font (at line pen.column) words) t)
-    → CameUpTo left s (others_items style line pen (words_of style.is_quoted text).others)
-    (others_items style line (record pen { column = pen.column + length run }) (words_of style.is_quoted rest).others) t
-run_came left style line pen text run rest s t literal e begins gives = λ plan more h.
+    → CameUpTo left s (others_items style line last pen (words_of style.is_quoted text).others)
+    (others_items style line last (record pen { column = pen.column + length run }) (words_of style.is_quoted rest).others) t
+run_came left style line last pen text run rest s t literal e begins gives = λ plan more h.
     let words = begins.0 in
     let r = begins.1 in
     let others = (words_of style.is_quoted rest).others in
-    let here : others_items style line pen (words_of style.is_quoted text).others
-    ≡ word_items pen.fonts.value.font (at line pen.column) words ++ others_items style line (resting pen.fonts (pen.column + length (blank_words words))) others =
-    ap (λ (p : Pen). others_items style line p (words_of style.is_quoted text).others) e
-    ∙ ap (λ (o : List Spaced). others_items style line (resting pen.fonts pen.column) o) r.others
-    ∙ run_items style line pen.fonts pen.column words others literal in
+    let here : others_items style line last pen (words_of style.is_quoted text).others
+    ≡ word_items pen.fonts.value.font (at line pen.column) words ++ others_items style line last (resting pen.fonts (pen.column + length (blank_words words))) others =
+    ap (λ (p : Pen). others_items style line last p (words_of style.is_quoted text).others) e
+    ∙ ap (λ (o : List Spaced). others_items style line last (resting pen.fonts pen.column) o) r.others
+    ∙ run_items style line last pen.fonts pen.column words others literal in
     let there : resting pen.fonts (pen.column + length (blank_words words)) ≡ record pen { column = pen.column + length run } =
     rw (← r.bytes) (sym (moved pen (pen.column + length run) e)) in
     rw there at (gives words r.are r.bytes plan _ (rw (here, append_assoc) at h))

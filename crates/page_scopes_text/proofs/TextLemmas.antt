@@ -2,10 +2,10 @@
 use Rattle.std.proofs.Common.{◌≡◌, ℕ, ◌<◌, ◌≤◌, ◌==◌, Bool, true, false, List, [], ◌++◌, length, take, drop, refl, ap, append-nil, arith}
 use Rattle.std.proofs.lemmas.Bool.Decides.{nat_tests}
 use Rattle.page_core_escapes.specs.Tokens.{begins_white, begins_word, token_len}
-use Rattle.page_scopes_words.specs.Words.{has_tab}
+use Rattle.page_scopes_words.specs.Words.{at, has_tab}
 use Rattle.page_scopes_text.proofs.PartedLemmas.{no_word, spaced_more, white_some, word_some, words_more, words_none}
 use Rattle.page_scopes_text.specs.Parted.{Parted, spaced_front, words_of}
-use Rattle.page_scopes_text.specs.Texts.{leading_after, leading_items, others_after, others_items, place_after, spaced_after, spaced_items, text_after, text_items, white_items}
+use Rattle.page_scopes_text.specs.Texts.{leading_after, leading_items, others_after, others_items, place_after, spaced_after, spaced_items, text_after, white_items, words_items}
 use Rattle.page_scopes_words.specs.Pens.{white_after, word_after}
 use Rattle.page_scopes_text.specs.Words.{word_items}
 use Rattle.page_scopes_words.specs.declared.pens.Pen.{Pen}
@@ -13,21 +13,21 @@ use Rattle.page_scopes_words.specs.declared.pens.TextStyle.{TextStyle}
 
 -- ---- a word after white space
 
-not_none : (n : ℕ) → 0 < n → (n == 0) ≡ false
+pub not_none : (n : ℕ) → 0 < n → (n == 0) ≡ false
 not_none n h = grind (arith, nat_tests, h)
 
 -- where a word begins it has a token
-next_word : (quoted : Bool) (text : List ℕ) → begins_word text ≡ true → (length (words_of quoted text).word == 0) ≡ false
+pub next_word : (quoted : Bool) (text : List ℕ) → begins_word text ≡ true → (length (words_of quoted text).word == 0) ≡ false
 next_word quoted text h =
     let more = ap (λ (t : Parted). length t.word) (words_more quoted text (token_len quoted text) h (word_some quoted text h) refl) in
     not_none (length (words_of quoted text).word) (omega (arith, more))
 
-pub spaced_word : (style : TextStyle) (line : ℕ) (pen : Pen) (text white rest : List ℕ) (n : ℕ) → n ≡ token_len style.is_quoted text
+pub spaced_word : (style : TextStyle) (line last : ℕ) (pen : Pen) (text white rest : List ℕ) (n : ℕ) → n ≡ token_len style.is_quoted text
     → white ≡ take n text → rest ≡ drop n text → begins_word rest ≡ true
-    → spaced_items style line pen (spaced_front style.is_quoted text)
+    → spaced_items style line last pen (spaced_front style.is_quoted text)
     ≡ white_items style (place_after line pen white) white
     ++ word_items style line (has_tab white) (white_after style pen white) (words_of style.is_quoted rest).word
-spaced_word style line pen text white rest n e w r h =
+spaced_word style line last pen text white rest n e w r h =
     rw (← e, ← w, ← r, next_word style.is_quoted rest h) refl
 
 pub after_spaced_word : (style : TextStyle) (pen : Pen) (text white rest : List ℕ) (n : ℕ) → n ≡ token_len style.is_quoted text
@@ -35,11 +35,11 @@ pub after_spaced_word : (style : TextStyle) (pen : Pen) (text white rest : List 
     → spaced_after style pen (spaced_front style.is_quoted text) ≡ word_after style (white_after style pen white) (words_of style.is_quoted rest).word
 after_spaced_word style pen text white rest n e w r h = rw (← e, ← w, ← r, next_word style.is_quoted rest h) refl
 
-pub spaced_end : (style : TextStyle) (line : ℕ) (pen : Pen) (text white rest : List ℕ) (n : ℕ) → n ≡ token_len style.is_quoted text
+pub spaced_end : (style : TextStyle) (line last : ℕ) (pen : Pen) (text white rest : List ℕ) (n : ℕ) → n ≡ token_len style.is_quoted text
     → white ≡ take n text → rest ≡ drop n text → begins_word rest ≡ false
-    → spaced_items style line pen (spaced_front style.is_quoted text) ≡ white_items style (place_after line pen white) white
-spaced_end style line pen text white rest n e w r h =
-    rw (← e, ← w, ← r, no_word style.is_quoted rest h) (append-nil (white_items style (place_after line pen white) white))
+    → spaced_items style line last pen (spaced_front style.is_quoted text) ≡ white_items style (at line last) white
+spaced_end style line last pen text white rest n e w r h =
+    rw (← e, ← w, ← r, no_word style.is_quoted rest h) (append-nil (white_items style (at line last) white))
 
 pub after_spaced_end : (style : TextStyle) (pen : Pen) (text white rest : List ℕ) (n : ℕ) → n ≡ token_len style.is_quoted text
     → white ≡ take n text → rest ≡ drop n text → begins_word rest ≡ false
@@ -48,12 +48,12 @@ after_spaced_end style pen text white rest n e w r h = rw (← e, ← w, ← r, 
 
 -- ---- one part after another
 
-pub others_more : (style : TextStyle) (line : ℕ) (pen : Pen) (text : List ℕ) → begins_white text ≡ true
-    → others_items style line pen (words_of style.is_quoted text).others
-    ≡ spaced_items style line pen (spaced_front style.is_quoted text)
-    ++ others_items style line (spaced_after style pen (spaced_front style.is_quoted text)) (words_of style.is_quoted (drop (token_len style.is_quoted text) text)).others
-others_more style line pen text h =
-    ap (λ (t : Parted). others_items style line pen t.others)
+pub others_more : (style : TextStyle) (line last : ℕ) (pen : Pen) (text : List ℕ) → begins_white text ≡ true
+    → others_items style line last pen (words_of style.is_quoted text).others
+    ≡ spaced_items style line last pen (spaced_front style.is_quoted text)
+    ++ others_items style line last (spaced_after style pen (spaced_front style.is_quoted text)) (words_of style.is_quoted (drop (token_len style.is_quoted text) text)).others
+others_more style line last pen text h =
+    ap (λ (t : Parted). others_items style line last pen t.others)
     (spaced_more style.is_quoted text (token_len style.is_quoted text) h (white_some style.is_quoted text h) refl)
 
 pub after_others_more : (style : TextStyle) (pen : Pen) (text : List ℕ) → begins_white text ≡ true
@@ -68,11 +68,11 @@ no_others quoted text h = ap (λ (t : Parted). t.others) (words_none quoted text
 
 -- ---- a whole text
 
-pub text_word : (style : TextStyle) (line : ℕ) (pen : Pen) (text : List ℕ) → begins_word text ≡ true
-    → text_items style line pen (words_of style.is_quoted text)
+pub text_word : (style : TextStyle) (line last : ℕ) (pen : Pen) (text : List ℕ) → begins_word text ≡ true
+    → words_items style line last pen (words_of style.is_quoted text)
     ≡ word_items style line false pen (words_of style.is_quoted text).word
-    ++ others_items style line (word_after style pen (words_of style.is_quoted text).word) (words_of style.is_quoted text).others
-text_word style line pen text h =
+    ++ others_items style line last (word_after style pen (words_of style.is_quoted text).word) (words_of style.is_quoted text).others
+text_word style line last pen text h =
     rw (words_more style.is_quoted text (token_len style.is_quoted text) h (word_some style.is_quoted text h) refl) refl
 
 pub after_text_word : (style : TextStyle) (pen : Pen) (text : List ℕ) → begins_word text ≡ true
@@ -81,20 +81,20 @@ pub after_text_word : (style : TextStyle) (pen : Pen) (text : List ℕ) → begi
 after_text_word style pen text h =
     rw (words_more style.is_quoted text (token_len style.is_quoted text) h (word_some style.is_quoted text h) refl) refl
 
-pub text_none : (style : TextStyle) (line : ℕ) (pen : Pen) (text : List ℕ) → length text ≤ 0
-    → text_items style line pen (words_of style.is_quoted text) ≡ word_items style line false pen (words_of style.is_quoted text).word
-text_none style line pen text h = rw (words_none style.is_quoted text h) refl
+pub text_none : (style : TextStyle) (line last : ℕ) (pen : Pen) (text : List ℕ) → length text ≤ 0
+    → words_items style line last pen (words_of style.is_quoted text) ≡ word_items style line false pen (words_of style.is_quoted text).word
+text_none style line last pen text h = rw (words_none style.is_quoted text h) refl
 
 pub after_text_none : (style : TextStyle) (pen : Pen) (text : List ℕ) → length text ≤ 0
     → text_after style pen (words_of style.is_quoted text) ≡ word_after style pen (words_of style.is_quoted text).word
 after_text_none style pen text h = rw (words_none style.is_quoted text h) refl
 
-pub text_leading : (style : TextStyle) (line : ℕ) (pen : Pen) (text : List ℕ) → begins_white text ≡ true
-    → text_items style line pen (words_of style.is_quoted text)
-    ≡ leading_items style line pen (spaced_front style.is_quoted text)
-    ++ others_items style line (leading_after style pen (spaced_front style.is_quoted text)) (words_of style.is_quoted (drop (token_len style.is_quoted text) text)).others
-text_leading style line pen text h =
-    ap (text_items style line pen) (spaced_more style.is_quoted text (token_len style.is_quoted text) h (white_some style.is_quoted text h) refl)
+pub text_leading : (style : TextStyle) (line last : ℕ) (pen : Pen) (text : List ℕ) → begins_white text ≡ true
+    → words_items style line last pen (words_of style.is_quoted text)
+    ≡ leading_items style line last pen (spaced_front style.is_quoted text)
+    ++ others_items style line last (leading_after style pen (spaced_front style.is_quoted text)) (words_of style.is_quoted (drop (token_len style.is_quoted text) text)).others
+text_leading style line last pen text h =
+    ap (words_items style line last pen) (spaced_more style.is_quoted text (token_len style.is_quoted text) h (white_some style.is_quoted text h) refl)
 
 pub after_text_leading : (style : TextStyle) (pen : Pen) (text : List ℕ) → begins_white text ≡ true
     → text_after style pen (words_of style.is_quoted text)

@@ -4,7 +4,7 @@ use Rattle.page_core_base.specs.Pieces.{Item, shown}
 use Rattle.page_core_base.specs.declared.cells.Font.TheVariants.{R}
 use Rattle.page_core_base.specs.declared.pieces.Piece.TheVariants.{Break}
 use Rattle.page_core_base.specs.declared.places.Place.{Place}
-use Rattle.page_core_escapes.specs.Tokens.{TextToken}
+use Rattle.page_core_escapes.specs.Tokens.{TextToken, tokens_len}
 use Rattle.page_scopes_words.specs.Words.{at, has_tab, white_cells}
 use Rattle.page_scopes_text.specs.Parted.{Spaced, Parted}
 use Rattle.page_scopes_text.specs.Words.{body_items, word_items, word_notes}
@@ -13,28 +13,46 @@ use Rattle.page_scopes_words.specs.Pens.{body_after, has_gap_cells, indented_pen
 use Rattle.page_scopes_words.specs.declared.pens.Pen.{Pen}
 use Rattle.page_scopes_words.specs.declared.pens.TextStyle.{TextStyle}
 
+-- ---- the column of a text's last word
+
+-- that of the last of some parts that has a word, where the first of them is at a column; else that of the last word before them
+abbrev pub last_of : (column last : ℕ) → List Spaced → ℕ
+last_of column last [] = last
+last_of column last (part ∷ parts) =
+    last_of (column + (length part.white + tokens_len part.word)) (if length part.word == 0 then last else column + length part.white) parts
+
+-- that of a text at a column; where it is white space alone, that of the last word before it. A text without bytes is a word that prints nothing
+abbrev pub last_word : (column last : ℕ) → Parted → ℕ
+last_word column last text =
+    last_of (column + tokens_len text.word) (if length text.word == 0 && not (length text.others == 0) then last else column) text.others
+
 -- ---- a word after white space, which parts it, or is kept
 
 -- the place of what is after white space
 abbrev pub place_after : ℕ → Pen → List ℕ → Place
 place_after line pen white = at line (pen.column + length white)
 
+-- the place of white space that is kept: that of the word after it, and at the text's end, where there is none, that of the last word
+abbrev pub white_place : (line last : ℕ) → Pen → Spaced → Place
+white_place line last pen part = if length part.word == 0 then at line last else place_after line pen part.white
+
 abbrev pub white_items : TextStyle → Place → List ℕ → List Item
 white_items style place white = if style.is_literal then white_cells place white else []
 
 -- at the text's end there is no word
-abbrev pub spaced_items : TextStyle → ℕ → Pen → Spaced → List Item
-spaced_items style line pen part =
-    white_items style (place_after line pen part.white) part.white
+abbrev pub spaced_items : TextStyle → (line last : ℕ) → Pen → Spaced → List Item
+spaced_items style line last pen part =
+    white_items style (white_place line last pen part) part.white
     ++ (if length part.word == 0 then [] else word_items style line (has_tab part.white) (white_after style pen part.white) part.word)
 
 abbrev pub spaced_after : TextStyle → Pen → Spaced → Pen
 spaced_after style pen part =
     if length part.word == 0 then white_after style pen part.white else word_after style (white_after style pen part.white) part.word
 
-abbrev pub others_items : TextStyle → ℕ → Pen → List Spaced → List Item
-others_items style line pen [] = []
-others_items style line pen (part ∷ parts) = spaced_items style line pen part ++ others_items style line (spaced_after style pen part) parts
+abbrev pub others_items : TextStyle → (line last : ℕ) → Pen → List Spaced → List Item
+others_items style line last pen [] = []
+others_items style line last pen (part ∷ parts) =
+    spaced_items style line last pen part ++ others_items style line last (spaced_after style pen part) parts
 
 abbrev pub others_after : TextStyle → Pen → List Spaced → Pen
 others_after style pen [] = pen
@@ -54,10 +72,10 @@ indented_items quoted line pen part =
     ++ body_items quoted (place_after line pen part.white) (indented_pen pen part.white) part.word))
 
 -- in a row that is kept a blank parts it from the word before it
-abbrev pub leading_items : TextStyle → ℕ → Pen → Spaced → List Item
-leading_items style line pen part =
+abbrev pub leading_items : TextStyle → (line last : ℕ) → Pen → Spaced → List Item
+leading_items style line last pen part =
     if is_indented style then indented_items style.is_quoted line pen part
-    else (if has_gap_cells style pen then blank_cells 1 R (at line pen.column) else []) ++ spaced_items style line pen part
+    else (if has_gap_cells style pen then blank_cells 1 R (at line pen.column) else []) ++ spaced_items style line last pen part
 
 abbrev pub leading_after : TextStyle → Pen → Spaced → Pen
 leading_after style pen part =
@@ -65,19 +83,25 @@ leading_after style pen part =
 
 -- ---- a text; one without bytes is a word that prints nothing
 
-abbrev pub parted_items : TextStyle → ℕ → Pen → List TextToken → List Spaced → List Item
-parted_items style line pen [] [] = word_items style line false pen []
-parted_items style line pen [] (part ∷ parts) = leading_items style line pen part ++ others_items style line (leading_after style pen part) parts
-parted_items style line pen (token ∷ tokens) parts =
-    word_items style line false pen (token ∷ tokens) ++ others_items style line (word_after style pen (token ∷ tokens)) parts
+abbrev pub parted_items : TextStyle → (line last : ℕ) → Pen → List TextToken → List Spaced → List Item
+parted_items style line last pen [] [] = word_items style line false pen []
+parted_items style line last pen [] (part ∷ parts) =
+    leading_items style line last pen part ++ others_items style line last (leading_after style pen part) parts
+parted_items style line last pen (token ∷ tokens) parts =
+    word_items style line false pen (token ∷ tokens) ++ others_items style line last (word_after style pen (token ∷ tokens)) parts
 
 abbrev pub parted_after : TextStyle → Pen → List TextToken → List Spaced → Pen
 parted_after style pen [] [] = word_after style pen []
 parted_after style pen [] (part ∷ parts) = others_after style (leading_after style pen part) parts
 parted_after style pen (token ∷ tokens) parts = others_after style (word_after style pen (token ∷ tokens)) parts
 
-abbrev pub text_items : TextStyle → ℕ → Pen → Parted → List Item
-text_items style line pen text = parted_items style line pen text.word text.others
+-- its last word is at a column
+abbrev pub words_items : TextStyle → (line last : ℕ) → Pen → Parted → List Item
+words_items style line last pen text = parted_items style line last pen text.word text.others
+
+-- the last word of its line before it is at a column
+abbrev pub text_items : TextStyle → (line last : ℕ) → Pen → Parted → List Item
+text_items style line last pen text = words_items style line (last_word pen.column last text) pen text
 
 abbrev pub text_after : TextStyle → Pen → Parted → Pen
 text_after style pen text = parted_after style pen text.word text.others

@@ -1,6 +1,6 @@
 //! Words and blanks of a row that is kept as it is, which are given at once where they print themselves (roff(7), "nf").
 
-ghost use Rattle.std.specs.Prelude.{◌≡◌, ◌≤◌, ◌<◌, ◌+◌, ◌^◌, false, true, length, IfSome};
+ghost use Rattle.std.specs.Prelude.{◌≡◌, ℕ, ◌≤◌, ◌<◌, ◌+◌, ◌^◌, false, true, length, IfSome};
 ghost use Rattle.page_core_base.specs.Latches.{CameUpTo};
 ghost use Rattle.page_core_base.specs.declared.cells.Font.TheVariants.{R};
 ghost use Rattle.page_core_escapes.specs.Tokens.{begins_white, begins_word};
@@ -69,9 +69,9 @@ pub(crate) fn give_kept_words<'a, O: PieceOut>(
     requires literal { style.is_literal ≡ true }
     requires fits { Fits pen.old text.now }
     requires word { begins_word text.now ≡ false }
-    ensures came { CameUpTo O.left out.old
-        (texts.others_items style line pen.old (words_of style.is_quoted text.now).others)
-        (texts.others_items style line pen.new (words_of style.is_quoted result.now).others) out.new }
+    ensures came { (last : ℕ) → CameUpTo O.left out.old
+        (texts.others_items style line last pen.old (words_of style.is_quoted text.now).others)
+        (texts.others_items style line last pen.new (words_of style.is_quoted result.now).others) out.new }
     ensures pen { texts.others_after style pen.new (words_of style.is_quoted result.now).others
         ≡ texts.others_after style pen.old (words_of style.is_quoted text.now).others }
     ensures within { Within pen.old text.now pen.new result.now }

@@ -1,6 +1,6 @@
 //! Texts that begin with words of letters, after blanks: their first words are given at once (roff(7), "LANGUAGE SYNTAX").
 
-ghost use Rattle.std.specs.Prelude.{◌≡◌, ◌≤◌, ◌<◌, ◌+◌, ◌∷◌, not, false, true, [], drop, length, take, IfSome, MatchOption};
+ghost use Rattle.std.specs.Prelude.{◌≡◌, ℕ, ◌≤◌, ◌<◌, ◌+◌, ◌∷◌, not, false, true, [], drop, length, take, IfSome, MatchOption};
 ghost use Rattle.page_core_base.specs.Latches.{Came, CameUpTo};
 ghost use Rattle.page_core_escapes.specs.Tokens.{begins_word};
 ghost use Rattle.page_scopes_text.specs.Parted.{words_of};
@@ -228,9 +228,9 @@ pub(crate) fn give_lettered_front<'a, O: PieceOut>(
 ) -> Option<&'a [u8]>
     requires fits { Fits pen.old text.now }
     requires word { begins_word text.now ≡ true }
-    ensures came { MatchOption result (Came O.left out.old [] out.new) (λ rest. CameUpTo O.left out.old
-        (texts.text_items style line pen.old (words_of style.is_quoted text.now))
-        (texts.others_items style line pen.new (words_of style.is_quoted rest.now).others) out.new) }
+    ensures came { MatchOption result (Came O.left out.old [] out.new) (λ rest. (last : ℕ) → CameUpTo O.left out.old
+        (texts.words_items style line last pen.old (words_of style.is_quoted text.now))
+        (texts.others_items style line last pen.new (words_of style.is_quoted rest.now).others) out.new) }
     ensures pen { MatchOption result (pen.new ≡ pen.old) (λ rest. texts.others_after style pen.new (words_of style.is_quoted rest.now).others
         ≡ texts.text_after style pen.old (words_of style.is_quoted text.now)) }
     ensures within { IfSome result (λ rest. Within pen.old text.now pen.new rest.now) }

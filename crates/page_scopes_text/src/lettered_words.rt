@@ -341,9 +341,9 @@ pub(crate) fn give_lettered_words<'a, O: PieceOut>(
 ) -> &'a [u8]
     requires fits { Fits pen.old text.now }
     requires word { begins_word text.now ≡ false }
-    ensures came { CameUpTo O.left out.old
-        (texts.others_items style line pen.old (words_of style.is_quoted text.now).others)
-        (texts.others_items style line pen.new (words_of style.is_quoted result.now).others) out.new }
+    ensures came { (last : ℕ) → CameUpTo O.left out.old
+        (texts.others_items style line last pen.old (words_of style.is_quoted text.now).others)
+        (texts.others_items style line last pen.new (words_of style.is_quoted result.now).others) out.new }
     ensures pen { texts.others_after style pen.new (words_of style.is_quoted result.now).others
         ≡ texts.others_after style pen.old (words_of style.is_quoted text.now).others }
     ensures within { Within pen.old text.now pen.new result.now }

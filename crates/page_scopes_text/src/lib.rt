@@ -9,6 +9,7 @@
 #![tactic(auto)]
 
 mod kept_texts;
+mod last_words;
 mod lettered_texts;
 mod lettered_words;
 mod parts;
@@ -16,4 +17,5 @@ mod runs;
 mod texts;
 mod words;
 
+pub use last_words::last_word;
 pub use texts::give_text;

@@ -1,14 +1,16 @@
 //! Texts: words, and the white space between them (roff(7), "LANGUAGE SYNTAX").
 
-ghost use Rattle.std.specs.Prelude.{◌≡◌, ◌≤◌, ◌<◌, ◌+◌, ◌^◌, true, false, length};
+ghost use Rattle.std.specs.Prelude.{◌≡◌, ℕ, ◌≤◌, ◌<◌, ◌+◌, ◌^◌, true, false, length};
 ghost use Rattle.page_core_base.specs.Latches.{Came, CameUpTo};
 ghost use Rattle.page_core_escapes.specs.Tokens.{begins_white, begins_word};
 ghost use Rattle.page_scopes_text.specs.Parted.{spaced_front, words_of};
 ghost use Rattle.page_scopes_text.specs.machine.Reads.{Fits, ReadsSpaced, Within};
 ghost use Rattle.page_scopes_text.specs.Texts as texts;
-ghost use Rattle.page_scopes_words.specs.Pens.{body_after, indented_pen, white_after};
+ghost use Rattle.page_scopes_words.specs.Pens.{body_after, indented_pen};
+ghost use Rattle.page_scopes_words.specs.Words.{at};
 
 use crate::kept_texts::give_kept_words;
+use crate::last_words::Front;
 use crate::lettered_texts::give_lettered_front;
 use crate::lettered_words::give_lettered_words;
 use crate::runs::{give_run, run_len};
@@ -17,19 +19,31 @@ use page_core_base::{Font, LINE, Piece, PieceOut, Place};
 use page_core_escapes::{begins_word, read_token};
 use page_scopes_words::{Pen, TextStyle, give_blank_cells, give_white_cells, has_tab};
 
-// Gives white space, and goes on after it.
+// Gives white space where it is kept, in the column of the word after it.
 #[inline(always)]
-fn give_white<O: PieceOut>(out: &mut O, style: TextStyle, line: u32, pen: &mut Pen, white: &[u8])
-    requires { pen.old.column + length white.now < 2 ^ 32 }
-    ensures came { Came O.left out.old
-        (texts.white_items style (texts.place_after line pen.old white.now) white.now) out.new }
-    ensures pen { pen.new ≡ white_after style pen.old white.now }
+fn give_white<O: PieceOut>(out: &mut O, style: TextStyle, line: u32, column: u32, white: &[u8])
+    ensures { Came O.left out.old (texts.white_items style (at line column) white.now) out.new }
 {
-    pen.pass_white(style, white);
+    if style.is_literal {
+        give_white_cells(out, Place { line, column }, white);
+    }
+}
+
+// Gives white space where it is kept, at a text's end, in the column of the last word. It is a call, since few texts end so.
+#[inline(never)]
+fn give_last_white<O: PieceOut>(
+    out: &mut O,
+    style: TextStyle,
+    line: u32,
+    front: &Front<'_>,
+    white: &[u8],
+)
+    ensures { Came O.left out.old (texts.white_items style (at line front.now) white.now) out.new }
+{
     if style.is_literal {
         let place = Place {
             line,
-            column: pen.column,
+            column: front.last_word(),
         };
         give_white_cells(out, place, white);
     }
@@ -41,21 +55,24 @@ fn give_spaced<'a, O: PieceOut>(
     out: &mut O,
     style: TextStyle,
     line: u32,
+    front: &Front<'_>,
     pen: &mut Pen,
     text: &'a [u8],
 ) -> &'a [u8]
     requires fits { Fits pen.old text.now }
     requires white { begins_white text.now ≡ true }
     ensures came { Came O.left out.old
-        (texts.spaced_items style line pen.old (spaced_front style.is_quoted text.now)) out.new }
+        (texts.spaced_items style line front.now pen.old (spaced_front style.is_quoted text.now)) out.new }
     ensures pen { pen.new ≡ texts.spaced_after style pen.old (spaced_front style.is_quoted text.now) }
     ensures rest { ReadsSpaced style.is_quoted pen.old text.now pen.new result.now }
 {
     let (white, rest) = text.split_at(read_token(style.is_quoted, text).len());
-    give_white(out, style, line, pen, white);
+    pen.pass_white(style, white);
     if begins_word(rest) {
+        give_white(out, style, line, pen.column, white);
         give_word(out, style, line, has_tab(white), pen, rest)
     } else {
+        give_last_white(out, style, line, front, white);
         rest
     }
 }
@@ -73,9 +90,9 @@ fn give_plain_words<'a, O: PieceOut>(
 ) -> &'a [u8]
     requires fits { Fits pen.old text.now }
     requires word { begins_word text.now ≡ false }
-    ensures came { CameUpTo O.left out.old
-        (texts.others_items style line pen.old (words_of style.is_quoted text.now).others)
-        (texts.others_items style line pen.new (words_of style.is_quoted result.now).others) out.new }
+    ensures came { (last : ℕ) → CameUpTo O.left out.old
+        (texts.others_items style line last pen.old (words_of style.is_quoted text.now).others)
+        (texts.others_items style line last pen.new (words_of style.is_quoted result.now).others) out.new }
     ensures pen { texts.others_after style pen.new (words_of style.is_quoted result.now).others
         ≡ texts.others_after style pen.old (words_of style.is_quoted text.now).others }
     ensures within { Within pen.old text.now pen.new result.now }
@@ -112,9 +129,9 @@ fn give_many<'a, O: PieceOut>(
 ) -> &'a [u8]
     requires fits { Fits pen.old text.now }
     requires word { begins_word text.now ≡ false }
-    ensures came { CameUpTo O.left out.old
-        (texts.others_items style line pen.old (words_of style.is_quoted text.now).others)
-        (texts.others_items style line pen.new (words_of style.is_quoted result.now).others) out.new }
+    ensures came { (last : ℕ) → CameUpTo O.left out.old
+        (texts.others_items style line last pen.old (words_of style.is_quoted text.now).others)
+        (texts.others_items style line last pen.new (words_of style.is_quoted result.now).others) out.new }
     ensures pen { texts.others_after style pen.new (words_of style.is_quoted result.now).others
         ≡ texts.others_after style pen.old (words_of style.is_quoted text.now).others }
     ensures within { Within pen.old text.now pen.new result.now }
@@ -139,6 +156,7 @@ fn give_next<'a, O: PieceOut>(
     out: &mut O,
     style: TextStyle,
     line: u32,
+    front: &Front<'_>,
     pen: &mut Pen,
     given: usize,
     text: &'a [u8],
@@ -146,8 +164,8 @@ fn give_next<'a, O: PieceOut>(
     requires fits { Fits pen.old text.now }
     requires word { begins_word text.now ≡ false }
     ensures came { CameUpTo O.left out.old
-        (texts.others_items style line pen.old (words_of style.is_quoted text.now).others)
-        (texts.others_items style line pen.new (words_of style.is_quoted result.now).others) out.new }
+        (texts.others_items style line front.now pen.old (words_of style.is_quoted text.now).others)
+        (texts.others_items style line front.now pen.new (words_of style.is_quoted result.now).others) out.new }
     ensures pen { texts.others_after style pen.new (words_of style.is_quoted result.now).others
         ≡ texts.others_after style pen.old (words_of style.is_quoted text.now).others }
     ensures within { Within pen.old text.now pen.new result.now }
@@ -157,7 +175,7 @@ fn give_next<'a, O: PieceOut>(
     if text.is_empty() || given >= MANY {
         return text;
     }
-    give_spaced(out, style, line, pen, text)
+    give_spaced(out, style, line, front, pen, text)
 }
 
 // Gives the words at a text's front, each with white space before it. It is a call, since most texts have only words that print themselves, with one
@@ -167,30 +185,38 @@ fn give_spaced_words<O: PieceOut>(
     out: &mut O,
     style: TextStyle,
     line: u32,
+    front: &Front<'_>,
     pen: &mut Pen,
     text: &[u8],
 )
     requires fits { Fits pen.old text.now }
     requires word { begins_word text.now ≡ false }
     ensures came { Came O.left out.old
-        (texts.others_items style line pen.old (words_of style.is_quoted text.now).others) out.new }
+        (texts.others_items style line front.now pen.old (words_of style.is_quoted text.now).others) out.new }
     ensures pen { pen.new ≡ texts.others_after style pen.old (words_of style.is_quoted text.now).others }
 {
     let mut tries = true;
     let mut rest = text;
     while !rest.is_empty() {
         let after = give_many(out, style, line, pen, &mut tries, rest);
-        rest = give_next(out, style, line, pen, rest.len() - after.len(), after);
+        rest = give_next(out, style, line, front, pen, rest.len() - after.len(), after);
     }
 }
 
 // Gives what follows the word at a text's front. Many texts are one word, and most others go on with words that print themselves.
 #[inline(always)]
-fn give_others<O: PieceOut>(out: &mut O, style: TextStyle, line: u32, pen: &mut Pen, text: &[u8])
+fn give_others<O: PieceOut>(
+    out: &mut O,
+    style: TextStyle,
+    line: u32,
+    front: &Front<'_>,
+    pen: &mut Pen,
+    text: &[u8],
+)
     requires fits { Fits pen.old text.now }
     requires word { begins_word text.now ≡ false }
     ensures came { Came O.left out.old
-        (texts.others_items style line pen.old (words_of style.is_quoted text.now).others) out.new }
+        (texts.others_items style line front.now pen.old (words_of style.is_quoted text.now).others) out.new }
     ensures pen { pen.new ≡ texts.others_after style pen.old (words_of style.is_quoted text.now).others }
 {
     if text.is_empty() {
@@ -198,7 +224,7 @@ fn give_others<O: PieceOut>(out: &mut O, style: TextStyle, line: u32, pen: &mut 
     }
     let rest = give_plain_words(out, style, line, pen, true, text);
     if !rest.is_empty() {
-        give_spaced_words(out, style, line, pen, rest);
+        give_spaced_words(out, style, line, front, pen, rest);
     }
 }
 
@@ -237,13 +263,14 @@ fn give_leading<'a, O: PieceOut>(
     out: &mut O,
     style: TextStyle,
     line: u32,
+    front: &Front<'_>,
     pen: &mut Pen,
     text: &'a [u8],
 ) -> &'a [u8]
     requires fits { Fits pen.old text.now }
     requires white { begins_white text.now ≡ true }
     ensures came { Came O.left out.old
-        (texts.leading_items style line pen.old (spaced_front style.is_quoted text.now)) out.new }
+        (texts.leading_items style line front.now pen.old (spaced_front style.is_quoted text.now)) out.new }
     ensures pen { pen.new ≡ texts.leading_after style pen.old (spaced_front style.is_quoted text.now) }
     ensures rest { ReadsSpaced style.is_quoted pen.old text.now pen.new result.now }
 {
@@ -257,7 +284,7 @@ fn give_leading<'a, O: PieceOut>(
         };
         give_blank_cells(out, 1, Font::R, place);
     }
-    give_spaced(out, style, line, pen, text)
+    give_spaced(out, style, line, front, pen, text)
 }
 
 // Gives the word at a text's front, or words of letters there, many at once; what is left of the text.
@@ -271,9 +298,9 @@ fn give_first<'a, O: PieceOut>(
 ) -> &'a [u8]
     requires fits { Fits pen.old text.now }
     requires word { begins_word text.now ≡ true }
-    ensures came { CameUpTo O.left out.old
-        (texts.text_items style line pen.old (words_of style.is_quoted text.now))
-        (texts.others_items style line pen.new (words_of style.is_quoted result.now).others) out.new }
+    ensures came { (last : ℕ) → CameUpTo O.left out.old
+        (texts.words_items style line last pen.old (words_of style.is_quoted text.now))
+        (texts.others_items style line last pen.new (words_of style.is_quoted result.now).others) out.new }
     ensures pen { texts.others_after style pen.new (words_of style.is_quoted result.now).others
         ≡ texts.text_after style pen.old (words_of style.is_quoted text.now) }
     ensures within { Within pen.old text.now pen.new result.now }
@@ -285,20 +312,28 @@ fn give_first<'a, O: PieceOut>(
     give_word(out, style, line, false, pen, text)
 }
 
-/// Gives the words of a text of a line at the pen, and moves the pen to its end.
-pub fn give_text<O: PieceOut>(out: &mut O, style: TextStyle, line: u32, pen: &mut Pen, text: &[u8])
+/// Gives the words of a text of a line at the pen, and moves the pen to its end. The last word before it in its line is at the column `last`.
+pub fn give_text<O: PieceOut>(
+    out: &mut O,
+    style: TextStyle,
+    line: u32,
+    last: u32,
+    pen: &mut Pen,
+    text: &[u8],
+)
     requires { Fits pen.old text.now }
     ensures came { Came O.left out.old
-        (texts.text_items style line pen.old (words_of style.is_quoted text.now)) out.new }
+        (texts.text_items style line last pen.old (words_of style.is_quoted text.now)) out.new }
     ensures pen { pen.new ≡ texts.text_after style pen.old (words_of style.is_quoted text.now) }
 {
+    let front = Front::new(style.is_quoted, pen.column, last, text);
     if begins_word(text) {
         let rest = give_first(out, style, line, pen, text);
-        give_others(out, style, line, pen, rest);
+        give_others(out, style, line, &front, pen, rest);
     } else if text.is_empty() {
         give_word(out, style, line, false, pen, text);
     } else {
-        let rest = give_leading(out, style, line, pen, text);
-        give_others(out, style, line, pen, rest);
+        let rest = give_leading(out, style, line, &front, pen, text);
+        give_others(out, style, line, &front, pen, rest);
     }
 }

@@ -30,9 +30,9 @@ pub record IsKept (style : TextStyle) (pen : Pen) : Type 0 where
 pub record ReadsKept (style : TextStyle) (text rest : List ℕ) : Type 0 where
   pub front : List ℕ
   pub whole : text ≡ front ++ rest
-  pub gives : (line : ℕ) (pen : Pen) → IsKept style pen
+  pub gives : (line last : ℕ) (pen : Pen) → IsKept style pen
       → (pieces : List (Piece (List ℕ))) × AreCells front pieces
-      × (others_items style line pen (words_of style.is_quoted text).others
-      ≡ map shown pieces ++ others_items style line (kept_pen pen front) (words_of style.is_quoted rest).others)
+      × (others_items style line last pen (words_of style.is_quoted text).others
+      ≡ map shown pieces ++ others_items style line last (kept_pen pen front) (words_of style.is_quoted rest).others)
   pub after : (pen : Pen) → IsKept style pen
       → others_after style pen (words_of style.is_quoted text).others ≡ others_after style (kept_pen pen front) (words_of style.is_quoted rest).others

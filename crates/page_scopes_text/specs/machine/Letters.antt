@@ -61,17 +61,17 @@ pub record ReadsLetters (quoted : Bool) (fonts : Setting Fonts) (text : List ℕ
       → pen_through (inside fonts column false) (words_of quoted text).word ≡ pen_through (inside next after (nat_lt 0 (length cells))) (words_of quoted rest).word
 
 -- words of letters, which are these cells, are given between two places of a text
-abbrev pub GivesWords : TextStyle → ℕ → Pen → List Spaced → Pen → List Spaced → List Cell → Type 0
-GivesWords style line pen parts next others cells =
+abbrev pub GivesWords : TextStyle → (line last : ℕ) → Pen → List Spaced → Pen → List Spaced → List Cell → Type 0
+GivesWords style line last pen parts next others cells =
     (words : List (List (Piece (List ℕ)))) × (list_all is_lettered_word words ≡ true) × (lettered_cells words ≡ cells)
-    × (others_items style line pen parts ≡ map shown (lettered_pieces 1 words) ++ others_items style line next others)
+    × (others_items style line last pen parts ≡ map shown (lettered_pieces 1 words) ++ others_items style line last next others)
 
 -- words of letters at a text's front were read, each after one blank
 pub record ReadsWords (style : TextStyle) (fonts : Setting Fonts) (text : List ℕ) (next : Setting Fonts) (rest : List ℕ) (cells : List Cell) : Type 0 where
   pub less : length rest ≤ length text
   pub ends : begins_word rest ≡ false
-  pub gives : (line column after : ℕ) → after + length rest ≡ column + length text
-      → GivesWords style line (resting fonts column) (words_of style.is_quoted text).others (resting next after) (words_of style.is_quoted rest).others cells
+  pub gives : (line last column after : ℕ) → after + length rest ≡ column + length text
+      → GivesWords style line last (resting fonts column) (words_of style.is_quoted text).others (resting next after) (words_of style.is_quoted rest).others cells
   pub pens : (column after : ℕ) → after + length rest ≡ column + length text
       → others_after style (resting next after) (words_of style.is_quoted rest).others ≡ others_after style (resting fonts column) (words_of style.is_quoted text).others
 

@@ -9,7 +9,7 @@ returns-clause-came g c = λ plan rest k.
     let text = c.args.text.now in
     let some : 0 < length text = grind (arith, nat_tests) in
     let h = c.give_spaced.ensures in
-    let items = others_more c.args.style c.args.line c.args.pen.now text (white_front text some c.requires.word) in
+    let items = others_more c.args.style c.args.line c.args.front.now c.args.pen.now text (white_front text some c.requires.word) in
     rw (h.pen, h.rest.others) (h.came plan _ (rw (items, append_assoc) at k))
 
 pub returns-clause-pen : goal.returns-clause-pen

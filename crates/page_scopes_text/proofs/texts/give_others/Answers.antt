@@ -18,7 +18,7 @@ pub returns-else-not-is_empty-clause-came : goal.returns-else-not-is_empty-claus
 returns-else-not-is_empty-clause-came g c = λ plan rest h.
     let w = c.give_plain_words-rest in
     let none : length w.result.now ≤ 0 = grind (arith, nat_tests) in
-    rw (no_others c.args.style.is_quoted w.result.now none) at (w.ensures.came plan rest h)
+    rw (no_others c.args.style.is_quoted w.result.now none) at (w.ensures.came c.args.front.now plan rest h)
 
 pub returns-else-not-is_empty-clause-pen : goal.returns-else-not-is_empty-clause-pen
 returns-else-not-is_empty-clause-pen g c =

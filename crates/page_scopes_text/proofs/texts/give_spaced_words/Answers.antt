@@ -10,7 +10,7 @@ loop-rest-preserved g c =
     let w = c.give_many-after.ensures in
     let h = c.give_next-rest.ensures in
     record {
-      came = λ plan rest k. h.came plan rest (w.came plan rest (i.came plan rest k));
+      came = λ plan rest k. h.came plan rest (w.came c.args.front.now plan rest (i.came plan rest k));
       pen = i.pen ∙ sym w.pen ∙ sym h.pen;
       ends = h.ends;
       column = omega (arith, h.within.column, w.within.column, i.column);

@@ -7,8 +7,8 @@ use Rattle.page_scopes_text.proofs.texts.give_spaced_words.Given as goal
 
 abbrev pub invariant-loop-rest : goal.invariant-loop-rest
 invariant-loop-rest g l = record {
-  came : CameUpTo g.O.PieceOut.left l.fn.out (others_items l.style l.line l.fn.pen (words_of l.style.is_quoted l.text).others)
-      (others_items l.style l.line l.pen (words_of l.style.is_quoted l.rest).others) l.out;
+  came : CameUpTo g.O.PieceOut.left l.fn.out (others_items l.style l.line l.front l.fn.pen (words_of l.style.is_quoted l.text).others)
+      (others_items l.style l.line l.front l.pen (words_of l.style.is_quoted l.rest).others) l.out;
   pen : others_after l.style l.fn.pen (words_of l.style.is_quoted l.text).others
       ≡ others_after l.style l.pen (words_of l.style.is_quoted l.rest).others;
   ends : begins_word l.rest ≡ false;
