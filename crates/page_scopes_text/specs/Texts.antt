@@ -71,11 +71,14 @@ indented_items quoted line pen part =
     ++ (white_cells (place_after line pen part.white) part.white
     ++ body_items quoted (place_after line pen part.white) (indented_pen pen part.white) part.word))
 
--- in a row that is kept a blank parts it from the word before it
+-- in a row that is kept a blank parts it from the word before it; where no word follows, the blank is at the last word, too
+abbrev pub gap_place : (line last : ℕ) → Pen → Spaced → Place
+gap_place line last pen part = at line (if length part.word == 0 then last else pen.column)
+
 abbrev pub leading_items : TextStyle → (line last : ℕ) → Pen → Spaced → List Item
 leading_items style line last pen part =
     if is_indented style then indented_items style.is_quoted line pen part
-    else (if has_gap_cells style pen then blank_cells 1 R (at line pen.column) else []) ++ spaced_items style line last pen part
+    else (if has_gap_cells style pen then blank_cells 1 R (gap_place line last pen part) else []) ++ spaced_items style line last pen part
 
 abbrev pub leading_after : TextStyle → Pen → Spaced → Pen
 leading_after style pen part =

@@ -1,6 +1,6 @@
 //! Texts: words, and the white space between them (roff(7), "LANGUAGE SYNTAX").
 
-ghost use Rattle.std.specs.Prelude.{◌≡◌, ℕ, ◌≤◌, ◌<◌, ◌+◌, ◌^◌, true, false, length};
+ghost use Rattle.std.specs.Prelude.{◌≡◌, ℕ, ◌≤◌, ◌<◌, ◌+◌, ◌==◌, ◌^◌, true, false, if◌then◌else◌, length};
 ghost use Rattle.page_core_base.specs.Latches.{Came, CameUpTo};
 ghost use Rattle.page_core_escapes.specs.Tokens.{begins_white, begins_word};
 ghost use Rattle.page_scopes_text.specs.Parted.{spaced_front, words_of};
@@ -257,6 +257,18 @@ fn give_indented<'a, O: PieceOut>(
     give_body(out, quoted, place, pen, rest)
 }
 
+// The column of the blank before white space at a text's front: that of the white space, or of the last word, where no word follows.
+fn gap_column(quoted: bool, front: &Front<'_>, pen: &Pen, text: &[u8]) -> u32
+    requires { length text.now ≤ LINE }
+    ensures { result ≡ (if length (spaced_front quoted text.now).word == 0 then front.now else pen.now.column) }
+{
+    if begins_word(&text[read_token(quoted, text).len()..]) {
+        pen.column
+    } else {
+        front.last_word()
+    }
+}
+
 // Gives the white space at a text's front, and the word after it; what is left of the text. It is a call, since few texts begin so.
 #[inline(never)]
 fn give_leading<'a, O: PieceOut>(
@@ -280,7 +292,7 @@ fn give_leading<'a, O: PieceOut>(
     if pen.has_gap_cells(style) {
         let place = Place {
             line,
-            column: pen.column,
+            column: gap_column(style.is_quoted, front, pen, text),
         };
         give_blank_cells(out, 1, Font::R, place);
     }
