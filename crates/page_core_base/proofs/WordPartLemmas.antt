@@ -1,7 +1,7 @@
 -- The parts of a word, byte by byte.
-use Rattle.std.proofs.Common.{◌≡◌, ℕ, zero, suc, ◌+◌, ◌-◌, ◌<◌, ◌≤◌, true, false, not, ◌==◌, List, [], ◌∷◌, ◌++◌, length, take, drop, get_or, refl, sym, ap, subst, ◌∙◌, arith, inl, inr}
+use Rattle.std.proofs.Common.{◌≡◌, ℕ, ◌+◌, ◌<◌, ◌≤◌, true, false, not, ◌==◌, List, [], ◌∷◌, ◌++◌, length, take, drop, get_or, refl, sym, ap, ◌∙◌, arith, inl, inr}
 use Rattle.std.specs.List.{list_all, list_any}
-use Rattle.std.proofs.lemmas.List.{drop-drop, drop_all, drop_more, take_all, take_more}
+use Rattle.std.proofs.lemmas.List.{drop_all, drop_more, take_all, take_more}
 use Rattle.std.proofs.lemmas.Bool.{cases_Bool}
 use Rattle.std.proofs.lemmas.Bool.Decides.{nat_tests}
 use Rattle.page_core_base.specs.Words.{ends_part, hyphen, in_first, parts_after, parts_of}
@@ -46,35 +46,6 @@ whole-first (b ∷ bytes) some none =
     let all : take (length (b ∷ bytes)) (b ∷ bytes) ≡ b ∷ bytes = take_all (length (b ∷ bytes)) (b ∷ bytes) (omega arith) in
     let rest : drop (length (b ∷ bytes)) (b ∷ bytes) ≡ [] = drop_all (length (b ∷ bytes)) (b ∷ bytes) (omega arith) in
     rw (all, rest) (whole-after hyphen b bytes none)
-
--- ---- what is after a place
-
-free-drop : (n : ℕ) (text : List ℕ) → list_any (λ byte. byte == hyphen) text ≡ false → list_any (λ byte. byte == hyphen) (drop n text) ≡ false
-free-drop zero text none = none
-free-drop (suc n) [] none = none
-free-drop (suc n) (b ∷ bytes) none = free-drop n bytes (grind (arith, none))
-
--- where there is no hyphen after a place, there is none after a later one
-pub free-after : (text : List ℕ) (place later : ℕ) → place ≤ later → list_any (λ byte. byte == hyphen) (drop place text) ≡ false
-    → list_any (λ byte. byte == hyphen) (drop later text) ≡ false
-free-after text place later le none =
-    let same : place + (later - place) ≡ later = omega arith in
-    subst (λ n. list_any (λ byte. byte == hyphen) (drop n text) ≡ false) same
-    (subst (λ (l : List ℕ). list_any (λ byte. byte == hyphen) l ≡ false) (drop-drop (later - place) place text) (free-drop (later - place) (drop place text) none))
-
--- where there is none among the first bytes, nor among the last, which overlap them
-pub free-ends : (text : List ℕ) (group : ℕ) → group ≤ length text → length text ≤ group + group → list_any (λ byte. byte == hyphen) (take group text) ≡ false
-    → list_any (λ byte. byte == hyphen) (drop (length text - group) text) ≡ false → list_any (λ byte. byte == hyphen) text ≡ false
-free-ends text group long short front back =
-    free-append group text front (free-after text (length text - group) group (omega (arith, short)) back)
-  where
-    free-append : (n : ℕ) (text : List ℕ) → list_any (λ byte. byte == hyphen) (take n text) ≡ false → list_any (λ byte. byte == hyphen) (drop n text) ≡ false
-        → list_any (λ byte. byte == hyphen) text ≡ false
-    free-append zero text front back = back
-    free-append (suc n) [] front back = back
-    free-append (suc n) (b ∷ bytes) front back =
-        let later = free-append n bytes (grind (arith, front)) back in
-        grind (arith, front, later)
 
 -- ---- the first part, byte by byte
 

@@ -1,6 +1,6 @@
 use Rattle.std.proofs.Common.{length, ◌-◌}
 use Rattle.page_core_base.proofs.WordPartLemmas.{GoesOn}
-use Rattle.page_core_base.proofs.word_parts.hyphened_part_len.Given as goal
+use Rattle.page_core_base.proofs.word_parts.first_part_len.Given as goal
 
 abbrev pub invariant-loop-len : goal.invariant-loop-len
 invariant-loop-len l = GoesOn l.word l.len l.before
