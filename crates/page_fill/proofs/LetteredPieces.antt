@@ -22,7 +22,6 @@ use Rattle.page_fill_rows.proofs.PlainLemmas.{are_plain, characters_of-plain}
 use Rattle.page_fill_rows.proofs.WrapLemmas.{both}
 use Rattle.page_fill.specs.machine.Fill.{Edge, begun_word, laid, laid_piece, on_sheet, opening, text}
 use Rattle.page_fill.proofs.BlankTextLemmas.{goes-on}
-use Rattle.page_fill.specs.machine.PlainWords.{takes_word}
 use Rattle.page_fill.proofs.PlainWordLemmas.{character-text, opening-fits, opening-one, text-plain}
 
 -- the characters of cells
@@ -206,6 +205,5 @@ word-laid-after e m word place placed is plain room =
     let within : length e.sheet.cells + suc m + length (word_letters word) ≤ CELLS = grind (arith, nat_tests, room) in
     let len : length (spaced_by e.sheet (suc m)).cells ≡ length e.sheet.cells + suc m =
     length-append e.sheet.cells (replicate (suc m) blank) ∙ ap (λ k. length e.sheet.cells + k) (length-replicate (suc m) blank) in
-    let takes : takes_word (waiting e (suc m)) (length (word_letters word)) ≡ true = grind (arith, nat_tests, room) in
     after-blanks e (suc m) word (nothing (spaced_by e.sheet (suc m))) place placed is plain (omega (arith, len, within))
-    (λ p. opening-fits (waiting e (suc m)) m (length (word_letters word)) p refl takes)
+    (λ p. opening-fits (waiting e (suc m)) m (length (word_letters word)) p refl refl refl room)

@@ -1,5 +1,5 @@
--- A plain text, one that goes on with the last word of the open row, a plain word that goes into that row, and one before which the row ends.
-use Rattle.std.proofs.Common.{◌≡◌, ℕ, suc, ◌+◌, ◌-◌, ◌≤◌, true, false, ◌==◌, List, [], ◌∷◌, length, append-nil, refl, ap, ◌∙◌, arith}
+-- A plain text, one that goes on with the last word of the open row, a character, and the blanks before a word.
+use Rattle.std.proofs.Common.{◌≡◌, ℕ, suc, ◌+◌, ◌≤◌, true, false, ◌==◌, List, [], ◌∷◌, length, append-nil, refl, arith}
 use Rattle.std.proofs.lemmas.Bool.Decides.{nat_tests}
 use Rattle.page_core_base.specs.declared.cells.Font.{Font}
 use Rattle.page_core_base.specs.declared.places.Place.{Place}
@@ -7,11 +7,9 @@ use Rattle.page_core_base.specs.Laid.{nothing, join}
 use Rattle.page_core_base.specs.declared.limits.TheConstants.{CELLS}
 use Rattle.page_fill_rows.specs.machine.Sheets.{columns, letters, opens, over, space, spaces}
 use Rattle.page_fill_rows.specs.Characters.{cells_of, character, characters}
-use Rattle.page_fill_rows.specs.machine.Plain.{ends_before, has_part_room, has_room, has_word_room, is_printable_ascii, spaced_by, taken, wraps_plain}
-use Rattle.page_fill_rows.proofs.PlainLemmas.{characters-plain, letters-fits, spaced-room, spaces-fit}
-use Rattle.page_fill_rows.proofs.WrapLemmas.{both-plain}
+use Rattle.page_fill_rows.specs.machine.Plain.{has_part_room, has_room, has_word_room, is_printable_ascii, spaced_by, taken}
+use Rattle.page_fill_rows.proofs.PlainLemmas.{characters-plain, letters-fits, spaces-fit}
 use Rattle.page_fill.specs.machine.Fill.{Edge, text, one_character, opening, on_sheet, begun_word, stands}
-use Rattle.page_fill.specs.machine.PlainWords.{takes_word, wraps_word}
 
 pub text-plain : (e : Edge) (bytes : List ℕ) (font : Font) (place : Place) → is_printable_ascii bytes ≡ true → (length bytes == 0) ≡ false
     → text e bytes font place
@@ -38,16 +36,12 @@ character-text e c font place =
     let f = (opening e place).edge in
     rw (append-nil (character f.output f.sheet c font place).rows, append-nil (character f.output f.sheet c font place).notes) refl
 
--- ---- a word after blanks
+-- ---- the blanks before a word
 
-pub opening-fits : (e : Edge) (m n : ℕ) (place : Place) → e.word.blanks ≡ suc m → takes_word e n ≡ true
-    → opening e place ≡ nothing (record e { sheet = spaced_by e.sheet e.word.blanks; word = begun_word false })
+pub opening-fits : (e : Edge) (m n : ℕ) (place : Place) → e.word.is_joined ≡ false → e.word.has_tab ≡ false → e.word.blanks ≡ suc m
+    → has_word_room e.sheet (suc m) n ≡ true → opening e place ≡ nothing (record e { sheet = spaced_by e.sheet (suc m); word = begun_word false })
 unfolding opening
-opening-fits e m n place is takes =
-    let joined : e.word.is_joined ≡ false = grind (arith, takes) in
-    let tab : e.word.has_tab ≡ false = grind (arith, takes) in
-    let held : has_word_room e.sheet e.word.blanks n ≡ true = grind (arith, takes) in
-    let room : has_word_room e.sheet (suc m) n ≡ true = rw is at held in
+opening-fits e m n place joined tab is room =
     let literal : e.sheet.literal ≡ false = grind (arith, room) in
     let some : (length e.sheet.cells == 0) ≡ false = grind (arith, nat_tests, room) in
     let stood : stands e ≡ false = grind (arith, literal, some) in
@@ -55,40 +49,9 @@ opening-fits e m n place is takes =
     let narrow : e.sheet.margin + columns e.sheet.cells + suc m ≤ e.sheet.width = grind (arith, nat_tests, room) in
     rw (joined, tab, is, stood, spaces-fit (opens e.sheet) m place literal some within narrow) refl
 
-pub text-word : (e : Edge) (bytes : List ℕ) (font : Font) (place : Place) → is_printable_ascii bytes ≡ true → (length bytes == 0) ≡ false → takes_word e (length bytes) ≡ true
-    → text e bytes font place ≡ nothing (record e { sheet = taken (spaced_by e.sheet e.word.blanks) (cells_of font bytes); word = begun_word false })
-text-word e bytes font place plain some takes =
-    let room : has_word_room e.sheet e.word.blanks (length bytes) ≡ true = grind (arith, takes) in
-    let is : e.word.blanks ≡ suc (e.word.blanks - 1) = grind (arith, nat_tests, takes) in
-    let opens = opening-fits e (e.word.blanks - 1) (length bytes) place is takes in
-    rw (text-plain e bytes font place plain some, opens, letters-fits (spaced_by e.sheet e.word.blanks) bytes font place some plain (spaced-room e.sheet e.word.blanks (length bytes) room)) refl
-
--- ---- a word before which the row ends
-
 pub opening-one : (e : Edge) (place : Place) → e.word.is_joined ≡ false → e.word.has_tab ≡ false → e.word.blanks ≡ 1 → e.sheet.literal ≡ false
     → (length e.sheet.cells == 0) ≡ false → opening e place ≡ over (space (opens e.sheet) place) (λ s. record e { sheet = s; word = begun_word false })
 unfolding opening spaces
 opening-one e place joined tab one literal some =
     let stood : stands e ≡ false = grind (arith, literal, some) in
     rw (joined, tab, one, stood, append-nil (space (opens e.sheet) place).rows, append-nil (space (opens e.sheet) place).notes) refl
-
-opening-wraps : (e : Edge) (n : ℕ) (place : Place) → wraps_word e n ≡ true
-    → opening e place ≡ over (space (opens e.sheet) place) (λ s. record e { sheet = s; word = begun_word false })
-opening-wraps e n place wraps =
-    let joined : e.word.is_joined ≡ false = grind (arith, wraps) in
-    let tab : e.word.has_tab ≡ false = grind (arith, wraps) in
-    let one : e.word.blanks ≡ 1 = grind (arith, nat_tests, wraps) in
-    let ends : ends_before e.sheet n ≡ true = grind (arith, wraps) in
-    let literal : e.sheet.literal ≡ false = grind (arith, ends) in
-    let some : (length e.sheet.cells == 0) ≡ false = grind (arith, nat_tests, ends) in
-    opening-one e place joined tab one literal some
-
-pub text-wrap : (e : Edge) (bytes : List ℕ) (font : Font) (place : Place) → is_printable_ascii bytes ≡ true → (length bytes == 0) ≡ false
-    → wraps_word e (length bytes) ≡ true
-    → text e bytes font place ≡ over (wraps_plain e.sheet (cells_of font bytes)) (λ s. record e { sheet = s; word = begun_word false })
-text-wrap e [] font place plain some wraps = absurd (grind (arith, some))
-text-wrap e (b ∷ bytes) font place plain some wraps =
-    let ends : ends_before e.sheet (length (b ∷ bytes)) ≡ true = grind (arith, wraps) in
-    text-plain e (b ∷ bytes) font place plain some
-    ∙ (rw (opening-wraps e (length (b ∷ bytes)) place wraps) refl
-    ∙ ap (λ l. over l (λ s. record e { sheet = s; word = begun_word false })) (both-plain e.sheet b bytes font place plain ends))

@@ -1,17 +1,14 @@
 //! Words, breaks and tags: what is held between two pieces.
 
-ghost use Rattle.std.specs.Prelude.{◌≡◌, ◌≤◌, ◌==◌, length, replicate, Some, true, false, []};
+ghost use Rattle.std.specs.Prelude.{◌≡◌, ◌≤◌, replicate, Some, true, []};
 ghost use Rattle.std.specs.Str.{chars};
-ghost use Rattle.page_core_base.specs.Laid.{nothing};
 ghost use Rattle.page_core_base.specs.Latches.{CameRows, LaysOut};
 ghost use Rattle.page_core_base.specs.declared.blank_texts.TheConstants.{BLANK_TEXT};
 ghost use Rattle.page_core_base.specs.declared.pieces.Piece.TheVariants.{Text};
-ghost use Rattle.page_core_base.specs.declared.places.Place.{Place};
 ghost use Rattle.page_fill_rows.specs.Characters.{characters_of};
 ghost use Rattle.page_fill_rows.specs.machine.Plain as plain;
 ghost use Rattle.page_fill.specs.Edges.{counted_tag};
 ghost use Rattle.page_fill.specs.machine.Fill as fill;
-ghost use Rattle.page_fill.specs.machine.PlainWords as plain_words;
 
 use crate::{HANG_MAX, TAB_STOP};
 use page_core_base::{Cell, Font, Note, NoteKind, Output, Place, RowOut, TagForm};
@@ -181,84 +178,6 @@ impl Edge {
         put_characters(&mut self.sheet, self.output, text, font, place, out);
     }
 
-    // Whether the next word, with this count of cells of a column each, goes into the row after its blanks.
-    fn takes_word(&self, count: usize) -> bool
-        ensures { result ≡ plain_words.takes_word self.now count }
-    {
-        let word = &self.word;
-        !word.is_joined
-            && !word.has_tab
-            && 0 < word.blanks
-            && self.sheet.has_word_room(word.blanks, count)
-    }
-
-    // Whether the next word, with this count of cells of a column each, begins the next row after one blank.
-    fn wraps_word(&self, count: usize) -> bool
-        ensures { result ≡ plain_words.wraps_word self.now count }
-    {
-        let word = &self.word;
-        !word.is_joined && !word.has_tab && word.blanks == 1 && self.sheet.ends_before(count)
-    }
-
-    // Takes a word that the open row has room for after its blanks, if it is plain; says whether it did.
-    #[inline(always)]
-    fn takes_new_word(&mut self, bytes: &[u8], font: Font) -> bool
-        requires { (length bytes.now == 0) ≡ false }
-        ensures taken { result ≡ true → (place : Place)
-            → fill.text self.old (characters_of bytes.now) font place ≡ nothing self.new }
-        ensures same { result ≡ false → self.new ≡ self.old }
-    {
-        let blanks = self.word.blanks;
-        if !self.takes_word(bytes.len()) {
-            return false;
-        }
-        if !self.sheet.add_word(blanks, bytes, font) {
-            return false;
-        }
-        self.word = OpenWord::begun(false);
-        true
-    }
-
-    // Takes a text that goes on with the row's last word, if it is plain and the row has room for it; says whether it did. It is a call, so that
-    // what gives pieces stays small.
-    #[inline(never)]
-    fn takes_part(&mut self, bytes: &[u8], font: Font) -> bool
-        requires some { (length bytes.now == 0) ≡ false }
-        requires joined { self.old.word.is_joined ≡ true }
-        ensures taken { result ≡ true → (place : Place)
-            → fill.text self.old (characters_of bytes.now) font place ≡ nothing self.new }
-        ensures same { result ≡ false → self.new ≡ self.old }
-    {
-        self.sheet.has_part_room(bytes.len()) && self.sheet.add_part(bytes, font)
-    }
-
-    /// Takes a text that is a word or goes on with one, if it is plain and the open row has room for it; says whether it did.
-    #[inline(always)]
-    pub(crate) fn takes_at_once(&mut self, bytes: &[u8], font: Font) -> bool
-        ensures taken { result ≡ true → (place : Place)
-            → fill.text self.old (characters_of bytes.now) font place ≡ nothing self.new }
-        ensures same { result ≡ false → self.new ≡ self.old }
-    {
-        if bytes.is_empty() {
-            return false;
-        }
-        if self.word.is_joined {
-            self.takes_part(bytes, font)
-        } else {
-            self.takes_new_word(bytes, font)
-        }
-    }
-
-    /// The same of a character.
-    #[inline(never)]
-    pub(crate) fn takes_character(&mut self, c: char, font: Font) -> bool
-        ensures taken { result ≡ true → (place : Place)
-            → fill.one_character self.old c font place ≡ nothing self.new }
-        ensures same { result ≡ false → self.new ≡ self.old }
-    {
-        c.is_ascii() && self.takes_at_once(&[c as u8], font)
-    }
-
     // Takes a plain text.
     #[inline(always)]
     #[tactic(auto, unfolding(crate::specs::machine::Fill::text))]
@@ -268,11 +187,6 @@ impl Edge {
     {
         if bytes.is_empty() {
             self.word.is_open = true;
-            return;
-        }
-        if self.wraps_word(bytes.len()) {
-            self.sheet.wrap_plain(bytes, font, out);
-            self.word = OpenWord::begun(false);
             return;
         }
         self.open_word(place, out);

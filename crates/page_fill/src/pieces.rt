@@ -1,8 +1,8 @@
 //! Pieces, one by one, over two sinks.
 
-ghost use Rattle.std.specs.Prelude.{◌≡◌, ◌≤◌, replicate, IfOk, true, false};
+ghost use Rattle.std.specs.Prelude.{◌≡◌, ◌≤◌, replicate, IfOk};
 ghost use Rattle.page_core_base.specs.Fails.{FailsBySink};
-ghost use Rattle.page_core_base.specs.Laid.{Gets, nothing};
+ghost use Rattle.page_core_base.specs.Laid.{Gets};
 ghost use Rattle.page_core_base.specs.Latches.{LaysOut};
 ghost use Rattle.page_core_base.specs.Pieces.{piece_of};
 ghost use Rattle.page_core_base.specs.declared.blank_texts.TheConstants.{BLANK_TEXT};
@@ -42,46 +42,6 @@ fn take_piece<O: RowOut>(edge: &mut Edge, piece: Piece<&[u8]>, out: &mut O)
         Piece::Tag { hang, form } => edge.begin_tag(hang, form),
         Piece::Column(column) => edge.column(column),
     }
-}
-
-// Takes a blank, or a plain text that the open row has room for, and says whether it was one of these, which settle nothing. Most of a page
-// is made of them.
-#[inline(always)]
-#[tactic(auto, unfolding(crate::specs::machine::Fill::laid_piece))]
-fn takes_at_once(edge: &mut Edge, piece: Piece<&[u8]>) -> bool
-    ensures taken { result ≡ true → fill.laid_piece edge.old (piece_of piece.entry) ≡ nothing edge.new }
-    ensures same { result ≡ false → edge.new ≡ edge.old }
-{
-    match piece {
-        Piece::Blank { count, has_tab } => {
-            edge.word.end(count, has_tab);
-            true
-        }
-        Piece::Text { text, font, .. } => edge.takes_at_once(text, font),
-        Piece::Char { c, font, .. } => edge.takes_character(c, font),
-        _ => false,
-    }
-}
-
-// Takes a piece over two sinks.
-#[inline(always)]
-fn fill_piece<R: RowSink, N: NoteSink>(
-    edge: &mut Edge,
-    piece: Piece<&[u8]>,
-    rows: &mut R,
-    notes: &mut N,
-) -> Result<(), Fault>
-    ensures gets { Gets result R.gave R.within N.gave N.within rows.old rows.new notes.old notes.new
-        (fill.laid_piece edge.old (piece_of piece.entry)) }
-    ensures edge { edge.new ≡ (fill.laid_piece edge.old (piece_of piece.entry)).edge }
-    ensures faults { FailsBySink result (R.failed rows.old) (R.failed rows.new) (N.failed notes.old)
-        (N.failed notes.new) }
-    ensures rows_same { R.loans rows.new ≡ R.loans rows.old }
-    ensures notes_same { N.loans notes.new ≡ N.loans notes.old }
-{
-    let mut latch = RowLatch::new(rows, notes);
-    take_piece(edge, piece, &mut latch);
-    latch.done()
 }
 
 impl Edge {
@@ -129,10 +89,9 @@ impl Edge {
         ensures rows_same { R.loans rows.new ≡ R.loans rows.old }
         ensures notes_same { N.loans notes.new ≡ N.loans notes.old }
     {
-        if takes_at_once(self, piece) {
-            return Ok(());
-        }
-        fill_piece(self, piece, rows, notes)
+        let mut latch = RowLatch::new(rows, notes);
+        take_piece(self, piece, &mut latch);
+        latch.done()
     }
 
     /// Takes as many texts of a count of blanks that are cells, at most [`BLANK_TEXT`] of them in each. Its faults are those of the sinks.

@@ -267,20 +267,4 @@ impl RowCells {
             self.push(BLANK);
         }
     }
-
-    /// Appends blanks and a cell of each byte, if all bytes are printable ASCII, and says whether they are.
-    pub fn add_word(&mut self, blanks: u32, bytes: &[u8], font: Font) -> bool
-        requires { length self.old + blanks + length bytes.now ≤ CELLS }
-        ensures answer { result ≡ cells.is_printable_ascii bytes.now }
-        ensures cells { self.new ≡ (if result
-            then self.old ++ replicate blanks cells.blank ++ cells.cells_of font bytes.now
-            else self.old) }
-    {
-        if !is_printable_ascii(bytes) {
-            return false;
-        }
-        self.add_spaces(blanks);
-        self.add_plain(bytes, font);
-        true
-    }
 }

@@ -4,7 +4,6 @@ pub mod PlainLemmas
 pub mod WordStartLemmas
 pub mod GroupLemmas
 pub mod WrapLemmas
-pub mod PlainLaw
 pub mod PutBlankLemmas
 pub mod AnywhereLemmas
 pub mod RowLatchLemmas

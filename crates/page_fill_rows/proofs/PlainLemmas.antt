@@ -184,16 +184,6 @@ pub taken-cells : (s : Sheet) (blanks : ℕ) (cells : List Cell) → (length s.c
     }
 taken-cells s blanks cells some = rw (has-front s.cells (replicate blanks blank) some, counts-both s.tag_columns blanks (length cells)) refl
 
-pub taken-word : (s : Sheet) (blanks : ℕ) (bytes : List ℕ) (font : Font) → (length s.cells == 0) ≡ false
-    → taken (spaced_by s blanks) (cells_of font bytes) ≡ record s {
-      cells = s.cells ++ replicate blanks blank ++ cells_of font bytes;
-      gap = length s.cells;
-      word = length s.cells + blanks;
-      tag_columns = min (s.tag_columns + (blanks + length bytes)) TAG_COLUMNS;
-      tag_begun = true;
-    }
-taken-word s blanks bytes font some = rw (taken-cells s blanks (cells_of font bytes) some, length-map bytes (cell_of font)) refl
-
 -- a sound row with blanks before its next word is sound
 pub sound-spaces : {held : ℕ} (cells : List Cell) (blanks count gap word tag tag-now : ℕ) → IsSound cells count gap word tag held
     → length cells + blanks ≤ CELLS → tag-now ≤ TAG_COLUMNS → IsSound (cells ++ replicate blanks blank) (count + blanks) (length cells) (length cells + blanks) tag-now held
@@ -205,27 +195,6 @@ sound-spaces cells blanks count gap word tag tag-now sound room tagged =
     record {
       bounded = omega (arith, len, room);
       counted = ap (λ k. k + blanks) sound.counted ∙ sym sum;
-      narrow = omega (arith, len, sound.narrow);
-      gap_within = omega arith;
-      word_within = omega (arith, len);
-      tag_within = tagged;
-      blanks_within = sound.blanks_within;
-    }
-
--- a sound row with blanks and the cells of a plain text is sound
-pub sound-word : {held : ℕ} (cells : List Cell) (blanks : ℕ) (bytes : List ℕ) (font : Font) (count gap word tag tag-now : ℕ) → IsSound cells count gap word tag held
-    → is_printable_ascii bytes ≡ true → length cells + blanks + length bytes ≤ CELLS → tag-now ≤ TAG_COLUMNS
-    → IsSound (cells ++ replicate blanks blank ++ cells_of font bytes) (count + (blanks + length bytes)) (length cells) (length cells + blanks) tag-now held
-sound-word cells blanks bytes font count gap word tag tag-now sound plain room tagged =
-    let front = length-append cells (replicate blanks blank) in
-    let whole = length-append (cells ++ replicate blanks blank) (cells_of font bytes) in
-    let len : length (cells ++ replicate blanks blank ++ cells_of font bytes) ≡ length cells + (blanks + length bytes) = omega (arith, whole, front, length-replicate blanks blank, length-map bytes (cell_of font)) in
-    let wide = sum_by-append cell_columns cells (replicate blanks blank) in
-    let all = sum_by-append cell_columns (cells ++ replicate blanks blank) (cells_of font bytes) in
-    let sum : columns (cells ++ replicate blanks blank ++ cells_of font bytes) ≡ columns cells + (blanks + length bytes) = omega (arith, all, wide, columns-blanks blanks, columns-plain font bytes plain) in
-    record {
-      bounded = omega (arith, len, room);
-      counted = ap (λ k. k + (blanks + length bytes)) sound.counted ∙ sym sum;
       narrow = omega (arith, len, sound.narrow);
       gap_within = omega arith;
       word_within = omega (arith, len);
@@ -247,9 +216,6 @@ characters_of-ascii bytes ascii = characters_of-text bytes (IsUtf8-from_ascii by
 
 pub characters_of-plain : (bytes : List ℕ) → is_printable_ascii bytes ≡ true → characters_of bytes ≡ bytes
 characters_of-plain bytes plain = characters_of-ascii bytes (ascii-plain bytes plain)
-
-pub characters_of-letter : (c : ℕ) → c < 128 → characters_of (c ∷ []) ≡ c ∷ []
-characters_of-letter c below = characters_of-ascii (c ∷ []) (IsAscii-cons c [] below IsAscii-nil)
 
 -- a plain byte prints itself
 prints-itself : (output : Output) (b : ℕ) → is_printable b ≡ true → char_printed output b ≡ known (b ∷ [])
@@ -302,5 +268,3 @@ spaced-room s blanks n room =
     let sum : columns (s.cells ++ replicate blanks blank) ≡ columns s.cells + blanks = sum_by-append cell_columns s.cells (replicate blanks blank) ∙ ap (λ k. columns s.cells + k) (columns-blanks blanks) in
     let len : length (s.cells ++ replicate blanks blank) ≡ length s.cells + blanks = length-append s.cells (replicate blanks blank) ∙ ap (λ k. length s.cells + k) (length-replicate blanks blank) in
     rw (sum, len) (grind (arith, nat_tests, room))
-
--- ---- a word that goes on in the next row

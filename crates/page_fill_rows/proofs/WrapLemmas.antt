@@ -3,19 +3,16 @@ use Rattle.std.proofs.Common.{◌≡◌, ℕ, suc, ◌+◌, ◌<◌, ◌≤◌, 
 use Rattle.std.proofs.Math.Seq.{take-append_seam, take-length, drop-append-add}
 use Rattle.std.proofs.lemmas.Bool.{cases_Bool}
 use Rattle.std.proofs.lemmas.Bool.Decides.{nat_tests}
-use Rattle.std.proofs.lemmas.List.{length-map}
 use Rattle.std.proofs.lemmas.List.Sums.{sum_by-append}
 use Rattle.page_core_base.specs.declared.cells.Cell.{Cell}
-use Rattle.page_core_base.specs.declared.cells.Font.{Font}
 use Rattle.page_core_base.specs.declared.places.Place.{Place}
 use Rattle.page_core_base.specs.Laid.{Laid, nothing, join}
 use Rattle.page_core_base.specs.Rows.{row_of}
 use Rattle.page_core_base.specs.declared.limits.TheConstants.{CELLS}
 use Rattle.page_fill_rows.specs.declared.TheConstants.{TAG_COLUMNS}
 use Rattle.page_fill_rows.specs.machine.Sheets.{Sheet, blank, cell_columns, columns, counted, emptied, given, gives, letter, letters, opens, over, passes, space, wraps}
-use Rattle.page_fill_rows.specs.Characters.{cell_of, cells_of}
-use Rattle.page_fill_rows.specs.machine.Plain.{ends_before, has_room, is_printable_ascii, spaced, wraps_plain}
-use Rattle.page_fill_rows.proofs.PlainLemmas.{are_plain, blank-one, cells-fit, counts-more, first-column, has-more, of-plain, others-plain}
+use Rattle.page_fill_rows.specs.machine.Plain.{ends_before, has_room, spaced, wraps_plain}
+use Rattle.page_fill_rows.proofs.PlainLemmas.{are_plain, blank-one, cells-fit, counts-more, first-column, has-more, others-plain}
 use Rattle.page_fill_rows.proofs.SheetLemmas.{letters-one}
 
 -- the row of some cells was given, and the next one has others
@@ -162,9 +159,3 @@ both-cells s cell cells place plain ends =
           let wraps = letters-wrap t s.cells [] cell cells place refl refl refl literal held (omega (arith, len, room)) (omega (arith, sum, wide)) plain in
           rw (space-stays s place some p full, p, wraps) refl
     ]
-
--- the same of a plain text
-pub both-plain : (s : Sheet) (b : ℕ) (bytes : List ℕ) (font : Font) (place : Place) → is_printable_ascii (b ∷ bytes) ≡ true
-    → ends_before s (length (b ∷ bytes)) ≡ true → both s (cells_of font (b ∷ bytes)) place ≡ wraps_plain s (cells_of font (b ∷ bytes))
-both-plain s b bytes font place plain ends =
-    both-cells s (cell_of font b) (cells_of font bytes) place (of-plain font (b ∷ bytes) plain) (rw (length-map bytes (cell_of font)) ends)

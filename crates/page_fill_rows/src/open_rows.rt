@@ -453,17 +453,6 @@ impl OpenRow {
         columns <= u64::from(self.width)
     }
 
-    /// Whether a filled row ends before a blank and this count of cells of a column each after it.
-    pub fn ends_before(&self, count: usize) -> bool
-        ensures { result ≡ plain.ends_before self.now count }
-    {
-        if self.is_literal || self.row.is_empty() || CELLS - self.row.len() <= count {
-            return false;
-        }
-        let columns = u64::from(self.margin) + u64::from(self.columns) + 1 + count as u64;
-        u64::from(self.width) < columns
-    }
-
     // A word begins after the row's cells, and the blank before it counts for the open tag where it has room.
     fn count_blank(&mut self)
         ensures { self.new ≡ plain.blank_counted self.old }
@@ -504,17 +493,6 @@ impl OpenRow {
         self.has_tag_cell = true;
     }
 
-    /// The row ends, and a word of bytes, printable ASCII that fits a row, begins the next one.
-    pub fn wrap_plain<O: RowOut>(&mut self, bytes: &[u8], font: Font, out: &mut O)
-        requires plain { plain.is_printable_ascii bytes.now ≡ true }
-        requires room { length bytes.now ≤ CELLS }
-        ensures { LaysOut O.left out.old
-            (plain.wraps_plain self.old (shown.cells_of font bytes.now)) out.new self.new }
-    {
-        self.end_before_word(out);
-        self.add_plain(bytes, font);
-    }
-
     /// The row ends, and words of letters in fonts, with a blank between two, begin the next one, which fits them; the last of them starts at a place
     /// of the text.
     #[inline(always)]
@@ -528,28 +506,6 @@ impl OpenRow {
     {
         self.end_before_word(out);
         self.begin_words(text, fonts, start);
-    }
-
-    /// The row, which has a cell and room, takes blanks and after them a word of bytes, if these are printable ASCII; says whether they are.
-    pub fn add_word(&mut self, blanks: u32, bytes: &[u8], font: Font) -> bool
-        requires some { (length self.old.cells == 0) ≡ false }
-        requires room { length self.old.cells + blanks + length bytes.now ≤ CELLS }
-        ensures answer { result ≡ plain.is_printable_ascii bytes.now }
-        ensures word { result ≡ true
-            → self.new ≡ plain.taken (plain.spaced_by self.old blanks) (shown.cells_of font bytes.now) }
-        ensures same { result ≡ false → self.new ≡ self.old }
-    {
-        let gap = self.row.len();
-        if !self.row.add_word(blanks, bytes, font) {
-            return false;
-        }
-        self.gap = gap;
-        self.word = gap + blanks as usize;
-        let count = blanks + bytes.len() as u32;
-        self.columns += count;
-        self.tag_columns = (self.tag_columns + count).min(TAG_COLUMNS);
-        self.has_tag_cell = true;
-        true
     }
 
     /// The row, which has a cell and room, takes more bytes of its last word, if these are printable ASCII; says whether they are.

@@ -1,11 +1,7 @@
-use Rattle.page_fill_rows.proofs.PlainLaw.{texts-plain, words-plain, wraps-plain}
+use Rattle.std.proofs.Common.{arith}
+use Rattle.std.proofs.lemmas.Bool.Decides.{nat_tests}
+use Rattle.page_fill_rows.proofs.PlainLemmas.{letters-fits}
 use Rattle.page_fill_rows.proofs.laws.plain_law.Goals as goal
 
-pub returns-clause-texts : goal.returns-clause-texts
-returns-clause-texts c = texts-plain
-
-pub returns-clause-words : goal.returns-clause-words
-returns-clause-words c = words-plain
-
-pub returns-clause-wraps : goal.returns-clause-wraps
-returns-clause-wraps c = wraps-plain
+pub returns : goal.returns
+returns c = λ s bytes font place plain some room. letters-fits s bytes font place (grind (arith, nat_tests, some)) plain room

@@ -3,13 +3,13 @@ use Rattle.page_fill_rows.proofs.RowLatchLemmas.{latched}
 use Rattle.page_core_base.specs.Pieces.{piece_of}
 use Rattle.page_fill_rows.specs.machine.RowPlans.{seen}
 use Rattle.page_fill.specs.machine.Fill.{laid_piece}
-use Rattle.page_fill.proofs.pieces.fill_piece.Goals as goal
+use Rattle.page_fill.proofs.edges.Edge.piece.Goals as goal
 
 pub returns : goal.returns
 returns g c =
     let r = g.R.RowSink in
     let n = g.N.NoteSink in
-    let given = laid_piece c.args.edge.now (piece_of c.args.piece) in
+    let given = laid_piece c.args.self.now (piece_of c.args.piece) in
     let k = latched (seen r.gave r.within r.failed r.loans) (seen n.gave n.within n.failed n.loans) g.met.R.RowSink.laws g.met.N.NoteSink.laws given
     c.done.result c.new-latch.ensures.fault c.take_piece.ensures.0 c.done.ensures in
     record {
