@@ -1,9 +1,9 @@
 //! Lines of pages, each with what the scopes of its page give below it (`pages.rt`, in the notation of `shown.rt`).
 //!
-//! A line is text or a macro of man(7). One that begins with `|` is one of a table, as it is; one that begins with `^` is taken by a second set
-//! of macros, which shows each as it is; one that begins with `&` has events of mdoc(7), as `spelled.rt` says, and its end.
-//! A line `new` and a title begins a page, `page` one after a heading and a word; `end` ends it; `times N` takes the line after it N times, and
-//! shows the last.
+//! A line is text or a macro of man(7). One that begins with `|` is one of a table, as it is, and one with `~` a text as it was expanded; one that
+//! begins with `^` is taken by a second set of macros, which shows each as it is; one that begins with `&` has events of mdoc(7), as `spelled.rt`
+//! says, and its end. A line `new` and a title begins a page, `page` one after a heading and a word; `end` ends it; `times N` takes the line after it
+//! N times, and shows the last.
 
 mod pages;
 mod shown;

@@ -17,16 +17,6 @@ const TAKES: usize = 1_002;
 // The source lines of a page here at most.
 const LINES: u64 = 1_000_000;
 
-/// What takes the finished lines of roff, and its messages.
-pub(crate) trait LineSink {
-    /// Where messages go.
-    fn notes(&mut self) -> &mut Notes;
-
-    /// A finished line comes.
-    fn finished(&mut self, line: Taken<'_>) -> Result<(), Fault>
-        requires { length line.text.now ≤ LINE };
-}
-
 // ---- roff
 
 /// Roff before the first line. No caller here has to know its state, so that this says nothing of it: their proofs stay short.
@@ -44,29 +34,35 @@ fn begin_line(roff: &mut Roff, text: &[u8], number: u32) -> bool {
 }
 
 // Takes the next finished line of roff, and says whether there was one.
-fn take_line<L: LineSink>(roff: &mut Roff, lines: &mut L) -> Result<bool, Fault> {
-    match roff.take(lines.notes())? {
+fn take_line<S: MacroSet>(roff: &mut Roff, body: &mut Body<S>) -> Result<bool, Fault>
+where
+    S::Place: Drop,
+{
+    match roff.take(&mut body.sheet.kept.notes)? {
         Some(line) => {
-            lines.finished(line)?;
+            apply_line(&body.set, line, &mut body.scopes, &mut body.sheet)?;
             Ok(true)
         }
         None => Ok(false),
     }
 }
 
-/// Runs a source line to its end, up to which roff may not be idle.
-pub(crate) fn run_line<L: LineSink>(
+// Runs a source line to its end, up to which roff may not be idle.
+fn run_line<S: MacroSet>(
     roff: &mut Roff,
     text: &[u8],
     number: u32,
-    lines: &mut L,
-) -> Result<(), Fault> {
+    body: &mut Body<S>,
+) -> Result<(), Fault>
+where
+    S::Place: Drop,
+{
     if !begin_line(roff, text, number) {
         return Err(Fault::TooLong);
     }
     let was_idle = roff.idle();
     'takes: for _ in 0..TAKES {
-        if !take_line(roff, lines)? {
+        if !take_line(roff, body)? {
             break 'takes;
         }
     }
@@ -76,8 +72,8 @@ pub(crate) fn run_line<L: LineSink>(
     Ok(())
 }
 
-/// Roff goes on from its part of what is held of the page, where it is between two lines.
-pub(crate) fn cut_roff(alloc: Global, settings: &Settings, roff: &mut Roff) -> Result<(), Fault> {
+// Roff goes on from its part of what is held of the page, where it is between two lines.
+fn cut_roff(alloc: Global, settings: &Settings, roff: &mut Roff) -> Result<(), Fault> {
     if !roff.idle() {
         return Err(Fault::TooLong);
     }
@@ -91,8 +87,8 @@ pub(crate) fn cut_roff(alloc: Global, settings: &Settings, roff: &mut Roff) -> R
     }
 }
 
-/// Ends roff.
-pub(crate) fn end_roff(roff: &mut Roff, notes: &mut Notes) -> Result<(), Fault> {
+// Ends roff.
+fn end_roff(roff: &mut Roff, notes: &mut Notes) -> Result<(), Fault> {
     if roff.idle() {
         roff.end(notes)
     } else {
@@ -174,19 +170,6 @@ impl<S: MacroSet + Drop> Body<S> {
     fn finish(&mut self) -> Result<(), Fault> {
         self.scopes.finish(&mut self.sheet)?;
         self.sheet.finish()
-    }
-}
-
-impl<S: MacroSet> LineSink for Body<S>
-where
-    S::Place: Drop,
-{
-    fn notes(&mut self) -> &mut Notes {
-        &mut self.sheet.kept.notes
-    }
-
-    fn finished(&mut self, line: Taken<'_>) -> Result<(), Fault> {
-        apply_line(&self.set, line, &mut self.scopes, &mut self.sheet)
     }
 }
 

@@ -20,8 +20,6 @@ mod lines;
 #[cfg(test)]
 mod page_tests;
 #[cfg(test)]
-mod roff_tests;
-#[cfg(test)]
 mod sheets;
 #[cfg(test)]
 mod sinks;

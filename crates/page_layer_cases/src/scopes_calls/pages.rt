@@ -22,13 +22,14 @@ pub(crate) struct Page {
     line: u32,
 }
 
-// A line as roff hands it to a macro set; one that begins with `|` is one of a table.
+// A line as roff hands it to a macro set; one that begins with `|` is one of a table, and one that begins with `~` a text as it is.
 fn line_of(text: &[u8], line: u32) -> Taken<'_>
     requires { length text.now ≤ LINE }
     ensures { length result.text.now ≤ length text.now }
 {
     match text {
         [b'|', raw @ ..] => unnamed(Form::Raw, raw, line),
+        [b'~', expanded @ ..] => unnamed(Form::Text, expanded, line),
         _ => taken(text, line),
     }
 }

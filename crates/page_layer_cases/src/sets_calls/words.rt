@@ -32,6 +32,7 @@ fn give_words<'a>(kept: &mut KeptEvents<'a>, first: bool, text: &'a [u8])
     requires { length text.now ≤ LINE }
 {
     let line = ControlLine::new(taken(text, 7));
+    let text = line.text();
     let Some(row) = row_of(line.name()) else {
         return;
     };
