@@ -86,7 +86,11 @@ fn check_pieces(rt: &impl Abort, filler: &mut Filler, sinks: &mut Sinks) {
     let (rows, notes) = (&mut sinks.rows, &mut sinks.notes);
     check_answer(rt, give_all(filler, rows, notes), sinks.wanted);
     if sinks.wanted.is_err() {
-        check_answer(rt, give(filler, text(b"b"), rows, notes), Err(Fault::Failed));
+        check_answer(
+            rt,
+            give(filler, text(b"b"), rows, notes),
+            Err(Fault::Failed),
+        );
         check_answer(rt, end(filler, rows, notes), Err(Fault::Failed));
     }
 }
@@ -104,8 +108,16 @@ fn check(rt: &(impl Abort + AllocGlobal), mut sinks: Sinks, calls: (u64, u64)) {
         check_pieces(rt, &mut filler, &mut sinks);
     }
     let (rows, notes) = calls;
-    assert!(rt; rows == 0 || sinks.rows.calls == rows, "{} rows", sinks.rows.calls);
-    assert!(rt; notes == 0 || sinks.notes.calls == notes, "{} messages", sinks.notes.calls);
+    assert!(rt;
+        rows == 0 || sinks.rows.calls == rows,
+        "{} rows",
+        sinks.rows.calls
+    );
+    assert!(rt;
+        notes == 0 || sinks.notes.calls == notes,
+        "{} messages",
+        sinks.notes.calls
+    );
 }
 
 fn sinks(row: u64, note: u64, wanted: Result<(), Fault>) -> Sinks {

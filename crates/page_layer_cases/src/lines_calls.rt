@@ -1,8 +1,8 @@
 //! Pages that are cut into lines. A call is the name of an encoding, `auto`, `ascii`, `latin1` or `utf8`, and its text the page, in which `^` and two
 //! digits of base 16 stand for a byte, and `~N*TEXT~` for the text N times.
 //!
-//! Each line that is given follows, with its messages before it, its number, and a bar after it. A page is cut whole, byte by byte and in two chunks at
-//! each point; a page of more than 200 bytes in chunks of 3 bytes after 65,530 ones, and one of more than 100,000 bytes in chunks of the
+//! Each line that is given follows, with its messages before it, its number, and a bar after it. A page is cut whole, byte by byte and in two
+//! chunks at each point; a page of more than 200 bytes in chunks of 3 bytes after 65,530 ones, and one of more than 100,000 bytes in chunks of the
 //! longest line. Where lines are others than those of the whole page, a word says so.
 
 ghost use Rattle.std.specs.Prelude.{◌≡◌, ◌+◌, ◌^◌, ◌<◌, ◌≤◌, length, false, true, OnOk};

@@ -1,4 +1,4 @@
-//! Lines that a set of macros takes, each after the name of a call and a blank, with the events that it gives of them, in the notation of `events.rt`.
+//! Lines that a set of macros takes, each after the name of a call and a blank, and the events that it gives of them, as `events.rt` shows these.
 //!
 //! - `man` and `mdoc`: a control line whose raw text is its finished text; `named N`: one of man(7) whose name ends after N bytes (`lines.rt`).
 //! - `text`, `blank` and `raw`: a line of man(7) that is no control line; `other`: one in a set that shows each line as it is.

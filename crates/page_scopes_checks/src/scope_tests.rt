@@ -194,7 +194,10 @@ const CASES: [(&str, &str); 34] = [
     ("TtbwE", "PPTPBw)2)1 )0"),
     ("bXbB", "B!LineScope B;)0B!LineScope B;)0 "),
     ("b.E.", "B)0. "),
-    ("uEmErs", "!NotOpen UE;!NotOpen ME;!NotOpen RE;!NotOpen YS; "),
+    (
+        "uEmErs",
+        "!NotOpen UE;!NotOpen ME;!NotOpen RE;!NotOpen YS; ",
+    ),
     ("SUS", "SYUR!MissingEnd UR;)1)0SY !MissingEnd SY;)0"),
     ("MUm", "MTUR!BadNest UR;)1)0 "),
     ("qOwx", "BqOow !MissingEnd Oo;)1)0"),

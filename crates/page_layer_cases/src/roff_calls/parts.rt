@@ -7,8 +7,8 @@ use page_roff_blocks::{Branch, Head, LinePart, LinePlace, Opening, loop_text};
 use page_roff_heads::LoopHead;
 use page_roff_syntax::RegionHead;
 
-/// Shows the parts of a line, each with a bar after it: a leaf's text, `if`, `ie` or `el`, a loop's condition and the front of its body, `{` after what
-/// opens a block, `}`, or a region's name, the macro that it defines and its end name, after `!` where one was asked for that is too long.
+/// Shows the parts of a line, each with a bar after it: a leaf's text, `if`, `ie` or `el`, a loop's condition and the front of its body, `{` after
+/// what opens a block, `}`, or a region's name, the macro that it defines and its end name, after `!` where one was asked for that is too long.
 pub(crate) fn show_parts(rt: &HostRuntime, line: &str) {
     let line = line.as_bytes();
     if line.len() > LINE {
