@@ -45,7 +45,7 @@ target_word place target s = record {
       ++ (mark_items s.context.fonts.value.font place (codes "<")
       ++ (parts_items s.context.is_literal.value 1 place s.context.fonts (tokens_of false target.text)
       ++ mark_items (target_fonts target s.context).value.font place (codes ">")));
-  state = after_kept (record s {
+  state = after_kept place (record s {
     context = record s.context { fonts = target_fonts target s.context; has_row = true };
     heading = heading_broken s.context.part s.heading;
   });

@@ -66,5 +66,5 @@ pub(crate) fn give_target<O: PieceOut>(
     state.context.fonts = fonts;
     state.context.has_row = true;
     state.heading.pass_other(state.context.part);
-    state.pass_kept();
+    state.pass_kept(place);
 }

@@ -18,6 +18,7 @@ no_line = record {
   joins_next = false;
   fonts_before = None;
   name_columns = None;
+  last_word = 1;
 }
 
 -- the blanks before the next word; none after a dash that is glued to what comes after it in its line

@@ -61,9 +61,9 @@ part_prints literal token = token_prints token
 abbrev pub prints_cell : Bool → List TextToken → Bool
 prints_cell literal tokens = list_any (part_prints literal) tokens
 
--- it is a word
-abbrev pub after_kept : Formatting → Formatting
-after_kept s = record s {
+-- it is a word at a place
+abbrev pub after_kept : Place → Formatting → Formatting
+after_kept place s = record s {
   has_content = true;
   gap = if s.context.has_spacing.value then 1 else 0;
   line = record s.line {
@@ -73,5 +73,6 @@ after_kept s = record s {
     is_cut = false;
     ends_blank = false;
     joins_next = false;
+    last_word = if s.context.is_literal.value then place.column else s.line.last_word;
   };
 }

@@ -52,7 +52,7 @@ unfoldable pub name_word : Place → KeptText → Formatting → Outcome
 name_word place name s = record {
   items = gap_items s place
       ++ (empty_items place name ++ parts_items s.context.is_literal.value (max (next_gap s) 1) place (own_fonts (Some B) s.context.fonts) (tokens_of false name.text));
-  state = with_sentence name.text (after_kept (record s {
+  state = with_sentence name.text (after_kept place (record s {
     context = record s.context { has_row = s.context.has_row || (has_gap_cells s || prints_cell s.context.is_literal.value (tokens_of false name.text)) };
     heading = heading_further s.context.part false (next_gap s) name.text s.heading;
   }));

@@ -14,7 +14,7 @@ use Rattle.page_scopes_phrases.specs.Formatting.{next_gap}
 use Rattle.page_scopes_phrases.specs.declared.phrases.Phrase.{Phrase}
 use Rattle.page_scopes_phrases.specs.declared.formatting.Formatting.{Formatting}
 use Rattle.page_scopes_text.specs.Parted.{words_of}
-use Rattle.page_scopes_text.specs.Texts.{text_after, text_items}
+use Rattle.page_scopes_text.specs.Texts.{last_word, text_after, text_items}
 use Rattle.page_scopes_words.specs.declared.pens.Pen.{Pen}
 use Rattle.page_scopes_words.specs.declared.pens.TextStyle.{TextStyle}
 use Rattle.page_scopes_words.specs.Fonts.{with_font}
@@ -105,6 +105,11 @@ abbrev pub is_text : PagePart → Bool
 is_text parts.Text = true
 is_text _ = false
 
+-- the column of its line's last word, where rows are kept. That of a whole line is not needed: no white space without a word comes after it
+abbrev pub last_after : Phrase (List ℕ) → Formatting → ℕ
+last_after p s =
+    if s.context.is_literal.value && not p.is_line then last_word p.column s.line.last_word (words_of p.is_quoted p.text) else s.line.last_word
+
 abbrev pub state_after : Phrase (List ℕ) → Pen → Formatting → Formatting
 state_after p pen s = record s {
   context = context_after p (is_some s.line.fonts_before) pen s.context;
@@ -117,6 +122,7 @@ state_after p pen s = record s {
     is_cut = pen.is_cut;
     ends_blank = pen.ends_blank;
     joins_next = false;
+    last_word = last_after p s;
   };
 }
 
@@ -124,6 +130,6 @@ state_after p pen s = record s {
 
 abbrev pub phrase_outcome : ℕ → Phrase (List ℕ) → Formatting → Outcome
 phrase_outcome line p s = record {
-  items = text_items (phrase_style p s.context) line (phrase_pen p s) (words_of p.is_quoted p.text);
+  items = text_items (phrase_style p s.context) line s.line.last_word (phrase_pen p s) (words_of p.is_quoted p.text);
   state = state_after p (phrase_end p s) (record s { heading = heading_further s.context.part p.is_quoted (phrase_pen p s).gap p.text s.heading });
 }

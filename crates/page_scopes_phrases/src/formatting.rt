@@ -26,6 +26,8 @@ pub struct LineSoFar {
     pub fonts_before: Option<Setting<Fonts>>,
     /// The columns of the words of `Nm` so far, each with a blank after it, where it begins a row of the SYNOPSIS.
     pub name_columns: Option<u16>,
+    /// The column of its last word, where rows are kept as they are; 1 before that.
+    pub last_word: u32,
 }
 
 /// What a page is formatted by. No scope restores what is known along the page.
@@ -53,6 +55,7 @@ const NO_LINE: LineSoFar = LineSoFar {
     joins_next: false,
     fonts_before: None,
     name_columns: None,
+    last_word: 1,
 };
 
 impl LineSoFar {

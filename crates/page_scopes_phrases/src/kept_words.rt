@@ -221,9 +221,9 @@ pub(crate) fn give_name<O: PieceOut>(
 }
 
 impl Formatting {
-    /// The state after a kept text, which is a word.
-    pub fn pass_kept(&mut self)
-        ensures { self.new ≡ kept.after_kept self.old }
+    /// The state after a kept text, which is a word at a place.
+    pub fn pass_kept(&mut self, place: Place)
+        ensures { self.new ≡ kept.after_kept place self.old }
     {
         self.has_content = true;
         self.gap = if self.context.has_spacing.value { 1 } else { 0 };
@@ -233,5 +233,8 @@ impl Formatting {
         self.line.is_cut = false;
         self.line.ends_blank = false;
         self.line.joins_next = false;
+        if self.context.is_literal.value {
+            self.line.last_word = place.column;
+        }
     }
 }

@@ -107,7 +107,7 @@ fn give_name_word<O: PieceOut>(out: &mut O, place: Place, name: &ManualName, sta
     state
         .heading
         .pass_text(state.context.part, false, gap, text);
-    state.pass_kept();
+    state.pass_kept(place);
     state.line.is_sentence = ends_sentence(false, text);
 }
 

@@ -9,7 +9,7 @@ ghost use Rattle.page_scopes_phrases.specs.Phrases.{phrase_view};
 use crate::Formatting;
 use page_core_base::{Font, LINE, PieceOut, Place};
 use page_scopes_layout::{Context, PagePart};
-use page_scopes_text::give_text;
+use page_scopes_text::{give_text, last_word};
 use page_scopes_words::{Fonts, Pen, Setting, TextStyle};
 use page_sets_lines::Join;
 
@@ -183,12 +183,31 @@ pub(crate) fn is_text(part: PagePart) -> bool
     matches!(part, PagePart::Text)
 }
 
+// The column of a line's last word after a phrase. It is looked for where rows are kept, unless the phrase is a whole line.
+#[inline(always)]
+fn last_after(phrase: &Phrase<&[u8]>, state: &Formatting) -> u32
+    requires { FitsAt phrase.now.column phrase.now.text.now }
+    ensures { result ≡ phrases.last_after (phrase_view phrase.now) state.now }
+{
+    if !state.context.is_literal.value || phrase.is_line {
+        return state.line.last_word;
+    }
+    last_word(
+        phrase.is_quoted,
+        phrase.column,
+        state.line.last_word,
+        phrase.text,
+    )
+}
+
 // The state after a phrase.
 #[inline(always)]
 fn pass_phrase(state: &mut Formatting, phrase: &Phrase<&[u8]>, pen: &Pen)
+    requires { FitsAt phrase.now.column phrase.now.text.now }
     ensures { state.new ≡ phrases.state_after (phrase_view phrase.now) pen.now state.old }
 {
     let is_guarded = state.line.fonts_before.is_some();
+    state.line.last_word = last_after(phrase, state);
     state.has_content = true;
     state.gap = joined_gap(
         phrase.after,
@@ -220,6 +239,13 @@ pub fn give_phrase<O: PieceOut>(
     state
         .heading
         .pass_text(state.context.part, phrase.is_quoted, pen.gap, phrase.text);
-    give_text(out, style, line, &mut pen, phrase.text);
+    give_text(
+        out,
+        style,
+        line,
+        state.line.last_word,
+        &mut pen,
+        phrase.text,
+    );
     pass_phrase(state, phrase, &pen);
 }
