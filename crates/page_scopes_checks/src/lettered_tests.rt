@@ -128,7 +128,7 @@ fn given_in(
         splits: !style.is_literal,
     };
     if text.len() <= MOST {
-        give_text(&mut out, style, 1, &mut pen, text.as_bytes());
+        give_text(&mut out, style, 1, 1, &mut pen, text.as_bytes());
     }
     out.shown.add(font_letter(pen.fonts.value.font));
     out

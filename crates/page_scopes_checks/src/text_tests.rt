@@ -1,13 +1,13 @@
 //! What texts give, in rows that are filled and in rows that are kept.
 
-use page_core_base::Font;
+use page_core_base::{Font, Note, Piece};
 use page_roff_syntax::{Argument, Quoting};
 use page_scopes_layout::Context;
 use page_scopes_phrases::{Formatting, give_line_word};
 use page_scopes_text::give_text;
 use page_scopes_words::{Pen, Setting, TextStyle};
 use page_sets_lines::{Join, Role, Word};
-use page_test_streams::Shown;
+use page_test_streams::{Brief, Notation, Shown, ShownBy};
 use std::alloc::Global;
 use std::process::Abort;
 use std::test::Fail;
@@ -33,7 +33,7 @@ fn given_by(alloc: Global, style: TextStyle, gap: u32, is_after_word: bool, text
         splits: !style.is_literal,
     };
     if text.len() <= MOST {
-        give_text(&mut out, style, 1, &mut pen, text.as_bytes());
+        give_text(&mut out, style, 1, 1, &mut pen, text.as_bytes());
     }
     out.add(b" ");
     out.add_number(pen.gap);
@@ -140,6 +140,67 @@ fn a_kept_line(rt: HostRuntime) -> Result<(), Fail> {
         given_by(rt.alloc(), KEPT, 2, false, "a").text(),
         b"[a] 1",
     );
+    Ok(())
+}
+
+// The columns at which cells are.
+#[derive(Drop)]
+struct Columns {
+    brief: Brief,
+}
+
+impl Notation for Columns {
+    fn show_piece(&mut self, piece: Piece<&[u8]>) {
+        if let Piece::Text { place, .. } = piece {
+            self.brief.add(b" ");
+            self.brief.add_number(place.column);
+        }
+    }
+
+    fn show_message(&mut self, _note: &Note) {}
+}
+
+// The columns at which the cells of a text at column 10 are, after a word at column 5, in a row that is kept.
+fn columns_of(alloc: Global, text: &str) -> ShownBy<Columns> {
+    let brief = Brief::new(alloc, false);
+    let mut out = ShownBy {
+        notation: Columns { brief },
+    };
+    let mut pen = Pen {
+        fonts: Context::start(7).fonts,
+        column: 10,
+        gap: 1,
+        is_after_word: true,
+        has_cell: false,
+        is_cut: false,
+        ends_blank: false,
+        splits: false,
+    };
+    if text.len() <= MOST {
+        give_text(&mut out, KEPT, 1, 5, &mut pen, text.as_bytes());
+    }
+    out
+}
+
+// A blank before the text, its words, and the white space before each; at its end white space is where its last word is, or the word before it.
+const COLUMNS: [(&str, &str); 6] = [
+    ("a b", " 10 10 12 12"),
+    ("a b  ", " 10 10 12 12 12 12"),
+    ("a\fBb ", " 10 10 10 10"),
+    ("  b", " 10 12 12 12"),
+    ("  ", " 5 5 5"),
+    ("", " 10 10"),
+];
+
+#[test]
+fn columns_of_white_space(rt: HostRuntime) -> Result<(), Fail> {
+    for (text, wanted) in COLUMNS {
+        check_bytes(
+            &rt,
+            columns_of(rt.alloc(), text).notation.brief.text(),
+            wanted.as_bytes(),
+        );
+    }
     Ok(())
 }
 

@@ -61,9 +61,9 @@ front_column quoted column last [] =
     ap (λ (t : Parted). if length t.word == 0 && not (length t.others == 0) then last else column) (words_none quoted [] (omega arith))
 front_column quoted column last (b ∷ bs) = elim (cases_Bool (is_white b)) [
   | inl t ↦
-    let front = spaced_more quoted (b ∷ bs) (token_len quoted (b ∷ bs)) t (white_some quoted (b ∷ bs) t) refl in
-    let more = ap (λ (p : Parted). length p.others) front in
-    rw (ap (λ (p : Parted). length p.word) front, not_none (length (words_of quoted (b ∷ bs)).others) (omega (arith, more)), t) refl
+      let front = spaced_more quoted (b ∷ bs) (token_len quoted (b ∷ bs)) t (white_some quoted (b ∷ bs) t) refl in
+      let more = ap (λ (p : Parted). length p.others) front in
+      rw (ap (λ (p : Parted). length p.word) front, not_none (length (words_of quoted (b ∷ bs)).others) (omega (arith, more)), t) refl
   | inr f ↦ rw (next_word quoted (b ∷ bs) (rw f refl), f) refl
 ]
 

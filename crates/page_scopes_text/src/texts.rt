@@ -199,7 +199,15 @@ fn give_spaced_words<O: PieceOut>(
     let mut rest = text;
     while !rest.is_empty() {
         let after = give_many(out, style, line, pen, &mut tries, rest);
-        rest = give_next(out, style, line, front, pen, rest.len() - after.len(), after);
+        rest = give_next(
+            out,
+            style,
+            line,
+            front,
+            pen,
+            rest.len() - after.len(),
+            after,
+        );
     }
 }
 
