@@ -3,6 +3,7 @@ pub mod ArgumentLemmas
 pub mod CallLemmas
 pub mod CopiedLemmas
 pub mod FollowLemmas
+pub mod FrontLemmas
 pub mod GoingLemmas
 pub mod GrowLemmas
 pub mod LayLemmas

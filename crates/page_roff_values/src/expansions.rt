@@ -18,7 +18,6 @@ use crate::sources::Sources;
 use itoa::Buffer;
 use memchr::memchr;
 use page_core_base::{EXPAND, LINE, Limit, NEST, Note, NoteKind, NoteOut, Output, Place};
-use page_core_numbers::columns;
 use page_roff_parts::{Call, LoneWidths, Part, is_verbatim, without_lone};
 use std::alloc::{AllocError, Global};
 use std::marker::Model;
@@ -75,17 +74,6 @@ impl Model for Nested {
 struct Outside {
     start: usize,
     width_column: Option<u32>,
-}
-
-// The width of a text, in basic units: 24 a column.
-fn units_of(text: &[u8], output: Output) -> u32
-    requires { length text.now ≤ LINE }
-    ensures { result ≡ units_of_bytes output text.now }
-{
-    match std::str::from_utf8(text) {
-        Ok(text) => 24 * columns(text.as_bytes(), output),
-        Err(_) => 0,
-    }
 }
 
 impl Nested {
@@ -292,9 +280,10 @@ impl Nested {
         if let Some(units) = self.known_widths.find(text, output) {
             return units;
         }
-        let units = units_of(text, output);
-        self.known_widths.add(text, output, units);
-        units
+        match std::str::from_utf8(text) {
+            Ok(text) => self.known_widths.measure(text, output),
+            Err(_) => 0,
+        }
     }
 
     // Goes on with the line after the text of a width.

@@ -1,11 +1,16 @@
 //! Long texts that are remembered with their widths (roff(7), `\w`): a line may measure a text of one string as often as it may interpolate.
+//! Of a text that ends as one that is remembered the front alone is measured (`fronts.rt`).
 
-ghost use Rattle.std.specs.Prelude.{◌≡◌, ◌+◌, ◌-◌, ◌<◌, ◌≤◌, length, vec_capacity, take, drop, IfSome, IsTrue};
+ghost use Rattle.std.specs.Prelude.{◌≡◌, ◌+◌, ◌-◌, ◌*◌, ◌<◌, ◌≤◌, length, vec_capacity, take, drop, IfSome, IsTrue};
+ghost use Rattle.page_core_base.specs.declared.limits.TheConstants.{LINE};
 ghost use Rattle.page_roff_values.specs.declared.known_widths.TheConstants.{TEXTS, WIDTHS};
 ghost use Rattle.page_roff_values.specs.machine.Measured.{AreMeasured, IsMeasured};
 ghost use Rattle.page_roff_values.specs.machine.Views.{units_of_bytes};
+ghost use Rattle.page_roff_values.specs.Values.{units_of};
 
+use crate::fronts::{common_len, read_front};
 use page_core_base::Output;
+use page_core_numbers::columns;
 use page_roff_parts::append;
 use std::alloc::{AllocError, Global};
 
@@ -17,6 +22,9 @@ const WIDTHS: usize = 64;
 
 // The bytes of a text for which that is worth it.
 const LONG: usize = 256;
+
+// How many texts that may end as another one does are compared with it.
+const TRIES: usize = 4;
 
 /// The text between two places in the texts, and its width in an output, in basic units.
 #[derive(Clone, Copy)]
@@ -46,6 +54,17 @@ impl KnownWidths {
         })
     }
 
+    // The text of a width.
+    #[inline(always)]
+    fn text_of(&self, width: KnownWidth) -> &str
+        requires { IsMeasured self.now.texts.items width }
+        ensures { result.now ≡ take (width.end - width.start) (drop width.start self.now.texts.items) }
+    {
+        let text = &self.texts[width.start as usize..width.end as usize];
+        // Safety: only what is in UTF-8 is remembered.
+        unsafe { str::from_utf8_unchecked(text) }
+    }
+
     // Whether it is the width of this text in this output. The lengths are compared first.
     #[inline(always)]
     fn is_of(&self, width: KnownWidth, text: &[u8], output: Output) -> bool
@@ -53,9 +72,8 @@ impl KnownWidths {
         ensures text { IsTrue result → text.now ≡ take (width.end - width.start) (drop width.start self.now.texts.items) }
         ensures output { IsTrue result → output ≡ width.output }
     {
-        let start = width.start as usize;
-        let end = width.end as usize;
-        end - start == text.len() && output == width.output && &self.texts[start..end] == text
+        let known = self.text_of(width);
+        known.len() == text.len() && output == width.output && known.as_bytes() == text
     }
 
     /// The width of a text, if it is remembered.
@@ -73,6 +91,45 @@ impl KnownWidths {
         None
     }
 
+    // The width of a text by that of another one, if from a place on where an escape or a character begins in both they are the same. That many
+    // bytes may be.
+    fn units_by(&self, width: KnownWidth, common: usize, text: &str) -> Option<u32>
+        requires known { IsMeasured self.now.texts.items width }
+        requires line { length text.now ≤ LINE }
+        ensures { IfSome result (λ units. units ≡ units_of width.output text.now) }
+    {
+        let front = read_front(text, common, width.output)?;
+        let known = read_front(self.text_of(width), front.rest.len(), width.output)?;
+        if known.rest.as_bytes() != front.rest.as_bytes() {
+            return None;
+        }
+        Some(width.units - 24 * known.columns + 24 * front.columns)
+    }
+
+    // The width of a text by that of one that is remembered and ends as it does.
+    fn find_alike(&self, text: &str, output: Output) -> Option<u32>
+        requires { length text.now ≤ LINE }
+        ensures { IfSome result (λ units. units ≡ units_of output text.now) }
+    {
+        let mut tried = 0;
+        for width in &self.widths {
+            if tried == TRIES {
+                return None;
+            }
+            if output != width.output {
+                continue;
+            }
+            let Some(common) = common_len(self.text_of(*width).as_bytes(), text.as_bytes()) else {
+                continue;
+            };
+            if let Some(units) = self.units_by(*width, common, text) {
+                return Some(units);
+            }
+            tried += 1;
+        }
+        None
+    }
+
     // Makes room for one more text. Where there is none, all are forgotten.
     fn make_room(&mut self, len: usize)
         requires { len ≤ TEXTS }
@@ -85,16 +142,15 @@ impl KnownWidths {
         }
     }
 
-    /// Remembers the width of a long text.
-    pub(crate) fn add(&mut self, text: &[u8], output: Output, units: u32)
-        requires { units ≡ units_of_bytes output text.now }
+    // Remembers the width of a long text.
+    fn add(&mut self, text: &str, output: Output, units: u32)
+        requires line { length text.now ≤ LINE }
+        requires units { units ≡ units_of output text.now }
+        requires bound { units ≤ 24000 * length text.now }
     {
-        if text.len() < LONG || TEXTS < text.len() {
-            return;
-        }
         self.make_room(text.len());
         let start = self.texts.len() as u32;
-        append(&mut self.texts, text);
+        append(&mut self.texts, text.as_bytes());
         let width = KnownWidth {
             start,
             end: self.texts.len() as u32,
@@ -102,5 +158,21 @@ impl KnownWidths {
             units,
         };
         self.widths.push_reserved(width);
+    }
+
+    /// Measures a text. A long one is remembered, unless it ends as one that is: that one serves for all that end so.
+    pub(crate) fn measure(&mut self, text: &str, output: Output) -> u32
+        requires { length text.now ≤ LINE }
+        ensures { result ≡ units_of output text.now }
+    {
+        if text.len() < LONG {
+            return 24 * columns(text.as_bytes(), output);
+        }
+        if let Some(units) = self.find_alike(text, output) {
+            return units;
+        }
+        let units = 24 * columns(text.as_bytes(), output);
+        self.add(text, output, units);
+        units
     }
 }

@@ -17,6 +17,7 @@ mod call_arguments;
 mod endings;
 mod environments;
 mod expansions;
+mod fronts;
 mod known_widths;
 mod laws;
 mod numbers;
