@@ -77,11 +77,12 @@ def in_widths(value, names="a", each=4, within=0):
     return made
 
 
-def in_different_widths(value):
-    """The same, of which no two widths have the same text: what is remembered of one says nothing of the next."""
+def in_different_widths(value, before=0):
+    """The same, of which no two widths have the same text: a number comes after this many of the four values. Of a text that is remembered only
+    its end helps with the next, so that what is before a number and the number are measured each time."""
 
     def made(part):
-        width = "".join(f"\\w'{at:03}" + "\\\\*a" * 4 + "'" for at in range(EACH // 5 - 1))
+        width = "".join("\\w'" + "\\\\*a" * before + f"{at:03}" + "\\\\*a" * (4 - before) + "'" for at in range(EACH // 5 - 1))
         return MAN + ".ds a " + value(VALUE * part // 4) + "\n.ds z " + width + "\n", "\\*z\n"
 
     return made
@@ -173,7 +174,11 @@ LINES_OF = [
     ("widths of \\h, all different", in_different_widths(lambda size: "\\h'1'" * (size // 5))),
     ("widths of \\h'(((', all different", in_different_widths(lambda size: ("\\h'" + "(" * 15 + "'") * (size // 19))),
     ("widths of \\h'+(+(+(', all different", in_different_widths(lambda size: ("\\h'" + "+(" * 15 + "'") * (size // 34))),
+    ("widths of \\h'1+(1+(', all different", in_different_widths(lambda size: ("\\h'" + "1+(" * 15 + "1'") * (size // 50))),
     ("widths of \\h'1+1+1', all different", in_different_widths(lambda size: ("\\h'" + "1+" * 15 + "1'") * (size // 35))),
+    ("widths of one long sum, all different", in_different_widths(lambda size: "\\h'" + "1+" * (size // 2 - 3) + "1'")),
+    ("widths of \\h, with other ends", in_different_widths(lambda size: "\\h'1'" * (size // 5), 4)),
+    ("widths of \\h, with other middles", in_different_widths(lambda size: "\\h'1'" * (size // 5), 2)),
     ("widths of \\h'\\v'1'', all different", in_different_widths(lambda size: "\\h'\\v'1''" * (size // 10))),
     ("widths of \\s[1], all different", in_different_widths(lambda size: "\\s[1]" * (size // 5))),
     ("widths of pairs", in_widths(pairs, "a", 1)),

@@ -1,5 +1,5 @@
 -- Texts of which the same is left behind their fronts: helpers of proofs.
-use Rattle.std.proofs.Common.{◌≡◌, ◌≢◌, ℕ, zero, suc, ◌+◌, ◌-◌, ◌*◌, ◌<◌, ◌≤◌, ◌==◌, false, refl, inl, inr, List, [], ◌∷◌, ◌++◌, length, drop, get_or, encode_utf8, Option, None, Some, ap, ◌∙◌, arith, length-append, length-drop}
+use Rattle.std.proofs.Common.{◌≡◌, ◌≢◌, ℕ, zero, suc, ◌+◌, ◌-◌, ◌*◌, ◌<◌, ◌≤◌, ◌==◌, false, refl, inl, inr, List, [], ◌∷◌, ◌++◌, length, drop, get_or, encode_utf8, Option, None, Some, ap, ◌∙◌, arith, length-drop}
 use Rattle.std.specs.Str.{IsUtf8, chars}
 use Rattle.std.proofs.Math.Seq.{drop-append_seam}
 use Rattle.std.proofs.lemmas.Bool.{cases_Bool}

@@ -3,7 +3,7 @@ use Rattle.std.proofs.Common.{◌≡◌, ℕ, ◌+◌, ◌-◌, ◌*◌, ◌≤�
 use Rattle.std.proofs.lemmas.List.{drop-append-le, take-append-le, take_all, drop_at}
 use Rattle.std.proofs.lemmas.Str.{is_utf8-from_IsUtf8}
 use Rattle.std.specs.Str.{IsUtf8}
-use Rattle.page_core_base.specs.declared.limits.TheConstants.{LINE}
+use Rattle.page_core_base.specs.Limits.{LINE}
 use Rattle.std.proofs.lemmas.List.Elements.{All-weaker, All-push}
 use Rattle.page_roff_values.specs.declared.known_widths.KnownWidth.{KnownWidth}
 use Rattle.page_roff_values.specs.machine.Measured.{AreMeasured, IsMeasured, text_of}

@@ -1,6 +1,6 @@
 //! The fronts of texts of which the rest is known (roff(7), "Escape sequences").
 
-ghost use Rattle.std.specs.Prelude.{◌≡◌, ◌+◌, ◌-◌, ◌*◌, ◌<◌, ◌≤◌, length, IfSome};
+ghost use Rattle.std.specs.Prelude.{◌*◌, ◌≤◌, length, IfSome};
 ghost use Rattle.page_core_base.specs.declared.limits.TheConstants.{LINE};
 ghost use Rattle.page_core_numbers.specs.machine.Fronts.{Left, Past};
 

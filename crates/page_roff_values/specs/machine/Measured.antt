@@ -2,7 +2,7 @@
 use Rattle.std.specs.Prelude.{◌≡◌, ℕ, ◌+◌, ◌-◌, ◌*◌, ◌≤◌, true, List, length, take, drop}
 use Rattle.std.specs.List.{All}
 use Rattle.std.specs.Str.{is_utf8}
-use Rattle.page_core_base.specs.declared.limits.TheConstants.{LINE}
+use Rattle.page_core_base.specs.Limits.{LINE}
 use Rattle.page_roff_values.specs.declared.known_widths.KnownWidth.{KnownWidth}
 use Rattle.page_roff_values.specs.machine.Views.{units_of_bytes}
 
