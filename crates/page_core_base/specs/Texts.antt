@@ -1,5 +1,5 @@
 -- The text of a line. Source: mandoc(1), -K; roff(7), "LANGUAGE SYNTAX".
-use Rattle.std.specs.Prelude.{ℕ, ◌+◌, ◌<◌, ◌≤◌, ◌≡◌, Bool, true, false, not, ◌&&◌, ◌||◌, ◌==◌, nat_lt, List, [], ◌∷◌, length, get_or, IsUtf8}
+use Rattle.std.specs.Prelude.{ℕ, ◌+◌, ◌<◌, ◌≤◌, ◌≡◌, Bool, true, false, not, ◌&&◌, ◌||◌, ◌==◌, nat_lt, List, [], ◌∷◌, length, get_or, if◌then◌else◌, IsUtf8}
 use Rattle.page_core_base.specs.Limits.{LINE}
 
 -- a byte after another belongs to no control character but the tab; of those above ASCII the first byte is 0xC2 and the second below 0xA0
@@ -15,6 +15,12 @@ pub record IsLine (text : List ℕ) : Type 0 where
   pub utf8 : IsUtf8 text
   pub bounded : length text ≤ LINE
   pub plain : has_no_control 0 text ≡ true
+
+-- what a quoted argument says: a pair of quotes (34) is one quote
+abbrev pub unpaired : List ℕ → List ℕ
+unpaired [] = []
+unpaired (byte ∷ []) = byte ∷ []
+unpaired (byte ∷ next ∷ bytes) = if byte == 34 && next == 34 then 34 ∷ unpaired bytes else byte ∷ unpaired (next ∷ bytes)
 
 -- a backslash (92)
 abbrev pub is_backslash : ℕ → Bool

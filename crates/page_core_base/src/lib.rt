@@ -9,9 +9,9 @@
 //! `NoteSink`, and `PieceLatch` for how inner functions give.
 //!
 //! Proved: `limits_law`, `Limit::name`: the constants and the names of limits are those of `specs/Limits.antt`. `list_for`, `row_named`: the list of a
-//! name's first letter, and what the first row of the name says (`specs/TableRows.antt`). `is_line`, `Level::is_below`, `NoteKind::level`, `NoteKind::text`, `Note::about`: what a line may hold, and the level and the text of each
+//! name's first letter, and what the first row of the name says (`specs/TableRows.antt`). `is_line`, `after_byte`, `unpaired_front`, `Level::is_below`, `NoteKind::level`, `NoteKind::text`, `Note::about`: what a line may hold, what a quoted argument says, and the level and the text of each
 //! kind of message (`specs/Texts.antt`, `Messages.antt`). `Settings::check`, `Settings::set_os`: settings are refused exactly where a bound is
-//! passed, the first one first (`specs/Checks.antt`). `BoundedText`: bytes are added whole or not at all, within the limit. `PieceLatch`,
+//! passed, the first one first (`specs/Checks.antt`). `BoundedText`, `append`: bytes are added whole or not at all, within the limit or what is reserved. `PieceLatch`,
 //! `NoteLatch`: all that is given came to the sink, or a front of it and then its fault (`specs/Latches.antt`).
 #![tactic(auto)]
 
@@ -30,6 +30,8 @@ mod page_settings;
 mod piece_latches;
 mod pieces;
 mod places;
+mod quotes;
+mod room;
 mod row_outs;
 mod row_sinks;
 mod texts;
@@ -53,6 +55,8 @@ pub use page_settings::{Encoding, Language, Output, SettingFault, Settings};
 pub use piece_latches::{PieceLatch, PieceOut};
 pub use pieces::{Piece, PieceSink, TagForm};
 pub use places::Place;
+pub use quotes::{after_byte, unpaired_front};
+pub use room::append;
 pub use row_outs::RowOut;
 pub use row_sinks::RowSink;
 pub use texts::is_line;

@@ -61,12 +61,6 @@ abbrev pub begins_quote : List ℕ → Bool
 begins_quote [] = false
 begins_quote (byte ∷ bytes) = byte == 34
 
--- a part of a quoted argument, in which a pair of quotes is one quote
-abbrev pub unpaired : List ℕ → List ℕ
-unpaired [] = []
-unpaired (byte ∷ []) = byte ∷ []
-unpaired (byte ∷ next ∷ bytes) = if byte == 34 && next == 34 then 34 ∷ unpaired bytes else byte ∷ unpaired (next ∷ bytes)
-
 -- the token at a text's front
 unfoldable pub token_at : Bool → List ℕ → TextToken
 token_at quoted text =

@@ -3,7 +3,8 @@ use Rattle.std.proofs.Common.{◌≡◌, ℕ, suc, ◌+◌, ◌<◌, ◌≤◌, 
 use Rattle.std.proofs.lemmas.Bool.{eqb-true}
 use Rattle.std.proofs.lemmas.Bool.Decides.{nat_tests}
 use Rattle.memchr.specs.Find.{IsFirstByte, is_byte}
-use Rattle.page_roff_syntax.specs.Arguments.{is_quoted, unpaired, argument_value}
+use Rattle.page_roff_syntax.specs.Arguments.{is_quoted, argument_value}
+use Rattle.page_core_base.specs.Texts.{unpaired}
 use Rattle.page_roff_syntax.specs.declared.quotes.Argument.{Argument}
 use Rattle.page_roff_definitions.specs.Calls.{packed}
 

@@ -1,15 +1,14 @@
 //! The arguments of requests for definitions.
 
 ghost use Rattle.std.specs.Prelude.{◌≡◌, ◌≤◌, ◌+◌, length};
-ghost use Rattle.std.specs.List.{prefix_len};
 ghost use Rattle.page_core_base.specs.Latches.{Came};
-ghost use Rattle.page_roff_syntax.specs.Arguments.{argument_view, arguments, is_blank};
+ghost use Rattle.page_roff_syntax.specs.Arguments.{argument_view, arguments};
 ghost use Rattle.page_roff_definitions.specs.Arguments as ends;
 ghost use Rattle.page_roff_definitions.specs.Arguments.{closing_notes, closings_notes, end_of, after_blanks, without_quote, value_after};
 
 use memchr::memchr;
 use page_core_base::{LINE, Note, NoteKind, NoteOut, Place};
-use page_roff_syntax::{Argument, Arguments, Quoting};
+use page_roff_syntax::{Argument, Arguments, Quoting, blank_len};
 
 // Reports an argument without its closing quote, at its opening one.
 fn report_closing<O: NoteOut>(out: &mut O, line: u32, argument: Argument<&[u8]>)
@@ -49,14 +48,6 @@ fn closing_len(quoting: Quoting) -> usize
         Quoting::Bare | Quoting::Unclosed => 0,
         Quoting::Closed => 1,
     }
-}
-
-// The number of blanks at a text's front.
-fn blank_len(text: &[u8]) -> usize
-    ensures value { result ≡ prefix_len is_blank text.now }
-    ensures within { result ≤ length text.now }
-{
-    text.iter().take_while(|byte| **byte == b' ').count()
 }
 
 // A text without its leading blanks.

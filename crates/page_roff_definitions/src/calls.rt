@@ -3,28 +3,17 @@
 ghost use Rattle.std.specs.Prelude.{◌≡◌, ℕ, true, ◌≤◌, ◌+◌, [], ◌∷◌, ◌++◌, length, nat_le, IfOk};
 ghost use Rattle.std.specs.Vec.{vec_len, vec_capacity};
 ghost use Rattle.page_core_base.specs.declared.limits.TheConstants.{BODY, LINE};
-ghost use Rattle.page_roff_syntax.specs.Arguments.{argument_view, argument_value, arguments, unpaired};
+ghost use Rattle.page_roff_syntax.specs.Arguments.{argument_view, argument_value, arguments};
+ghost use Rattle.page_core_base.specs.Texts.{unpaired};
 ghost use Rattle.page_roff_definitions.specs.Arguments.{closing_notes, closings_notes};
 ghost use Rattle.page_roff_definitions.specs.machine.Buffers.{no_call, Packs};
 ghost use Rattle.page_roff_definitions.specs.Calls.{packed};
 
 use memchr::memchr;
-use page_core_base::{ARGS, BODY, BoundedText, LINE};
-use page_roff_syntax::{Argument, Arguments, Quoting, after_byte};
+use page_core_base::{ARGS, BODY, BoundedText, LINE, after_byte, append};
+use page_roff_syntax::{Argument, Arguments, Quoting};
 use std::alloc::{AllocError, Global};
 use std::marker::Model;
-
-// Puts bytes at the end, within what is reserved.
-fn append(text: &mut Vec<u8>, more: &[u8])
-    requires { vec_len text.old + length more.now ≤ vec_capacity text.old }
-    ensures items { text.new.items ≡ text.old.items ++ more.now }
-    ensures capacity { vec_capacity text.old ≤ vec_capacity text.new }
-{
-    match text.extend_from_slice(more) {
-        Ok(()) => (),
-        Err(_) => unreachable!(),
-    }
-}
 
 // Puts the text of a quoted argument at the end, within what is reserved.
 fn append_unpaired(text: &mut Vec<u8>, quoted: &[u8])

@@ -10,9 +10,9 @@ ghost use Rattle.page_roff_heads.specs.declared.conditions.Test.TheVariants as t
 ghost use Rattle.page_roff_heads.specs.Texts.{blank_len};
 
 use crate::expressions::expression_len;
-use crate::texts::{Placed, blank_len};
+use crate::texts::Placed;
 use page_core_base::LINE;
-use page_roff_syntax::{character_len, is_white, place_of, uncommented_len};
+use page_roff_syntax::{blank_len, character_len, is_white, place_of, uncommented_len};
 
 /// What a condition asks; `W` is a text.
 #[derive(Clone, Copy)]

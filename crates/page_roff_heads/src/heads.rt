@@ -4,9 +4,9 @@ ghost use Rattle.std.specs.Prelude.{◌≡◌, ◌≤◌, ◌<◌, ◌+◌, leng
 ghost use Rattle.page_roff_heads.specs.Heads.{guarded_of, guarded_view, conditional_at, conditional_of, conditional_view, end_place, block_end_of, block_end_view, FitsGuarded, FitsConditional, FitsBlockEnd};
 
 use crate::conditions::{Condition, read_before_comment};
-use crate::texts::{Placed, begins_pair, blank_len, remainder};
+use crate::texts::{Placed, begins_pair, remainder};
 use page_core_base::LINE;
-use page_roff_syntax::{begins_comment, lacks_pair, plain_len};
+use page_roff_syntax::{begins_comment, blank_len, lacks_pair, plain_len};
 
 /// What the head of a conditional guards; `W` is a text.
 #[derive(Clone, Copy)]

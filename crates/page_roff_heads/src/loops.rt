@@ -5,7 +5,7 @@ ghost use Rattle.page_roff_heads.specs.Loops.{first_of, loop_at, loop_of, loop_v
 
 use crate::conditions::read_before_comment;
 use crate::heads::{Guarded, read_guarded};
-use crate::texts::{begins_pair, blank_len};
+use crate::texts::begins_pair;
 use page_core_base::LINE;
 
 /// The head of a loop; `W` is a text.

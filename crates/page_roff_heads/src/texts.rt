@@ -1,7 +1,7 @@
 //! Texts at their places in a line.
 
 ghost use Rattle.std.specs.Prelude.{◌≡◌, ◌≤◌, ◌+◌, length, drop, IfSome};
-ghost use Rattle.page_roff_heads.specs.Texts.{placed_view, FitsPlaced, blank_len, begins_pair, is_some_line, remainder_at, remainder_of, remainder_view};
+ghost use Rattle.page_roff_heads.specs.Texts.{placed_view, FitsPlaced, begins_pair, is_some_line, remainder_at, remainder_of, remainder_view};
 
 use page_core_base::LINE;
 
@@ -11,14 +11,6 @@ pub struct Placed<W> {
     pub text: W,
     /// The column of the text's first byte.
     pub column: u32,
-}
-
-/// The number of blanks at a text's front.
-pub(crate) fn blank_len(text: &[u8]) -> usize
-    ensures value { result ≡ blank_len text.now }
-    ensures within { result ≤ length text.now }
-{
-    text.iter().take_while(|byte| **byte == b' ').count()
 }
 
 /// Whether a text begins with the pair of a backslash and this byte.

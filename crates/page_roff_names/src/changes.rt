@@ -13,8 +13,8 @@ ghost use Rattle.page_roff_names.specs.machine.Changes.{refusal_beside, Settles,
 ghost use Rattle.page_roff_names.specs.machine.Changes.{FoundAt, MissingAt, StandsAt};
 
 use crate::predefined::predefined;
-use crate::rows::{Meaning, Row, append};
-use page_core_base::{BODY, DEFS, Limit, NAME, NAMES};
+use crate::rows::{Meaning, Row};
+use page_core_base::{BODY, DEFS, Limit, NAME, NAMES, append};
 use std::cmp::Ordering;
 
 /// How many names the other set has, and how many bytes their entries.

@@ -6,7 +6,7 @@ ghost use Rattle.std.specs.Vec.{vec_len, vec_capacity};
 ghost use Rattle.page_roff_names.specs.Entries.{Entries, size, name_at, definition_at, definition, with_meaning};
 ghost use Rattle.page_roff_names.specs.machine.Layout.{extent, layout, relaid, marked};
 
-use page_core_base::{DEFS, NAMES};
+use page_core_base::{DEFS, NAMES, append};
 use std::alloc::{AllocError, Global};
 use std::marker::Model;
 
@@ -44,18 +44,6 @@ impl Model for Row {
     ghost view = { λ r. cut r.spans.items r.text.items };
 
     ghost invariant = { λ r. IsLaid r.spans.items r.text.items (vec_capacity r.spans) (vec_capacity r.text) };
-}
-
-/// Puts bytes at the end, within what is reserved.
-pub(crate) fn append(text: &mut Vec<u8>, more: &[u8])
-    requires { vec_len text.old + length more.now ≤ vec_capacity text.old }
-    ensures items { text.new.items ≡ text.old.items ++ more.now }
-    ensures capacity { vec_capacity text.old ≤ vec_capacity text.new }
-{
-    match text.extend_from_slice(more) {
-        Ok(()) => (),
-        Err(_) => unreachable!(),
-    }
 }
 
 /// Puts a name and a value into the text.

@@ -21,6 +21,5 @@ pub use endings::{after, without_lone};
 pub use laws::parts_law;
 pub use lone_widths::LoneWidths;
 pub use parts::{Call, Cut, Part, Seen};
-pub use room::append;
 pub use unread::Unread;
 pub use verbatim::is_verbatim;

@@ -26,7 +26,7 @@ use crate::source_kinds::SourceKind;
 use crate::spans::{NOWHERE, Span};
 use crate::turns::Turns;
 use memchr::memchr;
-use page_core_base::{ARGS, BODY, LINE, REREAD};
+use page_core_base::{ARGS, BODY, LINE, REREAD, append};
 use page_roff_blocks::{BlockCursor, LinePart, LinePlace, Pass, Standing};
 use page_roff_syntax::OpenRegion;
 
@@ -50,18 +50,6 @@ pub(crate) struct InputFrame {
     pub(crate) cursor: BlockCursor,
     // The turns of a loop.
     turning: Option<Turns>,
-}
-
-// Puts bytes at the end, within what is reserved.
-fn append(text: &mut Vec<u8>, more: &[u8])
-    requires { vec_len text.old + length more.now ≤ vec_capacity text.old }
-    ensures items { text.new.items ≡ text.old.items ++ more.now }
-    ensures capacity { vec_capacity text.old ≤ vec_capacity text.new }
-{
-    match text.extend_from_slice(more) {
-        Ok(()) => (),
-        Err(_) => unreachable!(),
-    }
 }
 
 // Puts the arguments of the macro in which a loop is at the end, if it is in one: where they begin.

@@ -5,5 +5,3 @@ pub mod DelimiterLemmas
 pub mod EndLemmas
 pub mod FormLemmas
 pub mod PairLemmas
-pub mod NameLemmas
-pub mod ValueLemmas

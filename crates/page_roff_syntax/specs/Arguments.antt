@@ -3,6 +3,7 @@ use Rattle.std.specs.Prelude.{◌≡◌, ◌≤◌, ℕ, zero, suc, ◌+◌, Boo
 use Rattle.std.specs.List.{prefix_len}
 use Rattle.std.specs.Borrow.{Bor}
 use Rattle.page_core_base.specs.Limits.{NAME}
+use Rattle.page_core_base.specs.Texts.{unpaired}
 use Rattle.page_roff_syntax.specs.declared.quotes.Argument.{Argument}
 use Rattle.page_roff_syntax.specs.declared.quotes.Quoting.{Quoting}
 use Rattle.page_roff_syntax.specs.declared.quotes.Quoting.TheVariants.{Bare, Closed, Unclosed}
@@ -44,13 +45,6 @@ is_quoted Unclosed = true
 abbrev pub quoted_argument : ℕ → List ℕ → Argument (List ℕ)
 quoted_argument column inner =
     record { text = take (quoted_len inner) inner; column = column + 1; quoting = quoting_of inner }
-
--- in a quoted argument a pair of quotes is one quote
-abbrev pub unpaired : List ℕ → List ℕ
-unpaired [] = []
-unpaired (byte ∷ []) = byte ∷ []
-unpaired (byte ∷ next ∷ bytes) =
-    if byte == 34 && next == 34 then 34 ∷ unpaired bytes else byte ∷ unpaired (next ∷ bytes)
 
 -- what an argument says
 abbrev pub argument_value : Argument (List ℕ) → List ℕ

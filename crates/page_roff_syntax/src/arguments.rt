@@ -30,8 +30,8 @@ impl<'a> Model for Arguments<'a> {
     ghost invariant = { λ a. (length a.rest.now ≤ LINE) × (a.column + length a.rest.now ≤ LINE + 1) };
 }
 
-// The number of blanks at a text's front.
-fn blank_len(text: &[u8]) -> usize
+/// The number of blanks at a text's front.
+pub fn blank_len(text: &[u8]) -> usize
     ensures value { result ≡ prefix_len is_blank text.now }
     ensures within { result ≤ length text.now }
 {

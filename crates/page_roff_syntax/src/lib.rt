@@ -31,7 +31,7 @@ mod regions;
 mod requests;
 mod values;
 
-pub use arguments::{Arguments, has_arguments, read_argument};
+pub use arguments::{Arguments, blank_len, has_arguments, read_argument};
 pub use closed_widths::{MET_WORDS, is_lone, mark_closed};
 pub use comments::{begins_comment, plain_len, uncommented_len};
 pub use delimiters::{begins_pair, character_len, place_of, width_len};
@@ -40,7 +40,7 @@ pub use laws::arguments_law;
 pub use line_forms::{
     LineForm, begins_control, control_name, form_of, has_word, is_white, white_len,
 };
-pub use names::{NAME_ROOM, Name, after_byte, name_room_law};
+pub use names::{NAME_ROOM, Name, name_room_law};
 pub use open_regions::OpenRegion;
 pub use pairs::lacks_pair;
 pub use quotes::{Argument, Quoting};

@@ -1,12 +1,12 @@
 //! The name that an argument is (roff(7), "Macro syntax", "ds", "nr", "de").
 
-ghost use Rattle.std.specs.Prelude.{◌≡◌, ◌≤◌, ◌∷◌, length, take};
-ghost use Rattle.page_roff_syntax.specs.Arguments.{argument_view, unpaired, argument_name};
+ghost use Rattle.std.specs.Prelude.{◌≡◌, ◌≤◌, length, take};
+ghost use Rattle.page_roff_syntax.specs.Arguments.{argument_view, argument_name};
 ghost use Rattle.page_roff_syntax.specs.Arguments as arguments;
 
 use crate::quotes::Argument;
 use arrayvec::ArrayVec;
-use page_core_base::NAME;
+use page_core_base::{NAME, unpaired_front};
 
 /// As many bytes of a name as make a difference: one more than names may have.
 pub const NAME_ROOM: usize = NAME + 1;
@@ -18,31 +18,6 @@ pub fn name_room_law()
 
 /// The front of a name.
 pub type Name = ArrayVec<u8, NAME_ROOM>;
-
-/// What follows a byte in a quoted argument: of a pair of quotes the second is passed over.
-pub fn after_byte(byte: u8, after: &[u8]) -> &[u8]
-    ensures value { unpaired (byte ∷ after.now) ≡ byte ∷ unpaired result.now }
-    ensures within { length result.now ≤ length after.now }
-{
-    match after {
-        [next, rest @ ..] if byte == b'"' && *next == b'"' => rest,
-        _ => after,
-    }
-}
-
-// The front of a name in which a pair of quotes is one quote.
-fn unpaired_name(text: &[u8]) -> Name
-    ensures { result.items ≡ take NAME_ROOM (unpaired text.now) }
-{
-    let mut name = ArrayVec::new();
-    let mut rest = text;
-    while !rest.is_empty() && !name.is_full() {
-        let byte = rest[0];
-        name.push(byte);
-        rest = after_byte(byte, &rest[1..]);
-    }
-    name
-}
 
 // The front of a text.
 fn front_of(text: &[u8]) -> &[u8]
@@ -71,7 +46,7 @@ impl<'a> Argument<&'a [u8]> {
         ensures { result.items ≡ argument_name (argument_view self.now) }
     {
         if self.is_quoted() {
-            unpaired_name(self.text)
+            unpaired_front(self.text)
         } else {
             written_name(self.text)
         }

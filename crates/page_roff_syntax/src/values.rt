@@ -1,28 +1,13 @@
 //! What an argument says, as far as a field has room for it (roff(7), "Macro syntax").
 
-ghost use Rattle.std.specs.Prelude.{◌≡◌, ◌≤◌, length, take};
+ghost use Rattle.std.specs.Prelude.{◌≡◌, ◌≤◌, length};
 ghost use Rattle.page_core_base.specs.Messages.{text_front};
-ghost use Rattle.page_roff_syntax.specs.Arguments.{argument_value, argument_view, unpaired};
+ghost use Rattle.page_roff_syntax.specs.Arguments.{argument_value, argument_view};
+ghost use Rattle.page_core_base.specs.Texts.{unpaired};
 
-use crate::names::after_byte;
 use crate::quotes::Argument;
 use arrayvec::ArrayVec;
-use page_core_base::{FIELD, text_front};
-
-// The front of a text in which a pair of quotes is one quote.
-fn unpaired_front(text: &[u8], room: usize) -> ArrayVec<u8, FIELD>
-    requires { room ≤ FIELD }
-    ensures { result.items ≡ take room (unpaired text.now) }
-{
-    let mut front = ArrayVec::new();
-    let mut rest = text;
-    while !rest.is_empty() && front.len() < room {
-        let byte = rest[0];
-        front.push(byte);
-        rest = after_byte(byte, &rest[1..]);
-    }
-    front
-}
+use page_core_base::{FIELD, after_byte, text_front, unpaired_front};
 
 // The number of bytes of a text in which a pair of quotes is one quote.
 fn unpaired_len(text: &[u8]) -> usize
@@ -67,7 +52,7 @@ impl<'a> Argument<&'a [u8]> {
         ensures { result.items ≡ text_front room (argument_value (argument_view self.now)) }
     {
         if self.is_quoted() {
-            let front = unpaired_front(self.text, room);
+            let front = unpaired_front::<FIELD>(self.text);
             copied_front(front.as_slice(), room)
         } else {
             copied_front(self.text, room)

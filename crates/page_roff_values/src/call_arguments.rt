@@ -7,8 +7,8 @@ ghost use Rattle.page_roff_values.specs.Environments.{argument_count};
 ghost use Rattle.page_roff_names.specs.Names.{Lends};
 
 use memchr::memchr;
-use page_core_base::ARGS;
-use page_roff_parts::{Cut, after, append};
+use page_core_base::{ARGS, append};
+use page_roff_parts::{Cut, after};
 use std::alloc::{AllocError, Global};
 use std::marker::Model;
 

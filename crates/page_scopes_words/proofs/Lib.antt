@@ -1,5 +1,4 @@
 pub mod WhiteLemmas
-pub mod UnpairedLemmas
 pub mod FrontLemmas
 pub mod LetterCellLemmas
 pub mod RunEndLemmas

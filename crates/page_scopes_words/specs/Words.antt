@@ -12,7 +12,8 @@ use Rattle.page_core_base.specs.declared.pieces.Piece.{Piece}
 use Rattle.page_core_base.specs.declared.pieces.Piece.TheVariants.{Text, Char, Tab}
 use Rattle.page_core_escapes.specs.Meanings as meanings
 use Rattle.page_core_escapes.specs.Meanings.{Face, Meaning}
-use Rattle.page_core_escapes.specs.Tokens.{TextToken, plain, quotes, escaped, unpaired}
+use Rattle.page_core_escapes.specs.Tokens.{TextToken, plain, quotes, escaped}
+use Rattle.page_core_base.specs.Texts.{unpaired}
 
 abbrev pub at : ℕ → ℕ → Place
 at line column = record { line = line; column = column }

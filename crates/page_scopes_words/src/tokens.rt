@@ -4,14 +4,13 @@ ghost use Rattle.std.specs.Prelude.{◌≡◌, ℕ, List, ◌==◌, ◌∷◌, [
 ghost use Rattle.page_core_base.specs.Latches.{Came};
 ghost use Rattle.page_core_base.specs.Pieces.{piece_of, shown};
 ghost use Rattle.page_core_escapes.specs.Escapes.{face_view, meaning_view};
-ghost use Rattle.page_core_escapes.specs.Tokens.{escaped, is_space, token_view, unpaired};
+ghost use Rattle.page_core_escapes.specs.Tokens.{escaped, is_space, token_view};
 ghost use Rattle.page_scopes_words.specs.Tokens as tokens;
 ghost use Rattle.page_scopes_words.specs.Words as words;
 ghost use Rattle.page_scopes_words.specs.Words.{says};
 
 use crate::numbers::give_number;
-use arrayvec::ArrayVec;
-use page_core_base::{DETAIL, Font, Note, NoteKind, Output, Piece, PieceOut, Place};
+use page_core_base::{DETAIL, Font, Note, NoteKind, Output, Piece, PieceOut, Place, unpaired_front};
 use page_core_escapes::{Escape, FontName, Token};
 use page_core_numbers::{Scale, escape_columns};
 
@@ -21,32 +20,6 @@ pub fn report<O: PieceOut>(out: &mut O, kind: NoteKind, place: Place, detail: &[
     ensures { Came O.left out.old (says kind place detail.now ∷ []) out.new }
 {
     out.report(&Note::about(kind, place, detail));
-}
-
-// What follows a byte in a quoted argument: of a pair of quotes the second is passed over.
-fn after_byte(byte: u8, after: &[u8]) -> &[u8]
-    ensures value { unpaired (byte ∷ after.now) ≡ byte ∷ unpaired result.now }
-    ensures within { length result.now ≤ length after.now }
-{
-    match after {
-        [next, rest @ ..] if byte == b'"' && *next == b'"' => rest,
-        _ => after,
-    }
-}
-
-// As much of a part of a quoted argument as a message shows: a pair of quotes is one quote.
-#[inline(never)]
-fn unpaired_front(part: &[u8]) -> ArrayVec<u8, DETAIL>
-    ensures { result.items ≡ take 64 (unpaired part.now) }
-{
-    let mut front = ArrayVec::new();
-    let mut rest = part;
-    while !rest.is_empty() && !front.is_full() {
-        let byte = rest[0];
-        front.push(byte);
-        rest = after_byte(byte, &rest[1..]);
-    }
-    front
 }
 
 /// Gives a message about a part of a text; `quoted` says whether it is that of a quoted argument, where a pair of quotes is one quote.
@@ -61,7 +34,7 @@ pub fn report_part<O: PieceOut>(
     ensures { Came O.left out.old (says kind place (words.shown_part quoted part.now) ∷ []) out.new }
 {
     if quoted {
-        report(out, kind, place, unpaired_front(part).as_slice());
+        report(out, kind, place, unpaired_front::<DETAIL>(part).as_slice());
     } else {
         report(out, kind, place, part);
     }
@@ -120,7 +93,7 @@ pub fn give_glyph<O: PieceOut>(out: &mut O, quoted: bool, font: Font, place: Pla
         (shown (Piece.Glyph (words.glyph_name quoted name.now) font place) ∷ []) out.new }
 {
     if quoted && has_quote(name) {
-        let front = unpaired_front(name);
+        let front = unpaired_front::<DETAIL>(name);
         let name = front.as_slice();
         out.give(Piece::Glyph { name, font, place });
     } else {

@@ -1,6 +1,6 @@
 use Rattle.std.proofs.Common.{◌≡◌, ◌+◌, ◌≤◌, ◌++◌, length}
 use Rattle.std.specs.Vec.{vec_len, vec_capacity}
-use Rattle.page_roff_syntax.specs.Arguments.{unpaired}
+use Rattle.page_core_base.specs.Texts.{unpaired}
 use Rattle.page_roff_definitions.proofs.calls.append_unpaired.Given as goal
 
 abbrev pub invariant-loop-rest : goal.invariant-loop-rest

@@ -1,5 +1,5 @@
 use Rattle.std.proofs.Common.{◌≡◌, ◌+◌, ◌≤◌, length}
-use Rattle.page_roff_syntax.specs.Arguments.{unpaired}
+use Rattle.page_core_base.specs.Texts.{unpaired}
 use Rattle.page_roff_syntax.proofs.values.unpaired_len.Given as goal
 
 abbrev pub invariant-loop-rest : goal.invariant-loop-rest
