@@ -7,6 +7,7 @@ use crate::conditions::read_before_comment;
 use crate::heads::{Guarded, read_guarded};
 use crate::texts::begins_pair;
 use page_core_base::LINE;
+use page_roff_syntax::blank_len;
 
 /// The head of a loop; `W` is a text.
 #[derive(Clone, Copy)]

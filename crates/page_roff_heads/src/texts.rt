@@ -4,6 +4,7 @@ ghost use Rattle.std.specs.Prelude.{◌≡◌, ◌≤◌, ◌+◌, length, drop,
 ghost use Rattle.page_roff_heads.specs.Texts.{placed_view, FitsPlaced, begins_pair, is_some_line, remainder_at, remainder_of, remainder_view};
 
 use page_core_base::LINE;
+use page_roff_syntax::blank_len;
 
 /// A text that is at a column of its line; `W` is a text.
 #[derive(Clone, Copy)]

@@ -12,6 +12,7 @@ ghost use Rattle.page_roff_syntax.specs.declared.closed_widths.TheConstants.{MET
 use crate::endings::after;
 use crate::fronts::pair_len;
 use crate::room::fill_up;
+use page_core_base::append;
 use page_roff_syntax::{MET_WORDS, is_lone, mark_closed};
 use std::alloc::{AllocError, Global};
 
