@@ -186,7 +186,7 @@ fn columns_of(alloc: Global, text: &str) -> ShownBy<Columns> {
 const COLUMNS: [(&str, &str); 6] = [
     ("a b", " 10 10 12 12"),
     ("a b  ", " 10 10 12 12 12 12"),
-    ("a\fBb ", " 10 10 10 10"),
+    ("a\\fBb ", " 10 10 10 10"),
     ("  b", " 10 12 12 12"),
     ("  ", " 5 5 5"),
     ("", " 10 10"),
