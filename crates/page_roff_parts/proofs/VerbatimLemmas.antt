@@ -1,16 +1,14 @@
 -- Texts that are their own value: helpers of proofs.
-use Rattle.std.proofs.Common.{◌≡◌, ℕ, zero, suc, ◌+◌, ◌-◌, ◌%◌, ◌^◌, ◌<◌, ◌≤◌, ◌==◌, Bool, true, false, not, ◌||◌, ◌&&◌, cond, min, bit_and, List, [], ◌∷◌, map, length, take, drop, get_or, if◌then◌else◌, Fits, w8, Option, None, Some, is_none, unwrap_or, refl, sym, ap, ap₂, ◌∙◌, add_assoc, arith, length-drop}
-use Rattle.std.specs.Int.{bit_at}
+use Rattle.std.proofs.Common.{◌≡◌, ℕ, zero, suc, ◌+◌, ◌-◌, ◌%◌, ◌^◌, ◌<◌, ◌≤◌, ◌==◌, Bool, true, false, ◌||◌, ◌&&◌, List, [], ◌∷◌, map, length, take, drop, if◌then◌else◌, Fits, w8, Option, None, Some, is_none, unwrap_or, refl, ap, ap₂, ◌∙◌, add_assoc, arith, length-drop}
 use Rattle.std.proofs.Math.Seq.{drop-length}
-use Rattle.std.proofs.lemmas.Bool.{eqb-true, agree_below, agree_below_at}
-use Rattle.std.proofs.lemmas.List.{take-append-drop, get_or-drop, get_or-map, length-map}
-use Rattle.std.proofs.lemmas.Nat.Bits.{bit_at_and, bit_at-zero}
-use Rattle.std.proofs.lemmas.Simd.{bit_mask_l, get_or-chunk, length-chunk, mask_l-mod, none_from_empty_mask}
-use lib.Lanes.{chunk, mask_l, top, Each1}
+use Rattle.std.proofs.lemmas.Bool.{agree_below, agree_below_at}
+use Rattle.std.proofs.lemmas.List.{take-append-drop, get_or-drop, length-map}
+use Rattle.std.proofs.lemmas.Simd.{mask_l-mod}
+use lib.Lanes.{mask_l, top, Each1}
 use Rattle.memchr.specs.Find.{IsFirstByte, is_byte}
 use Rattle.page_roff_syntax.specs.Delimiters.{character_len}
 use Rattle.page_roff_parts.specs.Parts.{after_plain, call_cut, copies, parts, parts_up_to, plain, seen}
-use Rattle.page_roff_parts.specs.machine.Verbatim.{IsFree, IsFreeFrom, IsVerbatim, is_backslash, may_call}
+use Rattle.page_roff_parts.specs.machine.Verbatim.{IsFree, IsVerbatim, may_call}
 use Rattle.page_roff_parts.proofs.ReadLemmas.{escape_alone, escape_pair, parts_more, plain_part}
 
 -- ---- what is read
@@ -122,41 +120,3 @@ pub masked : (f : ℕ → ℕ) (p : ℕ → Bool) (v z : List ℕ) → length v 
     → mask_l (map (top 7) z) % 2 ^ 64 ≡ mask_l (map p v)
 masked f p v z short fits e all =
     ap (λ l. mask_l l % 2 ^ 64) (ap (map (top 7)) e ∙ each_lane f p all v fits) ∙ mask_l-mod (map p v) 64 (omega (arith, length-map v p))
-
-neither_bit : (a b : Bool) → min (cond a 1 0) (cond b 1 0) ≡ 0 → (a && b) ≡ false
-neither_bit true true e = let no : ⊥ = cc in absurd no
-neither_bit true false e = refl
-neither_bit false b e = refl
-
-not_first : (a b : Bool) → a ≡ false → (a && b) ≡ false
-not_first a b e = rw e refl
-
-lane : (p : ℕ → Bool) (text : List ℕ) (at i : ℕ) → at + 32 ≤ length text → i < 32
-    → bit_at (mask_l (map p (chunk at 32 text))) i ≡ cond (p (get_or text (at + i) 0)) 1 0
-lane p text at i l b =
-    bit_mask_l (map p (chunk at 32 text)) i
-    ∙ ap (λ x. cond x 1 0) (get_or-map p (chunk at 32 text) i 0 false (omega (arith, length-chunk at 32 text l)) ∙ ap p (get_or-chunk at 32 text i 0 b))
-
-no_more : (b : Bool) → not b ≡ false → b ≡ true
-no_more true e = refl
-no_more false e = let no : ⊥ = cc in absurd no
-
--- no bit of both masks, that of a vector and that of the one a byte further
-pub free_lanes : (text : List ℕ) (at : ℕ) → at + 32 < length text
-    → not (bit_and (mask_l (map is_backslash (chunk at 32 text))) (mask_l (map may_call (chunk (at + 1) 32 text))) == 0) ≡ false → IsFreeFrom at 32 text
-free_lanes text at l e = λ k low high.
-    let m = mask_l (map is_backslash (chunk at 32 text)) in
-    let n = mask_l (map may_call (chunk (at + 1) 32 text)) in
-    let i = k - at in
-    let here : at + i ≡ k = omega arith in
-    let next : (at + 1) + i ≡ k + 1 = omega arith in
-    let none : bit_and m n ≡ 0 = eqb-true (bit_and m n) 0 (no_more (bit_and m n == 0) e) in
-    let s : bit_at m i ≡ cond (is_backslash (get_or text k 0)) 1 0 = rw here at (lane is_backslash text at i (omega arith) (omega arith)) in
-    let t : bit_at n i ≡ cond (may_call (get_or text (k + 1) 0)) 1 0 = rw next at (lane may_call text (at + 1) i (omega arith) (omega arith)) in
-    let both : min (bit_at m i) (bit_at n i) ≡ 0 = sym (bit_at_and m n i) ∙ ap (λ x. bit_at x i) none ∙ bit_at-zero i in
-    neither_bit (is_backslash (get_or text k 0)) (may_call (get_or text (k + 1) 0)) (ap₂ min (sym s) (sym t) ∙ both)
-
--- no backslash in a vector
-pub free_without : (text : List ℕ) (at : ℕ) → at + 32 < length text → mask_l (map is_backslash (chunk at 32 text)) ≡ 0 → IsFreeFrom at 32 text
-free_without text at l e = λ k low high.
-    not_first (is_backslash (get_or text k 0)) (may_call (get_or text (k + 1) 0)) (none_from_empty_mask is_backslash text at 32 0 (omega arith) e k low high)

@@ -1,7 +1,7 @@
 -- A fast way of the code, which only calls between our crates cite: texts of which all bytes are copied, since no interpolation begins in them.
 -- Trust needs no reading of it.
 -- Source: roff(7), "Escape sequences".
-use Rattle.std.specs.Prelude.{◌≡◌, ◌==◌, ◌||◌, ◌&&◌, ◌+◌, ◌<◌, ◌≤◌, ℕ, Bool, false, List, [], ◌∷◌, ◌++◌, length, get_or, Option, Some, None, option_map}
+use Rattle.std.specs.Prelude.{◌≡◌, ◌==◌, ◌||◌, ◌&&◌, ◌+◌, ◌<◌, ℕ, Bool, false, List, [], ◌∷◌, ◌++◌, length, get_or, Option, Some, None, option_map}
 use Rattle.page_roff_parts.specs.declared.parts.Part.{Part}
 use Rattle.page_roff_parts.specs.declared.parts.Part.TheVariants.{Copied, Called}
 use Rattle.page_roff_parts.specs.Parts.{parts}
@@ -26,10 +26,6 @@ is_backslash b = b == 92
 -- whether an interpolation may begin at a place
 abbrev pub may_call_at : List ℕ → ℕ → Bool
 may_call_at text k = is_backslash (get_or text k 0) && may_call (get_or text (k + 1) 0)
-
--- none begins at this many places from one on
-abbrev pub IsFreeFrom : ℕ → ℕ → List ℕ → Type 0
-IsFreeFrom at n text = (k : ℕ) → at ≤ k → k < at + n → may_call_at text k ≡ false
 
 -- none begins in a text
 abbrev pub IsFree : List ℕ → Type 0

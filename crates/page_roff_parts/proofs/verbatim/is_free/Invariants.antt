@@ -1,6 +1,6 @@
 use Rattle.std.proofs.Common.{◌≡◌, ℕ, ◌+◌, ◌-◌, ◌<◌, false, length}
 use Rattle.page_roff_parts.specs.machine.Verbatim.{may_call_at}
-use Rattle.page_roff_parts.proofs.verbatim.is_free_short.Given as goal
+use Rattle.page_roff_parts.proofs.verbatim.is_free.Given as goal
 
 -- no interpolation begins before the byte before this place
 abbrev pub invariant-loop-at : goal.invariant-loop-at
