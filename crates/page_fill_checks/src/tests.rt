@@ -120,7 +120,7 @@ fn check(rt: &(impl Abort + AllocGlobal), mut sinks: Sinks, calls: (u64, u64)) {
     );
 }
 
-fn sinks(row: u64, note: u64, wanted: Result<(), Fault>) -> Sinks {
+fn failing_at(row: u64, note: u64, wanted: Result<(), Fault>) -> Sinks {
     Sinks {
         rows: CountingSink::new(row),
         notes: CountingSink::new(note),
@@ -130,10 +130,10 @@ fn sinks(row: u64, note: u64, wanted: Result<(), Fault>) -> Sinks {
 
 #[test]
 fn each_row_and_message_may_fail(rt: HostRuntime) {
-    check(&rt, sinks(0, 0, Ok(())), (ROWS, MESSAGES));
+    check(&rt, failing_at(0, 0, Ok(())), (ROWS, MESSAGES));
     for row in 1..ROWS + 1 {
-        check(&rt, sinks(row, 0, Err(Fault::WriteText)), (row, 0));
+        check(&rt, failing_at(row, 0, Err(Fault::WriteText)), (row, 0));
     }
-    check(&rt, sinks(0, 1, Err(Fault::WriteNotes)), (0, 1));
-    check(&rt, sinks(0, 2, Err(Fault::WriteNotes)), (0, 2));
+    check(&rt, failing_at(0, 1, Err(Fault::WriteNotes)), (0, 1));
+    check(&rt, failing_at(0, 2, Err(Fault::WriteNotes)), (0, 2));
 }

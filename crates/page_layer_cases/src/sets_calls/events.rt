@@ -238,7 +238,7 @@ fn spelled_note<'a>(kind: NoteKind, detail: &'a [u8], begins_body: bool) -> Spel
     with(if begins_body { "note!" } else { "note" }, name, detail)
 }
 
-fn spelled<'a>(kind: EventKind<&'a [u8]>) -> Spelled<'a> {
+fn spelling_of<'a>(kind: EventKind<&'a [u8]>) -> Spelled<'a> {
     match kind {
         EventKind::Word(word) => spelled_word(word),
         EventKind::Open(opener) => spelled_opener(opener),
@@ -279,7 +279,7 @@ fn show_text(rt: &HostRuntime, text: Option<Argument<&[u8]>>) {
 
 /// Shows an event after a mark.
 pub(crate) fn show_event(rt: &HostRuntime, mark: &str, event: Event<&[u8]>) {
-    let spelled = spelled(event.kind);
+    let spelled = spelling_of(event.kind);
     let (before, after) = (sign(spelled.before), sign(spelled.after));
     let _ = print!(rt;
         "{mark}{} {before}{}{after}",
