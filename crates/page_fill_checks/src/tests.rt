@@ -8,22 +8,25 @@ use std::process::Abort;
 
 const HERE: Place = Place { line: 3, column: 7 };
 
-const fn text(text: &'static [u8]) -> Piece<&'static [u8]> {
-    Piece::Text {
-        text,
-        font: Font::R,
-        place: HERE,
-    }
+// A text in roman.
+macro_rules! word {
+    ($text:expr) => {
+        Piece::Text {
+            text: $text,
+            font: Font::R,
+            place: HERE,
+        }
+    };
 }
 
 // Gives 5 rows and 2 messages.
 const PIECES: &[Piece<&'static [u8]>] = &[
-    text(b"abc"),
+    word!(b"abc"),
     Piece::Blank {
         count: 1,
         has_tab: true,
     },
-    text(b"defghi"),
+    word!(b"defghi"),
     Piece::Break,
     Piece::Space(2),
     Piece::Glyph {
@@ -88,7 +91,7 @@ fn check_pieces(rt: &impl Abort, filler: &mut Filler, sinks: &mut Sinks) {
     if sinks.wanted.is_err() {
         check_answer(
             rt,
-            give(filler, text(b"b"), rows, notes),
+            give(filler, word!(b"b"), rows, notes),
             Err(Fault::Failed),
         );
         check_answer(rt, end(filler, rows, notes), Err(Fault::Failed));
