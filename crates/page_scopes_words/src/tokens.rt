@@ -10,7 +10,9 @@ ghost use Rattle.page_scopes_words.specs.Words as words;
 ghost use Rattle.page_scopes_words.specs.Words.{says};
 
 use crate::numbers::give_number;
-use page_core_base::{DETAIL, Font, Note, NoteKind, Output, Piece, PieceOut, Place, unpaired_front};
+use page_core_base::{
+    DETAIL, Font, Note, NoteKind, Output, Piece, PieceOut, Place, unpaired_front,
+};
 use page_core_escapes::{Escape, FontName, Token};
 use page_core_numbers::{Scale, escape_columns};
 
