@@ -89,11 +89,11 @@ fn digit(byte: u8) -> u8 {
 
 /// Shows rows, with a bar after each.
 pub(crate) fn show_rows(rt: &HostRuntime, rows: &str) {
-    let mut mark = " -> ";
+    if !rows.is_empty() {
+        let _ = print!(rt; " -> ");
+    }
     for row in rows.lines() {
-        let _ = print!(rt; "{mark}");
         show_runs(rt, row);
         let _ = print!(rt; "|");
-        mark = "";
     }
 }

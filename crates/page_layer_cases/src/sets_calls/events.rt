@@ -277,8 +277,9 @@ fn show_text(rt: &HostRuntime, text: Option<Argument<&[u8]>>) {
     let _ = print!(rt; " {before}{}{after}", shown(argument.text));
 }
 
-/// Shows an event after a mark.
-pub(crate) fn show_event(rt: &HostRuntime, mark: &str, event: Event<&[u8]>) {
+/// Shows an event after a mark, which of the first one is an arrow.
+pub(crate) fn show_event(rt: &HostRuntime, is_first: bool, event: Event<&[u8]>) {
+    let mark = if is_first { " -> " } else { "; " };
     let spelled = spelling_of(event.kind);
     let (before, after) = (sign(spelled.before), sign(spelled.after));
     let _ = print!(rt;

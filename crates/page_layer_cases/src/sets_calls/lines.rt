@@ -20,10 +20,10 @@ where
     requires { length line.text.now ≤ LINE }
 {
     let mut place = set.start(line);
-    let mut mark = " -> ";
+    let mut is_first = true;
     while let Some(event) = set.next(line, &mut place) {
-        show_event(rt, mark, event);
-        mark = "; ";
+        show_event(rt, is_first, event);
+        is_first = false;
     }
 }
 

@@ -55,9 +55,9 @@ pub(crate) fn show_words(rt: &HostRuntime, first: bool, text: &str)
         events: Vec::new(rt.alloc()),
     };
     give_words(&mut kept, first, text.as_bytes());
-    let mut mark = " -> ";
+    let mut is_first = true;
     for event in &kept.events {
-        show_event(rt, mark, *event);
-        mark = "; ";
+        show_event(rt, is_first, *event);
+        is_first = false;
     }
 }
