@@ -8,7 +8,9 @@ ghost use Rattle.page_roff_values.specs.machine.Measured.{AreMeasured, IsMeasure
 ghost use Rattle.page_roff_values.specs.machine.Views.{units_of_bytes};
 ghost use Rattle.page_roff_values.specs.Values.{units_of};
 
+use crate::fronts::{common_len, read_front};
 use page_core_base::{Output, append};
+use page_core_numbers::columns;
 use std::alloc::{AllocError, Global};
 
 // The bytes of all texts: more than the definitions of a page have together.
