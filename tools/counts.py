@@ -1,7 +1,7 @@
 """How many there are of each kind that the gate proves, tries and runs: as the files have them, and as docs/counts.txt says.
 
 docs/counts.txt is the one place for these numbers: `docs/check` compares it with the files and the documents with it, and `tools/gate` compares it with what
-was proved, tried and run. So a crate, an edit, a test or a case that is lost shows. `docs/check --counts > docs/counts.txt` writes it anew.
+was proved, tried and run. So a crate, an edit, a test or a case that is lost shows. `docs/check --write` writes it anew.
 """
 import functools
 import glob
@@ -15,8 +15,8 @@ from sizes import BOUND
 PRODUCT = "mandoc_cli"
 FILE = "docs/counts.txt"
 HEAD = """\
-# How many there are of each kind that the gate proves, tries and runs. After a change: `docs/check --counts > docs/counts.txt`, and a number that
-# is smaller wants its reason in the commit message.
+# How many there are of each kind that the gate proves, tries and runs. After a change: `docs/check --write`, and a number that is smaller wants its
+# reason in the commit message.
 """
 # The scripts of cases, each with what its cases are called.
 SCRIPTS = {"tools/program_cases": "cases of the program", "contrib/check": "cases of contrib"}

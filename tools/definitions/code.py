@@ -2,10 +2,10 @@
 
 Arguments are computed before a call; a `let` where its branch needs it; of two branches, and of `&&` and `||`, what decides. A definition that
 cites another one is computed once for the same arguments, and what it gave is kept until `forget`. So one that names its recursive call twice
-(`kept_len` in page_roff_syntax, `ended` in page_scopes_tree), or makes two continuations of which one is used (`parts` in page_sets_mdoc_lines), takes
-as many steps as it has different arguments, where by its text alone it would take twice as many for each byte or word; since all definitions
-are total and nothing in them changes, that is what they mean. A function within a term becomes one of its own, with the names of the term that
-it uses before its arguments, and is kept in the same way. No limit is set to how deep calls go: `deeply` runs with room for them.
+(`kept_len` in page_roff_syntax), or makes two continuations of which one is used (`parts` in page_sets_mdoc_lines), takes as many steps as it has
+different arguments, where by its text alone it would take twice as many for each byte or word; since all definitions are total and nothing in them
+changes, that is what they mean. A function within a term becomes one of its own, with the names of the term that it uses before its arguments, and
+is kept in the same way. No limit is set to how deep calls go: `deeply` runs with room for them.
 """
 import gc
 import re

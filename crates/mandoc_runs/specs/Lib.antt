@@ -1,4 +1,3 @@
 pub mod Bearings
 pub mod Compressed
 pub mod IndexModes
-pub mod ShownNames

@@ -1,11 +1,11 @@
 //! What a command line asks for, done (mandoc(1), makewhatis(8), whatis(1)).
 
 use crate::faults::SYSTEM_FAILURE;
-use crate::formatting::format_all;
 use crate::indexing::make_indexes;
 use crate::searching::search;
 use crate::unfinished::LockedFiles;
 use mandoc_command::{Command, Refusal};
+use mandoc_formats::{Waiting, format_all};
 use std::alloc::Global;
 use std::io::{Read, Write};
 
@@ -22,7 +22,10 @@ pub fn run_command<R: LockedFiles, I: Read, W: Write, V: Write>(
     err: &mut V,
 ) -> u8 {
     match command {
-        Command::Format(format) => format_all(rt, alloc, format, input, out, err),
+        Command::Format(format) => {
+            let (mut rows, mut notes) = (Waiting::new(out), Waiting::new(err));
+            format_all(rt, alloc, format, input, &mut rows, &mut notes)
+        }
         Command::Makewhatis(asked) => make_indexes(rt, alloc, asked, out, err),
         Command::Whatis(asked) => search(rt, alloc, asked, out, err),
     }

@@ -1,20 +1,18 @@
-//! What a command line asks for, done over any files, reader and writers: pages from their bytes to rows, messages and a status (mandoc(1)),
-//! and indexes of pages that are made and searched (makewhatis(8), whatis(1)).
+//! What a command line asks for, done over any files, reader and writers: pages are formatted (mandoc(1)), and indexes of pages made and
+//! searched (makewhatis(8), whatis(1)).
 //!
-//! Each file is one run (`page_engine`, `page_engine_records`, `page_engine_index`) of what the words say (`mandoc_command`). What is done with
-//! files and streams has no contract. The program is one call of it (`mandoc_cli`).
+//! Pages are formatted by `mandoc_formats`. Each file of an index is one run (`page_engine_records`, `page_engine_index`) of what the words say
+//! (`mandoc_command`); what is done with these files and their streams has no contract. The program is one call of it (`mandoc_cli`).
 //!
 //! Proved: `bearing_of_folder`, `bearing_of_file`, `bearing_of_page`: what a fault means for an index (`specs/Bearings.antt`). `is_compressed`:
-//! which pages are compressed (`Compressed.antt`). `kept_mode`: the mode of an index (`IndexModes.antt`). `is_hidden`: which characters a name
-//! doesn't show (`ShownNames.antt`).
+//! which pages are compressed (`Compressed.antt`). `kept_mode`: the mode of an index (`IndexModes.antt`).
 //!
-//! Read first: `run_command` in `commands.rt`, then `format_all` in `formatting.rt` and `make_indexes` in `indexing.rt`.
+//! Read first: `run_command` in `commands.rt`, then `make_indexes` in `indexing.rt`.
 #![tactic(auto)]
 
 mod bearings;
 mod commands;
 mod faults;
-mod formatting;
 mod indexing;
 mod page_files;
 mod page_records;
@@ -22,13 +20,11 @@ mod regular_files;
 mod searching;
 mod shown_names;
 mod standard_numbers;
-mod streams;
 mod unfinished;
 mod words;
 
 pub use commands::{refuse, run_command};
 pub use faults::{Done, report_unopened};
-pub use formatting::format_all;
 pub use standard_numbers::{NULL_DEVICE, hold_standard_numbers};
 pub use unfinished::LockedFiles;
 pub use words::words_given;

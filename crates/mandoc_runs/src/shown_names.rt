@@ -1,8 +1,6 @@
 //! The names of files as they are shown (mandoc(1), DIAGNOSTICS).
 
-ghost use Rattle.std.specs.Prelude.{◌≡◌};
-ghost use Rattle.mandoc_runs.specs.ShownNames.{is_hidden};
-
+use mandoc_formats::is_hidden;
 use std::fmt::{self, Display};
 use std::io::{self, Write};
 
@@ -22,7 +20,7 @@ pub fn shown(name: &str) -> ShownName<'_> {
 
 impl Display for ShownName<'_> {
     fn fmt<W: fmt::Write>(&self, f: &mut fmt::Formatter<W>) -> fmt::Result {
-        for (count, part) in self.name.split(is_hidden).enumerate() {
+        for (count, part) in self.name.split(is_shown_otherwise).enumerate() {
             if count > 0 {
                 f.write_char(HIDDEN)?;
             }
@@ -73,13 +71,7 @@ impl<W: Write> ShownRows<'_, W> {
     }
 }
 
-// Whether a character is hidden: a control character, one that turns the direction of text or ends a line, or a tag character.
-fn is_hidden(c: char) -> bool
-    ensures { result ≡ is_hidden c }
-{
-    c.is_control()
-        || matches!(
-            c,
-            '\u{61C}' | '\u{2028}'..='\u{202E}' | '\u{2066}'..='\u{2069}' | '\u{E0000}'..='\u{E007F}'
-        )
+// Whether a character is shown as another one.
+fn is_shown_otherwise(c: char) -> bool {
+    is_hidden(c)
 }

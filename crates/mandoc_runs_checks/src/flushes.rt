@@ -19,12 +19,11 @@ const FLUSHED: &str = "[out flushed][notes flushed]";
 const MESSAGE: &str =
     "[notes]mandoc: <stdin>:4:1: WARNING: blank line in fill mode, using .sp\n[notes flushed]";
 
-// Nothing is lost where a signal interrupts each read and each write at first, and rows and messages are put out before each read.
+// Nothing is lost where a signal interrupts each read and each write at first, and rows and messages are put out before each further read.
 const TYPED: &[Run] = &[Run {
     words: &["-Wall"],
     fails: NEVER,
     written: &[
-        FLUSHED,
         FLUSHED,
         "[out]",
         HEAD,
@@ -34,6 +33,7 @@ const TYPED: &[Run] = &[Run {
         FLUSHED,
         "[out]       y\n",
         FOOT,
+        FLUSHED,
         FLUSHED,
     ],
     status: 2,
@@ -54,7 +54,7 @@ const PAGES: &[Run] = &[
             rows: Some(0),
             messages: None,
         },
-        written: &["[notes flushed][notes flushed]", LOST],
+        written: &["[out]", HEAD, "[notes flushed][notes flushed]", LOST],
         status: 6,
         index: NO_INDEX,
     },
@@ -65,9 +65,12 @@ const PAGES: &[Run] = &[
             messages: None,
         },
         written: &[
-            FLUSHED,
             "[out]",
             HEAD,
+            FLUSHED,
+            "[out]",
+            TEXT,
+            FOOT,
             "[notes flushed][notes flushed]",
             LOST,
         ],
@@ -81,13 +84,13 @@ const PAGES: &[Run] = &[
             messages: None,
         },
         written: &[
-            FLUSHED,
             "[out]",
             HEAD,
             FLUSHED,
             "[out]",
             TEXT,
             FOOT,
+            FLUSHED,
             "[notes flushed]",
             LOST,
         ],
@@ -98,9 +101,9 @@ const PAGES: &[Run] = &[
         words: &["quiet.1", "quiet.1"],
         fails: Fails {
             rows: None,
-            messages: Some(1),
+            messages: Some(0),
         },
-        written: &[FLUSHED, "[out]", HEAD, "[out flushed][out flushed]", LOST],
+        written: &["[out]", HEAD, "[out flushed][out flushed]", LOST],
         status: 6,
         index: NO_INDEX,
     },

@@ -1,7 +1,5 @@
 //! A page, or roff, that goes on after a line from what is held of it, in place of itself.
 
-ghost use Rattle.page_core_base.specs.Texts.{IsLine};
-
 use crate::lines::Feed;
 use page_core::Fault;
 use page_engine::Outcome;
@@ -19,7 +17,7 @@ pub enum Cuts {
     Always,
     /// After the line of a number, where a line has it. Where memory lacks for that, it goes on as it is.
     After(u32),
-    /// The same after the first line of this number or a greater one.
+    /// After the first line of this number or a greater one, in the same way.
     From(u32),
 }
 

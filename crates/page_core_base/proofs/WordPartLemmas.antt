@@ -18,16 +18,6 @@ parts-go before b bytes goes = rw goes refl
 pub parts-hyphen : (b : ℕ) (bytes : List ℕ) → (b == hyphen) ≡ true → parts_after b bytes ≡ parts_of bytes
 parts-hyphen b bytes is = let e : b ≡ hyphen = grind (arith, nat_tests, is) in rw e refl
 
-pub parts-some : (before b : ℕ) (bytes : List ℕ) → (length (parts_after before (b ∷ bytes)) == 0) ≡ false
-parts-some before b bytes = elim (cases_Bool (ends_part before b bytes)) [
-  | inl ends ↦ rw (parts-end before b bytes ends) (grind (arith, nat_tests))
-  | inr goes ↦ rw (parts-go before b bytes goes) (front-some (parts_after b bytes))
-]
-  where
-    front-some : (parts : List (List ℕ)) → (length (in_first b parts) == 0) ≡ false
-    front-some [] = grind (arith, nat_tests)
-    front-some (part ∷ parts) = grind (arith, nat_tests)
-
 -- ---- a word without a hyphen
 
 whole-after : (before b : ℕ) (bytes : List ℕ) → list_any (λ byte. byte == hyphen) (b ∷ bytes) ≡ false → parts_after before (b ∷ bytes) ≡ (b ∷ bytes) ∷ []

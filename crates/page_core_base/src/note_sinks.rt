@@ -38,6 +38,15 @@ pub trait NoteSink {
         true
     }
 
+    /// Puts out what waits in a buffer, where the sink has one. Its fault is [`Fault::WriteNotes`].
+    fn put_out(&mut self) -> Result<(), Fault>
+        ensures gives { Gives result gave within self.old [] self.new }
+        ensures fault { FailsAs Fault.WriteNotes result (failed self.old) (failed self.new) }
+        ensures same { loans self.new ≡ loans self.old }
+    {
+        Ok(())
+    }
+
     ghost laws: { IsSink gave within };
 
     ghost whole: { (s t : Self) (xs : List Message) → gave s xs t → within s xs t };

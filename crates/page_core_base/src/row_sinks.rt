@@ -60,6 +60,15 @@ pub trait RowSink {
         self.row(margin, places)
     }
 
+    /// Puts out what waits in a buffer, where the sink has one. Its fault is [`Fault::WriteText`].
+    fn put_out(&mut self) -> Result<(), Fault>
+        ensures gives { Gives result gave within self.old [] self.new }
+        ensures fault { FailsAs Fault.WriteText result (failed self.old) (failed self.new) }
+        ensures same { loans self.new ≡ loans self.old }
+    {
+        Ok(())
+    }
+
     ghost laws: { IsSink gave within };
 
     ghost whole: { (s t : Self) (xs : List LaidRow) → gave s xs t → within s xs t };

@@ -12,10 +12,6 @@ module _ {A B : Type 0} where
   map-same f g (Some x) same = ap Some (same x)
 
 module _ {A B C : Type 0} where
-  pub and_then-and_then : (f : B → Option C) (g : A → Option B) (o : Option A) → option_and_then f (option_and_then g o) ≡ option_and_then (λ x. option_and_then f (g x)) o
-  and_then-and_then f g None = refl
-  and_then-and_then f g (Some x) = refl
-
   pub and_then-map : (f : B → Option C) (g : A → B) (o : Option A) → option_and_then f (option_map g o) ≡ option_and_then (λ x. f (g x)) o
   and_then-map f g None = refl
   and_then-map f g (Some x) = refl

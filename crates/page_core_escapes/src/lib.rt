@@ -48,7 +48,7 @@ pub fn escape(text: &[u8]) -> (Escape<'_>, usize)
     read_escape(false, text)
 }
 
-// The same where a pair of quotes may be one character: `pairs` says so, as of a quoted argument of a macro.
+// Reads an escape; with `pairs` a pair of quotes is one character, as in a quoted argument of a macro.
 fn read_escape(pairs: bool, text: &[u8]) -> (Escape<'_>, usize)
     requires backslash { slice_index text.now 0 ≡ 0x5C }
     requires line { length text.now ≤ LINE }

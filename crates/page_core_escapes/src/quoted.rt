@@ -124,7 +124,7 @@ pub(crate) fn quoted_len(pairs: bool, text: &[u8]) -> Option<usize>
     }
 }
 
-// The same where arguments are inside the argument.
+// The length of a quoted argument with arguments inside it: a few places are enough for nearly all.
 fn nested_len(pairs: bool, text: &[u8]) -> Option<usize>
     requires { length text.now ≤ LINE }
     ensures value { result ≡ quoted_len pairs (content_len pairs) text.now }
@@ -136,7 +136,7 @@ fn nested_len(pairs: bool, text: &[u8]) -> Option<usize>
     }
 }
 
-// The same where they are many.
+// The length of a quoted argument with many arguments inside one another.
 fn deep_len(pairs: bool, text: &[u8]) -> Option<usize>
     requires { length text.now ≤ LINE }
     ensures value { result ≡ quoted_len pairs (content_len pairs) text.now }
@@ -148,8 +148,8 @@ fn deep_len(pairs: bool, text: &[u8]) -> Option<usize>
     }
 }
 
-// The same, where the places of the open arguments' delimiters are kept, from the outside in. No call but one that needs these places pays
-// for them.
+// The length of a quoted argument, with places for the delimiters of the arguments that are open, from the outside in. Only a call that needs
+// these places pays for them.
 #[inline(never)]
 fn nested_len_in<const PLACES: usize>(pairs: bool, text: &[u8]) -> Result<Option<usize>, TooDeep>
     requires line { length text.now ≤ LINE }

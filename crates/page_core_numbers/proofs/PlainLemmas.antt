@@ -3,7 +3,7 @@ use Rattle.std.proofs.Common.{◌≡◌, ◌≢◌, ℕ, zero, suc, ◌+◌, ◌
 use Rattle.std.specs.Str.{IsUtf8, IsCharBoundary, chars}
 use Rattle.std.proofs.lemmas.Bool.Decides.{nat_tests}
 use Rattle.std.proofs.lemmas.List.{length-append}
-use Rattle.std.proofs.lemmas.List.Folds.{list_all-append, list_all_more}
+use Rattle.std.proofs.lemmas.List.Folds.{list_all-append}
 use Rattle.std.proofs.lemmas.Str.{byte_from_char, encode_ascii, length-encode, len_utf8_bounds, IsUtf8-past_char, IsCharBoundary-from_drop}
 use Rattle.std.proofs.Math.Seq.{take-add}
 use Rattle.page_core_base.specs.declared.page_settings.Output.{Output}
@@ -22,10 +22,6 @@ group-more bytes at count before here =
     let same : at + count - at ≡ count = omega arith in
     let plain : are_plain (take count (drop at bytes)) ≡ true = rw same at here in
     ap are_plain (take-add at count bytes) ∙ (list_all-append is_plain (take at bytes) (take count (drop at bytes)) ∙ rw (before, plain) refl)
-
--- so does one byte
-pub byte-more : (bytes : List ℕ) (at : ℕ) → at < length bytes → are_plain (take at bytes) ≡ true → is_plain (get_or bytes at 0) ≡ true → are_plain (take (at + 1) bytes) ≡ true
-byte-more bytes at within before here = list_all_more is_plain bytes at 0 within ∙ rw (before, here) refl
 
 -- ---- their columns
 

@@ -13,8 +13,7 @@ use Rattle.page_core_escapes.specs.Escapes.{escape_of}
 use Rattle.page_core_escapes.specs.Extents.{character_len, written_len, name_len}
 use Rattle.page_core_escapes.specs.Lengths.{extent_len, escape_len_by, escape_len}
 use Rattle.page_core_escapes.specs.Letters.{another, letter_of, table}
-use Rattle.page_core_escapes.specs.Meanings.{Face, Meaning, glyph, character, tab, blank, nothing, glue, undefined, unsupported, first_char, meaning_of}
-use Rattle.page_core_escapes.specs.machine.ShortEscapes.{ShortFont}
+use Rattle.page_core_escapes.specs.Meanings.{Meaning, glyph, character, tab, blank, nothing, glue, undefined, unsupported, first_char, meaning_of}
 use Rattle.page_core_numbers.specs.Columns.{characters_columns, printed_escape}
 use Rattle.page_core_numbers.specs.machine.Fronts.{nothing_letters, one_letters, undefined_letters, ShortColumns, ShortGlyph}
 use Rattle.page_core_numbers.proofs.ColumnLemmas.{blank-columns, printed-printable}
@@ -198,11 +197,6 @@ undefined-columns text rest is long h =
     letters-columns undefined_letters 1 (λ more letter k. undefined-print more letter (passes has_no_row letter undefined_letters undefined-without_row k) (passes is_printable letter undefined_letters undefined-printable k)) (omega arith) text rest is long h
 
 -- ---- a font that few bytes name
-
-pub font-columns : (text : List ℕ) (font : Face) (len : ℕ) → ShortFont text font len → ShortColumns text 0 len
-font-columns text font len f =
-    let is = f.escape.escape false in
-    record { some = f.escape.not_empty; few = omega arith; columns_are = λ output. rw is refl; len_is = rw is refl }
 
 -- ---- a glyph whose name is two bytes
 

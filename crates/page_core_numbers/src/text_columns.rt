@@ -252,7 +252,7 @@ fn escape_front(text: &str, output: Output) -> (u32, usize)
     long_escape(bytes, output)
 }
 
-// The same of any escape.
+// The columns of any escape at a text's front, and how many bytes it takes.
 #[inline(never)]
 fn long_escape(text: &[u8], output: Output) -> (u32, usize)
     requires utf8 { IsUtf8 text.now }

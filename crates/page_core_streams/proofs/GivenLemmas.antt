@@ -39,9 +39,6 @@ given_end {s} {t} {u} a b xs g h = rw append-nil at (given_more a b xs [] g h)
 pub lean_none : (s : SourceState) → IsLean s s 0 []
 lean_none s = record { idle = 0; empty = counted_none s.empty; most = omega arith }
 
-pub busy_none : (s : SourceState) → IsBusy s s 0 []
-busy_none s = record { idle = 0; empty = counted_none s.empty; most = omega arith }
-
 pub busy_more : {s t u : SourceState} (asked count : ℕ) (xs ys : List ℕ) → IsBusy s t asked xs → length ys ≡ count → u.empty ≡ counted t.empty (1 - count)
     → IsBusy s u (asked + 1) (xs ++ ys)
 busy_more {s} {t} {u} asked count xs ys b n e = record {

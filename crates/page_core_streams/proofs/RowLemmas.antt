@@ -52,11 +52,6 @@ cells_moved front cells n =
     let e : flat_map cell_bytes_of cells ≡ f ++ l = ap (flat_map cell_bytes_of) (sym (take-append-drop n cells)) ∙ flat_map-append cell_bytes_of (take n cells) (drop n cells) in
     ap (λ bytes. front ++ (bytes ++ 10 ∷ [])) e ∙ (ap (λ bytes. front ++ bytes) (append_assoc f l (10 ∷ [])) ∙ sym (append_assoc front f (l ++ 10 ∷ [])))
 
--- no cell is left
-pub cells_done : (front : List ℕ) (cells : List Cell) → (length cells == 0) ≡ true → front ++ (flat_map cell_bytes_of cells ++ 10 ∷ []) ≡ front ++ 10 ∷ []
-cells_done front [] h = refl
-cells_done front (x ∷ xs) h = grind (arith, nat_tests)
-
 -- the first blanks of a margin come before the others
 pub blanks_moved : (n left : ℕ) → n ≤ left → replicate {A = ℕ} left 32 ≡ replicate {A = ℕ} n 32 ++ replicate {A = ℕ} (left - n) 32
 blanks_moved n left h =

@@ -1,6 +1,6 @@
 //! The bytes of rows of ASCII (mandoc(1), "ASCII Output").
 
-ghost use Rattle.std.specs.Prelude.{◌≡◌, ℕ, ◌+◌, ◌*◌, ◌≤◌, ◌==◌, List, ◌++◌, length, take, true, false};
+ghost use Rattle.std.specs.Prelude.{◌≡◌, ◌+◌, ◌*◌, ◌≤◌, ◌==◌, List, ◌++◌, length, take, true, false};
 ghost use Rattle.std.specs.List.{flat_map, list_all};
 ghost use Rattle.page_core_base.specs.Rows.{AreAscii, cells_in, trimmed};
 ghost use Rattle.page_core_base.specs.declared.cells.Font.{Font};

@@ -1,6 +1,6 @@
 //! What bytes are written to: any writer, and one whose failures are counted.
 
-ghost use Rattle.std.specs.Prelude.{◌≡◌, ℕ, Bool, List, Option};
+ghost use Rattle.std.specs.Prelude.{◌≡◌, ℕ, Bool, List, [], Option};
 ghost use Rattle.page_core_streams.specs.Grows.{Writes};
 ghost use Rattle.page_core_streams.specs.Failures.{FailsBy};
 
@@ -21,6 +21,11 @@ pub trait Target {
     fn put(&mut self, bytes: &[u8]) -> bool
         ensures writes { Writes result (contents self.old) (contents self.new) bytes.now }
         ensures fails { FailsBy counts result (failures self.old) (failures self.new) };
+
+    /// Puts out what waits in a buffer, and says whether that succeeded.
+    fn put_out(&mut self) -> bool
+        ensures writes { Writes result (contents self.old) (contents self.new) [] }
+        ensures fails { FailsBy counts result (failures self.old) (failures self.new) };
 }
 
 impl<W: Write> Target for W {
@@ -34,6 +39,10 @@ impl<W: Write> Target for W {
 
     fn put(&mut self, bytes: &[u8]) -> bool {
         write_bytes(self, bytes)
+    }
+
+    fn put_out(&mut self) -> bool {
+        self.flush().is_ok()
     }
 }
 
@@ -74,6 +83,14 @@ impl<W: Write> Target for CountedWriter<'_, W> {
         self.failures = self.failures.saturating_add(1);
         false
     }
+
+    fn put_out(&mut self) -> bool {
+        if self.writer.flush().is_ok() {
+            return true;
+        }
+        self.failures = self.failures.saturating_add(1);
+        false
+    }
 }
 
 /// Takes bytes, and keeps none: it never fails.
@@ -91,6 +108,10 @@ impl Target for Nowhere {
 
     fn put(&mut self, bytes: &[u8]) -> bool {
         let _ = bytes;
+        true
+    }
+
+    fn put_out(&mut self) -> bool {
         true
     }
 }

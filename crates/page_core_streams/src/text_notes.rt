@@ -56,4 +56,12 @@ impl<W: Target> NoteSink for TextNotes<'_, '_, W> {
         self.failures = self.failures.saturating_add(1);
         Err(Fault::WriteNotes)
     }
+
+    fn put_out(&mut self) -> Result<(), Fault> {
+        if self.out.put_out() {
+            return Ok(());
+        }
+        self.failures = self.failures.saturating_add(1);
+        Err(Fault::WriteNotes)
+    }
 }

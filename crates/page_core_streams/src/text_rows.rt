@@ -1,12 +1,11 @@
 //! Rows as bytes of a writer (mandoc(1), "ASCII Output").
 
-ghost use Rattle.std.specs.Prelude.{◌≡◌, ◌+◌, ◌<◌, ◌≤◌, ◌++◌, [], ◌∷◌, MatchOption, length, take, true, false, replicate};
+ghost use Rattle.std.specs.Prelude.{◌≡◌, ◌+◌, ◌<◌, ◌≤◌, MatchOption, length, take, false, replicate};
 ghost use Rattle.std.specs.Borrow.{GName};
-ghost use Rattle.std.specs.List.{flat_map};
 ghost use Rattle.page_core_base.specs.Rows.{AreAscii, cells_in};
 ghost use Rattle.page_core_streams.specs.Failures.{FailsBy, StopsBy, count_of};
 ghost use Rattle.page_core_streams.specs.Grows.{Adds, AddsInto, GrowsInto, GrowsUpTo, Writes, adds-sink, adds-whole};
-ghost use Rattle.page_core_streams.specs.RowBytes.{row_bytes, printed, cell_bytes_of};
+ghost use Rattle.page_core_streams.specs.RowBytes.{row_bytes, printed};
 
 use crate::ascii_rows::{TEXT_GROUP, shown_len, write_first};
 use crate::cells::{without_blanks_at_end, write_group, write_mixed};
@@ -194,6 +193,14 @@ impl<W: Target> RowSink for TextRows<'_, W> {
     #[tactic(auto, using(crate::proofs::RowLemmas::blank_bytes))]
     fn blank_row(&mut self, _margin: u32, _cells: &[Cell]) -> Result<(), Fault> {
         if self.out.put(b"\n") {
+            return Ok(());
+        }
+        self.failures = self.failures.saturating_add(1);
+        Err(Fault::WriteText)
+    }
+
+    fn put_out(&mut self) -> Result<(), Fault> {
+        if self.out.put_out() {
             return Ok(());
         }
         self.failures = self.failures.saturating_add(1);

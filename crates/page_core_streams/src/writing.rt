@@ -1,6 +1,6 @@
 //! Writing bytes, in few calls.
 
-ghost use Rattle.std.specs.Prelude.{◌≡◌, ◌+◌, ◌≤◌, [], ◌++◌, length, true};
+ghost use Rattle.std.specs.Prelude.{◌≡◌, ◌+◌, [], ◌++◌, true};
 ghost use Rattle.std.specs.List.{flat_map};
 ghost use Rattle.page_core_streams.specs.Failures.{FailsBy};
 ghost use Rattle.page_core_streams.specs.Grows.{Writes, WritesUpTo};

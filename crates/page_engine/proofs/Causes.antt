@@ -1,5 +1,5 @@
 -- The causes of faults, from sinks to what lies below them.
-use Rattle.std.proofs.Common.{◌≡◌, ℕ, Bool, true, false, List, Result, Ok, Err, refl, sym, ap, ◌∙◌, subst, inl, inr}
+use Rattle.std.proofs.Common.{◌≡◌, ℕ, List, Result, Ok, Err, sym, ap, ◌∙◌, subst, inl, inr}
 use Rattle.page_core_base.specs.Fails.{IsSinkFault}
 use Rattle.page_core_base.specs.Laid.{Laid}
 use Rattle.page_core_base.specs.Messages.{Message}
@@ -11,7 +11,7 @@ use Rattle.page_core_streams.specs.Sources.{SourceState}
 use Rattle.page_roff_lines.specs.Whole.{lines_made, line_left}
 use Rattle.page_engine.specs.declared.runs.Outcome.{Outcome}
 use Rattle.page_engine.specs.Page.{page, settled, start}
-use Rattle.page_engine.specs.Runs.{Runs, RunsOver, Whole, Stopped, Broken, BrokeIn, Untouched, Quiet, whole_page, settled_page}
+use Rattle.page_engine.specs.Runs.{RunsOver, Whole, Broken, BrokeIn, Untouched, Quiet, whole_page, settled_page}
 use Rattle.page_core_base.specs.Laid.{nothing}
 use Rattle.page_engine.specs.Streams.{Sinks, AllCame, FrontCame}
 

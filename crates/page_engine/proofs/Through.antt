@@ -1,9 +1,13 @@
 -- Parts of a page that follow one another, and what is known where a sink failed.
-use Rattle.std.proofs.Common.{◌≡◌, ℕ, false, ◌+◌, ◌<◌, ◌≤◌, ◌^◌, List, [], ◌∷◌, ◌++◌, length, take, drop, refl, sym, ap, ◌∙◌, append_assoc, append-nil, arith, length-append, inl, inr}
+use Rattle.std.proofs.Common.{◌≡◌, ℕ, false, Result, Ok, Err, ◌+◌, ◌<◌, ◌≤◌, ◌^◌, List, [], ◌∷◌, ◌++◌, length, take, drop, refl, sym, ap, ◌∙◌, append_assoc, append-nil, arith, length-append, inl, inr}
 use Rattle.std.proofs.lemmas.List.{take-append-drop}
-use Rattle.page_core_base.specs.Sinks.{IsSink}
-use Rattle.page_core_base.specs.Laid.{nothing}
+use Rattle.page_core_base.specs.Fails.{FailsAs}
+use Rattle.page_core_base.specs.Messages.{Message}
+use Rattle.page_core_base.specs.Rows.{LaidRow}
+use Rattle.page_core_base.specs.Sinks.{IsSink, Gives}
+use Rattle.page_core_base.specs.Laid.{Laid, nothing}
 use Rattle.page_core_base.specs.declared.faults.Fault.{Fault}
+use Rattle.page_core_base.specs.declared.faults.Fault.TheVariants.{WriteText, WriteNotes}
 use Rattle.page_core_base.proofs.SinkLemmas.{within-join}
 use Rattle.page_roff_lines.specs.Cutting.{Point, point_after, lines_within, last_line}
 use Rattle.page_roff_lines.proofs.PointLemmas.{point_after-append}
@@ -11,9 +15,9 @@ use Rattle.page_engine.specs.declared.runs.Run.{Run}
 use Rattle.page_engine.specs.machine.PageSinks.{cause_later}
 use Rattle.page_engine.specs.States.{PageState, IsOpenAt}
 use Rattle.page_engine.specs.Page.{Edge, IsReached, page}
-use Rattle.page_engine.specs.Streams.{Streams, Sinks, AllCame, FrontCame, Front}
+use Rattle.page_engine.specs.Streams.{Streams, Sinks, AllCame, FrontCame, Came, Front}
 use Rattle.page_engine.specs.machine.Points.{page_from, settled_from, BrokenFrom, BrokeFrom}
-use Rattle.page_engine.specs.machine.Steps.{CanTake, IsFresh, Moved, Settled, Through, ChunkBroke}
+use Rattle.page_engine.specs.machine.Steps.{CanTake, IsFresh, Moved, Settled, Through, ChunkBroke, PutsOut, no_more, TakesChunk}
 use Rattle.page_engine.proofs.WholeLines.{settled_none}
 use Rattle.page_engine.proofs.LineCounts.{lines_most}
 use Rattle.page_engine.proofs.Cutting.{consumed_more}
@@ -73,6 +77,76 @@ through_more k rows notes {run} {mid} {run'} xs ys s t = record {
       settles_more k rows notes e run.cutter.point mid.cutter.point xs ys h.reached s.moved.point f (t.settled (settled_from e run.cutter.point xs).edge f.at);
   moved = moved_more xs ys s.moved t.moved;
 }
+
+-- ---- what waits is put out
+
+-- what came, and then nothing more
+pub came_out : {R N E : Type 0} (k : Sinks R N) → IsSink k.to.row_gave k.to.row_within → IsSink k.to.note_gave k.to.note_within
+    → {r a a' : R} {n b b' : N} (laid : Laid E) → Came k r a n b laid → Came k a a' b b' no_more → Came k r a' n b' laid
+came_out k rows notes {r} {a} {a'} {n} {b} {b'} laid c d = record {
+  gave = record {
+    rows = rw append-nil at (rows.more r a a' laid.rows [] c.gave.rows d.gave.rows);
+    notes = rw append-nil at (notes.more n b b' laid.notes [] c.gave.notes d.gave.notes);
+  };
+  rows_quiet = d.rows_quiet ∙ c.rows_quiet;
+  notes_quiet = d.notes_quiet ∙ c.notes_quiet;
+}
+
+pub front_out : {R N E : Type 0} (k : Sinks R N) → IsSink k.to.row_gave k.to.row_within → IsSink k.to.note_gave k.to.note_within
+    → {r a a' : R} {n b b' : N} (laid : Laid E) (fault : Fault) → Came k r a n b laid → Front k a a' b b' no_more fault → Front k r a' n b' laid fault
+front_out k rows notes {r} {a} {a'} {n} {b} {b'} laid fault c d = record {
+  gave = record {
+    rows = rw append-nil at (rows.after r a a' laid.rows [] c.gave.rows d.gave.rows);
+    notes = rw append-nil at (notes.after n b b' laid.notes [] c.gave.notes d.gave.notes);
+  };
+  cause = cause_later fault _ _ _ _ _ _ c.rows_quiet c.notes_quiet d.cause;
+}
+
+-- both sinks in turn, where the rows were put out, and where they were not
+pub rows_out : {R N : Type 0} (k : Sinks R N) → ((r r' : R) (xs : List LaidRow) → k.to.row_gave r xs r' → k.to.row_within r xs r')
+    → (r r' : R) (n n' : N) (y : Result (Unit {0}) Fault) → k.to.row_gave r [] r' → k.rows_failed r' ≡ k.rows_failed r
+    → Gives y k.to.note_gave k.to.note_within n [] n' → FailsAs WriteNotes y (k.notes_failed n) (k.notes_failed n')
+    → PutsOut y k r r' n n'
+rows_out k v r r' n n' (Ok _) g f h e = record { gave = record { rows = g; notes = h }; rows_quiet = f; notes_quiet = e }
+rows_out k v r r' n n' (Err fault) g f h e = record { gave = record { rows = v r r' [] g; notes = h }; cause = rw e.0 e.1 }
+
+pub rows_broke : {R N : Type 0} (k : Sinks R N) → ((n n' : N) (xs : List Message) → k.to.note_gave n xs n' → k.to.note_within n xs n')
+    → (r r' : R) (n n' : N) (fault : Fault) (y : Result (Unit {0}) Fault) → k.to.row_within r [] r'
+    → FailsAs WriteText (Err fault) (k.rows_failed r) (k.rows_failed r') → Gives y k.to.note_gave k.to.note_within n [] n'
+    → PutsOut (Err fault) k r r' n n'
+rows_broke k w r r' n n' fault (Ok _) g f h = record { gave = record { rows = g; notes = w n n' [] h }; cause = rw f.0 f.1 }
+rows_broke k w r r' n n' fault (Err other) g f h = record { gave = record { rows = g; notes = h }; cause = rw f.0 f.1 }
+
+settles_out : {R N : Type 0} (k : Sinks R N) → IsSink k.to.row_gave k.to.row_within → IsSink k.to.note_gave k.to.note_within
+    → {here : PageState} {r a a' : R} {n b b' : N} (e : Edge) (p : Point) (xs : List ℕ)
+    → Settled k here r a n b e p xs → Came k a a' b b' no_more → Settled k here r a' n b' e p xs
+settles_out k rows notes e p xs s d = record { came = came_out k rows notes (settled_from e p xs) s.came d; at = s.at }
+
+-- after a chunk
+pub chunk_out : {R N : Type 0} (k : Sinks R N) → IsSink k.to.row_gave k.to.row_within → IsSink k.to.note_gave k.to.note_within
+    → {run mid : Run} {r a : R} {n b : N} (a' : R) (b' : N) (xs : List ℕ) (res : Result (Unit {0}) Fault)
+    → Through k run mid r a n b xs → PutsOut res k a a' b b' → TakesChunk res k run mid r a' n b' xs
+unfolding lines_within
+chunk_out k rows notes {run} a' b' xs (Ok _) s d = record {
+  settled = λ e h. settles_out k rows notes e run.cutter.point xs (s.settled e h) d;
+  moved = s.moved;
+}
+chunk_out k rows notes {run} {a = a} {b = b} a' b' xs (Err fault) s d = λ e h.
+    let f = s.settled e h in
+    let x = settled_from e run.cutter.point xs in record {
+      before = xs;
+      after = [];
+      parts = sym (append-nil xs);
+      rows = a;
+      notes = b;
+      whole = f.came;
+      broke = record {
+        count = 0;
+        one = omega arith;
+        front = rw (from_none x.edge (point_after run.cutter.point xs) f.at.reached)
+            record { gave = record { rows = d.gave.rows; notes = d.gave.notes }; cause = d.cause };
+      };
+    }
 
 -- ---- room for more
 

@@ -9,8 +9,7 @@ use Rattle.page_core_base.specs.declared.faults.Fault.TheVariants.{Memory, Read,
 use Rattle.page_core_base.specs.declared.page_settings.Settings.{Settings as PageSettings}
 use Rattle.page_core_base.specs.declared.page_settings.SettingFault.{SettingFault}
 use Rattle.page_roff_lines.specs.Lines.{lines}
-use Rattle.page_roff_lines.specs.Cutting.{Point, first_point, point_after, lines_within, lines_from, last_line}
-use Rattle.page_roff_lines.specs.Whole.{whole_lines, lines_made, line_left}
+use Rattle.page_roff_lines.specs.Cutting.{Point, first_point, point_after, lines_from, last_line}
 use Rattle.page_roff_lines.proofs.WholeLemmas.{whole-is, made-is, left-is}
 use Rattle.page_roff_lines.proofs.LineAgreement.{lines-one_by_one}
 use Rattle.page_engine.specs.declared.runs.Outcome.{Outcome}
@@ -24,10 +23,10 @@ use Rattle.page_engine.specs.Runs.{RunsOver, Stopped, StoppedBy, BrokeIn, Broken
 use Rattle.page_engine.specs.machine.Points.{page_from, settled_from, BrokeFrom, BrokenFrom}
 use Rattle.page_engine.specs.machine.PageSinks.{cause_later}
 use Rattle.page_roff_source.specs.declared.counts.Counts.{Counts}
-use Rattle.page_engine.specs.machine.Steps.{source_lines, TookLast, Finished, Finishes, Through, EndedWell, StoppedFrom, ReadsAll}
+use Rattle.page_engine.specs.machine.Steps.{source_lines, TookLast, PutsOut, Finished, Finishes, Through, EndedWell, StoppedFrom, ReadsAll}
 use Rattle.page_core_streams.proofs.GivenLemmas.{given_none, lean_none}
 use Rattle.page_engine.proofs.BytesRead.{both_gave, both_within, page_last, lines_last}
-use Rattle.page_engine.proofs.Through.{broken_front, broken_end}
+use Rattle.page_engine.proofs.Through.{broken_front, broken_end, came_out, front_out}
 use Rattle.page_engine.proofs.WholeLines.{start_reached, page_end, end_counts}
 
 -- from the start of a page
@@ -92,6 +91,18 @@ finished k rows notes run mid run' r a r' n b n' (Err fault) t ends = λ e h.
       gave = rw (page_end e (last_line run.cutter.point) h.reached) (both_within rows notes r' n' l (page l.edge []) c.gave f.gave);
       cause = cause_later fault _ _ _ _ _ _ c.rows_quiet c.notes_quiet f.cause;
     }
+
+-- and then what waits is put out
+pub finished_out : {R N : Type 0} (k : Sinks R N) → IsSink k.to.row_gave k.to.row_within → IsSink k.to.note_gave k.to.note_within
+    → {run run' : Run} {r a : R} {n b : N} (a' : R) (b' : N) (res : Result (Unit {0}) Fault)
+    → Finished k run run' r a n b → PutsOut res k a a' b b' → Finishes res k run run' r a' n b'
+finished_out k rows notes {run} a' b' (Ok _) f d = record {
+  came = λ e h. came_out k rows notes (page e (last_line run.cutter.point)) (f.came e h) d;
+  worst = f.worst;
+  lines_taken = f.lines_taken;
+  counts = f.counts;
+}
+finished_out k rows notes {run} a' b' (Err fault) f d = λ e h. front_out k rows notes (page e (last_line run.cutter.point)) fault (f.came e h) d
 
 pub ended_well : {R N : Type 0} (k : Sinks R N) → IsSink k.to.row_gave k.to.row_within → IsSink k.to.note_gave k.to.note_within
     → {run mid run' : Run} {r a r' : R} {n b n' : N} (s t : SourceState) (xs : List ℕ) → source_lines run ≡ 0

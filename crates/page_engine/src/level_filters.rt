@@ -1,6 +1,6 @@
 //! A sink that passes on messages by their level.
 
-ghost use Rattle.std.specs.Prelude.{◌≡◌, Option};
+ghost use Rattle.std.specs.Prelude.{◌≡◌};
 ghost use Rattle.std.specs.Borrow.{GName};
 ghost use Rattle.page_engine.specs.Levels.{is_reported_level, worse, FilterGave, FilterWithin, filter-sink, filter-whole};
 

@@ -9,7 +9,7 @@ ghost use Rattle.page_engine.specs.States.{IsOpenAt, CannotStart};
 ghost use Rattle.page_engine.specs.Streams.{streams, sinks};
 ghost use Rattle.page_engine.specs.Written.{WritesRows, WritesRowsInto, WritesNotes, WritesNotesInto};
 ghost use Rattle.page_engine.specs.Runs.{Runs, RunsOver, RunsIn};
-ghost use Rattle.page_engine.specs.machine.Steps.{CanTake, TakesPart, TakesChunk, TakesLast, Finishes, StartsAt, IsFresh, ReadsAll};
+ghost use Rattle.page_engine.specs.machine.Steps.{CanTake, TakesPart, TakesChunk, TakesLast, PutsOut, Finishes, StartsAt, IsFresh, ReadsAll};
 
 use crate::pages::Page;
 use page_core_base::{Fault, Level, NoteSink, RowSink, Settings};
@@ -23,6 +23,21 @@ use std::alloc::Global;
 pub struct Outcome {
     pub worst: Option<Level>,
     pub counts: Counts,
+}
+
+// Has both sinks put out what waits, the rows first; the messages also where that failed.
+fn put_out<R: RowSink, N: NoteSink>(rows: &mut R, notes: &mut N) -> Result<(), Fault>
+    ensures puts { PutsOut result (sinks R.gave R.within R.failed N.gave N.within N.failed)
+        rows.old rows.new notes.old notes.new }
+    ensures rows_same { R.loans rows.new ≡ R.loans rows.old }
+    ensures notes_same { N.loans notes.new ≡ N.loans notes.old }
+{
+    let of_rows = rows.put_out();
+    let of_notes = notes.put_out();
+    match of_rows {
+        Ok(()) => of_notes,
+        Err(fault) => Err(fault),
+    }
 }
 
 /// A page, and the cutter of its bytes.
@@ -68,7 +83,7 @@ impl Run {
         Ok(count)
     }
 
-    // Takes a chunk of the bytes, and gives what its lines settle.
+    // Takes a chunk of the bytes, gives what its lines settle, and has it put out: nobody knows how long the next read waits.
     fn take_chunk<R: RowSink, N: NoteSink>(
         &mut self,
         chunk: &[u8],
@@ -87,7 +102,7 @@ impl Run {
             let count = self.take_part(rest, rows, notes)?;
             rest = &rest[count..];
         }
-        Ok(())
+        put_out(rows, notes)
     }
 
     // Takes the last line, where there is one, and gives what it settles.
@@ -110,7 +125,7 @@ impl Run {
     }
 
     // Takes the last line, where there is one, and ends the page.
-    fn finish<R: RowSink, N: NoteSink>(&mut self, rows: &mut R, notes: &mut N) -> Result<(), Fault>
+    fn end<R: RowSink, N: NoteSink>(&mut self, rows: &mut R, notes: &mut N) -> Result<(), Fault>
         requires { CanTake self.old 0 }
         ensures ends { Finishes result (sinks R.gave R.within R.failed N.gave N.within N.failed)
             self.old self.new rows.old rows.new notes.old notes.new }
@@ -119,6 +134,18 @@ impl Run {
     {
         self.take_last(rows, notes)?;
         self.page.end(rows, notes)
+    }
+
+    // Ends the page, and has it put out.
+    fn finish<R: RowSink, N: NoteSink>(&mut self, rows: &mut R, notes: &mut N) -> Result<(), Fault>
+        requires { CanTake self.old 0 }
+        ensures ends { Finishes result (sinks R.gave R.within R.failed N.gave N.within N.failed)
+            self.old self.new rows.old rows.new notes.old notes.new }
+        ensures rows_same { R.loans rows.new ≡ R.loans rows.old }
+        ensures notes_same { N.loans notes.new ≡ N.loans notes.old }
+    {
+        self.end(rows, notes)?;
+        put_out(rows, notes)
     }
 
     // Reads all there is, in chunks of any size, and gives the rows and messages of the page. It is a call of its own, so that it reuses the
@@ -154,7 +181,8 @@ impl Run {
 /// [`Fault::Memory`] nothing is read and nothing is given. [`Fault::Read`] comes where the source failed,
 /// [`Fault::WriteText`] and [`Fault::WriteNotes`] where that sink failed, and [`Fault::TooLong`] for a page of
 /// more than [`crate::BYTES`] bytes or after [`crate::READS`] read calls. After the fault of a sink nothing more is read, and
-/// of the lines after the one at which it came nothing is given to the other.
+/// of the lines after the one at which it came nothing is given to the other. Where a sink has a buffer, what waits there is put out
+/// before each further read, and at the end.
 pub fn run_sinks<S: Source, R: RowSink, N: NoteSink>(
     alloc: Global,
     source: &mut S,

@@ -76,7 +76,7 @@ impl Whole {
         true
     }
 
-    // The same of one failure.
+    // Whether the page ends as it should where the writers fail so.
     fn stands(
         &self,
         alloc: Global,

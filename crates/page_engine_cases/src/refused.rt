@@ -248,7 +248,7 @@ pub(crate) fn refusal_difference<'a>(
     layer_difference(alloc, case.settings)
 }
 
-// The same of roff alone.
+// What goes another way where memory is refused to roff alone.
 fn roff_difference(alloc: Global, case: Case) -> Option<&'static str> {
     let mut run = RoffRun { case };
     let way = scarce_difference(alloc, &mut run);

@@ -5,8 +5,8 @@ use Rattle.std.specs.Str.Lossy.{utf8_valid_len}
 use Rattle.page_core_base.specs.Messages.{text_front}
 use Rattle.page_core_base.specs.declared.places.Place.{Place}
 use Rattle.page_roff_syntax.specs.declared.quotes.Argument.{Argument}
-use Rattle.page_sets_names.specs.declared.macro_names.Prologue.TheVariants.{TH, Dt}
-use Rattle.page_engine_header.specs.Fields.{argument_cut, bracketed, fields_after, first_field, or_else, volume_of}
+use Rattle.page_sets_names.specs.declared.macro_names.Prologue.TheVariants.{TH}
+use Rattle.page_engine_header.specs.Fields.{argument_cut, fields_after, first_field, or_else, volume_of}
 use Rattle.page_engine_header.specs.declared.fields.Fields.{Fields}
 
 -- ---- a front of a text
@@ -49,13 +49,6 @@ th_read os all a b c d title section date source volume f p q r s t u v w x =
     let third : c ≡ drop 3 all = r ∙ ap (drop 1) second ∙ drop_three all in
     let fourth : d ≡ drop 4 all = s ∙ ap (drop 1) third ∙ drop_four all in
     rw (x, w, v, u, t, fourth, third, second, p) refl
-
-pub dt_read : (all a b : List (Argument (List ℕ))) (title section volume : List ℕ) (f : Fields)
-    → a ≡ drop 1 all → b ≡ drop 1 a → title ≡ first_field all → section ≡ first_field a → volume ≡ bracketed (volume_of section) b
-    → record f { title = title; section = section; volume = volume } ≡ fields_after Dt [] all f
-dt_read all a b title section volume f p q t u v =
-    let second : b ≡ drop 2 all = q ∙ ap (drop 1) p ∙ drop_two all in
-    rw (v, u, t, second, p) refl
 
 pub cuts_more : (place : Place) (left : ℕ) (all others : List (Argument (List ℕ))) (argument : Argument (List ℕ)) → all ≡ argument ∷ others → 0 < left
     → flat_map (argument_cut place) (take left all) ≡ argument_cut place argument ++ flat_map (argument_cut place) (take (left - 1) others)

@@ -1,7 +1,6 @@
 //! A latch that ends rows that are full (roff(7), "Filling and adjusting").
 
-ghost use Rattle.std.specs.Prelude.{◌≡◌, List};
-ghost use Rattle.page_core_base.specs.Pieces.{Item};
+ghost use Rattle.std.specs.Prelude.{◌≡◌};
 ghost use Rattle.page_core_base.specs.declared.limits.TheConstants.{CELLS};
 ghost use Rattle.page_engine_header.specs.machine.RowPlans.{RowPlanned, RowLeft};
 

@@ -1,8 +1,7 @@
 //! The parts of a header or a footer (man(7), `TH`).
 
-ghost use Rattle.std.specs.Prelude.{◌≡◌, ◌≤◌, ◌*◌, false, length};
+ghost use Rattle.std.specs.Prelude.{◌≡◌, ◌≤◌, length};
 ghost use Rattle.page_core_base.specs.Latches.{Came};
-ghost use Rattle.page_core_escapes.specs.Tokens.{tokens_of};
 ghost use Rattle.page_scopes_words.specs.Fonts.{roman_fonts};
 ghost use Rattle.page_engine_header.specs.Printing.{tokens_columns, tokens_items};
 ghost use Rattle.page_engine_header.specs.Header.{name_tokens, part_tokens, IsShort};

@@ -1,5 +1,5 @@
 -- The lines of bytes that come part by part.
-use Rattle.std.proofs.Common.{◌≡◌, ℕ, ◌≤◌, ◌||◌, Bool, true, false, List, [], ◌∷◌, ◌++◌, length, refl, sym, ap, ◌∙◌, arith, inl, inr}
+use Rattle.std.proofs.Common.{◌≡◌, ℕ, ◌||◌, Bool, true, false, List, [], ◌∷◌, ◌++◌, refl, sym, ap, ◌∙◌, inl, inr}
 use Rattle.std.specs.Prelude.{if◌then◌else◌}
 use Rattle.std.specs.List.{All, list_any, onto_first}
 use Rattle.std.proofs.lemmas.Bool.{cases_Bool, false≢true}
@@ -187,15 +187,3 @@ lines_flat x (y ∷ xs) h = lines_byte x (y ∷ xs) (left_false (is_line_feed x)
 
 pub no_lines : lines [] ≡ []
 no_lines = lines_none
-
--- there are no more lines than bytes
-with_most : (byte : ℕ) (ws : List Line) → length (with_byte byte ws) ≡ length ws
-with_most byte [] = refl
-with_most byte (l ∷ ls) = refl
-
-pub whole_most : (bytes : List ℕ) → length (whole_lines bytes) ≤ length bytes
-whole_most [] = rw whole_none (omega arith)
-whole_most (byte ∷ bytes) = elim (cases_Bool (is_line_feed byte)) [
-  | inl t ↦ rw (whole_feed byte bytes t) (omega (arith, whole_most bytes))
-  | inr f ↦ rw (whole_byte byte bytes f) (omega (arith, whole_most bytes, with_most byte (whole_lines bytes)))
-]

@@ -24,10 +24,6 @@ pub len_none : name_len [] ≡ 0
 unfolding name_len
 len_none = refl
 
--- there is always a name
-HasName : List (List ℕ) → Type 0
-HasName names = (name : List ℕ) × (more : List (List ℕ)) × (names ≡ name ∷ more)
-
 onto_has : (byte : ℕ) (names : List (List ℕ)) → (name : List ℕ) × (more : List (List ℕ)) × (onto_first byte names ≡ name ∷ more)
 onto_has byte [] = (byte ∷ [], [], refl)
 onto_has byte (name ∷ names) = (byte ∷ name, names, refl)

@@ -93,10 +93,6 @@ split_index k q s t run bytes chunk part rest more h flat e =
     ∙ (h.reads ((open_line bytes ++ part) ∷ lines (rest ++ more))
     ∙ ap (λ l. with_entries h.came (index_at run.place ((l ++ part) ∷ lines (rest ++ more)))) (sym h.holds)))
 
--- the open line with a part, as a run
-with_part : Search → List ℕ → Search
-with_part run part = record run { held = run.held ++ part }
-
 pub line_here : {L : Type 0} (k : RowsTo L) (q : Asked) → IsSink k.to.gave k.to.within → (first s t : L) (run part_run run' : Search) (bytes part : List ℕ)
     → part_run ≡ record run { held = run.held ++ part } → HasNoFeed part → Here k q first s run bytes → TookLine k q part_run run' s t
     → Here k q first t run' (bytes ++ (part ++ 10 ∷ []))

@@ -3,7 +3,7 @@
 ghost use Rattle.std.specs.Prelude.{◌≡◌, ◌+◌, ◌<◌, ◌≤◌, ◌^◌, [], ◌∷◌, length, None, option_map, MatchOption, MatchResult};
 ghost use Rattle.std.specs.List.{slice_split};
 ghost use Rattle.page_core_base.specs.declared.limits.TheConstants.{LINE};
-ghost use Rattle.page_engine_index.specs.Entries.{is_tab, entry_in, entry_of, version_of};
+ghost use Rattle.page_engine_index.specs.Entries.{is_tab, entry_of, version_of};
 ghost use Rattle.page_engine_index.specs.machine.Steps.{entry_by, entries_by, both_texts, AreLast, IsNext, IsBad, IsParted};
 
 use memchr::memchr;

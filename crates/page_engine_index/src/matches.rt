@@ -63,8 +63,8 @@ fn is_match(word: &[u8], name: &[u8]) -> bool
     is_match_within(word, name, name.len())
 }
 
-/// The same of a name of this many bytes at the front of a text. The text is searched, and not the name alone: where it is long, that takes
-/// a vector at a time.
+/// Whether a word occurs so in a name of this many bytes at the front of a text. The whole text is searched, a vector at a time where it is
+/// long.
 pub(crate) fn is_match_within(word: &[u8], text: &[u8], len: usize) -> bool
     requires { len ≤ length text.now }
     ensures { result ≡ is_match word.now (take len text.now) }

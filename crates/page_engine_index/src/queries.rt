@@ -46,7 +46,7 @@ impl<'a> Query<'a> {
         }
     }
 
-    // The same of an entry.
+    // Gives the row of an entry, if it has one, and answers how many rows these are.
     fn give_row<L: LineSink>(&self, out: &mut L, fields: &Fields) -> Result<u64, Fault>
         ensures gives { GivesRow result (rows_to L.gave L.within L.failed) out.old out.new
             (row_of (asked_of self.now) (entry_by fields.now)) }

@@ -35,7 +35,7 @@ pub(crate) fn len_without(one: u8, other: u8, text: &[u8], enough: usize) -> usi
     at + short_len_without(one, other, &text[at..])
 }
 
-// The same of a text that is shorter than a vector.
+// How many bytes are before the first of the two bytes, in a text that is shorter than a vector.
 fn short_len_without(one: u8, other: u8, text: &[u8]) -> usize
     ensures within { result ≤ length text.now }
     ensures neither { list_any (is_byte2 one other) (take result text.now) ≡ false }

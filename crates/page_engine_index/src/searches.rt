@@ -95,7 +95,7 @@ impl Search {
         }
     }
 
-    // The same of any bytes, line by line.
+    // Takes a part of a chunk as `take_part` does, whatever its line is.
     fn read_part<L: LineSink>(
         &mut self,
         chunk: &[u8],

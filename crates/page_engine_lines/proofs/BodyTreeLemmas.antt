@@ -9,17 +9,18 @@ use Rattle.page_scopes.specs.Edges as scopes
 use Rattle.page_scopes.specs.Tables.{layout_tables}
 use Rattle.page_scopes.specs.declared.layouts.Kept.{Kept}
 use Rattle.page_scopes.specs.declared.layouts.LayoutState.{LayoutState}
-use Rattle.page_scopes_tree.specs.Asides.{With, act, aside, Beside, beside, before_leaf}
-use Rattle.page_scopes_tree.specs.Layouts.{Edge, edge, labels}
+use Rattle.page_scopes_tree.specs.machine.Asides.{With, act, aside, Beside, beside, before_leaf}
+use Rattle.page_scopes_tree.specs.OpenScopes.{Edge, labels}
+use Rattle.page_scopes_tree.specs.machine.Layouts.{edge}
 use Rattle.page_scopes_tree.specs.machine.Machines.{run, run_items, step, step_items, placed_items, ended_items, count_ended, state_left}
-use Rattle.page_scopes_tree.specs.Nestings.{Standing, IsSound, standing_of}
+use Rattle.page_scopes_tree.specs.machine.Nestings.{Standing, IsSound, standing_of}
 use Rattle.page_scopes_tree.proofs.AsideLemmas.{sound_with, act_items, act_step}
 use Rattle.page_scopes_tree.proofs.CutLemmas.{settled-append, edge-append}
 use Rattle.page_scopes_tree.proofs.RunLemmas.{settled-run}
 use Rattle.page_scopes_tree.proofs.EdgeLemmas.{edge-run}
 use Rattle.page_scopes_tree.specs.Acts.{Step, comes, does, steps_of}
-use Rattle.page_scopes_tree.specs.Frames.{framed}
-use Rattle.page_scopes_tree.specs.Nests.{Fact, scopes_nesting, step_standing}
+use Rattle.page_scopes_tree.specs.machine.Frames.{framed}
+use Rattle.page_scopes_tree.specs.machine.Nests.{Fact, scopes_nesting, step_standing}
 use Rattle.page_core_base.specs.declared.limits.TheConstants.{SCOPES}
 use Rattle.page_scopes_tree.specs.declared.acts.Act.{Act}
 use Rattle.page_scopes_tree.specs.declared.acts.Act.TheVariants as acts
@@ -33,7 +34,8 @@ use Rattle.page_sets_lines.specs.declared.leaves.Leaf.{Leaf}
 use Rattle.page_sets_lines.specs.declared.leaves.Leaf.TheVariants as leaves
 use Rattle.page_sets_names.specs.declared.macro_names.Prologue.{Prologue}
 use Rattle.page_engine_lines.specs.Bodies.{BodyEdge, HeaderEdge, begin_items, scope_items, with_scopes, with_title, kind_items, kind_after, event_items, event_after, events_items, events_after, end_items}
-use Rattle.page_engine_lines.specs.Trees.{Aside, reports, titles, closes, kind_steps, events_steps, page_end_steps, header_at, body_sides, body_nesting, body_layout, opened, body_of, tree_items, tree_after}
+use Rattle.page_engine_lines.specs.Trees.{header_at}
+use Rattle.page_engine_lines.specs.machine.Trees.{Aside, reports, titles, closes, kind_steps, events_steps, page_end_steps, body_sides, body_nesting, body_layout, opened, body_of, tree_items, tree_after}
 
 sound : IsSound body_nesting SCOPES
 sound = sound_with scopes_nesting SCOPES scopes-sound

@@ -7,19 +7,18 @@ use Rattle.page_roff_effects.specs.States.{Given}
 use Rattle.page_roff_source.specs.Edges.{SourceLine}
 use Rattle.page_roff_source.specs.Given.{given}
 use Rattle.page_engine_lines.specs.Bodies.{BodyEdge, chosen_if}
-use Rattle.page_engine_lines.specs.Trees.{Aside, tree_after}
-use Rattle.page_engine_lines.proofs.BodySharedLemmas.{Shared, shared_of, sharing, tree_shared}
+use Rattle.page_engine_lines.specs.Trees.{Step, tree_after}
+use Rattle.page_engine_lines.proofs.BodySharedLemmas.{Shared, shared_of, sharing}
+use Rattle.page_engine_lines.proofs.StepLemmas.{tree_shared}
 use Rattle.page_engine_lines.specs.Acts.{first_language, front_steps, lines_after, reader, rest_steps}
 use Rattle.page_engine_lines.specs.Edges.{LinesEdge}
-use Rattle.page_scopes_tree.specs.Asides.{With}
-use Rattle.page_scopes_tree.specs.Acts.{Step}
 use Rattle.page_sets.specs.declared.either.Either.{Either}
 
 module _ (width : ℕ) (output : Output) (indent : Option ℕ) (os : List ℕ) where
   abbrev pub IsShared : BodyEdge → Type 0
   IsShared b = shared_of b ≡ sharing width output indent os b.header.set
 
-  tree_is_shared : (b : BodyEdge) (steps : List (With Aside Step)) → IsShared b → IsShared (tree_after b steps)
+  tree_is_shared : (b : BodyEdge) (steps : List Step) → IsShared b → IsShared (tree_after b steps)
   tree_is_shared b steps h =
       let k = tree_shared b steps in
       k ∙ h ∙ ap (λ (s : Shared). sharing width output indent os s.set) (sym k)

@@ -17,11 +17,9 @@ use Rattle.page_roff_source.proofs.CutLemmas.{given-append, done-append}
 use Rattle.page_roff_source.proofs.LineLemmas.{given-by_line, done-by_line}
 use Rattle.page_engine_lines.specs.Bodies.{BodyEdge, chosen, chosen_if, decided, events_after, events_items, has_begun, has_title, end_items as body_end_items}
 use Rattle.page_engine_lines.specs.Languages.{language_of}
-use Rattle.page_engine_lines.specs.Trees.{Aside, reports, events_steps, page_end_steps, tree_items, tree_after}
-use Rattle.page_engine_lines.proofs.BodySharedLemmas.{tree_title}
-use Rattle.page_engine_lines.proofs.BodyTreeLemmas.{tree_items-append, tree_after-append, tree_items-none, tree_after-none, aside_items_is, aside_after_is, events_tree_items, events_tree_after, events_keep, end_tree}
-use Rattle.page_scopes_tree.specs.Asides.{With, aside}
-use Rattle.page_scopes_tree.specs.Acts.{Step}
+use Rattle.page_engine_lines.specs.Trees.{Step, reports, events_steps, page_end_steps, tree_items, tree_after}
+use Rattle.page_engine_lines.proofs.BodyTreeLemmas.{events_keep}
+use Rattle.page_engine_lines.proofs.StepLemmas.{items-append, after-append, items-none, after-none, message_items, message_after, events_tree_items, events_tree_after, end_tree, tree_title}
 use Rattle.page_scopes_words.specs.Words.{at}
 use Rattle.page_sets.specs.Either.{either_events}
 use Rattle.page_sets.specs.declared.either.Either.{Either}
@@ -40,11 +38,11 @@ language_cases (Some set) = inr (set, refl)
 pub decided_items : (set : Either) (b : BodyEdge) (all : List Given) → b.header.is_decided ≡ true → b.header.set ≡ set
     → tree_items b (given_steps set all) ≡ given_items b all
 unfolding given_items
-decided_items set b [] d s = tree_items-none b
+decided_items set b [] d s = items-none b
 decided_items set b (says m ∷ more) d s =
-    tree_items-append b (aside (reports m) ∷ []) (given_steps set more)
-    ∙ ap (λ (t : List Item). t ++ tree_items (tree_after b (aside (reports m) ∷ [])) (given_steps set more)) (aside_items_is b (reports m))
-    ∙ ap (λ (c : BodyEdge). noted m ∷ tree_items c (given_steps set more)) (aside_after_is b (reports m))
+    items-append b (reports m ∷ []) (given_steps set more)
+    ∙ ap (λ (t : List Item). t ++ tree_items (tree_after b (reports m ∷ [])) (given_steps set more)) (message_items b m)
+    ∙ ap (λ (c : BodyEdge). noted m ∷ tree_items c (given_steps set more)) (message_after b m)
     ∙ ap (λ (t : List Item). noted m ∷ t) (decided_items set b more d s)
 decided_items set b (takes line ∷ more) d s =
     let events = either_events set line in
@@ -53,7 +51,7 @@ decided_items set b (takes line ∷ more) d s =
     let keeps = events_keep b events in
     let same : decided b line ≡ b = rw d refl in
     let own : set_events b line ≡ events = rw s refl in
-    rw (same, own) (tree_items-append b steps (given_steps set more)
+    rw (same, own) (items-append b steps (given_steps set more)
     ∙ ap (λ (t : List Item). t ++ tree_items (tree_after b steps) (given_steps set more)) (events_tree_items b events)
     ∙ ap (λ (x : BodyEdge). events_items b events ++ tree_items x (given_steps set more)) (events_tree_after b events)
     ∙ ap (λ (t : List Item). events_items b events ++ t) (decided_items set c more (keeps.1 ∙ d) (keeps.0 ∙ s)))
@@ -61,10 +59,10 @@ decided_items set b (takes line ∷ more) d s =
 pub decided_after : (set : Either) (b : BodyEdge) (all : List Given) → b.header.is_decided ≡ true → b.header.set ≡ set
     → tree_after b (given_steps set all) ≡ body_after b all
 unfolding body_after
-decided_after set b [] d s = tree_after-none b
+decided_after set b [] d s = after-none b
 decided_after set b (says m ∷ more) d s =
-    tree_after-append b (aside (reports m) ∷ []) (given_steps set more)
-    ∙ ap (λ (c : BodyEdge). tree_after c (given_steps set more)) (aside_after_is b (reports m))
+    after-append b (reports m ∷ []) (given_steps set more)
+    ∙ ap (λ (c : BodyEdge). tree_after c (given_steps set more)) (message_after b m)
     ∙ decided_after set b more d s
 decided_after set b (takes line ∷ more) d s =
     let events = either_events set line in
@@ -72,7 +70,7 @@ decided_after set b (takes line ∷ more) d s =
     let keeps = events_keep b events in
     let same : decided b line ≡ b = rw d refl in
     let own : set_events b line ≡ events = rw s refl in
-    rw (same, own) (tree_after-append b (events_steps events) (given_steps set more)
+    rw (same, own) (after-append b (events_steps events) (given_steps set more)
     ∙ ap (λ (x : BodyEdge). tree_after x (given_steps set more)) (events_tree_after b events)
     ∙ decided_after set c more (keeps.1 ∙ d) (keeps.0 ∙ s))
 
@@ -81,7 +79,7 @@ decided_after set b (takes line ∷ more) d s =
 turned : BodyEdge → Either → List Given → BodyEdge
 turned b set all = chosen_if (tree_after b (given_steps set (before_language all))) (first_language all)
 
-parted_items : BodyEdge → Either → List Given → List (With Aside Step) → List Item
+parted_items : BodyEdge → Either → List Given → List Step → List Item
 parted_items b set all last =
     let c = turned b set all in
     tree_items b (given_steps set (before_language all)) ++ tree_items c (given_steps c.header.set (from_language all) ++ last)
@@ -90,20 +88,20 @@ parted_after : BodyEdge → Either → List Given → BodyEdge
 parted_after b set all = let c = turned b set all in tree_after c (given_steps c.header.set (from_language all))
 
 -- acts in front of all that is given before the language is decided
-front_more : (b c : BodyEdge) (set : Either) (steps : List (With Aside Step)) (items : List Item) (all more : List Given) (last : List (With Aside Step))
+front_more : (b c : BodyEdge) (set : Either) (steps : List Step) (items : List Item) (all more : List Given) (last : List Step)
     → tree_items b steps ≡ items → tree_after b steps ≡ c → given_steps set (before_language all) ≡ steps ++ given_steps set (before_language more)
     → first_language all ≡ first_language more → from_language all ≡ from_language more
     → (parted_items b set all last ≡ items ++ parted_items c set more last) × (parted_after b set all ≡ parted_after c set more)
 unfolding turned parted_items parted_after
 front_more b c set steps items all more last i a f l r =
     let g = given_steps set (before_language more) in
-    let next : tree_after b (steps ++ g) ≡ tree_after c g = tree_after-append b steps g ∙ ap (λ (x : BodyEdge). tree_after x g) a in
+    let next : tree_after b (steps ++ g) ≡ tree_after c g = after-append b steps g ∙ ap (λ (x : BodyEdge). tree_after x g) a in
     let given : tree_items b (steps ++ g) ≡ items ++ tree_items c g =
-    tree_items-append b steps g ∙ ap (λ (t : List Item). t ++ tree_items (tree_after b steps) g) i ∙ ap (λ (x : BodyEdge). items ++ tree_items x g) a in
+    items-append b steps g ∙ ap (λ (t : List Item). t ++ tree_items (tree_after b steps) g) i ∙ ap (λ (x : BodyEdge). items ++ tree_items x g) a in
     rw (f, l, r, next, given) (append_assoc items (tree_items c g) _, refl)
 
 -- a line that decides the language
-line_decides : (b : BodyEdge) (set : Either) (line : Line) (language : Either) (more : List Given) (last : List (With Aside Step))
+line_decides : (b : BodyEdge) (set : Either) (line : Line) (language : Either) (more : List Given) (last : List Step)
     → b.header.is_decided ≡ false → language_of line ≡ Some language
     → (parted_items b set (takes line ∷ more) last ≡ given_items b (takes line ∷ more) ++ tree_items (body_after b (takes line ∷ more)) last)
     × (parted_after b set (takes line ∷ more) ≡ body_after b (takes line ∷ more))
@@ -116,13 +114,13 @@ line_decides b set line language more last u o =
     let after = decided_after language c all refl refl in
     let same : decided b line ≡ c = rw (u, o) refl in
     let begun : parted_items b set all last ≡ tree_items c (steps ++ last) =
-    rw o (ap (λ (t : List Item). t ++ tree_items (chosen (tree_after b []) language) (steps ++ last)) (tree_items-none b)
-    ∙ ap (λ (x : BodyEdge). tree_items (chosen x language) (steps ++ last)) (tree_after-none b)) in
-    let left : parted_after b set all ≡ tree_after c steps = rw o (ap (λ (x : BodyEdge). tree_after (chosen x language) steps) (tree_after-none b)) in
+    rw o (ap (λ (t : List Item). t ++ tree_items (chosen (tree_after b []) language) (steps ++ last)) (items-none b)
+    ∙ ap (λ (x : BodyEdge). tree_items (chosen x language) (steps ++ last)) (after-none b)) in
+    let left : parted_after b set all ≡ tree_after c steps = rw o (ap (λ (x : BodyEdge). tree_after (chosen x language) steps) (after-none b)) in
     let own : given_items b all ≡ given_items c all =
     ap (λ (x : BodyEdge). events_items x (set_events x line) ++ given_items (events_after x (set_events x line)) more) same in
     let next : body_after b all ≡ body_after c all = ap (λ (x : BodyEdge). body_after (events_after x (set_events x line)) more) same in (
-      begun ∙ tree_items-append c steps last
+      begun ∙ items-append c steps last
           ∙ ap (λ (t : List Item). t ++ tree_items (tree_after c steps) last) items
           ∙ ap (λ (x : BodyEdge). given_items c all ++ tree_items x last) after
           ∙ ap (λ (t : List Item). t ++ tree_items (body_after c all) last) (sym own)
@@ -131,16 +129,16 @@ line_decides b set line language more last u o =
     )
 
 -- what is given before a language is decided, and from there on, is what its lines give one after another
-parted_is : (b : BodyEdge) (set : Either) (all : List Given) (last : List (With Aside Step)) → b.header.is_decided ≡ false → b.header.set ≡ set
+parted_is : (b : BodyEdge) (set : Either) (all : List Given) (last : List Step) → b.header.is_decided ≡ false → b.header.set ≡ set
     → (parted_items b set all last ≡ given_items b all ++ tree_items (body_after b all) last) × (parted_after b set all ≡ body_after b all)
 unfolding turned parted_items parted_after given_items body_after
 parted_is b set [] last u s = (
-  ap (λ (t : List Item). t ++ tree_items (tree_after b []) last) (tree_items-none b) ∙ ap (λ (x : BodyEdge). tree_items x last) (tree_after-none b),
-  ap (λ (x : BodyEdge). tree_after x []) (tree_after-none b) ∙ tree_after-none b,
+  ap (λ (t : List Item). t ++ tree_items (tree_after b []) last) (items-none b) ∙ ap (λ (x : BodyEdge). tree_items x last) (after-none b),
+  ap (λ (x : BodyEdge). tree_after x []) (after-none b) ∙ after-none b,
 )
 parted_is b set (says m ∷ more) last u s =
-    let steps : List (With Aside Step) = aside (reports m) ∷ [] in
-    let k = front_more b b set steps (noted m ∷ []) (says m ∷ more) more last (aside_items_is b (reports m)) (aside_after_is b (reports m)) refl refl refl in
+    let steps : List Step = reports m ∷ [] in
+    let k = front_more b b set steps (noted m ∷ []) (says m ∷ more) more last (message_items b m) (message_after b m) refl refl refl in
     let h = parted_is b set more last u s in
     (k.0 ∙ ap (λ (t : List Item). noted m ∷ t) h.0, k.1 ∙ h.1)
 parted_is b set (takes line ∷ more) last u s = elim (language_cases (language_of line)) [
@@ -173,31 +171,31 @@ parted_is b set (takes line ∷ more) last u s = elim (language_cases (language_
 abbrev reader_by : Bool → BodyEdge → List Given → BodyEdge
 reader_by t b all = if t then b else chosen_if (tree_after b (given_steps b.header.set (if t then [] else before_language all))) (first_language all)
 
-abbrev steps_by : Bool → BodyEdge → List Given → List (With Aside Step)
+abbrev steps_by : Bool → BodyEdge → List Given → List Step
 steps_by t b all = given_steps (reader_by t b all).header.set (if t then all else from_language all)
 
-abbrev given_by : Bool → BodyEdge → List Given → List (With Aside Step) → List Item
+abbrev given_by : Bool → BodyEdge → List Given → List Step → List Item
 given_by t b all more =
     tree_items b (given_steps b.header.set (if t then [] else before_language all)) ++ tree_items (reader_by t b all) (steps_by t b all ++ more)
 
 abbrev left_by : Bool → BodyEdge → List Given → BodyEdge
 left_by t b all = tree_after (reader_by t b all) (steps_by t b all)
 
-decided_then : (b : BodyEdge) (all : List Given) (last : List (With Aside Step)) → b.header.is_decided ≡ true
+decided_then : (b : BodyEdge) (all : List Given) (last : List Step) → b.header.is_decided ≡ true
     → (given_then b all last ≡ given_items b all ++ tree_items (body_after b all) last)
     × (tree_after (reader b all) (rest_steps b all) ≡ body_after b all)
 decided_then b all last d =
     let steps = given_steps b.header.set all in
     let after = decided_after b.header.set b all d refl in (
       ap (λ (t : Bool). given_by t b all last) d
-          ∙ ap (λ (t : List Item). t ++ tree_items b (steps ++ last)) (tree_items-none b)
-          ∙ tree_items-append b steps last
+          ∙ ap (λ (t : List Item). t ++ tree_items b (steps ++ last)) (items-none b)
+          ∙ items-append b steps last
           ∙ ap (λ (t : List Item). t ++ tree_items (tree_after b steps) last) (decided_items b.header.set b all d refl)
           ∙ ap (λ (x : BodyEdge). given_items b all ++ tree_items x last) after,
       ap (λ (t : Bool). left_by t b all) d ∙ after,
     )
 
-undecided_then : (b : BodyEdge) (all : List Given) (last : List (With Aside Step)) → b.header.is_decided ≡ false
+undecided_then : (b : BodyEdge) (all : List Given) (last : List Step) → b.header.is_decided ≡ false
     → (given_then b all last ≡ given_items b all ++ tree_items (body_after b all) last)
     × (tree_after (reader b all) (rest_steps b all) ≡ body_after b all)
 unfolding turned parted_items parted_after
@@ -205,14 +203,14 @@ undecided_then b all last u =
     let k = parted_is b b.header.set all last u refl in
     (ap (λ (t : Bool). given_by t b all last) u ∙ k.0, ap (λ (t : Bool). left_by t b all) u ∙ k.1)
 
-pub given_then_is : (b : BodyEdge) (all : List Given) (last : List (With Aside Step))
+pub given_then_is : (b : BodyEdge) (all : List Given) (last : List Step)
     → (given_then b all last ≡ given_items b all ++ tree_items (body_after b all) last)
     × (tree_after (reader b all) (rest_steps b all) ≡ body_after b all)
 given_then_is b all last = elim (cases_Bool b.header.is_decided) [ inl d ↦ decided_then b all last d | inr u ↦ undecided_then b all last u ]
 
 pub given_tree_items : (b : BodyEdge) (all : List Given) → given_then b all [] ≡ given_items b all
 given_tree_items b all =
-    (given_then_is b all []).0 ∙ ap (λ (t : List Item). given_items b all ++ t) (tree_items-none (body_after b all)) ∙ append-nil (given_items b all)
+    (given_then_is b all []).0 ∙ ap (λ (t : List Item). given_items b all ++ t) (items-none (body_after b all)) ∙ append-nil (given_items b all)
 
 pub given_tree_after : (b : BodyEdge) (all : List Given) → tree_after (reader b all) (rest_steps b all) ≡ body_after b all
 given_tree_after b all = (given_then_is b all []).1
@@ -337,13 +335,13 @@ none_after e idle =
     rw (done-by_line e.roff [] idle, body) refl
 
 told_items : (b : BodyEdge) (notes : List Message) (line : ℕ)
-    → tree_items b (map (λ m. aside (reports m)) notes ++ page_end_steps line) ≡ map noted notes ++ body_end_items b line
+    → tree_items b (map reports notes ++ page_end_steps line) ≡ map noted notes ++ body_end_items b line
 told_items b [] line = end_tree b line
 told_items b (m ∷ notes) line =
-    tree_items-append b (aside (reports m) ∷ []) (map (λ m. aside (reports m)) notes ++ page_end_steps line)
-    ∙ ap (λ (t : List Item). t ++ tree_items (tree_after b (aside (reports m) ∷ [])) (map (λ m. aside (reports m)) notes ++ page_end_steps line))
-    (aside_items_is b (reports m))
-    ∙ ap (λ (c : BodyEdge). noted m ∷ tree_items c (map (λ m. aside (reports m)) notes ++ page_end_steps line)) (aside_after_is b (reports m))
+    items-append b (reports m ∷ []) (map reports notes ++ page_end_steps line)
+    ∙ ap (λ (t : List Item). t ++ tree_items (tree_after b (reports m ∷ [])) (map reports notes ++ page_end_steps line))
+    (message_items b m)
+    ∙ ap (λ (c : BodyEdge). noted m ∷ tree_items c (map reports notes ++ page_end_steps line)) (message_after b m)
     ∙ ap (λ (t : List Item). noted m ∷ t) (told_items b notes line)
 
 pub ending_is : (e : LinesEdge) (line : ℕ) → ending_items e line ≡ end_items e line

@@ -11,18 +11,16 @@ use Rattle.page_roff_source.specs.Edges.{Edge, SourceLine, end_notes}
 use Rattle.page_roff_source.specs.Given.{given, done}
 use Rattle.page_engine_lines.specs.Bodies.{BodyEdge, chosen_if}
 use Rattle.page_engine_lines.specs.Languages.{language_of}
-use Rattle.page_engine_lines.specs.Trees.{Aside, reports, events_steps, page_end_steps, tree_items, tree_after}
+use Rattle.page_engine_lines.specs.Trees.{Step, reports, events_steps, page_end_steps, tree_items, tree_after}
 use Rattle.page_engine_lines.specs.Edges.{LinesEdge}
-use Rattle.page_scopes_tree.specs.Asides.{With, aside}
-use Rattle.page_scopes_tree.specs.Acts.{Step}
 use Rattle.page_scopes_words.specs.Words.{at}
 use Rattle.page_sets.specs.Either.{either_events}
 use Rattle.page_sets.specs.declared.either.Either.{Either}
 
 -- a message is at its place, a line is the events that the macros of a set make of it
-abbrev pub given_steps : Either → List Given → List (With Aside Step)
+abbrev pub given_steps : Either → List Given → List Step
 given_steps set [] = []
-given_steps set (says m ∷ more) = aside (reports m) ∷ given_steps set more
+given_steps set (says m ∷ more) = reports m ∷ given_steps set more
 given_steps set (takes line ∷ more) = events_steps (either_events set line) ++ given_steps set more
 
 -- ---- the language
@@ -45,7 +43,7 @@ first_language (takes line ∷ more) = option_or (language_of line) (first_langu
 
 -- A body reads what is given by its own set up to where the language is decided, if it is not decided yet: the acts up to there, and the body that
 -- reads the rest.
-abbrev pub front_steps : BodyEdge → List Given → List (With Aside Step)
+abbrev pub front_steps : BodyEdge → List Given → List Step
 front_steps b given = given_steps b.header.set (if b.header.is_decided then [] else before_language given)
 
 abbrev pub reader : BodyEdge → List Given → BodyEdge
@@ -53,7 +51,7 @@ reader b given =
     if b.header.is_decided then b else chosen_if (tree_after b (front_steps b given)) (first_language given)
 
 -- the acts from there on
-abbrev pub rest_steps : BodyEdge → List Given → List (With Aside Step)
+abbrev pub rest_steps : BodyEdge → List Given → List Step
 rest_steps b given = given_steps (reader b given).header.set (if b.header.is_decided then given else from_language given)
 
 -- the messages of white space at a line's end
@@ -68,7 +66,7 @@ raw_line number text notes = record { text = text; number = number; notes = note
 -- ---- all lines
 
 -- the pieces and messages of what is given, and then of further acts, by the block trees of the acts before the language is decided and after
-abbrev pub given_then : BodyEdge → List Given → List (With Aside Step) → List Item
+abbrev pub given_then : BodyEdge → List Given → List Step → List Item
 given_then b given more = tree_items b (front_steps b given) ++ tree_items (reader b given) (rest_steps b given ++ more)
 
 -- of the lines, by the forest of them, and what decides those of the lines to come
@@ -81,8 +79,8 @@ lines_after e lines =
     record { roff = done e.roff lines; body = tree_after (reader e.body all) (rest_steps e.body all) }
 
 -- the acts at the page's end, on a line: what roff left open is reported, and then the body ends
-abbrev pub end_steps : Edge → ℕ → List (With Aside Step)
-end_steps e line = map (λ m. aside (reports m)) (end_notes e) ++ page_end_steps line
+abbrev pub end_steps : Edge → ℕ → List Step
+end_steps e line = map reports (end_notes e) ++ page_end_steps line
 
 -- the pieces and messages of the page's end alone, on a line
 abbrev pub ending_items : LinesEdge → ℕ → List Item

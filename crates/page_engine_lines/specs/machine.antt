@@ -2,3 +2,4 @@
 pub mod BodyOuts
 pub mod Given
 pub mod Lines
+pub mod Trees

@@ -1,7 +1,6 @@
 -- Names, and the dash after them.
-use Rattle.std.proofs.Common.{◌≡◌, ℕ, ◌+◌, ◌-◌, ◌<◌, ◌≤◌, Bool, true, false, List, [], ◌∷◌, length, take, drop, Some, None, refl, sym, ap, ◌∙◌, arith, if◌then◌else◌}
-use Rattle.std.proofs.lemmas.Bool.{le-ltb, lt-ltb}
-use Rattle.page_engine_records.specs.Records.{begins_dash, dash_place, is_blank, names_in, record_of, record_with, trimmed, with_name, with_names, without_front}
+use Rattle.std.proofs.Common.{◌≡◌, ℕ, ◌+◌, ◌-◌, Bool, true, false, List, [], ◌∷◌, length, refl, sym, ap, ◌∙◌, arith, if◌then◌else◌}
+use Rattle.page_engine_records.specs.Records.{begins_dash, dash_place, is_blank, trimmed, with_name, with_names, without_front}
 
 -- ---- the dash
 
@@ -55,19 +54,3 @@ unfolding with_names
 names_none names = refl
 
 -- ---- the record
-
-pub no_dash : (text section : List ℕ) → dash_place text ≡ length text → record_of text section ≡ None
-no_dash text section e = rw (e, le-ltb (length text) (length text) (omega arith)) refl
-
-pub dash_found : (text section : List ℕ) → dash_place text < length text
-    → record_of text section ≡ record_with (names_in (take (dash_place text) text)) section (drop (dash_place text + 3) text)
-dash_found text section h = rw (lt-ltb (dash_place text) (length text) h) refl
-
-pub without_names : (names section description : List ℕ) → length names ≤ 0 → record_with names section description ≡ None
-without_names [] section description h = refl
-without_names (byte ∷ names) section description h = absurd (omega (arith, h))
-
-pub with_some : (names section description : List ℕ) → 0 < length names
-    → record_with names section description ≡ Some (record { names = names; section = section; description = description })
-with_some [] section description h = absurd (omega (arith, h))
-with_some (byte ∷ names) section description h = refl

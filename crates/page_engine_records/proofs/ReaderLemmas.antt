@@ -1,5 +1,5 @@
 -- What a reader of pieces keeps.
-use Rattle.std.proofs.Common.{◌≡◌, ℕ, ◌+◌, ◌<◌, ◌≤◌, nat_lt, Bool, true, false, List, [], ◌∷◌, ◌++◌, length, drop, get_or, inl, inr, refl, sym, arith, add-one, drop-cons, Result, Ok, Err}
+use Rattle.std.proofs.Common.{◌≡◌, ℕ, ◌+◌, ◌<◌, ◌≤◌, nat_lt, false, List, [], ◌∷◌, ◌++◌, length, drop, get_or, inl, inr, refl, sym, arith, add-one, drop-cons, Result, Ok, Err}
 use Rattle.std.proofs.lemmas.Bool.{cases_Bool}
 use Rattle.std.proofs.lemmas.List.{drop_all}
 use Rattle.page_core_base.specs.Latches.{Emits}
@@ -12,14 +12,6 @@ use Rattle.page_engine_records.specs.machine.ReaderSinks.{Never, Took}
 use Rattle.page_engine_records.specs.declared.name_readers.NameReader.{NameReader}
 
 -- ---- a blank that waits
-
-pub spaced_none : (is_apart : Bool) (text : List ℕ) → length text ≤ 0 → spaced is_apart text ≡ text
-spaced_none is_apart [] h = refl
-spaced_none is_apart (byte ∷ bytes) h = absurd (omega (arith, h))
-
-pub spaced_some : (text : List ℕ) → 0 < length text → spaced true text ≡ with_byte text 32
-spaced_some [] h = absurd (omega (arith, h))
-spaced_some (byte ∷ bytes) h = refl
 
 pub spaced_joined : (text : List ℕ) → spaced false text ≡ text
 spaced_joined [] = refl

@@ -4,14 +4,12 @@ use Rattle.std.proofs.Math.Path.{subst}
 use Rattle.std.specs.Prelude.{if◌then◌else◌}
 use Rattle.std.specs.Io.KnownBytes.{IsAtEnd}
 use Rattle.std.proofs.lemmas.List.{take-append-drop}
-use Rattle.page_core_base.specs.Checks.{IsGood, IsFirst}
+use Rattle.page_core_base.specs.Checks.{IsGood}
 use Rattle.page_core_base.specs.declared.faults.Fault.{Fault}
 use Rattle.page_core_base.specs.declared.faults.Fault.TheVariants.{Memory, Read, WriteText, WriteNotes, TooLong, Settings, Failed, Ended, BadIndex}
-use Rattle.page_core_base.specs.declared.page_settings.SettingFault.{SettingFault}
 use Rattle.page_core_base.specs.declared.page_settings.Settings.{Settings as PageSettings}
 use Rattle.page_core_streams.specs.Chunks.{Stops}
 use Rattle.page_core_streams.specs.Sources.{SourceState}
-use Rattle.page_core_streams.proofs.GivenLemmas.{given_none, lean_none}
 use Rattle.page_engine_index.specs.declared.records.Record.{Record}
 use Rattle.page_roff_lines.specs.Cutting.{Point, first_point, last_line, lines_from, lines_within, point_after}
 use Rattle.page_roff_lines.specs.Lines.{Line}
@@ -22,7 +20,7 @@ use Rattle.page_engine_records.specs.machine.Fronts.{Front, after_lines, ended, 
 use Rattle.page_engine_records.specs.PageRecords.{page_record, record_of_lines}
 use Rattle.page_engine_records.specs.Records.{record_by}
 use Rattle.page_engine_records.specs.Runs.{HasCause, ReadsRecordOver, Stopped}
-use Rattle.page_engine_records.specs.machine.Steps.{EndedWell, Finished, HasRoom, IsAt, IsFresh, ReadsAll, StartsAt, StoppedBy, Through, front_of}
+use Rattle.page_engine_records.specs.machine.Steps.{EndedWell, Finished, HasRoom, IsAt, ReadsAll, StartsAt, StoppedBy, Through, front_of}
 use Rattle.page_engine_records.specs.declared.runs.RecordRun.{RecordRun}
 use Rattle.page_engine_records.proofs.FrontLemmas.{after_lines-append, ended_stays}
 use Rattle.page_engine_records.proofs.WholeLemmas.{whole_record}
@@ -143,14 +141,6 @@ stopped (BadIndex l) run run' a b bytes w = absurd w
 starts_at : (run : RecordRun) (s : PageSettings) → StartsAt run s → IsAt run (first_point s.encoding)
 starts_at run s h = record { point = λ f. h.point; idle = ap (λ (f : Front). f.lines.roff.to_come) h.front }
 
-pub starts_fresh : (run : RecordRun) (s : PageSettings) → StartsAt run s → IsFresh run
-starts_fresh run s h =
-    let none = ap (λ (p : Point). p.line.consumed) h.point in
-    let lines = ap (λ (f : Front). f.lines.roff.source) h.front in record {
-      room = record { free = λ f. h.free; bytes = λ f. omega (arith, none); lines = omega (arith, lines) };
-      idle = ap (λ (f : Front). f.lines.roff.to_come) h.front;
-    }
-
 whole_page : (run run' : RecordRun) (a b : SourceState) (s : PageSettings) (bytes : List ℕ) → StartsAt run s → EndedWell run run' a b bytes
     → record_by (kept_of run'.page.name) run'.page.lines.body.header.fields.section ≡ page_record s bytes
 whole_page run run' a b s bytes h w =
@@ -199,24 +189,3 @@ ends_early run run' a b s bytes fault good w =
       reads = z.0;
       cause = z.1;
     }
-
--- nothing was read
-pub refused : (a : SourceState) (s : PageSettings) (fault : SettingFault) → IsFirst s fault → ReadsRecordOver (Err (Settings fault)) a a s []
-refused a s fault h = record {
-  asked = 0;
-  few = omega arith;
-  source = given_none a;
-  lean = lean_none a;
-  reads = (h, refl);
-  cause = refl;
-}
-
-pub without_memory : (a : SourceState) (s : PageSettings) → IsGood s → ReadsRecordOver (Err Memory) a a s []
-without_memory a s good = record {
-  asked = 0;
-  few = omega arith;
-  source = given_none a;
-  lean = lean_none a;
-  reads = (good, refl);
-  cause = refl;
-}

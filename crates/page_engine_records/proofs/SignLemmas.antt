@@ -82,9 +82,6 @@ take-take-append zero xs ys = refl
 take-take-append (suc n) [] ys = refl
 take-take-append (suc n) (x ∷ xs) ys = ap (λ (l : List ℕ). x ∷ l) (take-take-append n xs ys)
 
-spaced-take : (text : List ℕ) (byte : ℕ) (bytes : List ℕ) → text ≡ take TEXT (byte ∷ bytes) → spaced true text ≡ with_byte text 32
-spaced-take text byte bytes is = rw is refl
-
 pub character_kept : (text : List ℕ) (is_apart : Bool) (c : ℕ) → with_byte (spaced is_apart (take TEXT text)) c ≡ take TEXT (with_sign text is_apart c)
 character_kept [] is_apart c = refl
 character_kept (byte ∷ bytes) false c = take-take-append TEXT (byte ∷ bytes) (c ∷ [])

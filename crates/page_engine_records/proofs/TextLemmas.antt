@@ -1,5 +1,5 @@
 -- Texts in reserved memory.
-use Rattle.std.proofs.Common.{◌≡◌, ℕ, ◌+◌, ◌-◌, ◌<◌, ◌≤◌, nat_le, Bool, true, false, List, [], ◌∷◌, ◌++◌, length, refl, sym, arith, length-append, append_assoc}
+use Rattle.std.proofs.Common.{◌≡◌, ℕ, ◌+◌, ◌-◌, ◌≤◌, nat_le, Bool, true, false, List, [], ◌∷◌, ◌++◌, length, sym, arith, length-append}
 use Rattle.std.proofs.lemmas.List.{take_all, take_at}
 use Rattle.page_engine_records.specs.machine.NameTexts.{with_byte}
 use Rattle.page_engine_records.specs.Records.{with_name}
@@ -16,20 +16,6 @@ added_byte text byte true f h = sym (take_all TEXT (text ++ byte ∷ []) h)
 added_byte text byte false f h = sym (without_room text byte (grind (arith, nat_tests, f)) h)
 
 -- ---- names
-
-pub no_name : (names name : List ℕ) → length name ≤ 0 → with_name names name ≡ names
-no_name names [] h = refl
-no_name names (byte ∷ name) h = absurd (omega (arith, h))
-
-pub first_name : (names name : List ℕ) → length names ≤ 0 → with_name names name ≡ names ++ name
-first_name [] [] h = refl
-first_name [] (byte ∷ name) h = refl
-first_name (first ∷ names) name h = absurd (omega (arith, h))
-
-pub next_name : (names name : List ℕ) → 0 < length names → 0 < length name → with_name names name ≡ (names ++ codes ", ") ++ name
-next_name [] name h g = absurd (omega (arith, h))
-next_name (first ∷ names) [] h g = absurd (omega (arith, g))
-next_name (first ∷ names) (byte ∷ name) h g = simp append_assoc
 
 pub name_length : (names name : List ℕ) → length (with_name names name) ≤ length names + 2 + length name
 name_length names [] = omega arith

@@ -3,7 +3,7 @@
 
 ghost use Rattle.std.specs.Prelude.{◌≡◌, ◌≤◌, ◌<◌, ◌+◌, ◌-◌, ◌==◌, ◌||◌, ℕ, List, drop, length, true};
 ghost use Rattle.page_core_base.specs.Fails.{FailsBySink};
-ghost use Rattle.page_core_base.specs.Laid.{Gets, Laid, nothing};
+ghost use Rattle.page_core_base.specs.Laid.{Gets, Laid};
 ghost use Rattle.page_core_base.specs.Latches.{LaysOut};
 ghost use Rattle.page_core_base.specs.Words.{is_printable_ascii, lettered_pieces};
 ghost use Rattle.page_core_base.specs.declared.limits.TheConstants.{CELLS};

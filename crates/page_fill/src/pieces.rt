@@ -59,7 +59,7 @@ impl Edge {
         })
     }
 
-    /// The same on a page of this width in columns, of an output. It reserves all memory that is ever held.
+    /// This edge on a page of another width in columns and another output. It reserves all memory that is ever held.
     pub fn copy(&self, alloc: Global, width: u32, output: Output) -> Result<Edge, AllocError>
         ensures { IfOk result (λ e. e ≡ under width output self.now) }
     {

@@ -1,10 +1,9 @@
 -- Places of a row that are known to have blanks.
-use Rattle.std.proofs.Common.{◌≡◌, ℕ, zero, suc, ◌+◌, ◌-◌, ◌<◌, ◌≤◌, max, nat_lt, true, List, [], ◌∷◌, ◌++◌, length, take, drop, get_or, replicate, set, append_assoc, append-nil, add-one, inl, inr, refl, sym, ap, ◌∙◌, arith}
+use Rattle.std.proofs.Common.{◌≡◌, ℕ, zero, suc, ◌+◌, ◌-◌, ◌<◌, ◌≤◌, max, true, List, [], ◌∷◌, ◌++◌, length, take, drop, get_or, replicate, append_assoc, append-nil, add-one, refl, sym, ap, ◌∙◌, arith}
 use Rattle.std.specs.List.{list_all}
 use Rattle.std.proofs.Math.Nat.{le-max_left, le-max_right}
-use Rattle.std.proofs.lemmas.Bool.{cases_Bool}
 use Rattle.std.proofs.lemmas.Bool.Decides.{nat_tests}
-use Rattle.std.proofs.lemmas.List.{get_or-drop, get_or-take, get_or-append_right, get_or-replicate, get_or-set_other, length-take-le, replicate-append-replicate, take-take, take_more}
+use Rattle.std.proofs.lemmas.List.{get_or-drop, get_or-take, get_or-append_right, get_or-replicate, length-take-le, replicate-append-replicate, take-take, take_more}
 use Rattle.page_core_base.specs.declared.cells.Cell.{Cell}
 use Rattle.page_core_base.specs.declared.cells.Font.{Font}
 use Rattle.page_core_base.specs.Rows.{is_blank_row, row_of}
@@ -86,24 +85,6 @@ cut-run old new first last end font run after = record {
       after k (cell_of font 32) past ∙ run.at k from g;
 }
 
--- a blank was put in the first place, before others
-pub first-run : (places : List Cell) (first last : ℕ) (font : Font) (cell : Cell) → HasRun places first last font → first ≤ 1 → font ≡ cell.font → cell.c ≡ 32
-    → HasRun (set places 0 cell) 0 last font
-first-run [] first last font cell run from same is = record { at = λ k h g. refl }
-first-run (old ∷ places) first last font cell run from same is = record { at = λ k h g. place k g } where
-  place : (k : ℕ) → k < last → get_or (cell ∷ places) k (cell_of font 32) ≡ cell_of font 32
-  place zero g = ap (λ c. cell_of cell.font c) is ∙ ap (λ f. cell_of f 32) (sym same)
-  place (suc k) g = run.at (suc k) (omega (arith, from)) g
-
--- another cell was
-pub other-first : (places : List Cell) (first last : ℕ) (font : Font) (cell : Cell) → HasRun places first last font → HasRun (set places 0 cell) (max first 1) last font
-other-first places first last font cell run = record {
-  at = λ k h g.
-      let from : first ≤ k = omega (arith, h, le-max_left first 1) in
-      let behind : 1 ≤ k = omega (arith, h, le-max_right first 1) in
-      get_or-set_other places 0 k cell (cell_of font 32) (λ is. omega (arith, behind, is)) ∙ run.at k from g;
-}
-
 -- blanks were put
 pub put-run : (old new : List Cell) (start count : ℕ) (font : Font) → take (start + count) new ≡ take start old ++ replicate count (cell_of font 32)
     → start ≤ length old → HasRun new start (start + count) font
@@ -128,21 +109,6 @@ moved-run old new first last start end font run from to moved = record {
       ∙ (get_or-drop start (take end old) k cell
       ∙ (get_or-take end old (start + k) cell (omega (arith, g)) ∙ run.at (start + k) (omega (arith, from)) (omega (arith, g, to)))));
 }
-
--- blanks were put behind others
-pub grown-run : (old new : List Cell) (first last start end : ℕ) (font : Font) → HasRun old first last font → start ≤ last
-    → take start new ≡ take start old → HasRun new start end font → HasRun new first end font
-grown-run old new first last start end font run within before put = record {
-  at = λ k h g. elim (cases_Bool (nat_lt k start)) [
-    | inl t ↦ kept k h (grind (arith, nat_tests, t))
-    | inr f ↦ put.at k (grind (arith, nat_tests, f)) g
-  ];
-} where
-  kept : (k : ℕ) → first ≤ k → k < start → get_or new k (cell_of font 32) ≡ cell_of font 32
-  kept k h g =
-      sym (get_or-take start new k (cell_of font 32) g)
-      ∙ (ap (λ cells. get_or cells k (cell_of font 32)) before
-      ∙ (get_or-take start old k (cell_of font 32) g ∙ run.at k h (omega (arith, g, within))))
 
 -- ---- a row of blanks
 

@@ -20,11 +20,6 @@ use Rattle.page_fill_cells.proofs.PrintableLemmas.{first-plain, rest-plain, plai
 
 -- ---- places put anew
 
-pub put-none : {A : Type 0} (old : List A) (start : ℕ) → put_at old start [] ≡ old
-put-none old start =
-    let none : start + 0 ≡ start = omega arith in
-    ap (λ n. take start old ++ ([] ++ drop n old)) none ∙ take-append-drop start old
-
 -- one more
 pub put-more : {A : Type 0} (old added : List A) (start : ℕ) (y : A) → start + length added < length old
     → set (put_at old start added) (start + length added) y ≡ put_at old start (added ++ y ∷ [])

@@ -132,7 +132,7 @@ fn are_blanks(bytes: &[u8]) -> bool
     all
 }
 
-// The same, in groups of one size, for which the compiler needs no loop. The last group may overlap the one before.
+// Whether all bytes are blanks, tested in groups of one size, for which the compiler needs no loop. The last group may overlap the one before.
 #[inline(always)]
 fn groups_blank<const GROUP: usize>(bytes: &[u8]) -> bool
     requires some { 0 < GROUP }
@@ -150,7 +150,7 @@ fn groups_blank<const GROUP: usize>(bytes: &[u8]) -> bool
     are_blanks(&bytes[last..])
 }
 
-// The same of a long text, in the largest groups that have room in it. It is a call, so that what asks stays small.
+// Whether all bytes of a long text are blanks, tested in the largest groups that fit. It is a call, so that its callers stay small.
 #[inline(never)]
 fn are_long_blanks(bytes: &[u8]) -> bool
     requires { LONG ≤ length bytes.now }

@@ -15,7 +15,8 @@ fn are_printable(bytes: &[u8]) -> bool
     all
 }
 
-// The same, in groups of one size, for which the compiler needs no loop. The last group may overlap the one before.
+// Whether bytes are printable ASCII, tested in groups of one size, for which the compiler needs no loop. The last group may overlap the one
+// before.
 #[inline(always)]
 fn groups_printable<const GROUP: usize>(bytes: &[u8]) -> bool
     requires some { 0 < GROUP }

@@ -120,14 +120,6 @@ vector-none text end front n is within few none =
 
 -- ---- the first blank
 
--- a vector at a text's front has it
-pub first-some : (text : List ℕ) → 16 ≤ length text → word_end (chunk 0 16 text) < 16 → word_end text ≡ word_end (chunk 0 16 text)
-first-some text long some =
-    let front = chunk 0 16 text in
-    let len = length-chunk 0 16 text long in
-    let other : eqb (word_end front) (length front) ≡ false = grind (arith, nat_tests, len, some) in
-    ap word_end (chunk-drop 0 16 text) ∙ (prefix_len-append (λ b. not (b == 32)) front (drop 16 text) ∙ rw other refl)
-
 -- it has none
 pub first-none : (text : List ℕ) → 16 ≤ length text → word_end (chunk 0 16 text) ≡ 16 → word_end text ≡ 16 + word_end (drop 16 text)
 first-none text long none =

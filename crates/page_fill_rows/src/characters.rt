@@ -1,6 +1,6 @@
 //! What characters and glyphs print (mandoc_char(7)).
 
-ghost use Rattle.std.specs.Prelude.{◌≡◌, [], ◌∷◌};
+ghost use Rattle.std.specs.Prelude.{[], ◌∷◌};
 ghost use Rattle.std.specs.Str.{chars};
 ghost use Rattle.page_core_base.specs.Latches.{LaysOut};
 ghost use Rattle.page_core_tables.specs.Printed.{printed_view, unknown_text};

@@ -1,13 +1,11 @@
 //! The open row, cell by cell.
 
 ghost use Rattle.std.specs.Prelude.{◌≡◌, ◌+◌, ◌-◌, ◌<◌, ◌≤◌, ◌==◌, [], ◌∷◌, ◌++◌, length, take, drop, replicate, IfOk, true, false, if◌then◌else◌};
-ghost use Rattle.std.specs.List.{list_all};
 ghost use Rattle.page_core_base.specs.Latches.{CameRows, LaysOut};
 ghost use Rattle.page_core_base.specs.Messages.{message_of};
 ghost use Rattle.page_core_base.specs.Rows.{cells_in, row_of};
 ghost use Rattle.page_fill_rows.specs.Characters as shown;
 ghost use Rattle.page_fill_rows.specs.OpenRows.{IsHeld};
-ghost use Rattle.page_fill_cells.specs.machine.BlankRuns.{is_blank_byte};
 ghost use Rattle.page_fill_rows.specs.machine.Plain as plain;
 ghost use Rattle.page_fill_rows.specs.machine.Sheets as sheet;
 
@@ -97,7 +95,7 @@ impl OpenRow {
         })
     }
 
-    /// The same row on a page of this width in columns, with all memory that it will ever hold.
+    /// This row on a page of another width in columns, with all memory that it will ever hold.
     pub fn copy(&self, alloc: Global, width: u32) -> Result<OpenRow, AllocError>
         ensures { IfOk result (λ s. s ≡ record self.now { width = width }) }
     {

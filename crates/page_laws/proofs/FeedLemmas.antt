@@ -52,12 +52,6 @@ front_before k rl nl r s n m a b fault x = record {
 
 -- ---- lines
 
-Cuts : Type 0
-Cuts = (e : Edge) (above below : List Line) → IsReached e → settled e (above ++ below) ≡ join (settled e above) (settled (edge e above) below)
-
-ByLines : Type 0
-ByLines = (e : Edge) (lines : List Line) → IsReached e → settled e lines ≡ by_line.settled e lines
-
 pub none_fed : {R N : Type 0} (k : Sinks R N) → IsSink k.to.row_gave k.to.row_within → IsSink k.to.note_gave k.to.note_within
     → ((e : Edge) (lines : List Line) → IsReached e → settled e lines ≡ by_line.settled e lines)
     → (r : R) (n : N) (e : Edge) (p : PageState) → IsOpenAt p e → HasFed k r r n n e [] p

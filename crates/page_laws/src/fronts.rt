@@ -1,6 +1,6 @@
 //! What lines settle stays, whatever follows.
 
-ghost use Rattle.std.specs.Prelude.{◌≡◌, List, ◌++◌};
+ghost use Rattle.std.specs.Prelude.{List, ◌++◌};
 ghost use Rattle.page_roff_lines.specs.Lines.{Line};
 ghost use Rattle.page_engine.specs.Page.{Edge, IsReached, settled, page};
 ghost use Rattle.page_laws.specs.Fronts.{IsLaidFront};

@@ -1,6 +1,6 @@
 //! Laws of places: where the events of a line are in it.
 
-ghost use Rattle.std.specs.Prelude.{◌≡◌, ◌≤◌, ◌+◌, ℕ, List, length, min};
+ghost use Rattle.std.specs.Prelude.{◌≡◌, ◌≤◌, ◌+◌, ℕ, length, min};
 ghost use Rattle.page_core_base.specs.Limits.{LINE};
 ghost use Rattle.page_core_base.specs.LinesTaken.{Line};
 ghost use Rattle.page_sets.specs.Either.{either_events};

@@ -54,7 +54,7 @@ fn show_calls(rt: &HostRuntime, layer: Layer) -> io::Result<Option<Layer>> {
     }
 }
 
-// The same of a layer whose calls have nothing to do with one another.
+// Shows lines of a layer whose calls do not depend on one another.
 fn show_lines(rt: &HostRuntime, layer: Layer) -> io::Result<Option<Layer>> {
     for line in rt.lines(rt.alloc()) {
         let line = line?;

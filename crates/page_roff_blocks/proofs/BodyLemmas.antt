@@ -3,9 +3,9 @@ use Rattle.std.proofs.Common.{ℕ, zero, suc, Bool, true, false, not, ◌&&◌, 
 use Rattle.page_roff_blocks.specs.LineParts.{line_parts}
 use Rattle.page_roff_blocks.specs.Levels.{first_place}
 use Rattle.page_roff_blocks.specs.Loops.{loop_text}
-use Rattle.page_roff_blocks.specs.Run.{run_lines}
-use Rattle.page_roff_blocks.specs.Languages.{Kind, page, body, inner, Done, gives, calls, repeats, state_of, TURNS, is_some, finish_at, run_body, turns, done_by, meaning_by, done_at, meaning_at}
-use Rattle.page_roff_blocks.specs.Budgets.{Budgeted, Effects, with_rest, charge, begin_line, whether_run, meet, test, unopened_by, read_line, end_line, collect_some, meaning, done_with, closed_with, turn_by, turn, language}
+use Rattle.page_roff_blocks.specs.machine.Run.{run_lines}
+use Rattle.page_roff_blocks.specs.machine.Languages.{Kind, page, body, inner, Done, gives, calls, repeats, state_of, TURNS, is_some, finish_at, run_body, turns, done_by, meaning_by, done_at, meaning_at}
+use Rattle.page_roff_blocks.specs.machine.Budgets.{Budgeted, Effects, with_rest, charge, begin_line, whether_run, meet, test, unopened_by, read_line, end_line, collect_some, meaning, done_with, closed_with, turn_by, turn, language}
 use Rattle.page_roff_blocks.proofs.KeepLemmas.{KeepsParts, KeepsLines, IsAny, any_leaves, any_lines, run_keeps, turns_keep}
 
 module _ {R : Type 0} (e : Effects R) (P : Budgeted R → Type 0) (charge_keeps : (s : Budgeted R) → P s → P (charge e s)) (rest_keeps : (s : Budgeted R) (r : R) → P s → P (with_rest e s r)) where

@@ -5,13 +5,13 @@ use Rattle.page_roff_syntax.specs.RegionHeads.{is_ending}
 use Rattle.page_roff_blocks.specs.Levels.{Levels, at_line}
 use Rattle.page_roff_syntax.specs.OpenRegions.{Opened}
 use Rattle.page_roff_blocks.specs.Loops.{loop_text}
-use Rattle.page_roff_blocks.specs.Run.{At, keep_if}
+use Rattle.page_roff_blocks.specs.machine.Run.{At, keep_if}
 use Rattle.page_roff_blocks.specs.machine.Steps.{step_inside, collect_if, step_from, step, step_lines}
 use Rattle.page_roff_blocks.specs.machine.Steps as steps
 use Rattle.page_roff_blocks.proofs.FoldLemmas.{run_is_steps}
 use Rattle.page_core_base.specs.declared.limits.TheConstants.{CALLS, REREAD}
-use Rattle.page_roff_blocks.specs.Languages.{page, meaning_by, meaning_at, run_page}
-use Rattle.page_roff_blocks.specs.Budgets.{Budgeted, Effects, with_rest, charge_by, charge, begin_line, read_line, end_line, collect_some, meaning, language}
+use Rattle.page_roff_blocks.specs.machine.Languages.{page, meaning_by, meaning_at, run_page}
+use Rattle.page_roff_blocks.specs.machine.Budgets.{Budgeted, Effects, with_rest, charge_by, charge, begin_line, read_line, end_line, collect_some, meaning, language}
 use Rattle.page_roff_blocks.proofs.BodyLemmas.{some_keeps, parts_keep}
 use Rattle.page_roff_blocks.proofs.KeepLemmas.{IsAny, any_leaves}
 use Rattle.page_roff_blocks.proofs.KeepLemmas as keep

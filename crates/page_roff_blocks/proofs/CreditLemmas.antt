@@ -13,12 +13,12 @@ use Rattle.page_roff_blocks.specs.declared.levels.Way.TheVariants.{Runs, Skips, 
 use Rattle.page_roff_blocks.specs.Levels.{Levels, way_of, BlockCursor, after_part, guarded_by, reached, reached_in, reached_from, reached_if}
 use Rattle.page_roff_syntax.specs.OpenRegions.{Opened}
 use Rattle.page_roff_blocks.specs.Loops.{loop_text}
-use Rattle.page_roff_blocks.specs.Run.{Meaning, At, meet_as, value, keep_if, refuse_if}
+use Rattle.page_roff_blocks.specs.machine.Run.{Meaning, At, meet_as, value, keep_if, refuse_if}
 use Rattle.page_roff_blocks.specs.machine.Steps.{met, guard_with, guard_met, block_with, opening_met, block_met, collect_if}
 use Rattle.page_roff_blocks.specs.machine.Steps as steps
-use Rattle.page_roff_blocks.specs.Languages.{Kind, page, body, finish_at, meaning_by, meaning_at}
+use Rattle.page_roff_blocks.specs.machine.Languages.{Kind, page, body, finish_at, meaning_by, meaning_at}
 use Rattle.page_roff_blocks.specs.machine.Machine.{finish_if}
-use Rattle.page_roff_blocks.specs.Budgets.{Budgeted, Effects, with_rest, charge_by, charge, begin_line, whether_run, meet, test, unopened_by, read_line, end_line, collect_some, meaning, turn_by, turn, language}
+use Rattle.page_roff_blocks.specs.machine.Budgets.{Budgeted, Effects, with_rest, charge_by, charge, begin_line, whether_run, meet, test, unopened_by, read_line, end_line, collect_some, meaning, turn_by, turn, language}
 use Rattle.page_roff_blocks.specs.machine.Measures.{fresh_if, fresh_at, credit_if, credit}
 
 credit_more : (gave_up : Bool) (left f g : ℕ) → f ≤ g → credit_if gave_up left f ≤ credit_if gave_up left g

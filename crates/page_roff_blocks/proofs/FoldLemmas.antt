@@ -14,7 +14,7 @@ use Rattle.page_roff_blocks.specs.Levels.{Levels, enter, open_loop, skip, leave,
 use Rattle.page_roff_syntax.specs.OpenRegions.{Opened, opened}
 use Rattle.page_roff_blocks.specs.declared.levels.Way.{Way}
 use Rattle.page_roff_blocks.specs.declared.levels.Way.TheVariants.{Runs, Skips, Exceeds}
-use Rattle.page_roff_blocks.specs.Run.{Meaning, Flow, At, fresh, past, guarded, meet_as, meet, keep_if, end_region, pass_region, pass, gather, leaf_if, guard_if, enter_if, block_by, loop_by, loop_if, run, read, here_at, here_in, here, enter_loop, enter_opening, enter_at, enter_in, enter_block, end_by, leave_block, meet_at, meet_in, open_region, read_at, run_source, run_inside, run_from, run_lines}
+use Rattle.page_roff_blocks.specs.machine.Run.{Meaning, Flow, At, fresh, past, guarded, meet_as, meet, keep_if, end_region, pass_region, pass, gather, leaf_if, guard_if, enter_if, block_by, loop_by, loop_if, run, read, here_at, here_in, here, enter_loop, enter_opening, enter_at, enter_in, enter_block, end_by, leave_block, meet_at, meet_in, open_region, read_at, run_source, run_inside, run_from, run_lines}
 use Rattle.page_roff_blocks.specs.machine.Steps.{met, step_leaf, guard_with, guard_met, step_guard, block_with, opening_met, block_met, step_block, step_loop, step_end, step_region, step_parts, step_inside, collect_if, begin_line, step_from, step, step_lines}
 
 module _ {X S : Type 0} (m : Meaning X S) (text : X → List ℕ) where

@@ -19,10 +19,10 @@ use Rattle.page_roff_blocks.specs.LineParts.{line_parts}
 use Rattle.page_roff_syntax.specs.RegionHeads.{is_ending}
 use Rattle.page_roff_blocks.specs.Levels.{Levels, bit_after, way_of, enter, open_loop, what_ends, BlockCursor, at_line, after_part, reached, first_place}
 use Rattle.page_roff_syntax.specs.OpenRegions.{Opened, opened}
-use Rattle.page_roff_blocks.specs.Run.{Meaning, At, meet_as, value, keep_if, leaf_if, loop_if, refuse_if, end_by, run_lines}
+use Rattle.page_roff_blocks.specs.machine.Run.{Meaning, At, meet_as, value, keep_if, leaf_if, loop_if, refuse_if, end_by, run_lines}
 use Rattle.page_roff_blocks.specs.machine.Steps.{met, step_leaf, guard_with, guard_met, step_guard, block_with, opening_met, block_met, step_block, step_loop, step_end, step_region, step_parts, step_inside, collect_if, begin_line, step_from, step, step_lines}
 use Rattle.page_roff_blocks.proofs.FoldLemmas.{run_is_steps}
-use Rattle.page_roff_blocks.specs.Languages.{Kind, body, inner, Done, gives, calls, repeats, TURNS, Language, is_some, run_if, finish_at, run_body, turns, done_by, meaning_by, done_at, meaning_at}
+use Rattle.page_roff_blocks.specs.machine.Languages.{Kind, body, inner, Done, gives, calls, repeats, TURNS, Language, is_some, run_if, finish_at, run_body, turns, done_by, meaning_by, done_at, meaning_at}
 use Rattle.page_roff_blocks.specs.machine.Machine.{Turning, Frame, Running, depth, line_in, line_rest, finish_if, ended, after_line, rest, rest_of}
 use Rattle.page_roff_blocks.specs.machine.Fronts.{over_pair, over, over_running, over_done, IsFrontOfParts, IsFront}
 

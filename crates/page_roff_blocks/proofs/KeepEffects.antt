@@ -7,10 +7,10 @@ use Rattle.page_roff_syntax.specs.declared.region_heads.RegionHead.{RegionHead}
 use Rattle.page_roff_blocks.specs.Levels.{first_place}
 use Rattle.page_roff_syntax.specs.OpenRegions.{Opened}
 use Rattle.page_roff_blocks.specs.Loops.{loop_text}
-use Rattle.page_roff_blocks.specs.Run.{At, run_lines}
+use Rattle.page_roff_blocks.specs.machine.Run.{At, run_lines}
 use Rattle.page_core_base.specs.declared.limits.TheConstants.{CALLS}
-use Rattle.page_roff_blocks.specs.Languages.{Kind, page, body, inner, Done, gives, calls, repeats, TURNS, is_some, finish_at, run_body, done_by, meaning_by, done_at, meaning_at, run_page}
-use Rattle.page_roff_blocks.specs.Budgets.{Budgeted, Effects, with_rest, charge_by, charge, begin_line, whether_run, meet, test, unopened_by, read_line, end_line, collect_some, meaning, done_with, closed_with, turn_by, turn, language}
+use Rattle.page_roff_blocks.specs.machine.Languages.{Kind, page, body, inner, Done, gives, calls, repeats, TURNS, is_some, finish_at, run_body, done_by, meaning_by, done_at, meaning_at, run_page}
+use Rattle.page_roff_blocks.specs.machine.Budgets.{Budgeted, Effects, with_rest, charge_by, charge, begin_line, whether_run, meet, test, unopened_by, read_line, end_line, collect_some, meaning, done_with, closed_with, turn_by, turn, language}
 use Rattle.page_roff_blocks.proofs.KeepLemmas.{IsIfSome, IsLoopHead, AreSuch, HasLeaves, HasLoopTexts, KeepsParts, KeepsLines, run_keeps, turns_keep}
 
 -- what is kept is given, or a macro is called whose lines and arguments are such, or a loop repeats whose condition and lines are

@@ -8,12 +8,12 @@ use Rattle.page_roff_blocks.specs.declared.levels.Ended.TheVariants as endings
 use Rattle.page_roff_syntax.specs.RegionHeads.{is_ending}
 use Rattle.page_roff_blocks.specs.Levels.{BlockCursor, at_line, after_part, leave, what_ends, first_place}
 use Rattle.page_roff_syntax.specs.OpenRegions.{Opened}
-use Rattle.page_roff_blocks.specs.Run.{Meaning, At, end_by, headed}
-use Rattle.page_roff_blocks.specs.Run as blocks
+use Rattle.page_roff_blocks.specs.machine.Run.{Meaning, At, end_by, headed}
+use Rattle.page_roff_blocks.specs.machine.Run as blocks
 use Rattle.page_roff_blocks.specs.machine.Steps.{met, step_leaf, step_loop, step_end, step_region, step_parts, step_inside, step_from, step, step_lines}
 use Rattle.page_roff_blocks.proofs.FoldLemmas.{run_is_steps, run_lines-append}
 use Rattle.page_core_base.specs.declared.limits.TheConstants.{CALLS}
-use Rattle.page_roff_blocks.specs.Languages.{Kind, page, body, inner, Done, gives, calls, repeats, state_of, TURNS, Language, is_some, run_if, finish_at, run_body, turns, done_by, meaning_by, done_at, meaning_at, run_page, run_page_lines}
+use Rattle.page_roff_blocks.specs.machine.Languages.{Kind, page, body, inner, Done, gives, calls, repeats, state_of, TURNS, Language, is_some, run_if, finish_at, run_body, turns, done_by, meaning_by, done_at, meaning_at, run_page, run_page_lines}
 use Rattle.page_roff_blocks.specs.machine.Machine.{Turning, Frame, Running, entered, looped, turned, at_part, between, at_page, depth, stands_at, line_in, line_rest, finish_if, ended, after_line, rest, rest_of, leaf_next, leaf_if, loop_next, loop_if, end_next, part_next, region_next, line_next, turn_if, turn_next, body_next, source_next, next_in, next}
 
 module _ {S : Type 0} (l : Language S) where

@@ -13,13 +13,13 @@ use Rattle.page_roff_blocks.specs.LineParts.{line_parts}
 use Rattle.page_roff_syntax.specs.RegionHeads.{is_ending}
 use Rattle.page_roff_blocks.specs.Levels.{Levels, leave, what_ends, BlockCursor, at_line, after_part}
 use Rattle.page_roff_syntax.specs.OpenRegions.{Opened}
-use Rattle.page_roff_blocks.specs.Run.{At, keep_if}
+use Rattle.page_roff_blocks.specs.machine.Run.{At, keep_if}
 use Rattle.page_roff_blocks.specs.machine.Steps.{met, guard_met, step_guard, block_met, step_block, step_region}
 use Rattle.page_roff_blocks.specs.machine.Steps as steps
 use Rattle.page_roff_blocks.proofs.RoomLemmas.{line_parts_room}
-use Rattle.page_roff_blocks.specs.Languages.{Kind, page, body, Done, gives, calls, repeats, is_some, finish_at}
+use Rattle.page_roff_blocks.specs.machine.Languages.{Kind, page, body, Done, gives, calls, repeats, is_some, finish_at}
 use Rattle.page_roff_blocks.specs.machine.Machine.{Turning, Frame, Running, entered, looped, turned, at_part, between, depth, finish_if, leaf_next, leaf_if, loop_next, loop_if, end_next, part_next, region_next, line_next, turn_if, turn_next, body_next, source_next, next_in, next}
-use Rattle.page_roff_blocks.specs.Budgets.{Budgeted, Effects, done_with, closed_with, language}
+use Rattle.page_roff_blocks.specs.machine.Budgets.{Budgeted, Effects, done_with, closed_with, language}
 use Rattle.page_roff_blocks.specs.machine.Measures.{weight, work_in, works, fresh_if, fresh_at, fresh_in, freshes, credit, measure, IsOnLine, AreOnLine, HasMeasure, turns_of, HasBodyWithin}
 use Rattle.page_roff_blocks.proofs.CreditLemmas.{fresh_one, fresh_past, same_rest, credit_grow, finish_credit, last_credit, turn_less, turn_paid, how, less_at, paid_at, guard_credit, guard_begun, opens_loop_credit, block_credit, block_begun, nothing_credit, opens_credit, keep_credit, begins_credit, reads_credit, ends_credit}
 use Rattle.page_roff_blocks.proofs.OnLineLemmas.{part_on, line_on, region_on, body_on}

@@ -8,11 +8,11 @@ use Rattle.page_roff_blocks.specs.declared.levels.Ended.TheVariants as endings
 use Rattle.page_roff_syntax.specs.RegionHeads.{is_ending}
 use Rattle.page_roff_blocks.specs.Levels.{after_part, leave, what_ends}
 use Rattle.page_roff_syntax.specs.OpenRegions.{Opened}
-use Rattle.page_roff_blocks.specs.Run.{Meaning, At}
+use Rattle.page_roff_blocks.specs.machine.Run.{Meaning, At}
 use Rattle.page_roff_blocks.specs.machine.Steps.{met}
-use Rattle.page_roff_blocks.specs.Languages.{Kind, page, body, inner, Done, gives, calls, repeats, is_some, meaning_at}
+use Rattle.page_roff_blocks.specs.machine.Languages.{Kind, page, body, inner, Done, gives, calls, repeats, is_some, meaning_at}
 use Rattle.page_roff_blocks.specs.machine.Machine.{Turning, Frame, Running, entered, looped, turned, at_part, between, depth, finish_if, leaf_next, leaf_if, loop_next, loop_if, end_next, part_next, region_next, line_next, turn_if, turn_next, body_next, next_in, next}
-use Rattle.page_roff_blocks.specs.Budgets.{Budgeted, Effects, language}
+use Rattle.page_roff_blocks.specs.machine.Budgets.{Budgeted, Effects, language}
 use Rattle.page_roff_blocks.specs.machine.Measures.{IsOnLine, AreOnLine, HasMeasure, IsFirst}
 
 -- a body is no page

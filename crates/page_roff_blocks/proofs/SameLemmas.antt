@@ -20,7 +20,7 @@ use Rattle.page_roff_blocks.specs.LineParts.{line_parts}
 use Rattle.page_roff_syntax.specs.RegionHeads.{is_ending}
 use Rattle.page_roff_blocks.specs.Levels.{Levels, bit_after, way_of, enter, open_loop, leave, what_ends, BlockCursor, at_line, after_part, guarded_by, reached}
 use Rattle.page_roff_syntax.specs.OpenRegions.{Opened, opened}
-use Rattle.page_roff_blocks.specs.Run.{Meaning, At, meet_as, value, leaf_if, loop_if, refuse_if, keep_if, end_by, run_lines}
+use Rattle.page_roff_blocks.specs.machine.Run.{Meaning, At, meet_as, value, leaf_if, loop_if, refuse_if, keep_if, end_by, run_lines}
 use Rattle.page_roff_blocks.specs.machine.Steps.{met, step_leaf, guard_with, guard_met, step_guard, block_with, opening_met, block_met, step_block, step_loop, step_end, step_region, step_parts, step_inside, collect_if, begin_line, step_from, step, step_lines}
 use Rattle.page_roff_blocks.proofs.FoldLemmas.{run_is_steps}
 use Rattle.page_roff_blocks.proofs.KeepLemmas.{IsLoopHead, IsOpening, AreLeaves, AreSuch, HasLeaves, KeepsParts, KeepsLines, met_keeps, value_keeps, leaf_keeps, guard_keeps, block_keeps, loop_keeps, end_keeps, begun_keeps, from_keeps}
@@ -49,7 +49,7 @@ abbrev pub HasTests : (List ℕ → Type 0) → (Condition (List ℕ) → Type 0
 HasTests T C = (line : List ℕ) → T line → AreTested C (line_parts line)
 
 -- what the parts of such a line do to a state that is kept is the same
-pub record SameParts {S : Type 0} (T : List ℕ → Type 0) (C : Condition (List ℕ) → Type 0) (m n : Meaning (List ℕ) S) (P : S → Type 0) : Type 0 where
+pub record SameParts {K S : Type 0} (T : List ℕ → Type 0) (C : Condition (List ℕ) → Type 0) (m : Meaning (List ℕ) S) (n : Meaning K S) (P : S → Type 0) : Type 0 where
   pub meets : (is_remainder : Bool) (s : S) → P s → m.meets is_remainder s ≡ n.meets is_remainder s
   pub tests : (condition : Condition (List ℕ)) (s : S) → C condition → P s → m.tests condition s ≡ n.tests condition s
   pub gives : (text : List ℕ) (s : S) → T text → P s → m.gives text s ≡ n.gives text s
@@ -67,7 +67,7 @@ pub record SameLines {S : Type 0} (T : List ℕ → Type 0) (m n : Meaning (List
   pub collects : (open_blocks : ℕ) (line : List ℕ) (s : S) → T line → P s → m.collects open_blocks line s ≡ n.collects open_blocks line s
   pub keeps : (line : List ℕ) (s : S) → T line → P s → m.keeps line s ≡ n.keeps line s
 
-module _ {S : Type 0} (T : List ℕ → Type 0) (C : Condition (List ℕ) → Type 0) (m n : Meaning (List ℕ) S) (P : S → Type 0) (k : KeepsParts T m P) (e : SameParts T C m n P) where
+module _ {K S : Type 0} (T : List ℕ → Type 0) (C : Condition (List ℕ) → Type 0) (m : Meaning (List ℕ) S) (n : Meaning K S) (P : S → Type 0) (k : KeepsParts T m P) (e : SameParts T C m n P) where
   meet_same : (r : Reached) (s : S) → P s → meet_as m r s ≡ meet_as n r s
   unfolding meet_as
   meet_same PassedOver s h = refl
@@ -194,7 +194,7 @@ module _ {S : Type 0} (T : List ℕ → Type 0) (C : Condition (List ℕ) → Ty
   unfolding step_end
   end_kept cursor s h = end_keeps T m P k (what_ends cursor.levels) s h
 
-  parts_same : (parts : List (LinePart (List ℕ))) (cursor : BlockCursor) (s : S) → AreLeaves T parts → AreTested C parts → P s → step_parts m parts cursor s ≡ step_parts n parts cursor s
+  pub parts_same : (parts : List (LinePart (List ℕ))) (cursor : BlockCursor) (s : S) → AreLeaves T parts → AreTested C parts → P s → step_parts m parts cursor s ≡ step_parts n parts cursor s
   unfolding step_parts
   parts_same [] cursor s t c h = refl
   parts_same (Leaf text ∷ rest) cursor s t c h =
@@ -215,50 +215,70 @@ module _ {S : Type 0} (T : List ℕ → Type 0) (C : Condition (List ℕ) → Ty
       parts_same rest r.0 r.1 t c (end_kept cursor s h) ∙ ap (λ (r : BlockCursor × S). step_parts n rest r.0 r.1) (step_end_same cursor s h)
   parts_same (Region head ∷ rest) cursor s t c h = step_region_same head cursor s h
 
-  -- ---- lines
+-- any conditions
+any_branch : (branch : Branch (List ℕ)) → IsTested (λ _. Unit {0}) branch
+any_branch (If condition) = tt
+any_branch (IfElse condition) = tt
+any_branch Else = tt
 
-  module _ (leaves : HasLeaves T) (tested : HasTests T C) (l : KeepsLines T m P) (f : SameLines T m n P) where
-    kept_same : (in_loop : Bool) (line : List ℕ) (s : S) → T line → P s → keep_if m in_loop line s ≡ keep_if n in_loop line s
-    unfolding keep_if
-    kept_same true line s t h = f.keeps line s t h
-    kept_same false line s t h = refl
+any_tests : (opening : Opening (List ℕ)) → IsTestedOpening (λ _. Unit {0}) opening
+any_tests (openings.Conditional head) = any_branch head.branch
+any_tests (openings.Loop head) = tt
 
-    collected_same : (in_loop : Bool) (open_blocks : ℕ) (line : List ℕ) (s : S) → T line → P s
-        → collect_if m in_loop open_blocks line s ≡ collect_if n in_loop open_blocks line s
-    unfolding collect_if
-    collected_same true open_blocks line s t h = f.collects open_blocks line s t h
-    collected_same false open_blocks line s t h = refl
+pub any_tested : (parts : List (LinePart (List ℕ))) → AreTested (λ _. Unit {0}) parts
+any_tested [] = tt
+any_tested (Leaf text ∷ rest) = any_tested rest
+any_tested (Guard head ∷ rest) = (any_branch head.branch, any_tested rest)
+any_tested (Block opening ∷ rest) = (any_tests opening, any_tested rest)
+any_tested (Loop head ∷ rest) = any_tested rest
+any_tested (End ∷ rest) = any_tested rest
+any_tested (Region head ∷ rest) = any_tested rest
 
-    begun_same : (line : List ℕ) (levels : Levels) (s : S) → T line → P s → begin_line m line levels s ≡ begin_line n line levels s
-    unfolding begin_line
-    begun_same line levels s t h =
-        collected_same levels.in_loop levels.skipped line (m.begins line s) t (l.begins line s t h)
-        ∙ ap (collect_if n levels.in_loop levels.skipped line) (f.begins line s t h)
+-- ---- lines
 
-    inside_same : (is_end : Bool) (o : Opened) (line : List ℕ) (levels : Levels) (s : S) → T line → P s
-        → step_inside m is_end o line levels s ≡ step_inside n is_end o line levels s
-    unfolding step_inside
-    inside_same true o line levels s t h =
-        ap (λ (s : S). record { place = record { region = None; levels = levels }; state = s })
-        (kept_same levels.in_loop line (m.ends_region o line s) t (l.ends_region o line s t h) ∙ ap (keep_if n levels.in_loop line) (f.ends_region o line s t h))
-    inside_same false o line levels s t h =
-        ap (λ (s : S). record { place = record { region = Some o; levels = levels }; state = s })
-        (kept_same levels.in_loop line (m.reads o line s) t (l.reads o line s t h) ∙ ap (keep_if n levels.in_loop line) (f.reads o line s t h))
+module _ {S : Type 0} (T : List ℕ → Type 0) (C : Condition (List ℕ) → Type 0) (m n : Meaning (List ℕ) S) (P : S → Type 0) (k : KeepsParts T m P) (e : SameParts T C m n P)
+    (leaves : HasLeaves T) (tested : HasTests T C) (l : KeepsLines T m P) (f : SameLines T m n P) where
+  kept_same : (in_loop : Bool) (line : List ℕ) (s : S) → T line → P s → keep_if m in_loop line s ≡ keep_if n in_loop line s
+  unfolding keep_if
+  kept_same true line s t h = f.keeps line s t h
+  kept_same false line s t h = refl
 
-    from_same : (o : Option Opened) (line : List ℕ) (levels : Levels) (s : S) → T line → P s
-        → step_from m (λ t. t) o line levels s ≡ step_from n (λ t. t) o line levels s
-    unfolding step_from
-    from_same None line levels s t h =
-        parts_same (line_parts line) (at_line levels) (begin_line m line levels s) (leaves line t) (tested line t) (begun_keeps T m P k leaves l line levels s t h)
-        ∙ ap (step_parts n (line_parts line) (at_line levels)) (begun_same line levels s t h)
-    from_same (Some o) line levels s t h = inside_same (is_ending o.ending line) o line levels s t h
+  collected_same : (in_loop : Bool) (open_blocks : ℕ) (line : List ℕ) (s : S) → T line → P s
+      → collect_if m in_loop open_blocks line s ≡ collect_if n in_loop open_blocks line s
+  unfolding collect_if
+  collected_same true open_blocks line s t h = f.collects open_blocks line s t h
+  collected_same false open_blocks line s t h = refl
 
-    lines_same : (lines : List (List ℕ)) (a : At S) → AreSuch T lines → P a.state → step_lines m (λ t. t) lines a ≡ step_lines n (λ t. t) lines a
-    unfolding step_lines step
-    lines_same [] a t h = refl
-    lines_same (line ∷ lines) a t h =
-        lines_same lines (step m (λ t. t) line a) t.1 (from_keeps T m P k leaves l a.place.region line a.place.levels a.state t.0 h)
-        ∙ ap (step_lines n (λ t. t) lines) (from_same a.place.region line a.place.levels a.state t.0 h)
+  begun_same : (line : List ℕ) (levels : Levels) (s : S) → T line → P s → begin_line m line levels s ≡ begin_line n line levels s
+  unfolding begin_line
+  begun_same line levels s t h =
+      collected_same levels.in_loop levels.skipped line (m.begins line s) t (l.begins line s t h)
+      ∙ ap (collect_if n levels.in_loop levels.skipped line) (f.begins line s t h)
 
-    pub run_same : (lines : List (List ℕ)) (a : At S) → AreSuch T lines → P a.state → run_lines m (λ t. t) lines a ≡ run_lines n (λ t. t) lines a
-    run_same lines a t h = run_is_steps m (λ t. t) lines a ∙ lines_same lines a t h ∙ sym (run_is_steps n (λ t. t) lines a)
+  inside_same : (is_end : Bool) (o : Opened) (line : List ℕ) (levels : Levels) (s : S) → T line → P s
+      → step_inside m is_end o line levels s ≡ step_inside n is_end o line levels s
+  unfolding step_inside
+  inside_same true o line levels s t h =
+      ap (λ (s : S). record { place = record { region = None; levels = levels }; state = s })
+      (kept_same levels.in_loop line (m.ends_region o line s) t (l.ends_region o line s t h) ∙ ap (keep_if n levels.in_loop line) (f.ends_region o line s t h))
+  inside_same false o line levels s t h =
+      ap (λ (s : S). record { place = record { region = Some o; levels = levels }; state = s })
+      (kept_same levels.in_loop line (m.reads o line s) t (l.reads o line s t h) ∙ ap (keep_if n levels.in_loop line) (f.reads o line s t h))
+
+  from_same : (o : Option Opened) (line : List ℕ) (levels : Levels) (s : S) → T line → P s
+      → step_from m (λ t. t) o line levels s ≡ step_from n (λ t. t) o line levels s
+  unfolding step_from
+  from_same None line levels s t h =
+      parts_same T C m n P k e (line_parts line) (at_line levels) (begin_line m line levels s) (leaves line t) (tested line t) (begun_keeps T m P k leaves l line levels s t h)
+      ∙ ap (step_parts n (line_parts line) (at_line levels)) (begun_same line levels s t h)
+  from_same (Some o) line levels s t h = inside_same (is_ending o.ending line) o line levels s t h
+
+  lines_same : (lines : List (List ℕ)) (a : At S) → AreSuch T lines → P a.state → step_lines m (λ t. t) lines a ≡ step_lines n (λ t. t) lines a
+  unfolding step_lines step
+  lines_same [] a t h = refl
+  lines_same (line ∷ lines) a t h =
+      lines_same lines (step m (λ t. t) line a) t.1 (from_keeps T m P k leaves l a.place.region line a.place.levels a.state t.0 h)
+      ∙ ap (step_lines n (λ t. t) lines) (from_same a.place.region line a.place.levels a.state t.0 h)
+
+  pub run_same : (lines : List (List ℕ)) (a : At S) → AreSuch T lines → P a.state → run_lines m (λ t. t) lines a ≡ run_lines n (λ t. t) lines a
+  run_same lines a t h = run_is_steps m (λ t. t) lines a ∙ lines_same lines a t h ∙ sym (run_is_steps n (λ t. t) lines a)

@@ -1,8 +1,8 @@
 -- More turns than lines are left change nothing: helpers of proofs.
 use Rattle.std.proofs.Common.{◌≡◌, ℕ, zero, suc, ◌+◌, ◌≤◌, Bool, true, false, List, Option, refl, arith}
 use Rattle.page_core_base.specs.declared.limits.TheConstants.{REREAD}
-use Rattle.page_roff_blocks.specs.Languages.{Kind, body, TURNS, run_if, run_body, turns, meaning_at}
-use Rattle.page_roff_blocks.specs.Budgets.{Budgeted, Effects, with_rest, charge_by, charge, turn_by, turn, language}
+use Rattle.page_roff_blocks.specs.machine.Languages.{Kind, body, TURNS, run_if, run_body, turns, meaning_at}
+use Rattle.page_roff_blocks.specs.machine.Budgets.{Budgeted, Effects, with_rest, charge_by, charge, turn_by, turn, language}
 use Rattle.page_roff_blocks.proofs.BodyLemmas.{body_keeps}
 
 same_if : {S : Type 0} (runs : Bool) (f g : S → S) (s : S) → (runs ≡ true → f s ≡ g s) → run_if runs f s ≡ run_if runs g s

@@ -4,8 +4,5 @@ pub mod Parts
 pub mod Loops
 pub mod Forest
 pub mod Levels
-pub mod Run
-pub mod Languages
-pub mod Budgets
 pub mod Spent
 pub mod machine

@@ -7,8 +7,8 @@ use Rattle.page_roff_heads.specs.declared.loops.LoopHead.{LoopHead}
 use Rattle.page_roff_blocks.specs.declared.line_parts.Head.{Head}
 use Rattle.page_roff_syntax.specs.declared.region_heads.RegionHead.{RegionHead}
 use Rattle.page_roff_syntax.specs.OpenRegions.{Opened}
-use Rattle.page_roff_blocks.specs.Languages.{Kind, state_of}
-use Rattle.page_roff_blocks.specs.Budgets.{Effects}
+use Rattle.page_roff_blocks.specs.machine.Languages.{Kind, state_of}
+use Rattle.page_roff_blocks.specs.machine.Budgets.{Effects}
 
 -- a condition, that of a turn too, a leaf and a line of a region that is run spend a number at most, and all else nothing
 pub record Spends {R : Type 0} (spent : R → ℕ) (most : ℕ) (e : Effects R) : Type 0 where

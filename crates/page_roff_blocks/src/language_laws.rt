@@ -1,11 +1,11 @@
 //! Laws of macros and loops that run.
 
 ghost use Rattle.std.specs.Prelude.{◌≡◌, ◌≤◌, ℕ, suc, ◌+◌, ◌*◌, List, [], ◌∷◌, ◌++◌, length, Option, Some, None};
-ghost use Rattle.page_roff_blocks.specs.Run.{At};
+ghost use Rattle.page_roff_blocks.specs.machine.Run.{At};
 ghost use Rattle.page_core_base.specs.declared.limits.TheConstants.{CALLS, REREAD};
-ghost use Rattle.page_roff_blocks.specs.Budgets.{Budgeted, Effects, language};
+ghost use Rattle.page_roff_blocks.specs.machine.Budgets.{Budgeted, Effects, language};
 ghost use Rattle.page_roff_blocks.specs.machine.Fronts.{over, over_running, IsFront};
-ghost use Rattle.page_roff_blocks.specs.Languages.{body, TURNS, Language, run_body, turns, meaning_at, run_page, run_page_lines};
+ghost use Rattle.page_roff_blocks.specs.machine.Languages.{body, TURNS, Language, run_body, turns, meaning_at, run_page, run_page_lines};
 ghost use Rattle.page_roff_blocks.specs.machine.Measures.{measure, HasMeasure, HasBodyWithin, IsFirst};
 ghost use Rattle.page_roff_blocks.specs.machine.Spending.{unspent, AreMet, Leads};
 ghost use Rattle.page_roff_blocks.specs.Spent.{Spends};

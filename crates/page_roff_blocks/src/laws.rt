@@ -6,7 +6,7 @@ ghost use Rattle.page_roff_blocks.specs.Levels.{BlockCursor};
 ghost use Rattle.page_roff_blocks.specs.Loops.{before_end, blocks_after, left_by, left_of, left_rest};
 ghost use Rattle.page_roff_blocks.specs.Parts.{written_part};
 ghost use Rattle.page_roff_blocks.specs.declared.line_parts.LinePart.{LinePart};
-ghost use Rattle.page_roff_blocks.specs.Run.{Meaning, run_lines, At, headed, each_line};
+ghost use Rattle.page_roff_blocks.specs.machine.Run.{Meaning, run_lines, At, headed, each_line};
 ghost use Rattle.page_roff_blocks.specs.machine.Steps.{step_parts, step_lines};
 
 /// The parts of a line are its first one, and those of what is left of the line.

@@ -1,17 +1,16 @@
 //! The raw lines of a source as a forest of leaves, regions and blocks: what heads and ends them is found from the raw text alone (roff(7),
-//! "if", "ie", "el", "while", "de", "am", "ig"). And how such lines run with calls of macros and with loops: the definition, over any meaning of
-//! their parts, with its laws, and the count of a budget.
+//! "if", "ie", "el", "while", "de", "am", "ig"). And how such lines run with calls of macros and with loops, over any meaning of their parts, as the
+//! machine is proved by it (`page_roff_source` defines what a page does), with its laws, and the count of a budget.
 //!
 //! It is between the heads of conditionals and loops (`page_roff_heads`) and what the parts of lines do (`page_roff_effects`). It runs nothing:
-//! `page_roff_machine` does. Read `specs/Forest.antt` first, then `Run.antt` (what a forest does), `Languages.antt`, `Budgets.antt`, and the laws
-//! in `laws.rt` and `language_laws.rt`; the code begins in `parts.rt`.
+//! `page_roff_machine` does. Read `specs/Forest.antt` first, then `Loops.antt`, `Levels.antt` and the laws in `laws.rt`; the code begins in `parts.rt`.
 //!
 //! Proved: `LinePlace` (`next_line_part`, `pass_line_part`, `opens_block`), `loop_text`, `Levels`, `OpenRegion`, `BlockCursor`,
 //! `Standing`: the parts of a raw line, what of it belongs to a loop, and the open and skipped blocks, the open loop and the open region of a
 //! source. `fold_law`, `cut_law`, `lines_law`, `line_parts_law`, `loop_law`, `room_law`: the forest of a source's raw lines (`specs/Forest.antt`) is what
 //! reading it part by part gives, from every open start, and it may be cut anywhere. `machine_law`, `page_cut_law`, `budget_law`, `spending_law`,
-//! `each_line_law`, `calls_law`, `measure_law`, `turns_law`, `front_law`: the definition of how lines run, with calls of macros and with loops
-//! (`specs/Languages.antt`, `Budgets.antt`), over any meaning of their parts: a stack of sources gives the same, it ends, a page may be cut between
+//! `each_line_law`, `calls_law`, `measure_law`, `turns_law`, `front_law`: how lines run, with calls of macros and with loops
+//! (`specs/machine/Languages.antt`, `Budgets.antt`), over any meaning of their parts: a stack of sources gives the same, it ends, a page may be cut between
 //! any two lines, and the lines taken and the macros and loops that run stay within their budgets. `Budget`: the re-read lines of a source line are
 //! counted by `specs/machine/Counting.antt`.
 #![tactic(auto)]

@@ -1,5 +1,5 @@
 -- The characters of a text one by one.
-use Rattle.std.proofs.Common.{◌≡◌, ℕ, zero, suc, ◌+◌, ◌-◌, ◌<◌, true, false, List, [], ◌∷◌, ◌++◌, length, drop, get_or, refl, sym, ap, ◌∙◌, append_assoc, append-nil, length-append, arith}
+use Rattle.std.proofs.Common.{◌≡◌, ℕ, zero, suc, ◌+◌, ◌-◌, ◌<◌, take, true, false, List, [], ◌∷◌, ◌++◌, length, drop, get_or, refl, sym, ap, ◌∙◌, append_assoc, append-nil, length-append, arith}
 use Rattle.std.specs.Prelude.{nat_le, nat_lt}
 use Rattle.std.proofs.lemmas.Bool.Decides.{nat_tests}
 use Rattle.std.proofs.lemmas.List.{drop-drop, length-drop}
@@ -9,6 +9,7 @@ use Rattle.page_roff_decoding.specs.Characters.{Character, character, later_leng
 use Rattle.page_roff_decoding.specs.Limit.{line_limit}
 use Rattle.page_roff_decoding.specs.machine.Fronts.{as_character, width_of, later_of}
 use Rattle.page_roff_decoding.specs.Decoding.{characters_within}
+use Rattle.page_roff_decoding.proofs.ScanLemmas.{rest_of}
 
 -- the bytes of a character before are passed over
 pub characters_after-drop : (e : Encoding) (n : ℕ) (bs : List ℕ) → characters_after e n bs ≡ characters e (drop n bs)
@@ -68,3 +69,13 @@ pub characters-at : (e : Encoding) (text : List ℕ) (at : ℕ) (f : Front) → 
 characters-at e text at f some is later wide =
     characters-front e (drop at text) f (omega (arith, length-drop at text)) is later wide
     ∙ ap (λ l. as_character f (drop at text) ∷ characters e l) (drop-drop (width_of f) at text)
+
+-- a text from a place on, as a program writes it
+abbrev pub from : List ℕ → ℕ → List ℕ
+from text at = take (length text - at) (drop at text)
+
+pub characters-from : (e : Encoding) (text : List ℕ) (at : ℕ) (f : Front) → at < length text → as_character f (from text at) ≡ character e (get_or (from text at) 0 0) (from text at)
+    → later_of f ≡ later_length e (get_or (from text at) 0 0) (from text at) → 0 < width_of f
+    → characters e (drop at text) ≡ as_character f (drop at text) ∷ characters e (drop (at + width_of f) text)
+characters-from e text at f here value later some =
+    let rest = rest_of text at in characters-at e text at f here (rw rest at value) (rw rest at later) some

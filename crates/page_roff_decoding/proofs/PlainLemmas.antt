@@ -1,5 +1,5 @@
 -- A text of printable bytes is the same under each encoding.
-use Rattle.std.proofs.Common.{◌≡◌, ℕ, ◌+◌, ◌-◌, ◌≤◌, true, List, [], ◌∷◌, ◌++◌, suc, length, take, drop, refl, sym, ap, ◌∙◌, append-nil, append_assoc, length-append, arith}
+use Rattle.std.proofs.Common.{◌≡◌, ℕ, ◌+◌, ◌-◌, ◌<◌, ◌≤◌, get_or, true, List, [], ◌∷◌, ◌++◌, suc, length, take, drop, refl, sym, ap, ◌∙◌, append-nil, append_assoc, length-append, arith}
 use Rattle.std.specs.Prelude.{nat_le, nat_lt}
 use Rattle.std.specs.List.{list_all}
 use Rattle.std.proofs.lemmas.Bool.Decides.{nat_tests}
@@ -9,7 +9,9 @@ use Rattle.page_roff_decoding.specs.Limit.{line_limit}
 use Rattle.page_roff_decoding.specs.Characters.{Character, good, is_printable, character, later_length, characters_after, characters, all_bytes}
 use Rattle.page_roff_decoding.specs.Decoding.{choice_of, characters_within, bad_notes}
 use Rattle.std.proofs.lemmas.List.{take-append-drop, drop-drop, length-take, length-take-le}
-use Rattle.page_roff_decoding.proofs.CharacterLemmas.{FitsSoFar, so_far-more}
+use Rattle.page_roff_decoding.specs.declared.characters.Front.{Front}
+use Rattle.page_roff_decoding.specs.machine.Fronts.{as_character, width_of, later_of}
+use Rattle.page_roff_decoding.proofs.CharacterLemmas.{FitsSoFar, so_far-more, from, characters-from}
 use Rattle.page_roff_decoding.proofs.ScanLemmas.{and_true, rest_of}
 
 -- each byte by itself
@@ -71,6 +73,15 @@ so_far-text e text out next i n fits plain is so =
     let is_run = rw rest at is in
     let start = rw (characters-run e text i n plain_run) at so in
     rw is_run (so_far-run (characters e text) out run (characters e (drop (i + n) text)) (omega (arith, length-take n (drop i text))) start)
+
+-- and a character after it comes next
+pub so_far-front : (e : Encoding) (text out next : List ℕ) (i n : ℕ) (f : Front) → n ≤ line_limit - length out → list_all is_printable (take n (from text i)) ≡ true
+    → next ≡ out ++ take n (from text i) → FitsSoFar (characters e text) out (characters e (drop i text)) → i + n < length text
+    → as_character f (from text (i + n)) ≡ character e (get_or (from text (i + n)) 0 0) (from text (i + n))
+    → later_of f ≡ later_length e (get_or (from text (i + n)) 0 0) (from text (i + n)) → 0 < width_of f
+    → FitsSoFar (characters e text) next (as_character f (drop (i + n) text) ∷ characters e (drop (i + n + width_of f) text))
+so_far-front e text out next i n f fits plain is so here value later some =
+    rw (characters-from e text (i + n) f here value later some) at (so_far-text e text out next i n fits plain is so)
 
 -- one whose bytes fit is passed over
 pub bad_notes-text : (e : Encoding) (number : ℕ) (text : List ℕ) (i n room : ℕ) → n ≤ length (take (length text - i) (drop i text))

@@ -1,5 +1,5 @@
 -- The messages about the bytes of a line that are no characters, one by one.
-use Rattle.std.proofs.Common.{◌≡◌, ℕ, ◌+◌, ◌-◌, ◌/◌, ◌%◌, ◌<◌, ◌≤◌, true, false, List, [], ◌∷◌, ◌++◌, length, min, drop, get_or, refl, sym, ◌∙◌, arith}
+use Rattle.std.proofs.Common.{◌≡◌, ℕ, ◌+◌, ◌-◌, ◌/◌, ◌%◌, ◌<◌, ◌≤◌, true, false, List, [], ◌∷◌, ◌++◌, length, min, take, drop, get_or, refl, sym, ◌∙◌, arith}
 use Rattle.std.specs.Prelude.{nat_le, codes}
 use Rattle.std.specs.Char.{digit_char}
 use Rattle.std.specs.List.{list_all}
@@ -15,11 +15,13 @@ use Rattle.page_core_base.specs.declared.limits.Limit.TheVariants.{Line as LineL
 use Rattle.page_core_base.specs.declared.page_settings.Encoding.{Encoding}
 use Rattle.page_roff_decoding.specs.declared.characters.Front.{Front}
 use Rattle.page_roff_decoding.specs.declared.characters.Front.TheVariants.{Same, Latin1, Bad}
-use Rattle.page_roff_decoding.specs.Limit.{line_limit}
+use Rattle.page_roff_decoding.specs.Limit.{line_limit, line_limit_is}
 use Rattle.page_roff_decoding.specs.Characters.{Character, good, bad, is_printable, character, later_length, characters_after, characters, bytes_of}
 use Rattle.page_roff_decoding.specs.machine.Fronts.{as_character, width_of, later_of, size_of}
 use Rattle.page_roff_decoding.specs.Decoding.{characters_within, bad_character, notes_of, bad_notes}
-use Rattle.page_roff_decoding.proofs.CharacterLemmas.{characters-at}
+use Rattle.page_roff_decoding.proofs.CharacterLemmas.{characters-at, from}
+use Rattle.page_roff_decoding.proofs.PlainLemmas.{bad_notes-text}
+use Rattle.page_roff_decoding.proofs.ScanLemmas.{rest_of}
 use Rattle.page_roff_decoding.proofs.FineLemmas.{singles_fine}
 
 size_is : (f : Front) (text : List ℕ) → width_of f ≤ length text → length (bytes_of (as_character f text)) ≡ size_of f
@@ -80,6 +82,20 @@ whole_detail text plain short =
     let all = take_all (length text) text (omega arith) in
     let len : length text ≡ min 64 (length text) = omega arith in
     sym (whole_front 64 text (length text) text len (sym all) (rw all (singles_fine text plain).0))
+
+-- a run of printable bytes is passed over, and then a character that fits
+pub bad_notes-front : (e : Encoding) (number : ℕ) (text : List ℕ) (i n room size : ℕ) (f : Front) → n ≤ length (from text i)
+    → list_all is_printable (take n (from text i)) ≡ true → n ≤ room → room ≤ line_limit → i + n < length text
+    → as_character f (from text (i + n)) ≡ character e (get_or (from text (i + n)) 0 0) (from text (i + n))
+    → later_of f ≡ later_length e (get_or (from text (i + n)) 0 0) (from text (i + n)) → 0 < width_of f → width_of f ≤ length (from text (i + n)) → size ≡ size_of f → size ≤ room - n
+    → bad_notes number (line_limit - room + 1) (characters_within room (characters e (drop i text)))
+    ≡ notes_of number (65536 - (room - n) + 1) (as_character f (drop (i + n) text))
+    ++ bad_notes number (line_limit - (room - n - size) + 1) (characters_within (room - n - size) (characters e (drop (i + n + width_of f) text)))
+bad_notes-front e number text i n room size f inside plain fits most here value later some within is left =
+    let rest = rest_of text (i + n) in
+    let limit = line_limit_is in
+    bad_notes-text e number text i n room inside plain fits most
+    ∙ bad_notes-more e number text (i + n) (room - n) (65536 - (room - n) + 1) size f here (rw rest at value) (rw rest at later) some (rw rest at within) is left (omega arith) (omega (arith, limit))
 
 digit : (d : ℕ) → d < 16 → is_printable (digit_char d) ≡ true
 digit d h = agree_below_at (λ d. is_printable (digit_char d)) (λ _. true) 16 d refl h

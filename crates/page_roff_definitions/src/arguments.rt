@@ -4,7 +4,7 @@ ghost use Rattle.std.specs.Prelude.{◌≡◌, ◌≤◌, ◌+◌, length};
 ghost use Rattle.page_core_base.specs.Latches.{Came};
 ghost use Rattle.page_roff_syntax.specs.Arguments.{argument_view, arguments};
 ghost use Rattle.page_roff_definitions.specs.Arguments as ends;
-ghost use Rattle.page_roff_definitions.specs.Arguments.{closing_notes, closings_notes, end_of, after_blanks, without_quote, value_after};
+ghost use Rattle.page_roff_definitions.specs.Arguments.{closing_notes, closings_notes, after_blanks, without_quote, value_after};
 
 use memchr::memchr;
 use page_core_base::{LINE, Note, NoteKind, NoteOut, Place};

@@ -1,6 +1,6 @@
 //! A call of a macro (roff(7), "MACRO SYNTAX"): its arguments, packed, and the body that it runs.
 
-ghost use Rattle.std.specs.Prelude.{◌≡◌, ℕ, true, ◌≤◌, ◌+◌, [], ◌∷◌, ◌++◌, length, nat_le, IfOk};
+ghost use Rattle.std.specs.Prelude.{◌≡◌, ℕ, true, ◌≤◌, ◌+◌, [], ◌∷◌, ◌++◌, length, IfOk};
 ghost use Rattle.std.specs.Vec.{vec_len, vec_capacity};
 ghost use Rattle.page_core_base.specs.declared.limits.TheConstants.{BODY, LINE};
 ghost use Rattle.page_roff_syntax.specs.Arguments.{argument_view, argument_value, arguments};

@@ -2,7 +2,7 @@
 
 ghost use Rattle.std.specs.Prelude.{◌≡◌, ◌≤◌, ◌+◌, length};
 ghost use Rattle.page_core_base.specs.declared.limits.TheConstants.{LINE};
-ghost use Rattle.page_roff_syntax.specs.Arguments.{arguments, argument_view};
+ghost use Rattle.page_roff_syntax.specs.Arguments.{arguments};
 ghost use Rattle.page_core_base.specs.Latches.{Came};
 ghost use Rattle.page_roff_definitions.specs.Arguments.{first_text};
 ghost use Rattle.page_roff_definitions.specs.Definitions as defining;

@@ -17,7 +17,7 @@ use Rattle.page_roff_values.specs.Environments.{Surroundings}
 use Rattle.page_roff_values.specs.Values.{Spot, Laid, IsWithin, start, expanded, NEST}
 use Rattle.page_roff_values.proofs.LineLemmas.{value_within}
 use Rattle.page_roff_values.specs.Answers.{Answer, condition_answer, test_answer, unless_cut, expands, bytes_between}
-use Rattle.page_roff_blocks.specs.Languages.{Kind, state_of}
+use Rattle.page_roff_blocks.specs.machine.Languages.{Kind, state_of}
 use Rattle.page_roff_blocks.specs.Spent.{Spends}
 use Rattle.page_roff_effects.specs.declared.commands.Command.{Command}
 use Rattle.page_roff_effects.specs.declared.commands.Command.TheVariants as commands
@@ -27,7 +27,8 @@ use Rattle.page_roff_effects.specs.States as states
 use Rattle.page_roff_effects.specs.Leaves.{call_if, ControlLine, does, command_outcome, control_outcome, form_outcome, leaf_outcome}
 use Rattle.page_roff_effects.specs.RegionLines.{head_outcome, longer, longer_if, body_outcome, kind_outcome, line_outcome, end_outcome, body_freed, finish_region, finish_outcome}
 use Rattle.page_roff_effects.specs.LoopLines.{longer_if_some, loop_outcome, collect_outcome, repeats_text, close_outcome}
-use Rattle.page_roff_effects.specs.Effects.{effects, setting_of, answer_of, turn_answer, tested_after, done_by, done_after, budget_outcome, block_outcome, end_of_block_outcome, expansions_of}
+use Rattle.page_roff_effects.specs.Effects.{answer_of, budget_outcome, block_outcome, end_of_block_outcome}
+use Rattle.page_roff_effects.specs.machine.Effects.{effects, setting_of, turn_answer, tested_after, done_by, done_after, expansions_of}
 
 -- so many more than before, at most
 abbrev IsFew : ℕ → ℕ → Type 0

@@ -4,14 +4,15 @@ use Rattle.page_roff_heads.specs.declared.conditions.Condition.{Condition}
 use Rattle.page_roff_syntax.specs.OpenRegions.{Opened}
 use Rattle.page_roff_blocks.specs.Loops.{loop_text}
 use Rattle.page_roff_values.specs.Answers.{Answer}
-use Rattle.page_roff_blocks.specs.Languages.{Kind, page, body, Done, gives, calls, repeats}
-use Rattle.page_roff_blocks.specs.Budgets.{Budgeted, with_rest, charge_by, charge, begin_line, whether_run, meet, test, unopened_by, read_line, end_line, collect_some, meaning, done_with, closed_with, turn_by, turn, language}
+use Rattle.page_roff_blocks.specs.machine.Languages.{Kind, page, body, Done, gives, calls, repeats}
+use Rattle.page_roff_blocks.specs.machine.Budgets.{Budgeted, with_rest, charge_by, charge, begin_line, whether_run, meet, test, unopened_by, read_line, end_line, collect_some, meaning, done_with, closed_with, turn_by, turn, language}
 use Rattle.page_roff_blocks.specs.machine.Fronts.{over_pair, over_done, IsFrontOfParts, IsFront}
 use Rattle.page_roff_effects.specs.States.{State, Outcome, Product, no_product, line_product, call_product, loop_product, Given, after}
 use Rattle.page_roff_effects.specs.Leaves.{leaf_outcome}
 use Rattle.page_roff_effects.specs.RegionLines.{head_outcome, line_outcome, end_outcome, finish_outcome}
 use Rattle.page_roff_effects.specs.LoopLines.{loop_outcome, collect_outcome, close_outcome}
-use Rattle.page_roff_effects.specs.Effects.{effects, setting_of, answer_of, turn_answer, test_outcome, tested_after, done_by, done_after, budget_outcome, block_outcome, end_of_block_outcome, given_before, in_front}
+use Rattle.page_roff_effects.specs.Effects.{answer_of, test_outcome, budget_outcome, block_outcome, end_of_block_outcome}
+use Rattle.page_roff_effects.specs.machine.Effects.{effects, setting_of, turn_answer, tested_after, done_by, done_after, given_before, in_front}
 
 after_front : (g : List Given) (s : State) (o : Outcome) → after (given_before g s) o ≡ given_before g (after s o)
 after_front g s o = rw append_assoc

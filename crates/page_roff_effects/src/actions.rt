@@ -10,7 +10,8 @@ ghost use Rattle.page_roff_values.specs.Values as laying;
 ghost use Rattle.page_roff_effects.specs.machine.Acting as acting;
 ghost use Rattle.page_roff_effects.specs.Caps.{MemoryFits};
 ghost use Rattle.page_roff_effects.specs.machine.Acting.{measured, Does, Tests, Expands, ExpandsOrKeeps};
-ghost use Rattle.page_roff_effects.specs.Effects.{answer_of, turn_answer, budget_outcome, block_outcome, end_of_block_outcome};
+ghost use Rattle.page_roff_effects.specs.Effects.{answer_of, budget_outcome, block_outcome, end_of_block_outcome};
+ghost use Rattle.page_roff_effects.specs.machine.Effects.{turn_answer};
 ghost use Rattle.page_core_base.specs.Messages.{message_about};
 ghost use Rattle.page_core_base.specs.Latches.{Came};
 

@@ -2,7 +2,7 @@
 //! called, regions define macros, and loops are collected.
 //!
 //! It gives `page_roff_blocks` the meaning of parts, and the machine of `page_roff_machine` calls `Actions` for each of them; what was taken last is
-//! in `page_roff_definitions`. Read `specs/Effects.antt` first, then `Leaves.antt`, `RegionLines.antt` and `LoopLines.antt`; begin in `actions.rt`.
+//! in `page_roff_definitions`. Read `specs/Leaves.antt` first, then `RegionLines.antt`, `LoopLines.antt` and `Effects.antt`; begin in `actions.rt`.
 //!
 //! Proved: `Actions` (`leaf`, `take_at_once`, `test`, `open_region`, `read_line`, `end_region`, `finish`, `exhaust`, `refuse`, `report_unopened`):
 //! what each part of a source does, with its messages and what is remembered after it: a text line is finished, a request defines, a macro is called,

@@ -45,10 +45,6 @@ absent_ahead w r [] h = h
 absent_ahead [] r (c ∷ d) h = refl
 absent_ahead (x ∷ w) r (c ∷ d) h = and_false (nat_eq c x) (starts_with nat_eq (w ++ r) d) (starts_with nat_eq w d) h (absent_ahead w r d)
 
-some_starts : (t d : List ℕ) → length d ≡ 0 → starts_with nat_eq t d ≡ true
-some_starts t [] h = refl
-some_starts t (c ∷ d) h = absurd (omega arith)
-
 -- the last byte of the front
 last_ahead : (d : List ℕ) (x : ℕ) (r : List ℕ) → starts_with nat_eq (x ∷ r) d ≡ false → 1 ≤ place_of d (x ∷ r)
 last_ahead d x [] h = rw h (omega arith)

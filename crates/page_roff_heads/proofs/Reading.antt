@@ -1,7 +1,7 @@
 -- Texts that are read pairwise: helpers of proofs.
 use Rattle.std.proofs.Common.{◌≡◌, ◌≢◌, ℕ, zero, suc, ◌+◌, ◌<◌, ◌≤◌, ◌==◌, Bool, true, false, not, List, [], ◌∷◌, length, take, drop, get_or, if◌then◌else◌, refl, sym, ap, ◌∙◌, inl, inr, arith, length-drop}
 use Rattle.std.proofs.lemmas.Bool.Decides.{nat_tests}
-use Rattle.std.proofs.lemmas.List.{drop_more, drop_all, drop-drop, get_or-drop}
+use Rattle.std.proofs.lemmas.List.{drop_more, drop-drop, get_or-drop}
 use Rattle.std.proofs.lemmas.List.Sums.{prefix_len_stops, prefix_len-le-length}
 use Rattle.std.proofs.lemmas.Bool.{cases_Bool}
 use Rattle.std.specs.List.{prefix_len}
@@ -31,13 +31,6 @@ expression_byte text i h s e =
     let a = drop_more text i 0 h in
     let t : (get_or text i 0 == 92) ≡ false = grind (arith, nat_tests) in
     rw a (expression_plain (get_or text i 0) (drop (i + 1) text) s t)
-
-pub expression_last : (text : List ℕ) (i : ℕ) → i < length text → length text ≤ i + 1 → is_white (get_or text i 0) ≡ false
-    → expression_len (drop i text) ≡ 1 + expression_len (drop (i + 1) text)
-expression_last text i h k s =
-    let a = drop_more text i 0 h in
-    let b = drop_all (i + 1) text k in
-    rw (a, b, s) refl
 
 -- the bytes of an argument are passed
 passed : (n : ℕ) (text : List ℕ) → n ≤ length text → expression_rest n text ≡ n + expression_len (drop n text)
@@ -70,13 +63,6 @@ lone_argument letter text e = by (letter == 119)
     by : (b : Bool) → 0 ≡ (if b then width_len text else 0)
     by true = sym e
     by false = refl
-
-expression_none : (x : ℕ) (xs : List ℕ) → is_white x ≡ true → expression_len (x ∷ xs) ≡ 0
-expression_none x [] s = rw s refl
-expression_none x (y ∷ ys) s = rw s refl
-
-pub expression_end : (text : List ℕ) (i : ℕ) → i < length text → is_white (get_or text i 0) ≡ true → expression_len (drop i text) ≡ 0
-expression_end text i h s = rw (drop_more text i 0 h) (expression_none (get_or text i 0) (drop (i + 1) text) s)
 
 -- ---- the ends of blocks
 
@@ -130,14 +116,6 @@ read_on line i n w e f =
 
 pub read_first : (line : List ℕ) (n : ℕ) → n ≡ prefix_len is_plain line → IsReadTo line n
 read_first line n f = let e : 0 + n ≡ n = omega arith in rw e at (read_on line 0 n (omega arith) (omega arith) f)
-
--- the pair at a backslash
-pub read_end : (line : List ℕ) (i : ℕ) → IsReadTo line i → i + 1 < length line → get_or line (i + 1) 0 ≡ 125 → end_place line ≡ i
-read_end line i r h c =
-    let a = drop_more line i 0 (omega arith) in
-    let b = drop_more line (i + 1) 0 h in
-    let e : end_place (drop i line) ≡ 0 = rw (a, b, r.stops (omega arith), c) refl in
-    omega (arith, r.place)
 
 pub read_comment : (line : List ℕ) (i : ℕ) → IsReadTo line i → i + 1 < length line → (get_or line (i + 1) 0 == 125) ≡ false
     → begins_comment (get_or line (i + 1) 0) ≡ true → end_place line ≡ length line

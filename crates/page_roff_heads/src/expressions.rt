@@ -51,7 +51,7 @@ fn step_len(text: &[u8], at: usize, is_lone: bool) -> Option<usize>
     Some(2 + argument_len(text[at + 1], &text[at + 2..]))
 }
 
-// The same as `expression_len`, for which the text is read once from its end.
+// What `expression_len` answers, by one reading of the text from its end.
 #[inline(never)]
 fn marked_len(text: &[u8]) -> usize
     requires { length text.now ≤ LINE }

@@ -1,6 +1,6 @@
 //! Texts at their places in a line.
 
-ghost use Rattle.std.specs.Prelude.{◌≡◌, ◌≤◌, ◌+◌, length, drop, IfSome};
+ghost use Rattle.std.specs.Prelude.{◌≡◌, ◌≤◌, ◌+◌, length, IfSome};
 ghost use Rattle.page_roff_heads.specs.Texts.{placed_view, FitsPlaced, begins_pair, is_some_line, remainder_at, remainder_of, remainder_view};
 
 use page_core_base::LINE;

@@ -111,7 +111,7 @@ fn pair_mode(byte: u8) -> Mode
 }
 
 impl OpenLine {
-    ghost use Rattle.page_roff_lines.specs.machine.Open.{first_open, restart, put, put_plain, put_pair, put_in, without_return, newline_in, put_newline, put_byte, next_open, end_open, count_byte, close, ends_mark, open_after, whole_lines, kept_of, is_marked};
+    ghost use Rattle.page_roff_lines.specs.machine.Open.{first_open, restart, put, put_plain, put_pair, put_in, without_return, newline_in, put_newline, next_open, end_open, count_byte, close, ends_mark, open_after, whole_lines, kept_of, is_marked};
     ghost use Rattle.page_roff_lines.specs.Bytes.{newline};
     ghost use Rattle.page_roff_lines.specs.machine.Run.{InText, IsFine, IsRead, ReadsText, with_run};
 

@@ -21,19 +21,19 @@ use Rattle.page_roff_blocks.specs.declared.block_cursors.Reached.TheVariants.{Pa
 use Rattle.page_roff_blocks.specs.LineParts.{line_parts}
 use Rattle.page_roff_blocks.specs.Levels.{Levels, BlockCursor, answered, after_part, guarded_by, way_of, passed, reached, reached_in, skip, what_ends, at_line, leave}
 use Rattle.page_roff_syntax.specs.OpenRegions.{Opened, opened}
-use Rattle.page_roff_blocks.specs.Run.{Meaning, meet_as, value, refuse_if, keep_if}
+use Rattle.page_roff_blocks.specs.machine.Run.{Meaning, meet_as, value, refuse_if, keep_if}
 use Rattle.page_roff_blocks.specs.machine.Steps as steps
 use Rattle.page_roff_blocks.specs.machine.Steps.{met, guard_with, guard_met, step_guard, block_with, opening_met, block_met, step_block, step_region, collect_if}
-use Rattle.page_roff_blocks.specs.Languages.{Kind, page, body, Language, is_some, meaning_by, meaning_at, finish_at}
+use Rattle.page_roff_blocks.specs.machine.Languages.{Kind, page, body, Language, is_some, meaning_by, meaning_at, finish_at}
 use Rattle.page_roff_blocks.specs.machine.Machine as machine
 use Rattle.page_roff_blocks.specs.machine.Machine.{Frame, Running, Turning, depth, at_part, between, leaf_next, loop_next, end_next, finish_if, part_next, line_next, region_next, next}
 use Rattle.page_roff_blocks.specs.machine.Counting.{Budget}
 use Rattle.page_roff_blocks.specs.machine.Measures.{HasMeasure, IsOnLine}
-use Rattle.page_roff_blocks.specs.Budgets.{Budgeted, meaning, language, end_line}
+use Rattle.page_roff_blocks.specs.machine.Budgets.{Budgeted, meaning, language, end_line}
 use Rattle.page_roff_effects.specs.declared.commands.ProductKind.{ProductKind}
 use Rattle.page_roff_effects.specs.declared.commands.ProductKind.TheVariants as kinds
 use Rattle.page_roff_effects.specs.machine.Acting.{IfCalled, IsCallable, IfRepeated, IsRepeatable, acting_effects, measured}
-use Rattle.page_roff_effects.specs.Effects.{effects}
+use Rattle.page_roff_effects.specs.machine.Effects.{effects}
 use Rattle.page_roff_effects.specs.States.{State, says}
 use Rattle.page_roff_stack.specs.declared.next.Next.{Next}
 use Rattle.page_roff_stack.specs.declared.next.Next.TheVariants.{Part, Line, RegionLine, Turn, SourceEnd, Nothing}

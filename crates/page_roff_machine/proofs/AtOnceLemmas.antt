@@ -8,17 +8,17 @@ use Rattle.page_roff_blocks.specs.declared.line_parts.LinePart.TheVariants.{Leaf
 use Rattle.page_roff_blocks.specs.LineParts.{line_parts}
 use Rattle.page_roff_blocks.specs.Levels.{Levels, BlockCursor, at_line, after_part, outside, reached, reached_in, reached_from, reached_if}
 use Rattle.page_roff_syntax.specs.OpenRegions.{Opened}
-use Rattle.page_roff_blocks.specs.Run.{At, meet_as}
+use Rattle.page_roff_blocks.specs.machine.Run.{At, meet_as}
 use Rattle.page_roff_blocks.specs.machine.Steps.{met, begin_line, collect_if}
-use Rattle.page_roff_blocks.specs.Languages.{Kind, page, body, Language, Done, calls, finish_at, gives, is_some, meaning_at, meaning_by, run_page}
+use Rattle.page_roff_blocks.specs.machine.Languages.{Kind, page, body, Language, Done, calls, finish_at, gives, is_some, meaning_at, meaning_by, run_page}
 use Rattle.page_roff_blocks.specs.machine.Machine.{Frame, Running, Turning, at_page, at_part, body_next, depth, entered, next, next_in, line_next, part_next, leaf_if, leaf_next, rest_of, source_next, stands_at}
 use Rattle.page_roff_blocks.proofs.MachineLemmas.{next_law, end_law, page_law}
-use Rattle.page_roff_blocks.specs.Budgets.{Budgeted, language, meaning, meet, whether_run, done_with, with_rest}
-use Rattle.page_roff_blocks.specs.Budgets as budgets
+use Rattle.page_roff_blocks.specs.machine.Budgets.{Budgeted, language, meaning, meet, whether_run, done_with, with_rest}
+use Rattle.page_roff_blocks.specs.machine.Budgets as budgets
 use Rattle.page_roff_blocks.specs.machine.Counting.{Budget, budgeted, begun, renewed}
 use Rattle.page_roff_blocks.specs.machine.Measures.{AreOnLine, HasMeasure, IsFirst, IsOnLine}
 use Rattle.page_roff_effects.specs.machine.Acting.{with_number, with_arguments, acting_effects, acting_setting, measured, ActingSetting}
-use Rattle.page_roff_effects.specs.Effects.{effects, done_after, done_by}
+use Rattle.page_roff_effects.specs.machine.Effects.{effects, done_after, done_by}
 use Rattle.page_roff_effects.specs.Leaves.{leaf_outcome}
 use Rattle.page_roff_effects.specs.RegionLines.{finish_outcome}
 use Rattle.page_roff_definitions.specs.Calls.{Call}

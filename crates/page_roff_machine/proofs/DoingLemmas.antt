@@ -13,17 +13,18 @@ use Rattle.page_roff_blocks.specs.declared.block_cursors.Reached.{Reached}
 use Rattle.page_roff_blocks.specs.declared.block_cursors.Reached.TheVariants.{PassedOver, First, Remainder}
 use Rattle.page_roff_syntax.specs.OpenRegions.{Opened}
 use Rattle.page_roff_blocks.specs.Loops.{loop_text}
-use Rattle.page_roff_blocks.specs.Run.{meet_as, value, keep_if}
+use Rattle.page_roff_blocks.specs.machine.Run.{meet_as, value, keep_if}
 use Rattle.page_roff_values.specs.Arguments.{arguments_in, lines_in}
 use Rattle.page_core_base.specs.Latches.{Came}
-use Rattle.page_roff_blocks.specs.Languages.{Kind, page, body, gives, calls, repeats}
-use Rattle.page_roff_blocks.specs.Budgets.{Budgeted, Effects, with_rest, charge_by, charge, begin_line, whether_run, meet, test, unopened_by, read_line, end_line, collect_some, meaning, done_with, closed_with, turn_by, turn, language}
+use Rattle.page_roff_blocks.specs.machine.Languages.{Kind, page, body, gives, calls, repeats}
+use Rattle.page_roff_blocks.specs.machine.Budgets.{Budgeted, Effects, with_rest, charge_by, charge, begin_line, whether_run, meet, test, unopened_by, read_line, end_line, collect_some, meaning, done_with, closed_with, turn_by, turn, language}
 use Rattle.page_roff_blocks.specs.machine.Counting.{Budget, budgeted, begun, charged_by, charged, exhausts_by, exhausts}
 use Rattle.page_roff_effects.specs.declared.commands.ProductKind.{ProductKind}
 use Rattle.page_roff_effects.specs.declared.commands.ProductKind.TheVariants as kinds
 use Rattle.page_roff_effects.specs.machine.Acting as acting
 use Rattle.page_roff_effects.specs.machine.Acting.{Acting, kind_of, Lends, IfRepeated, acting_effects, acting_setting, measured, ActingSetting}
-use Rattle.page_roff_effects.specs.Effects.{effects, answer_of, turn_answer, test_outcome, tested_after, done_by, done_after, budget_outcome, end_of_block_outcome}
+use Rattle.page_roff_effects.specs.Effects.{answer_of, test_outcome, budget_outcome, end_of_block_outcome}
+use Rattle.page_roff_effects.specs.machine.Effects.{effects, turn_answer, tested_after, done_by, done_after}
 use Rattle.page_roff_effects.specs.Leaves.{leaf_outcome}
 use Rattle.page_roff_effects.specs.LoopLines.{longer_if_some, loop_outcome, collect_outcome, close_outcome, condition_in, body_in}
 use Rattle.page_roff_definitions.specs.Calls.{Call, with_line}

@@ -4,10 +4,10 @@ use Rattle.page_core_base.specs.Messages.{Message}
 use Rattle.page_core_base.specs.declared.page_settings.Output.{Output}
 use Rattle.page_roff_blocks.specs.Levels.{after_part}
 use Rattle.page_roff_values.specs.Arguments.{lines_in}
-use Rattle.page_roff_blocks.specs.Languages.{arguments_of, Kind, page, body, inner, repeats, Language, is_some}
+use Rattle.page_roff_blocks.specs.machine.Languages.{arguments_of, Kind, page, body, inner, repeats, Language, is_some}
 use Rattle.page_roff_blocks.specs.machine.Machine.{Frame, looped, at_part, depth, leaf_next, loop_next}
 use Rattle.page_roff_blocks.specs.machine.Measures.{weight}
-use Rattle.page_roff_blocks.specs.Budgets.{Budgeted, language}
+use Rattle.page_roff_blocks.specs.machine.Budgets.{Budgeted, language}
 use Rattle.page_roff_effects.specs.declared.commands.ProductKind.{ProductKind}
 use Rattle.page_roff_effects.specs.declared.commands.ProductKind.TheVariants as kinds
 use Rattle.page_roff_effects.specs.machine.Acting.{IsRepeatable, IfRepeated, acting_effects, acting_setting}
@@ -47,10 +47,6 @@ setting_in : (output : Output) (kind : Kind) → acting_setting output kind ≡ 
 unfolding inner
 setting_in output page = refl
 setting_in output (body args) = refl
-
-looped_kind : (kind : Kind) (condition : List ℕ) (lines : List (List ℕ)) → (looped kind condition lines).kind ≡ inner kind
-unfolding looped
-looped_kind kind condition lines = refl
 
 -- the loop of which this was collected begins, with these arguments
 abbrev begun : List ℕ → Option (List (List ℕ)) → Frame
@@ -121,12 +117,6 @@ no_loop kinds.Nothing P h n = refl
 no_loop kinds.Line P h n = absurd h
 no_loop kinds.Call P h n = absurd h
 no_loop kinds.Loop P h n = absurd (n refl)
-
-pub can_loop : (product : ProductKind) (P : Type 0) → IfRepeated product P → product ≡ kinds.Loop → P
-can_loop kinds.Nothing P h e = absurd (cc)
-can_loop kinds.Line P h e = absurd (cc)
-can_loop kinds.Call P h e = absurd (cc)
-can_loop kinds.Loop P h e = h
 
 module _ {P S : Type 0} (left : P → S → List Message → Type 0) (old : Runner) (doing : BudgetedActions) (out out_new : S) (may_run : Bool) (em : may_run ≡ is_some (depth old.stack.under)) where
   closes_as : (product : ProductKind) (given : List Given) (a : Makes left old.doing out (λ kind. IsIn kind old.doing) (closed_in old.doing may_run) doing (done_as product) out_new)

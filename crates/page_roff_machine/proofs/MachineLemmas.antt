@@ -6,10 +6,10 @@ use Rattle.page_core_base.specs.declared.page_settings.Output.{Output}
 use Rattle.page_roff_blocks.specs.declared.line_parts.LinePart.{LinePart}
 use Rattle.page_roff_blocks.specs.Levels.{Place, at_line}
 use Rattle.page_roff_syntax.specs.OpenRegions.{Opened}
-use Rattle.page_roff_blocks.specs.Run.{Meaning, At}
-use Rattle.page_roff_blocks.specs.Languages.{Language, meaning_at, run_page}
+use Rattle.page_roff_blocks.specs.machine.Run.{Meaning, At}
+use Rattle.page_roff_blocks.specs.machine.Languages.{Language, meaning_at, run_page}
 use Rattle.page_roff_blocks.specs.machine.Machine.{Frame, depth, at_page, rest_of, next, stands_at}
-use Rattle.page_roff_blocks.specs.Budgets.{Budgeted, language}
+use Rattle.page_roff_blocks.specs.machine.Budgets.{Budgeted, language}
 use Rattle.page_roff_blocks.specs.machine.Fronts.{over}
 use Rattle.page_roff_blocks.proofs.FrontLemmas.{rest_front}
 use Rattle.page_roff_blocks.proofs.MachineLemmas.{next_law, end_law, page_law}
@@ -17,7 +17,7 @@ use Rattle.page_roff_blocks.specs.machine.Counting.{renewed}
 use Rattle.page_roff_blocks.specs.machine.Measures.{HasMeasure, AreOnLine, IsOnLine, IsFirst}
 use Rattle.page_roff_effects.specs.machine.Acting as acting
 use Rattle.page_roff_effects.specs.machine.Acting.{Acting, with_number, with_arguments, acting_effects, measured}
-use Rattle.page_roff_effects.specs.Effects.{in_front}
+use Rattle.page_roff_effects.specs.machine.Effects.{in_front}
 use Rattle.page_roff_stack.specs.machine.Changes.{page_line}
 use Rattle.page_roff_effects.specs.States.{Memory, State, Given, says}
 use Rattle.page_roff_values.specs.machine.Views.{units_of_bytes}

@@ -4,11 +4,11 @@ use Rattle.std.proofs.lemmas.Bool.Decides.{nat_tests}
 use Rattle.std.proofs.lemmas.List.{append-nil}
 use Rattle.page_core_base.specs.Messages.{Message}
 use Rattle.page_core_base.specs.declared.page_settings.Output.{Output}
-use Rattle.page_roff_blocks.specs.Run.{At}
+use Rattle.page_roff_blocks.specs.machine.Run.{At}
 use Rattle.page_core_base.specs.Latches.{Came}
 use Rattle.page_roff_blocks.specs.Levels.{outside, at_line, after_part}
 use Rattle.page_roff_values.specs.Arguments.{arguments_in}
-use Rattle.page_roff_blocks.specs.Languages.{body, finish_at}
+use Rattle.page_roff_blocks.specs.machine.Languages.{body, finish_at}
 use Rattle.page_roff_blocks.specs.machine.Machine.{next, next_in, source_next, body_next, entered, at_part}
 use Rattle.page_roff_effects.specs.machine.Acting.{acting_effects, measured}
 use Rattle.page_roff_effects.specs.declared.commands.ProductKind.TheVariants as kinds
@@ -18,11 +18,11 @@ use Rattle.page_roff_machine.specs.declared.budgeted_actions.BudgetedActions.{Bu
 use Rattle.page_roff_machine.specs.declared.acts.Act.TheVariants as acts
 use Rattle.page_roff_machine.proofs.GoLemmas.{quiet_product, shifts_call}
 use Rattle.page_roff_blocks.specs.machine.Measures.{measure, HasMeasure, HasBodyWithin, IsFirst, credit}
-use Rattle.page_roff_blocks.specs.Budgets.{Budgeted, language, with_rest}
+use Rattle.page_roff_blocks.specs.machine.Budgets.{Budgeted, language, with_rest}
 use Rattle.page_roff_blocks.specs.machine.Fronts.{over}
 use Rattle.page_roff_blocks.proofs.MeasureLemmas.{next_falls}
 use Rattle.page_roff_blocks.proofs.OnLineLemmas.{first_falls}
-use Rattle.page_roff_effects.specs.Effects.{effects, in_front}
+use Rattle.page_roff_effects.specs.machine.Effects.{effects, in_front}
 use Rattle.page_roff_effects.specs.States.{State, Given, says, takes}
 use Rattle.page_roff_stack.specs.declared.next.Next.TheVariants.{Nothing}
 use Rattle.page_roff_stack.specs.machine.Stacks.{Stack, running, with_top, call_of, next_of, is_nothing, step_in}

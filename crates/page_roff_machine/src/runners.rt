@@ -106,7 +106,7 @@ impl Runner {
         }
     }
 
-    // The same where it is not all of a line, and no block that is passed over.
+    // Decides what comes next, as `act` does, where it is not a whole line, and not a block that is passed over.
     fn act_on_part<O: NoteOut>(&mut self, reached: Reached, out: &mut O) -> Act
         requires sound { IsSound self.old }
         requires begun { is_line (next_of self.old.stack) ≡ false }
@@ -142,7 +142,7 @@ impl Runner {
         }
     }
 
-    // The same where it is no part of a line.
+    // Decides what comes next, as `act` does, between two lines.
     fn act_between_lines<O: NoteOut>(&mut self, out: &mut O) -> Act
         requires sound { IsSound self.old }
         requires begun { is_line (next_of self.old.stack) ≡ false }

@@ -1,9 +1,9 @@
 //! Changes of one set of names, which shares its limits with the other.
-ghost use Rattle.std.specs.Prelude.{◌≡◌, ℕ, ◌+◌, ◌<◌, ◌≤◌, List, [], ◌∷◌, ◌++◌, length};
+ghost use Rattle.std.specs.Prelude.{◌≡◌, ◌+◌, ◌<◌, ◌≤◌, [], ◌++◌, length};
 ghost use Rattle.std.specs.Prelude.{IsTrue, MatchOption, MatchResult, Some, None, unwrap_or, T};
 ghost use Rattle.std.specs.FinMap.{is_sorted};
 ghost use Rattle.std.specs.List.{insert, remove};
-ghost use Rattle.std.specs.Vec.{vec_len, vec_capacity};
+ghost use Rattle.std.specs.Vec.{vec_capacity};
 ghost use Rattle.page_roff_names.specs.Caps.{EntriesFit};
 ghost use Rattle.page_roff_names.specs.Entries.{Definition, definition, size, name_at, definition_at};
 ghost use Rattle.page_roff_names.specs.Predefined.{predefined};

@@ -1,15 +1,13 @@
 -- What is known of the brackets in a text: helpers of proofs.
-use Rattle.std.proofs.Common.{◌≡◌, ◌≢◌, ℕ, zero, suc, ◌+◌, ◌<◌, Bool, true, false, not, ◌&&◌, ◌||◌, ◌==◌, List, [], ◌∷◌, length, get_or, drop, take, if◌then◌else◌, Option, None, Some, MatchOption, option_map, unwrap_or, position, refl, arith}
-use Rattle.std.proofs.lemmas.Bool.Decides.{nat_tests}
-use Rattle.std.proofs.lemmas.List.{drop_more}
-use Rattle.std.proofs.lemmas.Bool.{eqb-true, le-ltb, lt-ltb}
+use Rattle.std.proofs.Common.{◌≡◌, ℕ, zero, suc, ◌+◌, ◌<◌, Bool, true, false, not, ◌&&◌, ◌||◌, ◌==◌, List, [], ◌∷◌, length, get_or, drop, take, if◌then◌else◌, Option, None, Some, MatchOption, option_map, unwrap_or, position, refl, arith}
+use Rattle.std.proofs.lemmas.Bool.{le-ltb, lt-ltb}
 use Rattle.std.proofs.lemmas.List.Sums.{position_or_len_is}
 use Rattle.memchr.specs.Find.{IsFirstByte, is_byte}
 use Rattle.page_roff_parts.specs.declared.parts.Call.{Call}
 use Rattle.page_roff_parts.specs.declared.parts.Call.TheVariants.{String, Register, Width}
 use Rattle.page_roff_syntax.specs.Delimiters.{begins_pair, character_len}
 use Rattle.page_roff_parts.specs.machine.Brackets.{has_bracket, IsKnown}
-use Rattle.page_roff_parts.specs.Parts.{CutText, SeenText, copies, calls, cut, two_characters, bracketed, name_cut, content_len, delimited, width_cut, plain, after_plain, argument_call, call_cut, pair, is_doubled, escape, begins_escape, seen}
+use Rattle.page_roff_parts.specs.Parts.{CutText, SeenText, copies, calls, cut, two_characters, bracketed, name_cut, content_len, delimited, width_cut, plain, after_plain, argument_call, call_cut, pair, is_doubled, escape, seen}
 
 abbrev pub Lacks : List ℕ → Type 0
 Lacks text = has_bracket text ≡ false
@@ -150,20 +148,3 @@ known_drop true k text h = lacks_drop k text h
 known_drop false k text h = refl
 
 -- ---- before a bracket is looked for
-
-pub known_name : (u : Bool) (b : ℕ) (bs : List ℕ) → b ≡ 91 → IsKnown u bs → IsKnown u (b ∷ bs)
-known_name true b bs e h = rw e h
-known_name false b bs e h = refl
-
-pub known_call : (u : Bool) (text : List ℕ) → begins_escape text ≡ true → (get_or text 1 0 == 93) ≡ false → IsKnown u (drop 2 text) → IsKnown u text
-known_call false text e n h = refl
-known_call true [] e n h = refl
-known_call true (b ∷ []) e n h = rw (eqb-true b 92 e) refl
-known_call true (b ∷ c ∷ bs) e n h = rw (eqb-true b 92 e, n) h
-
--- where no bracket closes behind a byte that is none
-pub known_byte : (u : Bool) (text : List ℕ) (at : ℕ) → at < length text → get_or text at 0 ≢ 93 → IsKnown u (drop (at + 1) text) → IsKnown u (drop at text)
-known_byte false text at l n h = refl
-known_byte true text at l n h =
-    let e : (get_or text at 0 == 93) ≡ false = grind (arith, nat_tests) in
-    rw (drop_more text at 0 l, e) h

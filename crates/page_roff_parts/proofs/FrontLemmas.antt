@@ -13,7 +13,7 @@ use Rattle.page_roff_parts.specs.Parts.{CutText, SeenText, after_plain, call_cut
 use Rattle.page_roff_parts.specs.machine.Fronts.{IsFront, copied_front}
 use Rattle.page_roff_parts.specs.machine.Verbatim.{IsVerbatim, copied_bytes}
 use Rattle.page_roff_parts.specs.machine.Brackets.{has_bracket}
-use Rattle.page_roff_syntax.specs.Delimiters.{begins_pair, character_len, place_of, width_len}
+use Rattle.page_roff_syntax.specs.Delimiters.{character_len, place_of, width_len}
 use Rattle.page_roff_parts.proofs.BracketLemmas.{lacking}
 use Rattle.page_roff_parts.proofs.ReadLemmas.{parts_more, plain_part, seen_shorter}
 
@@ -43,9 +43,6 @@ width_none (b ∷ bs) h =
 
 pub lone_width : (copy : Bool) (letter : ℕ) (rest : List ℕ) → letter ≡ 119 → width_len rest ≡ 0 → call_cut copy letter rest ≡ None
 lone_width copy letter rest e h = rw (e, width_none rest h) (none_of (not copy) None refl)
-
-pub bare_width : (copy : Bool) (letter : ℕ) (rest : List ℕ) → letter ≡ 119 → begins_pair rest ≡ true → call_cut copy letter rest ≡ None
-bare_width copy letter rest e f = lone_width copy letter rest e (rw f refl)
 
 -- a name in brackets of which none closes
 name_none : (text : List ℕ) → 0 < length text → get_or text 0 0 ≡ 91 → has_bracket text ≡ false → name_cut text ≡ None

@@ -8,15 +8,12 @@ use Rattle.std.proofs.lemmas.List.Elements.{All-weaker}
 use Rattle.page_roff_parts.specs.declared.known_fronts.KnownText.{KnownText}
 use Rattle.page_roff_parts.specs.machine.Fronts.{IsFront}
 use Rattle.page_roff_parts.specs.machine.Known.{AreFronts, AreKnown, IsKnown, IsRun, StayBefore}
-use Rattle.page_roff_parts.proofs.FrontLemmas.{front_all, front_none, front_run, front_then}
+use Rattle.page_roff_parts.proofs.FrontLemmas.{front_all, front_run, front_then}
 
 apart : true ≡ false → ⊥
 apart e = let no : ⊥ = cc in no
 
 -- ---- the fronts of one text
-
-pub front_zero : (n : ℕ) (text : List ℕ) → n ≡ 0 → IsFront false n text
-front_zero n text e = rw e (front_none false text)
 
 -- the bytes before a backslash, or before the text's end
 run_front : (text : List ℕ) (k : ℕ) → k ≤ length text → IsRun 0 k text → IsFront false k text
@@ -132,13 +129,3 @@ known_last texts text fronts t h room s e = (
       let f = rw sum at (h i (omega arith) (omega arith)) in
       (omega (arith, f.0), rw (rest, whole) f.1),
 )
-
--- a text that one of these ends with
-pub known_front : (texts fronts text : List ℕ) (t : KnownText) → IsKnown texts fronts t → 0 < length text → t.start + length text ≤ t.end
-    → text ≡ take (length text) (drop (t.end - length text) texts)
-    → (get_or fronts (t.end - length text) 0 ≤ length text) × IsFront false (get_or fronts (t.end - length text) 0) text
-known_front texts fronts text t h some l same =
-    let k = t.end - length text in
-    let n : t.end - k ≡ length text = omega arith in
-    let f = h.3 k (omega arith) (omega arith) in
-    (omega (arith, f.0), rw (n, ← same) at f.1)

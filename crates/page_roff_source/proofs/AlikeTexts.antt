@@ -3,7 +3,7 @@ use Rattle.std.proofs.Common.{◌≡◌, ℕ, ◌==◌, is_some, Bool, true, fal
 use Rattle.page_core_base.specs.Texts.{IsLine}
 use Rattle.page_core_base.specs.declared.lines_taken.Form.TheVariants as forms
 use Rattle.page_roff_syntax.specs.OpenRegions.{Opened}
-use Rattle.page_roff_blocks.specs.Run.{At}
+use Rattle.page_roff_blocks.specs.machine.Run.{At}
 use Rattle.page_roff_effects.proofs.AlikeLemmas.{condition_alike}
 use Rattle.page_roff_syntax.specs.LineForms.{form_of}
 use Rattle.page_roff_syntax.specs.declared.line_forms.LineForm.{LineForm}
@@ -15,11 +15,12 @@ use Rattle.page_roff_syntax.specs.declared.regions.RegionKind.TheVariants.{Defin
 use Rattle.page_roff_values.specs.machine.Texts.{MeasureAlike}
 use Rattle.page_roff_values.specs.Values.{Laid, expanded, start, NEST}
 use Rattle.page_roff_values.proofs.AlikeLemmas.{value_alike}
-use Rattle.page_roff_blocks.specs.Budgets.{Budgeted, language}
-use Rattle.page_roff_blocks.specs.Languages.{Kind, run_page}
+use Rattle.page_roff_blocks.specs.machine.Budgets.{Budgeted, language}
+use Rattle.page_roff_blocks.specs.machine.Languages.{Kind, run_page}
 use Rattle.page_roff_blocks.proofs.SameEffects.{SameEffects, page_same}
 use Rattle.page_roff_effects.specs.Commands.{command_of, copies}
-use Rattle.page_roff_effects.specs.Effects.{effects, setting_of, answer_of, tested_after, done_after}
+use Rattle.page_roff_effects.specs.Effects.{answer_of}
+use Rattle.page_roff_effects.specs.machine.Effects.{effects, setting_of, tested_after, done_after}
 use Rattle.page_roff_effects.specs.Leaves.{ControlLine, after_expansion, does, command_outcome, control_line, control_outcome, form_outcome, leaf_outcome}
 use Rattle.page_roff_effects.specs.RegionLines.{longer, body_outcome, kind_outcome, line_outcome}
 use Rattle.page_roff_effects.specs.States.{Memory, State, surroundings, gives_line, nothing, after}

@@ -5,11 +5,12 @@ use Rattle.page_roff_heads.specs.declared.conditions.Condition.{Condition}
 use Rattle.page_roff_syntax.specs.OpenRegions.{Opened}
 use Rattle.page_core_base.specs.declared.limits.TheConstants.{EXPAND, REREAD}
 use Rattle.page_roff_values.specs.Values.{units_of}
-use Rattle.page_roff_blocks.specs.Languages.{Kind, state_of}
+use Rattle.page_roff_blocks.specs.machine.Languages.{Kind, state_of}
 use Rattle.page_roff_blocks.specs.Spent.{Spends}
 use Rattle.page_roff_blocks.proofs.BudgetLemmas.{page_line_bound}
 use Rattle.page_roff_blocks.proofs.SpendLemmas.{page_spends}
-use Rattle.page_roff_effects.specs.Effects.{effects, answer_of, turn_answer, test_outcome, expansions_of, tested_after, done_by, done_after, budget_outcome, block_outcome, end_of_block_outcome, setting_of}
+use Rattle.page_roff_effects.specs.Effects.{answer_of, test_outcome, budget_outcome, block_outcome, end_of_block_outcome}
+use Rattle.page_roff_effects.specs.machine.Effects.{effects, turn_answer, expansions_of, tested_after, done_by, done_after, setting_of}
 use Rattle.page_roff_effects.specs.Leaves.{leaf_outcome}
 use Rattle.page_roff_effects.specs.LoopLines.{loop_outcome, collect_outcome, repeats_if, repeats_text, close_outcome}
 use Rattle.page_roff_effects.specs.RegionLines.{head_outcome, line_outcome, end_outcome, finish_outcome}

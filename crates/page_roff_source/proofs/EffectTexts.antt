@@ -7,7 +7,7 @@ use Rattle.page_core_base.specs.Messages.{Message}
 use Rattle.page_core_base.specs.Texts.{IsLine}
 use Rattle.page_roff_syntax.specs.OpenRegions.{Opened, within_limit}
 use Rattle.page_roff_syntax.specs.RegionHeads.{macro_name}
-use Rattle.page_roff_blocks.specs.Run.{At}
+use Rattle.page_roff_blocks.specs.machine.Run.{At}
 use Rattle.page_roff_syntax.specs.declared.region_heads.RegionHead.{RegionHead}
 use Rattle.page_roff_syntax.specs.Arguments.{arguments}
 use Rattle.page_roff_heads.specs.declared.loops.LoopHead.{LoopHead}
@@ -29,12 +29,13 @@ use Rattle.page_roff_values.proofs.GrowLemmas.{finished_front}
 use Rattle.page_roff_values.proofs.LineLemmas.{value_within}
 use Rattle.page_roff_values.proofs.PlainTexts.{nil_text, text_cut, text_at}
 use Rattle.page_roff_values.proofs.ValueTexts.{value_text}
-use Rattle.page_roff_blocks.specs.Budgets.{Budgeted, language}
-use Rattle.page_roff_blocks.specs.Languages.{Kind, page, body, arguments_of, inner, run_page}
+use Rattle.page_roff_blocks.specs.machine.Budgets.{Budgeted, language}
+use Rattle.page_roff_blocks.specs.machine.Languages.{Kind, page, body, arguments_of, inner, run_page}
 use Rattle.page_roff_blocks.proofs.KeepEffects.{IsKeptAfter, KeepsEffects, page_keeps}
 use Rattle.page_roff_blocks.proofs.KeepLemmas.{IsIfSome, IsLoopHead}
 use Rattle.page_roff_effects.specs.Commands.{called_body, request_command, command_or, command_of, copies}
-use Rattle.page_roff_effects.specs.Effects.{effects, setting_of, answer_of, turn_answer, test_outcome, tested_after, done_by, done_after, budget_outcome, block_outcome, end_of_block_outcome}
+use Rattle.page_roff_effects.specs.Effects.{answer_of, test_outcome, budget_outcome, block_outcome, end_of_block_outcome}
+use Rattle.page_roff_effects.specs.machine.Effects.{effects, setting_of, turn_answer, tested_after, done_by, done_after}
 use Rattle.page_roff_definitions.specs.Calls.{with_line, packed}
 use Rattle.page_roff_effects.specs.Leaves.{call_if, ControlLine, rest_of, rest_column, does, command_outcome, control_outcome, control_line, form_outcome, leaf_outcome}
 use Rattle.page_roff_effects.specs.RegionLines.{first_body, body_begun, head_outcome, longer_if, longer, body_outcome, kind_outcome, line_outcome, macro_definition, body_freed, end_outcome, finish_region, finish_outcome}

@@ -16,3 +16,5 @@ pub mod NoteLatchLemmas
 pub mod RoffLineLemmas
 pub mod RoomLemmas
 pub mod TextLemmas
+pub mod RunDepthLemmas
+pub mod RunLemmas

@@ -3,27 +3,31 @@ use Rattle.std.proofs.Common.{◌≡◌, ℕ, ◌+◌, Bool, true, false, cond, 
 use Rattle.page_roff_syntax.specs.RegionHeads.{is_ending}
 use Rattle.page_roff_blocks.specs.Levels.{Levels, Place}
 use Rattle.page_roff_syntax.specs.OpenRegions.{Opened}
-use Rattle.page_roff_blocks.specs.Run.{Meaning, At, after_head, each_line}
+use Rattle.page_roff_blocks.specs.machine.Run.{Meaning, At, after_head, each_line}
 use Rattle.page_roff_blocks.specs.machine.Steps as steps
 use Rattle.page_roff_blocks.specs.machine.Steps.{step_inside, step_from, step, step_lines}
 use Rattle.page_roff_blocks.proofs.FoldLemmas.{run_is_steps}
 use Rattle.page_roff_blocks.proofs.HeadLemmas.{forest_is_each}
 use Rattle.page_core_base.specs.declared.limits.TheConstants.{CALLS, REREAD}
 use Rattle.page_roff_values.specs.Values.{units_of}
-use Rattle.page_roff_blocks.specs.Budgets.{Budgeted, Effects, language, meaning, begin_line, read_line, end_line}
-use Rattle.page_roff_blocks.specs.Languages.{page, meaning_by, meaning_at, run_page, run_page_lines}
+use Rattle.page_roff_blocks.specs.machine.Budgets.{Budgeted, Effects, language, meaning, begin_line, read_line, end_line}
+use Rattle.page_roff_blocks.specs.machine.Languages.{page, meaning_by, meaning_at, run_page, run_page_lines}
 use Rattle.page_roff_blocks.specs.machine.Machine.{at_page}
 use Rattle.page_roff_blocks.specs.machine.Fronts.{over}
 use Rattle.page_roff_blocks.proofs.FrontLemmas.{rest_front}
 use Rattle.page_roff_blocks.proofs.MachineLemmas.{page_law}
-use Rattle.page_roff_effects.specs.Effects.{effects, in_front}
+use Rattle.page_roff_effects.specs.machine.Effects.{effects, in_front}
 use Rattle.page_roff_effects.specs.States.{State, Given, says, Memory, numbered}
 use Rattle.page_roff_effects.proofs.GivenLemmas.{is_front}
 use Rattle.page_roff_source.specs.Edges.{Edge, SourceLine}
 use Rattle.page_roff_source.specs.machine.Taking.{before_line, run_line, run_begun, line_given, line_done}
 use Rattle.page_roff_source.specs.Taken.{line_begun}
-use Rattle.page_roff_source.specs.Given.{head_of, before_lines, run_all, given, done}
+use Rattle.page_roff_source.specs.Given.{run_all, given, done}
+use Rattle.page_roff_source.specs.machine.Given as machine
+use Rattle.page_roff_source.specs.machine.Given.{head_of}
 use Rattle.page_roff_source.specs.machine.LineByLine.{lines_given, lines_done, StandsAt}
+use Rattle.page_roff_source.proofs.RunDepthLemmas as depths
+use Rattle.page_roff_source.proofs.RunLemmas as runs
 
 -- what is left of the budget of the line before, and whether that was given up, is forgotten
 module _ {R : Type 0} (e : Effects R) where
@@ -98,14 +102,22 @@ each_stands e (x ∷ xs) left g out =
     ∙ append_assoc out (map says x.notes) (line_given e x ++ lines_given f xs) in
     rw (one_line e x left g out, sym same) h
 
-all_stands : (e : Edge) (lines : List SourceLine) → StandsAt (lines_done e lines) (lines_given e lines) (run_all e lines)
-unfolding run_all run_page_lines
+all_stands : (e : Edge) (lines : List SourceLine) → StandsAt (lines_done e lines) (lines_given e lines) (machine.run_all e lines)
+unfolding machine.run_all run_page_lines
 all_stands e lines =
-    rw (forest_is_each (λ line. line.text) head_of (meaning_at (language (effects (units_of e.output))) CALLS page) lines (before_lines e))
+    rw (forest_is_each (λ line. line.text) head_of (meaning_at (language (effects (units_of e.output))) CALLS page) lines (machine.before_lines e))
     (each_stands e lines 0 false [])
 
+-- the definitions run as the machine does
+all_same : (e : Edge) (lines : List SourceLine) → run_all e lines ≡ runs.at (machine.run_all e lines)
+unfolding run_all machine.run_all
+all_same e lines = depths.page_law (units_of e.output) lines (machine.before_lines e)
+
+pub given_same : (e : Edge) (lines : List SourceLine) → given e lines ≡ machine.given e lines
+given_same e lines = ap (λ a. a.state.out) (all_same e lines)
+
 pub given-by_line : (e : Edge) (lines : List SourceLine) → given e lines ≡ lines_given e lines
-given-by_line e lines = (all_stands e lines).out
+given-by_line e lines = given_same e lines ∙ (all_stands e lines).out
 
 -- ---- the edge after lines
 
@@ -127,10 +139,14 @@ same_edge : (e f : Edge) → e.output ≡ f.output → e.place ≡ f.place → e
     → idle e ≡ idle f
 same_edge e f a b c d g = rw (a, b, c, d, g) refl
 
+pub done_same : (e : Edge) (lines : List SourceLine) → done e lines ≡ machine.done e lines
+done_same e lines =
+    ap (λ a. record (idle e) { place = a.place; memory = a.state.memory; source = e.source + length lines; taken = a.state.taken }) (all_same e lines)
+
 pub done-idle : (e : Edge) (lines : List SourceLine) → done e lines ≡ idle (lines_done e lines)
 done-idle e lines =
     let s = all_stands e lines in
-    same_edge (done e lines) (lines_done e lines) (sym (lines_done-output e lines)) s.place s.memory (sym (lines_done-source e lines)) s.taken
+    done_same e lines ∙ same_edge (machine.done e lines) (lines_done e lines) (sym (lines_done-output e lines)) s.place s.memory (sym (lines_done-source e lines)) s.taken
 
 lines_done-to_come : (e : Edge) (lines : List SourceLine) → e.to_come ≡ None → (lines_done e lines).to_come ≡ None
 unfolding lines_done

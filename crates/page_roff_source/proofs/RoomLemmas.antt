@@ -4,15 +4,15 @@ use Rattle.page_roff_blocks.specs.LineParts.{line_parts}
 use Rattle.page_roff_syntax.specs.RegionHeads.{is_ending}
 use Rattle.page_roff_blocks.specs.Levels.{Levels, at_line}
 use Rattle.page_roff_syntax.specs.OpenRegions.{Opened}
-use Rattle.page_roff_blocks.specs.Run.{Meaning, At, run_lines}
+use Rattle.page_roff_blocks.specs.machine.Run.{Meaning, At, run_lines}
 use Rattle.page_roff_blocks.specs.machine.Steps.{begin_line, step_inside, step_from, step, step_lines}
 use Rattle.page_roff_blocks.proofs.FoldLemmas.{run_is_steps}
 use Rattle.page_roff_blocks.proofs.RoomLemmas.{line_parts_room, step_room}
 use Rattle.page_roff_values.specs.Values.{units_of}
-use Rattle.page_roff_blocks.specs.Languages.{page, meaning_at, run_page}
+use Rattle.page_roff_blocks.specs.machine.Languages.{page, meaning_at, run_page}
 use Rattle.page_core_base.specs.declared.limits.TheConstants.{CALLS}
-use Rattle.page_roff_blocks.specs.Budgets.{language}
-use Rattle.page_roff_effects.specs.Effects.{effects}
+use Rattle.page_roff_blocks.specs.machine.Budgets.{language}
+use Rattle.page_roff_effects.specs.machine.Effects.{effects}
 use Rattle.page_roff_source.specs.Edges.{Edge, SourceLine}
 use Rattle.page_roff_source.specs.machine.Taking.{before_line, run_line, line_done}
 

@@ -7,8 +7,8 @@ use Rattle.page_core_base.specs.declared.page_settings.Output.{Output}
 use Rattle.page_roff_values.specs.machine.Texts.{MeasureAlike}
 use Rattle.page_roff_values.specs.Values.{units_of}
 use Rattle.page_roff_values.specs.machine.Views.{units_of_bytes}
-use Rattle.page_roff_blocks.specs.Budgets.{language}
-use Rattle.page_roff_blocks.specs.Languages.{run_page}
+use Rattle.page_roff_blocks.specs.machine.Budgets.{language}
+use Rattle.page_roff_blocks.specs.machine.Languages.{run_page}
 use Rattle.page_roff_effects.specs.machine.Acting.{acting_effects}
 use Rattle.page_roff_effects.specs.States.{Given, says, takes}
 use Rattle.page_roff_machine.specs.Giving.{next_line, after_line}

@@ -1,6 +1,7 @@
 pub mod Caps
 pub mod Edges
 pub mod Fuses
+pub mod Runs
 pub mod Given
 pub mod Each
 pub mod Parts

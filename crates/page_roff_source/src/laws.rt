@@ -4,6 +4,7 @@ ghost use Rattle.std.specs.Prelude.{◌≡◌, ◌≤◌, ◌+◌, ◌*◌, List
 ghost use Rattle.page_core_base.specs.declared.limits.TheConstants.{EXPAND, REREAD};
 ghost use Rattle.page_roff_source.specs.Edges.{Edge, SourceLine, line_count};
 ghost use Rattle.page_roff_source.specs.Given.{given, done};
+ghost use Rattle.page_roff_source.specs.machine.Given as machine;
 ghost use Rattle.page_roff_source.specs.machine.LineByLine.{lines_given, lines_done};
 ghost use Rattle.page_roff_source.specs.Each.{EachIsWithin};
 
@@ -43,4 +44,10 @@ pub fn count_law()
 pub fn room_law()
     ensures { (e : Edge) (line : SourceLine) → (done e (line ∷ [])).place.levels.skipped
         ≤ e.place.levels.skipped + (2 * length line.text + 2) }
+{}
+
+/// What the machine's own text of a run gives, by what the parts of a source do, is what the definitions say.
+pub fn machine_law()
+    ensures given { (e : Edge) (lines : List SourceLine) → given e lines ≡ machine.given e lines }
+    ensures edge { (e : Edge) (lines : List SourceLine) → done e lines ≡ machine.done e lines }
 {}

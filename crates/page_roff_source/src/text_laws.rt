@@ -1,11 +1,11 @@
 //! The law of texts.
 
 ghost use Rattle.std.specs.Prelude.{◌≡◌, ℕ, List};
-ghost use Rattle.page_roff_blocks.specs.Run.{At};
-ghost use Rattle.page_roff_effects.specs.Effects.{effects};
+ghost use Rattle.page_roff_blocks.specs.machine.Run.{At};
+ghost use Rattle.page_roff_effects.specs.machine.Effects.{effects};
 ghost use Rattle.page_roff_effects.specs.States.{State};
-ghost use Rattle.page_roff_blocks.specs.Budgets.{Budgeted, language};
-ghost use Rattle.page_roff_blocks.specs.Languages.{run_page};
+ghost use Rattle.page_roff_blocks.specs.machine.Budgets.{Budgeted, language};
+ghost use Rattle.page_roff_blocks.specs.machine.Languages.{run_page};
 ghost use Rattle.page_roff_values.specs.machine.Texts.{MeasureAlike};
 ghost use Rattle.page_roff_source.specs.machine.Texts.{AreLines, HoldsTexts, AreGiven};
 

@@ -6,7 +6,7 @@ use Rattle.page_core_base.specs.declared.limits.TheConstants.{BODY, LINE}
 use Rattle.page_roff_blocks.specs.Levels.{BlockCursor, at_line, outside}
 use Rattle.page_roff_syntax.specs.OpenRegions.{Opened}
 use Rattle.page_roff_blocks.specs.machine.LinePlaces.{line_end}
-use Rattle.page_roff_blocks.specs.Languages.{Kind, page, body, inner, TURNS}
+use Rattle.page_roff_blocks.specs.machine.Languages.{Kind, page, body, inner, TURNS}
 use Rattle.page_roff_blocks.specs.machine.Machine.{Frame, Turning, entered, looped}
 use Rattle.page_roff_blocks.specs.machine.Measures.{weight, work_in}
 use Rattle.page_roff_values.specs.Arguments.{arguments_in, lines_in}

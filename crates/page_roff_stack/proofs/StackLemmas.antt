@@ -2,16 +2,15 @@
 use Rattle.std.proofs.Common.{◌≡◌, ℕ, zero, suc, ◌-◌, ◌<◌, Bool, true, false, List, [], ◌∷◌, length, Option, Some, None, refl, ◌∙◌, arith}
 use Rattle.page_roff_blocks.specs.declared.line_parts.LinePart.{LinePart}
 use Rattle.page_roff_syntax.specs.OpenRegions.{Opened}
-use Rattle.page_roff_blocks.specs.Run.{Meaning}
-use Rattle.page_roff_blocks.specs.Languages.{arguments_of, Kind, page, body, inner, Language, meaning_at}
+use Rattle.page_roff_blocks.specs.machine.Run.{Meaning}
+use Rattle.page_roff_blocks.specs.machine.Languages.{Language, meaning_at}
 use Rattle.page_roff_blocks.specs.machine.Machine as machine
-use Rattle.page_roff_blocks.specs.machine.Machine.{Frame, Turning, depth, looped}
+use Rattle.page_roff_blocks.specs.machine.Machine.{Frame, Turning, depth}
 use Rattle.page_roff_blocks.specs.declared.block_cursors.Pass.TheVariants as passes
 use Rattle.page_roff_stack.specs.declared.movements.Movement.{Movement}
 use Rattle.page_roff_stack.specs.declared.movements.Movement.TheVariants as moves
-use Rattle.page_roff_stack.specs.machine.Changes.{is_page, begins_next, ends_with, MayGo}
-use Rattle.page_roff_stack.specs.machine.Stacks.{Stack, running, has_begun, turn_left, turn_in, turn_or_end, next_around, next_in, next_of, is_part, is_line, may_end, is_nothing, AreStacked, Suits, end_of, turn_if, step_in, step_of}
-use Rattle.page_roff_stack.specs.machine.Views.{unpacked}
+use Rattle.page_roff_stack.specs.machine.Changes.{begins_next, ends_with, MayGo}
+use Rattle.page_roff_stack.specs.machine.Stacks.{Stack, running, has_begun, turn_left, turn_in, turn_or_end, next_around, next_in, next_of, is_part, is_line, is_nothing, Suits, end_of, turn_if, step_in, step_of}
 
 turn_step : {S : Type 0} (l : Language S) (t : Turning) (n : ℕ) (b : Bool) (f g : Frame) (gs : List Frame) (s : S) → f.turning ≡ Some t → t.left ≡ suc n
     → Some (machine.turn_if l b f.kind t n g gs s) ≡ turn_if b f (g ∷ gs) s
@@ -63,14 +62,6 @@ around_part turning region (f ∷ fs) e = end_part (turn_in turning) e
     end_part None e = cc
     end_part (Some condition) e = cc
 
-around_line : (turning : Option Turning) (region : Option Opened) (under : List Frame) → is_line (next_around turning region under) ≡ true → ⊥
-around_line turning region [] e = cc
-around_line turning region (f ∷ fs) e = end_line (turn_in turning) e
-  where
-    end_line : (turn : Option (List ℕ)) → is_line (turn_or_end turn region (has_begun turning)) ≡ true → ⊥
-    end_line None e = cc
-    end_line (Some condition) e = cc
-
 -- a part comes next: it is the first of those that are left
 pub part_there : (turning : Option Turning) (region : Option Opened) (parts : List (LinePart (List ℕ))) (lines : List (List ℕ)) (under : List Frame)
     → let next = next_in turning region parts lines under in
@@ -81,19 +72,6 @@ part_there turning None [] (line ∷ more) under e = cc
 part_there turning None [] [] under e = absurd (around_part turning None under e)
 part_there turning (Some o) parts (line ∷ more) under e = cc
 part_there turning (Some o) parts [] under e = absurd (around_part turning (Some o) under e)
-
--- nothing is left of the innermost source, and another is around it
-around_end : (turning : Option Turning) (region : Option Opened) (under : List Frame) → may_end (next_around turning region under) ≡ true → 0 < length under
-around_end turning region [] e = cc
-around_end turning region (f ∷ fs) e = omega arith
-
-pub end_there : (turning : Option Turning) (region : Option Opened) (parts : List (LinePart (List ℕ))) (lines : List (List ℕ)) (under : List Frame)
-    → may_end (next_in turning region parts lines under) ≡ true → 0 < length under
-end_there turning None (part ∷ more) lines under e = cc
-end_there turning None [] (line ∷ more) under e = cc
-end_there turning None [] [] under e = around_end turning None under e
-end_there turning (Some o) parts (line ∷ more) under e = cc
-end_there turning (Some o) parts [] under e = around_end turning (Some o) under e
 
 not_nothing : (turn : Option (List ℕ)) (region : Option Opened) (begun : Bool) → false ≡ is_nothing (turn_or_end turn region begun)
 not_nothing None region begun = refl
@@ -134,10 +112,6 @@ pub end_around : (turning : Option Turning) (turn : Option (List ℕ)) (region :
 end_around turning turn region [] h e = absurd (omega arith)
 end_around turning turn region (f ∷ fs) h e = rw e refl
 
--- all macros and loops are on the page
-pub page_alone : (kind : Kind) (under : List Frame) → under ≡ [] → AreStacked kind under → is_page kind ≡ true
-page_alone kind under e h = rw e at h
-
 -- whether a line begins next does not depend on the sources around
 not_line : (turn : Option (List ℕ)) (region : Option Opened) (begun : Bool) → false ≡ is_line (turn_or_end turn region begun)
 not_line None region begun = refl
@@ -165,10 +139,3 @@ may_go moves.Line s h = line_next s.top.turning s.top.region s.top.parts s.top.l
 may_go moves.RegionLine s h = tt
 may_go moves.RegionEnd s h = tt
 may_go moves.Turn s h = tt
-
--- the arguments of a loop are those of the source in which it is
-pub looped_in : (kind : Kind) (packed : Option (List ℕ)) (condition : List ℕ) (lines : List (List ℕ)) → unpacked packed ≡ arguments_of kind
-    → looped (body (unpacked packed)) condition lines ≡ looped kind condition lines
-unfolding looped inner
-looped_in page packed condition lines e = rw e refl
-looped_in (body args) packed condition lines e = rw e refl

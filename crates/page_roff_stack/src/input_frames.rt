@@ -1,7 +1,7 @@
 //! A source that is being run: a line of the page, or the body of a macro or of a loop.
 
 ghost use Rattle.std.specs.Prelude.{◌≡◌, ℕ, List, [], ◌∷◌, ◌+◌, ◌≤◌, ◌<◌, ◌^◌, ◌++◌, true, length, take, drop, IfSome, None};
-ghost use Rattle.std.specs.Vec.{vec_len, vec_capacity};
+ghost use Rattle.std.specs.Vec.{vec_capacity};
 ghost use Rattle.page_core_base.specs.Texts.{IsLine};
 ghost use Rattle.page_core_base.specs.declared.limits.TheConstants.{ARGS, BODY, LINE};
 ghost use Rattle.page_roff_blocks.specs.declared.line_parts.LinePart.TheVariants.{Leaf};
@@ -11,7 +11,7 @@ ghost use Rattle.page_roff_blocks.specs.machine.LinePlaces.{opens_block};
 ghost use Rattle.page_roff_blocks.specs.Levels.{passed};
 ghost use Rattle.page_roff_syntax.specs.OpenRegions.{opened_view};
 ghost use Rattle.page_roff_syntax.specs.RegionHeads.{text_view};
-ghost use Rattle.page_roff_blocks.specs.Languages.{arguments_of, page, body};
+ghost use Rattle.page_roff_blocks.specs.machine.Languages.{arguments_of, page, body};
 ghost use Rattle.page_roff_blocks.specs.machine.Machine.{entered, looped};
 ghost use Rattle.page_roff_values.specs.Arguments.{arguments_in, lines_in};
 ghost use Rattle.page_roff_stack.specs.machine.Changes.{first_frame, page_at, page_line, page_passed, past, first_region, in_region, next_line, in_turn, first_line_parts, is_page, begins_line, is_over, went, HasPart, IfEnters, MayGo};

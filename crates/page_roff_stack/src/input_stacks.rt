@@ -11,7 +11,7 @@ ghost use Rattle.page_roff_blocks.specs.Caps.{PlaceFits};
 ghost use Rattle.page_roff_blocks.specs.Levels.{reached};
 ghost use Rattle.page_roff_syntax.specs.OpenRegions.{opened_view};
 ghost use Rattle.page_roff_syntax.specs.RegionHeads.{text_view};
-ghost use Rattle.page_roff_blocks.specs.Languages.{arguments_of, is_some};
+ghost use Rattle.page_roff_blocks.specs.machine.Languages.{arguments_of, is_some};
 ghost use Rattle.page_roff_blocks.specs.machine.Machine.{depth};
 ghost use Rattle.page_roff_stack.specs.machine.Changes.{page_line, page_passed, is_page, went};
 ghost use Rattle.page_roff_stack.specs.machine.Stacks.{first_stack, stack_at, standing_of, with_top, call_of, loop_of, next_around, next_of, part_in, opens_block, is_line, may_end, is_nothing, Suits};

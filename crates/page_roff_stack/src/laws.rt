@@ -1,7 +1,7 @@
 //! Laws of the input stack.
 
 ghost use Rattle.std.specs.Prelude.{◌≡◌};
-ghost use Rattle.page_roff_blocks.specs.Languages.{Language};
+ghost use Rattle.page_roff_blocks.specs.machine.Languages.{Language};
 ghost use Rattle.page_roff_blocks.specs.machine.Machine.{next};
 ghost use Rattle.page_roff_stack.specs.machine.Stacks.{Stack, running, next_of, step_of};
 

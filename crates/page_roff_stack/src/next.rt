@@ -1,7 +1,5 @@
 //! What comes next in the sources that run.
 
-ghost use Rattle.std.specs.Prelude.{◌≡◌};
-
 use page_roff_blocks::LinePart;
 
 /// What comes next in the sources that run; `W` is a text, and `R` an open region.

@@ -28,20 +28,6 @@ bare_at : (x : ℕ) (xs : List ℕ) → is_blank x ≡ false → (x == 92) ≡ f
 bare_at x [] p t = rw p refl
 bare_at x (y ∷ ys) p t = rw (p, t) refl
 
-pub bare_byte : (text : List ℕ) (i : ℕ) → i < length text → is_blank (get_or text i 0) ≡ false → get_or text i 0 ≢ 92
-    → bare_len (drop i text) ≡ 1 + bare_len (drop (i + 1) text)
-bare_byte text i h p e =
-    let a = drop_more text i 0 h in
-    let t : (get_or text i 0 == 92) ≡ false = grind (arith, nat_tests) in
-    rw a (bare_at (get_or text i 0) (drop (i + 1) text) p t)
-
-pub bare_last : (text : List ℕ) (i : ℕ) → i < length text → length text ≤ i + 1 → is_blank (get_or text i 0) ≡ false
-    → bare_len (drop i text) ≡ 1 + bare_len (drop (i + 1) text)
-bare_last text i h k p =
-    let a = drop_more text i 0 h in
-    let b = drop_all (i + 1) text k in
-    rw (a, b, p) refl
-
 -- a byte that is neither a blank nor a backslash
 abbrev pub is_unescaped : ℕ → Bool
 is_unescaped byte = not (byte == 32) && not (byte == 92)

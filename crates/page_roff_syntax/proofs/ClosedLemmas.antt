@@ -4,7 +4,7 @@ use Rattle.std.specs.Int.{bit_at}
 use Rattle.std.specs.List.{starts_with}
 use Rattle.std.specs.Str.{continuation_len}
 use Rattle.std.specs.Cmp.Lexicographic.{same_text}
-use Rattle.std.proofs.lemmas.Bool.{cases_Bool, eqb-true, le-leb, ltb-true, ltb-false}
+use Rattle.std.proofs.lemmas.Bool.{cases_Bool, eqb-true, ltb-true, ltb-false}
 use Rattle.std.proofs.lemmas.Bool.Decides.{nat_tests}
 use Rattle.std.proofs.lemmas.List.{drop-drop, get_or-drop, get_or-take, get_or-set_same, get_or-set_other}
 use Rattle.std.proofs.lemmas.Nat.Bits.{bit_at_or, bit_at_set_same}
@@ -22,10 +22,6 @@ or_right : (a b : Bool) → b ≡ true → (a || b) ≡ true
 or_right true b h = refl
 or_right false b h = h
 
-or_left : (a b : Bool) → a ≡ true → (a || b) ≡ true
-or_left true b h = refl
-or_left false b h = let no : ⊥ = cc in absurd no
-
 or_more : (a b c : Bool) → (a || b) ≡ true → (b ≡ true → c ≡ true) → (a || c) ≡ true
 or_more true b c h f = refl
 or_more false b c h f = f h
@@ -39,9 +35,6 @@ met_same words code l =
     let here : get_or (with_bit words code) (code / 64) 0 ≡ bit_or n (1 * 2 ^ (code % 64) % 2 ^ 64) = get_or-set_same words (code / 64) (bit_or n (1 * 2 ^ (code % 64) % 2 ^ 64)) 0 l in
     let bit : bit_at (bit_or n (1 * 2 ^ (code % 64) % 2 ^ 64)) (code % 64) ≡ 1 = bit_at_set_same w64 n (code % 64) (omega arith) in
     or_right (nat_le (length (with_bit words code)) (code / 64)) (bit_at (get_or (with_bit words code) (code / 64) 0) (code % 64) == 1) (eq_self (bit_at (get_or (with_bit words code) (code / 64) 0) (code % 64)) (rw here bit))
-
-pub met_far : (words : List ℕ) (code : ℕ) → length words ≤ code / 64 → is_met words code ≡ true
-met_far words code l = or_left (nat_le (length words) (code / 64)) (bit_at (get_or words (code / 64) 0) (code % 64) == 1) (le-leb (length words) (code / 64) l)
 
 -- a bit that is set stays so
 bit_more : (n m k : ℕ) → bit_at n k ≡ 1 → bit_at (bit_or n m) k ≡ 1

@@ -1,5 +1,5 @@
 -- The arguments of a control line. Source: roff(7), "Macro syntax".
-use Rattle.std.specs.Prelude.{◌≡◌, ◌≤◌, ℕ, zero, suc, ◌+◌, Bool, true, false, ◌==◌, ◌&&◌, nat_lt, min, List, [], ◌∷◌, length, take, drop, if◌then◌else◌, Option, MatchOption}
+use Rattle.std.specs.Prelude.{◌≡◌, ◌≤◌, ℕ, zero, suc, ◌+◌, Bool, true, false, ◌==◌, nat_lt, min, List, [], ◌∷◌, length, take, drop, if◌then◌else◌, Option, MatchOption}
 use Rattle.std.specs.List.{prefix_len}
 use Rattle.std.specs.Borrow.{Bor}
 use Rattle.page_core_base.specs.Limits.{NAME}

@@ -1,5 +1,5 @@
 -- The arguments of a macro in their bytes: helpers of proofs.
-use Rattle.std.proofs.Common.{◌≡◌, ℕ, zero, suc, ◌+◌, ◌<◌, ◌≤◌, Bool, true, false, ◌==◌, List, [], ◌∷◌, ◌++◌, length, get_or, take, drop, if◌then◌else◌, refl, ap, ◌∙◌, sym, append_assoc, append-nil, arith, ◌*◌}
+use Rattle.std.proofs.Common.{◌≡◌, ℕ, zero, suc, ◌+◌, ◌<◌, ◌≤◌, Bool, true, false, ◌==◌, List, [], ◌∷◌, ◌++◌, length, get_or, take, drop, if◌then◌else◌, refl, ◌∙◌, sym, append-nil, arith, ◌*◌}
 use Rattle.std.proofs.lemmas.Bool.{eqb-true}
 use Rattle.page_core_base.specs.declared.limits.TheConstants.{ARGS}
 use Rattle.page_roff_values.specs.Arguments.{begin_first, arguments_in, argument_at, spaced, spaced_quoted}
@@ -35,16 +35,6 @@ unfolding arguments_in
 none_in = refl
 
 -- ---- all arguments so far, and one more
-
-pub spaced_more : (text first : List ℕ) (others : List (List ℕ)) (all : List ℕ)
-    → text ++ spaced (first ∷ others) ≡ all → (text ++ (32 ∷ first)) ++ spaced others ≡ all
-spaced_more text first others all e = append_assoc text (32 ∷ first) (spaced others) ∙ e
-
-pub quoted_more : (text first : List ℕ) (others : List (List ℕ)) (all : List ℕ)
-    → text ++ spaced_quoted (first ∷ others) ≡ all → (text ++ (32 ∷ 34 ∷ (first ++ (34 ∷ [])))) ++ spaced_quoted others ≡ all
-quoted_more text first others all e =
-    append_assoc text (32 ∷ 34 ∷ (first ++ (34 ∷ []))) (spaced_quoted others)
-    ∙ (ap (λ l. text ++ (32 ∷ 34 ∷ l)) (append_assoc first (34 ∷ []) (spaced_quoted others)) ∙ e)
 
 -- no more arguments than bytes
 pub arguments_len : (packed : List ℕ) → length (arguments_in packed) ≤ length packed

@@ -1,6 +1,6 @@
 //! Whether a condition holds (roff(7), "Conditional expressions").
 
-ghost use Rattle.std.specs.Prelude.{◌≡◌, false, ◌-◌, ◌≤◌, ◌^◌, take, drop, length};
+ghost use Rattle.std.specs.Prelude.{◌≡◌, false, ◌-◌, ◌≤◌, ◌^◌, take, drop};
 ghost use Rattle.std.specs.Str.{bytes_eq};
 ghost use Rattle.page_roff_values.specs.Answers as asked;
 ghost use Rattle.page_roff_values.specs.Answers.{Gives};

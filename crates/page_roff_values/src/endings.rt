@@ -1,6 +1,6 @@
 //! How much of a text is kept.
 
-ghost use Rattle.std.specs.Prelude.{◌≡◌, ◌≤◌, ◌<◌, length, drop};
+ghost use Rattle.std.specs.Prelude.{◌≡◌, ◌≤◌, ◌<◌, length};
 ghost use Rattle.page_roff_values.specs.Values as laying;
 
 // The last place up to `room` where a character ends.

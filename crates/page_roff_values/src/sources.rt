@@ -1,6 +1,6 @@
 //! The texts that are being read.
 
-ghost use Rattle.std.specs.Prelude.{◌≡◌, ℕ, ◌<◌, ◌≤◌, ◌+◌, ◌^◌, [], ◌∷◌, length, Option, Some, None, MatchOption};
+ghost use Rattle.std.specs.Prelude.{◌≡◌, ℕ, ◌<◌, ◌≤◌, ◌+◌, ◌^◌, [], ◌∷◌, length, Some, None, MatchOption};
 ghost use Rattle.page_roff_values.specs.machine.Rest.{texts_of, size, Reads};
 
 use arrayvec::ArrayVec;

@@ -5,7 +5,7 @@ use Rattle.page_scopes_phrases.specs.Outcomes.{Outcome}
 use Rattle.page_scopes_nodes.specs.Begins.{begun_by, kept_target}
 use Rattle.page_scopes_nodes.specs.Ends.{ended}
 use Rattle.page_scopes_nodes.specs.declared.page_layouts.PageLayout.{PageLayout}
-use Rattle.page_scopes_tree.specs.Frames.{Tables}
+use Rattle.page_scopes_tree.specs.machine.Frames.{Tables}
 use Rattle.page_sets_lines.specs.declared.events.Event.{Event}
 use Rattle.page_scopes.specs.Bodies.{act_name, begun_after, coming, stands}
 use Rattle.page_scopes.specs.declared.layouts.Kept.{Kept}

@@ -56,7 +56,7 @@ fn name_copy(name: &Option<ManualName>) -> Option<ManualName>
 }
 
 impl Kept {
-    // The same.
+    // A copy.
     fn copy(&self) -> Kept
         ensures { result ≡ self.now }
     {
@@ -68,7 +68,7 @@ impl Kept {
 }
 
 impl LayoutState {
-    /// The same state on a page that is laid out so.
+    /// This state on a page of another layout.
     pub fn copy(&self, page: PageLayout) -> LayoutState
         ensures { result ≡ record self.now { page = page } }
     {

@@ -40,7 +40,7 @@ impl OpenScopes {
         })
     }
 
-    /// The same scopes on a page that is laid out so. All memory is reserved here.
+    /// These scopes on a page of another layout. All memory is reserved here.
     pub fn copy(&self, alloc: Global, page: PageLayout) -> Result<OpenScopes, AllocError>
         ensures { IfOk result (λ scopes. scopes ≡ under page self.now) }
     {

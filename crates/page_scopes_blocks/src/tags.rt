@@ -1,7 +1,6 @@
 //! Tags: words in front of a text that hangs (man(7), `IP`, `SY`).
 
 ghost use Rattle.std.specs.Prelude.{◌≡◌};
-ghost use Rattle.page_core_base.specs.Latches.{Came};
 ghost use Rattle.page_sets_lines.specs.Fits.{ArgumentFits, FitsAt};
 ghost use Rattle.page_scopes_phrases.specs.Outcomes.{GivesOutcome, followed_by};
 ghost use Rattle.page_scopes_phrases.specs.Phrases.{phrase_outcome, phrase_view};

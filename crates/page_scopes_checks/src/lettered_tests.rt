@@ -134,7 +134,7 @@ fn given_in(
     out
 }
 
-// The same of a text in the roman font.
+// What a text in the roman font gives.
 fn given_by(alloc: Global, style: TextStyle, times: u32, gap: u32, text: &str) -> Taken {
     given_in(alloc, Font::R, style, times, gap, text)
 }

@@ -131,7 +131,7 @@ impl Context {
         }
     }
 
-    /// The same, but the first row is at the margin (`HP`).
+    /// An indented paragraph whose first row is at the margin begins (`HP`).
     #[inline(always)]
     pub fn hanging_begun(self, columns: Option<i32>) -> Context
         ensures { result ≡ begins.hanging_begun columns self }

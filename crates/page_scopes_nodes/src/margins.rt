@@ -1,6 +1,5 @@
 //! The margins of a context after the end of a row (man(7)).
 
-ghost use Rattle.std.specs.Prelude.{◌≡◌};
 ghost use Rattle.page_core_base.specs.Latches.{Came};
 ghost use Rattle.page_scopes_phrases.specs.Outcomes.{row_margin_items};
 

@@ -8,7 +8,7 @@ use Rattle.page_core_base.specs.Latches.{CameUpTo}
 use Rattle.page_core_base.specs.Pieces.{Item}
 use Rattle.page_core_escapes.specs.Tokens.{begins_white, is_space, is_white, token_at, token_len, tokens_of}
 use Rattle.page_core_escapes.proofs.TokenLemmas.{tokens_more, tokens_none}
-use Rattle.page_scopes_phrases.specs.Cells.{after_tab, before_blanks, before_tab, cell, cells, cells_within, first_part, has_tab, other_cells, other_cells_text, span, span_of, tab_in, white_byte, white_columns, with_more}
+use Rattle.page_scopes_phrases.specs.Cells.{after_tab, before_blanks, before_tab, cell, cells_within, first_part, has_tab, other_cells, other_cells_text, span, span_of, tab_in, white_byte, white_columns, with_more}
 use Rattle.page_sets_lines.specs.Fits.{FitsAt}
 use Rattle.page_scopes_phrases.specs.Outcomes.{GivesOutcome, Outcome, followed_by}
 use Rattle.page_scopes_phrases.specs.declared.cells.CellSpan.{CellSpan}
@@ -163,10 +163,6 @@ pub record CellsLeft {P O : Type 0} (left : P → O → List Item → Type 0) (s
   pub enough : length p.text ≤ room
   pub came : CameUpTo left start all.items (cells_within room line p s).items out
   pub state : all.state ≡ (cells_within room line p s).state
-
-pub all-left : {P O : Type 0} (left : P → O → List Item → Type 0) (line : ℕ) (p : Phrase (List ℕ)) (s : Formatting) (out : O)
-    → CellsLeft left out (cells line p s) line p s out
-all-left left line p s out = record { room = length p.text; enough = omega arith; came = λ plan rest h. h; state = refl }
 
 more-cells : (room line : ℕ) (p : Phrase (List ℕ)) (s : Formatting) → length p.text ≤ room → has_tab p ≡ true
     → (n : ℕ) × (length (other_cells_text (span p) p.text) ≤ n)

@@ -1,7 +1,6 @@
 //! Texts in the columns of a list (mdoc(7), `Bl -column`, `Ta`).
 ghost use Rattle.std.specs.Prelude.{◌≡◌, ◌≤◌, ◌<◌, ◌==◌, if◌then◌else◌, Bool, length, position, IfSome};
 ghost use Rattle.std.specs.List.{prefix_len};
-ghost use Rattle.page_core_base.specs.Latches.{Came};
 ghost use Rattle.page_core_escapes.specs.Tokens.{is_space, token_bytes, token_view};
 ghost use Rattle.page_scopes_phrases.specs.Cells as cells;
 ghost use Rattle.page_sets_lines.specs.Fits.{FitsAt};

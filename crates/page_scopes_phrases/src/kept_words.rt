@@ -3,7 +3,7 @@ ghost use Rattle.std.specs.Prelude.{◌≡◌, ◌≤◌, ◌<◌, ◌+◌, ◌�
 ghost use Rattle.page_core_base.specs.Latches.{Came, CameUpTo};
 ghost use Rattle.page_core_base.specs.Pieces.{shown};
 ghost use Rattle.page_core_base.specs.declared.pieces.Piece.TheVariants.{Blank};
-ghost use Rattle.page_core_escapes.specs.Tokens.{token_at, token_view, tokens_of};
+ghost use Rattle.page_core_escapes.specs.Tokens.{token_view, tokens_of};
 ghost use Rattle.page_core_base.specs.declared.limits.TheConstants.{FIELD};
 ghost use Rattle.page_roff_syntax.specs.Arguments.{argument_view};
 ghost use Rattle.page_scopes_phrases.specs.KeptTexts as kept;

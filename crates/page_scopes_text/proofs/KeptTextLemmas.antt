@@ -15,19 +15,24 @@ use Rattle.page_core_base.specs.declared.pieces.Piece.TheVariants.{Text}
 use Rattle.page_core_base.specs.declared.places.Place.{Place}
 use Rattle.page_core_base.specs.Words.{font_cells, is_kept, is_word, hyphen, later_pieces, part_pieces, letters_of, parts_of, word_letters}
 use Rattle.page_core_base.proofs.WordPartLemmas.{joined, joined-parts, parts-full}
-use Rattle.page_core_escapes.specs.Tokens.{begins_white, is_white, plain, token_len}
+use Rattle.page_core_escapes.specs.Tokens.{begins_white, begins_word, is_white, plain, token_len}
 use Rattle.page_scopes_words.specs.Pens.{body_after, gap_after, white_after, word_after}
 use Rattle.page_scopes_words.specs.Words.{at, has_tab, white_cells}
 use Rattle.page_scopes_words.specs.declared.pens.Pen.{Pen}
 use Rattle.page_scopes_words.specs.declared.pens.TextStyle.{TextStyle}
-use Rattle.page_scopes_text.proofs.PartedLemmas.{all_before, white_token}
-use Rattle.page_scopes_text.proofs.PlainWordLemmas.{plain_begins}
+use Rattle.page_scopes_text.proofs.PartedLemmas.{all_before, no_word, white_token}
 use Rattle.page_scopes_text.proofs.TextLemmas.{after_others_more, after_spaced_word, others_more, spaced_word}
 use Rattle.page_scopes_text.specs.Parted.{spaced_front, words_of}
 use Rattle.page_scopes_text.specs.Texts.{others_after, others_items, place_after, spaced_after, spaced_items}
 use Rattle.page_scopes_text.specs.Words.{printed_items, word_items}
 use Rattle.page_scopes_text.specs.machine.Kept.{AreCells, IsKept, ReadsKept, kept_pen}
 use Rattle.page_scopes_text.specs.machine.Reads.{ReadsPlain}
+
+plain_begins : (quoted : Bool) (text word rest : List ℕ) → ReadsPlain quoted text word rest → begins_word text ≡ true
+plain_begins quoted text word rest r = elim (cases_Bool (begins_word text)) [ inl t ↦ t | inr f ↦ absurd (never (sym (no_word quoted text f) ∙ r.only)) ]
+  where
+    never : [] ≡ plain word ∷ [] → ⊥
+    never e = cc
 
 -- ---- blanks
 

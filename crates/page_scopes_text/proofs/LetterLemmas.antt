@@ -1,12 +1,13 @@
 -- Letters of a word, token by token.
-use Rattle.std.proofs.Common.{◌≡◌, ℕ, ◌+◌, ◌-◌, ◌<◌, ◌≤◌, ◌==◌, ◌&&◌, ◌||◌, nat_lt, Bool, true, false, List, [], ◌∷◌, ◌++◌, length, map, take, drop, refl, ap, ap₂, sym, ◌∙◌, append-nil, append_assoc, length-append, length-drop, inl, inr, arith}
-use Rattle.std.specs.List.{prefix_len}
+use Rattle.std.proofs.Common.{◌≡◌, ℕ, ◌+◌, ◌-◌, ◌<◌, ◌≤◌, ◌==◌, ◌&&◌, ◌||◌, nat_lt, not, Bool, true, false, List, [], ◌∷◌, ◌++◌, length, map, take, drop, refl, ap, ap₂, sym, ◌∙◌, append-nil, append_assoc, length-append, length-drop, inl, inr, arith}
+use Rattle.std.specs.List.{list_all, list_any, prefix_len}
 use Rattle.std.proofs.lemmas.List.{drop_all, length-map, map-append, take_all}
 use Rattle.std.proofs.lemmas.List.Folds.{list_all-append}
 use Rattle.std.proofs.lemmas.Bool.{cases_Bool}
 use Rattle.std.proofs.lemmas.Bool.Decides.{nat_tests}
 use Rattle.page_core_base.specs.Pieces.{Item, shown}
-use Rattle.page_core_base.specs.Words.{is_lettered, is_word, letters_of, parts_after, parts_of, word_letters}
+use Rattle.page_core_base.specs.Words.{hyphen, is_lettered, is_printable, is_printable_ascii, is_word, letters_of, parts_after, parts_of, word_letters}
+use Rattle.page_core_base.proofs.WordPartLemmas.{whole-first}
 use Rattle.page_core_base.specs.declared.cells.Cell.{Cell}
 use Rattle.page_core_base.specs.declared.cells.Font.{Font}
 use Rattle.page_core_base.specs.declared.pieces.Piece.{Piece}
@@ -191,6 +192,28 @@ one_part_of bytes n e k =
     let all : take n bytes ≡ bytes = take_all n bytes (omega (arith, k)) in
     let none : drop n bytes ≡ [] = drop_all n bytes (omega (arith, k)) in
     rw (all, none) at e
+
+all_three : (p q r : Bool) → ((p && not q) && r) ≡ true → (p ≡ true) × (q ≡ false) × (r ≡ true)
+all_three true false r h = (refl, refl, h)
+all_three true true r h = let no : ⊥ = cc in absurd no
+all_three false q r h = let no : ⊥ = cc in absurd no
+
+plain_bytes : (bytes : List ℕ) → list_all (λ b. is_printable b && not (b == hyphen)) bytes ≡ true
+    → (is_printable_ascii bytes ≡ true) × (list_any (λ byte. byte == hyphen) bytes ≡ false)
+plain_bytes [] h = (refl, refl)
+plain_bytes (b ∷ bytes) h =
+    let is = all_three (is_printable b) (b == hyphen) (list_all (λ b. is_printable b && not (b == hyphen)) bytes) h in
+    let more = plain_bytes bytes is.2 in
+    (rw is.0 more.0, rw is.1 more.1)
+
+-- bytes without a hyphen are one part
+pub plain_part : (bytes : List ℕ) → is_word bytes ≡ true → list_all (λ b. is_printable b && not (b == hyphen)) bytes ≡ true
+    → (is_printable_ascii bytes ≡ true) × (parts_of bytes ≡ bytes ∷ [])
+plain_part [] is h = let no : ⊥ = cc in absurd no
+plain_part (b ∷ bytes) is h =
+    let p = plain_bytes (b ∷ bytes) h in
+    let some : (length (b ∷ bytes) == 0) ≡ false = grind (arith, nat_tests) in
+    (p.0, one_part_of (b ∷ bytes) (length (b ∷ bytes)) (whole-first (b ∷ bytes) some p.1) refl)
 
 pub begins_some : (text : List ℕ) → begins_word text ≡ true → 0 < length text
 begins_some [] h = let no : ⊥ = cc in absurd no

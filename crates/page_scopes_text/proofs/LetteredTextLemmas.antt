@@ -1,200 +1,76 @@
 -- Texts that begin with words of letters, after blanks: they give what they would give with one blank at their front, but for the count of the blanks.
-use Rattle.std.proofs.Common.{◌≡◌, ℕ, zero, suc, ◌+◌, ◌-◌, ◌<◌, ◌≤◌, Bool, true, false, not, ◌||◌, List, [], ◌∷◌, ◌++◌, length, map, take, drop, get_or, refl, ap, ap₂, sym, ◌∙◌, append-nil, append_assoc, inl, inr, arith}
-use Rattle.std.specs.Prelude.{◌==◌, nat_lt, if◌then◌else◌}
-use Rattle.std.specs.List.{list_all}
-use Rattle.std.proofs.lemmas.List.Folds.{list_all-append}
-use Rattle.std.proofs.lemmas.List.{length-drop, take_all}
-use Rattle.std.proofs.lemmas.Bool.{cases_lt}
+use Rattle.std.proofs.Common.{◌≡◌, ℕ, suc, ◌+◌, ◌-◌, ◌<◌, Bool, true, false, not, ◌||◌, List, [], ◌∷◌, ◌++◌, length, map, take, drop, refl, ap, ap₂, sym, ◌∙◌, append_assoc, arith}
+use Rattle.std.specs.Prelude.{◌==◌, if◌then◌else◌}
+use Rattle.std.specs.List.{list_all, prefix_len}
+use Rattle.std.proofs.lemmas.List.{get_or_past, take_all}
 use Rattle.std.proofs.lemmas.Bool.Decides.{nat_tests}
 use Rattle.page_core_base.specs.Latches.{Came, CameUpTo}
 use Rattle.page_core_base.specs.Pieces.{Item, shown}
-use Rattle.page_core_base.specs.Words.{blank_words, lettered_cells, lettered_pieces}
+use Rattle.page_core_base.specs.Words.{lettered_cells, lettered_pieces}
 use Rattle.page_core_base.specs.declared.cells.Cell.{Cell}
 use Rattle.page_core_base.specs.declared.cells.Font.{Font}
 use Rattle.page_core_base.specs.declared.cells.Font.TheVariants.{R, I, B, BI}
 use Rattle.page_core_base.specs.declared.pieces.Piece.{Piece}
 use Rattle.page_core_base.specs.declared.pieces.Piece.TheVariants.{Blank}
 use Rattle.page_core_base.specs.declared.places.Place.{Place}
-use Rattle.page_core_escapes.specs.Tokens.{TextToken, begins_word, plain, token_len}
+use Rattle.page_core_escapes.specs.Tokens.{TextToken, begins_word, prints_itself, token_len}
 use Rattle.page_scopes_words.specs.Words.{at}
 use Rattle.page_scopes_words.specs.declared.fonts.Fonts.{Fonts}
 use Rattle.page_scopes_words.specs.declared.settings.Setting.{Setting}
 use Rattle.page_scopes_words.specs.machine.Letters.{GivesLetters, letters_in}
-use Rattle.page_scopes_words.specs.machine.RunEnds.{GoesOn as RunGoesOn, ends_run, ends_run_at}
-use Rattle.page_scopes_text.proofs.LetteredWordLemmas.{run_reads, run_reads_as, white_pen, word_reads}
-use Rattle.page_scopes_text.proofs.PartedLemmas.{no_word, spaced_more}
-use Rattle.page_scopes_text.proofs.PlainWordLemmas.{blank_len}
-use Rattle.page_scopes_text.proofs.RomanRunLemmas.{run_words}
-use Rattle.page_scopes_text.proofs.RunWordLemmas.{run_to_blank, run_to_end}
-use Rattle.page_scopes_text.proofs.TextLemmas.{after_others_more, after_spaced_word, after_text_word, others_more, spaced_word, text_word}
-use Rattle.page_scopes_text.specs.Parted.{Parted, Spaced, spaced_front, words_of}
-use Rattle.page_scopes_text.specs.Texts.{others_after, others_items, spaced_items, text_after, words_items}
+use Rattle.page_scopes_words.specs.machine.RunEnds.{GoesOn as RunGoesOn}
+use Rattle.page_scopes_text.proofs.LetterLemmas.{begins_some}
+use Rattle.page_scopes_text.proofs.LetteredWordLemmas.{reads_after_blank, white_pen}
+use Rattle.page_scopes_text.proofs.PartedLemmas.{blank_len}
+use Rattle.page_scopes_text.proofs.RunWordLemmas.{first_reads, one_word, run_reads}
+use Rattle.page_scopes_text.proofs.TextLemmas.{after_others_more, after_spaced_word, others_more, spaced_word}
+use Rattle.page_scopes_text.specs.Parted.{Spaced, spaced_front, words_of}
+use Rattle.page_scopes_text.specs.Texts.{others_after, others_items, spaced_items}
 use Rattle.page_scopes_text.specs.Words.{body_items, empty_items, gap_items, tokens_items, word_items, word_notes}
 use Rattle.page_scopes_words.specs.Pens.{gap_after, pen_after, pen_through, word_after, word_begun, word_ended}
 use Rattle.page_scopes_words.specs.machine.Pens.{resting}
 use Rattle.page_scopes_words.specs.declared.pens.Pen.{Pen}
 use Rattle.page_scopes_words.specs.declared.pens.TextStyle.{TextStyle}
-use Rattle.page_scopes_text.specs.machine.LetteredTexts.{GivesFront, GoesOn, PrintsFirst, is_in_font}
-use Rattle.page_scopes_text.specs.machine.Letters.{AddsWord, AddsWords, ReadsLetters, inside}
-use Rattle.page_scopes_text.specs.machine.Runs.{BeginsRun, RunOf}
+use Rattle.page_scopes_text.specs.machine.LetteredTexts.{GivesFront, GoesOn, is_in_font}
+use Rattle.page_scopes_text.specs.machine.Letters.{AddsAfterBlank, AddsWords, PrintsFirst, ReadsAfterBlank, inside}
+use Rattle.page_scopes_text.specs.machine.Reads.{first_after, first_items}
 
--- ---- a run at a text's front
+-- ---- words that were read
 
-no_blank : (c d : Bool) → not (c || d) ≡ true → c ≡ false
-no_blank true d k = let no : ⊥ = cc in absurd no
-no_blank false d k = refl
+-- a whole text that is one word in a font, after a blank
+word_whole : (style : TextStyle) (fonts : Setting Fonts) (font : Font) (text : List ℕ) → fonts.value.font ≡ font → style.is_literal ≡ false → begins_word text ≡ true
+    → list_all (λ byte. not (byte == 32)) text ≡ true → RunGoesOn style.is_quoted text 0 (length text)
+    → ReadsAfterBlank style fonts text fonts (drop (length text) text) (letters_in font text)
+word_whole style fonts font text e literal begins one goes =
+    let m = prefix_len (prints_itself style.is_quoted) text in
+    let w = first_reads style.is_quoted fonts text (length text) m refl begins goes (get_or_past text (length text) 32 (omega arith)) in
+    let word = letters_in fonts.value.font (take m text) in
+    let all = take_all (length text) text (omega arith) in
+    let cells : word ≡ letters_in font text = ap (λ (f : Font). letters_in f (take m text)) e ∙ ap (letters_in font) (rw (one_word text m w.0 w.2 one) all) in
+    rw (← cells, ← one_word text m w.0 w.2 one) (reads_after_blank style fonts fonts text (drop m text) word literal begins w.1 w.3 w.4)
 
-first_goes : (quoted : Bool) (b : ℕ) → (b == 32) ≡ false → ends_run quoted 32 b ≡ false
-first_goes true b h = rw h refl
-first_goes false b h = rw h refl
+-- a whole text that is in its font, after a blank
+pub whole_reads : (style : TextStyle) (fonts : Setting Fonts) (font : Font) (text : List ℕ) → fonts.value.font ≡ font → style.is_literal ≡ false → begins_word text ≡ true
+    → is_in_font font text ≡ true → RunGoesOn style.is_quoted text 0 (length text)
+    → ReadsAfterBlank style fonts text fonts (drop (length text) text) (letters_in font text)
+whole_reads style fonts R text e literal begins one goes =
+    rw (take_all (length text) text (omega arith)) at
+    (run_reads style fonts text (length text) literal e begins (begins_some text begins) (omega arith) (get_or_past text (length text) 32 (omega arith)) goes)
+whole_reads style fonts I text e literal begins one goes = word_whole style fonts I text e literal begins one goes
+whole_reads style fonts B text e literal begins one goes = word_whole style fonts B text e literal begins one goes
+whole_reads style fonts BI text e literal begins one goes = word_whole style fonts BI text e literal begins one goes
 
--- the blank before a word ends no run
-goes_before : (quoted : Bool) (b : ℕ) (bs : List ℕ) (n : ℕ) → begins_word (b ∷ bs) ≡ true → RunGoesOn quoted (b ∷ bs) 0 n
-    → (k : ℕ) → 0 ≤ k → k < suc n → ends_run_at quoted (32 ∷ b ∷ bs) k ≡ false
-goes_before quoted b bs n h g zero low high = first_goes quoted b (no_blank (b == 32) (b == 9) h)
-goes_before quoted b bs n h g (suc k) low high = g k (omega arith) (omega (arith, high))
+-- after the one blank
+pub front_adds : (style : TextStyle) (fonts next : Setting Fonts) (text rest : List ℕ) (before after : List Cell) → before ≡ letters_in R (32 ∷ [])
+    → AddsAfterBlank style fonts before text next after rest → AddsWords style fonts [] (32 ∷ text) next after rest
+front_adds style fonts next text rest before after e adds =
+    (record { c = 32; font = R } ∷ adds.0, adds.1 ∙ ap (λ (c : List Cell). c ++ adds.0) e, adds.2.words)
 
-pub front_to_end : (quoted : Bool) (text : List ℕ) (n : ℕ) → begins_word text ≡ true → n ≤ length text → length text ≤ n → RunGoesOn quoted text 0 n
-    → BeginsRun quoted (32 ∷ text) (32 ∷ take n text) (drop n text)
-front_to_end quoted [] n h le ge g = let no : ⊥ = cc in absurd no
-front_to_end quoted (b ∷ bs) n h le ge g = run_to_end quoted (32 ∷ b ∷ bs) (suc n) refl (omega (arith, le)) (omega (arith, ge)) (goes_before quoted b bs n h g)
-
-pub front_to_blank : (quoted : Bool) (text : List ℕ) (n m : ℕ) → begins_word text ≡ true → n < length text → get_or text n 0 ≡ 32 → n ≤ m → RunGoesOn quoted text 0 m
-    → BeginsRun quoted (32 ∷ text) (32 ∷ take n text) (drop n text)
-front_to_blank quoted [] n m h lt e le g = let no : ⊥ = cc in absurd no
-front_to_blank quoted (b ∷ bs) n m h lt e le g =
-    run_to_blank quoted (32 ∷ b ∷ bs) (suc n) (suc m) refl (omega (arith, lt)) (λ _. e) (omega (arith, le)) (goes_before quoted b bs m h g)
-
--- ---- its first word
-
-first_spaced : List Spaced → Spaced
-first_spaced [] = record { white = []; word = [] }
-first_spaced (part ∷ parts) = part
-
-parted : (quoted : Bool) (text : List ℕ) → begins_word text ≡ true
-    → (words_of quoted (32 ∷ text)).others ≡ record { white = 32 ∷ []; word = (words_of quoted text).word } ∷ (words_of quoted text).others
-parted quoted text h =
-    let one = blank_len quoted text h in
-    ap (λ (t : Parted). t.others) (spaced_more quoted (32 ∷ text) 1 refl (omega arith) (sym one)) ∙ rw one refl
+-- ---- the blank before the text
 
 or_true : (b : Bool) → (b || true) ≡ true
 or_true true = refl
 or_true false = refl
-
-run_first : (quoted : Bool) (text run rest : List ℕ) (words : List (List ℕ)) → begins_word text ≡ true → RunOf quoted (32 ∷ text) (32 ∷ run) rest words
-    → (word : List ℕ) × ((words_of quoted text).word ≡ plain word ∷ [])
-unfolding blank_words first_spaced
-run_first quoted text run rest [] h r = let no : ⊥ = never run r.bytes in absurd no
-  where
-    never : (run : List ℕ) → 32 ∷ run ≡ [] → ⊥
-    never run e = cc
-run_first quoted text run rest (word ∷ words) h r =
-    (word, ap (λ (parts : List Spaced). (first_spaced parts).word) (sym (parted quoted text h) ∙ r.others))
-
-pub run_prints : (quoted : Bool) (fonts : Setting Fonts) (text run rest : List ℕ) → begins_word text ≡ true → BeginsRun quoted (32 ∷ text) (32 ∷ run) rest
-    → PrintsFirst quoted fonts text
-run_prints quoted fonts text run rest h begins =
-    let first = run_first quoted text run rest begins.0 h begins.1 in
-    (λ column. rw first.1 refl, λ place. rw first.1 refl)
-
-some_cells : (n : ℕ) → 0 < n → nat_lt 0 n ≡ true
-some_cells n h = grind (arith, nat_tests, h)
-
-pub word_prints : (quoted : Bool) (fonts next : Setting Fonts) (text rest : List ℕ) (cells : List Cell) → 0 < length cells → begins_word rest ≡ false
-    → ReadsLetters quoted fonts text next rest cells → PrintsFirst quoted fonts text
-word_prints quoted fonts next text rest cells some ends r = (
-  λ column. ap (λ (p : Pen). p.has_cell) (r.pens column (column + length text - length rest) (omega (arith, r.less)))
-      ∙ rw (no_word quoted rest ends) (some_cells (length cells) some),
-  λ place. r.notes place ∙ rw (no_word quoted rest ends) refl,
-)
-
--- ---- words that were read
-
--- a run after a blank
-pub front_adds : (style : TextStyle) (fonts : Setting Fonts) (text run rest : List ℕ) (before after : List Cell) → style.is_literal ≡ false → fonts.value.font ≡ R
-    → length run + length rest ≡ length text → BeginsRun style.is_quoted (32 ∷ text) (32 ∷ run) rest
-    → before ≡ letters_in R (32 ∷ []) → after ≡ before ++ letters_in R run → AddsWords style fonts [] (32 ∷ text) fonts after rest
-front_adds style fonts text run rest before after literal roman size begins e k = (
-  letters_in R (32 ∷ run),
-  rw (k, e) refl,
-  run_reads style fonts (32 ∷ text) (32 ∷ run) rest literal roman (omega (arith, size)) begins,
-)
-
--- a whole text after a blank
-roman_adds : (style : TextStyle) (fonts : Setting Fonts) (text : List ℕ) → style.is_literal ≡ false → fonts.value.font ≡ R
-    → begins_word text ≡ true → RunGoesOn style.is_quoted text 0 (length text)
-    → PrintsFirst style.is_quoted fonts text × AddsWords style fonts [] (32 ∷ text) fonts (letters_in R (32 ∷ text)) (drop (length text) text)
-roman_adds style fonts text literal roman begins goes =
-    let all = take_all (length text) text (omega arith) in
-    let run = rw all at (front_to_end style.is_quoted text (length text) begins (omega arith) (omega arith) goes) in
-    let size : length text + length (drop (length text) text) ≡ length text = omega (arith, length-drop (length text) text) in (
-      run_prints style.is_quoted fonts text text (drop (length text) text) begins run,
-      front_adds style fonts text text (drop (length text) text) (letters_in R (32 ∷ [])) (letters_in R (32 ∷ text)) literal roman size run refl refl,
-    )
-
--- a text that is one word is the only word of a run
-one_word : (text : List ℕ) (words : List (List ℕ)) → list_all (λ byte. not (byte == 32)) text ≡ true → 32 ∷ text ≡ blank_words words → words ≡ text ∷ []
-unfolding blank_words
-one_word text [] all e = let no : ⊥ = cc in absurd no
-one_word text (word ∷ []) all e = ap (λ (bytes : List ℕ). bytes ∷ []) (sym (ap (drop 1) e ∙ append-nil word))
-one_word text (word ∷ more ∷ words) all e =
-    let both = list_all-append (λ byte. not (byte == 32)) word (32 ∷ (more ++ blank_words words)) in
-    let same : text ≡ word ++ 32 ∷ (more ++ blank_words words) = ap (drop 1) e in
-    let none : list_all (λ byte. not (byte == 32)) (word ++ 32 ∷ (more ++ blank_words words)) ≡ true = rw same at all in
-    absurd (grind (arith, both, none))
-
--- its letters in a font
-word_cells : (font : Font) (place : Place) (text : List ℕ) → lettered_cells (run_words font place (text ∷ [])) ≡ record { c = 32; font = R } ∷ letters_in font text
-unfolding lettered_cells
-word_cells font place text =
-    ap (λ (cells : List Cell). record { c = 32; font = R } ∷ cells) (append-nil (letters_in font text ++ []) ∙ append-nil (letters_in font text))
-
--- a whole text that is one word, after a blank
-font_adds : (style : TextStyle) (fonts : Setting Fonts) (font : Font) (text : List ℕ) → fonts.value.font ≡ font → style.is_literal ≡ false → begins_word text ≡ true
-    → list_all (λ byte. not (byte == 32)) text ≡ true → RunGoesOn style.is_quoted text 0 (length text)
-    → PrintsFirst style.is_quoted fonts text
-    × AddsWords style fonts [] (32 ∷ text) fonts (record { c = 32; font = R } ∷ letters_in font text) (drop (length text) text)
-font_adds style fonts font text e literal begins one goes =
-    let all = take_all (length text) text (omega arith) in
-    let run : BeginsRun style.is_quoted (32 ∷ text) (32 ∷ text) (drop (length text) text) =
-    rw all at (front_to_end style.is_quoted text (length text) begins (omega arith) (omega arith) goes) in
-    let size : length (32 ∷ text) + length (drop (length text) text) ≡ length (32 ∷ text) = omega (arith, length-drop (length text) text) in
-    let only = one_word text run.0 one run.1.bytes in
-    let cells : List Cell = record { c = 32; font = R } ∷ letters_in font text in
-    let same = ap (λ (f : Font). record { c = 32; font = R } ∷ letters_in f text) e in (
-      run_prints style.is_quoted fonts text text (drop (length text) text) begins run,
-      (
-        cells,
-        refl,
-        run_reads_as style fonts (32 ∷ text) (32 ∷ text) (drop (length text) text) cells literal size run
-            (λ place. ap (λ (words : List (List ℕ)). lettered_cells (run_words fonts.value.font place words)) only ∙ word_cells fonts.value.font place text ∙ same),
-      ),
-    )
-
--- a whole text that is in its font, after a blank
-pub whole_adds : (style : TextStyle) (fonts : Setting Fonts) (font : Font) (text : List ℕ) → fonts.value.font ≡ font → style.is_literal ≡ false → begins_word text ≡ true
-    → is_in_font font text ≡ true → RunGoesOn style.is_quoted text 0 (length text)
-    → PrintsFirst style.is_quoted fonts text
-    × AddsWords style fonts [] (32 ∷ text) fonts (record { c = 32; font = R } ∷ letters_in font text) (drop (length text) text)
-whole_adds style fonts R text e literal begins one goes = roman_adds style fonts text literal e begins goes
-whole_adds style fonts I text e literal begins one goes = font_adds style fonts I text e literal begins one goes
-whole_adds style fonts B text e literal begins one goes = font_adds style fonts B text e literal begins one goes
-whole_adds style fonts BI text e literal begins one goes = font_adds style fonts BI text e literal begins one goes
-
--- a word after a blank
-pub first_adds : (style : TextStyle) (fonts next : Setting Fonts) (text rest : List ℕ) (before after : List Cell) → style.is_literal ≡ false
-    → begins_word text ≡ true → begins_word rest ≡ false → before ≡ letters_in R (32 ∷ []) → AddsWord style.is_quoted fonts before text next after rest
-    → (length after ≡ 1 → ⊥) → PrintsFirst style.is_quoted fonts text × AddsWords style fonts [] (32 ∷ text) next after rest
-first_adds style fonts next text rest before after literal begins ends e adds more =
-    let cells = adds.0 in
-    let all : after ≡ record { c = 32; font = R } ∷ cells = adds.1 ∙ ap (λ (c : List Cell). c ++ cells) e in
-    let size : length after ≡ suc (length cells) = ap (λ (c : List Cell). length c) all in
-    let has : 0 < length cells = elim (cases_lt 0 (length cells)) [ inl has ↦ has | inr none ↦ absurd (more (omega (arith, size, none))) ] in (
-      word_prints style.is_quoted fonts next text rest cells has ends adds.2,
-      (record { c = 32; font = R } ∷ cells, all, word_reads style fonts text next rest cells literal begins ends has adds.2),
-    )
-
--- ---- the blank before the text
 
 -- what a word prints does not depend on what was before it
 tokens_same : (quoted : Bool) (place : Place) (pen : Pen) (n : ℕ) (a b : Bool) (word : List TextToken)
@@ -265,7 +141,7 @@ here_rests style pen word h has =
 
 -- a text gives what it gives with a blank at its front, but for the count of blanks
 text_same : (style : TextStyle) (line last : ℕ) (pen : Pen) (text : List ℕ) → GoesOn style pen → begins_word text ≡ true → PrintsFirst style.is_quoted pen.fonts text
-    → words_items style line last pen (words_of style.is_quoted text)
+    → first_items style line last false pen (words_of style.is_quoted text)
     ≡ shown (Blank pen.gap false) ∷ drop 1 (others_items style line last (resting pen.fonts (pen.column - 1)) (words_of style.is_quoted (32 ∷ text)).others)
 text_same style line last pen text h begins prints =
     let quoted = style.is_quoted in
@@ -278,10 +154,9 @@ text_same style line last pen text h begins prints =
     let there = there_gives style line last pen.fonts c text h.filled begins (rw back quiet) in
     let others = (words_of quoted text).others in
     let left : (words_of quoted (drop (token_len quoted (32 ∷ text)) (32 ∷ text))).others ≡ others = ap (λ (n : ℕ). (words_of quoted (drop n (32 ∷ text))).others) one in
-    let here : words_items style line last pen (words_of quoted text)
+    let here : first_items style line last false pen (words_of quoted text)
     ≡ shown (Blank pen.gap false) ∷ (prints_word quoted (at line pen.column) pen.fonts pen.column word ++ others_items style line last (word_after style (white_pen style pen.fonts c) word) others) =
-    text_word style line last pen text begins
-    ∙ ap₂ (λ (i : List Item) (p : Pen). i ++ others_items style line last p others) (here_gives style line pen word h quiet) (here_rests style pen word h (prints.0 pen.column)) in
+    ap₂ (λ (i : List Item) (p : Pen). i ++ others_items style line last p others) (here_gives style line pen word h quiet) (here_rests style pen word h (prints.0 pen.column)) in
     let other : others_items style line last (resting pen.fonts c) (words_of quoted (32 ∷ text)).others
     ≡ shown (Blank 1 false) ∷ (prints_word quoted (at line pen.column) pen.fonts pen.column word ++ others_items style line last (word_after style (white_pen style pen.fonts c) word) others) =
     others_more style line last (resting pen.fonts c) (32 ∷ text) refl
@@ -291,7 +166,7 @@ text_same style line last pen text h begins prints =
     here ∙ sym (ap (λ (items : List Item). shown (Blank pen.gap false) ∷ drop 1 items) other)
 
 after_same : (style : TextStyle) (pen : Pen) (text : List ℕ) → GoesOn style pen → begins_word text ≡ true → PrintsFirst style.is_quoted pen.fonts text
-    → text_after style pen (words_of style.is_quoted text) ≡ others_after style (resting pen.fonts (pen.column - 1)) (words_of style.is_quoted (32 ∷ text)).others
+    → first_after style pen (words_of style.is_quoted text) ≡ others_after style (resting pen.fonts (pen.column - 1)) (words_of style.is_quoted (32 ∷ text)).others
 after_same style pen text h begins prints =
     let c = pen.column - 1 in
     let one = blank_len style.is_quoted text begins in
@@ -300,8 +175,8 @@ after_same style pen text h begins prints =
     let word = (words_of quoted text).word in
     let others = (words_of quoted text).others in
     let left : (words_of quoted (drop (token_len quoted (32 ∷ text)) (32 ∷ text))).others ≡ others = ap (λ (n : ℕ). (words_of quoted (drop n (32 ∷ text))).others) one in
-    let here : text_after style pen (words_of quoted text) ≡ others_after style (word_after style (white_pen style pen.fonts c) word) others =
-    after_text_word style pen text begins ∙ ap (λ (p : Pen). others_after style p others) (here_rests style pen word h (prints.0 pen.column)) in
+    let here : first_after style pen (words_of quoted text) ≡ others_after style (word_after style (white_pen style pen.fonts c) word) others =
+    ap (λ (p : Pen). others_after style p others) (here_rests style pen word h (prints.0 pen.column)) in
     let other : others_after style (resting pen.fonts c) (words_of quoted (32 ∷ text)).others ≡ others_after style (word_after style (white_pen style pen.fonts c) word) others =
     after_others_more style (resting pen.fonts c) (32 ∷ text) refl
     ∙ ap₂ (λ (p : Pen) (o : List Spaced). others_after style p o) rests left in
@@ -318,7 +193,7 @@ counted_blanks blanks (word ∷ words) items more some e = ap (λ (all : List It
 
 pub front_came : {P S : Type 0} (left : P → S → List Item → Type 0) (style : TextStyle) (line last : ℕ) (pen : Pen) (fonts : Setting Fonts) (text rest : List ℕ)
     (s t u : S) → GoesOn style pen → begins_word text ≡ true → Came left s [] t → GivesFront style pen text fonts rest (Came left) t u
-    → CameUpTo left s (words_items style line last pen (words_of style.is_quoted text))
+    → CameUpTo left s (first_items style line last false pen (words_of style.is_quoted text))
     (others_items style line last (resting fonts (pen.column + (length text - length rest))) (words_of style.is_quoted rest).others) u
 front_came left style line last pen fonts text rest s t u h begins none front = λ plan more k.
     let after = pen.column + (length text - length rest) in
@@ -331,7 +206,7 @@ front_came left style line last pen fonts text rest s t u h begins none front = 
 pub front_pen : {S : Type 0} (gave : S → List Item → S → Type 0) (style : TextStyle) (pen : Pen) (fonts : Setting Fonts) (text rest : List ℕ) (s t : S)
     → GoesOn style pen → begins_word text ≡ true → GivesFront style pen text fonts rest gave s t
     → others_after style (resting fonts (pen.column + (length text - length rest))) (words_of style.is_quoted rest).others
-    ≡ text_after style pen (words_of style.is_quoted text)
+    ≡ first_after style pen (words_of style.is_quoted text)
 front_pen gave style pen fonts text rest s t h begins front =
     let after = pen.column + (length text - length rest) in
     let e : after + length rest ≡ pen.column - 1 + suc (length text) = omega (arith, front.less, h.column) in

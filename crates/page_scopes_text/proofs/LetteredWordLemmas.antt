@@ -5,31 +5,25 @@ use Rattle.std.proofs.lemmas.Bool.{cases_lt}
 use Rattle.std.proofs.lemmas.List.{map-append}
 use Rattle.std.proofs.lemmas.List.Folds.{list_all-append}
 use Rattle.std.proofs.lemmas.Bool.Decides.{nat_tests}
-use Rattle.page_core_base.specs.Latches.{Came, CameUpTo}
 use Rattle.page_core_base.specs.Pieces.{Item, shown}
-use Rattle.page_core_base.specs.Words.{blank_words, is_lettered_word, lettered_cells, lettered_pieces, word_items as run_word_items, word_letters}
+use Rattle.page_core_base.specs.Words.{is_lettered_word, lettered_cells, lettered_pieces, word_letters}
 use Rattle.page_core_base.specs.declared.cells.Cell.{Cell}
 use Rattle.page_core_base.specs.declared.cells.Font.TheVariants.{R}
 use Rattle.page_core_base.specs.declared.pieces.Piece.{Piece}
 use Rattle.page_core_base.specs.declared.pieces.Piece.TheVariants.{Blank}
-use Rattle.page_core_base.specs.declared.places.Place.{Place}
 use Rattle.page_core_escapes.specs.Tokens.{TextToken, begins_word, token_len}
 use Rattle.page_scopes_words.specs.Words.{at}
 use Rattle.page_scopes_words.specs.declared.settings.Setting.{Setting}
 use Rattle.page_scopes_words.specs.declared.fonts.Fonts.{Fonts}
-use Rattle.page_scopes_text.proofs.PartedLemmas.{no_word}
-use Rattle.page_scopes_text.proofs.PlainWordLemmas.{blank_len}
-use Rattle.page_scopes_text.proofs.RomanRunLemmas.{run_lettered, run_pieces, run_words, words_cells}
-use Rattle.page_scopes_text.proofs.RunLemmas.{run_after, run_items}
+use Rattle.page_scopes_text.proofs.PartedLemmas.{blank_len, no_word}
 use Rattle.page_scopes_text.proofs.TextLemmas.{after_others_more, after_spaced_word, others_more, spaced_word}
 use Rattle.page_scopes_text.specs.Parted.{Spaced, spaced_front, words_of}
 use Rattle.page_scopes_text.specs.Texts.{others_after, others_items, place_after, spaced_after, spaced_items, white_items}
 use Rattle.page_scopes_words.specs.Pens.{gap_after, pen_through, white_after, word_after, word_begun, word_ended}
 use Rattle.page_scopes_words.specs.machine.Pens.{resting}
 use Rattle.page_scopes_text.specs.Words.{body_items, empty_items, gap_items, tokens_items, word_items, word_notes}
-use Rattle.page_scopes_words.specs.machine.Letters.{GivesLetters, letters_in}
-use Rattle.page_scopes_text.specs.machine.Letters.{AddsWord, AddsWords, Grows, ReadsLetters, ReadsWords, inside}
-use Rattle.page_scopes_text.specs.machine.Runs.{BeginsRun}
+use Rattle.page_scopes_words.specs.machine.Letters.{letters_in}
+use Rattle.page_scopes_text.specs.machine.Letters.{AddsAfterBlank, AddsWord, AddsWords, Grows, PrintsFirst, ReadsAfterBlank, ReadsLetters, ReadsWords, inside}
 use Rattle.page_scopes_words.specs.declared.pens.Pen.{Pen}
 use Rattle.page_scopes_words.specs.declared.pens.TextStyle.{TextStyle}
 
@@ -116,42 +110,33 @@ word_reads style fonts tail next rest cells literal begins ends some r =
           ∙ ap (others_after style (resting next after)) left);
     }
 
--- ---- a run of roman words
+-- ---- words after a blank
 
--- a run whose words are these cells
-pub run_reads_as : (style : TextStyle) (fonts : Setting Fonts) (text run rest : List ℕ) (cells : List Cell) → style.is_literal ≡ false
-    → length run + length rest ≡ length text → (begins : BeginsRun style.is_quoted text run rest)
-    → ((place : Place) → lettered_cells (run_words fonts.value.font place begins.0) ≡ cells) → ReadsWords style fonts text fonts rest cells
-run_reads_as style fonts text run rest cells literal size begins are =
-    let font = fonts.value.font in
-    let words = begins.0 in
-    let r = begins.1 in
-    let others = (words_of style.is_quoted rest).others in
-    let len : length (blank_words words) ≡ length run = ap (λ (bytes : List ℕ). length bytes) (sym r.bytes) in
-    record {
-      less = omega (arith, size);
-      ends = r.ends;
-      gives = λ line last column after e.
-          let place = at line column in
-          let columns : column + length (blank_words words) ≡ after = omega (arith, e, size, len) in
-          let items : run_word_items font place words ≡ map shown (lettered_pieces 1 (run_words font place words)) = run_pieces font place words r.are in (
-            run_words font place words,
-            run_lettered font place words r.are,
-            are place,
-            ap (others_items style line last (resting fonts column)) r.others ∙ run_items style line last fonts column words others literal
-                ∙ ap₂ (λ (i : List Item) (n : ℕ). i ++ others_items style line last (resting fonts n) others) items columns,
-          );
-      pens = λ column after e.
-          let columns : column + length (blank_words words) ≡ after = omega (arith, e, size, len) in
-          sym (ap (others_after style (resting fonts column)) r.others ∙ run_after style fonts column words others
-          ∙ ap (λ (n : ℕ). others_after style (resting fonts n) others) columns);
-    }
+some_cells : (n : ℕ) → 0 < n → nat_lt 0 n ≡ true
+some_cells n h = grind (arith, nat_tests, h)
 
-pub run_reads : (style : TextStyle) (fonts : Setting Fonts) (text run rest : List ℕ) → style.is_literal ≡ false → fonts.value.font ≡ R
-    → length run + length rest ≡ length text → BeginsRun style.is_quoted text run rest → ReadsWords style fonts text fonts rest (letters_in R run)
-run_reads style fonts text run rest literal roman size begins =
-    run_reads_as style fonts text run rest (letters_in R run) literal size begins
-    (λ place. ap (λ f. lettered_cells (run_words f place begins.0)) roman ∙ sym (words_cells place begins.0) ∙ ap (letters_in R) (sym begins.1.bytes))
+word_prints : (quoted : Bool) (fonts next : Setting Fonts) (text rest : List ℕ) (cells : List Cell) → 0 < length cells → begins_word rest ≡ false
+    → ReadsLetters quoted fonts text next rest cells → PrintsFirst quoted fonts text
+word_prints quoted fonts next text rest cells some ends r = (
+  λ column. ap (λ (p : Pen). p.has_cell) (r.pens column (column + length text - length rest) (omega (arith, r.less)))
+      ∙ rw (no_word quoted rest ends) (some_cells (length cells) some),
+  λ place. r.notes place ∙ rw (no_word quoted rest ends) refl,
+)
+
+pub reads_after_blank : (style : TextStyle) (fonts next : Setting Fonts) (text rest : List ℕ) (cells : List Cell) → style.is_literal ≡ false → begins_word text ≡ true
+    → begins_word rest ≡ false → 0 < length cells → ReadsLetters style.is_quoted fonts text next rest cells → ReadsAfterBlank style fonts text next rest cells
+reads_after_blank style fonts next text rest cells literal begins ends some r = record {
+  prints = word_prints style.is_quoted fonts next text rest cells some ends r;
+  some = some;
+  words = word_reads style fonts text next rest cells literal begins ends some r;
+}
+
+pub word_adds : (style : TextStyle) (fonts next : Setting Fonts) (text rest : List ℕ) (before after : List Cell) → style.is_literal ≡ false → begins_word text ≡ true
+    → begins_word rest ≡ false → AddsWord style.is_quoted fonts before text next after rest → (length after ≡ length before → ⊥) → AddsAfterBlank style fonts before text next after rest
+word_adds style fonts next text rest before after literal begins ends adds more =
+    let size : length after ≡ length before + length adds.0 = ap (λ (c : List Cell). length c) adds.1 ∙ length-append before adds.0 in
+    let has : 0 < length adds.0 = elim (cases_lt 0 (length adds.0)) [ inl has ↦ has | inr none ↦ absurd (more (omega (arith, size, none))) ] in
+    (adds.0, adds.1, reads_after_blank style fonts next text rest adds.0 literal begins ends has adds.2)
 
 -- ---- words, one after another
 
@@ -177,7 +162,7 @@ no_cells : lettered_cells [] ≡ []
 unfolding lettered_cells
 no_cells = refl
 
-words_none : (style : TextStyle) (fonts : Setting Fonts) (text : List ℕ) → begins_word text ≡ false → ReadsWords style fonts text fonts text []
+pub words_none : (style : TextStyle) (fonts : Setting Fonts) (text : List ℕ) → begins_word text ≡ false → ReadsWords style fonts text fonts text []
 words_none style fonts text ends = record {
   less = omega arith;
   ends = ends;
@@ -185,7 +170,7 @@ words_none style fonts text ends = record {
   pens = λ column after e. let same : after ≡ column = omega (arith, e) in rw same refl;
 }
 
-words_join : (style : TextStyle) (fonts : Setting Fonts) (text : List ℕ) (mid : Setting Fonts) (middle : List ℕ) (next : Setting Fonts) (rest : List ℕ) (a b : List Cell)
+pub words_join : (style : TextStyle) (fonts : Setting Fonts) (text : List ℕ) (mid : Setting Fonts) (middle : List ℕ) (next : Setting Fonts) (rest : List ℕ) (a b : List Cell)
     → ReadsWords style fonts text mid middle a → ReadsWords style mid middle next rest b → ReadsWords style fonts text next rest (a ++ b)
 words_join style fonts text mid middle next rest a b r s = record {
   less = omega (arith, r.less, s.less);
@@ -222,63 +207,19 @@ adds_join style fonts mid next before between after text middle rest x y = (
   words_join style fonts text mid middle next rest x.0 y.0 x.2 y.2,
 )
 
--- ---- words that were read, and are taken
-
-pub lettered_came : {P S : Type 0} (left : P → S → List Item → Type 0) (style : TextStyle) (line last : ℕ) (pen next : Pen) (fonts : Setting Fonts) (text rest : List ℕ) (cells : List Cell)
-    (s t : S) → pen ≡ resting pen.fonts pen.column → next ≡ record pen { fonts = fonts; column = pen.column + (length text - length rest) }
-    → AddsWords style pen.fonts [] text fonts cells rest → GivesLetters 1 cells true (Came left) s t
-    → CameUpTo left s (others_items style line last pen (words_of style.is_quoted text).others) (others_items style line last next (words_of style.is_quoted rest).others) t
-lettered_came left style line last pen next fonts text rest cells s t rests is adds gives = λ plan more h.
-    let after = pen.column + (length text - length rest) in
-    let r = adds.2 in
-    let e : after + length rest ≡ pen.column + length text = omega (arith, r.less) in
-    let g = r.gives line last pen.column after e in
-    let there : next ≡ resting fonts after = is ∙ ap (λ (p : Pen). record p { fonts = fonts; column = after }) rests in
-    let here : others_items style line last pen (words_of style.is_quoted text).others
-    ≡ map shown (lettered_pieces 1 g.0) ++ others_items style line last next (words_of style.is_quoted rest).others =
-    ap (λ (p : Pen). others_items style line last p (words_of style.is_quoted text).others) rests ∙ g.3
-    ∙ ap (λ (p : Pen). map shown (lettered_pieces 1 g.0) ++ others_items style line last p (words_of style.is_quoted rest).others) (sym there) in
-    gives g.0 g.1 (adds.1 ∙ sym g.2) plan _ (rw (here, append_assoc) at h)
-
-pub lettered_pen : (style : TextStyle) (pen next : Pen) (fonts : Setting Fonts) (text rest : List ℕ) (cells : List Cell)
-    → pen ≡ resting pen.fonts pen.column → next ≡ record pen { fonts = fonts; column = pen.column + (length text - length rest) }
-    → AddsWords style pen.fonts [] text fonts cells rest
-    → others_after style next (words_of style.is_quoted rest).others ≡ others_after style pen (words_of style.is_quoted text).others
-lettered_pen style pen next fonts text rest cells rests is adds =
-    let after = pen.column + (length text - length rest) in
-    let r = adds.2 in
-    let e : after + length rest ≡ pen.column + length text = omega (arith, r.less) in
-    let there : next ≡ resting fonts after = is ∙ ap (λ (p : Pen). record p { fonts = fonts; column = after }) rests in
-    ap (λ (p : Pen). others_after style p (words_of style.is_quoted rest).others) there ∙ r.pens pen.column after e
-    ∙ ap (λ (p : Pen). others_after style p (words_of style.is_quoted text).others) (sym rests)
-
--- where they are not taken nothing came
-pub lettered_left : {P S : Type 0} (left : P → S → List Item → Type 0) (style : TextStyle) (pen : Pen) (fonts : Setting Fonts) (text rest : List ℕ) (cells : List Cell)
-    (s t : S) (items : List Item) → AddsWords style pen.fonts [] text fonts cells rest → GivesLetters 1 cells false (Came left) s t → CameUpTo left s items items t
-lettered_left left style pen fonts text rest cells s t items adds gives = λ plan more h.
-    let r = adds.2 in
-    let after = pen.column + (length text - length rest) in
-    let g = r.gives 0 0 pen.column after (omega (arith, r.less)) in
-    gives g.0 g.1 (adds.1 ∙ sym g.2) plan _ h
-
 -- ---- one blank and a word, from a text's front
 
 blank_text : (text : List ℕ) → 0 < length text → get_or text 0 0 ≡ 32 → text ≡ 32 ∷ drop 1 text
 blank_text [] some e = absurd (omega (arith, some))
 blank_text (b ∷ bs) some e = ap (λ (x : ℕ). x ∷ bs) e
 
-pub blank_adds : (style : TextStyle) (fonts next : Setting Fonts) (text rest : List ℕ) (before between after : List Cell) → style.is_literal ≡ false
-    → 0 < length text → get_or text 0 0 ≡ 32 → begins_word (drop 1 text) ≡ true → begins_word rest ≡ false → between ≡ before ++ letters_in R (32 ∷ [])
-    → AddsWord style.is_quoted fonts between (drop 1 text) next after rest → (length after ≡ length before + 1 → ⊥) → AddsWords style fonts before text next after rest
-blank_adds style fonts next text rest before between after literal some blank begins ends e adds more =
-    let cells = adds.0 in
-    let all : after ≡ before ++ (record { c = 32; font = R } ∷ cells) =
-    adds.1 ∙ ap (λ (c : List Cell). c ++ cells) e ∙ append_assoc before (record { c = 32; font = R } ∷ []) cells in
-    let size : length after ≡ length before + suc (length cells) = ap (λ (c : List Cell). length c) all ∙ length-append before (record { c = 32; font = R } ∷ cells) in
-    let has : 0 < length cells = elim (cases_lt 0 (length cells)) [ inl has ↦ has | inr none ↦ absurd (more (omega (arith, size, none))) ] in (
+pub blank_adds : (style : TextStyle) (fonts next : Setting Fonts) (text rest : List ℕ) (before between after : List Cell) → 0 < length text → get_or text 0 0 ≡ 32
+    → between ≡ before ++ letters_in R (32 ∷ []) → AddsAfterBlank style fonts between (drop 1 text) next after rest → AddsWords style fonts before text next after rest
+blank_adds style fonts next text rest before between after some blank e adds =
+    let cells = adds.0 in (
       record { c = 32; font = R } ∷ cells,
-      all,
-      rw (blank_text text some blank) (word_reads style fonts (drop 1 text) next rest cells literal begins ends has adds.2),
+      adds.1 ∙ ap (λ (c : List Cell). c ++ cells) e ∙ append_assoc before (record { c = 32; font = R } ∷ []) cells,
+      rw (blank_text text some blank) adds.2.words,
     )
 
 pub grown_cut : (before after : List Cell) → Grows before after → take (length before) after ≡ before

@@ -1,9 +1,6 @@
 pub mod PartedLemmas
 pub mod TextLemmas
 pub mod LastWordLemmas
-pub mod PlainWordLemmas
-pub mod RunLemmas
-pub mod RomanRunLemmas
 pub mod RunWordLemmas
 pub mod LetterLemmas
 pub mod LetterTokenLemmas

@@ -202,3 +202,13 @@ reads_front quoted text n e k some ends =
     let len : length (take n text) ≡ n = rw e (length-prefix_len (prints_itself quoted) text) in
     let token : token_at quoted text ≡ plain (take n text) = rw e (plain_token quoted text (omega (arith, len, some, e))) in
     rw len at (reads_plain quoted text (take n text) token some (omega (arith, len, k)) (plain_word quoted text n e some) (rw len ends))
+
+-- ---- one blank
+
+no_white : (text : List ℕ) → begins_word text ≡ true → prefix_len is_white text ≡ 0
+no_white [] h = refl
+no_white (b ∷ bs) h = rw (not_white b bs h) refl
+
+pub blank_len : (quoted : Bool) (text : List ℕ) → begins_word text ≡ true → token_len quoted (32 ∷ text) ≡ 1
+unfolding token_at
+blank_len quoted text h = rw (no_white text h) refl

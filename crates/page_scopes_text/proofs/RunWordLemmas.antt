@@ -1,17 +1,29 @@
--- The words of a text up to a place before which no run of words ends.
-use Rattle.std.proofs.Common.{◌≡◌, ℕ, zero, suc, ◌+◌, ◌-◌, ◌<◌, ◌≤◌, ◌==◌, ◌&&◌, ◌||◌, Bool, true, false, not, cond, eqb-true, List, [], ◌∷◌, ◌++◌, length, take, drop, get_or, refl, sym, ap, ap₂, ◌∙◌, arith}
-use Rattle.std.specs.List.{list_all, prefix_len}
+-- The words of a text up to a place before which no run of words ends: they are letters.
+use Rattle.std.proofs.Common.{◌≡◌, ℕ, zero, suc, ◌+◌, ◌-◌, ◌<◌, ◌≤◌, ◌==◌, ◌&&◌, ◌||◌, Bool, true, false, not, cond, eqb-true, List, [], ◌∷◌, ◌++◌, length, take, drop, get_or, refl, sym, ap, ap₂, ◌∙◌, arith, inl, inr}
+use Rattle.std.specs.List.{list_all, list_any, prefix_len}
+use Rattle.std.proofs.Math.Bool.{or-false}
 use Rattle.std.proofs.Math.Seq.{take-add}
-use Rattle.std.proofs.lemmas.List.{drop-drop, get_or-drop, get_or_default, get_or_past, length-drop, length-take-le}
+use Rattle.std.proofs.lemmas.Bool.{cases_lt}
+use Rattle.std.proofs.lemmas.List.{drop-drop, get_or-drop, length-drop, length-map, length-take-le, map-append}
+use Rattle.std.proofs.lemmas.List.Folds.{list_all_at}
 use Rattle.std.proofs.lemmas.List.Sums.{prefix_len-le-length}
 use Rattle.std.proofs.lemmas.Bool.Decides.{nat_tests}
-use Rattle.page_core_base.specs.Words.{blank_words, hyphen, is_printable}
-use Rattle.page_core_escapes.specs.Tokens.{begins_word, is_white, prints_itself}
-use Rattle.page_scopes_text.proofs.PartedLemmas.{reads_front}
-use Rattle.page_scopes_text.proofs.PlainWordLemmas.{ReadsBlankWord, reads_blank_word}
-use Rattle.page_scopes_text.specs.Parted.{Spaced}
-use Rattle.page_scopes_words.specs.machine.RunEnds.{GoesOn, ends_run}
-use Rattle.page_scopes_text.specs.machine.Runs.{BeginsRun, RunOf, blank_word}
+use Rattle.page_core_base.specs.Words.{hyphen, is_printable}
+use Rattle.page_core_base.specs.declared.cells.Cell.{Cell}
+use Rattle.page_core_base.specs.declared.cells.Font.{Font}
+use Rattle.page_core_base.specs.declared.cells.Font.TheVariants.{R}
+use Rattle.page_core_base.proofs.WordPartLemmas.{whole-first}
+use Rattle.page_core_escapes.specs.Tokens.{TextToken, begins_word, is_white, plain, prints_itself, token_at, token_bytes, token_len}
+use Rattle.page_scopes_words.specs.Fonts.{fonts_after}
+use Rattle.page_scopes_words.specs.declared.fonts.Fonts.{Fonts}
+use Rattle.page_scopes_words.specs.declared.pens.TextStyle.{TextStyle}
+use Rattle.page_scopes_words.specs.declared.settings.Setting.{Setting}
+use Rattle.page_scopes_words.specs.machine.Letters.{letters_in}
+use Rattle.page_scopes_words.specs.machine.RunEnds.{GoesOn, ends_run, ends_run_at}
+use Rattle.page_scopes_text.proofs.LetterLemmas.{letters_more, letters_none, one_part_of, plain_lettered}
+use Rattle.page_scopes_text.proofs.LetteredWordLemmas.{reads_after_blank, word_reads, words_join, words_none}
+use Rattle.page_scopes_text.proofs.PartedLemmas.{plain_token, plain_word}
+use Rattle.page_scopes_text.specs.machine.Letters.{Lettered, ReadsAfterBlank, ReadsLetters, ReadsWords}
 
 -- ---- one byte
 
@@ -80,7 +92,7 @@ goes_after : (quoted : Bool) (x : ℕ) (xs : List ℕ) (n : ℕ) → GoesOn quot
 goes_after quoted x xs n h = λ k low high. h (suc k) (omega arith) (omega (arith, high))
 
 -- no hyphen is among bytes of which none ends a run
-free_word : (quoted : Bool) (text : List ℕ) (n m : ℕ) → m ≤ n → GoesOn quoted text 0 n → list_all (λ b. not (b == hyphen)) (take m text) ≡ true
+free_word : (quoted : Bool) (text : List ℕ) (n m : ℕ) → m ≤ n → GoesOn quoted text 0 n → list_any (λ byte. byte == hyphen) (take m text) ≡ false
 free_word quoted text n zero le h = refl
 free_word quoted [] n (suc m) le h = refl
 free_word quoted (x ∷ xs) zero (suc m) le h = absurd (omega (arith, le))
@@ -109,74 +121,129 @@ word_some text zero e f = let no : true ≡ false = rw e at f in absurd (never n
     never e = cc
 word_some text (suc n) e f = omega arith
 
--- the blank at a text's front, and the word after it
-front_word : (quoted : Bool) (x : ℕ) (xs : List ℕ) (n m : ℕ) → m ≡ prefix_len (prints_itself quoted) xs → begins_word (x ∷ xs) ≡ false → GoesOn quoted (x ∷ xs) 0 (suc n)
-    → get_or xs n 32 ≡ 32 → (x ≡ 32) × (m ≤ n) × ReadsBlankWord quoted (x ∷ xs) (take m xs) (drop m xs) × (list_all (λ b. not (b == hyphen)) (take m xs) ≡ true)
-front_word quoted x xs n m is begins h e =
-    let first = h 0 (omega arith) (omega arith) in
-    let blank = front_blank quoted x (get_or xs 0 32) begins first in
-    let word = word_to quoted xs n (goes_after quoted x xs n h) e in
-    let last : get_or xs m 32 ≡ 32 = rw is word.1 in
-    let le = prefix_len-le-length (prints_itself quoted) xs in
-    let long : length (take m xs) ≡ m = length-take-le m xs (omega (arith, le, is)) in
-    let some = word_some xs m last (after_blank quoted x (get_or xs 0 32) blank first) in
-    let reads = reads_front quoted xs m is (omega (arith, le, is)) (omega (arith, some, long)) (word_ends xs m last) in
-    let within : m ≤ n = omega (arith, word.0, is) in
-    (blank, within, reads_blank_word quoted x xs (take m xs) (drop m xs) blank reads, free_word quoted xs n m within (goes_after quoted x xs n h))
+not_blank : (c d : Bool) → not (c || d) ≡ true → c ≡ false
+not_blank true d k = let no : ⊥ = cc in absurd no
+not_blank false d k = refl
+
+begins_byte : (text : List ℕ) → begins_word text ≡ true → (get_or text 0 32 == 32) ≡ false
+begins_byte [] h = let no : ⊥ = cc in absurd no
+begins_byte (b ∷ bs) h = not_blank (b == 32) (b == 9) h
+
+some_length : (n : ℕ) → 0 < n → (n == 0) ≡ false
+some_length n h = grind (arith, nat_tests, h)
+
+plain_fonts : (fonts : Setting Fonts) (bytes : List ℕ) → fonts_after (plain bytes) fonts ≡ fonts
+plain_fonts fonts bytes = ap (λ (b : Bool). record { value = fonts.value; is_set = b }) (or-false fonts.is_set)
+
+-- the word at a text's front prints itself up to its end, and is letters
+pub first_reads : (quoted : Bool) (fonts : Setting Fonts) (text : List ℕ) (n m : ℕ) → m ≡ prefix_len (prints_itself quoted) text → begins_word text ≡ true → GoesOn quoted text 0 n
+    → get_or text n 32 ≡ 32
+    → (m ≤ n) × (begins_word (drop m text) ≡ false) × (get_or text m 32 ≡ 32) × (0 < length (letters_in fonts.value.font (take m text)))
+    × ReadsLetters quoted fonts text fonts (drop m text) (letters_in fonts.value.font (take m text))
+first_reads quoted fonts text n m is begins goes end =
+    let bytes = take m text in
+    let to = word_to quoted text n goes end in
+    let last : get_or text m 32 ≡ 32 = rw is to.1 in
+    let some = word_some text m last (begins_byte text begins) in
+    let within : m ≤ n = omega (arith, to.0, is) in
+    let le = prefix_len-le-length (prints_itself quoted) text in
+    let fits : m ≤ length text = omega (arith, le, is) in
+    let size : length bytes ≡ m = length-take-le m text fits in
+    let has : 0 < length bytes = omega (arith, size, some) in
+    let token : token_at quoted text ≡ plain bytes = plain_token quoted text (omega (arith, is, some)) ∙ ap (λ (k : ℕ). plain (take k text)) (sym is) in
+    let len : m ≡ token_len quoted text = sym (ap (λ (t : TextToken). length (token_bytes t)) token ∙ size) in
+    let whole = whole-first bytes (some_length (length bytes) has) (free_word quoted text n m within goes) in
+    let lettered : Lettered (token_at quoted text) bytes = rw token (plain_lettered bytes (plain_word quoted text m is has) (one_part_of bytes (length bytes) whole refl)) in
+    let same : fonts_after (token_at quoted text) fonts ≡ fonts = ap (λ (t : TextToken). fonts_after t fonts) token ∙ plain_fonts fonts bytes in
+    let reads = letters_more quoted fonts text fonts text [] bytes m (letters_none quoted fonts text) begins some len fits lettered in
+    let cells : length (letters_in fonts.value.font bytes) ≡ length bytes = length-map bytes (λ (c : ℕ). record { c = c; font = fonts.value.font }) in
+    (within, word_ends text m last, last, omega (arith, has, cells), rw same at reads)
+
+-- a text without a blank is one word
+pub one_word : (text : List ℕ) (m : ℕ) → m ≤ length text → get_or text m 32 ≡ 32 → list_all (λ byte. not (byte == 32)) text ≡ true → m ≡ length text
+one_word text m le last all = elim (cases_lt m (length text)) [
+  | inl lt ↦ absurd (never (sym all ∙ list_all_at (λ byte. not (byte == 32)) text m 32 lt (rw last refl)))
+  | inr ge ↦ omega (arith, le, ge)
+]
+  where
+    never : true ≡ false → ⊥
+    never e = cc
 
 -- ---- words, one after another
 
-no_run : (quoted : Bool) (text : List ℕ) → begins_word text ≡ false → RunOf quoted text [] text []
-unfolding blank_words
-no_run quoted text h = record { are = refl; bytes = refl; others = refl; ends = h }
+-- after a blank that ends no run a word begins
+next_begins : (quoted : Bool) (text : List ℕ) (n : ℕ) → GoesOn quoted text 0 n → get_or text n 32 ≡ 32 → (get_or text 0 32 == 32) ≡ false → begins_word text ≡ true
+next_begins quoted [] n h e f = let no : ⊥ = cc in absurd no
+next_begins quoted (x ∷ xs) zero h e f = absurd (never (sym (rw e refl) ∙ f))
+  where
+    never : true ≡ false → ⊥
+    never e = cc
+next_begins quoted (x ∷ xs) (suc n) h e f =
+    let parts = neither ((x == 9 || (x == 92 || (quoted && x == 34)))) (x == 32 && get_or xs 0 32 == 32) (no_end quoted x (get_or xs 0 32) (h 0 (omega arith) (omega arith))).1 in
+    let tab = neither (x == 9) (x == 92 || (quoted && x == 34)) parts.0 in
+    rw (f, tab.0) refl
 
--- a word before a run
-run_more : (quoted : Bool) (text word mid run rest : List ℕ) (words : List (List ℕ)) → ReadsBlankWord quoted text word mid
-    → list_all (λ b. not (b == hyphen)) word ≡ true → RunOf quoted mid run rest words
-    → RunOf quoted text (32 ∷ (word ++ run)) rest (word ∷ words)
-unfolding blank_words
-run_more quoted text word mid run rest words w free r =
-    record {
-      are = rw (w.is_a_word, free, r.are) refl;
-      bytes = ap (λ (bytes : List ℕ). 32 ∷ (word ++ bytes)) r.bytes;
-      others = w.front ∙ ap (λ (o : List Spaced). blank_word word ∷ o) r.others;
-      ends = r.ends;
-    }
-
-run_same : (quoted : Bool) (text run rest is left : List ℕ) (words : List (List ℕ)) → run ≡ is → rest ≡ left → RunOf quoted text is left words → RunOf quoted text run rest words
-run_same quoted text run rest is left words e f r = rw (e, f) r
+reads_as : (style : TextStyle) (fonts : Setting Fonts) (text rest : List ℕ) (cells : List Cell) (is left : List ℕ) (are : List Cell) → text ≡ is → rest ≡ left → cells ≡ are
+    → ReadsWords style fonts is fonts left are → ReadsWords style fonts text fonts rest cells
+reads_as style fonts text rest cells is left are e f g r = rw (e, f, g) r
 
 goes_beyond : (quoted : Bool) (text : List ℕ) (m n k : ℕ) → m + k ≡ n → GoesOn quoted text 0 n → GoesOn quoted (drop m text) 0 k
 goes_beyond quoted text m n k e h = λ i low high.
     let next : m + suc i ≡ suc (m + i) = omega arith in
     ap₂ (ends_run quoted) (get_or-drop m text i 32) (get_or-drop m text (suc i) 32 ∙ ap (λ (j : ℕ). get_or text j 32) next) ∙ h (m + i) (omega arith) (omega (arith, high, e))
 
--- up to a blank, or the text's end, such a text is a run of words
-pub run_up_to : (most : ℕ) (quoted : Bool) (text : List ℕ) (n : ℕ) → n ≤ most → n ≤ length text → begins_word text ≡ false → (0 < n → get_or text n 32 ≡ 32) → GoesOn quoted text 0 n
-    → BeginsRun quoted text (take n text) (drop n text)
-run_up_to most quoted text zero le short begins e h = ([], no_run quoted text begins)
-run_up_to zero quoted text (suc n) le short begins e h = absurd (omega (arith, le))
-run_up_to (suc most) quoted [] (suc n) le short begins e h = absurd (omega (arith, short))
-run_up_to (suc most) quoted (x ∷ xs) (suc n) le short begins e h =
+-- up to a blank, or the text's end, such a text is words of letters
+run_up_to : (most : ℕ) (style : TextStyle) (fonts : Setting Fonts) (text : List ℕ) (n : ℕ) → style.is_literal ≡ false → fonts.value.font ≡ R → n ≤ most → n ≤ length text
+    → begins_word text ≡ false → (0 < n → get_or text n 32 ≡ 32) → GoesOn style.is_quoted text 0 n → ReadsWords style fonts text fonts (drop n text) (letters_in R (take n text))
+run_up_to most style fonts text zero literal roman le short begins e h = words_none style fonts text begins
+run_up_to zero style fonts text (suc n) literal roman le short begins e h = absurd (omega (arith, le))
+run_up_to (suc most) style fonts [] (suc n) literal roman le short begins e h = absurd (omega (arith, short))
+run_up_to (suc most) style fonts (x ∷ xs) (suc n) literal roman le short begins e h =
+    let quoted = style.is_quoted in
+    let first = h 0 (omega arith) (omega arith) in
+    let blank = front_blank quoted x (get_or xs 0 32) begins first in
+    let goes = goes_after quoted x xs n h in
+    let end : get_or xs n 32 ≡ 32 = e (omega arith) in
+    let next = next_begins quoted xs n goes end (after_blank quoted x (get_or xs 0 32) blank first) in
     let m = prefix_len (prints_itself quoted) xs in
-    let w = front_word quoted x xs n m refl begins h (e (omega arith)) in
+    let w = first_reads quoted fonts xs n m refl next goes end in
     let k = n - m in
-    let sum : m + k ≡ n = omega (arith, w.1) in
-    let last : get_or (drop m xs) k 32 ≡ 32 = get_or-drop m xs k 32 ∙ ap (λ (j : ℕ). get_or xs j 32) sum ∙ e (omega arith) in
-    let more = run_up_to most quoted (drop m xs) k (omega (arith, sum, le)) (omega (arith, length-drop m xs, sum, short)) w.2.ends (λ _. last) (goes_beyond quoted xs m n k sum (goes_after quoted x xs n h)) in
+    let sum : m + k ≡ n = omega (arith, w.0) in
+    let last : get_or (drop m xs) k 32 ≡ 32 = get_or-drop m xs k 32 ∙ ap (λ (j : ℕ). get_or xs j 32) sum ∙ end in
+    let more = run_up_to most style fonts (drop m xs) k literal roman (omega (arith, sum, le)) (omega (arith, length-drop m xs, sum, short)) w.1 (λ _. last) (goes_beyond quoted xs m n k sum goes) in
+    let word = letters_in fonts.value.font (take m xs) in
+    let others = letters_in R (take k (drop m xs)) in
+    let both = words_join style fonts (32 ∷ xs) fonts (drop m xs) fonts (drop k (drop m xs)) (record { c = 32; font = R } ∷ word) others
+    (word_reads style fonts xs fonts (drop m xs) word literal next w.1 w.3 w.4) more in
     let front : take n xs ≡ take m xs ++ take k (drop m xs) = ap (λ (j : ℕ). take j xs) (sym sum) ∙ take-add m k xs in
-    let back : drop n xs ≡ drop k (drop m xs) = ap (λ (j : ℕ). drop j xs) (sym sum) ∙ sym (drop-drop k m xs) in (
-      take m xs ∷ more.0,
-      run_same quoted (x ∷ xs) (x ∷ take n xs) (drop n xs) (32 ∷ (take m xs ++ take k (drop m xs))) (drop k (drop m xs)) (take m xs ∷ more.0)
-          (ap₂ (λ (b : ℕ) (bs : List ℕ). b ∷ bs) w.0 front) back
-          (run_more quoted (x ∷ xs) (take m xs) (drop m xs) (take k (drop m xs)) (drop k (drop m xs)) more.0 w.2 w.3 more.1),
-    )
+    let back : drop n xs ≡ drop k (drop m xs) = ap (λ (j : ℕ). drop j xs) (sym sum) ∙ sym (drop-drop k m xs) in
+    let cells : letters_in R (x ∷ take n xs) ≡ record { c = 32; font = R } ∷ (word ++ others) =
+    ap₂ (λ (b : ℕ) (bs : List ℕ). letters_in R (b ∷ bs)) blank front
+    ∙ ap (λ (l : List Cell). record { c = 32; font = R } ∷ l)
+    (map-append (λ c. record { c = c; font = R }) (take m xs) (take k (drop m xs)) ∙ ap (λ (f : Font). letters_in f (take m xs) ++ others) (sym roman)) in
+    reads_as style fonts (x ∷ xs) (drop n xs) (letters_in R (x ∷ take n xs)) (32 ∷ xs) (drop k (drop m xs)) (record { c = 32; font = R } ∷ (word ++ others))
+    (ap (λ (b : ℕ). b ∷ xs) blank) back cells both
 
-pub run_to_end : (quoted : Bool) (text : List ℕ) (n : ℕ) → begins_word text ≡ false → n ≤ length text → length text ≤ n → GoesOn quoted text 0 n
-    → BeginsRun quoted text (take n text) (drop n text)
-run_to_end quoted text n begins le ge h = run_up_to n quoted text n (omega arith) le begins (λ _. get_or_past text n 32 ge) h
+first_goes : (quoted : Bool) (b : ℕ) → (b == 32) ≡ false → ends_run quoted 32 b ≡ false
+first_goes true b h = rw h refl
+first_goes false b h = rw h refl
 
-pub run_to_blank : (quoted : Bool) (text : List ℕ) (n m : ℕ) → begins_word text ≡ false → n < length text → (0 < n → get_or text n 0 ≡ 32) → n ≤ m → GoesOn quoted text 0 m
-    → BeginsRun quoted text (take n text) (drop n text)
-run_to_blank quoted text n m begins lt e le h =
-    run_up_to n quoted text n (omega arith) (omega (arith, lt)) begins (λ some. get_or_default text n 32 0 lt ∙ e some) (λ k low high. h k low (omega (arith, high, le)))
+-- the blank before a word ends no run
+goes_before : (quoted : Bool) (text : List ℕ) (n : ℕ) → begins_word text ≡ true → GoesOn quoted text 0 n
+    → (k : ℕ) → 0 ≤ k → k < suc n → ends_run_at quoted (32 ∷ text) k ≡ false
+goes_before quoted text n h g zero low high = first_goes quoted (get_or text 0 32) (begins_byte text h)
+goes_before quoted text n h g (suc k) low high = g k (omega arith) (omega (arith, high))
+
+-- the same of a text that begins with a word, after a blank
+pub run_reads : (style : TextStyle) (fonts : Setting Fonts) (text : List ℕ) (n : ℕ) → style.is_literal ≡ false → fonts.value.font ≡ R → begins_word text ≡ true
+    → 0 < n → n ≤ length text → get_or text n 32 ≡ 32 → GoesOn style.is_quoted text 0 n → ReadsAfterBlank style fonts text fonts (drop n text) (letters_in R (take n text))
+run_reads style fonts text n literal roman begins some le end h =
+    let m = prefix_len (prints_itself style.is_quoted) text in
+    let w = first_reads style.is_quoted fonts text n m refl begins h end in
+    let word = reads_after_blank style fonts fonts text (drop m text) (letters_in fonts.value.font (take m text)) literal begins w.1 w.3 w.4 in
+    let cells : length (letters_in R (take n text)) ≡ length (take n text) = length-map (take n text) (λ (c : ℕ). record { c = c; font = R }) in
+    record {
+      prints = word.prints;
+      some = omega (arith, cells, length-take-le n text le, some);
+      words = run_up_to (suc n) style fonts (32 ∷ text) (suc n) literal roman (omega arith) (omega (arith, le)) refl (λ _. end) (goes_before style.is_quoted text n begins h);
+    }

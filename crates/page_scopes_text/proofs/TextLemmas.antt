@@ -1,12 +1,17 @@
 -- A text, part by part.
-use Rattle.std.proofs.Common.{◌≡◌, ℕ, ◌<◌, ◌≤◌, ◌==◌, Bool, true, false, List, [], ◌++◌, length, take, drop, refl, ap, append-nil, arith}
+use Rattle.std.proofs.Common.{◌≡◌, ℕ, ◌<◌, ◌≤◌, ◌==◌, Bool, true, false, List, [], ◌++◌, length, take, drop, refl, ap, sym, ◌∙◌, append-nil, append_assoc, arith}
+use Rattle.std.specs.Prelude.{if◌then◌else◌}
 use Rattle.std.proofs.lemmas.Bool.Decides.{nat_tests}
+use Rattle.page_core_base.specs.Pieces.{Item}
+use Rattle.page_core_base.specs.declared.cells.Font.TheVariants.{R}
 use Rattle.page_core_escapes.specs.Tokens.{begins_white, begins_word, token_len}
 use Rattle.page_scopes_words.specs.Words.{at, has_tab}
 use Rattle.page_scopes_text.proofs.PartedLemmas.{no_word, spaced_more, white_some, word_some, words_more, words_none}
 use Rattle.page_scopes_text.specs.Parted.{Parted, spaced_front, words_of}
-use Rattle.page_scopes_text.specs.Texts.{leading_after, leading_items, others_after, others_items, place_after, spaced_after, spaced_items, text_after, white_items, words_items}
-use Rattle.page_scopes_words.specs.Pens.{white_after, word_after}
+use Rattle.page_scopes_text.specs.Texts.{gap_place, indented_items, is_indented, leading_after, leading_items, others_after, others_items, place_after, spaced_after, spaced_items, text_after, white_items, words_items}
+use Rattle.page_scopes_text.specs.machine.Reads.{first_after, first_items}
+use Rattle.page_scopes_words.specs.Pens.{body_after, has_gap_cells, indented_pen, white_after, word_after}
+use Rattle.page_scopes_words.specs.Tokens.{blank_cells}
 use Rattle.page_scopes_text.specs.Words.{word_items}
 use Rattle.page_scopes_words.specs.declared.pens.Pen.{Pen}
 use Rattle.page_scopes_words.specs.declared.pens.TextStyle.{TextStyle}
@@ -63,6 +68,40 @@ after_others_more style pen text h =
     ap (λ (t : Parted). others_after style pen t.others)
     (spaced_more style.is_quoted text (token_len style.is_quoted text) h (white_some style.is_quoted text h) refl)
 
+-- a word after white space, and those after it
+pub others_spaced : (style : TextStyle) (line last : ℕ) (pen : Pen) (text white rest : List ℕ) (n : ℕ) → begins_white text ≡ true → n ≡ token_len style.is_quoted text
+    → white ≡ take n text → rest ≡ drop n text → begins_word rest ≡ true
+    → others_items style line last pen (words_of style.is_quoted text).others
+    ≡ white_items style (place_after line pen white) white
+    ++ first_items style line last (has_tab white) (white_after style pen white) (words_of style.is_quoted rest)
+others_spaced style line last pen text white rest n b e w r h =
+    let parts = words_of style.is_quoted rest in
+    let pen_white = white_after style pen white in
+    others_more style line last pen text b
+    ∙ rw (spaced_word style line last pen text white rest n e w r h, after_spaced_word style pen text white rest n e w r h, ← e, ← r)
+    (append_assoc (white_items style (place_after line pen white) white) (word_items style line (has_tab white) pen_white parts.word) _)
+
+pub after_others_spaced : (style : TextStyle) (pen : Pen) (text white rest : List ℕ) (n : ℕ) → begins_white text ≡ true → n ≡ token_len style.is_quoted text
+    → white ≡ take n text → rest ≡ drop n text → begins_word rest ≡ true
+    → others_after style pen (words_of style.is_quoted text).others ≡ first_after style (white_after style pen white) (words_of style.is_quoted rest)
+after_others_spaced style pen text white rest n b e w r h =
+    after_others_more style pen text b ∙ rw (after_spaced_word style pen text white rest n e w r h, ← e, ← r) refl
+
+-- white space at a text's end
+pub others_end : (style : TextStyle) (line last : ℕ) (pen : Pen) (text white rest : List ℕ) (n : ℕ) → begins_white text ≡ true → n ≡ token_len style.is_quoted text
+    → white ≡ take n text → rest ≡ drop n text → begins_word rest ≡ false
+    → others_items style line last pen (words_of style.is_quoted text).others
+    ≡ white_items style (at line last) white ++ others_items style line last (white_after style pen white) (words_of style.is_quoted rest).others
+others_end style line last pen text white rest n b e w r h =
+    others_more style line last pen text b
+    ∙ rw (spaced_end style line last pen text white rest n e w r h, after_spaced_end style pen text white rest n e w r h, ← e, ← r) refl
+
+pub after_others_end : (style : TextStyle) (pen : Pen) (text white rest : List ℕ) (n : ℕ) → begins_white text ≡ true → n ≡ token_len style.is_quoted text
+    → white ≡ take n text → rest ≡ drop n text → begins_word rest ≡ false
+    → others_after style pen (words_of style.is_quoted text).others ≡ others_after style (white_after style pen white) (words_of style.is_quoted rest).others
+after_others_end style pen text white rest n b e w r h =
+    after_others_more style pen text b ∙ rw (after_spaced_end style pen text white rest n e w r h, ← e, ← r) refl
+
 pub no_others : (quoted : Bool) (text : List ℕ) → length text ≤ 0 → (words_of quoted text).others ≡ []
 no_others quoted text h = ap (λ (t : Parted). t.others) (words_none quoted text h)
 
@@ -101,3 +140,33 @@ pub after_text_leading : (style : TextStyle) (pen : Pen) (text : List ℕ) → b
     ≡ others_after style (leading_after style pen (spaced_front style.is_quoted text)) (words_of style.is_quoted (drop (token_len style.is_quoted text) text)).others
 after_text_leading style pen text h =
     ap (text_after style pen) (spaced_more style.is_quoted text (token_len style.is_quoted text) h (white_some style.is_quoted text h) refl)
+
+-- white space that ends no row is a text's front like any other, but for the blank before it
+pub text_gap : (style : TextStyle) (line last : ℕ) (pen : Pen) (text : List ℕ) → is_indented style ≡ false → begins_white text ≡ true
+    → words_items style line last pen (words_of style.is_quoted text)
+    ≡ (if has_gap_cells style pen then blank_cells 1 R (gap_place line last pen (spaced_front style.is_quoted text)) else [])
+    ++ others_items style line last pen (words_of style.is_quoted text).others
+text_gap style line last pen text indented h =
+    let part = spaced_front style.is_quoted text in
+    let gap = if has_gap_cells style pen then blank_cells 1 R (gap_place line last pen part) else [] in
+    text_leading style line last pen text h
+    ∙ rw indented (append_assoc gap (spaced_items style line last pen part) _)
+    ∙ ap (λ (items : List Item). gap ++ items) (sym (others_more style line last pen text h))
+
+pub after_text_gap : (style : TextStyle) (pen : Pen) (text : List ℕ) → is_indented style ≡ false → begins_white text ≡ true
+    → text_after style pen (words_of style.is_quoted text) ≡ others_after style pen (words_of style.is_quoted text).others
+after_text_gap style pen text indented h = after_text_leading style pen text h ∙ rw indented (sym (after_others_more style pen text h))
+
+-- white space that ends a row is cells of the first word
+pub text_indented : (style : TextStyle) (line last : ℕ) (pen : Pen) (text : List ℕ) → is_indented style ≡ true → begins_white text ≡ true
+    → words_items style line last pen (words_of style.is_quoted text)
+    ≡ indented_items style.is_quoted line pen (spaced_front style.is_quoted text)
+    ++ others_items style line last (body_after (indented_pen pen (spaced_front style.is_quoted text).white) (spaced_front style.is_quoted text).word)
+    (words_of style.is_quoted (drop (token_len style.is_quoted text) text)).others
+text_indented style line last pen text indented h = text_leading style line last pen text h ∙ rw indented refl
+
+pub after_text_indented : (style : TextStyle) (pen : Pen) (text : List ℕ) → is_indented style ≡ true → begins_white text ≡ true
+    → text_after style pen (words_of style.is_quoted text)
+    ≡ others_after style (body_after (indented_pen pen (spaced_front style.is_quoted text).white) (spaced_front style.is_quoted text).word)
+    (words_of style.is_quoted (drop (token_len style.is_quoted text) text)).others
+after_text_indented style pen text indented h = after_text_leading style pen text h ∙ rw indented refl

@@ -3,5 +3,4 @@ pub mod Parts
 pub mod Reads
 pub mod Letters
 pub mod LetteredTexts
-pub mod Runs
 pub mod Kept

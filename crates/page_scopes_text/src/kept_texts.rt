@@ -2,11 +2,10 @@
 
 ghost use Rattle.std.specs.Prelude.{◌≡◌, ℕ, ◌≤◌, ◌<◌, ◌+◌, ◌^◌, false, true, length, IfSome};
 ghost use Rattle.page_core_base.specs.Latches.{CameUpTo};
-ghost use Rattle.page_core_base.specs.declared.cells.Font.TheVariants.{R};
 ghost use Rattle.page_core_escapes.specs.Tokens.{begins_white, begins_word};
 ghost use Rattle.page_scopes_text.specs.Parted.{words_of};
 ghost use Rattle.page_scopes_text.specs.Texts as texts;
-ghost use Rattle.page_scopes_text.specs.machine.Kept.{ReadsKept};
+ghost use Rattle.page_scopes_text.specs.machine.Kept.{IsKept, ReadsKept};
 ghost use Rattle.page_scopes_text.specs.machine.Reads.{Fits, Within};
 
 use crate::words::read_plain;
@@ -49,11 +48,12 @@ fn read_kept(style: TextStyle, text: &[u8]) -> &[u8]
     rest
 }
 
-// Whether characters at the pen would go on with a word of the row, in the font that the blanks between words have.
-fn goes_on(pen: &Pen) -> bool
-    ensures { result ≡ true → pen.now.fonts.value.font ≡ R }
+// Whether characters at the pen would go on with a word of a row that is kept, in the font that the blanks between words have.
+#[inline(always)]
+fn goes_on(style: TextStyle, pen: &Pen) -> bool
+    ensures { result ≡ true → IsKept style pen.now }
 {
-    pen.has_cell && matches!(pen.fonts.value.font, Font::R)
+    style.is_literal && pen.has_cell && matches!(pen.fonts.value.font, Font::R)
 }
 
 /// Gives the words at a text's front with the blanks before them, in rows that are kept, as long as they print themselves: what is left of the
@@ -66,7 +66,6 @@ pub(crate) fn give_kept_words<'a, O: PieceOut>(
     tries: &mut bool,
     text: &'a [u8],
 ) -> &'a [u8]
-    requires literal { style.is_literal ≡ true }
     requires fits { Fits pen.old text.now }
     requires word { begins_word text.now ≡ false }
     ensures came { (last : ℕ) → CameUpTo O.left out.old
@@ -77,7 +76,7 @@ pub(crate) fn give_kept_words<'a, O: PieceOut>(
     ensures within { Within pen.old text.now pen.new result.now }
     ensures ends { begins_word result.now ≡ false }
 {
-    if !*tries || !goes_on(pen) {
+    if !*tries || !goes_on(style, pen) {
         return text;
     }
     let rest = read_kept(style, text);

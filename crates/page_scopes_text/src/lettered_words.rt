@@ -1,21 +1,20 @@
 //! Words of letters in their fonts, as `\fBword\fR` is: they are read once, and given at once (roff(7), `\f`).
 
-ghost use Rattle.std.specs.Prelude.{◌≡◌, ◌≤◌, ◌<◌, ◌+◌, ◌^◌, ◌==◌, ℕ, List, false, true, [], ◌∷◌, ◌++◌, length, IfSome, MatchOption};
-ghost use Rattle.page_core_base.specs.Latches.{CameUpTo};
-ghost use Rattle.page_core_base.specs.Words.{is_printable_ascii, is_word};
+ghost use Rattle.std.specs.Prelude.{◌≡◌, ◌≤◌, ◌<◌, ◌+◌, ◌^◌, ◌==◌, ◌&&◌, not, ℕ, List, false, true, [], ◌∷◌, ◌++◌, length, take, drop, IfSome, MatchOption};
+ghost use Rattle.std.specs.List.{list_all};
+ghost use Rattle.page_core_base.specs.Words.{hyphen, is_printable, is_printable_ascii, is_word, parts_of};
 ghost use Rattle.page_core_base.specs.declared.cells.Font.TheVariants.{R};
 ghost use Rattle.page_core_escapes.specs.Escapes.{meaning_view};
 ghost use Rattle.page_core_escapes.specs.Tokens.{begins_word, escaped, plain, token_view};
-ghost use Rattle.page_scopes_text.specs.Parted.{words_of};
-ghost use Rattle.page_scopes_text.specs.Texts as texts;
-ghost use Rattle.page_scopes_text.specs.machine.Letters.{AddsWord, AddsWords, Grows, ReadsFont, ReadsToken, TakesToken, is_ascii_at};
+ghost use Rattle.page_scopes_text.specs.machine.Letters.{AddsAfterBlank, AddsWord, AddsWords, Grows, ReadsAfterBlank, ReadsFont, ReadsToken, TakesToken};
 ghost use Rattle.page_scopes_words.specs.machine.Letters.{letters_in};
-ghost use Rattle.page_scopes_text.specs.machine.Reads.{Fits, Within};
+ghost use Rattle.page_scopes_words.specs.machine.RunEnds.{GoesOn};
 
-use crate::runs::run_len;
-use page_core_base::{Font, LINE, PieceOut, first_part_len};
+use page_core_base::{Font, LINE, first_part_len};
 use page_core_escapes::{Escape, Token, begins_word, read_token, short_font};
-use page_scopes_words::{Fonts, Letters, Pen, ROOM, Setting, TextStyle, fonts_after, part_len};
+use page_scopes_words::{
+    Fonts, Letters, ROOM, Setting, TextStyle, blank_before, fonts_after, going_len,
+};
 
 // Whether bytes are printable ASCII.
 #[inline(always)]
@@ -25,6 +24,31 @@ fn are_printable(bytes: &[u8]) -> bool
     bytes.iter().all(|byte| b' ' <= *byte && *byte <= b'~')
 }
 
+// Whether bytes are printable ASCII without a hyphen.
+#[inline(always)]
+fn are_plain(bytes: &[u8]) -> bool
+    ensures { result ≡ list_all (λ b. is_printable b && not (b == hyphen)) bytes.now }
+{
+    bytes
+        .iter()
+        .all(|byte| b' ' <= *byte && *byte <= b'~' && *byte != b'-')
+}
+
+// Whether bytes that print themselves are one part, of printable ASCII. Most have no hyphen.
+#[inline(always)]
+fn is_one_part(bytes: &[u8]) -> bool
+    requires { is_word bytes.now ≡ true }
+    ensures { result ≡ true → (is_printable_ascii bytes.now ≡ true) × (parts_of bytes.now ≡ bytes.now ∷ []) }
+{
+    if are_plain(bytes) {
+        return true;
+    }
+    if !are_printable(bytes) {
+        return false;
+    }
+    first_part_len(bytes) == bytes.len()
+}
+
 // Takes bytes that print themselves, if they are one part of printable ASCII, and there is room: whether it did.
 #[inline(always)]
 fn take_part(letters: &mut Letters, font: Font, bytes: &[u8]) -> bool
@@ -32,7 +56,7 @@ fn take_part(letters: &mut Letters, font: Font, bytes: &[u8]) -> bool
     ensures taken { result ≡ true → TakesToken (plain bytes.now) font letters.old letters.new }
     ensures kept { result ≡ false → letters.new ≡ letters.old }
 {
-    if !are_printable(bytes) || first_part_len(bytes) < bytes.len() {
+    if !is_one_part(bytes) {
         return false;
     }
     letters.add(font, bytes)
@@ -87,23 +111,6 @@ fn take_token(letters: &mut Letters, font: Font, token: &Token<'_>) -> bool
     }
 }
 
-// Reads the token at a text's front as letters, where it is a short part of a word that prints itself: what is left of the text.
-#[inline(always)]
-fn read_part<'a>(
-    quoted: bool,
-    fonts: Setting<Fonts>,
-    letters: &mut Letters,
-    text: &'a [u8],
-) -> Option<&'a [u8]>
-    ensures { MatchOption result (letters.new ≡ letters.old) (λ rest. ReadsToken quoted fonts letters.old text.now fonts letters.new rest.now) }
-{
-    let len = part_len(quoted, text);
-    if len == 0 || !letters.add_front(fonts.value.font, text, len) {
-        return None;
-    }
-    Some(&text[len..])
-}
-
 // Reads the escape at a text's front, where few bytes say that it asks for a font, and goes on with the fonts after it: what is left of the text.
 #[inline(always)]
 fn read_font<'a>(fonts: &mut Setting<Fonts>, text: &'a [u8]) -> Option<&'a [u8]>
@@ -118,25 +125,6 @@ fn read_font<'a>(fonts: &mut Setting<Fonts>, text: &'a [u8]) -> Option<&'a [u8]>
         is_set: true,
     };
     Some(&text[len..])
-}
-
-// Reads the token at a text's front as letters, if it is one of the most frequent ones, and goes on with the fonts after it: what is left of the
-// text.
-#[inline(always)]
-fn read_frequent<'a>(
-    quoted: bool,
-    fonts: &mut Setting<Fonts>,
-    letters: &mut Letters,
-    text: &'a [u8],
-) -> Option<&'a [u8]>
-    requires { begins_word text.now ≡ true }
-    ensures { MatchOption result ((letters.new ≡ letters.old) × (fonts.new ≡ fonts.old))
-        (λ rest. ReadsToken quoted fonts.old letters.old text.now fonts.new letters.new rest.now) }
-{
-    if text[0] == b'\\' {
-        return read_font(fonts, text);
-    }
-    read_part(quoted, *fonts, letters, text)
 }
 
 // Reads the token at a text's front as letters, if it is no more than that, and goes on with the fonts after it: what is left of the text.
@@ -159,7 +147,7 @@ fn read_other<'a>(
     Some(&text[token.len()..])
 }
 
-// The same, where most tokens are one of the most frequent ones.
+// The same, where most escapes ask for a font.
 #[inline(always)]
 fn read_letter_token<'a>(
     quoted: bool,
@@ -171,15 +159,15 @@ fn read_letter_token<'a>(
     ensures { MatchOption result (letters.new ≡ letters.old)
         (λ rest. ReadsToken quoted fonts.old letters.old text.now fonts.new letters.new rest.now) }
 {
-    if let Some(rest) = read_frequent(quoted, fonts, letters, text) {
+    if let Some(rest) = read_font(fonts, text) {
         return Some(rest);
     }
     read_other(quoted, fonts, letters, text)
 }
 
-/// Reads the word at a text's front as letters, and goes on with the fonts after it: what is left of the text.
+// Reads the word at a text's front as letters, and goes on with the fonts after it: what is left of the text.
 #[inline(always)]
-pub(crate) fn read_letters<'a>(
+fn read_letters<'a>(
     quoted: bool,
     fonts: &mut Setting<Fonts>,
     letters: &mut Letters,
@@ -197,7 +185,98 @@ pub(crate) fn read_letters<'a>(
     Some(rest)
 }
 
-// Reads one blank at a text's front, and the word after it as letters.
+// How many bytes at a text's front, at most a number, come before the first at which a run of words ends. No more of the text is looked at.
+#[inline(always)]
+fn going_within(quoted: bool, text: &[u8], most: usize) -> usize
+    ensures within { result ≤ length text.now }
+    ensures most { result ≤ most }
+    ensures goes { GoesOn quoted text.now 0 result }
+{
+    if text.len() <= most {
+        return going_len(quoted, text);
+    }
+    going_len(quoted, &text[..most + 1]).min(most)
+}
+
+// How many bytes at the front of a text that begins with a word, at most a number, are words of printable ASCII, with one blank between two, and without a
+// hyphen.
+#[inline(always)]
+fn run_len(style: TextStyle, text: &[u8], most: usize) -> usize
+    requires literal { style.is_literal ≡ false }
+    requires word { begins_word text.now ≡ true }
+    ensures within { result ≤ length text.now }
+    ensures ascii { is_printable_ascii (take result text.now) ≡ true }
+    ensures run { 0 < result → (fonts : Setting Fonts) → fonts.value.font ≡ R
+        → ReadsAfterBlank style fonts text.now fonts (drop result text.now) (letters_in R (take result text.now)) }
+{
+    let len = going_within(style.is_quoted, text, most);
+    if len == text.len() || text[len] == b' ' {
+        return len;
+    }
+    blank_before(text, len)
+}
+
+// Whether a text that begins with a word may begin with roman words that print themselves: else no look is taken for them.
+#[inline(always)]
+fn may_run(fonts: Setting<Fonts>, text: &[u8]) -> bool
+    requires { begins_word text.now ≡ true }
+    ensures { result ≡ true → fonts.value.font ≡ R }
+{
+    matches!(fonts.value.font, Font::R) && text[0] != b'\\'
+}
+
+// Reads roman words that print themselves at the front of a text that begins with a word, after a blank: what is left of the text.
+#[inline(always)]
+fn read_run<'a>(
+    style: TextStyle,
+    fonts: Setting<Fonts>,
+    letters: &mut Letters,
+    text: &'a [u8],
+) -> Option<&'a [u8]>
+    requires literal { style.is_literal ≡ false }
+    requires word { begins_word text.now ≡ true }
+    ensures less { IfSome result (λ rest. length rest.now ≤ length text.now) }
+    ensures reads { MatchOption result (letters.new ≡ letters.old)
+        (λ rest. AddsAfterBlank style fonts letters.old text.now fonts letters.new rest.now) }
+{
+    if !may_run(fonts, text) {
+        return None;
+    }
+    let (run, rest) = text.split_at(run_len(style, text, ROOM - letters.len()));
+    if run.is_empty() || !letters.add(Font::R, run) {
+        return None;
+    }
+    Some(rest)
+}
+
+/// Reads roman words, or the word, at the front of a text that begins with a word, after a blank, and goes on with the fonts after them: what is left of
+/// the text.
+#[inline(always)]
+pub(crate) fn read_after_blank<'a>(
+    style: TextStyle,
+    fonts: &mut Setting<Fonts>,
+    letters: &mut Letters,
+    text: &'a [u8],
+) -> Option<&'a [u8]>
+    requires literal { style.is_literal ≡ false }
+    requires short { length text.now ≤ LINE }
+    requires word { begins_word text.now ≡ true }
+    ensures grows { Grows letters.old letters.new }
+    ensures less { IfSome result (λ rest. length rest.now ≤ length text.now) }
+    ensures reads { IfSome result (λ rest. AddsAfterBlank style fonts.old letters.old text.now fonts.new letters.new rest.now) }
+{
+    if let Some(rest) = read_run(style, *fonts, letters, text) {
+        return Some(rest);
+    }
+    let start = letters.len();
+    let rest = read_letters(style.is_quoted, fonts, letters, text)?;
+    if letters.len() == start {
+        return None;
+    }
+    Some(rest)
+}
+
+// Reads one blank at a text's front, and roman words or the word after it as letters.
 #[inline(always)]
 fn read_blank_letters<'a>(
     style: TextStyle,
@@ -214,18 +293,14 @@ fn read_blank_letters<'a>(
     if text.is_empty() || text[0] != b' ' || !begins_word(&text[1..]) {
         return None;
     }
-    let start = letters.len();
     if !letters.add(Font::R, b" ") {
         return None;
     }
-    let rest = read_letters(style.is_quoted, fonts, letters, &text[1..])?;
-    if letters.len() == start + 1 {
-        return None;
-    }
+    let rest = read_after_blank(style, fonts, letters, &text[1..])?;
     Some(rest)
 }
 
-// Reads one blank and a word at a text's front as letters, or takes nothing.
+// The same, or takes nothing.
 #[inline(always)]
 fn read_word<'a>(
     style: TextStyle,
@@ -248,58 +323,6 @@ fn read_word<'a>(
     None
 }
 
-// Whether a text may go on with roman words that print themselves: else no look is taken for them.
-#[inline(always)]
-fn may_run(fonts: Setting<Fonts>, text: &[u8]) -> bool
-    ensures { result ≡ true → fonts.value.font ≡ R }
-{
-    matches!(fonts.value.font, Font::R) && text.len() > 1 && text[1] != b'\\'
-}
-
-// Reads roman words that print themselves at a text's front, with one blank before each: what is left of the text.
-#[inline(always)]
-fn read_run<'a>(
-    style: TextStyle,
-    fonts: Setting<Fonts>,
-    letters: &mut Letters,
-    text: &'a [u8],
-) -> Option<&'a [u8]>
-    requires literal { style.is_literal ≡ false }
-    requires short { length text.now ≤ LINE }
-    requires word { begins_word text.now ≡ false }
-    ensures none { MatchOption result (letters.new ≡ letters.old) (λ rest. length rest.now < length text.now) }
-    ensures reads { IfSome result (λ rest. AddsWords style fonts letters.old text.now fonts letters.new rest.now) }
-{
-    if !may_run(fonts, text) {
-        return None;
-    }
-    let (run, rest) = text.split_at(run_len(style.is_quoted, text, ROOM - letters.len()));
-    if run.is_empty() || !letters.add(Font::R, run) {
-        return None;
-    }
-    Some(rest)
-}
-
-// Reads a run of roman words, or one word, and goes on with the fonts after it: what is left of the text.
-#[inline(always)]
-fn read_some<'a>(
-    style: TextStyle,
-    fonts: &mut Setting<Fonts>,
-    letters: &mut Letters,
-    text: &'a [u8],
-) -> Option<&'a [u8]>
-    requires literal { style.is_literal ≡ false }
-    requires short { length text.now ≤ LINE }
-    requires word { begins_word text.now ≡ false }
-    ensures none { MatchOption result ((letters.new ≡ letters.old) × (fonts.new ≡ fonts.old)) (λ rest. length rest.now < length text.now) }
-    ensures reads { IfSome result (λ rest. AddsWords style fonts.old letters.old text.now fonts.new letters.new rest.now) }
-{
-    if let Some(rest) = read_run(style, *fonts, letters, text) {
-        return Some(rest);
-    }
-    read_word(style, fonts, letters, text)
-}
-
 /// Reads words of letters at a text's front, as many as there is room for, and goes on with the fonts after them: what is left of the text.
 #[inline(always)]
 pub(crate) fn read_words<'a>(
@@ -314,55 +337,8 @@ pub(crate) fn read_words<'a>(
     ensures { AddsWords style fonts.old letters.old text.now fonts.new letters.new result.now }
 {
     let mut rest = text;
-    while let Some(after) = read_some(style, fonts, letters, rest) {
+    while let Some(after) = read_word(style, fonts, letters, rest) {
         rest = after;
     }
-    rest
-}
-
-/// Whether there is a byte of ASCII at a place of a text: else no look is taken for words of letters there, since most words of some languages have
-/// none.
-#[inline(always)]
-pub(crate) fn is_ascii_at(text: &[u8], place: usize) -> bool
-    ensures { result ≡ is_ascii_at text.now place }
-{
-    place < text.len() && text[place].is_ascii()
-}
-
-/// Gives the words of letters at a text's front, with one blank before each, in rows that are filled: what is left of the text. Where they are
-/// not taken no more are to be tried.
-pub(crate) fn give_lettered_words<'a, O: PieceOut>(
-    out: &mut O,
-    style: TextStyle,
-    line: u32,
-    pen: &mut Pen,
-    tries: &mut bool,
-    text: &'a [u8],
-) -> &'a [u8]
-    requires fits { Fits pen.old text.now }
-    requires word { begins_word text.now ≡ false }
-    ensures came { (last : ℕ) → CameUpTo O.left out.old
-        (texts.others_items style line last pen.old (words_of style.is_quoted text.now).others)
-        (texts.others_items style line last pen.new (words_of style.is_quoted result.now).others) out.new }
-    ensures pen { texts.others_after style pen.new (words_of style.is_quoted result.now).others
-        ≡ texts.others_after style pen.old (words_of style.is_quoted text.now).others }
-    ensures within { Within pen.old text.now pen.new result.now }
-    ensures ends { begins_word result.now ≡ false }
-{
-    if style.is_literal || !pen.is_resting() || !is_ascii_at(text, 1) {
-        return text;
-    }
-    let mut letters = Letters::new();
-    let mut fonts = pen.fonts;
-    let rest = read_words(style, &mut fonts, &mut letters, text);
-    if rest.len() == text.len() {
-        return text;
-    }
-    *tries = letters.give(out, 1);
-    if !*tries {
-        return text;
-    }
-    pen.fonts = fonts;
-    pen.column += (text.len() - rest.len()) as u32;
     rest
 }

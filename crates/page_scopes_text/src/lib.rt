@@ -13,7 +13,6 @@ mod last_words;
 mod lettered_texts;
 mod lettered_words;
 mod parts;
-mod runs;
 mod texts;
 mod words;
 

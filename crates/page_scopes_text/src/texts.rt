@@ -4,7 +4,7 @@ ghost use Rattle.std.specs.Prelude.{◌≡◌, ℕ, ◌≤◌, ◌<◌, ◌+◌,
 ghost use Rattle.page_core_base.specs.Latches.{Came, CameUpTo};
 ghost use Rattle.page_core_escapes.specs.Tokens.{begins_white, begins_word};
 ghost use Rattle.page_scopes_text.specs.Parted.{spaced_front, words_of};
-ghost use Rattle.page_scopes_text.specs.machine.Reads.{Fits, ReadsSpaced, Within};
+ghost use Rattle.page_scopes_text.specs.machine.Reads.{Fits, ReadsSpaced, Within, first_after, first_items};
 ghost use Rattle.page_scopes_text.specs.Texts as texts;
 ghost use Rattle.page_scopes_words.specs.Pens.{body_after, indented_pen};
 ghost use Rattle.page_scopes_words.specs.Words.{at};
@@ -12,8 +12,6 @@ ghost use Rattle.page_scopes_words.specs.Words.{at};
 use crate::kept_texts::give_kept_words;
 use crate::last_words::Front;
 use crate::lettered_texts::give_lettered_front;
-use crate::lettered_words::give_lettered_words;
-use crate::runs::{give_run, run_len};
 use crate::words::{give_body, give_word, report_word};
 use page_core_base::{Font, LINE, Piece, PieceOut, Place};
 use page_core_escapes::{begins_word, read_token};
@@ -49,7 +47,35 @@ fn give_last_white<O: PieceOut>(
     }
 }
 
-// Gives the white space at a text's front, and the word after it; what is left of the text.
+// Gives the word at a text's front after the pen's blanks, or words of letters there, many at once; what is left of the text.
+#[inline(always)]
+fn give_words<'a, O: PieceOut>(
+    out: &mut O,
+    style: TextStyle,
+    line: u32,
+    has_tab: bool,
+    pen: &mut Pen,
+    text: &'a [u8],
+) -> &'a [u8]
+    requires fits { Fits pen.old text.now }
+    requires word { begins_word text.now ≡ true }
+    ensures came { (last : ℕ) → CameUpTo O.left out.old
+        (first_items style line last has_tab pen.old (words_of style.is_quoted text.now))
+        (texts.others_items style line last pen.new (words_of style.is_quoted result.now).others) out.new }
+    ensures pen { texts.others_after style pen.new (words_of style.is_quoted result.now).others
+        ≡ first_after style pen.old (words_of style.is_quoted text.now) }
+    ensures within { Within pen.old text.now pen.new result.now }
+    ensures ends { begins_word result.now ≡ false }
+{
+    if !has_tab {
+        if let Some(rest) = give_lettered_front(out, style, line, pen, text) {
+            return rest;
+        }
+    }
+    give_word(out, style, line, has_tab, pen, text)
+}
+
+// Gives the white space at a text's front, and the word after it, or words of letters; what is left of the text.
 #[inline(always)]
 fn give_spaced<'a, O: PieceOut>(
     out: &mut O,
@@ -61,108 +87,6 @@ fn give_spaced<'a, O: PieceOut>(
 ) -> &'a [u8]
     requires fits { Fits pen.old text.now }
     requires white { begins_white text.now ≡ true }
-    ensures came { Came O.left out.old
-        (texts.spaced_items style line front.now pen.old (spaced_front style.is_quoted text.now)) out.new }
-    ensures pen { pen.new ≡ texts.spaced_after style pen.old (spaced_front style.is_quoted text.now) }
-    ensures rest { ReadsSpaced style.is_quoted pen.old text.now pen.new result.now }
-{
-    let (white, rest) = text.split_at(read_token(style.is_quoted, text).len());
-    pen.pass_white(style, white);
-    if begins_word(rest) {
-        give_white(out, style, line, pen.column, white);
-        give_word(out, style, line, has_tab(white), pen, rest)
-    } else {
-        give_last_white(out, style, line, front, white);
-        rest
-    }
-}
-
-// Gives the words at a text's front that print themselves, with one blank before each: in rows that are filled they only move the pen's column. Where
-// only a `whole` text of roman words is to be given, it gives none of another. What is left of the text.
-#[inline(always)]
-fn give_plain_words<'a, O: PieceOut>(
-    out: &mut O,
-    style: TextStyle,
-    line: u32,
-    pen: &mut Pen,
-    whole: bool,
-    text: &'a [u8],
-) -> &'a [u8]
-    requires fits { Fits pen.old text.now }
-    requires word { begins_word text.now ≡ false }
-    ensures came { (last : ℕ) → CameUpTo O.left out.old
-        (texts.others_items style line last pen.old (words_of style.is_quoted text.now).others)
-        (texts.others_items style line last pen.new (words_of style.is_quoted result.now).others) out.new }
-    ensures pen { texts.others_after style pen.new (words_of style.is_quoted result.now).others
-        ≡ texts.others_after style pen.old (words_of style.is_quoted text.now).others }
-    ensures within { Within pen.old text.now pen.new result.now }
-    ensures ends { begins_word result.now ≡ false }
-{
-    if style.is_literal || !pen.is_resting() {
-        return text;
-    }
-    if whole && !matches!(pen.fonts.value.font, Font::R) {
-        return text;
-    }
-    let (run, rest) = text.split_at(run_len(style.is_quoted, text, LINE));
-    if whole && !rest.is_empty() {
-        return text;
-    }
-    let place = Place {
-        line,
-        column: pen.column,
-    };
-    give_run(out, pen.fonts.value.font, place, run);
-    pen.column += run.len() as u32;
-    rest
-}
-
-// Gives words at a text's front, with one blank before each, many at once: those of letters until these are not taken, and then those that print
-// themselves. What is left of the text.
-fn give_many<'a, O: PieceOut>(
-    out: &mut O,
-    style: TextStyle,
-    line: u32,
-    pen: &mut Pen,
-    tries: &mut bool,
-    text: &'a [u8],
-) -> &'a [u8]
-    requires fits { Fits pen.old text.now }
-    requires word { begins_word text.now ≡ false }
-    ensures came { (last : ℕ) → CameUpTo O.left out.old
-        (texts.others_items style line last pen.old (words_of style.is_quoted text.now).others)
-        (texts.others_items style line last pen.new (words_of style.is_quoted result.now).others) out.new }
-    ensures pen { texts.others_after style pen.new (words_of style.is_quoted result.now).others
-        ≡ texts.others_after style pen.old (words_of style.is_quoted text.now).others }
-    ensures within { Within pen.old text.now pen.new result.now }
-    ensures ends { begins_word result.now ≡ false }
-{
-    if style.is_literal {
-        give_kept_words(out, style, line, pen, tries, text)
-    } else if *tries {
-        give_lettered_words(out, style, line, pen, tries, text)
-    } else {
-        give_plain_words(out, style, line, pen, false, text)
-    }
-}
-
-// A call that gave at least so many bytes at once probably ended where its room did, so the next words may go down at once, too.
-const MANY: usize = 64;
-
-// Gives the white space at a text's front, and the word after it, unless there is none, or words of so many bytes were given at once just now: what
-// is left of the text.
-#[inline(always)]
-fn give_next<'a, O: PieceOut>(
-    out: &mut O,
-    style: TextStyle,
-    line: u32,
-    front: &Front<'_>,
-    pen: &mut Pen,
-    given: usize,
-    text: &'a [u8],
-) -> &'a [u8]
-    requires fits { Fits pen.old text.now }
-    requires word { begins_word text.now ≡ false }
     ensures came { CameUpTo O.left out.old
         (texts.others_items style line front.now pen.old (words_of style.is_quoted text.now).others)
         (texts.others_items style line front.now pen.new (words_of style.is_quoted result.now).others) out.new }
@@ -170,18 +94,22 @@ fn give_next<'a, O: PieceOut>(
         ≡ texts.others_after style pen.old (words_of style.is_quoted text.now).others }
     ensures within { Within pen.old text.now pen.new result.now }
     ensures ends { begins_word result.now ≡ false }
-    ensures less { given < MANY → 0 < length text.now → length result.now < length text.now }
+    ensures less { length result.now < length text.now }
 {
-    if text.is_empty() || given >= MANY {
-        return text;
+    let (white, rest) = text.split_at(read_token(style.is_quoted, text).len());
+    pen.pass_white(style, white);
+    if begins_word(rest) {
+        give_white(out, style, line, pen.column, white);
+        give_words(out, style, line, has_tab(white), pen, rest)
+    } else {
+        give_last_white(out, style, line, front, white);
+        rest
     }
-    give_spaced(out, style, line, front, pen, text)
 }
 
-// Gives the words at a text's front, each with white space before it. It is a call, since most texts have only words that print themselves, with one
-// blank before each.
-#[inline(never)]
-fn give_spaced_words<O: PieceOut>(
+// Gives the words at a text's front, each with white space before it.
+#[inline(always)]
+fn give_others<O: PieceOut>(
     out: &mut O,
     style: TextStyle,
     line: u32,
@@ -198,41 +126,10 @@ fn give_spaced_words<O: PieceOut>(
     let mut tries = true;
     let mut rest = text;
     while !rest.is_empty() {
-        let after = give_many(out, style, line, pen, &mut tries, rest);
-        rest = give_next(
-            out,
-            style,
-            line,
-            front,
-            pen,
-            rest.len() - after.len(),
-            after,
-        );
-    }
-}
-
-// Gives what follows the word at a text's front. Many texts are one word, and most others go on with words that print themselves.
-#[inline(always)]
-fn give_others<O: PieceOut>(
-    out: &mut O,
-    style: TextStyle,
-    line: u32,
-    front: &Front<'_>,
-    pen: &mut Pen,
-    text: &[u8],
-)
-    requires fits { Fits pen.old text.now }
-    requires word { begins_word text.now ≡ false }
-    ensures came { Came O.left out.old
-        (texts.others_items style line front.now pen.old (words_of style.is_quoted text.now).others) out.new }
-    ensures pen { pen.new ≡ texts.others_after style pen.old (words_of style.is_quoted text.now).others }
-{
-    if text.is_empty() {
-        return;
-    }
-    let rest = give_plain_words(out, style, line, pen, true, text);
-    if !rest.is_empty() {
-        give_spaced_words(out, style, line, front, pen, rest);
+        rest = give_kept_words(out, style, line, pen, &mut tries, rest);
+        if !rest.is_empty() {
+            rest = give_spaced(out, style, line, front, pen, rest);
+        }
     }
 }
 
@@ -277,7 +174,15 @@ fn gap_column(quoted: bool, front: &Front<'_>, pen: &Pen, text: &[u8]) -> u32
     }
 }
 
-// Gives the white space at a text's front, and the word after it; what is left of the text. It is a call, since few texts begin so.
+// Whether white space at a text's front ends the row.
+fn is_indented(style: TextStyle) -> bool
+    ensures { result ≡ texts.is_indented style }
+{
+    style.is_line && !style.is_literal
+}
+
+// Gives what comes before the words of a text that begins with white space, which may be cells of its first word; what is left of the text. It is a
+// call, since few texts begin so.
 #[inline(never)]
 fn give_leading<'a, O: PieceOut>(
     out: &mut O,
@@ -289,12 +194,15 @@ fn give_leading<'a, O: PieceOut>(
 ) -> &'a [u8]
     requires fits { Fits pen.old text.now }
     requires white { begins_white text.now ≡ true }
-    ensures came { Came O.left out.old
-        (texts.leading_items style line front.now pen.old (spaced_front style.is_quoted text.now)) out.new }
-    ensures pen { pen.new ≡ texts.leading_after style pen.old (spaced_front style.is_quoted text.now) }
-    ensures rest { ReadsSpaced style.is_quoted pen.old text.now pen.new result.now }
+    ensures came { CameUpTo O.left out.old
+        (texts.words_items style line front.now pen.old (words_of style.is_quoted text.now))
+        (texts.others_items style line front.now pen.new (words_of style.is_quoted result.now).others) out.new }
+    ensures pen { texts.others_after style pen.new (words_of style.is_quoted result.now).others
+        ≡ texts.text_after style pen.old (words_of style.is_quoted text.now) }
+    ensures within { Within pen.old text.now pen.new result.now }
+    ensures ends { begins_word result.now ≡ false }
 {
-    if style.is_line && !style.is_literal {
+    if is_indented(style) {
         return give_indented(out, style.is_quoted, line, pen, text);
     }
     if pen.has_gap_cells(style) {
@@ -304,32 +212,7 @@ fn give_leading<'a, O: PieceOut>(
         };
         give_blank_cells(out, 1, Font::R, place);
     }
-    give_spaced(out, style, line, front, pen, text)
-}
-
-// Gives the word at a text's front, or words of letters there, many at once; what is left of the text.
-#[inline(always)]
-fn give_first<'a, O: PieceOut>(
-    out: &mut O,
-    style: TextStyle,
-    line: u32,
-    pen: &mut Pen,
-    text: &'a [u8],
-) -> &'a [u8]
-    requires fits { Fits pen.old text.now }
-    requires word { begins_word text.now ≡ true }
-    ensures came { (last : ℕ) → CameUpTo O.left out.old
-        (texts.words_items style line last pen.old (words_of style.is_quoted text.now))
-        (texts.others_items style line last pen.new (words_of style.is_quoted result.now).others) out.new }
-    ensures pen { texts.others_after style pen.new (words_of style.is_quoted result.now).others
-        ≡ texts.text_after style pen.old (words_of style.is_quoted text.now) }
-    ensures within { Within pen.old text.now pen.new result.now }
-    ensures ends { begins_word result.now ≡ false }
-{
-    if let Some(rest) = give_lettered_front(out, style, line, pen, text) {
-        return rest;
-    }
-    give_word(out, style, line, false, pen, text)
+    text
 }
 
 /// Gives the words of a text of a line at the pen, and moves the pen to its end. The last word before it in its line is at the column `last`.
@@ -348,7 +231,7 @@ pub fn give_text<O: PieceOut>(
 {
     let front = Front::new(style.is_quoted, pen.column, last, text);
     if begins_word(text) {
-        let rest = give_first(out, style, line, pen, text);
+        let rest = give_words(out, style, line, false, pen, text);
         give_others(out, style, line, &front, pen, rest);
     } else if text.is_empty() {
         give_word(out, style, line, false, pen, text);

@@ -1,13 +1,13 @@
 -- Events that are cut between two of them.
 use Rattle.std.proofs.Common.{◌≡◌, ℕ, ◌≤◌, List, [], ◌∷◌, ◌++◌, length, refl, sym, ap, ◌∙◌, append_assoc}
 use Rattle.page_scopes_tree.proofs.CutLemmas.{settled-append, edge-append, edge-fits}
-use Rattle.page_scopes_tree.specs.Layouts.{settled, edge}
+use Rattle.page_scopes_tree.specs.machine.Layouts.{settled, edge}
 use Rattle.page_sets_lines.specs.declared.events.Event.{Event}
 use Rattle.page_scopes_tree.proofs.FitLemmas.{scopes-sound}
 use Rattle.page_scopes_tree.specs.Acts.{does, steps_of}
 use Rattle.page_scopes_tree.specs.Edges.{ScopesEdge, steps_of_all, events_items, events_edge, page_items, page_end_items}
-use Rattle.page_scopes_tree.specs.Frames.{Tables, framed}
-use Rattle.page_scopes_tree.specs.Nests.{scopes_nesting}
+use Rattle.page_scopes_tree.specs.machine.Frames.{Tables, framed}
+use Rattle.page_scopes_tree.specs.machine.Nests.{scopes_nesting}
 use Rattle.page_core_base.specs.declared.limits.TheConstants.{SCOPES}
 use Rattle.page_scopes_tree.specs.declared.acts.Act.TheVariants as acts
 

@@ -5,7 +5,7 @@ use Rattle.std.proofs.lemmas.Bool.Decides.{nat_tests}
 use Rattle.std.proofs.lemmas.List.Sums.{prefix_len-le-length}
 use Rattle.page_core_numbers.specs.Expressions.{expression_of}
 use Rattle.page_core_numbers.specs.declared.scales.Scale.TheVariants.{Basic}
-use Rattle.page_scopes_tree.specs.Nestings.{as_node, as_nothing, IsSound}
+use Rattle.page_scopes_tree.specs.machine.Nestings.{as_node, as_nothing, IsSound}
 use Rattle.page_sets_lines.specs.Blocks.{closed_block}
 use Rattle.page_sets_lines.specs.declared.events.Event.{Event}
 use Rattle.page_sets_lines.specs.declared.events.EventKind.{EventKind}
@@ -22,7 +22,7 @@ use Rattle.page_scopes_tree.specs.Acts.{Step, comes, does}
 use Rattle.page_scopes_tree.specs.Ends.{inside, up_to, line_scopes, up_to_explicit, up_to_item, up_to_paragraph, place_of_margin, up_to_margin, opener_ends, closer_ends, kind_ends, act_ends}
 use Rattle.page_scopes_tree.proofs.MarginLemmas.{but_outside}
 use Rattle.page_scopes_labels.specs.Labels.{is_line, is_enclosure, is_section, is_paragraph, is_item, is_list, is_explicit, is_level}
-use Rattle.page_scopes_tree.specs.Nests.{standing_by, step_ends, step_standing, scopes_nesting}
+use Rattle.page_scopes_tree.specs.machine.Nests.{standing_by, step_ends, step_standing, scopes_nesting}
 use Rattle.page_scopes_tree.specs.Placements.{has_room, in_list, in_headed_list, opened, opener_placement, line_placement, closed, closer_placement, in_line_scope, is_dropped, kind_placement, act_placement, opener_label, is_passed_over}
 use Rattle.page_core_base.specs.declared.limits.TheConstants.{SCOPES}
 use Rattle.page_scopes_tree.specs.declared.acts.Act.{Act}

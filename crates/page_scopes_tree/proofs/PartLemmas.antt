@@ -1,7 +1,7 @@
 -- The tree is what is found node by node.
 use Rattle.std.proofs.Common.{◌≡◌, ℕ, zero, suc, ◌+◌, ◌*◌, ◌≤◌, List, [], ◌∷◌, length, drop, refl, ◌∙◌, ap, arith}
-use Rattle.page_scopes_tree.specs.Nestings.{Standing, as_node, as_leaf, as_nothing, Nesting, IsSound}
-use Rattle.page_scopes_tree.specs.Forests.{Ender, still_open, Forest, none, node, Rest, leaf_first, node_first, ended, placed, all_open, tree}
+use Rattle.page_scopes_tree.specs.machine.Nestings.{Standing, as_node, as_leaf, as_nothing, Nesting, IsSound}
+use Rattle.page_scopes_tree.specs.machine.Forests.{Ender, still_open, Forest, none, node, Rest, leaf_first, node_first, ended, placed, all_open, tree}
 use Rattle.page_scopes_tree.specs.machine.Parts.{Ahead, over, on, ending, Part, with_leaf, with_node, stand, part, rest_by}
 
 -- the tree of what lies ahead

@@ -1,10 +1,11 @@
 -- What the tree gives is what the stack gives, act by act.
 use Rattle.std.proofs.Common.{◌≡◌, ℕ, zero, suc, ◌≤◌, List, [], ◌∷◌, ◌++◌, length, drop, refl, sym, ◌∙◌, ap, subst, append_assoc, arith}
 use Rattle.std.proofs.lemmas.List.{append-nil, drop-map}
-use Rattle.page_scopes_tree.specs.Nestings.{Standing, as_node, as_leaf, as_nothing, Nesting, standing_of, mode_of, IsSound}
-use Rattle.page_scopes_tree.specs.Forests.{Forest, After, Rest, node_of, ended, placed, all_open, tree}
+use Rattle.page_scopes_tree.specs.machine.Nestings.{Standing, as_node, as_leaf, as_nothing, Nesting, standing_of, mode_of, IsSound}
+use Rattle.page_scopes_tree.specs.machine.Forests.{Forest, After, Rest, node_of, ended, placed, all_open, tree}
 use Rattle.page_scopes_tree.specs.declared.nestings.Scope.{Scope}
-use Rattle.page_scopes_tree.specs.Layouts.{Layout, scope_of, lay_outer, lay_rest, labels, Edge, settled}
+use Rattle.page_scopes_tree.specs.OpenScopes.{labels, Edge}
+use Rattle.page_scopes_tree.specs.machine.Layouts.{Layout, scope_of, lay_outer, lay_rest, settled}
 use Rattle.page_scopes_tree.specs.machine.Machines.{ended_items, ended_state, placed_items, placed_state, placed_scopes, count_ended, state_left, step, run_items}
 
 -- the end of the list

@@ -3,15 +3,16 @@ use Rattle.std.proofs.Common.{◌≡◌, ℕ, Bool, true, false, List, ◌++◌,
 use Rattle.page_core_base.specs.Latches.{Came}
 use Rattle.page_core_base.specs.Pieces.{Item}
 use Rattle.page_scopes_tree.proofs.RunLemmas.{left_labels}
-use Rattle.page_scopes_tree.specs.Layouts.{Edge, Layout, labels}
+use Rattle.page_scopes_tree.specs.OpenScopes.{Edge, labels}
+use Rattle.page_scopes_tree.specs.machine.Layouts.{Layout}
 use Rattle.page_scopes_tree.specs.machine.Machines.{ended_items, ended_state, placed_items, placed_scopes, placed_state, step_items}
-use Rattle.page_scopes_tree.specs.Nestings.{Standing, as_nothing}
+use Rattle.page_scopes_tree.specs.machine.Nestings.{Standing, as_nothing}
 use Rattle.page_scopes_tree.specs.declared.nestings.Scope.{Scope}
 use Rattle.page_sets_lines.specs.declared.events.Event.{Event}
 use Rattle.page_scopes_tree.specs.Acts.{Step, does}
 use Rattle.page_scopes_tree.specs.Ends.{act_ends}
-use Rattle.page_scopes_tree.specs.Frames.{Tables, framed}
-use Rattle.page_scopes_tree.specs.Nests.{Fact, scopes_nesting, standing_by, step_ends, step_standing}
+use Rattle.page_scopes_tree.specs.machine.Frames.{Tables, framed}
+use Rattle.page_scopes_tree.specs.machine.Nests.{Fact, scopes_nesting, standing_by, step_ends, step_standing}
 use Rattle.page_scopes_tree.specs.machine.Stacks.{TakesStep}
 use Rattle.page_scopes_tree.specs.Placements.{act_placement, act_skips, is_passed_over}
 use Rattle.page_scopes_tree.specs.declared.acts.Act.{Act}

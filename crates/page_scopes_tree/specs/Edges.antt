@@ -1,11 +1,12 @@
 -- What the events of a page give, by the block tree of its scopes, and what decides the rest. Source: man(7), mdoc(7).
 use Rattle.std.specs.Prelude.{ℕ, Bool, List, [], ◌∷◌, ◌++◌}
 use Rattle.page_core_base.specs.Pieces.{Item}
-use Rattle.page_scopes_tree.specs.Layouts.{Edge, settled, edge}
+use Rattle.page_scopes_tree.specs.OpenScopes.{Edge}
+use Rattle.page_scopes_tree.specs.machine.Layouts.{settled, edge}
 use Rattle.page_sets_lines.specs.declared.events.Event.{Event}
 use Rattle.page_scopes_tree.specs.Acts.{Step, does, steps_of}
-use Rattle.page_scopes_tree.specs.Frames.{Tables, framed}
-use Rattle.page_scopes_tree.specs.Nests.{scopes_nesting}
+use Rattle.page_scopes_tree.specs.machine.Frames.{Tables, framed}
+use Rattle.page_scopes_tree.specs.machine.Nests.{scopes_nesting}
 use Rattle.page_scopes_tree.specs.declared.acts.Act.TheVariants as acts
 use Rattle.page_scopes_labels.specs.declared.labels.Label.{Label}
 

@@ -2,11 +2,6 @@ pub mod Acts
 pub mod Ends
 pub mod Placements
 pub mod Broken
-pub mod Nests
-pub mod Frames
+pub mod OpenScopes
 pub mod Edges
 pub mod machine
-pub mod Nestings
-pub mod Forests
-pub mod Layouts
-pub mod Asides

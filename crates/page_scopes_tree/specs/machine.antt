@@ -3,3 +3,9 @@ pub mod Runs
 pub mod Stacks
 pub mod Machines
 pub mod Parts
+pub mod Nestings
+pub mod Forests
+pub mod Layouts
+pub mod Asides
+pub mod Nests
+pub mod Frames

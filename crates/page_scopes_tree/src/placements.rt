@@ -1,7 +1,7 @@
 //! What becomes of an event itself, once it ended what it ends (man(7)). Open scopes are in a list with the outermost first.
 
 ghost use Rattle.std.specs.Prelude.{◌≡◌, ◌≤◌, length, reverse};
-ghost use Rattle.page_scopes_tree.specs.Layouts.{labels};
+ghost use Rattle.page_scopes_tree.specs.OpenScopes.{labels};
 ghost use Rattle.page_scopes_tree.specs.Acts.{act_view};
 ghost use Rattle.page_scopes_tree.specs.machine.Stacks as stacks;
 ghost use Rattle.page_scopes_tree.specs.Placements as placements;
@@ -15,7 +15,7 @@ use page_sets_lines::{BlockOpener, Closer, Event, EventKind, Leaf, LineOpener, O
 
 /// Why an event is refused.
 #[derive(Clone, Copy, PartialEq, Eq)]
-pub(crate) enum Obstacle {
+pub enum Obstacle {
     /// No list is open for an item.
     OutsideList,
     /// [`SCOPES`] scopes are open.
@@ -28,7 +28,7 @@ pub(crate) enum Obstacle {
 
 /// What becomes of an event.
 #[derive(Clone, Copy, PartialEq, Eq)]
-pub(crate) enum Placement {
+pub enum Placement {
     /// A scope opens.
     Node(Label),
     /// It opens none.

@@ -3,7 +3,7 @@
 ghost use Rattle.std.specs.Prelude.{◌≡◌, ◌<◌, List, ◌∷◌, ℕ, reverse, vec_capacity, vec_len};
 ghost use Rattle.page_core_base.specs.Latches.{Came};
 ghost use Rattle.page_scopes_tree.specs.Acts.{TakesAct, act_view};
-ghost use Rattle.page_scopes_tree.specs.Frames.{Tables};
+ghost use Rattle.page_scopes_tree.specs.machine.Frames.{Tables};
 ghost use Rattle.page_scopes_tree.specs.machine.Stacks.{Keeps};
 ghost use Rattle.page_sets_lines.specs.Events.{event_view};
 ghost use Rattle.page_sets_lines.specs.declared.events.Event.{Event};

@@ -2,7 +2,7 @@
 use Rattle.std.proofs.Common.{◌≡◌, ℕ, zero, suc, ◌+◌, ◌-◌, ◌≤◌, ◌<◌, true, List, [], ◌∷◌, ◌++◌, length, take, drop, replicate, refl, ap, ap₂, sym, ◌∙◌, append_assoc, length-append, arith}
 use Rattle.std.proofs.Math.Seq.{take-append-add, take-append_seam}
 use Rattle.std.proofs.lemmas.Bool.{and_parts}
-use Rattle.std.proofs.lemmas.List.{length-drop, length-replicate, length-take-le, take-append-le, take-map, take-replicate, take-take}
+use Rattle.std.proofs.lemmas.List.{length-drop, length-replicate, length-take-le, take-append-le, take-replicate, take-take}
 use Rattle.std.proofs.lemmas.List.Folds.{list_all-append}
 use Rattle.page_core_base.specs.Rows.{cells_in}
 use Rattle.page_core_base.specs.declared.cells.Cell.{Cell}
@@ -77,18 +77,6 @@ letters_put text fonts after start font bytes room same are =
 
 pub letters_len : (text : List ℕ) (fonts : List Font) (n : ℕ) → n ≤ length text → length fonts ≡ length text → length (take n (cells_in text fonts)) ≡ n
 letters_len text fonts n within same = length-take-le n (cells_in text fonts) (omega (arith, in-length text fonts same, within))
-
--- a group of letters that is put, of which only the first are kept
-pub letters_cut : (put cells : List Cell) (font : Font) (text : List ℕ) (start count : ℕ) → start ≡ length cells → count ≤ 16
-    → take (start + 16) put ≡ cells ++ letters_in font (take 16 text) → take (start + count) put ≡ cells ++ letters_in font (take count text)
-letters_cut put cells font text start count is few all =
-    sym (take-take (start + count) (start + 16) put (omega (arith, few)))
-    ∙ ap (take (start + count)) all
-    ∙ ap (λ (n : ℕ). take (n + count) (cells ++ letters_in font (take 16 text))) is
-    ∙ take-append-add cells (letters_in font (take 16 text)) count
-    ∙ ap (λ (l : List Cell). cells ++ l)
-    (take-map (λ c. record { c = c; font = font }) count (take 16 text)
-    ∙ ap (letters_in font) (take-take count 16 text few))
 
 -- ---- printable letters
 

@@ -1,9 +1,8 @@
 -- Where a run of words that print themselves ends, by vectors and byte by byte.
 use Rattle.std.proofs.Common.{◌≡◌, ℕ, zero, suc, ◌+◌, ◌-◌, ◌%◌, ◌^◌, ◌<◌, ◌≤◌, ◌==◌, ◌&&◌, ◌||◌, Bool, true, false, not, cond, eqb, bit_and, List, [], ◌∷◌, length, map, take, get_or, refl, sym, ap, ap₂, ◌∙◌, inl, inr, arith}
 use Rattle.std.specs.Prelude.{if◌then◌else◌}
-use Rattle.std.specs.List.{list_all, prefix_len}
-use Rattle.std.proofs.lemmas.List.Folds.{list_all_at}
-use Rattle.std.proofs.lemmas.Bool.{cases_Bool, cases_lt}
+use Rattle.std.specs.List.{prefix_len}
+use Rattle.std.proofs.lemmas.Bool.{cases_lt}
 use Rattle.std.proofs.lemmas.Bool.Decides.{nat_tests}
 use Rattle.std.proofs.lemmas.List.{take_all}
 use Rattle.std.proofs.lemmas.List.Sums.{prefix_len-le-length, prefix_len_passes, prefix_len_stops}
@@ -13,7 +12,7 @@ use lib.Count.{count_trailing_zeros}
 use lib.Dec.{ltb}
 use lib.Lanes.{chunk, mask_l, top, zip2}
 use Rattle.page_core_base.specs.Words.{is_printable, is_printable_ascii}
-use Rattle.page_scopes_words.specs.machine.RunEnds.{GoesOn, ends_run, ends_run_at, is_inside}
+use Rattle.page_scopes_words.specs.machine.RunEnds.{GoesOn, ends_run, ends_run_at}
 
 -- ---- lanes
 
@@ -166,42 +165,6 @@ front_ends quoted text at found l e some less =
     let second : (at + 1) + i ≡ suc (at + i) = omega arith in
     ap₂ (ends_run quoted) (sym (get_or-chunk at 16 text i 32 less)) (sym (get_or-chunk (at + 1) 16 text i 32 less ∙ ap (λ (j : ℕ). get_or text j 32) second))
     ∙ sym pair ∙ stops
-
--- ---- bytes inside words
-
-inside_test : (h o k n : Bool) → not (h || (o || (k && true))) ≡ true → (h || (o || (k && n))) ≡ false
-inside_test true o k n e = let no : ⊥ = cc in absurd no
-inside_test false true k n e = let no : ⊥ = cc in absurd no
-inside_test false false true n e = let no : ⊥ = cc in absurd no
-inside_test false false false n e = refl
-
-inside_blank : (h o k : Bool) → not (h || (o || (k && true))) ≡ true → not k ≡ true
-inside_blank true o k e = let no : ⊥ = cc in absurd no
-inside_blank false true k e = let no : ⊥ = cc in absurd no
-inside_blank false false true e = let no : ⊥ = cc in absurd no
-inside_blank false false false e = refl
-
-abbrev other : Bool → ℕ → Bool
-other quoted x = not (is_printable x) || (x == 92 || (quoted && x == 34))
-
-pub inside_goes : (quoted : Bool) (text : List ℕ) → list_all (is_inside quoted) text ≡ true → GoesOn quoted text 0 (length text)
-inside_goes quoted text all = λ k low high. elim (cases_Bool (is_inside quoted (get_or text k 32))) [
-  | inl is ↦ inside_test (get_or text k 32 == 45) (other quoted (get_or text k 32)) (get_or text k 32 == 32) (get_or text (suc k) 32 == 32) is
-  | inr stops ↦ absurd (never (sym all ∙ list_all_at (is_inside quoted) text k 32 high stops))
-]
-  where
-    never : true ≡ false → ⊥
-    never e = grind (arith, e)
-
-both : (a b : Bool) → (a && b) ≡ true → (a ≡ true) × (b ≡ true)
-both true b e = (refl, e)
-both false b e = let no : ⊥ = cc in absurd no
-
-pub inside_word : (quoted : Bool) (text : List ℕ) → list_all (is_inside quoted) text ≡ true → list_all (λ byte. not (byte == 32)) text ≡ true
-inside_word quoted [] all = refl
-inside_word quoted (x ∷ xs) all =
-    let parts = both (is_inside quoted x) (list_all (is_inside quoted) xs) all in
-    rw (inside_blank (x == 45) (other quoted x) (x == 32) parts.0) (inside_word quoted xs parts.1)
 
 -- ---- bytes that end no run are printable
 

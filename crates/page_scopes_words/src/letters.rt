@@ -119,22 +119,6 @@ impl Letters {
         true
     }
 
-    /// Adds the first letters of a text in one font, where a whole group can be copied in their place: whether it was. That takes no loop.
-    #[inline(always)]
-    pub fn add_front(&mut self, font: Font, text: &[u8], count: usize) -> bool
-        requires { is_printable_ascii (take count text.now) ≡ true }
-        ensures added { result ≡ true → self.new ≡ self.old ++ letters_in font (take count text.now) }
-        ensures kept { result ≡ false → self.new ≡ self.old }
-    {
-        let start = self.len;
-        if count > GROUP || text.len() < GROUP || start + GROUP > ROOM {
-            return false;
-        }
-        put_letters(&mut self.text, &mut self.fonts, start, font, &text[..GROUP]);
-        self.len = start + count;
-        true
-    }
-
     /// Gives them as words, each with a blank before it, the first one after a count of blanks instead: whether these were taken.
     #[inline(always)]
     pub fn give<O: PieceOut>(&self, out: &mut O, blanks: u32) -> bool

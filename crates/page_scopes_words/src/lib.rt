@@ -3,7 +3,7 @@
 //!
 //! `page_scopes_text` reads the words of a text by these, and `page_engine_header` the fields of a title. Read `specs/Words.antt` first, then
 //! `Tokens.antt` and `Pens.antt`. Widths are the columns of what a text prints, and those that an argument of a list or a display asks for
-//! (`specs/Names.antt`, `Widths.antt`). `Letters`, `part_len` and `going_len` are for the fast ways of `page_scopes_text`, and their definitions are
+//! (`specs/Names.antt`, `Widths.antt`). `Letters` and `going_len` are for the fast ways of `page_scopes_text`, and their definitions are
 //! in `specs/machine/`.
 //!
 //! Proved: `report_token`, `give_token`, `token_prints`, `fonts_after`, `give_white_cells`, and what they call: what a token reports and prints, and
@@ -16,7 +16,6 @@
 
 mod fonts;
 mod letter_fonts;
-mod letter_parts;
 mod letters;
 mod names;
 mod numbers;
@@ -30,12 +29,11 @@ mod widths;
 
 pub use fonts::{Fonts, ROMAN, fonts_after};
 pub use letter_fonts::{ROOM, equal_fonts};
-pub use letter_parts::part_len;
 pub use letters::{Letters, give_after_blanks};
 pub use names::name_columns;
 pub use numbers::{give_columns, give_number, give_rows};
 pub use pens::{Pen, TextStyle};
-pub use run_ends::{blank_before, going_len, is_plain_word};
+pub use run_ends::{blank_before, going_len};
 pub use sentences::ends_sentence;
 pub use settings::Setting;
 pub use tokens::{

@@ -1,6 +1,6 @@
 //! What is known between two tokens of a text (roff(7), `\f` and `\c`).
 
-ghost use Rattle.std.specs.Prelude.{◌≡◌, ◌<◌, ◌+◌, ◌^◌, [], ◌∷◌, length, IsTrue};
+ghost use Rattle.std.specs.Prelude.{◌≡◌, ◌<◌, ◌+◌, ◌^◌, [], ◌∷◌, length};
 ghost use Rattle.page_core_escapes.specs.Tokens.{plain, token_bytes, token_view};
 ghost use Rattle.page_scopes_words.specs.Pens.{body_after, gap_after, has_gap_cells, indented_pen, pen_after, white_after, word_begun, word_ended};
 ghost use Rattle.page_scopes_words.specs.machine.Pens.{resting};
@@ -116,19 +116,6 @@ impl Pen {
             ends_blank: false,
             splits: true,
         };
-    }
-
-    /// Whether a word that prints itself was the last thing that was passed, and words are parted.
-    #[inline(always)]
-    pub fn is_resting(&self) -> bool
-        ensures { IsTrue result → self.now ≡ resting self.now.fonts self.now.column }
-    {
-        self.gap == 1
-            && self.is_after_word
-            && self.has_cell
-            && !self.is_cut
-            && !self.ends_blank
-            && self.splits
     }
 
     /// Goes on after white space.

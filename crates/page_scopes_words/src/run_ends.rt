@@ -1,9 +1,8 @@
 //! How far a text goes on as words of printable ASCII, with one blank before each and no hyphen, many bytes at a time (roff(7), "LANGUAGE SYNTAX").
 
-ghost use Rattle.std.specs.Prelude.{◌≡◌, ◌≤◌, ◌<◌, ◌+◌, ◌==◌, not, length, slice_index, if◌then◌else◌, true};
-ghost use Rattle.std.specs.List.{list_all};
+ghost use Rattle.std.specs.Prelude.{◌≡◌, ◌≤◌, ◌<◌, ◌+◌, ◌==◌, length, slice_index, if◌then◌else◌, true};
 ghost use Rattle.std.specs.Simd.Lanes.{mask_l, zip2};
-ghost use Rattle.page_scopes_words.specs.machine.RunEnds.{GoesOn, ends_run, ends_run_at, is_inside};
+ghost use Rattle.page_scopes_words.specs.machine.RunEnds.{GoesOn, ends_run, ends_run_at};
 
 use std::simd::prelude::*;
 
@@ -100,45 +99,6 @@ pub fn going_len(quoted: bool, text: &[u8]) -> usize
         at += 1;
     }
     at
-}
-
-// Whether a text has no blank.
-#[inline(always)]
-fn has_no_blank(text: &[u8]) -> bool
-    ensures { result ≡ list_all (λ byte. not (byte == 32)) text.now }
-{
-    text.iter().all(|byte| *byte != b' ')
-}
-
-// Whether a byte ends no run, and no word.
-#[inline(always)]
-fn is_inside(quoted: bool, byte: u8) -> bool
-    ensures { result ≡ is_inside quoted byte }
-{
-    if byte > b'"' {
-        return byte != b'-' && byte != b'\\' && byte <= b'~';
-    }
-    byte > b' ' && !(quoted && byte == b'"')
-}
-
-// Whether all bytes of a text end no run, and no word.
-#[inline(always)]
-fn is_all_inside(quoted: bool, text: &[u8]) -> bool
-    ensures { result ≡ list_all (is_inside quoted) text.now }
-{
-    text.iter().all(|byte| is_inside(quoted, *byte))
-}
-
-/// Whether a text is one word that prints itself, without a hyphen. Most such texts are short, and are read once.
-#[inline(always)]
-pub fn is_plain_word(quoted: bool, text: &[u8]) -> bool
-    ensures word { result ≡ true → list_all (λ byte. not (byte == 32)) text.now ≡ true }
-    ensures goes { result ≡ true → GoesOn quoted text.now 0 (length text.now) }
-{
-    if text.len() <= LANES {
-        return is_all_inside(quoted, text);
-    }
-    has_no_blank(text) && going_len(quoted, text) == text.len()
 }
 
 // The last blank among the bytes up to a place, at most `LANES` of them, or the first of these where there is none.

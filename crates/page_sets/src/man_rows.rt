@@ -53,7 +53,7 @@ pub(crate) enum Effect {
 /// What a macro does without arguments.
 #[derive(Clone, Copy)]
 pub(crate) enum Alone {
-    /// The same as with arguments.
+    /// What it does with arguments.
     Same,
     /// Nothing: it is empty.
     Empty,

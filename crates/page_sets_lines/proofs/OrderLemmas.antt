@@ -1,5 +1,5 @@
 -- Words that are arguments in their order are in order: helpers of proofs.
-use Rattle.std.proofs.Common.{◌≡◌, ℕ, zero, suc, ◌+◌, ◌≤◌, false, List, [], ◌∷◌, ◌++◌, length, take, drop, refl, sym, ap, ◌∙◌, arith}
+use Rattle.std.proofs.Common.{◌≡◌, ℕ, zero, suc, ◌+◌, ◌≤◌, List, [], ◌∷◌, ◌++◌, length, take, drop, refl, sym, ap, ◌∙◌, arith}
 use Rattle.page_roff_syntax.specs.declared.quotes.Argument.{Argument}
 use Rattle.page_sets_lines.specs.declared.events.EventKind.{EventKind}
 use Rattle.page_sets_lines.specs.declared.events.EventKind.TheVariants as kinds
@@ -7,7 +7,6 @@ use Rattle.page_sets_lines.specs.declared.events.Event.{Event}
 use Rattle.page_sets_lines.specs.Laws.{IsArgument, past, BeginsFrom, AreInOrder}
 use Rattle.page_sets_lines.specs.ControlLines.{arguments_after}
 use Rattle.page_sets_lines.proofs.ArgumentLaws.{ArgumentsFrom, all_after}
-use Rattle.page_sets_lines.proofs.LawLemmas.{is_word, HasNoWord}
 
 -- an argument of the list, and those after it
 pub record IsTaken (argument : Argument (List ℕ)) (arguments after : List (Argument (List ℕ))) : Type 0 where
@@ -78,20 +77,6 @@ TakesInOrder-append (event ∷ events) more arguments behind h k =
 
 -- ---- no words
 
-none_taken : (kind : EventKind (List ℕ)) (arguments : List (Argument (List ℕ))) → is_word kind ≡ false → Takes kind arguments arguments
-none_taken (kinds.Word word) arguments h = let no : ⊥ = cc in absurd no
-none_taken (kinds.Open opener) arguments h = refl
-none_taken (kinds.Close closer) arguments h = refl
-none_taken (kinds.LineScope opener) arguments h = refl
-none_taken (kinds.Leaf leaf) arguments h = refl
-none_taken (kinds.Raw text) arguments h = refl
-none_taken (kinds.End fills) arguments h = refl
-none_taken (kinds.Note kind detail is_quoted begins_body) arguments h = refl
-
-pub takes_none : (events : List (Event (List ℕ))) (arguments : List (Argument (List ℕ))) → HasNoWord events → TakesInOrder events arguments
-takes_none [] arguments h = tt
-takes_none (event ∷ events) arguments h = (arguments, none_taken event.kind arguments h.0, takes_none events arguments h.1)
-
 -- ---- order
 
 taken_from : (line : List ℕ) (argument : Argument (List ℕ)) (after before : List (Argument (List ℕ))) (from : ℕ)
@@ -119,10 +104,6 @@ in_order line from [] arguments a h = tt
 in_order line from (event ∷ events) arguments a h =
     let k = order_one line from event.kind arguments h.0 a h.1 in
     (k.0, in_order line (past from event.kind) events h.0 k.1 h.2)
-
-pub in_order_after : (line : List ℕ) (start : ℕ) (events : List (Event (List ℕ)))
-    → TakesInOrder events (arguments_after start line) → AreInOrder (start + 1) events
-in_order_after line start events h = in_order line (start + 1) events (arguments_after start line) (all_after line start) h
 
 -- ---- arguments that are slices
 

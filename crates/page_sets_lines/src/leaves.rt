@@ -1,8 +1,6 @@
 //! What is no scope: macros and requests that change what follows, and words that a macro prints itself (man(7),
 //! mdoc(7), roff(7)).
 
-ghost use Rattle.std.specs.Prelude.{◌≡◌};
-
 use crate::events::Join;
 use crate::line_steps::LineStep;
 use page_core_base::Font;

@@ -1,7 +1,5 @@
 //! What a macro changes in its line, or prints there, that is no word (mdoc(7), "MACRO REFERENCE").
 
-ghost use Rattle.std.specs.Prelude.{◌≡◌};
-
 use page_roff_syntax::Argument;
 use page_sets_names::BodyParagraphName;
 

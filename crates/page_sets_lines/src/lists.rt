@@ -1,6 +1,6 @@
 //! The types of lists, and what the arguments of `Bl` say (mdoc(7), `Bl`).
 
-ghost use Rattle.std.specs.Prelude.{◌≡◌, ◌≤◌, length, true, not, is_some};
+ghost use Rattle.std.specs.Prelude.{◌≡◌, ◌≤◌, length, true};
 ghost use Rattle.page_roff_syntax.specs.Arguments.{argument_view};
 ghost use Rattle.page_sets_lines.specs.ControlLines.{arguments_after};
 ghost use Rattle.page_sets_lines.specs.Lists as lists;

@@ -2,7 +2,7 @@
 
 ghost use Rattle.std.specs.Prelude.{◌≡◌};
 ghost use Rattle.page_roff_syntax.specs.Arguments.{argument_view};
-ghost use Rattle.page_sets_lines.specs.Events.{event_view, kind_view, step_view};
+ghost use Rattle.page_sets_lines.specs.Events.{event_view, step_view};
 ghost use Rattle.page_sets_lines.specs.Fits.{ArgumentFits, IsShort};
 ghost use Rattle.page_sets_lines.specs.PlainLines.{event_at};
 ghost use Rattle.page_sets_mdoc_words.specs.Printed as printed;

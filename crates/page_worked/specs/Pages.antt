@@ -1,5 +1,5 @@
 -- Worked pages, and how they are written: lines of a page, rows and messages. Source: mandoc(1), "ASCII Output" and "DIAGNOSTICS".
-use Rattle.std.specs.Prelude.{◌≡◌, ℕ, List, [], ◌∷◌, ◌++◌, None, Some, codes, encode_utf8}
+use Rattle.std.specs.Prelude.{◌≡◌, ℕ, List, [], ◌∷◌, ◌++◌, None, Some, codes, encode_utf8, replicate}
 use Rattle.std.specs.List.{flat_map}
 use Rattle.page_core_base.specs.declared.note_kinds.Level.TheVariants as levels
 use Rattle.page_core_base.specs.declared.page_settings.Settings.{Settings}
@@ -22,20 +22,20 @@ plain = record {
   os = record { bytes = []; spare = [] };
 }
 
--- lines, each with a line feed
-abbrev pub text : List (List ℕ) → List ℕ
-text lines = flat_map (λ line. line ++ 10 ∷ []) lines
+-- what a page prints and what is reported about it, in a file `x.1`: these rows and these messages
+pub record Shows (settings : Settings) (page rows messages : List ℕ) : Type 0 where
+  pub prints : flat_map row_bytes (whole_page settings page).rows ≡ rows
+  pub reports : flat_map (message_bytes (codes "x.1")) (whole_page settings page).notes ≡ messages
 
--- what a page of these lines prints and what is reported about it, in a file `x.1`: these rows and these messages
-pub record Shows (settings : Settings) (page rows messages : List (List ℕ)) : Type 0 where
-  pub prints : flat_map row_bytes (whole_page settings (text page)).rows ≡ text rows
-  pub reports : flat_map (message_bytes (codes "x.1")) (whole_page settings (text page)).notes ≡ text messages
-
--- ---- how rows are written
+-- ---- how texts are written
 
 -- characters beyond ASCII
 abbrev pub utf8 : List ℕ → List ℕ
 utf8 characters = flat_map encode_utf8 characters
+
+-- a text several times
+abbrev pub times : ℕ → List ℕ → List ℕ
+times count text = flat_map (λ text. text) (replicate count text)
 
 -- bold over itself, italic over an underscore
 abbrev pub bold : List ℕ → List ℕ
@@ -50,22 +50,18 @@ bold_italic bytes = flat_map (λ byte. 95 ∷ 8 ∷ byte ∷ 8 ∷ byte ∷ []) 
 -- ---- the frame of most pages
 
 abbrev header : List ℕ
-header = codes "T(1)                       General Commands Manual                        T(1)"
+header = codes "T(1)                       General Commands Manual                        T(1)\n\n"
 
 -- the section A of a page of man(7), and its rows
-abbrev pub man_page : List (List ℕ) → List (List ℕ)
-man_page lines = codes ".TH T 1 2020-01-01 S" ∷ codes ".SH A" ∷ lines
+abbrev pub man_page : List ℕ → List ℕ
+man_page text = codes ".TH T 1 2020-01-01 S\n.SH A\n" ++ text
 
-abbrev pub man_rows : List (List ℕ) → List (List ℕ)
-man_rows rows =
-    (header ∷ [] ∷ bold (codes "A") ∷ rows)
-    ++ ([] ∷ codes "S                                 2020-01-01                              T(1)" ∷ [])
+abbrev pub man_rows : List ℕ → List ℕ
+man_rows rows = header ++ bold (codes "A") ++ 10 ∷ (rows ++ codes "\nS                                 2020-01-01                              T(1)\n")
 
 -- the section N of a page of mdoc(7), and its rows
-abbrev pub mdoc_page : List (List ℕ) → List (List ℕ)
-mdoc_page lines = codes ".Dd d" ∷ codes ".Dt T 1" ∷ codes ".Os S" ∷ codes ".Sh N" ∷ lines
+abbrev pub mdoc_page : List ℕ → List ℕ
+mdoc_page text = codes ".Dd d\n.Dt T 1\n.Os S\n.Sh N\n" ++ text
 
-abbrev pub mdoc_rows : List (List ℕ) → List (List ℕ)
-mdoc_rows rows =
-    (header ∷ [] ∷ bold (codes "N") ∷ rows)
-    ++ ([] ∷ codes "S                                     d                                   T(1)" ∷ [])
+abbrev pub mdoc_rows : List ℕ → List ℕ
+mdoc_rows rows = header ++ bold (codes "N") ++ 10 ∷ (rows ++ codes "\nS                                     d                                   T(1)\n")

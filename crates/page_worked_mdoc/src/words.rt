@@ -1,512 +1,216 @@
 //! Words and enclosures of mdoc(7): worked pages. Written by tools/worked, from the cases of `page_cases`.
 
-ghost use Rattle.std.specs.Prelude.{[], ◌∷◌, ◌++◌, codes};
+ghost use Rattle.std.specs.Prelude.{[], ◌++◌, codes};
 ghost use Rattle.page_worked.specs.Pages.{Shows, plain, bold, italic, mdoc_page, mdoc_rows};
 
 /// mdoc(7), Cd.
 pub fn cd_pages()
     // a declaration is a row, whatever follows in its line (mdoc(7), Cd)
     ensures a_declaration_is_a_row_whatever_follows_in_its { Shows plain
-        (codes ".Dd 2020-01-01" ∷
-        codes ".Dt T 1" ∷
-        codes ".Os S" ∷
-        codes ".Sh SYNOPSIS" ∷
-        codes ".Cd a Em b" ∷
-        codes "x" ∷
-        codes ".Cd a Ns Em b" ∷
-        codes "x" ∷
-        codes ".Cd a Ns" ∷
-        codes "x" ∷ [])
-        (codes "T(1)                       General Commands Manual                        T(1)" ∷
-        [] ∷
-        bold (codes "SYNOPSIS") ∷
-        (codes "     " ++ bold (codes "a")) ∷
-        (codes "     " ++ (italic (codes "b") ++ codes " x")) ∷
-        (codes "     " ++ bold (codes "a")) ∷
-        (codes "     " ++ (italic (codes "b") ++ codes " x")) ∷
-        (codes "     " ++ bold (codes "a")) ∷
-        codes "     x" ∷
-        [] ∷
-        codes "S                                 2020-01-01                              T(1)" ∷ [])
+        (codes ".Dd 2020-01-01\n.Dt T 1\n.Os S\n.Sh SYNOPSIS\n.Cd a Em b\nx\n.Cd a Ns Em b\nx\n.Cd a Ns\nx\n")
+        (codes "T(1)                       General Commands Manual                        T(1)\n\n" ++ bold (codes "SYNOPSIS") ++ codes "\n     " ++
+        bold (codes "a") ++ codes "\n     " ++ italic (codes "b") ++ codes " x\n     " ++ bold (codes "a") ++ codes "\n     " ++ italic (codes "b") ++
+        codes " x\n     " ++ bold (codes "a") ++ codes "\n     x\n\nS                                 2020-01-01                              T(1)\n")
         [] }
     // words in bold (mdoc(7), Cm, Ic, Ms and Sy)
-    ensures words_in_bold { Shows plain
-        (mdoc_page (codes ".Cm a" ∷ codes ".Ic b" ∷ codes ".Ms c" ∷ codes ".Sy d" ∷ []))
-        (mdoc_rows ((codes "     " ++ (bold (codes "a") ++ (codes " " ++ (bold (codes "b") ++ (codes " " ++ (bold (codes "c") ++ (codes " " ++ bold (codes "d")))))))) ∷ []))
+    ensures words_in_bold { Shows plain (mdoc_page (codes ".Cm a\n.Ic b\n.Ms c\n.Sy d\n"))
+        (mdoc_rows (codes "     " ++ bold (codes "a") ++ codes " " ++ bold (codes "b") ++ codes " " ++ bold (codes "c") ++ codes " " ++ bold (codes "d") ++ codes "\n"))
         [] }
     // words in italic (mdoc(7), Ad, Mt, Sx, Va and Vt)
-    ensures words_in_italic { Shows plain
-        (mdoc_page (codes ".Ad a" ∷ codes ".Mt b" ∷ codes ".Sx c" ∷ codes ".Va d" ∷ codes ".Vt e" ∷ []))
-        (mdoc_rows ((codes "     " ++ (italic (codes "a") ++ (codes " " ++ (italic (codes "b") ++ (codes " " ++ (italic (codes "c") ++ (codes " " ++ (italic (codes "d") ++ (codes " " ++ italic (codes "e")))))))))) ∷ []))
-        [] }
+    ensures words_in_italic { Shows plain (mdoc_page (codes ".Ad a\n.Mt b\n.Sx c\n.Va d\n.Vt e\n"))
+        (mdoc_rows (codes "     " ++ italic (codes "a") ++ codes " " ++ italic (codes "b") ++ codes " " ++ italic (codes "c") ++ codes " " ++ italic (codes "d") ++ codes " " ++
+        italic (codes "e") ++ codes "\n")) [] }
     // words in roman (mdoc(7), An, At, Dv, Er, Ev, Lb, Li, St and Tn)
-    ensures words_in_roman { Shows plain
-        (mdoc_page (codes ".An a" ∷
-        codes ".At v7" ∷
-        codes ".Dv b" ∷
-        codes ".Er c" ∷
-        codes ".Ev d" ∷
-        codes ".Lb libc" ∷
-        codes ".Li e" ∷
-        codes ".St -p1003.1" ∷
-        codes ".Tn f" ∷ []))
-        (mdoc_rows (codes "     a v7 b c d libc e -p1003.1 f" ∷ []))
-        [] }
+    ensures words_in_roman { Shows plain (mdoc_page (codes ".An a\n.At v7\n.Dv b\n.Er c\n.Ev d\n.Lb libc\n.Li e\n.St -p1003.1\n.Tn f\n"))
+        (mdoc_rows (codes "     a v7 b c d libc e -p1003.1 f\n")) [] }
 {}
 
 /// mdoc(7), Fl.
 pub fn fl_pages()
     // a dash alone stands where no flag comes, and is glued to what a macro after it prints (mdoc(7), Fl)
     ensures a_dash_alone_stands_where_no_flag_comes_and_is { Shows plain
-        (codes ".Dd 2020-01-01" ∷
-        codes ".Dt T 1" ∷
-        codes ".Os S" ∷
-        codes ".Sh A" ∷
-        codes "x" ∷
-        codes ".Fl , a" ∷
-        codes ".Fl ( | b" ∷
-        codes ".Fl No" ∷
-        codes "z" ∷
-        codes ".Fl No Em y" ∷
-        codes ".Fl Ns" ∷
-        codes "w" ∷
-        codes ".Fl Nm" ∷ [])
-        (codes "T(1)                       General Commands Manual                        T(1)" ∷
-        [] ∷
-        bold (codes "A") ∷
-        (codes "     x, " ++ (bold (codes "-a") ++ (codes " (| " ++ (bold (codes "-b") ++ (codes " " ++ (bold (codes "-") ++ (codes " z " ++ (bold (codes "-") ++ (italic (codes "y") ++ (codes " " ++ (bold (codes "-") ++ (codes "w " ++ bold (codes "-"))))))))))))) ∷
-        [] ∷
-        codes "S                                 2020-01-01                              T(1)" ∷ [])
-        (codes "mandoc: x.1:8:5: WARNING: skipping empty macro: No" ∷
-        codes "mandoc: x.1:10:5: WARNING: skipping empty macro: No" ∷
-        codes "mandoc: x.1:13:5: ERROR: missing manual name, using \"\"" ∷ []) }
+        (codes ".Dd 2020-01-01\n.Dt T 1\n.Os S\n.Sh A\nx\n.Fl , a\n.Fl ( | b\n.Fl No\nz\n.Fl No Em y\n.Fl Ns\nw\n.Fl Nm\n")
+        (codes "T(1)                       General Commands Manual                        T(1)\n\n" ++ bold (codes "A") ++ codes "\n     x, " ++ bold (codes "-a") ++
+        codes " (| " ++ bold (codes "-b") ++ codes " " ++ bold (codes "-") ++ codes " z " ++ bold (codes "-") ++ italic (codes "y") ++ codes " " ++
+        bold (codes "-") ++ codes "w " ++ bold (codes "-") ++ codes "\n\nS                                 2020-01-01                              T(1)\n")
+        (codes "mandoc: x.1:8:5: WARNING: skipping empty macro: No\nmandoc: x.1:10:5: WARNING: skipping empty macro: No\n" ++
+        codes "mandoc: x.1:13:5: ERROR: missing manual name, using \"\"\n") }
     // an apostrophe, and a word in front of others without a blank (mdoc(7), Ap and Pf)
-    ensures an_apostrophe_and_a_word_in_front_of_others { Shows plain
-        (mdoc_page (codes ".Fl a Ap s" ∷ codes ".Pf ( Ar b" ∷ []))
-        (mdoc_rows ((codes "     " ++ (bold (codes "-a") ++ (codes "'s (" ++ italic (codes "b")))) ∷ []))
-        [] }
+    ensures an_apostrophe_and_a_word_in_front_of_others { Shows plain (mdoc_page (codes ".Fl a Ap s\n.Pf ( Ar b\n"))
+        (mdoc_rows (codes "     " ++ bold (codes "-a") ++ codes "'s (" ++ italic (codes "b") ++ codes "\n")) [] }
 {}
 
 /// mdoc(7), Ar.
 pub fn ar_pages()
     // words without blanks between them: the two words of Ar (mdoc(7), Ar, Sm)
     ensures words_without_blanks_between_them_the_two_words_of { Shows plain
-        (codes ".Dd 2020-01-01" ∷
-        codes ".Dt T 1" ∷
-        codes ".Os S" ∷
-        codes ".Sh A" ∷
-        codes ".Sm off" ∷
-        codes ".Ar" ∷
-        codes ".Pa" ∷
-        codes ".Sm on" ∷
-        codes ".Ar" ∷ [])
-        (codes "T(1)                       General Commands Manual                        T(1)" ∷
-        [] ∷
-        bold (codes "A") ∷
-        (codes "     " ++ (italic (codes "file...~") ++ (codes " " ++ (italic (codes "file") ++ (codes " " ++ italic (codes "...")))))) ∷
-        [] ∷
-        codes "S                                 2020-01-01                              T(1)" ∷ [])
-        [] }
+        (codes ".Dd 2020-01-01\n.Dt T 1\n.Os S\n.Sh A\n.Sm off\n.Ar\n.Pa\n.Sm on\n.Ar\n")
+        (codes "T(1)                       General Commands Manual                        T(1)\n\n" ++ bold (codes "A") ++ codes "\n     " ++
+        italic (codes "file...~") ++ codes " " ++ italic (codes "file") ++ codes " " ++ italic (codes "...") ++
+        codes "\n\nS                                 2020-01-01                              T(1)\n") [] }
 {}
 
 /// mdoc(7), Bx.
 pub fn bx_pages()
     // a version of BSD before its name, and the words after it (mdoc(7), Bx)
     ensures a_version_of_bsd_before_its_name_and_the_words { Shows plain
-        (codes ".Dd 2020-01-01" ∷
-        codes ".Dt T 1" ∷
-        codes ".Os S" ∷
-        codes ".Sh A" ∷
-        codes ".Bx 4.3 reno ," ∷
-        codes ".Bx 4.4 Lite x ." ∷
-        codes ".Bx | a" ∷ [])
-        (codes "T(1)                       General Commands Manual                        T(1)" ∷
-        [] ∷
-        bold (codes "A") ∷
-        codes "     4.3BSD reno, 4.4BSD Lite x.  BSD | a" ∷
-        [] ∷
-        codes "S                                 2020-01-01                              T(1)" ∷ [])
-        [] }
+        (codes ".Dd 2020-01-01\n.Dt T 1\n.Os S\n.Sh A\n.Bx 4.3 reno ,\n.Bx 4.4 Lite x .\n.Bx | a\n")
+        (codes "T(1)                       General Commands Manual                        T(1)\n\n" ++ bold (codes "A") ++
+        codes "\n     4.3BSD reno, 4.4BSD Lite x.  BSD | a\n\nS                                 2020-01-01                              T(1)\n") [] }
     // the six systems by their names, with a version and without one (mdoc(7), Bsx, Dx, Fx, Nx, Ox and Ux)
     ensures the_six_systems_by_their_names_with_a_version_and { Shows plain
-        (codes ".Dd 2020-01-01" ∷
-        codes ".Dt T 1" ∷
-        codes ".Os S" ∷
-        codes ".Sh A" ∷
-        codes ".Bsx 1" ∷
-        codes ".Dx 2" ∷
-        codes ".Fx 3" ∷
-        codes ".Nx 4" ∷
-        codes ".Ox 5 ," ∷
-        codes ".Ux" ∷
-        codes ".Pp" ∷
-        codes ".Bsx" ∷
-        codes ".Dx" ∷
-        codes ".Fx" ∷
-        codes ".Nx" ∷
-        codes ".Ox" ∷
-        codes ".Ux ," ∷
-        codes ".Fx 1 2" ∷ [])
-        (codes "T(1)                       General Commands Manual                        T(1)" ∷
-        [] ∷
-        bold (codes "A") ∷
-        codes "     BSD/OS 1 DragonFly 2 FreeBSD 3 NetBSD 4 OpenBSD 5, UNIX" ∷
-        [] ∷
-        codes "     BSD/OS DragonFly FreeBSD NetBSD OpenBSD UNIX, FreeBSD 1 2" ∷
-        [] ∷
-        codes "S                                 2020-01-01                              T(1)" ∷ [])
-        [] }
+        (codes ".Dd 2020-01-01\n.Dt T 1\n.Os S\n.Sh A\n.Bsx 1\n.Dx 2\n.Fx 3\n.Nx 4\n.Ox 5 ,\n.Ux\n.Pp\n.Bsx\n.Dx\n.Fx\n.Nx\n.Ox\n.Ux ,\n.Fx 1 2\n")
+        (codes "T(1)                       General Commands Manual                        T(1)\n\n" ++ bold (codes "A") ++
+        codes "\n     BSD/OS 1 DragonFly 2 FreeBSD 3 NetBSD 4 OpenBSD 5, UNIX\n\n     BSD/OS DragonFly FreeBSD NetBSD OpenBSD UNIX, FreeBSD 1 2\n\n" ++
+        codes "S                                 2020-01-01                              T(1)\n") [] }
 {}
 
 /// mdoc(7), Ns.
 pub fn ns_pages()
     // Ns glues both sides wherever it stands, inside an enclosure too (mdoc(7), Ns)
     ensures ns_glues_both_sides_wherever_it_stands_inside_an { Shows plain
-        (codes ".Dd 2020-01-01" ∷
-        codes ".Dt T 1" ∷
-        codes ".Os S" ∷
-        codes ".Sh A" ∷
-        codes ".Op Fl a Ns" ∷
-        codes "b" ∷
-        codes ".Op Pq c Ns" ∷
-        codes "d" ∷
-        codes ".Ns e" ∷
-        codes "f" ∷ [])
-        (codes "T(1)                       General Commands Manual                        T(1)" ∷
-        [] ∷
-        bold (codes "A") ∷
-        (codes "     [" ++ (bold (codes "-a") ++ codes "] b [(c)] de f")) ∷
-        [] ∷
-        codes "S                                 2020-01-01                              T(1)" ∷ [])
-        [] }
+        (codes ".Dd 2020-01-01\n.Dt T 1\n.Os S\n.Sh A\n.Op Fl a Ns\nb\n.Op Pq c Ns\nd\n.Ns e\nf\n")
+        (codes "T(1)                       General Commands Manual                        T(1)\n\n" ++ bold (codes "A") ++ codes "\n     [" ++ bold (codes "-a") ++
+        codes "] b [(c)] de f\n\nS                                 2020-01-01                              T(1)\n") [] }
     // a link with its words, and without any (mdoc(7), Lk)
-    ensures a_link_with_its_words_and_without_any { Shows plain
-        (mdoc_page (codes ".Lk http://a b" ∷ codes ".Lk http://c" ∷ []))
-        (mdoc_rows ((codes "     " ++ (italic (codes "b") ++ codes ": http://a http://c")) ∷ []))
-        [] }
+    ensures a_link_with_its_words_and_without_any { Shows plain (mdoc_page (codes ".Lk http://a b\n.Lk http://c\n"))
+        (mdoc_rows (codes "     " ++ italic (codes "b") ++ codes ": http://a http://c\n")) [] }
     // rows of their own, six columns further in (mdoc(7), D1 and Dl)
-    ensures rows_of_their_own_six_columns_further_in { Shows plain
-        (mdoc_page (codes "a" ∷ codes ".D1 b" ∷ codes ".Dl c" ∷ codes "d" ∷ []))
-        (mdoc_rows (codes "     a" ∷ codes "           b" ∷ codes "           c" ∷ codes "     d" ∷ []))
-        [] }
+    ensures rows_of_their_own_six_columns_further_in { Shows plain (mdoc_page (codes "a\n.D1 b\n.Dl c\nd\n"))
+        (mdoc_rows (codes "     a\n           b\n           c\n     d\n")) [] }
     // what the manual is about (mdoc(7), Nd)
-    ensures what_the_manual_is_about { Shows plain
-        (mdoc_page (codes ".Nm t" ∷ codes ".Nd x" ∷ []))
-        (mdoc_rows ((codes "     " ++ (bold (codes "t") ++ codes " - x")) ∷ []))
-        [] }
+    ensures what_the_manual_is_about { Shows plain (mdoc_page (codes ".Nm t\n.Nd x\n"))
+        (mdoc_rows (codes "     " ++ bold (codes "t") ++ codes " - x\n")) [] }
 {}
 
 /// mdoc(7), Bf.
 pub fn bf_pages()
     // a pair of quotes in the name of a font that there is not is shown as one where it is quoted (mdoc(7), Bf)
     ensures a_pair_of_quotes_in_the_name_of_a_font_that_there { Shows plain
-        (codes ".Dd 2020-01-01" ∷
-        codes ".Dt T 1" ∷
-        codes ".Os S" ∷
-        codes ".Sh A" ∷
-        codes ".Bf \"E\"\"m\"" ∷
-        codes "x" ∷
-        codes ".Ef" ∷
-        codes ".Bf E\"\"m" ∷
-        codes "y" ∷
-        codes ".Ef" ∷ [])
-        (codes "T(1)                       General Commands Manual                        T(1)" ∷
-        [] ∷
-        bold (codes "A") ∷
-        codes "     x y" ∷
-        [] ∷
-        codes "S                                 2020-01-01                              T(1)" ∷ [])
-        (codes "mandoc: x.1:5:2: WARNING: unknown font, skipping request: E\"m" ∷
-        codes "mandoc: x.1:8:2: WARNING: unknown font, skipping request: E\"\"m" ∷ []) }
+        (codes ".Dd 2020-01-01\n.Dt T 1\n.Os S\n.Sh A\n.Bf \"E\"\"m\"\nx\n.Ef\n.Bf E\"\"m\ny\n.Ef\n")
+        (codes "T(1)                       General Commands Manual                        T(1)\n\n" ++ bold (codes "A") ++
+        codes "\n     x y\n\nS                                 2020-01-01                              T(1)\n")
+        (codes "mandoc: x.1:5:2: WARNING: unknown font, skipping request: E\"m\nmandoc: x.1:8:2: WARNING: unknown font, skipping request: E\"\"m\n") }
     // words that are kept together, and a place for links, change no row (mdoc(7), Bk, Ek and Tg)
-    ensures words_that_are_kept_together_and_a_place_for_links { Shows plain
-        (mdoc_page (codes "a" ∷ codes ".Bk" ∷ codes "b" ∷ codes ".Ek" ∷ codes ".Tg x" ∷ codes "c" ∷ []))
-        (mdoc_rows (codes "     a b c" ∷ []))
-        [] }
+    ensures words_that_are_kept_together_and_a_place_for_links { Shows plain (mdoc_page (codes "a\n.Bk\nb\n.Ek\n.Tg x\nc\n"))
+        (mdoc_rows (codes "     a b c\n")) [] }
 {}
 
 /// mdoc(7), Op.
 pub fn op_pages()
     // a mark after a word that ends in \c is what the next line stands apart from (mdoc(7), Op; roff(7), \c)
-    ensures a_mark_after_a_word_that_ends_in_c_is_what_the { Shows plain
-        (codes ".Dd 2020-01-01" ∷
-        codes ".Dt T 1" ∷
-        codes ".Os S" ∷
-        codes ".Sh A" ∷
-        codes ".Op a\\c" ∷
-        codes "b" ∷
-        codes ".Em c\\c" ∷
-        codes "d" ∷ [])
-        (codes "T(1)                       General Commands Manual                        T(1)" ∷
-        [] ∷
-        bold (codes "A") ∷
-        (codes "     [a] b " ++ (italic (codes "c") ++ codes "d")) ∷
-        [] ∷
-        codes "S                                 2020-01-01                              T(1)" ∷ [])
-        [] }
+    ensures a_mark_after_a_word_that_ends_in_c_is_what_the { Shows plain (codes ".Dd 2020-01-01\n.Dt T 1\n.Os S\n.Sh A\n.Op a\\c\nb\n.Em c\\c\nd\n")
+        (codes "T(1)                       General Commands Manual                        T(1)\n\n" ++ bold (codes "A") ++ codes "\n     [a] b " ++
+        italic (codes "c") ++ codes "d\n\nS                                 2020-01-01                              T(1)\n") [] }
     // a flag with its argument in brackets, and two flags, with delimiters after them (mdoc(7), Op, Ar and Fl)
     ensures a_flag_with_its_argument_in_brackets_and_two_flags { Shows plain
-        (codes ".Dd 2020-01-01" ∷
-        codes ".Dt T 1" ∷
-        codes ".Os S" ∷
-        codes ".Sh A" ∷
-        codes ".Op Fl a Ar file ," ∷
-        codes ".Pp" ∷
-        codes ".Fl a b ." ∷ [])
-        (codes "T(1)                       General Commands Manual                        T(1)" ∷
-        [] ∷
-        bold (codes "A") ∷
-        (codes "     [" ++ (bold (codes "-a") ++ (codes " " ++ (italic (codes "file") ++ codes "],")))) ∷
-        [] ∷
-        (codes "     " ++ (bold (codes "-a") ++ (codes " " ++ (bold (codes "-b") ++ codes ".")))) ∷
-        [] ∷
-        codes "S                                 2020-01-01                              T(1)" ∷ [])
-        [] }
+        (codes ".Dd 2020-01-01\n.Dt T 1\n.Os S\n.Sh A\n.Op Fl a Ar file ,\n.Pp\n.Fl a b .\n")
+        (codes "T(1)                       General Commands Manual                        T(1)\n\n" ++ bold (codes "A") ++ codes "\n     [" ++ bold (codes "-a") ++
+        codes " " ++ italic (codes "file") ++ codes "],\n\n     " ++ bold (codes "-a") ++ codes " " ++ bold (codes "-b") ++
+        codes ".\n\nS                                 2020-01-01                              T(1)\n") [] }
     // a reference in parentheses, and a delimiter after it (mdoc(7), Pq and Xr)
-    ensures a_reference_in_parentheses_and_a_delimiter_after { Shows plain
-        (codes ".Dd 2020-01-01" ∷ codes ".Dt T 1" ∷ codes ".Os S" ∷ codes ".Sh A" ∷ codes ".Pq Xr ls 1 ." ∷ [])
-        (codes "T(1)                       General Commands Manual                        T(1)" ∷
-        [] ∷
-        bold (codes "A") ∷
-        codes "     (ls(1))." ∷
-        [] ∷
-        codes "S                                 2020-01-01                              T(1)" ∷ [])
-        [] }
+    ensures a_reference_in_parentheses_and_a_delimiter_after { Shows plain (codes ".Dd 2020-01-01\n.Dt T 1\n.Os S\n.Sh A\n.Pq Xr ls 1 .\n")
+        (codes "T(1)                       General Commands Manual                        T(1)\n\n" ++ bold (codes "A") ++
+        codes "\n     (ls(1)).\n\nS                                 2020-01-01                              T(1)\n") [] }
     // enclosures of a line (mdoc(7), Aq, Bq, Brq, Dq, Pq, Ql, Qq and Sq)
-    ensures enclosures_of_a_line { Shows plain
-        (mdoc_page (codes ".Aq a" ∷
-        codes ".Bq b" ∷
-        codes ".Brq c" ∷
-        codes ".Dq d" ∷
-        codes ".Pq e" ∷
-        codes ".Ql f" ∷
-        codes ".Qq g" ∷
-        codes ".Sq h" ∷ []))
-        (mdoc_rows (codes "     <a> [b] {c} \"d\" (e) `f' \"g\" `h'" ∷ []))
-        [] }
+    ensures enclosures_of_a_line { Shows plain (mdoc_page (codes ".Aq a\n.Bq b\n.Brq c\n.Dq d\n.Pq e\n.Ql f\n.Qq g\n.Sq h\n"))
+        (mdoc_rows (codes "     <a> [b] {c} \"d\" (e) `f' \"g\" `h'\n")) [] }
     // enclosures over lines (mdoc(7), Ao, Bo, Bro, Do, Oo, Po, Qo and So)
     ensures enclosures_over_lines { Shows plain
-        (mdoc_page (codes ".Ao a Ac" ∷
-        codes ".Bo" ∷
-        codes "b" ∷
-        codes ".Bc" ∷
-        codes ".Bro c Brc" ∷
-        codes ".Do d Dc" ∷
-        codes ".Oo e Oc" ∷
-        codes ".Po f Pc" ∷
-        codes ".Qo g Qc" ∷
-        codes ".So h Sc" ∷ []))
-        (mdoc_rows (codes "     <a> [b] {c} \"d\" [e] (f) \"g\" `h'" ∷ []))
-        [] }
+        (mdoc_page (codes ".Ao a Ac\n.Bo\nb\n.Bc\n.Bro c Brc\n.Do d Dc\n.Oo e Oc\n.Po f Pc\n.Qo g Qc\n.So h Sc\n"))
+        (mdoc_rows (codes "     <a> [b] {c} \"d\" [e] (f) \"g\" `h'\n")) [] }
     // marks of one's own (mdoc(7), Eo and Ec)
-    ensures marks_of_one_s_own { Shows plain
-        (mdoc_page (codes ".Eo ((" ∷ codes "a" ∷ codes ".Ec ))" ∷ []))
-        (mdoc_rows (codes "     ((a))" ∷ []))
-        [] }
+    ensures marks_of_one_s_own { Shows plain (mdoc_page (codes ".Eo ((\na\n.Ec ))\n")) (mdoc_rows (codes "     ((a))\n")) [] }
     // closing delimiters at a line's end come after the mark (mdoc(7), Pq)
-    ensures closing_delimiters_at_a_line_s_end_come_after_the { Shows plain
-        (mdoc_page (codes ".Pq a ," ∷ codes "b" ∷ []))
-        (mdoc_rows (codes "     (a), b" ∷ []))
-        [] }
+    ensures closing_delimiters_at_a_line_s_end_come_after_the { Shows plain (mdoc_page (codes ".Pq a ,\nb\n")) (mdoc_rows (codes "     (a), b\n")) [] }
 {}
 
 /// mdoc(7), Fo.
 pub fn fo_pages()
     // a function that is not ended, and one that is not open (mdoc(7), Fo)
-    ensures a_function_that_is_not_ended_and_one_that_is_not { Shows plain
-        (codes ".Dd 2020-01-01" ∷
-        codes ".Dt T 1" ∷
-        codes ".Os S" ∷
-        codes ".Sh A" ∷
-        codes ".Fc" ∷
-        codes ".Fo f" ∷
-        codes ".Sh B" ∷ [])
-        (codes "T(1)                       General Commands Manual                        T(1)" ∷
-        [] ∷
-        bold (codes "A") ∷
-        (codes "     " ++ (bold (codes "f") ++ codes "()")) ∷
-        [] ∷
-        bold (codes "B") ∷
-        [] ∷
-        codes "S                                 2020-01-01                              T(1)" ∷ [])
-        (codes "mandoc: x.1:5:2: ERROR: skipping end of block that is not open: Fc" ∷
-        codes "mandoc: x.1:7:2: ERROR: appending missing end of block: Fo" ∷ []) }
+    ensures a_function_that_is_not_ended_and_one_that_is_not { Shows plain (codes ".Dd 2020-01-01\n.Dt T 1\n.Os S\n.Sh A\n.Fc\n.Fo f\n.Sh B\n")
+        (codes "T(1)                       General Commands Manual                        T(1)\n\n" ++ bold (codes "A") ++ codes "\n     " ++ bold (codes "f") ++
+        codes "()\n\n" ++ bold (codes "B") ++ codes "\n\nS                                 2020-01-01                              T(1)\n")
+        (codes "mandoc: x.1:5:2: ERROR: skipping end of block that is not open: Fc\nmandoc: x.1:7:2: ERROR: appending missing end of block: Fo\n") }
 {}
 
 /// mdoc(7), In.
 pub fn in_pages()
     // declarations in the SYNOPSIS (mdoc(7), In, Ft, Fn, Fo, Fd)
     ensures declarations_in_the_synopsis { Shows plain
-        (codes ".Dd 2020-01-01" ∷
-        codes ".Dt T 1" ∷
-        codes ".Os S" ∷
-        codes ".Sh SYNOPSIS" ∷
-        codes ".Fd #define A" ∷
-        codes ".In stdio.h" ∷
-        codes ".Ft int" ∷
-        codes ".Fn puts \"const char *s\"" ∷
-        codes ".Ft int" ∷
-        codes ".Fo printf" ∷
-        codes ".Fa \"const char *f\"" ∷
-        codes ".Fa ..." ∷
-        codes ".Fc" ∷ [])
-        (codes "T(1)                       General Commands Manual                        T(1)" ∷
-        [] ∷
-        bold (codes "SYNOPSIS") ∷
-        (codes "     " ++ (bold (codes "#define") ++ (codes " " ++ bold (codes "A")))) ∷
-        codes "     #include <stdio.h>" ∷
-        (codes "     " ++ italic (codes "int")) ∷
-        (codes "     " ++ (bold (codes "puts") ++ (codes "(" ++ (italic (codes "const") ++ (codes " " ++ (italic (codes "char") ++ (codes " " ++ (italic (codes "*s") ++ codes ");")))))))) ∷
-        (codes "     " ++ italic (codes "int")) ∷
-        (codes "     " ++ (bold (codes "printf") ++ (codes "(" ++ (italic (codes "const") ++ (codes " " ++ (italic (codes "char") ++ (codes " " ++ (italic (codes "*f") ++ (codes ", " ++ (italic (codes "...") ++ codes ");")))))))))) ∷
-        [] ∷
-        codes "S                                 2020-01-01                              T(1)" ∷ [])
-        [] }
+        (codes ".Dd 2020-01-01\n.Dt T 1\n.Os S\n.Sh SYNOPSIS\n.Fd #define A\n.In stdio.h\n.Ft int\n.Fn puts \"const char *s\"\n.Ft int\n.Fo printf\n.Fa \"const char *f\"\n.Fa ...\n" ++
+        codes ".Fc\n")
+        (codes "T(1)                       General Commands Manual                        T(1)\n\n" ++ bold (codes "SYNOPSIS") ++ codes "\n     " ++
+        bold (codes "#define") ++ codes " " ++ bold (codes "A") ++ codes "\n     #include <stdio.h>\n     " ++ italic (codes "int") ++ codes "\n     " ++
+        bold (codes "puts") ++ codes "(" ++ italic (codes "const") ++ codes " " ++ italic (codes "char") ++ codes " " ++ italic (codes "*s") ++ codes ");\n     " ++
+        italic (codes "int") ++ codes "\n     " ++ bold (codes "printf") ++ codes "(" ++ italic (codes "const") ++ codes " " ++ italic (codes "char") ++ codes " " ++
+        italic (codes "*f") ++ codes ", " ++ italic (codes "...") ++
+        codes ");\n\nS                                 2020-01-01                              T(1)\n") [] }
     // the same macros elsewhere (mdoc(7), In, Ft, Fn, Fo)
     ensures the_same_macros_elsewhere { Shows plain
-        (codes ".Dd 2020-01-01" ∷
-        codes ".Dt T 1" ∷
-        codes ".Os S" ∷
-        codes ".Sh A" ∷
-        codes "x" ∷
-        codes ".In f" ∷
-        codes ".Ft int" ∷
-        codes ".Fn f a" ∷
-        codes ".Fo f" ∷
-        codes ".Fa a , b" ∷
-        codes ".Fa \"char c\"" ∷
-        codes ".Fc ." ∷ [])
-        (codes "T(1)                       General Commands Manual                        T(1)" ∷
-        [] ∷
-        bold (codes "A") ∷
-        (codes "     x <f> " ++ (italic (codes "int") ++ (codes " " ++ (bold (codes "f") ++ (codes "(" ++ (italic (codes "a") ++ (codes ") " ++ (bold (codes "f") ++ (codes "(" ++ (italic (codes "a") ++ (codes ",, " ++ (italic (codes "b") ++ (codes ", " ++ (italic (codes "char") ++ (codes " " ++ (italic (codes "c") ++ codes ").")))))))))))))))) ∷
-        [] ∷
-        codes "S                                 2020-01-01                              T(1)" ∷ [])
-        [] }
+        (codes ".Dd 2020-01-01\n.Dt T 1\n.Os S\n.Sh A\nx\n.In f\n.Ft int\n.Fn f a\n.Fo f\n.Fa a , b\n.Fa \"char c\"\n.Fc .\n")
+        (codes "T(1)                       General Commands Manual                        T(1)\n\n" ++ bold (codes "A") ++ codes "\n     x <f> " ++
+        italic (codes "int") ++ codes " " ++ bold (codes "f") ++ codes "(" ++ italic (codes "a") ++ codes ") " ++ bold (codes "f") ++ codes "(" ++
+        italic (codes "a") ++ codes ",, " ++ italic (codes "b") ++ codes ", " ++ italic (codes "char") ++ codes " " ++ italic (codes "c") ++
+        codes ").\n\nS                                 2020-01-01                              T(1)\n") [] }
     // a reference to an article (mdoc(7), Rs, %A, %D, %J and %T)
-    ensures a_reference_to_an_article { Shows plain
-        (mdoc_page (codes ".Rs" ∷
-        codes ".%A A. Author" ∷
-        codes ".%T A Title" ∷
-        codes ".%J Journal" ∷
-        codes ".%D 2001" ∷
-        codes ".Re" ∷ []))
-        (mdoc_rows ((codes "     A. Author, " ++ (italic (codes "A") ++ (codes " " ++ (italic (codes "Title") ++ (codes ", " ++ (italic (codes "Journal") ++ codes ", 2001.")))))) ∷ []))
+    ensures a_reference_to_an_article { Shows plain (mdoc_page (codes ".Rs\n.%A A. Author\n.%T A Title\n.%J Journal\n.%D 2001\n.Re\n"))
+        (mdoc_rows (codes "     A. Author, " ++ italic (codes "A") ++ codes " " ++ italic (codes "Title") ++ codes ", " ++ italic (codes "Journal") ++ codes ", 2001.\n"))
         [] }
     // the other fields of a reference (mdoc(7), %B, %C, %I, %N, %O, %P, %Q, %R, %U and %V)
     ensures the_other_fields_of_a_reference { Shows plain
-        (mdoc_page (codes ".Rs" ∷
-        codes ".%B book" ∷
-        codes ".%C city" ∷
-        codes ".%I issuer" ∷
-        codes ".%N no" ∷
-        codes ".%O other" ∷
-        codes ".%P page" ∷
-        codes ".%Q quoted" ∷
-        codes ".%R report" ∷
-        codes ".%U url" ∷
-        codes ".%V volume" ∷
-        codes ".Re" ∷ []))
-        (mdoc_rows ((codes "     " ++ (italic (codes "book") ++ codes ", city, issuer, no, other, page, quoted, report, url, volume.")) ∷ []))
-        [] }
+        (mdoc_page (codes ".Rs\n.%B book\n.%C city\n.%I issuer\n.%N no\n.%O other\n.%P page\n.%Q quoted\n.%R report\n.%U url\n.%V volume\n.Re\n"))
+        (mdoc_rows (codes "     " ++ italic (codes "book") ++ codes ", city, issuer, no, other, page, quoted, report, url, volume.\n")) [] }
     // commas and brackets of opening delimiters in roman (mdoc(7), Delimiters)
-    ensures commas_and_brackets_of_opening_delimiters_in_roman { Shows plain
-        (mdoc_page (codes ".Ar ( a ) , b" ∷ []))
-        (mdoc_rows ((codes "     (" ++ (italic (codes "a") ++ (codes "), " ++ italic (codes "b")))) ∷ []))
-        [] }
+    ensures commas_and_brackets_of_opening_delimiters_in_roman { Shows plain (mdoc_page (codes ".Ar ( a ) , b\n"))
+        (mdoc_rows (codes "     (" ++ italic (codes "a") ++ codes "), " ++ italic (codes "b") ++ codes "\n")) [] }
 {}
 
 /// mdoc(7), Ex.
 pub fn ex_pages()
     // the sentence of Ex, of two programs (mdoc(7), Ex)
-    ensures the_sentence_of_ex_of_two_programs { Shows plain
-        (codes ".Dd 2020-01-01" ∷ codes ".Dt T 1" ∷ codes ".Os S" ∷ codes ".Sh A" ∷ codes ".Ex -std a b" ∷ [])
-        (codes "T(1)                       General Commands Manual                        T(1)" ∷
-        [] ∷
-        bold (codes "A") ∷
-        (codes "     The " ++ (bold (codes "a") ++ (codes " and " ++ (bold (codes "b") ++ codes " utilities exit 0 on success, and >0 if an error occurs.")))) ∷
-        [] ∷
-        codes "S                                 2020-01-01                              T(1)" ∷ [])
+    ensures the_sentence_of_ex_of_two_programs { Shows plain (codes ".Dd 2020-01-01\n.Dt T 1\n.Os S\n.Sh A\n.Ex -std a b\n")
+        (codes "T(1)                       General Commands Manual                        T(1)\n\n" ++ bold (codes "A") ++ codes "\n     The " ++ bold (codes "a") ++
+        codes " and " ++ bold (codes "b") ++
+        codes " utilities exit 0 on success, and >0 if an error occurs.\n\nS                                 2020-01-01                              T(1)\n")
         [] }
 {}
 
 /// mdoc(7), Rv.
 pub fn rv_pages()
     // the sentence of Rv, of three functions, and two blanks after it (mdoc(7), Rv)
-    ensures the_sentence_of_rv_of_three_functions_and_two { Shows plain
-        (codes ".Dd 2020-01-01" ∷
-        codes ".Dt T 1" ∷
-        codes ".Os S" ∷
-        codes ".Sh A" ∷
-        codes ".Rv -std f g h" ∷
-        codes "x" ∷ [])
-        (codes "T(1)                       General Commands Manual                        T(1)" ∷
-        [] ∷
-        bold (codes "A") ∷
-        (codes "     The " ++ (bold (codes "f") ++ (codes "(), " ++ (bold (codes "g") ++ (codes "(), and " ++ (bold (codes "h") ++ codes "() functions return the value 0 if successful;")))))) ∷
-        codes "     otherwise the value -1 is returned and the global variable errno is set" ∷
-        codes "     to indicate the error.  x" ∷
-        [] ∷
-        codes "S                                 2020-01-01                              T(1)" ∷ [])
-        [] }
+    ensures the_sentence_of_rv_of_three_functions_and_two { Shows plain (codes ".Dd 2020-01-01\n.Dt T 1\n.Os S\n.Sh A\n.Rv -std f g h\nx\n")
+        (codes "T(1)                       General Commands Manual                        T(1)\n\n" ++ bold (codes "A") ++ codes "\n     The " ++ bold (codes "f") ++
+        codes "(), " ++ bold (codes "g") ++ codes "(), and " ++ bold (codes "h") ++
+        codes "() functions return the value 0 if successful;\n     otherwise the value -1 is returned and the global variable errno is set\n" ++
+        codes "     to indicate the error.  x\n\nS                                 2020-01-01                              T(1)\n") [] }
     // the sentence of Rv without a function has the name of the manual (mdoc(7), Rv)
-    ensures the_sentence_of_rv_without_a_function_has_the_name { Shows plain
-        (codes ".Dd 2020-01-01" ∷
-        codes ".Dt T 1" ∷
-        codes ".Os S" ∷
-        codes ".Sh A" ∷
-        codes ".Nm foo" ∷
-        codes ".Rv -std" ∷
-        codes "x" ∷ [])
-        (codes "T(1)                       General Commands Manual                        T(1)" ∷
-        [] ∷
-        bold (codes "A") ∷
-        (codes "     " ++ (bold (codes "foo") ++ (codes " The " ++ (bold (codes "foo") ++ codes "() function returns the value 0 if successful; otherwise the")))) ∷
-        codes "     value -1 is returned and the global variable errno is set to indicate the" ∷
-        codes "     error.  x" ∷
-        [] ∷
-        codes "S                                 2020-01-01                              T(1)" ∷ [])
-        [] }
+    ensures the_sentence_of_rv_without_a_function_has_the_name { Shows plain (codes ".Dd 2020-01-01\n.Dt T 1\n.Os S\n.Sh A\n.Nm foo\n.Rv -std\nx\n")
+        (codes "T(1)                       General Commands Manual                        T(1)\n\n" ++ bold (codes "A") ++ codes "\n     " ++ bold (codes "foo") ++
+        codes " The " ++ bold (codes "foo") ++
+        codes "() function returns the value 0 if successful; otherwise the\n     value -1 is returned and the global variable errno is set to indicate the\n" ++
+        codes "     error.  x\n\nS                                 2020-01-01                              T(1)\n") [] }
 {}
 
 /// mdoc(7), Sm.
 pub fn sm_pages()
     // words without blanks between them, and with them again (mdoc(7), Sm)
     ensures words_without_blanks_between_them_and_with_them { Shows plain
-        (codes ".Dd 2020-01-01" ∷
-        codes ".Dt T 1" ∷
-        codes ".Os S" ∷
-        codes ".Sh A" ∷
-        codes "x" ∷
-        codes ".Sm off" ∷
-        codes ".Fl a" ∷
-        codes ".Ar \"b c\"" ∷
-        codes "d e" ∷
-        codes ".Sm on" ∷
-        codes "f" ∷ [])
-        (codes "T(1)                       General Commands Manual                        T(1)" ∷
-        [] ∷
-        bold (codes "A") ∷
-        (codes "     x " ++ (bold (codes "-a") ++ (italic (codes "b") ++ (codes " " ++ (italic (codes "c") ++ codes "d e f"))))) ∷
-        [] ∷
-        codes "S                                 2020-01-01                              T(1)" ∷ [])
+        (codes ".Dd 2020-01-01\n.Dt T 1\n.Os S\n.Sh A\nx\n.Sm off\n.Fl a\n.Ar \"b c\"\nd e\n.Sm on\nf\n")
+        (codes "T(1)                       General Commands Manual                        T(1)\n\n" ++ bold (codes "A") ++ codes "\n     x " ++ bold (codes "-a") ++
+        italic (codes "b") ++ codes " " ++ italic (codes "c") ++ codes "d e f\n\nS                                 2020-01-01                              T(1)\n")
         [] }
     // blanks in the sentence of Ex stay where Sm asks for none (mdoc(7), Ex, Sm)
-    ensures blanks_in_the_sentence_of_ex_stay_where_sm_asks { Shows plain
-        (mdoc_page (codes "x" ∷ codes ".Sm off" ∷ codes ".Ex -std a" ∷ codes "y" ∷ codes ".Sm on" ∷ codes "z" ∷ []))
-        (mdoc_rows ((codes "     x The " ++ (bold (codes "a") ++ codes " utility exits 0 on success, and >0 if an error occurs.y z")) ∷ []))
-        [] }
+    ensures blanks_in_the_sentence_of_ex_stay_where_sm_asks { Shows plain (mdoc_page (codes "x\n.Sm off\n.Ex -std a\ny\n.Sm on\nz\n"))
+        (mdoc_rows (codes "     x The " ++ bold (codes "a") ++ codes " utility exits 0 on success, and >0 if an error occurs.y z\n")) [] }
     // blanks in the sentence of Rv stay too (mdoc(7), Rv, Sm)
-    ensures blanks_in_the_sentence_of_rv_stay_too { Shows plain
-        (mdoc_page (codes "x" ∷ codes ".Sm off" ∷ codes ".Rv -std f g h" ∷ codes "y" ∷ codes ".Sm on" ∷ codes "z" ∷ []))
-        (mdoc_rows ((codes "     x The " ++ (bold (codes "f") ++ (codes "(), " ++ (bold (codes "g") ++ (codes "(), and " ++ (bold (codes "h") ++ codes "() functions return the value 0 if successful;")))))) ∷
-        codes "     otherwise the value -1 is returned and the global variable errno is set" ∷
-        codes "     to indicate the error.y z" ∷ []))
-        [] }
+    ensures blanks_in_the_sentence_of_rv_stay_too { Shows plain (mdoc_page (codes "x\n.Sm off\n.Rv -std f g h\ny\n.Sm on\nz\n"))
+        (mdoc_rows (codes "     x The " ++ bold (codes "f") ++ codes "(), " ++ bold (codes "g") ++ codes "(), and " ++ bold (codes "h") ++
+        codes "() functions return the value 0 if successful;\n     otherwise the value -1 is returned and the global variable errno is set\n" ++
+        codes "     to indicate the error.y z\n")) [] }
     // blanks beside the name of the manual in a sentence stay too (mdoc(7), Ex, Nm, Sm)
-    ensures blanks_beside_the_name_of_the_manual_in_a_sentence { Shows plain
-        (mdoc_page (codes ".Nm foo" ∷ codes ".Sm off" ∷ codes ".Ex -std" ∷ codes "y" ∷ codes ".Sm on" ∷ codes "z" ∷ []))
-        (mdoc_rows ((codes "     " ++ (bold (codes "foo") ++ (codes " The " ++ (bold (codes "foo") ++ codes " utility exits 0 on success, and >0 if an error occurs.y z")))) ∷ []))
+    ensures blanks_beside_the_name_of_the_manual_in_a_sentence { Shows plain (mdoc_page (codes ".Nm foo\n.Sm off\n.Ex -std\ny\n.Sm on\nz\n"))
+        (mdoc_rows (codes "     " ++ bold (codes "foo") ++ codes " The " ++ bold (codes "foo") ++ codes " utility exits 0 on success, and >0 if an error occurs.y z\n"))
         [] }
 {}
 
@@ -514,131 +218,43 @@ pub fn sm_pages()
 pub fn nm_pages()
     // a name that prints nothing begins its row at the margin (mdoc(7), Nm)
     ensures a_name_that_prints_nothing_begins_its_row_at_the { Shows plain
-        (codes ".Dd 2020-01-01" ∷
-        codes ".Dt T 1" ∷
-        codes ".Os S" ∷
-        codes ".Sh SYNOPSIS" ∷
-        codes ".Nm \\&" ∷
-        codes ".Ar x" ∷
-        codes ".Nm" ∷
-        codes ".Ar y" ∷
-        codes ".br" ∷
-        codes ".Ar z" ∷ [])
-        (codes "T(1)                       General Commands Manual                        T(1)" ∷
-        [] ∷
-        bold (codes "SYNOPSIS") ∷
-        (codes "     " ++ italic (codes "x")) ∷
-        (codes "     " ++ italic (codes "y")) ∷
-        (codes "      " ++ italic (codes "z")) ∷
-        [] ∷
-        codes "S                                 2020-01-01                              T(1)" ∷ [])
-        [] }
+        (codes ".Dd 2020-01-01\n.Dt T 1\n.Os S\n.Sh SYNOPSIS\n.Nm \\&\n.Ar x\n.Nm\n.Ar y\n.br\n.Ar z\n")
+        (codes "T(1)                       General Commands Manual                        T(1)\n\n" ++ bold (codes "SYNOPSIS") ++ codes "\n     " ++
+        italic (codes "x") ++ codes "\n     " ++ italic (codes "y") ++ codes "\n      " ++ italic (codes "z") ++
+        codes "\n\nS                                 2020-01-01                              T(1)\n") [] }
     // a name that begins with a blank has the blanks of a sentence before it (mdoc(7), Nm)
-    ensures a_name_that_begins_with_a_blank_has_the_blanks_of { Shows plain
-        (codes ".Dd 2020-01-01" ∷
-        codes ".Dt T 1" ∷
-        codes ".Os S" ∷
-        codes ".Sh A" ∷
-        codes ".Nm \" a\"" ∷
-        codes "x." ∷
-        codes ".Nm" ∷
-        codes "y" ∷ [])
-        (codes "T(1)                       General Commands Manual                        T(1)" ∷
-        [] ∷
-        bold (codes "A") ∷
-        (codes "     " ++ (bold (codes "a") ++ (codes " x.  " ++ (bold (codes "a") ++ codes " y")))) ∷
-        [] ∷
-        codes "S                                 2020-01-01                              T(1)" ∷ [])
-        [] }
+    ensures a_name_that_begins_with_a_blank_has_the_blanks_of { Shows plain (codes ".Dd 2020-01-01\n.Dt T 1\n.Os S\n.Sh A\n.Nm \" a\"\nx.\n.Nm\ny\n")
+        (codes "T(1)                       General Commands Manual                        T(1)\n\n" ++ bold (codes "A") ++ codes "\n     " ++ bold (codes "a") ++
+        codes " x.  " ++ bold (codes "a") ++ codes " y\n\nS                                 2020-01-01                              T(1)\n") [] }
     // a name is printed alike each time, with its blanks, fonts and glyphs (mdoc(7), Nm; roff(7), \h, \f; mandoc_char(7))
     ensures a_name_is_printed_alike_each_time_with_its_blanks { Shows plain
-        (codes ".Dd 2020-01-01" ∷
-        codes ".Dt T 1" ∷
-        codes ".Os S" ∷
-        codes ".Sh A" ∷
-        codes ".Nm a\\h'2n'b\\fIc\\fRd\\(co" ∷
-        codes "x" ∷
-        codes ".Nm" ∷
-        codes "y" ∷ [])
-        (codes "T(1)                       General Commands Manual                        T(1)" ∷
-        [] ∷
-        bold (codes "A") ∷
-        (codes "     " ++ (bold (codes "a") ++ (codes "  " ++ (bold (codes "b") ++ (italic (codes "c") ++ (codes "d(C) x " ++ (bold (codes "a") ++ (codes "  " ++ (bold (codes "b") ++ (italic (codes "c") ++ codes "d(C) y")))))))))) ∷
-        [] ∷
-        codes "S                                 2020-01-01                              T(1)" ∷ [])
-        [] }
+        (codes ".Dd 2020-01-01\n.Dt T 1\n.Os S\n.Sh A\n.Nm a\\h'2n'b\\fIc\\fRd\\(co\nx\n.Nm\ny\n")
+        (codes "T(1)                       General Commands Manual                        T(1)\n\n" ++ bold (codes "A") ++ codes "\n     " ++ bold (codes "a") ++
+        codes "  " ++ bold (codes "b") ++ italic (codes "c") ++ codes "d(C) x " ++ bold (codes "a") ++ codes "  " ++ bold (codes "b") ++ italic (codes "c") ++
+        codes "d(C) y\n\nS                                 2020-01-01                              T(1)\n") [] }
     // the name of the manual in the SYNOPSIS, twice (mdoc(7), Nm)
-    ensures the_name_of_the_manual_in_the_synopsis_twice { Shows plain
-        (codes ".Dd 2020-01-01" ∷
-        codes ".Dt T 1" ∷
-        codes ".Os S" ∷
-        codes ".Sh SYNOPSIS" ∷
-        codes ".Nm ls" ∷
-        codes ".Op Fl a" ∷
-        codes ".Nm" ∷ [])
-        (codes "T(1)                       General Commands Manual                        T(1)" ∷
-        [] ∷
-        bold (codes "SYNOPSIS") ∷
-        (codes "     " ++ (bold (codes "ls") ++ (codes " [" ++ (bold (codes "-a") ++ codes "]")))) ∷
-        (codes "     " ++ bold (codes "ls")) ∷
-        [] ∷
-        codes "S                                 2020-01-01                              T(1)" ∷ [])
-        [] }
+    ensures the_name_of_the_manual_in_the_synopsis_twice { Shows plain (codes ".Dd 2020-01-01\n.Dt T 1\n.Os S\n.Sh SYNOPSIS\n.Nm ls\n.Op Fl a\n.Nm\n")
+        (codes "T(1)                       General Commands Manual                        T(1)\n\n" ++ bold (codes "SYNOPSIS") ++ codes "\n     " ++
+        bold (codes "ls") ++ codes " [" ++ bold (codes "-a") ++ codes "]\n     " ++ bold (codes "ls") ++
+        codes "\n\nS                                 2020-01-01                              T(1)\n") [] }
     // later rows of the SYNOPSIS stand further in by the columns of the name, without delimiters (mdoc(7), Nm)
     ensures later_rows_of_the_synopsis_stand_further_in_by_the { Shows plain
-        (codes ".Dd 2020-01-01" ∷
-        codes ".Dt T 1" ∷
-        codes ".Os S" ∷
-        codes ".Sh SYNOPSIS" ∷
-        codes ".Nm ( ls ," ∷
-        codes "aaaaaaaaaaaaaaaaaaaaaaaaaaaaaa" ∷
-        codes "aaaaaaaaaaaaaaaaaaaaaaaaaaaaaa" ∷
-        codes "aaaaaaaaaaaaaaaaaaaaaaaaaaaaaa" ∷ [])
-        (codes "T(1)                       General Commands Manual                        T(1)" ∷
-        [] ∷
-        bold (codes "SYNOPSIS") ∷
-        (codes "     (" ++ (bold (codes "ls") ++ codes ", aaaaaaaaaaaaaaaaaaaaaaaaaaaaaa aaaaaaaaaaaaaaaaaaaaaaaaaaaaaa")) ∷
-        codes "        aaaaaaaaaaaaaaaaaaaaaaaaaaaaaa" ∷
-        [] ∷
-        codes "S                                 2020-01-01                              T(1)" ∷ [])
-        [] }
+        (codes ".Dd 2020-01-01\n.Dt T 1\n.Os S\n.Sh SYNOPSIS\n.Nm ( ls ,\naaaaaaaaaaaaaaaaaaaaaaaaaaaaaa\naaaaaaaaaaaaaaaaaaaaaaaaaaaaaa\naaaaaaaaaaaaaaaaaaaaaaaaaaaaaa\n")
+        (codes "T(1)                       General Commands Manual                        T(1)\n\n" ++ bold (codes "SYNOPSIS") ++ codes "\n     (" ++
+        bold (codes "ls") ++ codes ", aaaaaaaaaaaaaaaaaaaaaaaaaaaaaa aaaaaaaaaaaaaaaaaaaaaaaaaaaaaa\n        aaaaaaaaaaaaaaaaaaaaaaaaaaaaaa\n\n" ++
+        codes "S                                 2020-01-01                              T(1)\n") [] }
     // a pair of quotes in the name of a glyph that the manual's name keeps (mdoc(7), Nm; mandoc_char(7))
-    ensures a_pair_of_quotes_in_the_name_of_a_glyph_that_the { Shows plain
-        (codes ".Dd 2020-01-01" ∷
-        codes ".Dt T 1" ∷
-        codes ".Os S" ∷
-        codes ".Sh A" ∷
-        codes ".Nm \"\\[q\"\"q]\"" ∷
-        codes ".Nm" ∷ [])
-        (codes "T(1)                       General Commands Manual                        T(1)" ∷
-        [] ∷
-        bold (codes "A") ∷
-        (codes "     " ++ (bold (codes "<?>") ++ (codes " " ++ bold (codes "<?>")))) ∷
-        [] ∷
-        codes "S                                 2020-01-01                              T(1)" ∷ [])
-        (codes "mandoc: x.1:5:6: WARNING: unknown character, using <?>: q\"q" ∷
-        codes "mandoc: x.1:6:2: WARNING: unknown character, using <?>: q\"q" ∷ []) }
+    ensures a_pair_of_quotes_in_the_name_of_a_glyph_that_the { Shows plain (codes ".Dd 2020-01-01\n.Dt T 1\n.Os S\n.Sh A\n.Nm \"\\[q\"\"q]\"\n.Nm\n")
+        (codes "T(1)                       General Commands Manual                        T(1)\n\n" ++ bold (codes "A") ++ codes "\n     " ++ bold (codes "<?>") ++
+        codes " " ++ bold (codes "<?>") ++ codes "\n\nS                                 2020-01-01                              T(1)\n")
+        (codes "mandoc: x.1:5:6: WARNING: unknown character, using <?>: q\"q\nmandoc: x.1:6:2: WARNING: unknown character, using <?>: q\"q\n") }
 {}
 
 /// mdoc(7), Bt.
 pub fn bt_pages()
     // macros without a place in manuals of today are unknown (mdoc(7), Bt, Ud)
-    ensures macros_without_a_place_in_manuals_of_today_are { Shows plain
-        (codes ".Dd 2020-01-01" ∷
-        codes ".Dt T 1" ∷
-        codes ".Os S" ∷
-        codes ".Sh A" ∷
-        codes "a" ∷
-        codes ".Bt" ∷
-        codes "b" ∷
-        codes ".Ud x" ∷
-        codes "c" ∷ [])
-        (codes "T(1)                       General Commands Manual                        T(1)" ∷
-        [] ∷
-        bold (codes "A") ∷
-        codes "     a b c" ∷
-        [] ∷
-        codes "S                                 2020-01-01                              T(1)" ∷ [])
-        (codes "mandoc: x.1:6:2: ERROR: skipping unknown macro: Bt" ∷
-        codes "mandoc: x.1:8:2: ERROR: skipping unknown macro: Ud" ∷ []) }
+    ensures macros_without_a_place_in_manuals_of_today_are { Shows plain (codes ".Dd 2020-01-01\n.Dt T 1\n.Os S\n.Sh A\na\n.Bt\nb\n.Ud x\nc\n")
+        (codes "T(1)                       General Commands Manual                        T(1)\n\n" ++ bold (codes "A") ++
+        codes "\n     a b c\n\nS                                 2020-01-01                              T(1)\n")
+        (codes "mandoc: x.1:6:2: ERROR: skipping unknown macro: Bt\nmandoc: x.1:8:2: ERROR: skipping unknown macro: Ud\n") }
 {}

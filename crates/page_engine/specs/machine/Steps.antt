@@ -2,6 +2,7 @@
 use Rattle.std.specs.Prelude.{◌≡◌, ◌<◌, ◌≤◌, ℕ, ◌+◌, ◌-◌, ◌^◌, false, List, [], ◌++◌, Result, MatchResult, length, take}
 use Rattle.std.specs.Io.KnownBytes.{IsAtEnd}
 use Rattle.page_core_base.specs.Fails.{Rose}
+use Rattle.page_core_base.specs.Laid.{Laid, nothing}
 use Rattle.page_core_base.specs.declared.faults.Fault.{Fault}
 use Rattle.page_core_base.specs.declared.faults.Fault.TheVariants.{Memory, Read, WriteText, WriteNotes, TooLong, Settings, Failed, Ended, BadIndex}
 use Rattle.page_core_base.specs.declared.page_settings.Settings.{Settings as PageSettings}
@@ -66,6 +67,13 @@ pub record ChunkBroke {R N : Type 0} (k : Sinks R N) (r r' : R) (n n' : N) (e : 
   pub notes : N
   pub whole : Came k r rows n notes (settled_from e p before)
   pub broke : PartBroke k rows r' notes n' (settled_from e p before).edge (point_after p before) after fault
+
+abbrev pub no_more : Laid ℕ
+no_more = nothing 0
+
+-- both sinks put out what waited: nothing more came
+abbrev pub PutsOut : {R N : Type 0} → Result (Unit {0}) Fault → Sinks R N → R → R → N → N → Type 0
+PutsOut res k r r' n n' = MatchResult res (λ _. Came k r r' n n' no_more) (λ fault. Front k r r' n n' no_more fault)
 
 abbrev pub TakesPart : {R N : Type 0} → Result ℕ Fault → Sinks R N → Run → Run → R → R → N → N → List ℕ
     → Type 0

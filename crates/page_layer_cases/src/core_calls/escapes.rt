@@ -14,7 +14,7 @@ pub(crate) fn show_escape(rt: &HostRuntime, text: &str) {
     show_found(rt, found, len);
 }
 
-/// The same of the escape at the front of a text in a quoted argument of a macro.
+/// Shows the escape at the front of a text in a quoted argument of a macro.
 pub(crate) fn show_quoted(rt: &HostRuntime, text: &str) {
     if text.len() > LINE {
         return;

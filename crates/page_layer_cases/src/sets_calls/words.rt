@@ -16,8 +16,6 @@ struct KeptEvents<'a> {
 }
 
 impl<'a> EventTaker<'a> for KeptEvents<'a> {
-    ghost use Rattle.page_sets_lines.specs.declared.events.Event.{Event};
-
     ghost Plan = { Unit {0} };
 
     ghost left = { λ plan kept events. Unit {0} };

@@ -1,7 +1,7 @@
 -- The budget of a source line by itself, as the code counts it. Source: mandoc(1), "input stack limit exceeded, infinite loop?".
 use Rattle.std.specs.Prelude.{ℕ, zero, suc, ◌+◌, ◌≤◌, ◌^◌, Bool, true, false}
 use Rattle.page_core_base.specs.Limits.{REREAD}
-use Rattle.page_roff_blocks.specs.Budgets.{Budgeted}
+use Rattle.page_roff_blocks.specs.machine.Budgets.{Budgeted}
 
 -- How many re-read lines of the source line are left, whether one beyond them came, and how many lines were taken.
 pub record Budget : Type 0 where

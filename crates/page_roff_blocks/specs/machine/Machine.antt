@@ -10,10 +10,10 @@ use Rattle.page_roff_blocks.specs.LineParts.{line_parts}
 use Rattle.page_roff_syntax.specs.RegionHeads.{is_ending}
 use Rattle.page_roff_blocks.specs.Levels.{BlockCursor, at_line, after_part, outside, leave, what_ends}
 use Rattle.page_roff_syntax.specs.OpenRegions.{Opened}
-use Rattle.page_roff_blocks.specs.Run.{Meaning, At, keep_if}
+use Rattle.page_roff_blocks.specs.machine.Run.{Meaning, At, keep_if}
 use Rattle.page_roff_blocks.specs.machine.Steps.{met, step_guard, step_block, step_region, step_parts, begin_line, step_lines}
 use Rattle.page_core_base.specs.Limits.{CALLS}
-use Rattle.page_roff_blocks.specs.Languages.{Kind, page, body, inner, Done, gives, calls, repeats, TURNS, Language, is_some, finish_at, run_body, turns, meaning_at}
+use Rattle.page_roff_blocks.specs.machine.Languages.{Kind, page, body, inner, Done, gives, calls, repeats, TURNS, Language, is_some, finish_at, run_body, turns, meaning_at}
 
 -- The turns of a loop that is being run: its condition, all lines of its body, how many turns may still come, and whether one was begun.
 pub record Turning : Type 0 where

@@ -2,9 +2,9 @@
 use Rattle.std.specs.Prelude.{◌≡◌, ℕ, suc, ◌+◌, ◌*◌, ◌≤◌, Bool, true, false, List, [], ◌∷◌, length, Option, Some, None}
 use Rattle.page_roff_blocks.specs.declared.line_parts.LinePart.{LinePart}
 use Rattle.page_roff_blocks.specs.Levels.{BlockCursor}
-use Rattle.page_roff_blocks.specs.Languages.{page}
+use Rattle.page_roff_blocks.specs.machine.Languages.{page}
 use Rattle.page_roff_blocks.specs.machine.Machine.{Frame, Turning, Running}
-use Rattle.page_roff_blocks.specs.Budgets.{Budgeted}
+use Rattle.page_roff_blocks.specs.machine.Budgets.{Budgeted}
 
 -- A line has at most two parts a byte, and two. A part counts twice: with the one that closes a loop the loop begins.
 unfoldable pub weight : List (List ℕ) → ℕ

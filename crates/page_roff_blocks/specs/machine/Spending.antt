@@ -2,9 +2,9 @@
 use Rattle.std.specs.Prelude.{◌≡◌, ℕ, zero, suc, Bool, true, false, List, [], ◌∷◌, Option, Some, None}
 use Rattle.page_roff_blocks.specs.declared.line_parts.LinePart.{LinePart}
 use Rattle.page_roff_syntax.specs.OpenRegions.{Opened}
-use Rattle.page_roff_blocks.specs.Languages.{Language}
+use Rattle.page_roff_blocks.specs.machine.Languages.{Language}
 use Rattle.page_roff_blocks.specs.machine.Machine.{Frame, Running, next}
-use Rattle.page_roff_blocks.specs.Budgets.{Budgeted}
+use Rattle.page_roff_blocks.specs.machine.Budgets.{Budgeted}
 
 -- what a line that was taken may still spend: all of it until its first part is passed, where not all was given up
 unfoldable pub unspent_if : Bool → Bool → ℕ → ℕ

@@ -16,8 +16,8 @@ use Rattle.page_roff_syntax.specs.Requests.{request_of}
 use Rattle.page_core_base.specs.Latches.{Came}
 use Rattle.page_roff_values.specs.Values.{Spot, Laid, expanded}
 use Rattle.page_roff_values.specs.machine.Views.{units_of_bytes}
-use Rattle.page_roff_blocks.specs.Budgets.{Effects}
-use Rattle.page_roff_blocks.specs.Languages.{Kind, arguments_of}
+use Rattle.page_roff_blocks.specs.machine.Budgets.{Effects}
+use Rattle.page_roff_blocks.specs.machine.Languages.{Kind, arguments_of}
 use Rattle.page_roff_values.specs.Answers.{Answer}
 use Rattle.page_roff_definitions.specs.Arguments.{closings_notes}
 use Rattle.page_roff_definitions.specs.Calls.{Call, packed}
@@ -28,7 +28,8 @@ use Rattle.page_roff_effects.specs.Commands.{called_body, request_command}
 use Rattle.page_roff_effects.specs.declared.commands.ProductKind.{ProductKind}
 use Rattle.page_roff_effects.specs.declared.commands.ProductKind.TheVariants as kinds
 use Rattle.page_roff_effects.specs.States.{Memory, first_memory, Product, no_product, line_product, call_product, loop_product, Outcome, Setting, State, surroundings, counted}
-use Rattle.page_roff_effects.specs.Effects.{effects, test_outcome}
+use Rattle.page_roff_effects.specs.Effects.{test_outcome}
+use Rattle.page_roff_effects.specs.machine.Effects.{effects}
 use Rattle.page_roff_effects.specs.Leaves as leaves
 use Rattle.page_roff_effects.specs.declared.leaves.ControlLine.{ControlLine}
 

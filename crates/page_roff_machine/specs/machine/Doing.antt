@@ -7,11 +7,11 @@ use Rattle.page_roff_blocks.specs.declared.line_parts.Branch.{Branch}
 use Rattle.page_roff_syntax.specs.declared.region_heads.RegionHead.{RegionHead}
 use Rattle.page_roff_blocks.specs.declared.block_cursors.Reached.{Reached}
 use Rattle.page_roff_syntax.specs.OpenRegions.{Opened}
-use Rattle.page_roff_blocks.specs.Run.{Meaning, meet_as, value, keep_if}
+use Rattle.page_roff_blocks.specs.machine.Run.{Meaning, meet_as, value, keep_if}
 use Rattle.page_roff_values.specs.Arguments.{arguments_in, lines_in}
 use Rattle.page_core_base.specs.Latches.{Came}
-use Rattle.page_roff_blocks.specs.Languages.{Kind, Done, gives, calls, repeats, Language}
-use Rattle.page_roff_blocks.specs.Budgets.{Budgeted, charge, begin_line, meaning, language}
+use Rattle.page_roff_blocks.specs.machine.Languages.{Kind, Done, gives, calls, repeats, Language}
+use Rattle.page_roff_blocks.specs.machine.Budgets.{Budgeted, charge, begin_line, meaning, language}
 use Rattle.page_roff_blocks.specs.machine.Counting.{Budget, budgeted}
 use Rattle.page_roff_effects.specs.declared.commands.ProductKind.{ProductKind}
 use Rattle.page_roff_effects.specs.declared.commands.ProductKind.TheVariants as kinds

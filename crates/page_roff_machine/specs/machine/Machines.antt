@@ -6,12 +6,12 @@ use Rattle.page_core_base.specs.declared.lines_taken.Taken.{Taken}
 use Rattle.page_core_base.specs.Messages.{Message}
 use Rattle.page_core_base.specs.declared.page_settings.Output.{Output}
 use Rattle.page_roff_blocks.specs.Levels.{Place}
-use Rattle.page_roff_blocks.specs.Run.{At}
+use Rattle.page_roff_blocks.specs.machine.Run.{At}
 use Rattle.page_core_base.specs.Latches.{Came}
 use Rattle.page_core_base.specs.Limits.{LINE, REREAD}
-use Rattle.page_roff_blocks.specs.Languages.{Language, run_page}
+use Rattle.page_roff_blocks.specs.machine.Languages.{Language, run_page}
 use Rattle.page_roff_blocks.specs.machine.Machine.{Running, rest_of}
-use Rattle.page_roff_blocks.specs.Budgets.{Budgeted, language}
+use Rattle.page_roff_blocks.specs.machine.Budgets.{Budgeted, language}
 use Rattle.page_roff_blocks.specs.machine.Counting.{Budget, budgeted, first_budget, budget_at}
 use Rattle.page_roff_effects.specs.machine.Acting.{Acting, acting_effects}
 use Rattle.page_roff_effects.specs.machine.Acting as acting

@@ -11,14 +11,14 @@ use Rattle.page_roff_blocks.specs.declared.block_cursors.Reached.{Reached}
 use Rattle.page_roff_blocks.specs.declared.block_cursors.Reached.TheVariants.{PassedOver, First, Remainder}
 use Rattle.page_roff_blocks.specs.Levels.{BlockCursor, way_of, what_ends}
 use Rattle.page_roff_syntax.specs.OpenRegions.{Opened}
-use Rattle.page_roff_blocks.specs.Run.{refuse_if}
+use Rattle.page_roff_blocks.specs.machine.Run.{refuse_if}
 use Rattle.page_roff_blocks.specs.machine.Steps.{collect_if}
 use Rattle.page_roff_values.specs.Arguments.{arguments_in}
 use Rattle.page_core_base.specs.Latches.{Came}
-use Rattle.page_roff_blocks.specs.Languages.{arguments_of, Kind, page, body, is_some}
+use Rattle.page_roff_blocks.specs.machine.Languages.{arguments_of, Kind, page, body, is_some}
 use Rattle.page_roff_blocks.specs.machine.Machine.{Frame, Running, Turning, depth, leaf_next, loop_next, end_next, next}
 use Rattle.page_roff_blocks.specs.machine.Measures.{weight, turns_of}
-use Rattle.page_roff_blocks.specs.Budgets.{Budgeted, meaning, language}
+use Rattle.page_roff_blocks.specs.machine.Budgets.{Budgeted, meaning, language}
 use Rattle.page_roff_effects.specs.declared.commands.ProductKind.{ProductKind}
 use Rattle.page_roff_effects.specs.declared.commands.ProductKind.TheVariants as kinds
 use Rattle.page_roff_effects.specs.machine.Acting.{with_arguments, IsCallable, IsRepeatable, acting_effects}

@@ -4,7 +4,7 @@ use Rattle.page_core_base.specs.Messages.{Message}
 use Rattle.page_core_base.specs.Latches.{Came}
 use Rattle.page_roff_blocks.specs.machine.Machine.{next}
 use Rattle.page_roff_blocks.specs.machine.Measures.{HasMeasure, IsFirst}
-use Rattle.page_roff_blocks.specs.Budgets.{language}
+use Rattle.page_roff_blocks.specs.machine.Budgets.{language}
 use Rattle.page_roff_effects.specs.machine.Acting.{acting_effects}
 use Rattle.page_roff_effects.specs.States.{says}
 use Rattle.page_roff_stack.specs.machine.Stacks.{running, next_of, is_nothing}

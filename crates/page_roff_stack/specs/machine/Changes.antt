@@ -9,7 +9,7 @@ use Rattle.page_roff_blocks.specs.declared.block_cursors.Pass.TheVariants as pas
 use Rattle.page_roff_blocks.specs.LineParts.{line_parts}
 use Rattle.page_roff_blocks.specs.Levels.{Place, BlockCursor, after_part, at_line, outside, passed}
 use Rattle.page_roff_syntax.specs.OpenRegions.{Opened, opened}
-use Rattle.page_roff_blocks.specs.Languages.{Kind, page, body}
+use Rattle.page_roff_blocks.specs.machine.Languages.{Kind, page, body}
 use Rattle.page_roff_blocks.specs.machine.Machine.{Frame, Turning, turned, at_part}
 use Rattle.page_roff_blocks.specs.machine.Measures.{work_in}
 use Rattle.page_roff_stack.specs.declared.movements.Movement.{Movement}

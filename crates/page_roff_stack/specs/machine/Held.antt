@@ -2,7 +2,7 @@
 use Rattle.std.specs.Prelude.{◌≡◌, ℕ, ◌+◌, ◌-◌, ◌≤◌, List, [], ◌∷◌, length, take, drop, Option, Some, None}
 use Rattle.page_core_base.specs.Limits.{ARGS, BODY}
 use Rattle.page_roff_values.specs.Arguments.{arguments_in, lines_in}
-use Rattle.page_roff_blocks.specs.Languages.{Kind, page, body}
+use Rattle.page_roff_blocks.specs.machine.Languages.{Kind, page, body}
 use Rattle.page_roff_blocks.specs.machine.Machine.{Turning}
 use Rattle.page_roff_stack.specs.declared.source_kinds.SourceKind.{SourceKind}
 use Rattle.page_roff_stack.specs.declared.source_kinds.SourceKind.TheVariants as sources

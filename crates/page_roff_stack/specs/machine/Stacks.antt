@@ -6,8 +6,8 @@ use Rattle.page_roff_blocks.specs.Levels.{Place}
 use Rattle.page_roff_syntax.specs.OpenRegions.{Opened}
 use Rattle.page_roff_blocks.specs.machine.LinePlaces.{is_block}
 use Rattle.page_roff_syntax.specs.RegionHeads.{is_ending}
-use Rattle.page_roff_blocks.specs.Run.{Meaning, At}
-use Rattle.page_roff_blocks.specs.Languages.{Kind, body, Language, meaning_at}
+use Rattle.page_roff_blocks.specs.machine.Run.{Meaning, At}
+use Rattle.page_roff_blocks.specs.machine.Languages.{Kind, body, Language, meaning_at}
 use Rattle.page_roff_blocks.specs.machine.Machine.{Frame, Running, Turning, depth, entered, looped, finish_if, part_next, line_next, region_next}
 use Rattle.page_roff_values.specs.Arguments.{arguments_in, lines_in}
 use Rattle.page_roff_stack.specs.declared.next.Next.{Next}

@@ -5,16 +5,12 @@ use Rattle.page_core_base.specs.Pieces.{Item}
 use Rattle.page_core_base.specs.declared.cells.Cell.{Cell}
 use Rattle.page_core_base.specs.declared.cells.Font.{Font}
 use Rattle.page_core_base.specs.declared.cells.Font.TheVariants.{R, I, B, BI}
-use Rattle.page_core_base.specs.declared.places.Place.{Place}
 use Rattle.page_scopes_words.specs.machine.Letters.{GivesLetters}
 use Rattle.page_scopes_words.specs.declared.fonts.Fonts.{Fonts}
 use Rattle.page_scopes_words.specs.declared.settings.Setting.{Setting}
-use Rattle.page_scopes_text.specs.Parted.{words_of}
-use Rattle.page_scopes_text.specs.Words.{word_notes}
-use Rattle.page_scopes_words.specs.Pens.{pen_through}
 use Rattle.page_scopes_words.specs.declared.pens.Pen.{Pen}
 use Rattle.page_scopes_words.specs.declared.pens.TextStyle.{TextStyle}
-use Rattle.page_scopes_text.specs.machine.Letters.{AddsWords, inside}
+use Rattle.page_scopes_text.specs.machine.Letters.{AddsWords, PrintsFirst}
 
 -- blanks are before the next word, which may be parted, in rows that are filled
 pub record GoesOn (style : TextStyle) (pen : Pen) : Type 0 where
@@ -29,12 +25,6 @@ is_in_font R text = true
 is_in_font I text = list_all (λ byte. not (byte == 32)) text
 is_in_font B text = list_all (λ byte. not (byte == 32)) text
 is_in_font BI text = list_all (λ byte. not (byte == 32)) text
-
--- the first word of a text prints something, and has no message
-abbrev pub PrintsFirst : Bool → Setting Fonts → List ℕ → Type 0
-PrintsFirst quoted fonts text =
-    ((column : ℕ) → (pen_through (inside fonts column false) (words_of quoted text).word).has_cell ≡ true)
-    × ((place : Place) → word_notes quoted place (words_of quoted text).word ≡ [])
 
 -- words of letters at a text's front were given after the pen's blanks; they were read as if one blank were before them
 pub record GivesFront {S : Type 0} (style : TextStyle) (pen : Pen) (text : List ℕ) (next : Setting Fonts) (rest : List ℕ)

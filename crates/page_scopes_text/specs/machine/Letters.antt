@@ -1,11 +1,12 @@
 -- Words of letters in their fonts, which are read once and given at once: a fast way of the code, which no public clause cites.
 -- Source: roff(7), `\f`.
-use Rattle.std.specs.Prelude.{◌≡◌, ℕ, ◌≤◌, ◌<◌, ◌+◌, Bool, true, false, nat_lt, ◌&&◌, List, [], ◌++◌, length, map, drop, slice_index}
+use Rattle.std.specs.Prelude.{◌≡◌, ℕ, ◌≤◌, ◌<◌, ◌+◌, Bool, true, false, nat_lt, List, [], ◌∷◌, ◌++◌, length, map, drop}
 use Rattle.std.specs.List.{list_all}
 use Rattle.page_core_base.specs.Pieces.{shown}
 use Rattle.page_core_base.specs.Words.{is_lettered, is_lettered_word, lettered_cells, lettered_pieces, word_letters}
 use Rattle.page_core_base.specs.declared.cells.Cell.{Cell}
 use Rattle.page_core_base.specs.declared.cells.Font.{Font}
+use Rattle.page_core_base.specs.declared.cells.Font.TheVariants.{R}
 use Rattle.page_core_base.specs.declared.pieces.Piece.{Piece}
 use Rattle.page_core_base.specs.declared.places.Place.{Place}
 use Rattle.page_core_escapes.specs.Tokens.{TextToken, begins_word, token_at, token_len}
@@ -22,10 +23,6 @@ use Rattle.page_scopes_words.specs.Pens.{pen_through}
 use Rattle.page_scopes_words.specs.machine.Pens.{resting}
 use Rattle.page_scopes_words.specs.declared.pens.Pen.{Pen}
 use Rattle.page_scopes_words.specs.declared.pens.TextStyle.{TextStyle}
-
--- a text has a byte of ASCII at a place
-abbrev pub is_ascii_at : List ℕ → ℕ → Bool
-is_ascii_at text place = nat_lt place (length text) && nat_lt (slice_index text place) 128
 
 -- a token that prints these letters or nothing, and has no message
 pub record Lettered (token : TextToken) (letters : List ℕ) : Type 0 where
@@ -75,6 +72,18 @@ pub record ReadsWords (style : TextStyle) (fonts : Setting Fonts) (text : List �
   pub pens : (column after : ℕ) → after + length rest ≡ column + length text
       → others_after style (resting next after) (words_of style.is_quoted rest).others ≡ others_after style (resting fonts column) (words_of style.is_quoted text).others
 
+-- the first word of a text prints something, and has no message
+abbrev pub PrintsFirst : Bool → Setting Fonts → List ℕ → Type 0
+PrintsFirst quoted fonts text =
+    ((column : ℕ) → (pen_through (inside fonts column false) (words_of quoted text).word).has_cell ≡ true)
+    × ((place : Place) → word_notes quoted place (words_of quoted text).word ≡ [])
+
+-- words of letters, which are these cells, were read at a text's front, after a blank
+pub record ReadsAfterBlank (style : TextStyle) (fonts : Setting Fonts) (text : List ℕ) (next : Setting Fonts) (rest : List ℕ) (cells : List Cell) : Type 0 where
+  pub prints : PrintsFirst style.is_quoted fonts text
+  pub some : 0 < length cells
+  pub words : ReadsWords style fonts (32 ∷ text) next rest (record { c = 32; font = R } ∷ cells)
+
 -- letters were added, by which a token was taken
 abbrev pub TakesToken : TextToken → Font → List Cell → List Cell → Type 0
 TakesToken token font before after = (letters : List ℕ) × Lettered token letters × (after ≡ before ++ letters_in font letters)
@@ -104,3 +113,8 @@ AddsWord quoted fonts before text next after rest =
 abbrev pub AddsWords : TextStyle → Setting Fonts → List Cell → List ℕ → Setting Fonts → List Cell → List ℕ → Type 0
 AddsWords style fonts before text next after rest =
     (cells : List Cell) × (after ≡ before ++ cells) × ReadsWords style fonts text next rest cells
+
+-- letters were added, as which words at a text's front were read, after a blank
+abbrev pub AddsAfterBlank : TextStyle → Setting Fonts → List Cell → List ℕ → Setting Fonts → List Cell → List ℕ → Type 0
+AddsAfterBlank style fonts before text next after rest =
+    (cells : List Cell) × (after ≡ before ++ cells) × ReadsAfterBlank style fonts text next rest cells

@@ -1,10 +1,15 @@
 -- A machine, which only calls between our crates cite: how the code's own reading of a text goes on from its front. Source: roff(7).
-use Rattle.std.specs.Prelude.{◌≡◌, ℕ, ◌≤◌, ◌<◌, ◌+◌, ◌^◌, Bool, true, false, List, [], ◌∷◌, length, drop}
+use Rattle.std.specs.Prelude.{◌≡◌, ℕ, ◌≤◌, ◌<◌, ◌+◌, ◌^◌, Bool, true, false, List, [], ◌∷◌, ◌++◌, length, drop}
+use Rattle.page_core_base.specs.Pieces.{Item}
 use Rattle.page_core_base.specs.Words.{is_word}
 use Rattle.page_core_escapes.specs.Tokens.{begins_word, plain, token_len}
 use Rattle.page_core_base.specs.Limits.{LINE}
-use Rattle.page_scopes_text.specs.Parted.{words_of}
+use Rattle.page_scopes_text.specs.Parted.{Parted, words_of}
+use Rattle.page_scopes_text.specs.Texts.{others_after, others_items}
+use Rattle.page_scopes_text.specs.Words.{word_items}
+use Rattle.page_scopes_words.specs.Pens.{word_after}
 use Rattle.page_scopes_words.specs.declared.pens.Pen.{Pen}
+use Rattle.page_scopes_words.specs.declared.pens.TextStyle.{TextStyle}
 
 -- a text of a line, up to whose end columns have room
 pub record Fits (pen : Pen) (text : List ℕ) : Type 0 where
@@ -36,3 +41,12 @@ pub record ReadsPlain (quoted : Bool) (text word rest : List ℕ) : Type 0 where
   pub only : (words_of quoted text).word ≡ plain word ∷ []
   pub ends : begins_word rest ≡ false
   pub others : (words_of quoted rest).others ≡ (words_of quoted text).others
+
+-- what the word at a text's front gives, and those after it
+abbrev pub first_items : TextStyle → (line last : ℕ) → (has_tab : Bool) → Pen → Parted → List Item
+first_items style line last has_tab pen text =
+    word_items style line has_tab pen text.word ++ others_items style line last (word_after style pen text.word) text.others
+
+-- the pen after them
+abbrev pub first_after : TextStyle → Pen → Parted → Pen
+first_after style pen text = others_after style (word_after style pen text.word) text.others

@@ -1,8 +1,9 @@
 -- The code's own steps: the same by a stack of open nodes, the innermost first, and no tree. Source: man(7), mdoc(7).
 use Rattle.std.specs.Prelude.{ℕ, zero, suc, List, [], ◌∷◌, ◌++◌, drop}
-use Rattle.page_scopes_tree.specs.Nestings.{Standing, as_node, as_leaf, as_nothing, Nesting, standing_of, mode_of}
+use Rattle.page_scopes_tree.specs.machine.Nestings.{Standing, as_node, as_leaf, as_nothing, Nesting, standing_of, mode_of}
 use Rattle.page_scopes_tree.specs.declared.nestings.Scope.{Scope}
-use Rattle.page_scopes_tree.specs.Layouts.{Layout, scope_of, labels, Edge}
+use Rattle.page_scopes_tree.specs.OpenScopes.{labels, Edge}
+use Rattle.page_scopes_tree.specs.machine.Layouts.{Layout, scope_of}
 
 -- an act ends this many of the innermost nodes
 abbrev pub ended_items : {L A F S B I : Type 0} → Layout L A F S B I → ℕ → A → List (Scope L B) → S → List I

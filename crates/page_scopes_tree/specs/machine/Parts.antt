@@ -1,7 +1,7 @@
 -- The block tree node by node: what lies ahead of an inner forest goes to the enclosing one. Source: man(7), mdoc(7).
 use Rattle.std.specs.Prelude.{ℕ, zero, suc, List, [], ◌∷◌}
-use Rattle.page_scopes_tree.specs.Nestings.{Standing, as_node, as_leaf, as_nothing, Nesting}
-use Rattle.page_scopes_tree.specs.Forests.{Ender, by_act, still_open, Forest, none, leaf, node, After, Rest}
+use Rattle.page_scopes_tree.specs.machine.Nestings.{Standing, as_node, as_leaf, as_nothing, Nesting}
+use Rattle.page_scopes_tree.specs.machine.Forests.{Ender, by_act, still_open, Forest, none, leaf, node, After, Rest}
 
 -- What still lies ahead: nothing; a list, under a mode; or an act that still ends this many nodes (of this many in all), and those after it, under the
 -- mode before it.

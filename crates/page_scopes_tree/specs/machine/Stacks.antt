@@ -3,9 +3,9 @@ use Rattle.std.specs.Prelude.{◌≡◌, ℕ, Bool, true, false, not, List, reve
 use Rattle.std.specs.Global.{Vec}
 use Rattle.page_core_base.specs.Latches.{Came}
 use Rattle.page_core_base.specs.Pieces.{Item}
-use Rattle.page_scopes_tree.specs.Layouts.{Edge, labels}
+use Rattle.page_scopes_tree.specs.OpenScopes.{Edge, labels}
 use Rattle.page_scopes_tree.specs.machine.Machines.{step, step_items}
-use Rattle.page_scopes_tree.specs.Nestings.{Standing}
+use Rattle.page_scopes_tree.specs.machine.Nestings.{Standing}
 use Rattle.page_scopes_tree.specs.declared.nestings.Scope.{Scope}
 use Rattle.page_sets_lines.specs.declared.events.EventKind.{EventKind}
 use Rattle.page_sets_lines.specs.declared.events.EventKind.TheVariants as kinds
@@ -13,8 +13,8 @@ use Rattle.page_sets_lines.specs.declared.events.Event.{Event}
 use Rattle.page_sets_lines.specs.declared.openers.Closer.{Closer}
 use Rattle.page_sets_lines.specs.declared.openers.Closer.TheVariants as closers
 use Rattle.page_scopes_tree.specs.Acts.{Step}
-use Rattle.page_scopes_tree.specs.Frames.{Tables, framed}
-use Rattle.page_scopes_tree.specs.Nests.{Fact, scopes_nesting, standing_by}
+use Rattle.page_scopes_tree.specs.machine.Frames.{Tables, framed}
+use Rattle.page_scopes_tree.specs.machine.Nests.{Fact, scopes_nesting, standing_by}
 use Rattle.page_scopes_tree.specs.Placements.{act_placement, in_enclosure, in_line_scope}
 use Rattle.page_scopes_tree.specs.declared.acts.Act.{Act}
 use Rattle.page_scopes_tree.specs.declared.acts.Act.TheVariants as acts

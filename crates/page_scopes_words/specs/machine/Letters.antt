@@ -1,26 +1,16 @@
 -- Letters in their fonts, which are read once and given at once: a fast way of the code, which no definition of a page cites.
 -- Source: roff(7), `\f`.
-use Rattle.std.specs.Prelude.{◌≡◌, ℕ, ◌+◌, ◌≤◌, ◌==◌, ◌||◌, not, Bool, true, List, [], ◌++◌, length, map, take, drop, if◌then◌else◌}
-use Rattle.std.specs.List.{list_all, prefix_len}
+use Rattle.std.specs.Prelude.{◌≡◌, ℕ, ◌+◌, Bool, true, List, [], ◌++◌, length, map, take, drop, if◌then◌else◌}
+use Rattle.std.specs.List.{list_all}
 use Rattle.page_core_base.specs.Pieces.{Item, shown}
-use Rattle.page_core_base.specs.Words.{hyphen, is_lettered_word, is_printable, lettered_cells, lettered_pieces}
+use Rattle.page_core_base.specs.Words.{is_lettered_word, lettered_cells, lettered_pieces}
 use Rattle.page_core_base.specs.declared.cells.Cell.{Cell}
 use Rattle.page_core_base.specs.declared.cells.Font.{Font}
 use Rattle.page_core_base.specs.declared.pieces.Piece.{Piece}
-use Rattle.page_core_escapes.specs.Tokens.{prints_itself}
 
 -- letters in one font
 abbrev pub letters_in : Font → List ℕ → List Cell
 letters_in font bytes = map (λ c. record { c = c; font = font }) bytes
-
--- whether a part ends before a byte: a hyphen, or what is not printable ASCII
-abbrev pub ends_part : ℕ → Bool
-ends_part byte = byte == hyphen || not (is_printable byte)
-
--- as many bytes at a text's front print themselves, no part ends before one of them, and they are all that print themselves there
-pub record IsPart (quoted : Bool) (text : List ℕ) (len : ℕ) : Type 0 where
-  pub all : len ≡ prefix_len (prints_itself quoted) text
-  pub free : len ≤ prefix_len (λ byte. not (ends_part byte)) text
 
 -- what stood at a start and after it is put anew
 abbrev pub put_at : {A : Type 0} → List A → ℕ → List A → List A

@@ -11,10 +11,6 @@ ends_run quoted byte next = byte == hyphen || ((not (is_printable byte) || (byte
 abbrev pub ends_run_at : Bool → List ℕ → ℕ → Bool
 ends_run_at quoted text place = ends_run quoted (get_or text place 32) (get_or text (suc place) 32)
 
--- whether a byte ends no run and no word, whatever is after it
-abbrev pub is_inside : Bool → ℕ → Bool
-is_inside quoted byte = not (ends_run quoted byte 32)
-
 -- from one place up to another no run ends
 abbrev pub GoesOn : Bool → List ℕ → ℕ → ℕ → Type 0
 GoesOn quoted text from to = (k : ℕ) → from ≤ k → k < to → ends_run_at quoted text k ≡ false

@@ -1,4 +1,4 @@
-use Rattle.std.proofs.Common.{◌≡◌, ◌+◌, ◌-◌, ◌<◌, ◌≤◌, ◌∷◌, ◌∙◌, ap, sym, arith, length, take, drop, option_map, option_copied}
+use Rattle.std.proofs.Common.{◌≡◌, ◌+◌, ◌-◌, ◌≤◌, ◌∷◌, ◌∙◌, ap, sym, arith, length, take, drop, option_map, option_copied}
 use Rattle.std.proofs.lemmas.List.{take_all, length-drop}
 use Rattle.page_core_numbers.specs.Expressions.{first, after_operation, operand_by, in_parentheses, expression_within}
 use Rattle.page_core_numbers.specs.machine.CodeValues.{expression_view, operand_view, found_view, count_of}

@@ -1,8 +1,8 @@
-use Rattle.std.proofs.Common.{rules, ◌≡◌, ℕ, List, Some, refl, sym, ◌∙◌, ap, subst}
+use Rattle.std.proofs.Common.{rules, ◌≡◌, ℕ, List, Some, ◌∙◌, subst}
 use Rattle.std.specs.List.{flat_map}
 use Rattle.page_core_streams.specs.Grows.{Grows, GrowsInto}
 use Rattle.page_core_streams.specs.MessageBytes.{message_bytes}
-use Rattle.page_core_streams.specs.Sources.{SourceState, source_state}
+use Rattle.page_core_streams.specs.Sources.{source_state}
 use Rattle.page_core_streams.specs.declared.text_rows.TextRows.{TextRows}
 use Rattle.page_core_streams.specs.declared.text_notes.TextNotes.{TextNotes}
 use Rattle.page_core_streams.proofs.FailureLemmas.{count_true}

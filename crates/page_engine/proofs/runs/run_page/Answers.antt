@@ -1,7 +1,5 @@
-use Rattle.std.proofs.Common.{rules, ◌≡◌, ℕ, List, refl, sym, ap, ◌∙◌, subst}
+use Rattle.std.proofs.Common.{rules, ◌≡◌, ℕ, List, ap, ◌∙◌, subst}
 use Rattle.std.specs.List.{flat_map}
-use Rattle.page_core_base.specs.Messages.{Message}
-use Rattle.page_core_base.specs.Rows.{LaidRow}
 use Rattle.page_core_streams.specs.Grows.{Grows, GrowsInto}
 use Rattle.page_core_streams.specs.Inputs.{state_of}
 use Rattle.page_core_streams.specs.MessageBytes.{message_bytes}

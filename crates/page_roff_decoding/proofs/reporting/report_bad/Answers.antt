@@ -7,7 +7,7 @@ use Rattle.page_roff_decoding.specs.Characters.{characters}
 use Rattle.page_roff_decoding.specs.Decoding.{characters_within, bad_notes}
 use Rattle.page_roff_decoding.proofs.ScanLemmas.{rest_of}
 use Rattle.page_roff_decoding.proofs.PlainLemmas.{bad_notes-text}
-use Rattle.page_roff_decoding.proofs.ReportLemmas.{bad_notes-more, bad_notes-stop, bad_notes-end}
+use Rattle.page_roff_decoding.proofs.ReportLemmas.{bad_notes-front, bad_notes-stop, bad_notes-end}
 use Rattle.page_roff_decoding.proofs.reporting.report_bad.Goals as goal
 
 pub loop-at-init : goal.loop-at-init
@@ -30,43 +30,24 @@ overflow_sub-column g c = let limit = line_limit_is in omega (arith, limit, c.lo
 
 pub returns-in-Err-clause-gives : goal.returns-in-Err-clause-gives
 returns-in-Err-clause-gives g c =
-    let text = c.args.text.now in
-    let i = c.loop-at.at in
-    let n = c.text_within-passed.result in
-    let at = i + n in
-    let room = c.loop-at.room - n in
-    let run = bad_notes-text c.args.encoding c.args.number text i n c.loop-at.room c.text_within-passed.ensures.within c.text_within-passed.ensures.text
-    c.text_within-passed.ensures.room c.loop-at.invariant.1 in
-    let before = rw run at c.loop-at.invariant.2 in
-    let rest = rest_of text at in
-    let value = rw rest at c.of-front.ensures.value in
-    let later = rw rest at c.of-front.ensures.later in
-    let within = rw rest at c.of-front.ensures.within in
-    let limit = line_limit_is in
-    let more = bad_notes-more c.args.encoding c.args.number text at room (65536 - room + 1) c.size-size.result c.of-front.result
-    c.if-at-text.true value later c.of-front.ensures.some within c.size-size.ensures (omega arith) (omega (arith, c.loop-at.invariant.1)) (omega arith) in
-    UpTo-within g.met.N.NoteSink.laws _ _ _ before more (c.in-Err.ensures.gives _)
+    UpTo-within g.met.N.NoteSink.laws _ _ _ c.loop-at.invariant.2
+    (bad_notes-front c.args.encoding c.args.number c.args.text.now c.loop-at.at c.text_within-passed.result c.loop-at.room c.size-size.result c.of-front.result
+    c.text_within-passed.ensures.within c.text_within-passed.ensures.text c.text_within-passed.ensures.room c.loop-at.invariant.1 c.if-at-text.true
+    c.of-front.ensures.value c.of-front.ensures.later c.of-front.ensures.some c.of-front.ensures.within c.size-size.ensures (omega arith))
+    (c.in-Err.ensures.gives _)
 
 pub loop-at-preserved-then-at-text : goal.loop-at-preserved-then-at-text
 loop-at-preserved-then-at-text g c =
     let text = c.args.text.now in
-    let i = c.loop-at.at in
-    let n = c.text_within-passed.result in
-    let at = i + n in
-    let room = c.loop-at.room - n in
-    let run = bad_notes-text c.args.encoding c.args.number text i n c.loop-at.room c.text_within-passed.ensures.within c.text_within-passed.ensures.text
-    c.text_within-passed.ensures.room c.loop-at.invariant.1 in
-    let before = rw run at c.loop-at.invariant.2 in
-    let rest = rest_of text at in
-    let value = rw rest at c.of-front.ensures.value in
-    let later = rw rest at c.of-front.ensures.later in
-    let within = rw rest at c.of-front.ensures.within in
-    let limit = line_limit_is in
-    let more = bad_notes-more c.args.encoding c.args.number text at room (65536 - room + 1) c.size-size.result c.of-front.result
-    c.if-at-text.true value later c.of-front.ensures.some within c.size-size.ensures (omega arith) (omega (arith, c.loop-at.invariant.1)) (omega arith) in (
+    let at = c.loop-at.at + c.text_within-passed.result in
+    let within = rw (rest_of text at) at c.of-front.ensures.within in
+    let front =
+    (bad_notes-front c.args.encoding c.args.number c.args.text.now c.loop-at.at c.text_within-passed.result c.loop-at.room c.size-size.result c.of-front.result
+    c.text_within-passed.ensures.within c.text_within-passed.ensures.text c.text_within-passed.ensures.room c.loop-at.invariant.1 c.if-at-text.true
+    c.of-front.ensures.value c.of-front.ensures.later c.of-front.ensures.some c.of-front.ensures.within c.size-size.ensures (omega arith)) in (
       omega (arith, within, length-drop at text, c.width-at.ensures),
       omega (arith, c.loop-at.invariant.1),
-      rw c.width-at.ensures (UpTo-more g.met.N.NoteSink.laws _ _ _ before more (c.in_default.ensures.gives _)),
+      rw c.width-at.ensures (UpTo-more g.met.N.NoteSink.laws _ _ _ c.loop-at.invariant.2 front (c.in_default.ensures.gives _)),
       c.in_default.ensures.fault ∙ c.loop-at.invariant.3,
       c.in_default.ensures.same ∙ c.loop-at.invariant.4,
     )

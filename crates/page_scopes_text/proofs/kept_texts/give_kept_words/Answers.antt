@@ -1,14 +1,14 @@
 use Rattle.std.proofs.Common.{◌≡◌, ◌-◌, ◌<◌, length, take, sym, ◌∙◌, append_assoc, arith}
 use Rattle.std.proofs.lemmas.Bool.Decides.{nat_tests}
 use Rattle.page_scopes_text.proofs.KeptTextLemmas.{front_of, kept_some}
-use Rattle.page_scopes_text.specs.machine.Kept.{IsKept, kept_pen}
+use Rattle.page_scopes_text.specs.machine.Kept.{kept_pen}
 use Rattle.page_scopes_text.proofs.kept_texts.give_kept_words.Goals as goal
 
 -- none of them were taken
 pub returns-then-not-tries-2-clause-came : goal.returns-then-not-tries-2-clause-came
 returns-then-not-tries-2-clause-came g c = λ last plan more h.
     let r = c.read_kept-rest.ensures.reads in
-    let is : IsKept c.args.style c.args.pen.now = record { literal = c.requires.literal; roman = c.goes_on.ensures c.if-not-goes_on.false } in
+    let is = c.goes_on.ensures c.if-not-goes_on.false in
     let k = r.gives c.args.line last c.args.pen.now is in
     let front = front_of c.args.style c.args.text.now c.read_kept-rest.result.now r in
     let gave = rw (front, c.if-not-tries-2.true) at c.give_kept.ensures in
@@ -17,7 +17,7 @@ returns-then-not-tries-2-clause-came g c = λ last plan more h.
 pub returns-clause-came : goal.returns-clause-came
 returns-clause-came g c = λ last plan more h.
     let r = c.read_kept-rest.ensures.reads in
-    let is : IsKept c.args.style c.args.pen.now = record { literal = c.requires.literal; roman = c.goes_on.ensures c.if-not-goes_on.false } in
+    let is = c.goes_on.ensures c.if-not-goes_on.false in
     let k = r.gives c.args.line last c.args.pen.now is in
     let front = front_of c.args.style c.args.text.now c.read_kept-rest.result.now r in
     let gave = rw (front, c.if-not-tries-2.false) at c.give_kept.ensures in

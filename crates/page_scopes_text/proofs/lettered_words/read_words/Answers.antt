@@ -7,4 +7,4 @@ loop-after-init c = adds_none c.args.style c.args.fonts.now c.args.letters.now c
 pub loop-after-preserved : goal.loop-after-preserved
 loop-after-preserved c =
     let l = c.loop-after in
-    adds_join c.args.style c.args.fonts.now l.fonts c.read_some.new.fonts c.args.letters.now l.letters c.read_some.new.letters c.args.text.now l.rest.now c.in-Some.after.now l.invariant c.in-Some.ensures.reads
+    adds_join c.args.style c.args.fonts.now l.fonts c.read_word.new.fonts c.args.letters.now l.letters c.read_word.new.letters c.args.text.now l.rest.now c.in-Some.after.now l.invariant c.in-Some.ensures.reads

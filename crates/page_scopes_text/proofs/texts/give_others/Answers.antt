@@ -4,24 +4,14 @@ use Rattle.page_scopes_text.proofs.TextLemmas.{no_others}
 use Rattle.page_scopes_text.specs.Texts.{others_after}
 use Rattle.page_scopes_text.proofs.texts.give_others.Goals as goal
 
-pub returns-then-is_empty-clause-came : goal.returns-then-is_empty-clause-came
-returns-then-is_empty-clause-came g c = λ plan rest h.
-    let none : length c.args.text.now ≤ 0 = grind (arith, nat_tests) in
-    rw (no_others c.args.style.is_quoted c.args.text.now none) at h
+pub returns-clause-came : goal.returns-clause-came
+returns-clause-came g c = λ plan rest h.
+    let l = c.loop-rest in
+    let none : length l.rest.now ≤ 0 = grind (arith, nat_tests) in
+    rw (no_others c.args.style.is_quoted l.rest.now none) at (l.invariant.came plan rest h)
 
-pub returns-then-is_empty-clause-pen : goal.returns-then-is_empty-clause-pen
-returns-then-is_empty-clause-pen g c =
-    let none : length c.args.text.now ≤ 0 = grind (arith, nat_tests) in
-    ap (others_after c.args.style c.args.pen.now) (sym (no_others c.args.style.is_quoted c.args.text.now none))
-
-pub returns-else-not-is_empty-clause-came : goal.returns-else-not-is_empty-clause-came
-returns-else-not-is_empty-clause-came g c = λ plan rest h.
-    let w = c.give_plain_words-rest in
-    let none : length w.result.now ≤ 0 = grind (arith, nat_tests) in
-    rw (no_others c.args.style.is_quoted w.result.now none) at (w.ensures.came c.args.front.now plan rest h)
-
-pub returns-else-not-is_empty-clause-pen : goal.returns-else-not-is_empty-clause-pen
-returns-else-not-is_empty-clause-pen g c =
-    let w = c.give_plain_words-rest in
-    let none : length w.result.now ≤ 0 = grind (arith, nat_tests) in
-    ap (others_after c.args.style w.new.pen) (sym (no_others c.args.style.is_quoted w.result.now none)) ∙ w.ensures.pen
+pub returns-clause-pen : goal.returns-clause-pen
+returns-clause-pen g c =
+    let l = c.loop-rest in
+    let none : length l.rest.now ≤ 0 = grind (arith, nat_tests) in
+    sym (l.invariant.pen ∙ ap (others_after c.args.style l.pen) (no_others c.args.style.is_quoted l.rest.now none))

@@ -1,17 +1,20 @@
-use Rattle.std.proofs.Common.{◌<◌, ◌≤◌, length, sym, ◌∙◌, append_assoc, arith}
+use Rattle.std.proofs.Common.{◌≤◌, length, sym, ◌∙◌, arith}
 use Rattle.std.proofs.lemmas.Bool.Decides.{nat_tests}
-use Rattle.page_scopes_text.proofs.PartedLemmas.{white_front}
-use Rattle.page_scopes_text.proofs.TextLemmas.{after_text_leading, after_text_none, text_leading, text_none}
+use Rattle.page_scopes_text.proofs.TextLemmas.{after_text_none, after_text_word, text_none, text_word}
 use Rattle.page_scopes_text.specs.Parted.{words_of}
 use Rattle.page_scopes_text.specs.Texts.{last_word}
 use Rattle.page_scopes_text.proofs.texts.give_text.Goals as goal
 
 pub returns-then-begins_word-clause-came : goal.returns-then-begins_word-clause-came
 returns-then-begins_word-clause-came g c = λ plan rest h.
-    (rw c.new-front.ensures at c.give_others.ensures.came) plan rest (c.give_first-rest.ensures.came _ plan rest h)
+    let last = last_word c.args.pen.now.column c.args.last (words_of c.args.style.is_quoted c.args.text.now) in
+    let parts = text_word c.args.style c.args.line last c.args.pen.now c.args.text.now (sym c.begins_word.ensures ∙ c.if-begins_word.true) in
+    (rw c.new-front.ensures at c.give_others.ensures.came) plan rest (c.give_words-rest.ensures.came _ plan rest (rw parts at h))
 
 pub returns-then-begins_word-clause-pen : goal.returns-then-begins_word-clause-pen
-returns-then-begins_word-clause-pen g c = c.give_others.ensures.pen ∙ c.give_first-rest.ensures.pen
+returns-then-begins_word-clause-pen g c =
+    c.give_others.ensures.pen ∙ c.give_words-rest.ensures.pen
+    ∙ sym (after_text_word c.args.style c.args.pen.now c.args.text.now (sym c.begins_word.ensures ∙ c.if-begins_word.true))
 
 pub returns-then-is_empty-clause-came : goal.returns-then-is_empty-clause-came
 returns-then-is_empty-clause-came g c = λ plan rest h.
@@ -25,17 +28,7 @@ returns-then-is_empty-clause-pen g c =
 
 pub returns-else-is_empty-clause-came : goal.returns-else-is_empty-clause-came
 returns-else-is_empty-clause-came g c = λ plan rest h.
-    let some : 0 < length c.args.text.now = grind (arith, nat_tests) in
-    let white = white_front c.args.text.now some (sym c.begins_word.ensures ∙ c.if-begins_word.false) in
-    let w = c.give_leading-rest.ensures in
-    let last = last_word c.args.pen.now.column c.args.last (words_of c.args.style.is_quoted c.args.text.now) in
-    let parts = text_leading c.args.style c.args.line last c.args.pen.now c.args.text.now white in
-    (rw (c.new-front.ensures, w.pen, w.rest.others) at c.give_others-else-is_empty.ensures.came) plan rest ((rw c.new-front.ensures at w.came) plan _ (rw (parts, append_assoc) at h))
+    (rw c.new-front.ensures at c.give_others-else-is_empty.ensures.came) plan rest ((rw c.new-front.ensures at c.give_leading-rest.ensures.came) plan rest h)
 
 pub returns-else-is_empty-clause-pen : goal.returns-else-is_empty-clause-pen
-returns-else-is_empty-clause-pen g c =
-    let some : 0 < length c.args.text.now = grind (arith, nat_tests) in
-    let white = white_front c.args.text.now some (sym c.begins_word.ensures ∙ c.if-begins_word.false) in
-    let w = c.give_leading-rest.ensures in
-    (rw (w.pen, w.rest.others) at c.give_others-else-is_empty.ensures.pen)
-    ∙ sym (after_text_leading c.args.style c.args.pen.now c.args.text.now white)
+returns-else-is_empty-clause-pen g c = c.give_others-else-is_empty.ensures.pen ∙ c.give_leading-rest.ensures.pen

@@ -1,5 +1,5 @@
 use Rattle.std.proofs.Common.{◌≡◌, arith, false, reverse}
-use Rattle.page_scopes_tree.specs.Layouts.{labels}
+use Rattle.page_scopes_tree.specs.OpenScopes.{labels}
 use Rattle.page_scopes_tree.proofs.FitLemmas.{act-fits}
 use Rattle.page_scopes_tree.proofs.MarginLemmas.{length-inner_labels}
 use Rattle.page_scopes_tree.proofs.StepLemmas.{step-taken}

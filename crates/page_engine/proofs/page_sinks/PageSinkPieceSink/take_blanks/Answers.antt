@@ -1,4 +1,3 @@
-use Rattle.std.proofs.Common.{IfSome}
 use Rattle.page_fill.proofs.FillerLaw.{items-law}
 use Rattle.page_engine.proofs.Items.{items_pass}
 use Rattle.page_engine.proofs.page_sinks.PageSinkPieceSink.take_blanks.Goals as goal

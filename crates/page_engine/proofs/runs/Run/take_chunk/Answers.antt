@@ -4,7 +4,7 @@ use Rattle.std.proofs.lemmas.List.{take_rest}
 use Rattle.std.proofs.lemmas.Result.{err_from_is_err_and}
 use Rattle.page_engine.specs.machine.Points.{settled_from}
 use Rattle.page_engine.specs.Streams.{sinks}
-use Rattle.page_engine.proofs.Through.{through_none, through_more, room_after, all_done, part_of}
+use Rattle.page_engine.proofs.Through.{through_none, through_more, room_after, all_done, part_of, chunk_out}
 use Rattle.page_engine.proofs.runs.Run.take_chunk.Goals as goal
 
 pub loop-rest-init : goal.loop-rest-init
@@ -57,4 +57,7 @@ pub returns-clause-takes : goal.returns-clause-takes
 returns-clause-takes g c =
     let i = c.loop-rest.invariant in
     let none : length c.loop-rest.rest.now ≤ 0 = grind (arith, nat_tests) in
-    rw (all_done c.args.chunk.now i.0 c.loop-rest.rest.now i.1 none) i.2
+    let r = g.R.RowSink in
+    let n = g.N.NoteSink in
+    rw (all_done c.args.chunk.now i.0 c.loop-rest.rest.now i.1 none)
+    (chunk_out (sinks r.gave r.within r.failed n.gave n.within n.failed) g.met.R.RowSink.laws g.met.N.NoteSink.laws _ _ i.0 c.put_out.result i.2 c.put_out.ensures.puts)

@@ -1,7 +1,6 @@
 use Rattle.std.proofs.Common.{◌+◌, ◌≤◌, length, arith, rules}
 use Rattle.page_fill_rows.proofs.PlainLemmas.{sound-more}
 use Rattle.page_fill_rows.proofs.open_rows.OpenRow.add_plain.Goals as goal
-use Rattle.page_fill_rows.proofs.open_rows.OpenRow.add_plain.Goals.{then-is_empty, else-is_empty}
 
 pub invariant_of-self : goal.invariant_of-self
 invariant_of-self c =

@@ -1,5 +1,5 @@
 use Rattle.std.proofs.Common.{◌≡◌, ◌++◌, ap, ◌∙◌, arith, length-append}
-use Rattle.page_roff_blocks.specs.Languages.{is_some}
+use Rattle.page_roff_blocks.specs.machine.Languages.{is_some}
 use Rattle.page_roff_blocks.specs.machine.Machine.{depth, entered}
 use Rattle.page_roff_values.specs.Arguments.{arguments_in, lines_in}
 use Rattle.page_roff_stack.specs.declared.input_stacks.Caller.{Caller}

@@ -1,5 +1,5 @@
 use Rattle.std.proofs.Common.{ap, sym, ◌∙◌, vec_len}
-use Rattle.page_roff_blocks.specs.Languages.{is_some}
+use Rattle.page_roff_blocks.specs.machine.Languages.{is_some}
 use Rattle.page_roff_blocks.specs.machine.Machine.{depth}
 use Rattle.page_roff_stack.specs.machine.InputStacks.{stack_of}
 use Rattle.page_roff_stack.proofs.InputStackLemmas.{may_call_is, under_len}

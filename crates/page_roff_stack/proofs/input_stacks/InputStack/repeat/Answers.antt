@@ -1,6 +1,6 @@
 use Rattle.std.proofs.Common.{◌≡◌, ◌++◌, drop, ap, ◌∙◌, arith, length-append}
 use Rattle.page_roff_syntax.specs.RegionHeads.{text_view}
-use Rattle.page_roff_blocks.specs.Languages.{body, is_some}
+use Rattle.page_roff_blocks.specs.machine.Languages.{body, is_some}
 use Rattle.page_roff_blocks.specs.machine.Machine.{depth, looped}
 use Rattle.page_roff_values.specs.Arguments.{lines_in}
 use Rattle.page_roff_stack.specs.declared.input_stacks.Caller.{Caller}

@@ -1,0 +1,101 @@
+-- What a run gave to writers, as lists.
+use Rattle.std.proofs.Common.{◌≡◌, ℕ, List, [], Option, Some, Result, Ok, Err, refl, take, ◌^◌, ◌-◌}
+use Rattle.std.specs.List.{flat_map}
+use Rattle.page_core_base.specs.Laid.{Laid, nothing}
+use Rattle.page_core_base.specs.declared.faults.Fault.{Fault}
+use Rattle.page_core_base.specs.declared.faults.Fault.TheVariants.{Memory, Read, WriteText, WriteNotes, TooLong, Settings, Failed, Ended, BadIndex}
+use Rattle.page_core_base.specs.declared.page_settings.Settings.{Settings as PageSettings}
+use Rattle.page_core_streams.specs.Grows.{Grows}
+use Rattle.page_core_streams.specs.RowBytes.{row_bytes}
+use Rattle.page_core_streams.specs.MessageBytes.{message_bytes}
+use Rattle.page_engine.specs.declared.runs.Outcome.{Outcome}
+use Rattle.page_engine.specs.Runs.{Runs, whole_page, settled_page}
+use Rattle.page_engine.specs.Page.{Edge, start}
+use Rattle.page_engine.specs.Streams.{Streams, streams, AllCame, FrontCame}
+use Rattle.page_engine.specs.Written.{WritesRows, WritesRowsInto, WritesNotes, WritesNotesInto}
+
+-- streams of lists, and of writers
+abbrev lists : List ℕ → Streams (List ℕ) (List ℕ)
+lists name = streams (WritesRows Some) (WritesRowsInto Some) (WritesNotes Some name) (WritesNotesInto Some name)
+
+abbrev writers : {R N : Type 0} → (R → Option (List ℕ)) → (N → Option (List ℕ)) → List ℕ → Streams R N
+writers c d name = streams (WritesRows c) (WritesRowsInto c) (WritesNotes d name) (WritesNotesInto d name)
+
+pub record AsLists {R N : Type 0} (c : R → Option (List ℕ)) (d : N → Option (List ℕ)) (name : List ℕ) (result : Result Outcome Fault)
+    (r r' : R) (n n' : N) (settings : PageSettings) (bytes : List ℕ) (after : Option (List ℕ)) : Type 0 where
+  pub rows : List ℕ
+  pub notes : List ℕ
+  pub rows_came : Grows (c r) (c r') rows
+  pub notes_came : Grows (d n) (d n') notes
+  pub runs : Runs result (lists name) [] rows [] notes settings bytes after
+
+module _ {R N : Type 0} (c : R → Option (List ℕ)) (d : N → Option (List ℕ)) (name : List ℕ) (r r' : R) (n n' : N) where
+  rows_in : Laid Edge → List ℕ
+  rows_in laid = flat_map row_bytes laid.rows
+
+  notes_in : Laid Edge → List ℕ
+  notes_in laid = flat_map (message_bytes name) laid.notes
+
+  all_lists : (laid : Laid Edge) → AllCame (lists name) [] (flat_map row_bytes laid.rows) [] (flat_map (message_bytes name) laid.notes) laid
+  all_lists laid = record { rows = refl; notes = refl }
+
+  front_lists : (laid : Laid Edge) (h : FrontCame (writers c d name) r r' n n' laid) → FrontCame (lists name) [] h.rows.done [] h.notes.done laid
+  front_lists laid h = record {
+    rows = record { done = h.rows.done; rest = h.rows.rest; parts = h.rows.parts; grows = refl };
+    notes = record { done = h.notes.done; rest = h.notes.rest; parts = h.notes.parts; grows = refl };
+  }
+
+  pub as_lists : (result : Result Outcome Fault) (settings : PageSettings) (bytes : List ℕ) (after : Option (List ℕ))
+      → Runs result (writers c d name) r r' n n' settings bytes after → AsLists c d name result r r' n n' settings bytes after
+  as_lists (Ok outcome) settings bytes after h = record {
+    rows = flat_map row_bytes (whole_page settings bytes).rows;
+    notes = flat_map (message_bytes name) (whole_page settings bytes).notes;
+    rows_came = h.gave.rows;
+    notes_came = h.gave.notes;
+    runs = record { gave = all_lists (whole_page settings bytes); worst = h.worst; source = h.source; counts = h.counts; good = h.good; all = h.all };
+  }
+  as_lists (Err Memory) settings bytes after h = record {
+    rows = [];
+    notes = [];
+    rows_came = h.2.rows;
+    notes_came = h.2.notes;
+    runs = (h.0, h.1, all_lists (nothing (start settings)));
+  }
+  as_lists (Err Read) settings bytes after h = record {
+    rows = flat_map row_bytes (settled_page settings bytes).rows;
+    notes = flat_map (message_bytes name) (settled_page settings bytes).notes;
+    rows_came = h.1.rows;
+    notes_came = h.1.notes;
+    runs = (h.0, all_lists (settled_page settings bytes));
+  }
+  as_lists (Err TooLong) settings bytes after h = record {
+    rows = flat_map row_bytes (settled_page settings (take (2 ^ 31 - 1) bytes)).rows;
+    notes = flat_map (message_bytes name) (settled_page settings (take (2 ^ 31 - 1) bytes)).notes;
+    rows_came = h.1.rows;
+    notes_came = h.1.notes;
+    runs = (h.0, all_lists (settled_page settings (take (2 ^ 31 - 1) bytes)));
+  }
+  as_lists (Err WriteText) settings bytes after h = record {
+    rows = h.1.rows.done;
+    notes = h.1.notes.done;
+    rows_came = h.1.rows.grows;
+    notes_came = h.1.notes.grows;
+    runs = (h.0, front_lists (whole_page settings bytes) h.1);
+  }
+  as_lists (Err WriteNotes) settings bytes after h = record {
+    rows = h.1.rows.done;
+    notes = h.1.notes.done;
+    rows_came = h.1.rows.grows;
+    notes_came = h.1.notes.grows;
+    runs = (h.0, front_lists (whole_page settings bytes) h.1);
+  }
+  as_lists (Err (Settings fault)) settings bytes after h = record {
+    rows = [];
+    notes = [];
+    rows_came = h.2.rows;
+    notes_came = h.2.notes;
+    runs = (h.0, h.1, all_lists (nothing (start settings)));
+  }
+  as_lists (Err Failed) settings bytes after h = absurd h
+  as_lists (Err Ended) settings bytes after h = absurd h
+  as_lists (Err (BadIndex line)) settings bytes after h = absurd h

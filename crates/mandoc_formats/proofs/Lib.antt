@@ -1,0 +1,3 @@
+pub mod AsLists
+pub mod Lists
+pub mod Waits

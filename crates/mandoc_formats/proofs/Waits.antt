@@ -1,0 +1,36 @@
+-- Bytes that wait for a writer.
+use Rattle.std.proofs.Common.{◌≡◌, ℕ, Bool, true, false, List, [], ◌++◌, Option, Some, None, sym, ap, ◌∙◌, take, drop, length, ◌≤◌, ◌+◌, take-append-drop, append_assoc, append-nil, arith}
+use Rattle.std.proofs.lemmas.List.{take-take, drop-take}
+use Rattle.std.specs.Io.KnownBytes.{Keeps, append_known}
+use Rattle.page_core_streams.specs.Grows.{Grows, GrowsInto, Writes, Grows-append}
+
+pub take_plus : (n m : ℕ) (xs : List ℕ) → n + m ≤ length xs → take n xs ++ take m (drop n xs) ≡ take (n + m) xs
+take_plus n m xs h =
+    ap (λ l. l ++ take m (drop n xs)) (sym (take-take n (n + m) xs (omega arith)))
+    ∙ (ap (λ l. take n (take (n + m) xs) ++ l) (sym (drop-take n m xs)) ∙ take-append-drop n (take (n + m) xs))
+
+pub keeps_grown : (a b c : Option (List ℕ)) (xs : List ℕ) → Grows a b xs → Keeps b c → Grows a c xs
+keeps_grown None b c xs g k = tt
+keeps_grown (Some us) None c xs g k = absurd g
+keeps_grown (Some us) (Some vs) None xs g k = absurd k
+keeps_grown (Some us) (Some vs) (Some ws) xs g k = k ∙ g
+
+pub held_sent : (a b : Option (List ℕ)) (rest : List ℕ) (n : ℕ) → Grows a b (take n rest) → Grows (append_known a rest) (append_known b (drop n rest)) []
+held_sent None b rest n g = tt
+held_sent (Some xs) None rest n g = absurd g
+held_sent (Some xs) (Some ys) rest n g =
+    ap (λ l. l ++ drop n rest) g ∙ (append_assoc xs (take n rest) (drop n rest) ∙ (ap (λ l. xs ++ l) (take-append-drop n rest) ∙ sym (append-nil (xs ++ rest))))
+
+-- ---- several writes
+
+pub writes_on : (r : Bool) (a b c : Option (List ℕ)) (xs ys : List ℕ) → Grows a b xs → Writes r b c ys → Writes r a c (xs ++ ys)
+writes_on true a b c xs ys g w = Grows-append a b c xs ys g w
+writes_on false a b c xs ys g w = record {
+  done = xs ++ w.done;
+  rest = w.rest;
+  parts = ap (λ l. xs ++ l) w.parts ∙ sym (append_assoc xs w.done w.rest);
+  grows = Grows-append a b c xs w.done g w.grows;
+}
+
+pub ended_before : (a b : Option (List ℕ)) (xs ys : List ℕ) → GrowsInto a b xs → GrowsInto a b (xs ++ ys)
+ended_before a b xs ys h = record { done = h.done; rest = h.rest ++ ys; parts = ap (λ l. l ++ ys) h.parts ∙ append_assoc h.done h.rest ys; grows = h.grows }

@@ -1,0 +1,9 @@
+use Rattle.std.specs.Prelude.{codes}
+use Rattle.mandoc_formats.specs.Formats.{shown}
+use Rattle.mandoc_formats.proofs.Waits.{ended_before}
+use Rattle.mandoc_formats.proofs.faults.put_front.Goals as goal
+
+pub returns : goal.returns
+returns g c =
+    let was = rw c.if-put_through.false at c.put_through.ensures in
+    ended_before (g.V.Target.contents c.args.err.now) (g.V.Target.contents c.put_through.new.self) (codes "mandoc: ") (shown c.args.name.now) was

@@ -1,0 +1,52 @@
+use Rattle.std.proofs.Common.{◌++◌, Result, Ok, Err, false, refl, subst}
+use Rattle.page_core_base.specs.declared.faults.Fault.{Fault}
+use Rattle.page_core_streams.specs.Grows.{Grows-append}
+use Rattle.page_engine.specs.declared.runs.Outcome.{Outcome}
+use Rattle.mandoc_formats.specs.Formats.{File, IsReported, page_out, page_err}
+use Rattle.mandoc_formats.proofs.Lists.{gave_one, put_out_none}
+use Rattle.mandoc_formats.proofs.formatting.format_page.Goals as goal
+
+pub returns-in-Ok : goal.returns-in-Ok
+returns-in-Ok g c =
+    let r = c.run_waiting.ensures.ran in
+    let kind = c.args.settings.now.output in
+    let file : File = record { out = page_out kind r.0; err = page_err kind r.0; status = c.status_of.result; stops = false } in
+    let empty = rw c.in-Ok.is at c.run_waiting.ensures.empty in (
+      file,
+      record {
+        page = r.0;
+        is = r.1;
+        read = r.2;
+        result = Ok c.in-Ok.outcome;
+        ended = subst (λ (x : Result Outcome Fault). IsReported r.0.end x) c.in-Ok.is r.3;
+        out = refl;
+        told = (refl, c.status_of.ensures, refl);
+      },
+      gave_one _ _ _ _ file r.4 r.5,
+      refl,
+      refl,
+      λ p. empty,
+    )
+
+pub returns-in-Err : goal.returns-in-Err
+returns-in-Err g c =
+    let r = c.run_waiting.ensures.ran in
+    let kind = c.args.settings.now.output in
+    let f = c.report_fault in
+    let line = f.ensures.line in
+    let file : File = record { out = page_out kind r.0; err = page_err kind r.0 ++ line.done; status = f.result.status; stops = f.result.stops } in (
+      file,
+      record {
+        page = r.0;
+        is = r.1;
+        read = r.2;
+        result = Err c.in-Err.fault;
+        ended = subst (λ (x : Result Outcome Fault). IsReported r.0.end x) c.in-Err.is r.3;
+        out = refl;
+        told = ((line.done, refl, (line.rest, line.parts)), f.ensures.status, f.ensures.stops);
+      },
+      gave_one _ _ _ _ file r.4 (Grows-append _ _ _ _ line.done r.5 line.grows),
+      refl,
+      refl,
+      put_out_none _ _ _ f.ensures.status,
+    )

@@ -1,0 +1,162 @@
+-- What the pages of a command come to. Source: mandoc(1), DESCRIPTION, DIAGNOSTICS, EXIT STATUS.
+use Rattle.std.specs.Prelude.{◌≡◌, ℕ, ◌<◌, Bool, true, false, List, [], ◌∷◌, ◌++◌, ⊤, max, codes, encode_utf8, Option, Some, None, Result, Err, IsOk, MatchResult, ◌⊎◌, if◌then◌else◌}
+use Rattle.std.specs.Str.{chars}
+use Rattle.std.specs.List.{flat_map}
+use Rattle.std.specs.Io.KnownBytes.{Consumes}
+use Rattle.std.specs.Bool.{MatchBool}
+use Rattle.page_core_base.specs.declared.faults.Fault.{Fault}
+use Rattle.page_core_base.specs.declared.faults.Fault.TheVariants as fault
+use Rattle.page_core_base.specs.declared.page_settings.SettingFault.TheVariants as setting
+use Rattle.page_core_base.specs.declared.page_settings.Settings.{Settings as PageSettings}
+use Rattle.page_core_base.specs.declared.page_settings.Output.{Output}
+use Rattle.page_core_base.specs.declared.page_settings.Output.TheVariants as output
+use Rattle.page_core_streams.specs.Grows.{Grows}
+use Rattle.page_engine.specs.declared.runs.Outcome.{Outcome}
+use Rattle.page_engine.specs.Written.{WritesRows, WritesRowsInto, WritesNotes, WritesNotesInto}
+use Rattle.page_engine.specs.Streams.{streams}
+use Rattle.page_engine.specs.Runs.{Runs}
+use Rattle.mandoc_command.specs.Status.{status}
+use Rattle.mandoc_formats.specs.ShownNames.{is_hidden}
+
+-- ---- lines about files
+
+abbrev pub line_about : List ℕ → List ℕ → List ℕ
+line_about name text = codes "mandoc: " ++ (name ++ (codes ": " ++ (text ++ 10 ∷ [])))
+
+abbrev pub fault_text : Fault → List ℕ
+fault_text fault.Memory = codes "out of memory"
+fault_text fault.Read = codes "cannot read"
+fault_text fault.WriteText = codes "cannot write"
+fault_text fault.WriteNotes = codes "cannot write"
+fault_text fault.TooLong = codes "input too large"
+fault_text (fault.Settings setting.Width) = codes "bad width"
+fault_text (fault.Settings setting.Indent) = codes "bad indent"
+fault_text (fault.Settings setting.Os) = codes "bad operating system"
+fault_text _ = codes "failed before"
+
+abbrev pub fault_line : List ℕ → Fault → List ℕ
+fault_line name fault = line_about name (fault_text fault)
+
+abbrev pub unopened_line : List ℕ → List ℕ
+unopened_line name = line_about name (codes "cannot open")
+
+-- nothing more can be written
+abbrev pub stops_after : Fault → Bool
+stops_after fault.WriteText = true
+stops_after fault.WriteNotes = true
+stops_after _ = false
+
+-- ---- a page
+
+-- a front of all
+abbrev pub Front : List ℕ → List ℕ → Type 0
+Front part all = (rest : List ℕ) × (all ≡ part ++ rest)
+
+-- what a run over a page read and gave, and how it ended
+pub record Page : Type 0 where
+  pub bytes : List ℕ
+  pub rows : List ℕ
+  pub notes : List ℕ
+  pub left : Option (List ℕ)
+  pub end : Result Outcome Fault
+
+-- the run is one over these bytes, with messages about a file
+abbrev pub IsPage : PageSettings → (name : List ℕ) → Page → Type 0
+IsPage settings name page = Runs page.end
+    (streams (WritesRows Some) (WritesRowsInto Some) (WritesNotes Some name) (WritesNotesInto Some name))
+    [] page.rows [] page.notes settings page.bytes page.left
+
+-- to the output come the rows, and the messages beside it; under lint the messages alone
+abbrev pub page_out : Output → Page → List ℕ
+page_out output.Lint page = page.notes
+page_out _ page = page.rows
+
+abbrev pub page_err : Output → Page → List ℕ
+page_err output.Lint page = []
+page_err _ page = page.notes
+
+-- what is reported of the run: how it ended, or that what it gave could not be put out
+abbrev pub IsReported : Result Outcome Fault → Result Outcome Fault → Type 0
+IsReported end result = (end ≡ result) ⊎ (IsOk end × ((result ≡ Err fault.WriteText) ⊎ (result ≡ Err fault.WriteNotes)))
+
+-- ---- a file
+
+-- what came of a file: its bytes to the output and beside it, its status, and whether it ends the command
+pub record File : Type 0 where
+  pub out : List ℕ
+  pub err : List ℕ
+  pub status : ℕ
+  pub stops : Bool
+
+-- a page was formatted under a name, and its fault reported
+pub record Formatted (settings : PageSettings) (name : List ℕ) (before : Option (List ℕ)) (file : File) : Type 0 where
+  pub page : Page
+  pub is : IsPage settings name page
+  pub read : Consumes before page.left page.bytes
+  pub result : Result Outcome Fault
+  pub ended : IsReported page.end result
+  pub out : file.out ≡ page_out settings.output page
+  pub told : MatchResult result
+      (λ outcome. (file.err ≡ page_err settings.output page) × (file.status ≡ status outcome.worst) × (file.stops ≡ false))
+      (λ fault. ((line : List ℕ) × (file.err ≡ page_err settings.output page ++ line) × Front line (fault_line name fault))
+      × (file.status ≡ 6) × (file.stops ≡ stops_after fault))
+
+-- no file could be opened
+pub record Unopened (name : List ℕ) (file : File) : Type 0 where
+  pub out : file.out ≡ []
+  pub err : Front file.err (unopened_line name)
+  pub status : file.status ≡ 6
+  pub goes_on : file.stops ≡ false
+
+-- each hidden character is a question mark
+abbrev pub shown : List ℕ → List ℕ
+shown name = flat_map (λ c. encode_utf8 (if is_hidden c then 63 else c)) (chars name)
+
+-- there was no memory for its name
+pub record Unnamed (name : List ℕ) (file : File) : Type 0 where
+  pub out : file.out ≡ []
+  pub err : Front file.err (fault_line name fault.Memory)
+  pub status : file.status ≡ 6
+  pub goes_on : file.stops ≡ false
+
+-- what was found under the name: none that can be opened, or a file with its bytes
+abbrev pub IsFound : (finds : List ℕ → Option (Option (List ℕ)) → Type 0) → PageSettings → (name shown : List ℕ) → File → Type 0
+IsFound finds settings name shown file = (finds name None × Unopened shown file)
+    ⊎ ((bytes : Option (List ℕ)) × finds name (Some bytes) × Formatted settings shown bytes file)
+
+abbrev pub IsFile : (finds : List ℕ → Option (Option (List ℕ)) → Type 0) → PageSettings → (name : List ℕ) → File → Type 0
+IsFile finds settings name file = Unnamed (shown name) file ⊎ IsFound finds settings name (shown name) file
+
+-- ---- the files of a command
+
+-- what came of each, in their order, up to one that ends the command
+unfoldable pub Come : (is : List ℕ → File → Type 0) → (names : List (List ℕ)) → List File → Type 0
+Come is [] [] = ⊤
+Come is [] (file ∷ files) = ⊥
+Come is (name ∷ names) [] = ⊥
+Come is (name ∷ names) (file ∷ files) = is name file × MatchBool file.stops (files ≡ []) (Come is names files)
+
+abbrev pub out_of : List File → List ℕ
+out_of = flat_map (λ file. file.out)
+
+abbrev pub err_of : List File → List ℕ
+err_of = flat_map (λ file. file.err)
+
+-- the worst status
+unfoldable pub worst_of : List File → ℕ
+worst_of [] = 0
+worst_of (file ∷ files) = max file.status (worst_of files)
+
+-- no files: the standard input is formatted
+unfoldable pub FormatsAll : (finds : List ℕ → Option (Option (List ℕ)) → Type 0) → PageSettings → (names : List (List ℕ)) → (input : Option (List ℕ)) → List File → Type 0
+FormatsAll finds settings [] input files = (file : File) × (files ≡ file ∷ []) × Formatted settings (codes "<stdin>") input file
+FormatsAll finds settings (name ∷ names) input files = Come (IsFile finds settings) (name ∷ names) files
+
+-- these came to two streams
+pub record Gave (out_before out_after err_before err_after : Option (List ℕ)) (files : List File) : Type 0 where
+  pub out : Grows out_before out_after (out_of files)
+  pub err : Grows err_before err_after (err_of files)
+
+-- a status below that of a failure: nothing waits to be put out
+abbrev pub IsPutOut : ℕ → (out_waits err_waits : List ℕ) → Type 0
+IsPutOut status out_waits err_waits = status < 6 → (out_waits ≡ []) × (err_waits ≡ [])

@@ -1,0 +1,174 @@
+//! The pages of a command line, each from its bytes to its rows, its messages and its status (mandoc(1), DESCRIPTION).
+
+ghost use Rattle.std.specs.Prelude.{◌≡◌, ℕ, List, [], ◌∷◌, IfOk};
+ghost use Rattle.std.specs.Io.KnownBytes.{Consumes};
+ghost use Rattle.page_core_streams.specs.Grows.{Grows};
+ghost use Rattle.mandoc_formats.specs.Formats.{File, Page, IsPage, IsReported, page_out, page_err, Formatted, IsFile, IsFound, FormatsAll, Gave, IsPutOut, worst_of};
+
+use crate::faults::{Done, report_fault, report_unnamed, report_unopened};
+use crate::finding::Finds;
+use crate::names::shown_name;
+use crate::waiting::Buffered;
+use mandoc_command::{Format, status_of};
+use page_core_base::{Fault, Output, Settings};
+use page_core_streams::{Nowhere, Target};
+use page_engine::{Outcome, run_page};
+use std::alloc::Global;
+use std::io::Read;
+
+/// The name that messages have of the standard input.
+const STANDARD_INPUT: &str = "<stdin>";
+
+/// Formats the pages of a command in their order, and answers the worst of their statuses (mandoc(1), EXIT STATUS).
+///
+/// A file that can't be opened or read, or a page past a limit, is reported on `err`, and the others go on, also where that line can't be
+/// printed. A page whose rows or messages can't be written ends it. What was written is put out before each further read, and at a page's end.
+pub fn format_all<R: Finds, I: Read, W: Buffered, V: Buffered>(
+    rt: &R,
+    alloc: Global,
+    format: &Format,
+    input: &mut I,
+    out: &mut W,
+    err: &mut V,
+) -> u8
+    ensures { (files : List File) × FormatsAll (R.finds rt.now) format.now.settings format.now.files (I.remaining input.old) files
+        × Gave (W.contents out.old) (W.contents out.new) (V.contents err.old) (V.contents err.new) files
+        × (result ≡ worst_of files) × IsPutOut result (W.waits out.new) (V.waits err.new) }
+{
+    let settings = &format.settings;
+    let names = format.files.as_slice();
+    if names.is_empty() {
+        return format_page(alloc, input, out, err, STANDARD_INPUT, settings).status;
+    }
+    let mut worst = 0;
+    for name in names {
+        let done = format_file(rt, alloc, out, err, name.as_str(), settings);
+        worst = worst.max(done.status);
+        if done.stops {
+            return worst;
+        }
+    }
+    worst
+}
+
+// Formats the page of a file.
+fn format_file<R: Finds, W: Buffered, V: Buffered>(
+    rt: &R,
+    alloc: Global,
+    out: &mut W,
+    err: &mut V,
+    name: &str,
+    settings: &Settings,
+) -> Done
+    ensures { (file : File) × IsFile (R.finds rt.now) settings.now name.now file
+        × Gave (W.contents out.old) (W.contents out.new) (V.contents err.old) (V.contents err.new) (file ∷ [])
+        × (result.status ≡ file.status) × (result.stops ≡ file.stops) × IsPutOut result.status (W.waits out.new) (V.waits err.new) }
+{
+    match shown_name(alloc, name) {
+        Ok(shown) => format_named(rt, alloc, out, err, name, shown.as_str(), settings),
+        Err(_) => report_unnamed(err, name),
+    }
+}
+
+// Formats the page of a file that messages have by another name.
+fn format_named<R: Finds, W: Buffered, V: Buffered>(
+    rt: &R,
+    alloc: Global,
+    out: &mut W,
+    err: &mut V,
+    name: &str,
+    shown: &str,
+    settings: &Settings,
+) -> Done
+    ensures { (file : File) × IsFound (R.finds rt.now) settings.now name.now shown.now file
+        × Gave (W.contents out.old) (W.contents out.new) (V.contents err.old) (V.contents err.new) (file ∷ [])
+        × (result.status ≡ file.status) × (result.stops ≡ file.stops) × IsPutOut result.status (W.waits out.new) (V.waits err.new) }
+{
+    match rt.find(name) {
+        Some(mut file) => format_page(alloc, &mut file, out, err, shown, settings),
+        None => report_unopened(err, shown),
+    }
+}
+
+// Formats a page, and reports its fault: at once, since a buffer that can't be put out would fail the next page too.
+fn format_page<I: Read, W: Buffered, V: Buffered>(
+    alloc: Global,
+    input: &mut I,
+    out: &mut W,
+    err: &mut V,
+    name: &str,
+    settings: &Settings,
+) -> Done
+    ensures { (file : File) × Formatted settings.now name.now (I.remaining input.old) file
+        × Gave (W.contents out.old) (W.contents out.new) (V.contents err.old) (V.contents err.new) (file ∷ [])
+        × (result.status ≡ file.status) × (result.stops ≡ file.stops) × IsPutOut result.status (W.waits out.new) (V.waits err.new) }
+{
+    match run_waiting(alloc, input, out, err, name, settings) {
+        Ok(outcome) => Done {
+            status: status_of(outcome.worst),
+            stops: false,
+        },
+        Err(fault) => report_fault(err, name, fault),
+    }
+}
+
+// Runs over a page, and puts out what waits of it, the messages also where the rows fail.
+fn run_waiting<I: Read, W: Buffered, V: Buffered>(
+    alloc: Global,
+    input: &mut I,
+    out: &mut W,
+    err: &mut V,
+    name: &str,
+    settings: &Settings,
+) -> Result<Outcome, Fault>
+    ensures ran { (page : Page) × IsPage settings.now name.now page × Consumes (I.remaining input.old) page.left page.bytes
+        × IsReported page.end result
+        × Grows (W.contents out.old) (W.contents out.new) (page_out settings.now.output page)
+        × Grows (V.contents err.old) (V.contents err.new) (page_err settings.now.output page) }
+    ensures empty { IfOk result (λ outcome. (W.waits out.new ≡ []) × (V.waits err.new ≡ [])) }
+{
+    let run = run_into(alloc, input, out, err, name, settings);
+    let put_out = (out.put_all_out(), err.put_all_out());
+    let outcome = run?;
+    match put_out {
+        (true, true) => Ok(outcome),
+        (true, false) => Err(Fault::WriteNotes),
+        (false, _) => Err(Fault::WriteText),
+    }
+}
+
+// Runs over a page: rows go to the output, and messages beside it, or to the output where they are wanted alone.
+fn run_into<I: Read, W: Target, V: Target>(
+    alloc: Global,
+    input: &mut I,
+    out: &mut W,
+    err: &mut V,
+    name: &str,
+    settings: &Settings,
+) -> Result<Outcome, Fault>
+    ensures { (page : Page) × IsPage settings.now name.now page × Consumes (I.remaining input.old) page.left page.bytes
+        × (page.end ≡ result)
+        × Grows (W.contents out.old) (W.contents out.new) (page_out settings.now.output page)
+        × Grows (V.contents err.old) (V.contents err.new) (page_err settings.now.output page) }
+{
+    match settings.output {
+        Output::Lint => run_over(alloc, input, &mut Nowhere, out, name, settings),
+        _ => run_over(alloc, input, out, err, name, settings),
+    }
+}
+
+// Runs over a page; rows and messages go to two streams.
+fn run_over<I: Read, W: Target, V: Target>(
+    alloc: Global,
+    input: &mut I,
+    out: &mut W,
+    notes: &mut V,
+    name: &str,
+    settings: &Settings,
+) -> Result<Outcome, Fault>
+    ensures { (page : Page) × IsPage settings.now name.now page × Consumes (I.remaining input.old) page.left page.bytes
+        × (page.end ≡ result) × Grows (W.contents out.old) (W.contents out.new) page.rows
+        × Grows (V.contents notes.old) (V.contents notes.new) page.notes }
+{
+    run_page(alloc, input, out, notes, name, settings)
+}

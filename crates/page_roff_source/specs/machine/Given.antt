@@ -1,0 +1,41 @@
+-- A machine: what roff gives of a list of lines, by what the parts of a source do. That it is what the definitions say is the law `machine_law`; trust needs no
+-- reading of it.
+use Rattle.std.specs.Prelude.{◌+◌, false, List, [], ◌++◌, length, map, None}
+use Rattle.page_roff_blocks.specs.machine.Run.{At}
+use Rattle.page_roff_values.specs.Values.{units_of}
+use Rattle.page_roff_blocks.specs.machine.Budgets.{Budgeted, language}
+use Rattle.page_roff_blocks.specs.machine.Languages.{run_page_lines}
+use Rattle.page_roff_effects.specs.machine.Effects.{effects}
+use Rattle.page_roff_effects.specs.States.{State, Given, says, numbered}
+use Rattle.page_roff_source.specs.Edges.{Edge, SourceLine}
+
+-- What comes before a line: messages are about its number from now on, and those in front of it are given.
+abbrev pub head_of : SourceLine → Budgeted State → Budgeted State
+head_of line s =
+    record s { rest = record { memory = numbered line.number s.rest.memory; out = s.rest.out ++ map says line.notes } }
+
+-- where the page is before its next line, which has a budget of its own
+abbrev pub before_lines : Edge → At (Budgeted State)
+before_lines e = record {
+  place = e.place;
+  state = record { left = 0; gave_up = false; taken = e.taken; rest = record { memory = e.memory; out = [] } };
+}
+
+-- the forest of all lines, inside what is open
+unfoldable pub run_all : Edge → List SourceLine → At (Budgeted State)
+run_all e lines = run_page_lines (language (effects (units_of e.output))) (λ line. line.text) head_of lines (before_lines e)
+
+-- what it gives: messages, and lines for the set of macros, in their order
+abbrev pub given : Edge → List SourceLine → List Given
+given e lines = (run_all e lines).state.rest.out
+
+-- where it leaves the page
+abbrev pub done : Edge → List SourceLine → Edge
+done e lines = let a = run_all e lines in record {
+  output = e.output;
+  place = a.place;
+  memory = a.state.rest.memory;
+  source = e.source + length lines;
+  taken = a.state.taken;
+  to_come = None;
+}
