@@ -1,4 +1,4 @@
-//! Tests of settings, and of writers that fail or take few bytes, through the door `page_core`; `page_layer_cases` has the cases of escapes, glyphs,
+//! Tests of settings, and of writers that fail or take few bytes, through the door `page_core`; `page_roff_cases` has the cases of escapes, glyphs,
 //! columns, numbers, rows, lines and messages.
 #![tactic(auto)]
 

@@ -1,4 +1,4 @@
-//! Numbers whose messages fail; `page_layer_cases` has the others.
+//! Numbers whose messages fail; `page_roff_cases` has the others.
 
 use crate::checks::check_bytes;
 use crate::writers::narrow_writer;

@@ -1,5 +1,5 @@
 //! Tests of roff, on public calls: a thousand changes of the names of a page, messages that are refused or not taken, calls after an end, and lines
-//! that are known to be free. `page_layer_cases` has the other cases.
+//! that are known to be free. `page_roff_cases` has the other cases.
 #![tactic(auto)]
 
 #[cfg(test)]

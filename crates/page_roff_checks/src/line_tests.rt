@@ -1,4 +1,4 @@
-//! Messages that are not taken, and lines that are known to be free; `page_layer_cases` has the pages that are cut.
+//! Messages that are not taken, and lines that are known to be free; `page_roff_cases` has the pages that are cut.
 
 use page_core_base::{Encoding, Fault, LINE, Note, NoteKind, NoteSink};
 use page_core_streams::KeptNotes;

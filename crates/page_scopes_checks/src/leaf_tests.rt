@@ -1,4 +1,4 @@
-//! What lines leave whose macros open and close nothing; `page_layer_cases` has what they give.
+//! What lines leave whose macros open and close nothing; `page_scopes_cases` has what they give.
 
 use crate::leaf_pages::{check_shown, give_script};
 use page_scopes_phrases::Formatting;

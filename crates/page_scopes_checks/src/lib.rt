@@ -1,6 +1,6 @@
 //! Tests of the scopes of a page on public calls, layer by layer: which scopes an event ends and opens, over a small layout (`nested.rt`), what
 //! texts, tags and words of lines give, and the scopes over several sets of macros: those of man(7) and mdoc(7), either of them, and a small third
-//! one (`marked.rt`). `page_layer_cases` has what they give of the lines of pages.
+//! one (`marked.rt`). `page_scopes_cases` has what they give of the lines of pages.
 #![tactic(auto)]
 
 #[cfg(test)]

@@ -1,0 +1,9 @@
+use Rattle.std.proofs.Common.{length}
+use Rattle.page_core_base.specs.LinesTaken.{line_view}
+use Rattle.page_scopes_cases.proofs.sets_calls.lines.show_events.Given as goal
+
+abbrev pub invariant-loop-event : goal.invariant-loop-event
+invariant-loop-event g l = g.S.MacroSet.IsPlaceOf l.set (line_view l.line) l.place
+
+abbrev pub decreases-loop-event : goal.decreases-loop-event
+decreases-loop-event g l = length (g.S.MacroSet.events_from l.set (line_view l.line) l.place)
