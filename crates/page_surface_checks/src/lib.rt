@@ -6,7 +6,7 @@
 //! written over one trait of pages (`FedPage` in `lines.rt`), so that few functions handle the layers' objects.
 //!
 //! The engine's own surface is used so in `page_checks` (a run) and in `page_engine_cases` (a page whose lines come one by one), and what all layers
-//! share in `page_core_checks` and `page_roff_cases`: so this crate does not read the proofs of the engine.
+//! share in `page_layer_checks` and `page_roff_cases`: so this crate does not read the proofs of the engine.
 #![tactic(auto)]
 
 #[cfg(test)]

@@ -2,8 +2,8 @@
 //!
 //! Read `specs/Pages.antt`, the words in which they are written, and then any chapter. Each clause has the sentence of the manual that its page
 //! shows. `tools/worked` writes the chapters from the cases of `page_cases`, and `docs/check` compares them;
-//! `layers.rt` is written by hand: single layers, from the bytes of lines to rows. Messages and limits are in `page_worked_limits`, and
-//! the pages of the two sets of macros in `page_worked_man`, `page_worked_mdoc` and `page_worked_mdoc_lists`.
+//! `layers.rt` is written by hand: single layers, from the bytes of lines to rows. The pages of the two sets of macros are in
+//! `page_worked_man`, with messages and limits, and in `page_worked_mdoc`.
 //!
 //! Proved: `Shows`: what each page prints, and the messages about it (`specs/Pages.antt`).
 #![tactic(auto)]
