@@ -1,27 +1,13 @@
 //! Rows of ASCII that are given as their characters and fonts: how they are written (mandoc(1), "ASCII Output").
 
-ghost use Rattle.std.specs.Prelude.{◌≡◌};
-ghost use Rattle.std.specs.List.{list_all};
-ghost use Rattle.page_core_base.specs.Rows.{is_ascii};
-
 use crate::checks::{check_answer, check_bytes};
 use crate::writers::narrow_writer;
 use page_core::{Font, RowSink, TextRows};
 use page_core_base::put_ascii;
+use page_test_streams::are_ascii;
 use std::alloc::Global;
 use std::process::Abort;
 use std::test::Fail;
-
-// Whether all characters are of ASCII.
-fn are_ascii(text: &[u8]) -> bool
-    ensures { result ≡ list_all is_ascii text.now }
-{
-    let mut all = true;
-    for c in text {
-        all &= *c < 128;
-    }
-    all
-}
 
 // A row of characters in their fonts, which goes to a writer that takes `most` bytes at a call.
 #[derive(Clone, Copy)]

@@ -1,5 +1,6 @@
 //! Rows and messages that fail; `page_fill_cases` has those that do not.
 
+use crate::checks::check_answer;
 use page_core_base::{Fault, Font, NoteSink, Place, RowSink, Settings};
 use page_fill::{Filler, Piece};
 use page_test_streams::CountingSink;
@@ -70,10 +71,6 @@ fn end<R: RowSink, N: NoteSink>(
     notes: &mut N,
 ) -> Result<(), Fault> {
     filler.finish(rows, notes)
-}
-
-fn check_answer(rt: &impl Abort, got: Result<(), Fault>, wanted: Result<(), Fault>) {
-    assert_eq!(rt; got, wanted);
 }
 
 // The sinks of rows and of messages, and what is answered where their calls of a number fail, 0 for none.

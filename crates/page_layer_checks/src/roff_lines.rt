@@ -1,56 +1,17 @@
 //! Messages that are not taken, and lines that are known to be free; `page_roff_cases` has the pages that are cut.
 
-use page_core_base::{Encoding, Fault, LINE, Note, NoteKind, NoteSink};
+use crate::checks::check_count;
+use page_core_base::{Encoding, LINE, NoteKind};
 use page_core_streams::KeptNotes;
 use page_roff::Cutter;
+use page_test_streams::CountingSink;
 use std::alloc::Global;
-use std::process::Abort;
 use std::test::Fail;
 
-fn check_number(rt: &impl Abort, got: usize, want: usize) {
-    assert_eq!(rt; got, want);
-}
-
-// Counts the messages that are given, and takes none about a byte that is no character.
-#[derive(Drop)]
-struct Counting {
-    count: u64,
-}
-
-impl NoteSink for Counting {
-    ghost gave = { λ _ _ _. Unit {0} };
-
-    ghost within = { λ _ _ _. Unit {0} };
-
-    ghost failed = { λ _. 0 };
-
-    ghost Loans = { Unit {0} };
-
-    ghost loans = { λ _. tt };
-
-    ghost laws = { record {
-      none = λ _. tt;
-      more = λ _ _ _ _ _ _ _. tt;
-      after = λ _ _ _ _ _ _ _. tt;
-      before = λ _ _ _ _ _. tt;
-    } };
-
-    ghost whole = { λ _ _ _ _. tt };
-
-    fn note(&mut self, note: &Note) -> Result<(), Fault> {
-        let _ = note;
-        self.count = self.count.saturating_add(1);
-        Ok(())
-    }
-
-    fn takes(&self, kind: NoteKind) -> bool {
-        !matches!(kind, NoteKind::BadChar)
-    }
-}
-
-// How many messages come of a page's last line, and how many bytes it has.
+// How many messages come of a page's last line that are not about a byte that is no character, and how many bytes it has.
 fn messages_of(alloc: Global, page: &[u8]) -> Result<(u64, usize), Fail> {
-    let mut notes = Counting { count: 0 };
+    let mut notes = CountingSink::new(0);
+    notes.passed_over = Some(NoteKind::BadChar);
     let mut len = 0;
     if page.len() > 100_000 {
         return Ok((0, 0));
@@ -64,18 +25,18 @@ fn messages_of(alloc: Global, page: &[u8]) -> Result<(u64, usize), Fail> {
         let (text, _) = cutter.line(&mut notes)?;
         len = text.len();
     }
-    Ok((notes.count, len))
+    Ok((notes.calls, len))
 }
 
 #[test]
 fn gives_no_message_that_is_not_taken(rt: HostRuntime) -> Result<(), Fail> {
     let (count, len) = messages_of(rt.alloc(), b"a\x01\x7f")?;
-    check_number(&rt, count as usize, 0);
-    check_number(&rt, len, 3);
+    check_count(&rt, count as usize, 0, "messages");
+    check_count(&rt, len, 3, "the line");
     let page = vec![in rt.alloc(); 0x01; LINE + 1]?;
     let (count, len) = messages_of(rt.alloc(), page.as_slice())?;
-    check_number(&rt, count as usize, 1);
-    check_number(&rt, len, LINE);
+    check_count(&rt, count as usize, 1, "messages");
+    check_count(&rt, len, LINE, "the line");
     Ok(())
 }
 

@@ -1,5 +1,9 @@
 //! Bytes that calls give, as text; and texts whose parts are bytes.
 
+ghost use Rattle.std.specs.Prelude.{◌≡◌};
+ghost use Rattle.std.specs.List.{list_all};
+ghost use Rattle.page_core_base.specs.Rows.{is_ascii};
+
 use crate::notation::repeated;
 use std::alloc::{AllocError, Global};
 
@@ -9,6 +13,13 @@ const MOST: usize = 1_000;
 /// A text that a call gives.
 pub fn shown(text: &[u8]) -> &str {
     std::str::from_utf8(text).unwrap_or("not UTF-8")
+}
+
+/// Whether all characters of a text are of ASCII.
+pub fn are_ascii(text: &[u8]) -> bool
+    ensures { result ≡ list_all is_ascii text.now }
+{
+    text.iter().all(|c| *c < 128)
 }
 
 /// Shows messages, a line for each.

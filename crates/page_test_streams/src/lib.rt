@@ -15,7 +15,7 @@ mod sinks;
 mod streams;
 
 pub use brief::{Brief, Shown};
-pub use bytes::{bytes_of, show_messages, show_rows, show_runs, shown};
+pub use bytes::{are_ascii, bytes_of, show_messages, show_rows, show_runs, shown};
 pub use fonts::font_named;
 pub use notation::{repeated, shortened};
 pub use refusals::{Ended, Scarce, is_cheap, scarce_difference};

@@ -4,13 +4,15 @@ ghost use Rattle.std.specs.Prelude.{◌≡◌};
 ghost use Rattle.std.specs.Bool.{MatchBool};
 ghost use Rattle.page_core_base.specs.Fails.{Rose};
 
-use page_core_base::{Cell, Fault, Note, NoteSink, RowSink};
+use page_core_base::{Cell, Fault, Note, NoteKind, NoteSink, RowSink};
 
 /// Counts the rows or the messages that it is given, keeps none of them, and fails at one.
 #[derive(Drop)]
 pub struct CountingSink {
     failing: u64,
     pub calls: u64,
+    /// Messages of this kind are not given to it.
+    pub passed_over: Option<NoteKind>,
     failures: u64,
 }
 
@@ -20,12 +22,13 @@ impl CountingSink {
         CountingSink {
             failing,
             calls: 0,
+            passed_over: None,
             failures: 0,
         }
     }
 
     // Counts a call, and answers whether it succeeds.
-    fn takes(&mut self) -> bool
+    fn counts(&mut self) -> bool
         ensures { MatchBool result (self.new.failures ≡ self.old.failures) (Rose self.old.failures self.new.failures) }
     {
         self.calls = self.calls.saturating_add(1);
@@ -59,7 +62,7 @@ impl RowSink for CountingSink {
 
     fn row(&mut self, margin: u32, cells: &[Cell]) -> Result<(), Fault> {
         let _ = (margin, cells.len());
-        if self.takes() {
+        if self.counts() {
             Ok(())
         } else {
             Err(Fault::WriteText)
@@ -89,10 +92,14 @@ impl NoteSink for CountingSink {
 
     fn note(&mut self, note: &Note) -> Result<(), Fault> {
         let _ = note.kind;
-        if self.takes() {
+        if self.counts() {
             Ok(())
         } else {
             Err(Fault::WriteNotes)
         }
+    }
+
+    fn takes(&self, kind: NoteKind) -> bool {
+        self.passed_over != Some(kind)
     }
 }

@@ -1,12 +1,8 @@
 //! Rows and cells as bytes. A call is a margin, letters for fonts (`B`, `I`, `X` for both, else roman), the last for all that follow, and a text.
 
-ghost use Rattle.std.specs.Prelude.{◌≡◌};
-ghost use Rattle.std.specs.List.{list_all};
-ghost use Rattle.page_core_base.specs.Rows.{is_ascii};
-
 use page_core::{Cell, Font, RowSink, TextRows, cell_bytes};
 use page_core_base::{are_blank, put_ascii};
-use page_test_streams::{font_named, show_rows, shown};
+use page_test_streams::{are_ascii, font_named, show_rows, shown};
 use std::alloc::{AllocError, Global};
 
 // A margin, letters for fonts and a text.
@@ -67,13 +63,6 @@ fn fonts_of(alloc: Global, letters: &[u8], count: usize) -> Result<Vec<Font>, Al
         fonts.push(font_named(letter.copied()))?;
     }
     Ok(fonts)
-}
-
-// Whether all characters are of ASCII.
-fn are_ascii(text: &[u8]) -> bool
-    ensures { result ≡ list_all is_ascii text.now }
-{
-    text.iter().all(|c| *c < 128)
 }
 
 // The bytes of a row of ASCII. Where it is known, it is said of a row of blanks that it is one.
