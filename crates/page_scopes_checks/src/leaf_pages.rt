@@ -38,8 +38,8 @@ fn name_end(text: &str) -> u32 {
     }
 }
 
-// A line of a script: "=" begins a raw line, and "~" is a text that was expanded to nothing.
-fn read_line(text: &str, line: u32) -> Taken<'_> {
+/// A line of a script: "=" begins a raw line, and "~" is a text that was expanded to nothing.
+pub fn read_line(text: &str, line: u32) -> Taken<'_> {
     let (form, text) = match text.as_bytes().first() {
         None => (Form::Blank, text),
         Some(b'=') => (Form::Raw, text.get(1..).unwrap_or("")),

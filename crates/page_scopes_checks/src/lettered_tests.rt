@@ -1,34 +1,16 @@
 //! What texts give where words of letters are taken at once.
 
+use crate::text_tests::{KEPT_LINE, LINE, QUOTED, check_bytes};
 use page_core_base::{Font, Note, Piece, PieceOut};
 use page_scopes_layout::Context;
 use page_scopes_text::give_text;
 use page_scopes_words::{Pen, TextStyle};
 use page_test_streams::Shown;
 use std::alloc::Global;
-use std::process::Abort;
 use std::test::Fail;
 
 // The bytes at most of a text here.
 const MOST: usize = 300;
-
-const LINE: TextStyle = TextStyle {
-    is_quoted: false,
-    is_literal: false,
-    is_line: true,
-};
-
-const QUOTED: TextStyle = TextStyle {
-    is_quoted: true,
-    is_literal: false,
-    is_line: false,
-};
-
-const KEPT: TextStyle = TextStyle {
-    is_quoted: false,
-    is_literal: true,
-    is_line: true,
-};
 
 // Shows pieces, and words that are taken at once in parentheses, after the count of blanks before them if it is not one: each letter after its font,
 // where that is another one than the letter's before. Characters of kept rows that are taken at once are shown between `<` and `>`.
@@ -139,10 +121,6 @@ fn given_by(alloc: Global, style: TextStyle, times: u32, gap: u32, text: &str) -
     given_in(alloc, Font::R, style, times, gap, text)
 }
 
-fn check_bytes(rt: &impl Abort, got: &[u8], wanted: &[u8]) {
-    assert_eq!(rt; got, wanted);
-}
-
 // Texts after one blank, how often words of them are taken, and what they give.
 const TEXTS: [(TextStyle, u32, &str, &str); 38] = [
     (LINE, 9, "a b cd", "(Ra b cd)R"),
@@ -184,14 +162,19 @@ const TEXTS: [(TextStyle, u32, &str, &str); 38] = [
         "(Ra Ib)1[c-]|[d]1I[e]1[f]1[g]R",
     ),
     (QUOTED, 9, "a \"\"\\fBb\\fP\"\" c", "(Ra \"BbR\" c)R"),
-    (KEPT, 9, "a b", "[ ][a]<R b>R"),
-    (KEPT, 0, "a b", "[ ][a][ ][b]R"),
-    (KEPT, 9, "a  b-c \"d\"", "[ ][a]<R  b-c \"d\">R"),
-    (KEPT, 9, "a b ", "[ ][a]<R b>[ ]R"),
-    (KEPT, 9, "a b\tc d", "[ ][a]<R b>T[c]<R d>R"),
-    (KEPT, 9, "\\& a b", "[ ][]<R a b>R"),
-    (KEPT, 9, "a \\fBb\\fP c d", "[ ][a][ ]B[b]<R c d>R"),
-    (KEPT, 1, "a b \\&c d e", "[ ][a]<R b>[ ][c][ ][d][ ][e]R"),
+    (KEPT_LINE, 9, "a b", "[ ][a]<R b>R"),
+    (KEPT_LINE, 0, "a b", "[ ][a][ ][b]R"),
+    (KEPT_LINE, 9, "a  b-c \"d\"", "[ ][a]<R  b-c \"d\">R"),
+    (KEPT_LINE, 9, "a b ", "[ ][a]<R b>[ ]R"),
+    (KEPT_LINE, 9, "a b\tc d", "[ ][a]<R b>T[c]<R d>R"),
+    (KEPT_LINE, 9, "\\& a b", "[ ][]<R a b>R"),
+    (KEPT_LINE, 9, "a \\fBb\\fP c d", "[ ][a][ ]B[b]<R c d>R"),
+    (
+        KEPT_LINE,
+        1,
+        "a b \\&c d e",
+        "[ ][a]<R b>[ ][c][ ][d][ ][e]R",
+    ),
     (
         LINE,
         9,
@@ -259,15 +242,15 @@ const IN_FONTS: [(Font, u32, &str, &str); 9] = [
 fn words_at_once(rt: HostRuntime) -> Result<(), Fail> {
     for (style, times, text, wanted) in TEXTS {
         let given = given_by(rt.alloc(), style, times, 1, text);
-        check_bytes(&rt, given.shown.text(), wanted.as_bytes());
+        check_bytes(&rt, given.shown.text(), wanted.as_bytes(), text);
     }
     for (gap, times, text, wanted) in FIRST {
         let given = given_by(rt.alloc(), LINE, times, gap, text);
-        check_bytes(&rt, given.shown.text(), wanted.as_bytes());
+        check_bytes(&rt, given.shown.text(), wanted.as_bytes(), text);
     }
     for (font, times, text, wanted) in IN_FONTS {
         let given = given_in(rt.alloc(), font, LINE, times, 1, text);
-        check_bytes(&rt, given.shown.text(), wanted.as_bytes());
+        check_bytes(&rt, given.shown.text(), wanted.as_bytes(), text);
     }
     Ok(())
 }

@@ -17,11 +17,9 @@ pub mod nested;
 mod scope_tests;
 #[cfg(test)]
 mod set_tests;
-mod shown;
 #[cfg(test)]
 mod tag_tests;
 #[cfg(test)]
 mod text_tests;
 
 pub use marked::{Marked, MarkedPlace};
-pub use shown::Pieces;

@@ -2,17 +2,15 @@
 
 ghost use Rattle.std.specs.Prelude.{◌≤◌, length};
 
-use crate::{Marked, Pieces};
-use page_core_base::{Fault, Form, LINE, Settings, Taken};
-use page_roff_syntax::{LineForm, form_of};
+use crate::Marked;
+use crate::leaf_pages::{MOST, read_line};
+use page_core_base::{Fault, LINE, Settings, Taken};
 use page_scopes::Scopes;
 use page_sets::{Either, MacroSet, Man, Mdoc};
+use page_test_streams::Shown;
 use std::alloc::Global;
 use std::process::Abort;
 use std::test::Fail;
-
-// The bytes at most of a line here.
-const MOST: usize = 100;
 
 // Scripts, each with what it gives as a page of man(7), and of mdoc(7).
 const OF_MAN: &[(&str, &str)] = &[
@@ -39,34 +37,8 @@ const OF_MDOC: &[(&str, &str)] = &[
     ),
 ];
 
-// The bytes up to the end of the name of a control line.
-fn name_end(text: &str) -> u32 {
-    if text.len() > MOST {
-        return 0;
-    }
-    match form_of(text.as_bytes()) {
-        LineForm::Control { rest_column, .. } => rest_column.saturating_sub(1),
-        LineForm::Comment | LineForm::BlankLine | LineForm::Text(_) => 0,
-    }
-}
-
-// A line as roff hands it to a set.
-fn read_line(text: &str, line: u32) -> Taken<'_> {
-    let form = match text.as_bytes().first() {
-        None => Form::Blank,
-        Some(b'.') => Form::Control,
-        Some(_) => Form::Text,
-    };
-    Taken {
-        form,
-        text: text.as_bytes(),
-        line,
-        name_end: name_end(text),
-    }
-}
-
 // Gives the events of a line.
-fn give_line<S: MacroSet>(set: &S, line: Taken<'_>, scopes: &mut Scopes, out: &mut Pieces)
+fn give_line<S: MacroSet>(set: &S, line: Taken<'_>, scopes: &mut Scopes, out: &mut Shown)
 where
     S::Place: Drop,
     requires { length line.text.now ≤ LINE }
@@ -83,7 +55,7 @@ fn give_script<S: MacroSet>(
     set: &S,
     script: &str,
     scopes: &mut Scopes,
-    out: &mut Pieces,
+    out: &mut Shown,
 )
 where
     S::Place: Drop,
@@ -105,7 +77,7 @@ where
     S::Place: Drop,
 {
     for (script, wanted) in rows {
-        let mut out = Pieces::new(alloc);
+        let mut out = Shown::new(alloc, true);
         let Ok(mut scopes) = Scopes::new(alloc, &Settings::new(), set) else {
             assert!(rt; false, "no scopes for {script}");
             return;
@@ -128,7 +100,7 @@ fn check_chosen<S: MacroSet, T: MacroSet>(
 where
     T::Place: Drop,
 {
-    let mut out = Pieces::new(alloc);
+    let mut out = Shown::new(alloc, true);
     let Ok(mut scopes) = Scopes::new(alloc, &Settings::new(), first) else {
         assert!(rt; false, "no scopes for {script}");
         return;
@@ -226,7 +198,7 @@ fn settings_before_a_set(rt: HostRuntime) -> Result<(), Fail> {
         indent: Some(4),
         ..Settings::new()
     };
-    let mut out = Pieces::new(alloc);
+    let mut out = Shown::new(alloc, true);
     let Ok(mut scopes) = Scopes::new(alloc, &settings, &Man) else {
         assert!(rt; false, "no scopes");
         return Ok(());

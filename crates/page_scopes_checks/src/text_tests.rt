@@ -15,8 +15,8 @@ use std::test::Fail;
 // The bytes at most of a text here.
 const MOST: usize = 64;
 
-fn check_bytes(rt: &impl Abort, got: &[u8], wanted: &[u8]) {
-    assert_eq!(rt; got, wanted);
+pub(crate) fn check_bytes(rt: &impl Abort, got: &[u8], wanted: &[u8], at: &str) {
+    assert_eq!(rt; got, wanted, "of {at}");
 }
 
 // What a text gives after a count of blanks, and then the blanks that are to follow it, with "c" where it ends in `\c` and "e" where it ends in a blank.
@@ -42,19 +42,19 @@ fn given_by(alloc: Global, style: TextStyle, gap: u32, is_after_word: bool, text
     out
 }
 
-const LINE: TextStyle = TextStyle {
+pub(crate) const LINE: TextStyle = TextStyle {
     is_quoted: false,
     is_literal: false,
     is_line: true,
 };
 
-const KEPT_LINE: TextStyle = TextStyle {
+pub(crate) const KEPT_LINE: TextStyle = TextStyle {
     is_quoted: false,
     is_literal: true,
     is_line: true,
 };
 
-const QUOTED: TextStyle = TextStyle {
+pub(crate) const QUOTED: TextStyle = TextStyle {
     is_quoted: true,
     is_literal: false,
     is_line: false,
@@ -118,11 +118,8 @@ const TEXTS: [(TextStyle, &str, &str); 29] = [
 #[test]
 fn texts(rt: HostRuntime) -> Result<(), Fail> {
     for (style, text, wanted) in TEXTS {
-        check_bytes(
-            &rt,
-            given_by(rt.alloc(), style, 2, true, text).text(),
-            wanted.as_bytes(),
-        );
+        let given = given_by(rt.alloc(), style, 2, true, text);
+        check_bytes(&rt, given.text(), wanted.as_bytes(), text);
     }
     Ok(())
 }
@@ -130,16 +127,10 @@ fn texts(rt: HostRuntime) -> Result<(), Fail> {
 // At the front of a line that is kept no blank is before the first word.
 #[test]
 fn a_kept_line(rt: HostRuntime) -> Result<(), Fail> {
-    check_bytes(
-        &rt,
-        given_by(rt.alloc(), KEPT_LINE, 2, false, " a").text(),
-        b"[ ][a] 1",
-    );
-    check_bytes(
-        &rt,
-        given_by(rt.alloc(), KEPT, 2, false, "a").text(),
-        b"[a] 1",
-    );
+    let line = given_by(rt.alloc(), KEPT_LINE, 2, false, " a");
+    check_bytes(&rt, line.text(), b"[ ][a] 1", "a line");
+    let words = given_by(rt.alloc(), KEPT, 2, false, "a");
+    check_bytes(&rt, words.text(), b"[a] 1", "words");
     Ok(())
 }
 
@@ -195,11 +186,8 @@ const COLUMNS: [(&str, &str); 6] = [
 #[test]
 fn columns_of_white_space(rt: HostRuntime) -> Result<(), Fail> {
     for (text, wanted) in COLUMNS {
-        check_bytes(
-            &rt,
-            columns_of(rt.alloc(), text).notation.brief.text(),
-            wanted.as_bytes(),
-        );
+        let columns = columns_of(rt.alloc(), text);
+        check_bytes(&rt, columns.notation.brief.text(), wanted.as_bytes(), text);
     }
     Ok(())
 }
@@ -261,11 +249,8 @@ const GLUED: [(bool, &str, &str, &str); 5] = [
 #[test]
 fn arguments_side_by_side(rt: HostRuntime) -> Result<(), Fail> {
     for (is_literal, first, second, wanted) in GLUED {
-        check_bytes(
-            &rt,
-            glued_by(rt.alloc(), is_literal, first, second).text(),
-            wanted.as_bytes(),
-        );
+        let glued = glued_by(rt.alloc(), is_literal, first, second);
+        check_bytes(&rt, glued.text(), wanted.as_bytes(), first);
     }
     Ok(())
 }

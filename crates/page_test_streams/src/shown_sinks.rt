@@ -1,6 +1,8 @@
 //! The sink of tests.
 
-use page_core_base::{Note, Piece, PieceOut};
+ghost use Rattle.std.proofs.Common.{refl};
+
+use page_core_base::{Fault, Note, NoteSink, Piece, PieceOut, PieceSink};
 
 /// How pieces and messages are shown.
 pub trait Notation {
@@ -28,5 +30,61 @@ impl<N: Notation> PieceOut for ShownBy<N> {
 
     fn report(&mut self, note: &Note) {
         self.notation.show_message(note);
+    }
+}
+
+impl<N: Notation> NoteSink for ShownBy<N> {
+    ghost gave = { λ _ _ _. Unit {0} };
+
+    ghost within = { λ _ _ _. Unit {0} };
+
+    ghost failed = { λ _. 0 };
+
+    ghost Loans = { Unit {0} };
+
+    ghost loans = { λ _. tt };
+
+    ghost laws = { record {
+      none = λ _. tt;
+      more = λ _ _ _ _ _ _ _. tt;
+      after = λ _ _ _ _ _ _ _. tt;
+      before = λ _ _ _ _ _. tt;
+    } };
+
+    ghost whole = { λ _ _ _ _. tt };
+
+    fn note(&mut self, note: &Note) -> Result<(), Fault> {
+        self.notation.show_message(note);
+        Ok(())
+    }
+}
+
+impl<N: Notation> PieceSink for ShownBy<N> {
+    ghost use Rattle.page_core_base.specs.Fails.{IsPieceFault};
+
+    ghost took = { λ _ _ _. Unit {0} };
+
+    ghost broke = { λ _ fault _ _. IsPieceFault fault 0 0 0 0 };
+
+    ghost row_failed = { λ _. 0 };
+
+    ghost items = { λ _. record {
+      none = λ _. tt;
+      more = λ _ _ _ _ _ _ _. tt;
+      after = λ _ _ _ _ _ _ broke. broke;
+      before = λ _ _ _ _ broke. broke;
+    } };
+
+    ghost messages = { λ _ _ _ _. tt };
+
+    ghost message_fault = { λ _ _ _ _ rose. rose };
+
+    ghost quiet = { λ _ _ _ _. (refl, refl) };
+
+    ghost causes = { λ _ _ _ _ broke. broke };
+
+    fn piece(&mut self, piece: Piece<&[u8]>) -> Result<(), Fault> {
+        self.notation.show_piece(piece);
+        Ok(())
     }
 }
