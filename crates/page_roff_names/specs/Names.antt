@@ -9,7 +9,7 @@ use Rattle.std.specs.declared.result.Result.TheVariants.{Ok}
 use Rattle.std.specs.declared.cmp.Ordering.{Ordering}
 use Rattle.std.specs.Ordering.{nat_cmp, eq_by_cmp}
 use Rattle.std.specs.Cmp.Lexicographic.{slice_cmp}
-use Rattle.std.specs.FinMap.{find, put as put_entry}
+use Rattle.std.specs.FinMap.{find as find_entry, put as put_entry}
 use Rattle.std.specs.FinMap.Entries.{where_key}
 use Rattle.page_core_base.specs.Limits.{BODY, DEFS, NAME, NAMES}
 use Rattle.page_core_base.specs.declared.limits.Limit.{Limit}
@@ -24,7 +24,7 @@ abbrev pub by_bytes : List ℕ → List ℕ → Ordering
 by_bytes = slice_cmp nat_cmp
 
 abbrev pub look : List ℕ → Entries → Option Definition
-look name es = find by_bytes name es
+look name es = find_entry by_bytes name es
 
 -- the entries with this definition of the name, in place of one that it has
 abbrev pub put : List ℕ → Definition → Entries → Entries
