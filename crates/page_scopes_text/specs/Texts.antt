@@ -30,14 +30,14 @@ last_word column last text =
 
 -- the place of what is after white space
 abbrev pub place_after : ℕ → Pen → List ℕ → Place
-place_after line pen white = at line (pen.column + length white)
+place_after line pen blanks = at line (pen.column + length blanks)
 
 -- the place of white space that is kept: that of the word after it, and at the text's end, where there is none, that of the last word
 abbrev pub white_place : (line last : ℕ) → Pen → Spaced → Place
 white_place line last pen part = if length part.word == 0 then at line last else place_after line pen part.white
 
 abbrev pub white_items : TextStyle → Place → List ℕ → List Item
-white_items style place white = if style.is_literal then white_cells place white else []
+white_items style place blanks = if style.is_literal then white_cells place blanks else []
 
 -- at the text's end there is no word
 abbrev pub spaced_items : TextStyle → (line last : ℕ) → Pen → Spaced → List Item
