@@ -136,7 +136,7 @@ const TEXTS: [(TextStyle, u32, &str, &str); 38] = [
     (LINE, 9, "a \\fBb-c\\fP d e", "(Ra)1B[b-]|B[c](Rd e)R"),
     (LINE, 9, "a \\fB\\fP b", "(Ra)1[](Rb)R"),
     (LINE, 9, "\\& b", "1[](Rb)R"),
-    (LINE, 9, "a b  c d", "(Ra b)1[c](Rd)R"),
+    (LINE, 9, "a b  c d", "(Ra b)(Rc d)R"),
     (LINE, 9, "a \\(bu b c", "(Ra)1bu(Rb c)R"),
     (LINE, 9, "a \\fQb c", "(Ra)!UnknownFont Q;1[b](Rc)R"),
     (LINE, 9, "a b\\c", "(Ra)1[b]R"),
@@ -216,7 +216,7 @@ const FIRST: [(u32, u32, &str, &str); 8] = [
     (2, 9, "a \\fBb\\fP c", "2(Ra BbR c)R"),
     (2, 9, "\\fBa\\fP b", "2(BaR b)R"),
     (2, 9, "a-b c", "2[a-]|[b](Rc)R"),
-    (2, 9, "a b  c d", "2(Ra b)1[c](Rd)R"),
+    (2, 9, "a b  c d", "2(Ra b)(Rc d)R"),
     (2, 9, "\\& b", "2[](Rb)R"),
 ];
 
