@@ -51,7 +51,7 @@ CASES = {
         Case(["makewhatis", "empty"], before={"empty/man1/.t.1": QUIET}, after={EMPTY: "whatis 2\nt\t1\tx\tman1/.t.1\n"}),
     ],
     "They are written in man 7 or mdoc 7; each page decides.": [Case(["makewhatis", "-n", "."], [out(PRINTED)])],
-    "A folder that is missing is ignored": [Case(["makewhatis", "empty"], after={EMPTY: NONE})],
+    "A missing folder is ignored": [Case(["makewhatis", "empty"], after={EMPTY: NONE})],
     "so is what is not a regular file, such as a folder, a device or a FIFO, or a link to one.": [
         Case(
             ["makewhatis", "empty"],

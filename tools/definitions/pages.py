@@ -7,7 +7,7 @@ from . import values
 from .code import Program
 
 TOP = os.path.dirname(os.path.dirname(os.path.dirname(os.path.abspath(__file__))))
-ENGINE, STREAMS = "Rattle.page_engine.specs", "Rattle.page_core_streams.specs"
+RUNS, STREAMS = "Rattle.page_engine.specs.Runs", "Rattle.page_core_streams.specs.Streams"
 # so many results are kept for the next page, as rows of tables that it may name too
 MOST = 1_500_000
 
@@ -61,9 +61,9 @@ class Pages:
 
     def __init__(self, crates=f"{TOP}/crates"):
         self.program = Program(crates, kit())
-        self.whole_page = self.program.function(f"{ENGINE}.Runs", "whole_page")
-        self.row_bytes = self.program.function(f"{STREAMS}.RowBytes", "row_bytes")
-        self.message_bytes = self.program.function(f"{STREAMS}.MessageBytes", "message_bytes")
+        self.whole_page = self.program.function(RUNS, "whole_page")
+        self.row_bytes = self.program.function(STREAMS, "row_bytes")
+        self.message_bytes = self.program.function(STREAMS, "message_bytes")
 
     def show(self, settings, page, name):
         """What a page of these bytes gives, in a file of this name."""

@@ -8,7 +8,7 @@ use Rattle.clap.specs.declared.builder.arg.Arg.{Arg}
 use Rattle.clap.specs.declared.builder.action.ArgAction.TheVariants.{Set, SetTrue, Append}
 use Rattle.clap.specs.declared.error.kind.ErrorKind.{ErrorKind}
 use Rattle.clap.specs.declared.error.kind.ErrorKind.TheVariants.{OutOfMemory}
-use Rattle.page_core_base.specs.Checks.{IsGood}
+use Rattle.page_core_base.specs.Settings.{IsGood}
 use Rattle.mandoc_command.specs.declared.commands.Refusal.{Refusal}
 use Rattle.mandoc_command.specs.declared.commands.Refusal.TheVariants.{Words, Memory}
 use Rattle.mandoc_command.specs.Names.{Text}

@@ -2,8 +2,7 @@
 
 ghost use Rattle.std.specs.Prelude.{◌≡◌, true, false, IfOk, MatchResult};
 ghost use Rattle.clap.specs.Words.{app_of, found_of, rows_of, rule_of};
-ghost use Rattle.mandoc_command.specs.Line.{line, is_line, found_in, refusal_by, names_rule, option_rule, flag_rule};
-ghost use Rattle.mandoc_command.specs.Line.{format_rules, makewhatis_rules, whatis_rules, rules, HaveRules, texts};
+ghost use Rattle.mandoc_command.specs.Line.{line, is_line, found_in, refusal_by, names_rule, option_rule, flag_rule, format_rules, makewhatis_rules, whatis_rules, rules, HaveRules, texts};
 
 use crate::Refusal;
 use crate::programs::Program;

@@ -3,10 +3,9 @@
 ghost use Rattle.std.specs.Prelude.{◌≡◌, MatchResult, IfOk, None, Some, map, option_map, string_bytes};
 ghost use Rattle.std.specs.List.{list_any};
 ghost use Rattle.clap.specs.Words.{first_of, found_of, rows_of};
-ghost use Rattle.page_core_base.specs.Checks.{IsGood};
+ghost use Rattle.page_core_base.specs.Settings.{IsGood};
 ghost use Rattle.mandoc_command.specs.Asked.{text_in};
-ghost use Rattle.mandoc_command.specs.Line.{HasGoodSettings, wanted, wanted_of, texts};
-ghost use Rattle.mandoc_command.specs.Line.{formats_in, formats_of, indexes_in, indexes_of, searches_in, searches_of, are_words, is_set, is_empty, may_be_dir};
+ghost use Rattle.mandoc_command.specs.Line.{HasGoodSettings, wanted, wanted_of, texts, formats_in, formats_of, indexes_in, indexes_of, searches_in, searches_of, are_words, is_set, is_empty, may_be_dir};
 
 use crate::given::{Given, matches_in};
 use crate::programs::Program;

@@ -1,7 +1,7 @@
 //! The settings that a command line asks for (mandoc(1), OPTIONS).
 
 ghost use Rattle.std.specs.Prelude.{◌≡◌, IfSome, option_map};
-ghost use Rattle.page_core_base.specs.Checks.{IsGood};
+ghost use Rattle.page_core_base.specs.Settings.{IsGood};
 ghost use Rattle.page_core_base.specs.Texts.{IsLine};
 ghost use Rattle.mandoc_command.specs.Asked.{values_of, asked_of, asked, text_in, least_of, system_of, checked, checked_system, chosen, with_os};
 

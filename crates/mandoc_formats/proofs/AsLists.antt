@@ -1,18 +1,14 @@
 -- What a run gave to writers, as lists.
 use Rattle.std.proofs.Common.{◌≡◌, ℕ, List, [], Option, Some, Result, Ok, Err, refl, take, ◌^◌, ◌-◌}
 use Rattle.std.specs.List.{flat_map}
-use Rattle.page_core_base.specs.Laid.{Laid, nothing}
+use Rattle.page_core_base.specs.Rows.{Laid, nothing}
 use Rattle.page_core_base.specs.declared.faults.Fault.{Fault}
 use Rattle.page_core_base.specs.declared.faults.Fault.TheVariants.{Memory, Read, WriteText, WriteNotes, TooLong, Settings, Failed, Ended, BadIndex}
 use Rattle.page_core_base.specs.declared.page_settings.Settings.{Settings as PageSettings}
-use Rattle.page_core_streams.specs.Grows.{Grows}
-use Rattle.page_core_streams.specs.RowBytes.{row_bytes}
-use Rattle.page_core_streams.specs.MessageBytes.{message_bytes}
+use Rattle.page_core_streams.specs.Streams.{Grows, row_bytes, message_bytes}
 use Rattle.page_engine.specs.declared.runs.Outcome.{Outcome}
-use Rattle.page_engine.specs.Runs.{Runs, whole_page, settled_page}
-use Rattle.page_engine.specs.Page.{Edge, start}
-use Rattle.page_engine.specs.Streams.{Streams, streams, AllCame, FrontCame}
-use Rattle.page_engine.specs.Written.{WritesRows, WritesRowsInto, WritesNotes, WritesNotesInto}
+use Rattle.page_engine.specs.Runs.{Runs, whole_page, settled_page, Streams, streams, AllCame, FrontCame, WritesRows, WritesRowsInto, WritesNotes, WritesNotesInto}
+use Rattle.page_engine.specs.Edges.{Edge, start}
 
 -- streams of lists, and of writers
 abbrev lists : List ℕ → Streams (List ℕ) (List ℕ)

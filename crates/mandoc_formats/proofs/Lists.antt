@@ -8,7 +8,8 @@ use Rattle.std.proofs.lemmas.Grind.{flat_map-append}
 use Rattle.page_core_base.specs.declared.page_settings.Settings.{Settings as PageSettings}
 use Rattle.page_core_base.specs.declared.page_settings.Output.{Output}
 use Rattle.page_core_base.specs.declared.page_settings.Output.TheVariants as output
-use Rattle.page_core_streams.specs.Grows.{Grows, Grows-nil, Grows-append}
+use Rattle.page_core_streams.specs.Streams.{Grows}
+use Rattle.page_core_streams.specs.laws.Views.{Grows-nil, Grows-append}
 use Rattle.mandoc_formats.specs.Formats.{File, Page, Formatted, IsFile, FormatsAll, page_out, page_err, Gave, Come, out_of, err_of, worst_of, IsPutOut}
 
 -- what came of one file

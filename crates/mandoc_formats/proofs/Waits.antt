@@ -2,7 +2,8 @@
 use Rattle.std.proofs.Common.{◌≡◌, ℕ, Bool, true, false, List, [], ◌++◌, Option, Some, None, sym, ap, ◌∙◌, take, drop, length, ◌≤◌, ◌+◌, take-append-drop, append_assoc, append-nil, arith}
 use Rattle.std.proofs.lemmas.List.{take-take, drop-take}
 use Rattle.std.specs.Io.KnownBytes.{Keeps, append_known}
-use Rattle.page_core_streams.specs.Grows.{Grows, GrowsInto, Writes, Grows-append}
+use Rattle.page_core_streams.specs.Streams.{Grows, GrowsInto}
+use Rattle.page_core_streams.specs.laws.Views.{Writes, Grows-append}
 
 pub take_plus : (n m : ℕ) (xs : List ℕ) → n + m ≤ length xs → take n xs ++ take m (drop n xs) ≡ take (n + m) xs
 take_plus n m xs h =

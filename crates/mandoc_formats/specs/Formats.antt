@@ -10,11 +10,9 @@ use Rattle.page_core_base.specs.declared.page_settings.SettingFault.TheVariants 
 use Rattle.page_core_base.specs.declared.page_settings.Settings.{Settings as PageSettings}
 use Rattle.page_core_base.specs.declared.page_settings.Output.{Output}
 use Rattle.page_core_base.specs.declared.page_settings.Output.TheVariants as output
-use Rattle.page_core_streams.specs.Grows.{Grows}
+use Rattle.page_core_streams.specs.Streams.{Grows}
 use Rattle.page_engine.specs.declared.runs.Outcome.{Outcome}
-use Rattle.page_engine.specs.Written.{WritesRows, WritesRowsInto, WritesNotes, WritesNotesInto}
-use Rattle.page_engine.specs.Streams.{streams}
-use Rattle.page_engine.specs.Runs.{Runs}
+use Rattle.page_engine.specs.Runs.{WritesRows, WritesRowsInto, WritesNotes, WritesNotesInto, streams, Runs}
 use Rattle.mandoc_command.specs.Status.{status}
 use Rattle.mandoc_formats.specs.ShownNames.{is_hidden}
 

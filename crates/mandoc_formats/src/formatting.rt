@@ -2,7 +2,7 @@
 
 ghost use Rattle.std.specs.Prelude.{◌≡◌, ℕ, List, [], ◌∷◌, IfOk};
 ghost use Rattle.std.specs.Io.KnownBytes.{Consumes};
-ghost use Rattle.page_core_streams.specs.Grows.{Grows};
+ghost use Rattle.page_core_streams.specs.Streams.{Grows};
 ghost use Rattle.mandoc_formats.specs.Formats.{File, Page, IsPage, IsReported, page_out, page_err, Formatted, IsFile, IsFound, FormatsAll, Gave, IsPutOut, worst_of};
 
 use crate::faults::{Done, report_fault, report_unnamed, report_unopened};

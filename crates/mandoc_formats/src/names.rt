@@ -1,7 +1,7 @@
 //! The names of files as messages have them (mandoc(1), DIAGNOSTICS).
 
 ghost use Rattle.std.specs.Prelude.{◌≡◌, IfOk, string_bytes, encode_utf8, if◌then◌else◌};
-ghost use Rattle.page_core_streams.specs.Grows.{Writes};
+ghost use Rattle.page_core_streams.specs.laws.Views.{Writes};
 ghost use Rattle.mandoc_formats.specs.Formats.{shown};
 ghost use Rattle.mandoc_formats.specs.ShownNames.{is_hidden};
 

@@ -1,6 +1,6 @@
 //! Runs over sources and sinks that count their calls: what fails, why, and what is left alone after it.
 
-ghost use Rattle.page_core_streams.specs.Sources.{source_state};
+ghost use Rattle.page_core_streams.specs.laws.Views.{source_state};
 
 use crate::checks::{all_messages, check_count, check_outcome, outcome};
 use page_core_base::{Fault, Level, SettingFault, Settings};
@@ -33,7 +33,7 @@ impl<'a> Bytes<'a> {
 
 impl Source for Bytes<'_> {
     ghost use Rattle.std.specs.Prelude.{None};
-    ghost use Rattle.page_core_streams.specs.Sources.{source_state};
+    ghost use Rattle.page_core_streams.specs.laws.Views.{source_state};
 
     ghost state = { λ s. source_state None s.failures s.calls s.given 0 };
 

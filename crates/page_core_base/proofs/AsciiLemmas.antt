@@ -1,7 +1,7 @@
 -- Characters and their fonts, one for each cell.
 use Rattle.std.proofs.Common.{◌≡◌, ℕ, zero, suc, ◌+◌, ◌<◌, List, [], ◌∷◌, ◌++◌, length, take, get_or, refl, ap, ◌∙◌, arith}
 use Rattle.page_core_base.specs.declared.cells.Font.{Font}
-use Rattle.page_core_base.specs.Rows.{cells_in}
+use Rattle.page_core_base.specs.laws.Views.{cells_in}
 
 next : (cs : List ℕ) (fonts : List Font) (i c : ℕ) (font : Font) → i < length cs → length fonts ≡ length cs
     → cells_in (take (suc i) cs) (take (suc i) fonts) ≡ cells_in (take i cs) (take i fonts) ++ record { c = get_or cs i c; font = get_or fonts i font } ∷ []

@@ -2,10 +2,9 @@
 use Rattle.std.proofs.Common.{◌≡◌, ℕ, List, [], ◌++◌, Option, None, Some, is_some, false, refl, Result, Ok, Err, MatchResult, ◌∙◌, append-nil, sym}
 use Rattle.std.specs.Result.{result_err}
 use Rattle.std.specs.Borrow.{GName}
-use Rattle.page_core_base.specs.Fails.{FailsAs, Rose}
-use Rattle.page_core_base.specs.Messages.{Message}
+use Rattle.page_core_base.specs.laws.Views.{FailsAs, Gives, IsSink}
+use Rattle.page_core_base.specs.Messages.{Rose, Message}
 use Rattle.page_core_base.specs.machine.Plans.{Planned, Left, TookNotes, BrokeNotes}
-use Rattle.page_core_base.specs.Sinks.{Gives, IsSink}
 use Rattle.page_core_base.specs.declared.faults.Fault.{Fault}
 use Rattle.page_core_base.specs.declared.faults.Fault.TheVariants.{Failed, WriteNotes}
 use Rattle.page_core_base.proofs.SinkLemmas.{UpTo-all, UpTo-more, UpTo-within}

@@ -1,10 +1,8 @@
 -- How a latch over a sink of pieces takes messages, and what its faults say.
 use Rattle.std.proofs.Common.{◌≡◌, ℕ, List, [], ◌∷◌, Result, Ok, Err}
-use Rattle.page_core_base.specs.Fails.{FailsAs, FailsByPieces, IsPieceFault, Rose}
-use Rattle.page_core_base.specs.Latches.{Emits}
-use Rattle.page_core_base.specs.Messages.{Message}
-use Rattle.page_core_base.specs.Pieces.{Item, all_noted, noted}
-use Rattle.page_core_base.specs.Sinks.{Gives}
+use Rattle.page_core_base.specs.laws.Views.{FailsAs, FailsByPieces, IsPieceFault, Emits, all_noted, Gives}
+use Rattle.page_core_base.specs.Messages.{Rose, Message}
+use Rattle.page_core_base.specs.Rows.{Item, noted}
 use Rattle.page_core_base.specs.declared.faults.Fault.{Fault}
 use Rattle.page_core_base.specs.declared.faults.Fault.TheVariants.{WriteNotes}
 

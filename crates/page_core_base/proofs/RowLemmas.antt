@@ -5,7 +5,8 @@ use Rattle.std.proofs.lemmas.Slice.Eq.{bytes_eq-Decides}
 use Rattle.std.specs.List.{list_all}
 use Rattle.std.specs.Option.{option_or}
 use Rattle.std.specs.Str.{bytes_eq}
-use Rattle.page_core_base.specs.TableRows.{row_in, letter_of}
+use Rattle.page_core_base.specs.Messages.{row_in}
+use Rattle.page_core_base.specs.laws.Views.{letter_of}
 
 -- rows of the program as values
 abbrev pub seen : {V : Type 0} → List (Bor (List ℕ) × V) → List (List ℕ × V)

@@ -1,9 +1,8 @@
 -- How what sinks were given follows one another.
 use Rattle.std.proofs.Common.{◌≡◌, ℕ, suc, ◌+◌, ◌-◌, ◌<◌, List, [], ◌++◌, arith, refl, sym, ap, ◌∙◌, append_assoc, append-nil}
 use Rattle.page_core_base.specs.Messages.{Message}
-use Rattle.page_core_base.specs.Rows.{LaidRow}
-use Rattle.page_core_base.specs.Sinks.{IsSink, UpTo}
-use Rattle.page_core_base.specs.Laid.{Laid, join, Gave}
+use Rattle.page_core_base.specs.Rows.{LaidRow, Laid, join, Gave}
+use Rattle.page_core_base.specs.laws.Views.{IsSink, UpTo}
 
 pub UpTo-start : {S I : Type 0} {gave within : S → List I → S → Type 0} → IsSink gave within → (s : S) (all : List I) → UpTo gave s all all s
 UpTo-start k s all = record { done = []; parts = refl; given = k.none s }

@@ -4,7 +4,7 @@ use Rattle.std.specs.List.{list_all, list_any}
 use Rattle.std.proofs.lemmas.List.{drop_all, drop_more, take_all, take_more}
 use Rattle.std.proofs.lemmas.Bool.{cases_Bool}
 use Rattle.std.proofs.lemmas.Bool.Decides.{nat_tests}
-use Rattle.page_core_base.specs.Words.{ends_part, hyphen, in_first, parts_after, parts_of}
+use Rattle.page_core_base.specs.Rows.{ends_part, hyphen, in_first, parts_after, parts_of}
 
 pub parts-end : (before b : ℕ) (bytes : List ℕ) → ends_part before b bytes ≡ true → parts_after before (b ∷ bytes) ≡ (b ∷ []) ∷ parts_after b bytes
 unfolding parts_after

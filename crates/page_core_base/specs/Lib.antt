@@ -1,14 +1,7 @@
+pub mod Limits
 pub mod Messages
 pub mod Rows
+pub mod Settings
 pub mod Texts
-pub mod Words
-pub mod Checks
-pub mod Sinks
-pub mod Fails
-pub mod Laid
-pub mod Pieces
-pub mod Latches
-pub mod LinesTaken
+pub mod laws
 pub mod machine
-pub mod Limits
-pub mod TableRows

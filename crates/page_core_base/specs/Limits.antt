@@ -27,10 +27,6 @@ SCOPES = 64
 abbrev pub COLUMNS : ℕ
 COLUMNS = 16
 
--- the open parentheses of an expression
-abbrev pub PARENS : ℕ
-PARENS = 16
-
 -- the bytes of the name of a string, macro or register
 abbrev pub NAME : ℕ
 NAME = 64
@@ -66,10 +62,6 @@ REREAD = 1_000
 -- the interpolations of a line
 abbrev pub EXPAND : ℕ
 EXPAND = 1_000
-
--- the interpolations inside one another
-abbrev pub NEST : ℕ
-NEST = 16
 
 abbrev pub name_of : Limit → List ℕ
 name_of Line = codes "LINE"

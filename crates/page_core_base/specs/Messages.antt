@@ -1,13 +1,24 @@
--- Messages: what a message says, its level and its text. Source: mandoc(1), "DIAGNOSTICS" and -W.
+-- Messages: what a message says, its level and its text; when a call may answer a fault. Source: mandoc(1), DIAGNOSTICS.
 use Prim.Native.String.{String}
-use Rattle.std.specs.Prelude.{ℕ, Bool, nat_lt, List, take, codes}
+use Rattle.std.specs.Prelude.{ℕ, List, [], ◌∷◌, Option, Some, None, if◌then◌else◌, take, Bool, nat_lt, codes, ◌<◌, ◌-◌, ◌^◌}
+use Rattle.std.specs.Str.{bytes_eq}
 use Rattle.std.specs.Str.Lossy.{utf8_valid_len}
-use Rattle.page_core_base.specs.declared.notes.Note.{Note}
-use Rattle.page_core_base.specs.declared.places.Place.{Place}
+use Rattle.page_core_base.specs.declared.faults.Fault.{Fault}
+use Rattle.page_core_base.specs.declared.faults.Fault.TheVariants.{Memory, Read, WriteText, WriteNotes, TooLong, Settings, Failed, Ended, BadIndex}
 use Rattle.page_core_base.specs.declared.note_kinds.Level.{Level}
 use Rattle.page_core_base.specs.declared.note_kinds.Level.TheVariants.{Base, Style, Warning, Error, Unsupp}
 use Rattle.page_core_base.specs.declared.note_kinds.NoteKind.{NoteKind}
 use Rattle.page_core_base.specs.declared.note_kinds.NoteKind.TheVariants.{TrailingBlank, MissingTitle, UnknownSection, MissingDate, MissingOs, LateMacro, NoBody, BeforeSection, SkipPara, LineScope, EmptyMacro, BadNest, BlankFill, TabFill, UndefString, UndefEscape, BadEscape, NoGlyph, UnknownFont, Unterminated, MissingWidth, BadChar, UnknownMacro, ItemOutside, NotOpen, FewerRs, MissingEnd, ArgOutside, NotNumeric, DivZero, NoListType, MissingName, BadCondition, Loop, Limit, UnsuppRequest, UnsuppEscape, Table}
+use Rattle.page_core_base.specs.declared.places.Place.{Place}
+
+-- ---- Tables of names: rows of a name and what it stands for.
+
+-- what the first row of a name says
+abbrev pub row_in : {V : Type 0} → List (List ℕ × V) → List ℕ → Option V
+row_in [] name = None
+row_in (row ∷ rows) name = if bytes_eq row.0 name then Some row.1 else row_in rows name
+
+-- ---- Messages: what a message says, its level and its text. Source: mandoc(1), "DIAGNOSTICS" and -W.
 
 -- a message: its kind, the line and the column that it names, and its detail
 pub record Message : Type 0 where
@@ -15,10 +26,6 @@ pub record Message : Type 0 where
   pub line : ℕ
   pub column : ℕ
   pub detail : List ℕ
-
--- what a note of the program says
-abbrev pub message_of : Note → Message
-message_of note = record { kind = note.kind; line = note.line; column = note.column; detail = note.detail.bytes }
 
 -- the front of a text of at most n bytes, up to a character's end
 unfoldable pub text_front : ℕ → List ℕ → List ℕ
@@ -100,3 +107,21 @@ level_of kind = (row_of_kind kind).level
 
 abbrev pub text_of : NoteKind → List ℕ
 text_of kind = (row_of_kind kind).text
+
+-- ---- When a call may answer a fault.
+
+-- a count of failures rose, or is at its end
+abbrev pub Rose : ℕ → ℕ → Type 0
+Rose old new = old < 2 ^ 64 - 1 → old < new
+
+-- the same of a call over a sink of rows and a sink of notes
+abbrev pub IsSinkFault : Fault → ℕ → ℕ → ℕ → ℕ → Type 0
+IsSinkFault WriteText rows rows' notes notes' = Rose rows rows'
+IsSinkFault WriteNotes rows rows' notes notes' = Rose notes notes'
+IsSinkFault Memory rows rows' notes notes' = ⊥
+IsSinkFault Read rows rows' notes notes' = ⊥
+IsSinkFault TooLong rows rows' notes notes' = ⊥
+IsSinkFault (Settings s) rows rows' notes notes' = ⊥
+IsSinkFault Failed rows rows' notes notes' = ⊥
+IsSinkFault Ended rows rows' notes notes' = ⊥
+IsSinkFault (BadIndex n) rows rows' notes notes' = ⊥

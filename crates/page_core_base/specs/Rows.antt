@@ -1,8 +1,14 @@
--- Rows and their cells.
-use Rattle.std.specs.Prelude.{◌≡◌, ℕ, Bool, true, ◌==◌, nat_lt, List, [], ◌∷◌, length, if◌then◌else◌}
-use Rattle.std.specs.List.{list_all}
+-- Rows and their cells, the pieces that they are filled with, and the rows and messages that are settled. Source: mandoc(1), DESCRIPTION.
+use Rattle.std.specs.Char.{is_ascii_alphabetic}
+use Rattle.std.specs.Prelude.{ℕ, List, Bool, ◌==◌, [], ◌∷◌, if◌then◌else◌, length, false, ◌&&◌, ◌++◌}
+use Rattle.page_core_base.specs.Messages.{Message}
 use Rattle.page_core_base.specs.declared.cells.Cell.{Cell}
 use Rattle.page_core_base.specs.declared.cells.Font.{Font}
+use Rattle.page_core_base.specs.declared.pieces.Piece.{Piece}
+use Rattle.page_core_base.specs.declared.pieces.Piece.TheVariants.{Text, Split}
+use Rattle.page_core_base.specs.declared.places.Place.{Place}
+
+-- ---- Rows and their cells.
 
 -- a row: the columns of its margin, and its cells
 pub record LaidRow : Type 0 where
@@ -28,17 +34,72 @@ trimmed (cell ∷ cells) = trimmed_before cell (trimmed cells)
 abbrev pub is_blank_row : LaidRow → Bool
 is_blank_row row = length (trimmed row.cells) == 0
 
--- the cells of characters, each in its font
-abbrev pub cells_in : List ℕ → List Font → List Cell
-cells_in [] fonts = []
-cells_in (c ∷ cs) [] = []
-cells_in (c ∷ cs) (font ∷ fonts) = record { c = c; font = font } ∷ cells_in cs fonts
+-- ---- Pieces and the messages between them.
 
-abbrev pub is_ascii : ℕ → Bool
-is_ascii c = nat_lt c 128
+-- a piece or a message: their order is one
+pub data Item : Type 0 where
+  shown : Piece (List ℕ) → Item
+  noted : Message → Item
 
--- characters of ASCII, as many fonts, and no letter where it is said that there is none
-pub record AreAscii (bytes : List ℕ) (fonts : List Font) (blank : Bool) : Type 0 where
-  pub sizes : length fonts ≡ length bytes
-  pub ascii : list_all is_ascii bytes ≡ true
-  pub letters : blank ≡ true → is_blank_row (row_of 0 (cells_in bytes fonts)) ≡ true
+-- ---- Words of a text, each after one blank, as the pieces that they are, and the parts of a word between which a row may end.
+-- Source: roff(7), "Filling and adjusting".
+
+-- ---- the parts of a word
+
+abbrev pub starts_with_letter : List ℕ → Bool
+starts_with_letter [] = false
+starts_with_letter (b ∷ bytes) = is_ascii_alphabetic b
+
+abbrev pub hyphen : ℕ
+hyphen = 45
+
+-- a byte goes into the first part
+abbrev pub in_first : ℕ → List (List ℕ) → List (List ℕ)
+in_first b [] = (b ∷ []) ∷ []
+in_first b (part ∷ parts) = (b ∷ part) ∷ parts
+
+-- between a byte before it and bytes after it, a part ends after a byte: a hyphen between two letters
+abbrev pub ends_part : ℕ → ℕ → List ℕ → Bool
+ends_part before b bytes = is_ascii_alphabetic before && (b == hyphen && starts_with_letter bytes)
+
+-- the parts of bytes that are after another one
+unfoldable pub parts_after : ℕ → List ℕ → List (List ℕ)
+parts_after before [] = []
+parts_after before (b ∷ bytes) = if ends_part before b bytes then (b ∷ []) ∷ parts_after b bytes else in_first b (parts_after b bytes)
+
+-- the parts of a word, whose first byte does not follow a letter
+abbrev pub parts_of : List ℕ → List (List ℕ)
+parts_of word = parts_after hyphen word
+
+-- parts after another one, and parts: the row may end between them
+abbrev pub later_pieces : Font → Place → List (List ℕ) → List (Piece (List ℕ))
+later_pieces font place [] = []
+later_pieces font place (part ∷ parts) = Split ∷ (Text part font place ∷ later_pieces font place parts)
+
+abbrev pub part_pieces : Font → Place → List (List ℕ) → List (Piece (List ℕ))
+part_pieces font place [] = []
+part_pieces font place (part ∷ parts) = Text part font place ∷ later_pieces font place parts
+
+-- ---- The rows and messages that are settled, and the edge from which the rest goes on.
+
+pub record Laid (E : Type 0) : Type 0 where
+  pub rows : List LaidRow
+  pub notes : List Message
+  pub edge : E
+
+abbrev pub nothing : {E : Type 0} → E → Laid E
+nothing e = record { rows = []; notes = []; edge = e }
+
+-- one thing after another
+abbrev pub join : {E F : Type 0} → Laid E → Laid F → Laid F
+join a b = record { rows = a.rows ++ b.rows; notes = a.notes ++ b.notes; edge = b.edge }
+
+-- one thing, and from its edge another
+abbrev pub seq : {E F : Type 0} → Laid E → (E → Laid F) → Laid F
+seq a f = join a (f a.edge)
+
+-- both sinks got all
+pub record Gave {R N E : Type 0} (row_gave : R → List LaidRow → R → Type 0) (note_gave : N → List Message → N → Type 0)
+    (r r' : R) (n n' : N) (given : Laid E) : Type 0 where
+  pub rows : row_gave r given.rows r'
+  pub notes : note_gave n given.notes n'

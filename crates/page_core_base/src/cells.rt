@@ -2,7 +2,8 @@
 
 ghost use Rattle.std.specs.Prelude.{◌≡◌, ◌≤◌, length, vec_capacity};
 ghost use Rattle.std.specs.List.{list_all};
-ghost use Rattle.page_core_base.specs.Rows.{cells_in, is_blank, is_blank_row, row_of};
+ghost use Rattle.page_core_base.specs.laws.Views.{cells_in};
+ghost use Rattle.page_core_base.specs.Rows.{is_blank, is_blank_row, row_of};
 
 /// The font of a cell: roman, bold, italic, or bold and italic (mandoc_char(7), roff(7) `ft`).
 #[derive(Clone, Copy, Debug, PartialEq, Eq)]

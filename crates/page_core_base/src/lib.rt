@@ -2,17 +2,17 @@
 //! a limit, the traits of the sinks that take rows, messages and pieces, and the latches through which inner functions give to them.
 //!
 //! Every layer uses it: what one gives and the next one takes is a type of this crate. A table of names is a `static` of lists of rows by their first
-//! letter, and its look-up is `row_named(list_for(&TABLE, name), name)`; its definition is one list of the same rows (`specs/TableRows.antt`:
+//! letter, and its look-up is `row_named(list_for(&TABLE, name), name)`; its definition is one list of the same rows (`specs/Messages.antt`:
 //! `row_in` says what rows say of a name, and `row_of_rows` in `proofs/RowLemmas.antt` that the program's list of the letter says the same).
 //!
 //! Read first: `specs/Limits.antt`, the limits that definitions cite, with their names; `Piece` and `PieceSink` in `pieces.rt`; then `RowSink`,
 //! `NoteSink`, and `PieceLatch` for how inner functions give.
 //!
 //! Proved: `limits_law`, `Limit::name`: the constants and the names of limits are those of `specs/Limits.antt`. `list_for`, `row_named`: the list of a
-//! name's first letter, and what the first row of the name says (`specs/TableRows.antt`). `is_line`, `after_byte`, `unpaired_front`, `Level::is_below`, `NoteKind::level`, `NoteKind::text`, `Note::about`: what a line may hold, what a quoted argument says, and the level and the text of each
+//! name's first letter, and what the first row of the name says (`specs/Messages.antt`). `is_line`, `after_byte`, `unpaired_front`, `Level::is_below`, `NoteKind::level`, `NoteKind::text`, `Note::about`: what a line may hold, what a quoted argument says, and the level and the text of each
 //! kind of message (`specs/Texts.antt`, `Messages.antt`). `Settings::check`, `Settings::set_os`: settings are refused exactly where a bound is
-//! passed, the first one first (`specs/Checks.antt`). `BoundedText`, `append`: bytes are added whole or not at all, within the limit or what is reserved. `PieceLatch`,
-//! `NoteLatch`: all that is given came to the sink, or a front of it and then its fault (`specs/Latches.antt`).
+//! passed, the first one first (`specs/Settings.antt`). `BoundedText`, `append`: bytes are added whole or not at all, within the limit or what is reserved. `PieceLatch`,
+//! `NoteLatch`: all that is given came to the sink, or a front of it and then its fault (`specs/laws/Views.antt`).
 #![tactic(auto)]
 
 mod blank_texts;

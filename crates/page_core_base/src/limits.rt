@@ -2,6 +2,7 @@
 
 ghost use Rattle.std.specs.Prelude.{◌≡◌};
 ghost use Rattle.page_core_base.specs.Limits as limits;
+ghost use Rattle.page_core_base.specs.laws.Views as limits_laws;
 
 /// The bytes of a line.
 pub const LINE: usize = 65_536;
@@ -80,9 +81,9 @@ pub enum Limit {
 pub fn limits_law()
     ensures { (LINE ≡ limits.LINE) × (FIELD ≡ limits.FIELD) × (CELLS ≡ limits.CELLS)
         × (BLANKS ≡ limits.BLANKS) × (SCOPES ≡ limits.SCOPES) × (COLUMNS ≡ limits.COLUMNS)
-        × (PARENS ≡ limits.PARENS) × (NAME ≡ limits.NAME) × (NAMES ≡ limits.NAMES) × (BODY ≡ limits.BODY)
+        × (PARENS ≡ limits_laws.PARENS) × (NAME ≡ limits.NAME) × (NAMES ≡ limits.NAMES) × (BODY ≡ limits.BODY)
         × (DEFS ≡ limits.DEFS) × (CONDS ≡ limits.CONDS) × (CALLS ≡ limits.CALLS) × (ARGS ≡ limits.ARGS)
-        × (REREAD ≡ limits.REREAD) × (EXPAND ≡ limits.EXPAND) × (NEST ≡ limits.NEST) }
+        × (REREAD ≡ limits.REREAD) × (EXPAND ≡ limits.EXPAND) × (NEST ≡ limits_laws.NEST) }
 {}
 
 impl Limit {

@@ -1,7 +1,8 @@
 //! Tables of names: rows of a name and what it stands for, in lists by the first letter of the name.
 
 ghost use Rattle.std.specs.Prelude.{◌≡◌, [], map, slice_index_or};
-ghost use Rattle.page_core_base.specs.TableRows.{row_in, letter_of};
+ghost use Rattle.page_core_base.specs.Messages.{row_in};
+ghost use Rattle.page_core_base.specs.laws.Views.{letter_of};
 
 /// The list of the name's first letter: the lists go by its number, from 1 for `A` and from 33 for `a`.
 pub fn list_for<'a, R>(lists: &[&'a [R]], name: &[u8]) -> &'a [R]

@@ -1,8 +1,8 @@
 //! The latch over a sink of messages: what inner functions that give no pieces report to, so that they need not hand on its faults.
 
 ghost use Rattle.std.specs.Prelude.{◌≡◌, List, [], ◌∷◌, None, Some, MatchResult};
-ghost use Rattle.page_core_base.specs.Messages.{Message, message_of};
-ghost use Rattle.page_core_base.specs.Latches.{Came};
+ghost use Rattle.page_core_base.specs.Messages.{Message};
+ghost use Rattle.page_core_base.specs.laws.Views.{message_of, Came};
 ghost use Rattle.page_core_base.specs.machine.Plans.{Planned, Left, TookNotes, BrokeNotes};
 
 use crate::{Fault, Note, NoteSink};

@@ -1,9 +1,8 @@
 //! Sinks that take messages.
 
 ghost use Rattle.std.specs.Prelude.{◌≡◌, ℕ, false, List, [], ◌∷◌};
-ghost use Rattle.page_core_base.specs.Sinks.{IsSink, Gives};
-ghost use Rattle.page_core_base.specs.Fails.{FailsAs};
-ghost use Rattle.page_core_base.specs.Messages.{Message, message_of};
+ghost use Rattle.page_core_base.specs.laws.Views.{IsSink, Gives, FailsAs, message_of};
+ghost use Rattle.page_core_base.specs.Messages.{Message};
 
 use crate::{Fault, Note, NoteKind};
 

@@ -1,7 +1,8 @@
 //! Messages: what is reported of a page (mandoc(1), "DIAGNOSTICS").
 
 ghost use Rattle.std.specs.Prelude.{◌≡◌, ◌≤◌, length};
-ghost use Rattle.page_core_base.specs.Messages.{message_of, message_about, text_front};
+ghost use Rattle.page_core_base.specs.laws.Views.{message_of};
+ghost use Rattle.page_core_base.specs.Messages.{message_about, text_front};
 
 use crate::{NoteKind, Place};
 use arrayvec::ArrayString;

@@ -2,7 +2,7 @@
 
 ghost use Rattle.std.specs.Prelude.{◌≡◌, ◌≤◌, ◌<◌, [], length, OnOk, IfErr};
 ghost use Rattle.page_core_base.specs.Texts.{IsLine};
-ghost use Rattle.page_core_base.specs.Checks.{IsChecked, SameButOs};
+ghost use Rattle.page_core_base.specs.laws.Settings.{IsChecked, SameButOs};
 
 use crate::Level;
 use crate::texts::is_line;

@@ -1,11 +1,9 @@
 //! The latch over a sink of pieces: what inner functions give to, so that they need not hand on its faults.
 
 ghost use Rattle.std.specs.Prelude.{◌≡◌, ◌≤◌, true, List, [], ◌∷◌, length, replicate, None, Some, MatchResult};
-ghost use Rattle.page_core_base.specs.Latches.{Came};
-ghost use Rattle.page_core_base.specs.Messages.{message_of};
+ghost use Rattle.page_core_base.specs.laws.Views.{Came, message_of, piece_of, TakesKept, TakesWords, is_printable_ascii};
 ghost use Rattle.page_core_base.specs.machine.Plans.{Planned, Left};
-ghost use Rattle.page_core_base.specs.Pieces.{Item, shown, noted, piece_of};
-ghost use Rattle.page_core_base.specs.Words.{TakesKept, TakesWords, is_printable_ascii};
+ghost use Rattle.page_core_base.specs.Rows.{Item, shown, noted};
 ghost use Rattle.page_core_base.specs.declared.blank_texts.TheConstants.{BLANK_TEXT};
 ghost use Rattle.page_core_base.specs.declared.pieces.Piece.TheVariants.{Text};
 
@@ -13,7 +11,7 @@ use crate::{Fault, Font, Note, Piece, PieceSink, Place, blank_text};
 
 /// Takes pieces and messages, and never fails: after a fault of the sink below it takes nothing.
 pub trait PieceOut {
-    ghost use Rattle.page_core_base.specs.Pieces.{Item};
+    ghost use Rattle.page_core_base.specs.Rows.{Item};
 
     // What is planned; what of a plan is still to come.
     ghost Plan: { Type 0 };

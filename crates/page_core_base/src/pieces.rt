@@ -1,15 +1,12 @@
 //! Pieces: what a page's scopes give to be filled, in the order of the page.
 
 ghost use Rattle.std.specs.Prelude.{◌≡◌, ◌≤◌, ℕ, List, true, [], ◌∷◌, length, replicate, MatchResult};
-ghost use Rattle.page_core_base.specs.Sinks.{IsSink};
-ghost use Rattle.page_core_base.specs.Fails.{Rose, IsPieceFault, FailsByPieces};
-ghost use Rattle.page_core_base.specs.Latches.{Emits};
-ghost use Rattle.page_core_base.specs.Messages.{Message};
+ghost use Rattle.page_core_base.specs.laws.Views.{IsSink, IsPieceFault, FailsByPieces, Emits, all_noted, piece_of, TakesKept, TakesWords, is_printable_ascii};
+ghost use Rattle.page_core_base.specs.Messages.{Rose, Message};
 ghost use Rattle.page_core_base.specs.declared.faults.Fault.{Fault};
-ghost use Rattle.page_core_base.specs.Pieces.{Item, shown, all_noted, piece_of};
+ghost use Rattle.page_core_base.specs.Rows.{Item, shown};
 ghost use Rattle.page_core_base.specs.declared.blank_texts.TheConstants.{BLANK_TEXT};
 ghost use Rattle.page_core_base.specs.declared.pieces.Piece.TheVariants.{Text};
-ghost use Rattle.page_core_base.specs.Words.{TakesKept, TakesWords, is_printable_ascii};
 
 use crate::{Fault, Font, NoteSink, Place, blank_text};
 

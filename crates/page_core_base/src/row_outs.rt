@@ -1,9 +1,9 @@
 //! What inner functions give rows and messages to, so that they need not hand on the faults of sinks.
 
 ghost use Rattle.std.specs.Prelude.{◌≡◌, ◌≤◌, List, [], ◌∷◌, IsTrue, length, true, vec_capacity};
-ghost use Rattle.page_core_base.specs.Latches.{CameRows};
-ghost use Rattle.page_core_base.specs.Messages.{Message, message_of};
-ghost use Rattle.page_core_base.specs.Rows.{AreAscii, LaidRow, cells_in, is_blank_row, row_of};
+ghost use Rattle.page_core_base.specs.laws.Views.{CameRows, message_of, AreAscii, cells_in};
+ghost use Rattle.page_core_base.specs.Messages.{Message};
+ghost use Rattle.page_core_base.specs.Rows.{LaidRow, is_blank_row, row_of};
 
 use crate::{Cell, Font, Note};
 

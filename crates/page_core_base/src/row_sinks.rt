@@ -1,9 +1,8 @@
 //! Sinks that take finished rows.
 
 ghost use Rattle.std.specs.Prelude.{◌≡◌, ◌≤◌, ℕ, List, [], ◌∷◌, length, true, vec_capacity};
-ghost use Rattle.page_core_base.specs.Sinks.{IsSink, Gives};
-ghost use Rattle.page_core_base.specs.Fails.{FailsAs};
-ghost use Rattle.page_core_base.specs.Rows.{AreAscii, LaidRow, cells_in, is_blank_row, row_of};
+ghost use Rattle.page_core_base.specs.laws.Views.{IsSink, Gives, FailsAs, AreAscii, cells_in};
+ghost use Rattle.page_core_base.specs.Rows.{LaidRow, is_blank_row, row_of};
 
 use crate::{Cell, Fault, Font, put_ascii};
 

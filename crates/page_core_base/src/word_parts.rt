@@ -1,7 +1,7 @@
 //! The parts of a word: a row may end after a hyphen between two letters (roff(7), "Filling and adjusting").
 
 ghost use Rattle.std.specs.Prelude.{◌≡◌, ◌<◌, ◌≤◌, false, ◌==◌, ◌∷◌, length, take, drop};
-ghost use Rattle.page_core_base.specs.Words.{starts_with_letter, ends_part, parts_of};
+ghost use Rattle.page_core_base.specs.Rows.{starts_with_letter, ends_part, parts_of};
 
 const HYPHEN: u8 = b'-';
 

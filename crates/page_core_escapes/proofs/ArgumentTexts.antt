@@ -8,8 +8,7 @@ use Rattle.std.proofs.lemmas.List.{length-take-le, length-drop, drop-take}
 use Rattle.std.proofs.Math.Seq.{take-append-add}
 use Rattle.std.proofs.lemmas.List.Quantifiers.{position-Some}
 use Rattle.std.proofs.lemmas.Str.{IsUtf8-take, IsCharBoundary-before_ascii}
-use Rattle.page_core_escapes.specs.Extents.{character_len, two_characters_len, bracketed_len, name_len}
-use Rattle.page_core_escapes.specs.Lengths.{quoted_len, content_len}
+use Rattle.page_core_escapes.specs.Lengths.{character_len, two_characters_len, bracketed_len, name_len, quoted_len, content_len}
 use Rattle.page_core_escapes.specs.Meanings.{without_last, bare_name, bare_quoted}
 use Rattle.page_core_escapes.proofs.Contents.{character_len-fits}
 use Rattle.page_core_escapes.proofs.Characters.{CutsAt, CutsAt-boundary, CutsAt-ascii, Taken, character_len-encode, character_len-taken}

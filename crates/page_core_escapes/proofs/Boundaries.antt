@@ -14,10 +14,7 @@ use Rattle.page_core_escapes.specs.declared.letters.Shape.{Shape}
 use Rattle.page_core_escapes.specs.declared.letters.Shape.TheVariants.{Alone, Glyph, Name, Size, Quoted}
 use Rattle.page_core_escapes.specs.declared.extents.Extent.{Extent}
 use Rattle.page_core_escapes.specs.declared.extents.Extent.TheVariants.{Whole, QuotedFrom}
-use Rattle.page_core_escapes.specs.Bytes.{is_among, is_digit}
-use Rattle.page_core_escapes.specs.Letters.{letter_of}
-use Rattle.page_core_escapes.specs.Extents.{is_sign, after_sign, begins_size, shape_of, character_len, two_characters_len, bracketed_len, name_len, has_two_digits, number_len, sign_len, number_extent, extent_by, extent_of}
-use Rattle.page_core_escapes.specs.Lengths.{quoted_len, extent_len, escape_len_by, content_len_within, content_len, escape_len}
+use Rattle.page_core_escapes.specs.Lengths.{is_among, is_digit, letter_of, is_sign, after_sign, begins_size, shape_of, character_len, two_characters_len, bracketed_len, name_len, has_two_digits, number_len, sign_len, number_extent, extent_by, extent_of, quoted_len, extent_len, escape_len_by, content_len_within, content_len, escape_len}
 use Rattle.page_core_escapes.proofs.LetterLemmas.{follows, shape_ascii}
 use Rattle.page_core_escapes.proofs.Characters.{CutsAt, CutsAt-add, CutsAt-ascii, Taken, character_len-taken, begins_with}
 

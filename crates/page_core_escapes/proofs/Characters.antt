@@ -6,7 +6,7 @@ use Rattle.std.proofs.Math.Utf8.{encode, encodes, scalars, scalar}
 use Rattle.std.proofs.lemmas.Bool.{cases_lt, cond-true, cond-false, and_parts, lt-ltb, le-ltb, le-leb}
 use Rattle.std.proofs.lemmas.List.{drop-drop, length-drop, length-append, drop_at, take_at}
 use Rattle.std.proofs.lemmas.Str.{IsUtf8-drop, IsCharBoundary-after_ascii, IsCharBoundary-from_drop}
-use Rattle.page_core_escapes.specs.Extents.{character_len}
+use Rattle.page_core_escapes.specs.Lengths.{character_len}
 
 -- ---- the first byte of a character
 

@@ -11,8 +11,7 @@ use Rattle.page_core_escapes.specs.declared.letters.Shape.{Shape}
 use Rattle.page_core_escapes.specs.declared.letters.Shape.TheVariants.{Alone, Glyph, Name, Size, Quoted}
 use Rattle.page_core_escapes.specs.declared.extents.Extent.{Extent}
 use Rattle.page_core_escapes.specs.declared.extents.Extent.TheVariants.{Whole, QuotedFrom}
-use Rattle.page_core_escapes.specs.Extents.{shape_of, after_sign, pair, character_len, written_len, name_len, number_len, sign_len, number_extent, extent_by, extent_of}
-use Rattle.page_core_escapes.specs.Lengths.{quoted_len, extent_len, escape_len_by, content_len_within, content_len, escape_len}
+use Rattle.page_core_escapes.specs.Lengths.{shape_of, after_sign, pair, character_len, written_len, name_len, number_len, sign_len, number_extent, extent_by, extent_of, quoted_len, extent_len, escape_len_by, content_len_within, content_len, escape_len}
 use Rattle.page_core_escapes.proofs.Options.{and_then-same}
 
 -- ---- a character takes bytes, and no more than there are

@@ -8,11 +8,9 @@ use Rattle.page_core_escapes.specs.declared.letters.Shape.TheVariants.{Alone, Gl
 use Rattle.page_core_escapes.specs.declared.letters.Kind.{Kind}
 use Rattle.page_core_escapes.specs.declared.letters.Kind.TheVariants as means
 use Rattle.page_core_escapes.specs.declared.extents.Extent.TheVariants.{Whole, QuotedFrom}
-use Rattle.page_core_escapes.specs.Letters.{letter_of}
-use Rattle.page_core_escapes.specs.Extents.{shape_before, shape_of, name_len, extent_by, extent_of}
-use Rattle.page_core_escapes.specs.Lengths.{quoted_len, content_len, escape_len}
-use Rattle.page_core_escapes.specs.Meanings.{Face, roman, italic, bold, bold_italic, former, unknown, glyph, face, face_of, bare_name, bare_quoted, bracketed, names_code_point, argument_of, meaning_by, meaning_of}
-use Rattle.page_core_escapes.specs.Escapes.{read_escape, escape_of, HasTexts}
+use Rattle.page_core_escapes.specs.Lengths.{letter_of, shape_before, shape_of, name_len, extent_by, extent_of, quoted_len, content_len, escape_len}
+use Rattle.page_core_escapes.specs.Meanings.{Face, roman, italic, bold, bold_italic, former, unknown, glyph, face, face_of, bare_name, bare_quoted, bracketed, names_code_point, argument_of, meaning_by, meaning_of, read_escape, escape_of}
+use Rattle.page_core_escapes.specs.laws.Views.{HasTexts}
 use Rattle.page_core_escapes.proofs.Contents.{escape_len-none, escape_len-whole, escape_len-quoted}
 use Rattle.page_core_escapes.proofs.LetterLemmas.{letter_ascii}
 use Rattle.page_core_escapes.proofs.Characters.{CutsAt-ascii, CutsAt-boundary}

@@ -4,14 +4,11 @@ use Rattle.std.specs.Str.{continuation_len, bytes_eq}
 use Rattle.std.specs.Prelude.{Some, option_map, option_and_then, codes, if◌then◌else◌}
 use Rattle.std.proofs.Math.Dec.{leb-zero}
 use Rattle.std.proofs.lemmas.Bool.{cases_Bool, cond-true}
-use Rattle.page_core_escapes.specs.Escapes.{escape_of}
+use Rattle.page_core_escapes.specs.Meanings.{escape_of, Face, Meaning, face, face_of, is_one_of, letter_meaning, meaning_by, meaning_of, roman, italic, bold, bold_italic, former, unknown}
 use Rattle.page_core_escapes.specs.declared.letters.Shape.TheVariants.{Alone}
 use Rattle.page_core_escapes.specs.declared.letters.Kind.{Kind}
 use Rattle.page_core_escapes.specs.declared.letters.Letter.{Letter}
-use Rattle.page_core_escapes.specs.Extents.{character_len, written_len, name_len}
-use Rattle.page_core_escapes.specs.Lengths.{extent_len, escape_len_by, escape_len}
-use Rattle.page_core_escapes.specs.Letters.{letter_of}
-use Rattle.page_core_escapes.specs.Meanings.{Face, Meaning, face, face_of, is_one_of, letter_meaning, meaning_by, meaning_of, roman, italic, bold, bold_italic, former, unknown}
+use Rattle.page_core_escapes.specs.Lengths.{character_len, written_len, name_len, extent_len, escape_len_by, escape_len, letter_of}
 use Rattle.page_core_escapes.specs.machine.ShortEscapes.{ShortEscape, ShortFont}
 use Rattle.page_core_escapes.specs.machine.Steps.{FontLetter}
 

@@ -5,9 +5,7 @@ use Rattle.std.proofs.lemmas.Bool.{cases_Bool, cases_lt, and_parts, cond-true, c
 use Rattle.std.proofs.lemmas.Bool.Decides.{nat_tests}
 use Rattle.page_core_escapes.specs.declared.letters.Shape.{Shape}
 use Rattle.page_core_escapes.specs.declared.letters.Shape.TheVariants.{Alone, Glyph, Name, Size, Quoted}
-use Rattle.page_core_escapes.specs.Bytes.{is_among}
-use Rattle.page_core_escapes.specs.Letters.{Row, table, another, letter_of}
-use Rattle.page_core_escapes.specs.Extents.{after_sign, begins_size, shape_before, shape_of}
+use Rattle.page_core_escapes.specs.Lengths.{is_among, Row, table, another, letter_of, after_sign, begins_size, shape_before, shape_of}
 
 abbrev is_ascii : Row → Bool
 is_ascii r = list_all (λ k. nat_lt k 128) r.keys

@@ -4,7 +4,7 @@ use Rattle.std.specs.Prelude.{slice_index}
 use Rattle.std.specs.Str.{is_utf8}
 use Rattle.std.proofs.lemmas.Bool.{cases_Bool}
 use Rattle.std.proofs.lemmas.Str.{is_utf8-from_IsUtf8, IsUtf8-from_is_utf8}
-use Rattle.page_core_escapes.specs.Letters.{letter_of}
+use Rattle.page_core_escapes.specs.Lengths.{letter_of}
 use Rattle.page_core_escapes.specs.Meanings.{nothing, letter_meaning, first_char, meaning_of}
 
 pub meaning_of-short : (pairs : Bool) (t : List ℕ) → length t < 2 → nothing ≡ meaning_of pairs t

@@ -3,8 +3,9 @@ use Rattle.std.proofs.Common.{◌≡◌, ℕ, zero, suc, ◌-◌, ◌<◌, ◌�
 use Rattle.std.specs.List.{prefix_len}
 use Rattle.std.proofs.lemmas.Bool.{cases_Bool}
 use Rattle.std.proofs.lemmas.List.{length-take}
-use Rattle.page_core_escapes.specs.Escapes.{escape_of}
-use Rattle.page_core_escapes.specs.Tokens.{TextToken, begins_escape, begins_quote, begins_white, begins_word, is_space, is_white, prints_itself, token_at, token_bytes, token_len, tokens_len, tokens_within, tokens_of}
+use Rattle.page_core_escapes.specs.Meanings.{escape_of}
+use Rattle.page_core_escapes.specs.Tokens.{TextToken, begins_escape, begins_quote, begins_white, is_space, is_white, prints_itself, token_at, token_bytes, token_len, tokens_len, tokens_within, tokens_of}
+use Rattle.page_core_escapes.specs.laws.Views.{begins_word}
 
 -- more tokens than bytes make no difference
 tokens_enough : (quoted : Bool) (n m : ℕ) (text : List ℕ) → length text ≤ n → length text ≤ m → tokens_within quoted n text ≡ tokens_within quoted m text

@@ -10,8 +10,7 @@ use Rattle.page_core_escapes.specs.declared.extents.Extent.{Extent}
 use Rattle.page_core_escapes.specs.declared.extents.Extent.TheVariants.{Whole, QuotedFrom}
 use Rattle.page_core_escapes.specs.declared.quoted.Step.{Step}
 use Rattle.page_core_escapes.specs.declared.quoted.Step.TheVariants.{Passes, Opens, Closes}
-use Rattle.page_core_escapes.specs.Extents.{written_len, extent_of}
-use Rattle.page_core_escapes.specs.Lengths.{quoted_len, extent_len, escape_len_by, content_len}
+use Rattle.page_core_escapes.specs.Lengths.{written_len, extent_of, quoted_len, extent_len, escape_len_by, content_len}
 use Rattle.page_core_escapes.specs.machine.Steps.{first_character, is_inner, step_over, step_of, StepFits}
 use Rattle.page_core_escapes.proofs.Options.{and_then-same, and_then-map, map-and_then, map-map, map-same}
 use Rattle.page_core_escapes.proofs.Contents.{written_len-fits, next_content, content_len-next}

@@ -1,10 +1,197 @@
--- How many bytes an escape takes: roff(7), "Escape sequences". None where the text ends before the escape does.
-use Rattle.std.specs.Prelude.{ℕ, zero, suc, ◌+◌, ◌==◌, nat_eq, Bool, List, [], ◌∷◌, length, take, drop, if◌then◌else◌, Option, Some, None, option_map, option_and_then}
-use Rattle.std.specs.List.{starts_with}
+-- Where an escape ends. Source: roff(7), "Escape sequences".
+use Rattle.std.specs.List.{list_any, starts_with}
+use Rattle.std.specs.Prelude.{ℕ, Bool, ◌==◌, List, ◌&&◌, nat_le, [], ◌∷◌, codes, find, option_map, unwrap_or, ◌+◌, length, if◌then◌else◌, Option, Some, None, position, ◌||◌, true, false, drop, nat_eq, option_and_then, zero, suc, take}
+use Rattle.std.specs.Str.{continuation_len}
 use Rattle.page_core_escapes.specs.declared.extents.Extent.{Extent}
 use Rattle.page_core_escapes.specs.declared.extents.Extent.TheVariants.{Whole, QuotedFrom}
-use Rattle.page_core_escapes.specs.Bytes.{backslash}
-use Rattle.page_core_escapes.specs.Extents.{written_len, extent_of}
+use Rattle.page_core_escapes.specs.declared.letters.Kind.{Kind}
+use Rattle.page_core_escapes.specs.declared.letters.Kind.TheVariants as means
+use Rattle.page_core_escapes.specs.declared.letters.Letter.{Letter}
+use Rattle.page_core_escapes.specs.declared.letters.Shape.{Shape}
+use Rattle.page_core_escapes.specs.declared.letters.Shape.TheVariants as follows
+use Rattle.page_core_escapes.specs.declared.letters.Shape.TheVariants.{Alone, Glyph, Name, Size, Quoted}
+
+-- ---- Bytes by their characters.
+
+abbrev pub is_among : ℕ → List ℕ → Bool
+is_among key keys = list_any (λ k. key == k) keys
+
+abbrev pub is_digit : ℕ → Bool
+is_digit b = nat_le 0x30 b && nat_le b 0x39
+
+abbrev pub backslash : ℕ
+backslash = 0x5C
+
+-- '
+abbrev pub quote : ℕ
+quote = 0x27
+
+-- "
+abbrev pub double_quote : ℕ
+double_quote = 0x22
+
+abbrev pub plus : ℕ
+plus = 0x2B
+
+abbrev pub minus : ℕ
+minus = 0x2D
+
+-- ( and )
+abbrev pub parenthesis : ℕ
+parenthesis = 0x28
+
+abbrev pub closing_parenthesis : ℕ
+closing_parenthesis = 0x29
+
+-- [ and ]
+abbrev pub bracket : ℕ
+bracket = 0x5B
+
+abbrev pub closing_bracket : ℕ
+closing_bracket = 0x5D
+
+-- ---- The escapes by the character after the backslash, their letter: what follows it, and what the escape means. Source: roff(7), "Escape
+-- sequences"; mandoc_char(7).
+
+-- letters whose escapes are alike
+pub record Row : Type 0 where
+  pub keys : List ℕ
+  pub letter : Letter
+
+abbrev pub row : List ℕ → Shape → Kind → Row
+row keys shape kind = record { keys = keys; letter = record { shape = shape; kind = kind } }
+
+abbrev pub table : List Row
+table =
+    row (codes "(") follows.Glyph means.Glyph ∷
+    row (codes "[") follows.Glyph means.CodePoint ∷
+    row (codes "C") follows.Quoted means.Glyph ∷
+    row (codes "e\\") follows.Alone (means.Char backslash) ∷
+    row (codes "-") follows.Alone (means.Char minus) ∷
+    -- an acute accent, a grave accent and a full stop
+    row (codes "'") follows.Alone (means.Char 0xB4) ∷
+    row (codes "`") follows.Alone (means.Char 0x60) ∷
+    row (codes ".") follows.Alone (means.Char 0x2E) ∷
+    row (codes "t") follows.Alone means.Tab ∷
+    row (codes " ~0") follows.Alone means.Blank ∷
+    row (codes "h") follows.Quoted means.Blanks ∷
+    row (codes "c") follows.Alone means.Glue ∷
+    row (codes "f") follows.Name means.Font ∷
+    row (codes "&)|^%/,:aurdz{") follows.Alone means.Nothing ∷
+    row (codes "mMkF") follows.Name means.Nothing ∷
+    row (codes "vx") follows.Quoted means.Nothing ∷
+    row (codes "s") follows.Size means.Size ∷
+    row (codes "p") follows.Alone means.Unsupported ∷
+    row (codes "gVY") follows.Name means.Unsupported ∷
+    row (codes "bolLDNXABHSRZ") follows.Quoted means.Unsupported ∷
+    []
+
+-- another character: there is no such escape
+abbrev pub another : Letter
+another = record { shape = follows.Alone; kind = means.Undefined }
+
+unfoldable pub letter_of : ℕ → Letter
+letter_of key = unwrap_or (option_map (λ row. row.letter) (find (λ row. is_among key row.keys) table)) another
+
+-- ---- What is read before an escape's quoted argument, or the whole escape where it has none: roff(7), "Escape sequences". None where
+-- the text ends before. Where one byte is read as a name or a delimiter, a character past ASCII is read whole.
+
+-- the bytes of a text's first character, of which the first says how many there are
+abbrev pub character_len : List ℕ → Option ℕ
+character_len [] = None
+character_len (b ∷ bs) = if nat_le (continuation_len b) (length bs) then Some (continuation_len b + 1) else None
+
+-- in a quoted argument of a macro a pair of quotes is one quote
+abbrev pub pair : List ℕ
+pair = double_quote ∷ double_quote ∷ []
+
+-- the bytes up to and with the first bracket that closes
+abbrev pub bracketed_len : List ℕ → Option ℕ
+bracketed_len text = option_map (λ k. k + 1) (position (λ b. b == closing_bracket) text)
+
+-- ---- sizes: in parentheses, brackets or quotes, or of digits, perhaps with a sign before
+
+abbrev pub is_sign : ℕ → Bool
+is_sign b = b == plus || b == minus
+
+abbrev pub sign_len : List ℕ → ℕ
+sign_len [] = 0
+sign_len (b ∷ bs) = if is_sign b then 1 else 0
+
+abbrev pub after_sign : List ℕ → List ℕ
+after_sign [] = []
+after_sign (b ∷ bs) = if is_sign b then bs else b ∷ bs
+
+-- a size begins here; where the text ends it may be one that has no end
+abbrev pub begins_size : List ℕ → Bool
+begins_size [] = true
+begins_size (b ∷ bs) = is_among b (codes "(['") || is_digit b
+
+-- two digits where the first is 1 to 3
+abbrev pub has_two_digits : List ℕ → Bool
+has_two_digits [] = false
+has_two_digits (b ∷ []) = false
+has_two_digits (b ∷ d ∷ ds) = nat_le 0x31 b && nat_le b 0x33 && is_digit d
+
+-- ---- shapes
+
+-- `s` without a size is another character
+abbrev pub shape_before : (rest : List ℕ) → Shape → Shape
+shape_before rest Size = if begins_size (after_sign rest) then Size else Alone
+shape_before rest Alone = Alone
+shape_before rest Glyph = Glyph
+shape_before rest Name = Name
+shape_before rest Quoted = Quoted
+
+-- the shape of an escape with this letter and what follows it
+abbrev pub shape_of : ℕ → List ℕ → Shape
+shape_of key rest = shape_before rest (letter_of key).shape
+
+-- ---- escapes of a text in which a pair of quotes is one character, or is not
+
+module _ (pairs : Bool) where
+  -- the bytes of a text's first character, as it is written
+  abbrev pub written_len : List ℕ → Option ℕ
+  written_len text = if pairs && starts_with nat_eq text pair then Some 2 else character_len text
+
+  abbrev pub two_characters_len : List ℕ → Option ℕ
+  two_characters_len text = option_and_then (λ first. option_map (λ second. first + second) (written_len (drop first text))) (written_len text)
+
+  -- a name as it is written: `x`, `(xx` or `[name]`
+  abbrev pub name_len : List ℕ → Option ℕ
+  name_len [] = None
+  name_len (b ∷ bs) =
+      if b == parenthesis then option_map (λ k. k + 1) (two_characters_len bs)
+      else (if b == bracket then option_map (λ k. k + 1) (bracketed_len bs)
+      else written_len (b ∷ bs))
+
+  -- a size that isn't quoted: two characters in parentheses, brackets, two digits or one
+  abbrev pub number_len : List ℕ → Option ℕ
+  number_len [] = None
+  number_len (b ∷ bs) =
+      if is_among b (codes "([") then name_len (b ∷ bs)
+      else (if has_two_digits (b ∷ bs) then Some 2 else Some 1)
+
+  -- an escape with a size that begins after `before` bytes of it
+  abbrev pub number_extent : (before : ℕ) → List ℕ → Option Extent
+  number_extent before [] = None
+  number_extent before (b ∷ bs) = if b == quote then Some (QuotedFrom before) else option_map (λ k. Whole (before + k)) (number_len (b ∷ bs))
+
+  -- an escape of a shape, by its letter and what follows it
+  abbrev pub extent_by : Shape → ℕ → List ℕ → Option Extent
+  extent_by Alone key rest = option_map (λ k. Whole (k + 1)) (written_len (key ∷ rest))
+  extent_by Glyph key rest = option_map (λ k. Whole (k + 1)) (name_len (key ∷ rest))
+  extent_by Name key rest = option_map (λ k. Whole (k + 2)) (name_len rest)
+  extent_by Size key rest = number_extent (2 + sign_len rest) (after_sign rest)
+  extent_by Quoted key rest = Some (QuotedFrom 2)
+
+  -- an escape, from its backslash on; a backslash at the text's end is one
+  abbrev pub extent_of : List ℕ → Option Extent
+  extent_of [] = None
+  extent_of (b ∷ []) = Some (Whole 1)
+  extent_of (b ∷ key ∷ rest) = extent_by (shape_of key rest) key rest
+
+-- ---- How many bytes an escape takes: roff(7), "Escape sequences". None where the text ends before the escape does.
 
 -- in a text in which a pair of quotes is one character, or is not
 module _ (pairs : Bool) where

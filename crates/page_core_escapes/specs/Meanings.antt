@@ -1,15 +1,15 @@
--- What an escape means: roff(7), "Escape sequences", and mandoc_char(7).
-use Rattle.std.specs.Prelude.{ℕ, ◌+◌, ◌-◌, ◌*◌, Bool, true, false, ◌&&◌, ◌||◌, not, ◌==◌, nat_le, List, [], ◌∷◌, length, take, drop, fold, codes, if◌then◌else◌, unwrap_or, slice_index}
-use Rattle.std.specs.List.{list_any, list_all}
+-- What an escape means, and the escape at a text's front. Source: roff(7), "Escape sequences"; mandoc_char(7).
+use Rattle.std.specs.List.{list_all, list_any}
+use Rattle.std.specs.Prelude.{ℕ, List, ◌-◌, length, take, ◌==◌, [], ◌∷◌, if◌then◌else◌, Bool, drop, unwrap_or, ◌&&◌, ◌||◌, nat_le, ◌+◌, ◌*◌, fold, not, false, codes, true, slice_index, Option, Some, None}
 use Rattle.std.specs.Str.{bytes_eq, chars, is_utf8}
-use Rattle.page_core_escapes.specs.declared.letters.Shape.{Shape}
-use Rattle.page_core_escapes.specs.declared.letters.Shape.TheVariants.{Alone, Glyph, Name, Size, Quoted}
+use Rattle.page_core_escapes.specs.Lengths.{parenthesis, bracket, written_len, is_digit, letter_of, escape_len}
 use Rattle.page_core_escapes.specs.declared.letters.Kind.{Kind}
 use Rattle.page_core_escapes.specs.declared.letters.Kind.TheVariants as means
 use Rattle.page_core_escapes.specs.declared.letters.Letter.{Letter}
-use Rattle.page_core_escapes.specs.Bytes.{is_digit, parenthesis, bracket}
-use Rattle.page_core_escapes.specs.Letters.{letter_of}
-use Rattle.page_core_escapes.specs.Extents.{written_len}
+use Rattle.page_core_escapes.specs.declared.letters.Shape.{Shape}
+use Rattle.page_core_escapes.specs.declared.letters.Shape.TheVariants.{Alone, Glyph, Name, Size, Quoted}
+
+-- ---- What an escape means: roff(7), "Escape sequences", and mandoc_char(7).
 
 -- the font that an escape asks for: one of the four, the former one, or a name that no font has
 pub data Face : Type 0 where
@@ -141,3 +141,15 @@ unfoldable pub meaning_of : (pairs : Bool) → List ℕ → Meaning
 meaning_of pairs [] = nothing
 meaning_of pairs (b ∷ []) = nothing
 meaning_of pairs (b ∷ key ∷ written) = letter_meaning pairs (letter_of key) (key ∷ written)
+
+-- ---- The escape at a text's front: roff(7), "Escape sequences", and mandoc_char(7).
+
+-- what an escape means, and its bytes; one without its end takes the text's rest
+abbrev pub read_escape : (pairs : Bool) → List ℕ → Option ℕ → Meaning × ℕ
+read_escape pairs text None = (bad, length text)
+read_escape pairs text (Some len) = (meaning_of pairs (take len text), len)
+
+-- the meaning of the escape at a text's front, and how many bytes it takes; in a quoted argument of a macro a pair of quotes is one
+-- character of it
+unfoldable pub escape_of : (pairs : Bool) → List ℕ → Meaning × ℕ
+escape_of pairs text = read_escape pairs text (escape_len pairs text)

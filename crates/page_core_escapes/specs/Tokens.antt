@@ -1,10 +1,8 @@
 -- The tokens of a text: white space, runs of characters that print themselves, quotes in a quoted argument, and escapes.
 -- Source: roff(7), "LANGUAGE SYNTAX", "Macro syntax" and "ESCAPE SEQUENCES".
-use Rattle.std.specs.Prelude.{ℕ, zero, suc, ◌+◌, ◌-◌, Bool, true, false, not, ◌==◌, ◌||◌, ◌&&◌, List, [], ◌∷◌, length, take, drop, if◌then◌else◌}
 use Rattle.std.specs.List.{prefix_len}
-use Rattle.page_core_escapes.specs.Escapes.{escape_of, meaning_view}
-use Rattle.page_core_escapes.specs.Meanings.{Meaning}
-use Rattle.page_core_escapes.specs.declared.tokens.Token.{Token}
+use Rattle.std.specs.Prelude.{ℕ, List, Bool, true, false, ◌==◌, ◌||◌, not, ◌&&◌, [], ◌∷◌, take, if◌then◌else◌, length, zero, suc, ◌-◌, drop, ◌+◌}
+use Rattle.page_core_escapes.specs.Meanings.{Meaning, escape_of}
 use Rattle.page_core_escapes.specs.declared.tokens.Token.TheVariants as tokens
 
 pub data TextToken : Type 0 where
@@ -16,13 +14,6 @@ pub data TextToken : Type 0 where
   quotes : List ℕ → TextToken
   -- an escape as it is written, and what it means
   escaped : List ℕ → Meaning → TextToken
-
--- a token of the code, with lists in place of lent slices
-abbrev pub token_view : Token → TextToken
-token_view (tokens.White bytes) = white bytes.now
-token_view (tokens.Plain bytes) = plain bytes.now
-token_view (tokens.Quotes bytes) = quotes bytes.now
-token_view (tokens.Escaped bytes meaning) = escaped bytes.now (meaning_view meaning)
 
 -- a token as it is written
 abbrev pub token_bytes : TextToken → List ℕ
@@ -48,10 +39,6 @@ prints_itself quoted byte = not (is_white byte || (byte == 92 || (quoted && byte
 abbrev pub begins_white : List ℕ → Bool
 begins_white [] = false
 begins_white (byte ∷ bytes) = is_white byte
-
-abbrev pub begins_word : List ℕ → Bool
-begins_word [] = false
-begins_word (byte ∷ bytes) = not (is_white byte)
 
 abbrev pub begins_escape : List ℕ → Bool
 begins_escape [] = false

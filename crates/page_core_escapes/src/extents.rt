@@ -1,6 +1,7 @@
 //! What is read before an escape's quoted argument, or the whole escape where it has none.
 ghost use Rattle.std.specs.Prelude.{◌≡◌, ◌<◌, ◌≤◌, ◌+◌, ◌==◌, length, position, IfSome};
-ghost use Rattle.page_core_escapes.specs.Extents.{after_sign, begins_size, shape_of, sign_len, character_len, written_len, two_characters_len, bracketed_len, name_len, number_len, number_extent, extent_of, ExtentFits};
+ghost use Rattle.page_core_escapes.specs.Lengths.{after_sign, begins_size, shape_of, sign_len, character_len, written_len, two_characters_len, bracketed_len, name_len, number_len, number_extent, extent_of};
+ghost use Rattle.page_core_escapes.specs.laws.Views.{ExtentFits};
 
 use crate::letters::{Shape, letter_of};
 

@@ -1,6 +1,6 @@
 //! The escapes by the character after the backslash, their letter.
 ghost use Rattle.std.specs.Prelude.{◌≡◌};
-ghost use Rattle.page_core_escapes.specs.Letters.{letter_of};
+ghost use Rattle.page_core_escapes.specs.Lengths.{letter_of};
 
 /// What follows an escape's letter.
 #[derive(Clone, Copy)]
@@ -54,7 +54,7 @@ fn entry(shape: Shape, kind: Kind) -> Letter
 }
 
 /// What a letter says: the one table of escapes.
-#[tactic(auto, unfolding(crate::specs::Letters::letter_of))]
+#[tactic(auto, unfolding(crate::specs::Lengths::letter_of))]
 pub(crate) fn letter_of(key: u8) -> Letter
     ensures { result ≡ letter_of key }
 {

@@ -2,16 +2,17 @@
 //!
 //! It is below roff, which finds the escapes that it interpolates, and below the scopes, which read a text token by token.
 //!
-//! Read first: `escape` below, with the table of letters in `specs/Letters.antt`; then `read_token` in `tokens.rt`.
+//! Read first: `escape` below, with the table of letters in `specs/Lengths.antt`; then `read_token` in `tokens.rt`.
 //!
-//! Proved: `escape`, `read_token`, `Tokens`: what the escape at the front of a text is, and how long it is, by one table of letters (`specs/Letters.antt`,
+//! Proved: `escape`, `read_token`, `Tokens`: what the escape at the front of a text is, and how long it is, by one table of letters (`specs/Lengths.antt`,
 //! `Meanings.antt`); the tokens of a text; `tokens_law`: of which there are as many as the text has. `read_font`, `short_font`: the font of a name.
 #![tactic(auto)]
 
 ghost use Rattle.std.specs.Prelude.{◌≡◌, ◌+◌, ◌<◌, ◌≤◌, false, length, slice_index, IfSome};
 ghost use Rattle.std.specs.Str.{IsUtf8, IsCharBoundary};
 ghost use Rattle.page_core_escapes.specs.Lengths.{escape_len};
-ghost use Rattle.page_core_escapes.specs.Escapes.{escape_of, meaning_view, HasTexts};
+ghost use Rattle.page_core_escapes.specs.Meanings.{escape_of};
+ghost use Rattle.page_core_escapes.specs.laws.Views.{meaning_view, HasTexts};
 
 use extents::{Extent, read_extent};
 use meaning::read_meaning;

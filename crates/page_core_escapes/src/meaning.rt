@@ -3,7 +3,7 @@ ghost use Rattle.std.specs.Prelude.{◌≡◌, ◌<◌, ◌≤◌, length, drop,
 ghost use Rattle.std.specs.List.{list_all, list_any};
 ghost use Rattle.std.specs.Str.{bytes_eq};
 ghost use Rattle.page_core_escapes.specs.Meanings.{meaning_of, argument_of, meaning_by, bare_name, bare_quoted, without_last, bracketed, names_code_point, is_hex_digit, hex_number, hex_value, face_of, is_known, unknown, first_char};
-ghost use Rattle.page_core_escapes.specs.Escapes.{meaning_view, face_view};
+ghost use Rattle.page_core_escapes.specs.laws.Views.{meaning_view, face_view};
 ghost use Rattle.page_core_escapes.specs.machine.Steps.{FontLetter};
 
 use crate::extents::written_len;

@@ -1,8 +1,7 @@
 //! How many bytes a quoted argument takes.
 ghost use Rattle.std.specs.Prelude.{◌≡◌, ◌+◌, ◌<◌, ◌≤◌, length, nat_eq, IfSome, IfOk, IsOk, option_and_then};
 ghost use Rattle.std.specs.List.{prefix_len, starts_with};
-ghost use Rattle.page_core_escapes.specs.Extents.{written_len, extent_of};
-ghost use Rattle.page_core_escapes.specs.Lengths.{quoted_len, content_len};
+ghost use Rattle.page_core_escapes.specs.Lengths.{written_len, extent_of, quoted_len, content_len};
 ghost use Rattle.page_core_escapes.specs.machine.Steps.{first_character, is_inner, opening_of, step_of, step_over, StepFits};
 
 use crate::extents::{Extent, read_extent, written_len};

@@ -1,7 +1,8 @@
 //! Reads a text token by token.
 
 ghost use Rattle.std.specs.Prelude.{◌≡◌, ◌≤◌, ◌<◌, [], ◌∷◌, length, IfSome, MatchOption};
-ghost use Rattle.page_core_escapes.specs.Tokens.{token_bytes, token_view, tokens_len, tokens_of};
+ghost use Rattle.page_core_escapes.specs.Tokens.{token_bytes, tokens_len, tokens_of};
+ghost use Rattle.page_core_escapes.specs.laws.Views.{token_view};
 
 use crate::{Token, read_token};
 use page_core_base::LINE;
@@ -16,13 +17,12 @@ pub struct Tokens<'a> {
 
 impl<'a> Model for Tokens<'a> {
     ghost use Rattle.std.specs.Prelude.{List};
-    ghost use Rattle.page_core_escapes.specs.Tokens.{TextToken};
+    ghost use Rattle.page_core_escapes.specs.Tokens.{TextToken, tokens_of};
 
     ghost Value = { List TextToken };
 
     ghost use Rattle.std.specs.Prelude.{◌≤◌, length};
     ghost use Rattle.page_core_base.specs.declared.limits.TheConstants.{LINE};
-    ghost use Rattle.page_core_escapes.specs.Tokens.{tokens_of};
 
     ghost view = { λ t. tokens_of t.quoted t.rest.now };
 

@@ -8,9 +8,9 @@ use Rattle.std.proofs.lemmas.List.Sums.{sum_by-append}
 use Rattle.std.proofs.lemmas.List.Folds.{sum_by-replicate}
 use Rattle.std.proofs.lemmas.Str.{byte_from_char, drop_past_char, chars_past_char, length-encode, len_utf8_bounds, IsCharBoundary-past_char}
 use Rattle.page_core_base.specs.declared.page_settings.Output.{Output}
-use Rattle.page_core_escapes.specs.Escapes.{escape_of}
+use Rattle.page_core_escapes.specs.Meanings.{escape_of}
 use Rattle.page_core_escapes.proofs.EscapeTexts.{escape_cuts}
-use Rattle.page_core_tables.specs.Printed.{char_printed, glyph_printed, char_columns}
+use Rattle.page_core_tables.specs.Glyphs.{char_printed, glyph_printed, char_columns}
 use Rattle.page_core_tables.proofs.PrintedLemmas.{char_columns-printable}
 use Rattle.page_core_numbers.specs.Columns.{characters_columns, printed_escape, printed_front, front_len, printed_within, columns_of}
 use Rattle.page_core_numbers.specs.machine.Fronts.{Left, Front, Past, ShortColumns, ShortGlyph}

@@ -2,7 +2,7 @@
 use Rattle.std.proofs.Common.{◌≡◌, ℕ, ◌+◌, ◌-◌, ◌*◌, ◌/◌, ◌^◌, min, List, [], ◌∷◌, get_or, None, Some, length, ◌==◌, true, false, ◌<◌, refl, arith}
 use Rattle.page_core_numbers.specs.declared.scales.Scale.{Scale}
 use Rattle.page_core_numbers.specs.declared.scales.Scale.TheVariants.{Basic, En, Em, Vertical, Pica, Inch, Point, Centimeter}
-use Rattle.page_core_numbers.specs.Numbers.{decimal, ten_thousandths, numerator, denominator, units_of, digits_of, after_digits, fraction_of, after_fraction, number_of, number_at}
+use Rattle.page_core_numbers.specs.Expressions.{decimal, ten_thousandths, numerator, denominator, units_of, digits_of, after_digits, fraction_of, after_fraction, number_of, number_at}
 use Rattle.std.proofs.lemmas.Bool.Decides.{nat_tests}
 
 pub ten_thousandths-places : (ds : List ℕ)

@@ -7,9 +7,7 @@ use Rattle.std.proofs.lemmas.List.Sums.{prefix_len-le-length, prefix_len_passes}
 use Rattle.page_core_numbers.specs.declared.scales.Scale.{Scale}
 use Rattle.page_core_numbers.specs.declared.operators.Operator.{Operator}
 use Rattle.page_core_numbers.specs.declared.troubles.Trouble.TheVariants.{Parentheses}
-use Rattle.page_core_numbers.specs.Numbers.{number_at}
-use Rattle.page_core_numbers.specs.Operators.{operator_at}
-use Rattle.page_core_numbers.specs.Expressions.{Read, no_operand, number, operand_inside, in_parentheses, operand_by, after_close, first, after_operation, next_operator, operations_at, expression_by, expression_within}
+use Rattle.page_core_numbers.specs.Expressions.{number_at, operator_at, Read, no_operand, number, operand_inside, in_parentheses, operand_by, after_close, first, after_operation, next_operator, operations_at, expression_by, expression_within}
 use Rattle.page_core_numbers.specs.machine.Operations.{Goes, done, is_opening, is_over}
 use Rattle.page_core_numbers.specs.machine.Signs.{inside_of, after_open}
 

@@ -8,12 +8,8 @@ use Rattle.std.proofs.lemmas.Bool.{cases_Bool, cond-true}
 use Rattle.std.proofs.lemmas.Bool.Decides.{nat_tests}
 use Rattle.std.proofs.lemmas.Str.{IsUtf8-from_ascii, byte_from_char, chars-IsAscii, is_utf8-from_IsUtf8}
 use Rattle.page_core_base.specs.declared.page_settings.Output.{Output}
-use Rattle.page_core_escapes.specs.Bytes.{is_among}
-use Rattle.page_core_escapes.specs.Escapes.{escape_of}
-use Rattle.page_core_escapes.specs.Extents.{character_len, written_len, name_len}
-use Rattle.page_core_escapes.specs.Lengths.{extent_len, escape_len_by, escape_len}
-use Rattle.page_core_escapes.specs.Letters.{another, letter_of, table}
-use Rattle.page_core_escapes.specs.Meanings.{Meaning, glyph, character, tab, blank, nothing, glue, undefined, unsupported, first_char, meaning_of}
+use Rattle.page_core_escapes.specs.Lengths.{is_among, character_len, written_len, name_len, extent_len, escape_len_by, escape_len, another, letter_of, table}
+use Rattle.page_core_escapes.specs.Meanings.{escape_of, Meaning, glyph, character, tab, blank, nothing, glue, undefined, unsupported, first_char, meaning_of}
 use Rattle.page_core_numbers.specs.Columns.{characters_columns, printed_escape}
 use Rattle.page_core_numbers.specs.machine.Fronts.{nothing_letters, one_letters, undefined_letters, ShortColumns, ShortGlyph}
 use Rattle.page_core_numbers.proofs.ColumnLemmas.{blank-columns, printed-printable}

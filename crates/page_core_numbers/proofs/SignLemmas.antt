@@ -4,8 +4,7 @@ use Rattle.std.proofs.lemmas.Bool.{cases_Bool}
 use Rattle.std.proofs.Common.{inl, inr}
 use Rattle.page_core_numbers.specs.declared.scales.Scale.{Scale}
 use Rattle.page_core_numbers.specs.declared.troubles.Trouble.{Trouble}
-use Rattle.page_core_numbers.specs.Expressions.{Read, negated_operand, operand_by}
-use Rattle.page_core_numbers.specs.Numbers.{in_range}
+use Rattle.page_core_numbers.specs.Expressions.{Read, negated_operand, operand_by, in_range}
 use Rattle.page_core_numbers.specs.machine.Signs.{minus_count, after_signs, negated_value, negated_times}
 
 -- ---- signs from a place on

@@ -4,8 +4,7 @@ use Rattle.std.specs.List.{list_all}
 use Rattle.std.proofs.lemmas.Bool.{cases_Bool, and_parts}
 use Rattle.std.proofs.lemmas.Bool.Decides.{nat_tests}
 use Rattle.std.proofs.lemmas.List.Sums.{sum_by-append}
-use Rattle.page_core_tables.specs.Glyphs.{Entry, table, first_spelling, spelling_of}
-use Rattle.page_core_tables.specs.Printed.{by_spelling, char_columns}
+use Rattle.page_core_tables.specs.Glyphs.{Entry, table, first_spelling, spelling_of, by_spelling, char_columns}
 use Rattle.page_core_tables.proofs.PrintedLemmas.{char_columns-printable, by_spelling_of-short}
 use Rattle.page_core_tables.proofs.Tables.{spelling_of-above}
 use Rattle.page_core_numbers.specs.Columns.{characters_columns}

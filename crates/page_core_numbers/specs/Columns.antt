@@ -1,14 +1,13 @@
 -- What a finished text prints, and the columns of that: mandoc_char(7); roff(7), "Escape sequences"; mandoc(1), -T ascii and -T utf8.
-use Rattle.std.specs.Prelude.{◌≡◌, ℕ, zero, suc, ◌/◌, ◌==◌, false, min, List, [], ◌∷◌, ◌++◌, length, drop, replicate, sum_by, codes, encode_utf8, if◌then◌else◌, ℤ, pos, negsuc}
+use Rattle.std.specs.Prelude.{ℕ, List, sum_by, ◌/◌, min, ℤ, pos, negsuc, [], replicate, codes, ◌==◌, false, ◌∷◌, if◌then◌else◌, length, encode_utf8, zero, suc, ◌++◌, drop}
 use Rattle.std.specs.Str.{chars}
 use Rattle.page_core_base.specs.declared.page_settings.Output.{Output}
+use Rattle.page_core_tables.specs.Glyphs.{char_columns, char_printed, glyph_printed}
+use Rattle.page_core_escapes.specs.Lengths.{backslash}
 use Rattle.page_core_escapes.specs.Meanings as escapes
-use Rattle.page_core_escapes.specs.Meanings.{Meaning}
-use Rattle.page_core_escapes.specs.Bytes.{backslash}
-use Rattle.page_core_escapes.specs.Escapes.{escape_of}
-use Rattle.page_core_tables.specs.Printed.{char_printed, glyph_printed, char_columns}
-use Rattle.page_core_numbers.specs.declared.scales.Scale.TheVariants.{Em}
+use Rattle.page_core_escapes.specs.Meanings.{Meaning, escape_of}
 use Rattle.page_core_numbers.specs.Expressions.{expression_of}
+use Rattle.page_core_numbers.specs.declared.scales.Scale.TheVariants.{Em}
 
 abbrev blank : ℕ
 blank = 0x20
@@ -64,8 +63,3 @@ printed_text output text = printed_within (suc (length text)) output text
 -- the columns of a finished text
 abbrev pub columns_of : Output → List ℕ → ℕ
 columns_of output text = characters_columns (printed_text output text)
-
--- a text begins with this character
-pub record BeginsWith (text : List ℕ) (c : ℕ) : Type 0 where
-  pub rest : List ℕ
-  pub is : text ≡ encode_utf8 c ++ rest

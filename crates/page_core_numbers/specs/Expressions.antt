@@ -1,18 +1,194 @@
--- An expression at a text's front: roff(7), "Numerical expressions". Operands and operators follow one another, and each operation is
--- done as it comes.
-use Rattle.std.specs.Prelude.{ℕ, zero, suc, Bool, true, false, ◌==◌, List, [], ◌∷◌, ◌++◌, length, fold, map, if◌then◌else◌, Option, Some, None, option_map, unwrap_or, ℤ, pos, neg_ℤ}
-use Rattle.page_core_base.specs.declared.note_kinds.NoteKind.{NoteKind}
-use Rattle.page_core_base.specs.declared.note_kinds.NoteKind.TheVariants as kinds
+-- Numbers, their scaling units, the operators between them, and the expression at a text's front. Source: roff(7), "Scaling Widths", "Numerical expressions".
+use Rattle.std.specs.Int.{w32, saturate_signed, is_positive}
+use Rattle.std.specs.List.{prefix_len}
+use Rattle.std.specs.Prelude.{ℕ, codes, if◌then◌else◌, Option, Some, None, ℤ, List, take, drop, ◌==◌, [], ◌∷◌, is_some, ◌+◌, ◌-◌, ◌*◌, fold, ◌++◌, ◌/◌, unwrap_or, pos, length, Bool, false, ◌&&◌, option_map, true, negsuc, ◌||◌, ◌+ℤ◌, ◌-ℤ◌, ◌*ℤ◌, int_div, int_rem, int_lt, int_le, neg_ℤ, zero, suc, map}
+use Rattle.page_core_base.specs.Limits.{name_of}
 use Rattle.page_core_base.specs.Messages.{Message}
 use Rattle.page_core_base.specs.declared.limits.Limit.TheVariants.{Parens}
-use Rattle.page_core_base.specs.Limits.{name_of}
-use Rattle.page_core_escapes.specs.Bytes.{plus, minus, parenthesis, closing_parenthesis}
-use Rattle.page_core_numbers.specs.declared.scales.Scale.{Scale}
+use Rattle.page_core_base.specs.declared.note_kinds.NoteKind.{NoteKind}
+use Rattle.page_core_base.specs.declared.note_kinds.NoteKind.TheVariants as kinds
+use Rattle.page_core_escapes.specs.Lengths.{is_among, is_digit, closing_parenthesis, plus, minus, parenthesis}
 use Rattle.page_core_numbers.specs.declared.operators.Operator.{Operator}
+use Rattle.page_core_numbers.specs.declared.operators.Operator.TheVariants.{Add, Subtract, Multiply, Divide, Remainder, Less, Greater, AtMost, AtLeast, Equal, And, Or}
+use Rattle.page_core_numbers.specs.declared.scales.Scale.{Scale}
+use Rattle.page_core_numbers.specs.declared.scales.Scale.TheVariants.{Basic, En, Em, Vertical, Pica, Inch, Point, Centimeter}
 use Rattle.page_core_numbers.specs.declared.troubles.Trouble.{Trouble}
-use Rattle.page_core_numbers.specs.declared.troubles.Trouble.TheVariants.{NotNumeric, DivZero, Parentheses}
-use Rattle.page_core_numbers.specs.Numbers.{in_range, number_at}
-use Rattle.page_core_numbers.specs.Operators.{operator_at, result_of, divides_by_zero}
+use Rattle.page_core_numbers.specs.declared.troubles.Trouble.TheVariants.{NotNumeric, Parentheses, DivZero}
+
+-- ---- A number at a text's front: roff(7), "Scaling Widths".
+
+-- the basic units of a unit, as a fraction
+abbrev pub numerator : Scale → ℕ
+numerator Basic = 1
+numerator En = 24
+numerator Em = 24
+numerator Vertical = 40
+numerator Pica = 40
+numerator Inch = 240
+numerator Point = 10
+numerator Centimeter = 24000
+
+abbrev pub denominator : Scale → ℕ
+denominator Basic = 1
+denominator En = 1
+denominator Em = 1
+denominator Vertical = 1
+denominator Pica = 1
+denominator Inch = 1
+denominator Point = 3
+denominator Centimeter = 254
+
+-- the unit that a letter names
+abbrev pub scale_named : ℕ → Option Scale
+scale_named letter =
+    if is_among letter (codes "u") then Some Basic
+    else if is_among letter (codes "n") then Some En
+    else if is_among letter (codes "m") then Some Em
+    else if is_among letter (codes "v") then Some Vertical
+    else if is_among letter (codes "P") then Some Pica
+    else if is_among letter (codes "i") then Some Inch
+    else if is_among letter (codes "p") then Some Point
+    else if is_among letter (codes "c") then Some Centimeter
+    else None
+
+-- the nearest whole number in the range of 32 bits
+abbrev pub in_range : ℤ → ℤ
+in_range n = saturate_signed w32 n
+
+-- ---- what is written of a number: digits, perhaps a point and digits, and perhaps a unit
+
+abbrev pub digits_of : List ℕ → List ℕ
+digits_of text = take (prefix_len is_digit text) text
+
+abbrev pub after_digits : List ℕ → List ℕ
+after_digits text = drop (prefix_len is_digit text) text
+
+abbrev pub point : ℕ
+point = 0x2E
+
+-- the digits after a point, where a text begins with one
+abbrev pub fraction_of : List ℕ → List ℕ
+fraction_of [] = []
+fraction_of (b ∷ bs) = if b == point then digits_of bs else []
+
+abbrev pub after_fraction : List ℕ → List ℕ
+after_fraction [] = []
+after_fraction (b ∷ bs) = if b == point then after_digits bs else b ∷ bs
+
+-- the unit at a text's front
+abbrev pub scale_at : List ℕ → Option Scale
+scale_at [] = None
+scale_at (b ∷ bs) = scale_named b
+
+abbrev pub after_scale : List ℕ → List ℕ
+after_scale text = if is_some (scale_at text) then drop 1 text else text
+
+-- ---- what a number is worth
+
+abbrev pub zero_digit : ℕ
+zero_digit = 0x30
+
+abbrev pub decimal : List ℕ → ℕ
+decimal digits = fold (λ n b. n * 10 + (b - zero_digit)) 0 digits
+
+-- the digits after a point in ten-thousandths: four of them count
+abbrev pub ten_thousandths : List ℕ → ℕ
+ten_thousandths digits = decimal (take 4 (digits ++ codes "0000"))
+
+-- a number in basic units, cut once
+unfoldable pub units_of : (whole fraction : List ℕ) → Scale → ℕ
+units_of whole fraction scale = (decimal whole * 10000 + ten_thousandths fraction) * numerator scale / (10000 * denominator scale)
+
+-- a number of these digits, where `text` is after them: its value in basic units, and what follows
+abbrev pub number_of : Scale → (whole fraction text : List ℕ) → ℤ × List ℕ
+number_of scale whole fraction text = (in_range (pos (units_of whole fraction (unwrap_or (scale_at text) scale))), after_scale text)
+
+-- the number at a text's front, none where there is no digit; `scale` is the unit of a number without one
+unfoldable pub number_at : Scale → List ℕ → Option (ℤ × List ℕ)
+number_at scale text =
+    let more = after_digits text in
+    if length (digits_of text) + length (fraction_of more) == 0 then None
+    else Some (number_of scale (digits_of text) (fraction_of more) (after_fraction more))
+
+-- ---- The operators of an expression: roff(7), "Numerical expressions".
+
+abbrev pub begins_equal : List ℕ → Bool
+begins_equal [] = false
+begins_equal (b ∷ bs) = is_among b (codes "=")
+
+-- the operator that a character begins, where `equal` says that `=` follows
+abbrev pub operator_named : ℕ → (equal : Bool) → Option Operator
+operator_named b equal =
+    if is_among b (codes "+") then Some Add
+    else if is_among b (codes "-") then Some Subtract
+    else if is_among b (codes "*") then Some Multiply
+    else if is_among b (codes "/") then Some Divide
+    else if is_among b (codes "%") then Some Remainder
+    else if is_among b (codes "<") then Some (if equal then AtMost else Less)
+    else if is_among b (codes ">") then Some (if equal then AtLeast else Greater)
+    else if is_among b (codes "=") then Some Equal
+    else if is_among b (codes "&") then Some And
+    else if is_among b (codes ":") then Some Or
+    else None
+
+-- `<=`, `>=` and `==` have two
+abbrev pub operator_len : ℕ → (equal : Bool) → ℕ
+operator_len b equal = if is_among b (codes "<>=") && equal then 2 else 1
+
+-- the operator at a text's front, and what follows it
+unfoldable pub operator_at : List ℕ → Option (Operator × List ℕ)
+operator_at [] = None
+operator_at (b ∷ bs) = option_map (λ operator. (operator, drop (operator_len b (begins_equal bs)) (b ∷ bs))) (operator_named b (begins_equal bs))
+
+-- ---- what an operation gives
+
+abbrev pub truth : Bool → ℤ
+truth true = pos 1
+truth false = pos 0
+
+abbrev pub is_zero : ℤ → Bool
+is_zero (pos n) = n == 0
+is_zero (negsuc n) = false
+
+abbrev pub is_equal : ℤ → ℤ → Bool
+is_equal (pos a) (pos b) = a == b
+is_equal (pos a) (negsuc b) = false
+is_equal (negsuc a) (pos b) = false
+is_equal (negsuc a) (negsuc b) = a == b
+
+-- Division is cut towards 0, and the remainder has the sign of the dividend; by 0 both give 0. A comparison gives 1 or 0, and `&`
+-- and `:` ask whether both or one of the two are above 0.
+unfoldable pub result_of : Operator → ℤ → ℤ → ℤ
+result_of Add a b = in_range (a +ℤ b)
+result_of Subtract a b = in_range (a -ℤ b)
+result_of Multiply a b = in_range (a *ℤ b)
+result_of Divide a b = if is_zero b then pos 0 else in_range (int_div a b)
+result_of Remainder a b = if is_zero b then pos 0 else int_rem a b
+result_of Less a b = truth (int_lt a b)
+result_of Greater a b = truth (int_lt b a)
+result_of AtMost a b = truth (int_le a b)
+result_of AtLeast a b = truth (int_le b a)
+result_of Equal a b = truth (is_equal a b)
+result_of And a b = truth (is_positive a && is_positive b)
+result_of Or a b = truth (is_positive a || is_positive b)
+
+-- dividing by 0 is reported
+abbrev pub divides_by_zero : Operator → ℤ → Bool
+divides_by_zero Divide b = is_zero b
+divides_by_zero Remainder b = is_zero b
+divides_by_zero Add b = false
+divides_by_zero Subtract b = false
+divides_by_zero Multiply b = false
+divides_by_zero Less b = false
+divides_by_zero Greater b = false
+divides_by_zero AtMost b = false
+divides_by_zero AtLeast b = false
+divides_by_zero Equal b = false
+divides_by_zero And b = false
+divides_by_zero Or b = false
+
+-- ---- An expression at a text's front: roff(7), "Numerical expressions". Operands and operators follow one another, and each operation is
+-- done as it comes.
 
 -- what was read: its value, what is reported, in this order, whether the expression ends there, and what follows
 pub record Read (V : Type 0) : Type 0 where

@@ -1,5 +1,4 @@
-pub mod Numbers
-pub mod Operators
-pub mod Expressions
 pub mod Columns
+pub mod Expressions
+pub mod laws
 pub mod machine

@@ -1,8 +1,7 @@
 //! What an expression comes to: its value, its length and its messages, which a caller gives to what it reports to.
 
 ghost use Rattle.std.specs.Prelude.{◌≡◌, ◌+◌, length};
-ghost use Rattle.page_core_base.specs.Fails.{FailsAs};
-ghost use Rattle.page_core_base.specs.Sinks.{Gives};
+ghost use Rattle.page_core_base.specs.laws.Views.{FailsAs, Gives};
 ghost use Rattle.page_core_numbers.specs.Expressions.{expression_of, messages_at};
 ghost use Rattle.page_core_numbers.specs.machine.Evaluations.{reported, TakesFirst};
 

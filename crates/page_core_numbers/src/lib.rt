@@ -10,7 +10,7 @@
 #![tactic(auto)]
 
 ghost use Rattle.std.specs.Prelude.{◌≡◌, ◌+◌, length, IfOk, MatchResult};
-ghost use Rattle.page_core_base.specs.Fails.{Rose};
+ghost use Rattle.page_core_base.specs.Messages.{Rose};
 ghost use Rattle.page_core_numbers.specs.Expressions.{expression_of, messages_at};
 
 use evaluations::report;

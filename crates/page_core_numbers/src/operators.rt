@@ -1,7 +1,7 @@
 //! Operators: roff(7), "Numerical expressions". They are between the operands of an expression (`expressions`).
 
 ghost use Rattle.std.specs.Prelude.{◌≡◌, ◌<◌, length, option_map, IfSome};
-ghost use Rattle.page_core_numbers.specs.Operators.{operator_named, operator_at, begins_equal, operator_len, truth, result_of, divides_by_zero};
+ghost use Rattle.page_core_numbers.specs.Expressions.{operator_named, operator_at, begins_equal, operator_len, truth, result_of, divides_by_zero};
 ghost use Rattle.page_core_numbers.specs.machine.CodeValues.{found_view};
 
 /// An operator.
@@ -71,7 +71,7 @@ fn begins_equal(text: &[u8]) -> bool
 }
 
 /// The operator at a text's front.
-#[tactic(auto, unfolding(crate::specs::Operators::operator_at))]
+#[tactic(auto, unfolding(crate::specs::Expressions::operator_at))]
 pub(crate) fn read_operator(text: &[u8]) -> Option<FoundOperator<'_>>
     ensures value { option_map found_view result ≡ operator_at text.now }
     ensures bound { IfSome result (λ found. length found.rest.now < length text.now) }
@@ -94,7 +94,7 @@ fn truth(holds: bool) -> i32
 }
 
 // A quotient, cut towards 0; by 0 it is 0.
-#[tactic(auto, unfolding(crate::specs::Operators::result_of))]
+#[tactic(auto, unfolding(crate::specs::Expressions::result_of))]
 fn quotient(a: i32, b: i32) -> i32
     ensures { result ≡ result_of Operator.Divide a b }
 {
@@ -105,7 +105,7 @@ fn quotient(a: i32, b: i32) -> i32
 }
 
 // What a division leaves, with the sign of the dividend; by 0 it is 0.
-#[tactic(auto, unfolding(crate::specs::Operators::result_of))]
+#[tactic(auto, unfolding(crate::specs::Expressions::result_of))]
 fn remainder(a: i32, b: i32) -> i32
     ensures { result ≡ result_of Operator.Remainder a b }
 {
@@ -117,7 +117,7 @@ fn remainder(a: i32, b: i32) -> i32
 
 impl Operator {
     /// What an operation gives, held to the range of 32 bits.
-    #[tactic(auto, unfolding(crate::specs::Operators::result_of))]
+    #[tactic(auto, unfolding(crate::specs::Expressions::result_of))]
     pub(crate) fn apply(self, a: i32, b: i32) -> i32
         ensures { result ≡ result_of self a b }
     {

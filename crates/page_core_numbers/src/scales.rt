@@ -1,7 +1,7 @@
 //! Units of numbers: roff(7), "Scaling Widths". Numbers (`decimals`) are written in them.
 
 ghost use Rattle.std.specs.Prelude.{◌≡◌, ◌≤◌, ◌<◌};
-ghost use Rattle.page_core_numbers.specs.Numbers.{numerator, denominator, scale_named};
+ghost use Rattle.page_core_numbers.specs.Expressions.{numerator, denominator, scale_named};
 
 /// The unit of a number: roff(7), "Scaling Widths". Each is a number of basic units, of which a column has 24 and a row 40.
 #[derive(Clone, Copy, Debug, PartialEq, Eq)]

@@ -3,11 +3,12 @@
 
 ghost use Rattle.std.specs.Prelude.{◌*◌, ◌++◌, ◌≡◌, ◌≤◌, ◌<◌, length, take, slice_index, encode_utf8, IfSome, MatchOption, true, false};
 ghost use Rattle.std.specs.Str.{IsUtf8};
-ghost use Rattle.page_core_escapes.specs.Bytes.{backslash, is_among};
-ghost use Rattle.page_core_escapes.specs.Escapes.{meaning_view};
-ghost use Rattle.page_core_tables.specs.Printed.{prints_ascii, by_spelling, char_printed, printed_view};
-ghost use Rattle.page_core_tables.specs.Glyphs.{spelling_of};
-ghost use Rattle.page_core_numbers.specs.Columns.{BeginsWith, characters_columns, printed_escape, blanks_in, columns_of};
+ghost use Rattle.page_core_escapes.specs.Lengths.{backslash, is_among};
+ghost use Rattle.page_core_escapes.specs.laws.Views.{meaning_view};
+ghost use Rattle.page_core_tables.specs.Glyphs.{prints_ascii, by_spelling, char_printed, spelling_of};
+ghost use Rattle.page_core_tables.specs.laws.Views.{printed_view};
+ghost use Rattle.page_core_numbers.specs.laws.Views.{BeginsWith};
+ghost use Rattle.page_core_numbers.specs.Columns.{characters_columns, printed_escape, blanks_in, columns_of};
 ghost use Rattle.page_core_numbers.specs.machine.Fronts.{Front, Past, nothing_letters, one_letters, undefined_letters, ShortColumns, ShortGlyph};
 ghost use Rattle.page_core_numbers.specs.machine.Plain.{is_plain, are_plain};
 

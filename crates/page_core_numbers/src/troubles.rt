@@ -2,7 +2,7 @@
 //! message by message (`evaluations`).
 
 ghost use Rattle.std.specs.Prelude.{◌≡◌, ◌≤◌, ◌<◌, ◌+◌, ◌^◌, [], ◌∷◌, ◌++◌, is_some, if◌then◌else◌, MatchOption};
-ghost use Rattle.page_core_base.specs.Messages.{message_of};
+ghost use Rattle.page_core_base.specs.laws.Views.{message_of};
 ghost use Rattle.page_core_numbers.specs.Expressions.{message_at};
 ghost use Rattle.page_core_numbers.specs.machine.Evaluations.{troubles_view};
 ghost use Rattle.page_core_numbers.specs.machine.CodeValues.{count_of};

@@ -10,10 +10,11 @@ use Rattle.std.proofs.lemmas.List.Folds.{list_all_more, list_all-append}
 use Rattle.page_core_base.specs.declared.cells.Cell.{Cell}
 use Rattle.page_core_base.specs.declared.cells.Font.{Font}
 use Rattle.page_core_base.specs.declared.cells.Font.TheVariants.{R, B, I, BI}
-use Rattle.page_core_base.specs.Rows.{AreAscii, cells_in, is_ascii, is_blank, trimmed}
+use Rattle.page_core_base.specs.laws.Views.{AreAscii, cells_in, is_ascii}
+use Rattle.page_core_base.specs.Rows.{is_blank, trimmed}
 use Rattle.page_core_base.proofs.AsciiLemmas.{cells-more}
 use Rattle.page_core_streams.specs.machine.PlainCells.{is_roman}
-use Rattle.page_core_streams.specs.RowBytes.{cell_bytes_of, marked_bytes, printed}
+use Rattle.page_core_streams.specs.Streams.{cell_bytes_of, marked_bytes, printed}
 use Rattle.page_core_streams.proofs.RowLemmas.{printed_parts, trimmed_less, trimmed_same, trimmed-group}
 
 -- ---- parts of a row

@@ -1,9 +1,8 @@
 -- Counts of failures, one call after another.
 use Rattle.std.proofs.Common.{◌≡◌, ℕ, Bool, true, false, refl, ◌∙◌, subst}
-use Rattle.page_core_base.specs.Fails.{Rose}
-use Rattle.page_core_streams.specs.Failures.{RisesIf, FailsBy, count_of}
-use Rattle.page_core_streams.specs.Inputs.{state_of}
-use Rattle.page_core_streams.specs.Sources.{SourceState}
+use Rattle.page_core_base.specs.Messages.{Rose}
+use Rattle.page_core_streams.specs.Streams.{RisesIf, SourceState}
+use Rattle.page_core_streams.specs.laws.Views.{FailsBy, count_of, state_of}
 
 pub rises-after : (counts : Bool) (a b c : ℕ) → b ≡ a → RisesIf counts b c → RisesIf counts a c
 rises-after true a b c g h = subst (λ (x : ℕ). Rose x c) g h

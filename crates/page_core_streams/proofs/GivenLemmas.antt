@@ -1,7 +1,8 @@
 -- What a source gave, call by call.
 use Rattle.std.proofs.Common.{◌≡◌, ℕ, ◌+◌, ◌-◌, ◌^◌, ◌<◌, List, [], ◌++◌, length, refl, sym, ap, ◌∙◌, append_assoc, append-nil, arith, length-append, inl, inr, Option, Some, None}
 use Rattle.std.specs.Io.KnownBytes.{Consumes}
-use Rattle.page_core_streams.specs.Sources.{SourceState, HasGiven, IsBusy, IsLean, IsTooLong, counted}
+use Rattle.page_core_streams.specs.Streams.{SourceState, HasGiven, IsLean, IsTooLong, counted}
+use Rattle.page_core_streams.specs.laws.Views.{IsBusy}
 
 pub consumes_none : (a : Option (List ℕ)) → Consumes a a []
 consumes_none None = tt

@@ -4,9 +4,9 @@ use Rattle.std.specs.List.{flat_map, list_all}
 use Rattle.std.proofs.Math.Seq.{take-append-add}
 use Rattle.std.proofs.lemmas.List.{drop_all, length-take-le, take-take}
 use Rattle.page_core_base.specs.declared.cells.Font.{Font}
-use Rattle.page_core_base.specs.Rows.{AreAscii, cells_in}
+use Rattle.page_core_base.specs.laws.Views.{AreAscii, cells_in}
 use Rattle.page_core_streams.specs.machine.PlainCells.{is_roman}
-use Rattle.page_core_streams.specs.RowBytes.{cell_bytes_of}
+use Rattle.page_core_streams.specs.Streams.{cell_bytes_of}
 use Rattle.page_core_streams.proofs.AsciiLemmas.{all-front, ascii-front, bytes-next, roman-bytes}
 
 -- a whole group was written, of which the first characters count

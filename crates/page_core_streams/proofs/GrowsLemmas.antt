@@ -1,7 +1,8 @@
 -- How growths of a list follow one another.
 use Rattle.std.proofs.Common.{◌≡◌, List, [], ◌++◌, Option, refl, sym, ap, ◌∙◌, append_assoc, append-nil, Bool, true, false}
 use Rattle.std.specs.Bool.{MatchBool}
-use Rattle.page_core_streams.specs.Grows.{Grows, GrowsInto, GrowsUpTo, Grows-nil, Grows-append}
+use Rattle.page_core_streams.specs.Streams.{Grows, GrowsInto}
+use Rattle.page_core_streams.specs.laws.Views.{GrowsUpTo, Grows-nil, Grows-append}
 
 pub GrowsUpTo-start : {A : Type 0} (a : Option (List A)) (all : List A) → GrowsUpTo a a all all
 GrowsUpTo-start a all = record { done = []; parts = refl; grows = Grows-nil a }

@@ -8,7 +8,7 @@ use Rattle.std.proofs.lemmas.Bool.Decides.{nat_tests}
 use Rattle.std.proofs.Math.Seq.{take-add}
 use Rattle.page_core_base.specs.declared.cells.Cell.{Cell}
 use Rattle.page_core_base.specs.Rows.{is_blank, is_blank_row, row_of, trimmed, trimmed_before}
-use Rattle.page_core_streams.specs.RowBytes.{cell_bytes_of, printed, row_bytes}
+use Rattle.page_core_streams.specs.Streams.{cell_bytes_of, printed, row_bytes}
 
 pub trimmed-blank : (xs : List Cell) (x : Cell) → x.c ≡ 32 → trimmed (xs ++ x ∷ []) ≡ trimmed xs
 trimmed-blank [] x h = let t : is_blank x ≡ true = grind (arith, nat_tests) in rw t refl

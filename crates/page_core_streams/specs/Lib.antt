@@ -1,9 +1,3 @@
-pub mod Failures
-pub mod Inputs
-pub mod Sources
-pub mod Readings
-pub mod Chunks
-pub mod Grows
-pub mod MessageBytes
-pub mod RowBytes
+pub mod Streams
+pub mod laws
 pub mod machine

@@ -2,10 +2,11 @@
 
 ghost use Rattle.std.specs.Prelude.{◌≡◌, ◌+◌, ◌*◌, ◌≤◌, ◌==◌, List, ◌++◌, length, take, true, false};
 ghost use Rattle.std.specs.List.{flat_map, list_all};
-ghost use Rattle.page_core_base.specs.Rows.{AreAscii, cells_in, trimmed};
+ghost use Rattle.page_core_base.specs.laws.Views.{AreAscii, cells_in};
+ghost use Rattle.page_core_base.specs.Rows.{trimmed};
 ghost use Rattle.page_core_base.specs.declared.cells.Font.{Font};
 ghost use Rattle.page_core_streams.specs.machine.PlainCells.{is_roman};
-ghost use Rattle.page_core_streams.specs.RowBytes.{cell_bytes_of};
+ghost use Rattle.page_core_streams.specs.Streams.{cell_bytes_of};
 
 use crate::cells::{font_bits, write_ascii};
 use page_core_base::{BLANK_GROUP, Font, LONG_ROW};

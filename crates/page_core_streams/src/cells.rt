@@ -4,7 +4,7 @@ ghost use Rattle.std.specs.Prelude.{◌≡◌, ◌+◌, ◌*◌, ◌<◌, ◌≤
 ghost use Rattle.std.specs.List.{flat_map, list_all};
 ghost use Rattle.page_core_base.specs.Rows.{trimmed};
 ghost use Rattle.page_core_streams.specs.machine.PlainCells.{is_plain, is_roman};
-ghost use Rattle.page_core_streams.specs.RowBytes.{cell_bytes_of};
+ghost use Rattle.page_core_streams.specs.Streams.{cell_bytes_of};
 
 use arrayvec::ArrayVec;
 use page_core_base::{BLANK_GROUP, Cell, Font, LONG_ROW, are_blank};

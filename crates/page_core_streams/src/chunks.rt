@@ -1,8 +1,8 @@
 //! The bytes of a source chunk by chunk, up to the limits of a run.
 
 ghost use Rattle.std.specs.Prelude.{◌≡◌, ◌≤◌, ◌^◌, ℕ, List, [], length};
-ghost use Rattle.page_core_streams.specs.Chunks.{AreRead, IsFewer, ReadsOn, chunk_of};
-ghost use Rattle.page_core_streams.specs.Sources.{SourceState};
+ghost use Rattle.page_core_streams.specs.laws.Views.{AreRead, IsFewer, ReadsOn, chunk_of};
+ghost use Rattle.page_core_streams.specs.Streams.{SourceState};
 
 use crate::sources::{BYTES, READS, Reading, Source};
 use page_core_base::Fault;

@@ -2,14 +2,14 @@
 
 ghost use Rattle.std.specs.Prelude.{◌≡◌, ◌<◌, Bool, length};
 ghost use Rattle.std.specs.Borrow.{GName};
-ghost use Rattle.page_core_streams.specs.Inputs.{HasReadIf};
+ghost use Rattle.page_core_streams.specs.laws.Views.{HasReadIf};
 
 use crate::{Counted, Reading, SliceSource, Source};
 use std::io::{ErrorKind, Read};
 
 /// What bytes are read from. Each reader is one, whose calls are not counted; of [`Counted`] and [`SliceSource`] they are, which holds a call to its reasons.
 pub trait Input {
-    ghost use Rattle.page_core_streams.specs.Sources.{SourceState};
+    ghost use Rattle.page_core_streams.specs.Streams.{SourceState};
 
     // Whether its calls are counted; the bytes to come, where they are known, and the counts.
     ghost counts: { Bool };
@@ -24,7 +24,8 @@ pub trait Input {
 
 impl<I: Read> Input for I {
     ghost use Rattle.std.specs.Prelude.{false};
-    ghost use Rattle.page_core_streams.specs.Sources.{SourceState, source_state};
+    ghost use Rattle.page_core_streams.specs.Streams.{SourceState};
+    ghost use Rattle.page_core_streams.specs.laws.Views.{source_state};
 
     ghost counts = { false };
 
@@ -42,7 +43,8 @@ impl<I: Read> Input for I {
 
 impl<I: Read> Input for Counted<'_, I> {
     ghost use Rattle.std.specs.Prelude.{true};
-    ghost use Rattle.page_core_streams.specs.Sources.{SourceState, source_state};
+    ghost use Rattle.page_core_streams.specs.Streams.{SourceState};
+    ghost use Rattle.page_core_streams.specs.laws.Views.{source_state};
 
     ghost counts = { true };
 
@@ -55,7 +57,8 @@ impl<I: Read> Input for Counted<'_, I> {
 
 impl Input for SliceSource<'_> {
     ghost use Rattle.std.specs.Prelude.{Some, true};
-    ghost use Rattle.page_core_streams.specs.Sources.{SourceState, source_state};
+    ghost use Rattle.page_core_streams.specs.Streams.{SourceState};
+    ghost use Rattle.page_core_streams.specs.laws.Views.{source_state};
 
     ghost counts = { true };
 
@@ -97,8 +100,8 @@ impl<'a, I: Input> Over<'a, I> {
 }
 
 impl<I: Input> Source for Over<'_, I> {
-    ghost use Rattle.page_core_streams.specs.Sources.{SourceState};
-    ghost use Rattle.page_core_streams.specs.Inputs.{state_of};
+    ghost use Rattle.page_core_streams.specs.Streams.{SourceState};
+    ghost use Rattle.page_core_streams.specs.laws.Views.{state_of};
     ghost use Rattle.std.specs.Borrow.{GName};
 
     ghost state = { λ s. state_of I.counts (I.state s.input.now) s.failures s.calls s.given s.empty };

@@ -1,9 +1,10 @@
 //! Sinks that keep what they are given.
 
 ghost use Rattle.std.specs.Prelude.{◌≡◌, [], ◌∷◌, Some, map};
-ghost use Rattle.page_core_base.specs.Messages.{message_of};
+ghost use Rattle.page_core_base.specs.laws.Views.{message_of};
 ghost use Rattle.page_core_base.specs.Rows.{row_of};
-ghost use Rattle.page_core_streams.specs.Grows.{Adds, AddsInto, adds-sink, adds-whole};
+ghost use Rattle.page_core_streams.specs.Streams.{Adds, AddsInto};
+ghost use Rattle.page_core_streams.specs.laws.Views.{adds-sink, adds-whole};
 
 use page_core_base::{Cell, Fault, Note, NoteSink, RowSink};
 use std::alloc::Global;

@@ -3,12 +3,12 @@
 //! The two ends of the pipeline: a run over a page, or a search of an index, reads its bytes in chunks from a source that counts calls, failures and
 //! bytes, so that it can say why it stopped; the rows that filling settles, and the messages of all layers, become bytes here.
 //!
-//! Read first: the trait `Source` in `sources.rt`, with `specs/Sources.antt`, then `Counted`, a reader as a source; `TextRows` in `text_rows.rt` with
-//! `specs/RowBytes.antt`, and `TextNotes` in `text_notes.rt` with `specs/MessageBytes.antt`.
+//! Read first: the trait `Source` in `sources.rt`, with `specs/Streams.antt`, then `Counted`, a reader as a source; `TextRows` in `text_rows.rt` and
+//! `TextNotes` in `text_notes.rt`.
 //!
 //! Proved: `Counted`, `SliceSource`: a source counts its calls and its failures, and gives the bytes of its reader, or of its slice, in their order
-//! (`specs/Sources.antt`). `Chunks`: the chunks of a source are its bytes, up to both bounds, and why there are no more
-//! (`specs/Chunks.antt`). `write_note`, `cell_bytes`, `TextRows`, `TextNotes`: a writer gets exactly the bytes of each message, cell and row; at a fault, a front.
+//! (`specs/Streams.antt`). `Chunks`: the chunks of a source are its bytes, up to both bounds, and why there are no more
+//! (`specs/laws/Views.antt`). `write_note`, `cell_bytes`, `TextRows`, `TextNotes`: a writer gets exactly the bytes of each message, cell and row; at a fault, a front.
 #![tactic(auto)]
 
 mod ascii_rows;

@@ -1,10 +1,9 @@
 //! The bytes of messages (mandoc(1), "DIAGNOSTICS").
 
 ghost use Rattle.std.specs.Prelude.{◌≡◌, MatchResult, IfErr};
-ghost use Rattle.page_core_base.specs.Messages.{message_of};
-ghost use Rattle.page_core_streams.specs.Failures.{FailsBy, ErrsBy};
-ghost use Rattle.page_core_streams.specs.Grows.{Grows, GrowsInto, Writes};
-ghost use Rattle.page_core_streams.specs.MessageBytes.{message_bytes, shown_bytes};
+ghost use Rattle.page_core_base.specs.laws.Views.{message_of};
+ghost use Rattle.page_core_streams.specs.laws.Views.{FailsBy, Writes, shown_bytes};
+ghost use Rattle.page_core_streams.specs.Streams.{ErrsBy, Grows, GrowsInto, message_bytes};
 
 use crate::targets::Target;
 use crate::writing::put_all;

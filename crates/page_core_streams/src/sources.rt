@@ -2,8 +2,8 @@
 
 ghost use Rattle.std.specs.Prelude.{◌≡◌, ◌<◌, length};
 ghost use Rattle.std.specs.Borrow.{GName};
-ghost use Rattle.page_core_streams.specs.Sources.{SourceState};
-ghost use Rattle.page_core_streams.specs.Readings.{HasRead};
+ghost use Rattle.page_core_streams.specs.Streams.{SourceState};
+ghost use Rattle.page_core_streams.specs.laws.Views.{HasRead};
 
 use std::io::{ErrorKind, Read};
 
@@ -25,7 +25,7 @@ pub enum Reading {
 
 /// Gives bytes, and counts what it gave.
 pub trait Source {
-    ghost use Rattle.page_core_streams.specs.Sources.{SourceState};
+    ghost use Rattle.page_core_streams.specs.Streams.{SourceState};
 
     // The bytes to come, where they are known, and the counts of failures, of calls, of the bytes given and of empty calls.
     ghost state: { Self → SourceState };
@@ -73,7 +73,8 @@ impl<'a, I: Read> Counted<'a, I> {
 }
 
 impl<I: Read> Source for Counted<'_, I> {
-    ghost use Rattle.page_core_streams.specs.Sources.{SourceState, source_state};
+    ghost use Rattle.page_core_streams.specs.Streams.{SourceState};
+    ghost use Rattle.page_core_streams.specs.laws.Views.{source_state};
     ghost use Rattle.std.specs.Borrow.{GName};
 
     ghost state = { λ s. source_state (I.remaining s.reader.now) s.failures s.calls s.given s.empty };
@@ -128,7 +129,8 @@ impl<'a> SliceSource<'a> {
 
 impl Source for SliceSource<'_> {
     ghost use Rattle.std.specs.Prelude.{Some};
-    ghost use Rattle.page_core_streams.specs.Sources.{SourceState, source_state};
+    ghost use Rattle.page_core_streams.specs.Streams.{SourceState};
+    ghost use Rattle.page_core_streams.specs.laws.Views.{source_state};
 
     ghost state = { λ s. source_state (Some s.rest.now) 0 s.calls s.given 0 };
 

@@ -1,8 +1,7 @@
 //! What bytes are written to: any writer, and one whose failures are counted.
 
 ghost use Rattle.std.specs.Prelude.{◌≡◌, ℕ, Bool, List, [], Option};
-ghost use Rattle.page_core_streams.specs.Grows.{Writes};
-ghost use Rattle.page_core_streams.specs.Failures.{FailsBy};
+ghost use Rattle.page_core_streams.specs.laws.Views.{Writes, FailsBy};
 
 use crate::writing::write_bytes;
 use std::io::Write;

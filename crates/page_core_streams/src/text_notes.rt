@@ -2,9 +2,8 @@
 
 ghost use Rattle.std.specs.Prelude.{◌≡◌};
 ghost use Rattle.std.specs.Borrow.{GName};
-ghost use Rattle.page_core_streams.specs.Grows.{AddsBy, AddsIntoBy, adds-by-sink, adds-by-whole};
-ghost use Rattle.page_core_streams.specs.Failures.{count_of};
-ghost use Rattle.page_core_streams.specs.MessageBytes.{message_bytes};
+ghost use Rattle.page_core_streams.specs.laws.Views.{AddsBy, AddsIntoBy, adds-by-sink, adds-by-whole, count_of};
+ghost use Rattle.page_core_streams.specs.Streams.{message_bytes};
 
 use crate::message_bytes::put_note;
 use crate::targets::Target;

@@ -2,10 +2,9 @@
 
 ghost use Rattle.std.specs.Prelude.{◌≡◌, ◌+◌, ◌<◌, ◌≤◌, MatchOption, length, take, false, replicate};
 ghost use Rattle.std.specs.Borrow.{GName};
-ghost use Rattle.page_core_base.specs.Rows.{AreAscii, cells_in};
-ghost use Rattle.page_core_streams.specs.Failures.{FailsBy, StopsBy, count_of};
-ghost use Rattle.page_core_streams.specs.Grows.{Adds, AddsInto, GrowsInto, GrowsUpTo, Writes, adds-sink, adds-whole};
-ghost use Rattle.page_core_streams.specs.RowBytes.{row_bytes, printed};
+ghost use Rattle.page_core_base.specs.laws.Views.{AreAscii, cells_in};
+ghost use Rattle.page_core_streams.specs.laws.Views.{FailsBy, StopsBy, count_of, GrowsUpTo, Writes, adds-sink, adds-whole};
+ghost use Rattle.page_core_streams.specs.Streams.{Adds, AddsInto, GrowsInto, row_bytes, printed};
 
 use crate::ascii_rows::{TEXT_GROUP, shown_len, write_first};
 use crate::cells::{without_blanks_at_end, write_group, write_mixed};

@@ -2,8 +2,7 @@
 
 ghost use Rattle.std.specs.Prelude.{◌≡◌, ◌+◌, [], ◌++◌, true};
 ghost use Rattle.std.specs.List.{flat_map};
-ghost use Rattle.page_core_streams.specs.Failures.{FailsBy};
-ghost use Rattle.page_core_streams.specs.Grows.{Writes, WritesUpTo};
+ghost use Rattle.page_core_streams.specs.laws.Views.{FailsBy, Writes, WritesUpTo};
 
 use crate::targets::Target;
 use arrayvec::ArrayVec;

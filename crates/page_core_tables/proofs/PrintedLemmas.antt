@@ -3,10 +3,9 @@ use Rattle.std.proofs.Common.{◌≡◌, ℕ, ◌≤◌, ◌==◌, nat_le, ◌&&
 use Rattle.std.specs.List.{list_all}
 use Rattle.std.proofs.lemmas.Bool.{cases_Bool, and_parts}
 use Rattle.std.proofs.lemmas.Bool.Decides.{nat_tests}
-use Rattle.page_core_tables.specs.Glyphs.{Symbol, Entry, table, name_key, glyph_of, first_spelling, spelling_of}
+use Rattle.page_core_tables.specs.Glyphs.{Symbol, Entry, table, name_key, glyph_of, first_spelling, spelling_of, by_spelling, char_columns}
 use Rattle.page_core_tables.proofs.Tables.{symbol_at-passes}
 use Rattle.unicode_width.specs.Width.{char_width}
-use Rattle.page_core_tables.specs.Printed.{by_spelling, char_columns}
 
 -- ---- spellings have eight characters at most
 

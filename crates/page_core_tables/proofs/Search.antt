@@ -6,7 +6,8 @@ use Rattle.std.specs.List.Sorted.{IsBinarySearchResult, IsNonDecreasingBy}
 use Rattle.std.specs.Ordering.{nat_cmp, ordering_index}
 use Rattle.std.proofs.lemmas.Cmp.{ranked}
 use Rattle.std.specs.Borrow.{Bor}
-use Rattle.page_core_tables.specs.Glyphs.{Symbol, Entry, entry, entries, symbol_at}
+use Rattle.page_core_tables.specs.Glyphs.{Symbol, Entry, entry, symbol_at}
+use Rattle.page_core_tables.specs.laws.Views.{entries}
 use Rattle.page_core_tables.specs.machine.Rows.{keys_rise}
 
 -- the first key is no smaller than the bound, and the rest rise from above it

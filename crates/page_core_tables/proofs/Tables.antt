@@ -6,7 +6,8 @@ use Rattle.std.specs.Str.{bytes_eq}
 use Rattle.std.proofs.lemmas.Slice.Eq.{bytes_eq-Decides}
 use Rattle.std.specs.List.{list_all}
 use Rattle.page_core_tables.specs.declared.rows.Glyph.{Glyph}
-use Rattle.page_core_tables.specs.Glyphs.{Symbol, Entry, symbol_of, table, symbol_at, name_key, glyph_of, first_spelling, spelling_of}
+use Rattle.page_core_tables.specs.Glyphs.{Symbol, Entry, table, symbol_at, name_key, glyph_of, first_spelling, spelling_of}
+use Rattle.page_core_tables.specs.laws.Views.{symbol_of}
 use Rattle.page_core_tables.specs.machine.Rows.{has_key, rows_are_spelled, is_spelled, spellings_have_rows, are_characters_from}
 
 -- what is at a key passes what each entry passes

@@ -1,8 +1,12 @@
--- The glyphs that have a name, of mandoc_char(7): which character a name stands for, and how a character is spelled in ASCII.
+-- The glyphs that have a name, how a character is spelled in ASCII, and what both print in an output. Source: mandoc_char(7).
 use Prim.Native.String.{String}
-use Rattle.std.specs.Prelude.{ℕ, ◌+◌, ◌*◌, List, [], ◌∷◌, ◌&&◌, ◌==◌, nat_le, if◌then◌else◌, map, Option, Some, None, codes}
-use Rattle.std.specs.Borrow.{Bor}
-use Rattle.page_core_tables.specs.declared.rows.Glyph.{Glyph}
+use Rattle.std.specs.Prelude.{ℕ, List, ◌+◌, ◌*◌, ◌∷◌, codes, [], ◌==◌, if◌then◌else◌, Option, Some, None, ◌&&◌, nat_le, Bool, true, false, encode_utf8, ◌||◌, nat_lt, unwrap_or}
+use Rattle.unicode_width.specs.Width.{char_width}
+use Rattle.page_core_base.specs.declared.page_settings.Output.{Output}
+use Rattle.page_core_base.specs.declared.page_settings.Output.TheVariants.{Ascii, Utf8, Lint}
+use Rattle.page_core_tables.specs.declared.printing.Printed as code
+
+-- ---- The glyphs that have a name, of mandoc_char(7): which character a name stands for, and how a character is spelled in ASCII.
 
 -- what a name stands for: a character's code point, and its spelling in ASCII, which is empty where it has none
 pub record Symbol : Type 0 where
@@ -14,16 +18,8 @@ pub record Entry : Type 0 where
   pub key : ℕ
   pub symbol : Symbol
 
--- a `Glyph` of the code as such a symbol
-abbrev pub symbol_of : Glyph → Symbol
-symbol_of g = record { code = g.code; spelling = g.ascii.now }
-
 abbrev pub entry : ℕ → ℕ → List ℕ → Entry
 entry key code spelling = record { key = key; symbol = record { code = code; spelling = spelling } }
-
--- rows of the code as such entries
-abbrev pub entries : List (ℕ × ℕ × Bor (List ℕ)) → List Entry
-entries rows = map (λ row. entry row.0 row.1 row.2.now) rows
 
 -- the key of a name of two bytes
 abbrev pub name_key : ℕ → ℕ → ℕ
@@ -207,3 +203,49 @@ first_spelling code (e ∷ es) = if e.symbol.code == code then e.symbol.spelling
 -- the spelling of a character in ASCII: one from a blank to `~` is spelled as itself
 unfoldable pub spelling_of : ℕ → List ℕ
 spelling_of c = if nat_le 0x20 c && nat_le c 0x7E then c ∷ [] else first_spelling c table
+
+-- ---- What a character, and the glyph of a name, print in an output. Source: mandoc_char(7); mandoc(1), -T ascii, -T utf8 and -T lint.
+
+-- the characters that are printed, and, where they stand for what can't be, the text that is reported: the name that no glyph has, or the
+-- character that has no spelling
+pub record Printing : Type 0 where
+  pub characters : List ℕ
+  pub unknown : Option (List ℕ)
+
+abbrev pub known : List ℕ → Printing
+known characters = record { characters = characters; unknown = None }
+
+abbrev pub unknown_text : List ℕ → Printing
+unknown_text text = record { characters = codes "<?>"; unknown = Some text }
+
+-- characters above ASCII are spelled in ASCII, and where messages alone are wanted
+abbrev pub prints_ascii : Output → Bool
+prints_ascii Ascii = true
+prints_ascii Utf8 = false
+prints_ascii Lint = true
+
+-- a character by its spelling, which is empty where it has none
+abbrev pub by_spelling : List ℕ → ℕ → Printing
+by_spelling [] c = unknown_text (encode_utf8 c)
+by_spelling (b ∷ bs) c = known (b ∷ bs)
+
+-- a character; a tab, and a blank that no row breaks at (U+00A0), are a blank
+abbrev pub char_printed : Output → ℕ → Printing
+char_printed output c =
+    if c == 0x09 || c == 0xA0 then known (codes " ")
+    else if nat_lt c 0x80 then known (c ∷ [])
+    else if prints_ascii output then by_spelling (spelling_of c) c
+    else known (c ∷ [])
+
+-- what a name stands for
+abbrev pub symbol_printed : Output → (name : List ℕ) → Option Symbol → Printing
+symbol_printed output name None = unknown_text name
+symbol_printed output name (Some symbol) = if prints_ascii output then by_spelling symbol.spelling symbol.code else known (symbol.code ∷ [])
+
+-- the glyph of a name
+abbrev pub glyph_printed : Output → (name : List ℕ) → Printing
+glyph_printed output name = symbol_printed output name (glyph_of name)
+
+-- the columns of a character that is printed, none where it has no width
+abbrev pub char_columns : ℕ → ℕ
+char_columns c = unwrap_or (char_width false c) 0

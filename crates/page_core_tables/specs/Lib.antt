@@ -1,3 +1,3 @@
 pub mod Glyphs
-pub mod Printed
+pub mod laws
 pub mod machine

@@ -5,11 +5,12 @@
 //! Read first: `glyph` and `spelling` below, with the table in `specs/Glyphs.antt`; then `printing.rt`.
 //!
 //! Proved: `glyph`, `spelling`, `printed_char`, `printed_glyph`: the glyph of a name, the spelling in ASCII of a character, and what each prints in
-//! an output, are those of one table (`specs/Glyphs.antt`, `Printed.antt`), with which the rows of the program are compared.
+//! an output, are those of one table (`specs/Glyphs.antt`), with which the rows of the program are compared.
 #![tactic(auto)]
 
 ghost use Rattle.std.specs.Prelude.{◌≡◌, option_map};
-ghost use Rattle.page_core_tables.specs.Glyphs.{glyph_of, spelling_of, symbol_of, first_spelling, table};
+ghost use Rattle.page_core_tables.specs.Glyphs.{glyph_of, spelling_of, first_spelling, table};
+ghost use Rattle.page_core_tables.specs.laws.Views.{symbol_of};
 
 mod printing;
 mod rows;

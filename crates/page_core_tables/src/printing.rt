@@ -1,6 +1,7 @@
 //! What a character, and the glyph of a name, print in an output (mandoc_char(7); mandoc(1), -T).
 ghost use Rattle.std.specs.Prelude.{◌≡◌, ◌≤◌, length};
-ghost use Rattle.page_core_tables.specs.Printed.{prints_ascii, by_spelling, char_printed, glyph_printed, printed_view, char_columns};
+ghost use Rattle.page_core_tables.specs.Glyphs.{prints_ascii, by_spelling, char_printed, glyph_printed, char_columns};
+ghost use Rattle.page_core_tables.specs.laws.Views.{printed_view};
 
 use crate::{glyph, spelling};
 use page_core_base::Output;

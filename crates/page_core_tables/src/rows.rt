@@ -1,6 +1,7 @@
 //! The table of glyphs by their names, and their spellings by characters; each sorted by what is looked up.
 ghost use Rattle.std.specs.Prelude.{◌≡◌, ◌≤◌, ◌∷◌, [], length, option_map, IsTrue};
-ghost use Rattle.page_core_tables.specs.Glyphs.{entries, name_key, symbol_at, symbol_of, table};
+ghost use Rattle.page_core_tables.specs.laws.Views.{entries, symbol_of};
+ghost use Rattle.page_core_tables.specs.Glyphs.{name_key, symbol_at, table};
 ghost use Rattle.page_core_tables.specs.machine.Rows.{keys_rise, rows_are_spelled, spellings_have_rows, are_characters_from};
 
 /// A character and its spelling in ASCII, which is empty where it has none.

@@ -1,13 +1,14 @@
 -- What the lines of bytes settle, part by part.
 use Rattle.std.proofs.Common.{◌≡◌, ℕ, ◌+◌, List, ◌++◌, length, refl, ap, ◌∙◌, length-append}
 use Rattle.page_core_base.specs.Messages.{Message}
-use Rattle.page_core_base.specs.Rows.{LaidRow}
-use Rattle.page_core_base.specs.Sinks.{IsSink}
-use Rattle.page_core_base.specs.Laid.{Laid, Gave, join}
+use Rattle.page_core_base.specs.Rows.{LaidRow, Laid, Gave, join}
+use Rattle.page_core_base.specs.laws.Views.{IsSink}
 use Rattle.page_core_base.proofs.SinkLemmas.{within-join}
-use Rattle.page_roff_lines.specs.Cutting.{Point, point_after, lines_within, last_line, lines_from}
+use Rattle.page_roff_lines.specs.laws.Cutting.{Point, point_after, lines_within, last_line, lines_from}
 use Rattle.page_roff_lines.proofs.PointLemmas.{lines_within-append}
-use Rattle.page_engine.specs.Page.{Edge, IsReached, settled, page}
+use Rattle.page_engine.specs.Edges.{Edge}
+use Rattle.page_engine.specs.laws.Views.{IsReached}
+use Rattle.page_engine.specs.Page.{settled, page}
 use Rattle.page_engine.specs.machine.Points.{page_from, settled_from}
 use Rattle.page_engine.proofs.WholeLines.{settled-append, page-append}
 

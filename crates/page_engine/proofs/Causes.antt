@@ -1,19 +1,16 @@
 -- The causes of faults, from sinks to what lies below them.
 use Rattle.std.proofs.Common.{◌≡◌, ℕ, List, Result, Ok, Err, sym, ap, ◌∙◌, subst, inl, inr}
-use Rattle.page_core_base.specs.Fails.{IsSinkFault}
-use Rattle.page_core_base.specs.Laid.{Laid}
-use Rattle.page_core_base.specs.Messages.{Message}
-use Rattle.page_core_base.specs.Rows.{LaidRow}
+use Rattle.page_core_base.specs.Messages.{IsSinkFault, Message}
+use Rattle.page_core_base.specs.Rows.{Laid, LaidRow, nothing}
 use Rattle.page_core_base.specs.declared.faults.Fault.{Fault}
 use Rattle.page_core_base.specs.declared.faults.Fault.TheVariants.{Memory, Read, WriteText, WriteNotes, TooLong, Settings, Failed, Ended, BadIndex}
 use Rattle.page_core_base.specs.declared.page_settings.Settings.{Settings as PageSettings}
-use Rattle.page_core_streams.specs.Sources.{SourceState}
-use Rattle.page_roff_lines.specs.Whole.{lines_made, line_left}
+use Rattle.page_core_streams.specs.Streams.{SourceState}
+use Rattle.page_roff_lines.specs.Lines.{lines_made, line_left}
 use Rattle.page_engine.specs.declared.runs.Outcome.{Outcome}
-use Rattle.page_engine.specs.Page.{page, settled, start}
-use Rattle.page_engine.specs.Runs.{RunsOver, Whole, Broken, BrokeIn, Untouched, Quiet, whole_page, settled_page}
-use Rattle.page_core_base.specs.Laid.{nothing}
-use Rattle.page_engine.specs.Streams.{Sinks, AllCame, FrontCame}
+use Rattle.page_engine.specs.Page.{page, settled}
+use Rattle.page_engine.specs.Edges.{start}
+use Rattle.page_engine.specs.Runs.{RunsOver, Whole, Broken, BrokeIn, Untouched, Quiet, whole_page, settled_page, Sinks, AllCame, FrontCame}
 
 -- sinks over what lies below them: what comes to the sinks comes there, where a fact of the sink of messages stays, and they fail as it does
 pub record LieOver {R N W V : Type 0} (k : Sinks R N) (i : Sinks W V) (f : R → W) (g : N → V) (P : N → Type 0) : Type 0 where

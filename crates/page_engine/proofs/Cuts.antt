@@ -1,18 +1,16 @@
 -- A line that was cut, and then what it says.
 use Rattle.std.proofs.Common.{◌≡◌, ℕ, List, [], Option, Result, Ok, Err}
 use Rattle.page_core_base.specs.Messages.{Message}
-use Rattle.page_core_base.specs.Rows.{LaidRow}
-use Rattle.page_core_base.specs.Sinks.{IsSink}
+use Rattle.page_core_base.specs.Rows.{LaidRow, Laid, Gave, join}
+use Rattle.page_core_base.specs.laws.Views.{IsSink, Gets, FailsBySink}
 use Rattle.page_core_base.specs.declared.faults.Fault.{Fault}
 use Rattle.page_core_base.specs.declared.note_kinds.Level.{Level}
-use Rattle.page_core_base.specs.Laid.{Laid, Gave, Gets, join}
-use Rattle.page_core_base.specs.Fails.{FailsBySink}
 use Rattle.page_engine.specs.declared.layers.Layers.{Layers}
-use Rattle.page_engine.specs.Levels.{reported, worst_of}
+use Rattle.page_engine.specs.Page.{reported, worst_of}
 use Rattle.page_engine.specs.machine.Layers.{IsAt}
-use Rattle.page_engine.specs.Page.{Edge}
+use Rattle.page_engine.specs.Edges.{Edge}
 use Rattle.page_engine.specs.machine.ByLine.{laid_notes}
-use Rattle.page_engine.specs.Shown.{shown_rows-nil}
+use Rattle.page_engine.specs.laws.Views.{shown_rows-nil}
 
 -- the messages of a cutting change the worst level alone
 pub cut_at : {here : Layers} {e : Edge} (worst' : Option Level) (m : List Message)

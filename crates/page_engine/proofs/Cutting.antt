@@ -2,16 +2,17 @@
 use Rattle.std.proofs.Common.{◌≡◌, ℕ, zero, suc, ◌+◌, ◌<◌, ◌≤◌, Bool, true, false, List, [], ◌∷◌, length, take, refl, arith}
 use Rattle.std.specs.Prelude.{if◌then◌else◌}
 use Rattle.page_core_base.specs.Messages.{Message}
-use Rattle.page_core_base.specs.Rows.{LaidRow}
-use Rattle.page_core_base.specs.Sinks.{IsSink}
-use Rattle.page_core_base.specs.Laid.{Gave, nothing}
+use Rattle.page_core_base.specs.Rows.{LaidRow, Gave, nothing}
+use Rattle.page_core_base.specs.laws.Views.{IsSink}
 use Rattle.page_roff_lines.specs.Lines.{Line}
-use Rattle.page_roff_lines.specs.Cutting.{Point, point_after, lines_within, next_point, point_at}
+use Rattle.page_roff_lines.specs.laws.Cutting.{Point, point_after, lines_within, next_point, point_at}
 use Rattle.page_roff_lines.specs.machine.Open.{open_after}
 use Rattle.page_roff_lines.proofs.OpenLaws.{open_after-consumed}
 use Rattle.page_engine.proofs.WholeLines.{settled_none}
-use Rattle.page_engine.specs.States.{PageState, IsOpenAt}
-use Rattle.page_engine.specs.Page.{Edge, IsReached, settled}
+use Rattle.page_engine.specs.laws.States.{PageState, IsOpenAt}
+use Rattle.page_engine.specs.Edges.{Edge}
+use Rattle.page_engine.specs.laws.Views.{IsReached}
+use Rattle.page_engine.specs.Page.{settled}
 
 -- ---- a part of the bytes
 

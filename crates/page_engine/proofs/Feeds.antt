@@ -1,19 +1,18 @@
 -- What a call below a page did, as it is said of the page.
 use Rattle.std.proofs.Common.{◌≡◌, ℕ, List, Bool, Option, Some, Result, Ok, Err, MatchResult, OnOk}
 use Rattle.page_core_base.specs.Messages.{Message}
-use Rattle.page_core_base.specs.Rows.{LaidRow}
+use Rattle.page_core_base.specs.Rows.{LaidRow, Laid}
 use Rattle.page_core_base.specs.declared.faults.Fault.{Fault}
 use Rattle.page_core_base.specs.declared.note_kinds.Level.{Level}
 use Rattle.page_core_base.specs.declared.page_settings.Output.{Output}
-use Rattle.page_core_base.specs.Laid.{Laid, Gets}
-use Rattle.page_core_base.specs.Fails.{FailsBySink, IsPieceFault}
+use Rattle.page_core_base.specs.laws.Views.{Gets, FailsBySink, IsPieceFault}
 use Rattle.page_fill.specs.declared.edges.Edge.{Edge as FillEdge}
 use Rattle.page_engine_lines.specs.Edges.{LinesEdge}
-use Rattle.page_engine.specs.Levels.{FilterGave, FilterWithin}
-use Rattle.page_engine.specs.Shown.{is_silent, ShownGave, ShownWithin}
+use Rattle.page_engine.specs.laws.Views.{FilterGave, FilterWithin, ShownGave, ShownWithin}
+use Rattle.page_engine.specs.Page.{is_silent, of_page}
 use Rattle.page_engine.specs.machine.PageSinks.{Passed, Broken, Ends, Quiet}
 use Rattle.page_engine.specs.machine.Layers.{IsAt}
-use Rattle.page_engine.specs.Page.{Edge, lines_at, of_page}
+use Rattle.page_engine.specs.Edges.{Edge, lines_at}
 
 -- what a call did that passes items on
 abbrev pub Passes : {T R S N : Type 0} → Result (Unit {0}) Fault → (R → List LaidRow → R → Type 0) → (R → List LaidRow → R → Type 0) → (T → ℕ) → (T → R) → (T → Bool)

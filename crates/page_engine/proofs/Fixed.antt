@@ -5,13 +5,12 @@ use Rattle.page_core_base.specs.declared.page_settings.Output.{Output}
 use Rattle.page_core_base.specs.declared.pieces.Piece.{Piece}
 use Rattle.page_core_base.specs.declared.pieces.Piece.TheVariants.{Text, Glyph, Char, Tab, Blank, Glue, Split, Break, RowEnd, Para, Space, Indent, Literal, Tag, TagEnd, Heading, Column}
 use Rattle.page_core_base.specs.declared.pieces.TagForm.TheVariants as forms
-use Rattle.page_core_base.specs.Laid.{Laid}
-use Rattle.page_core_base.specs.Pieces.{Item, shown, noted}
+use Rattle.page_core_base.specs.Rows.{Laid, Item, shown, noted}
 use Rattle.page_fill.specs.declared.edges.OpenTag.{OpenTag}
 use Rattle.page_fill.specs.declared.edges.Edge.{Edge}
 use Rattle.page_fill.specs.machine.ByPiece.{laid_item, laid_items}
 use Rattle.page_fill.specs.Filling.{Group, words, other, groups, row_end, placed, after_tag, tag_end, other_laid, groups_laid, filled}
-use Rattle.page_fill.specs.PieceWords.{words_laid, content_laid}
+use Rattle.page_fill.specs.Words.{words_laid, content_laid}
 
 abbrev pub fixed : Edge → Output × ℕ
 fixed e = (e.output, e.sheet.width)

@@ -3,25 +3,19 @@ use Rattle.std.proofs.Common.{◌≡◌, ℕ, List, [], ◌∷◌, Option, None,
 use Rattle.std.specs.Prelude.{if◌then◌else◌}
 use Rattle.std.specs.List.{list_all}
 use Rattle.std.proofs.lemmas.Bool.Decides.{nat_tests}
-use Rattle.page_core_base.specs.Rows.{cells_in}
-use Rattle.page_core_base.specs.Sinks.{IsSink}
-use Rattle.page_core_base.specs.Words.{font_cells, is_kept, is_lettered_word, joined_cells, lettered_cells, lettered_pieces, word_letters}
+use Rattle.page_core_base.specs.laws.Views.{cells_in, IsSink, font_cells, is_kept, is_lettered_word, joined_cells, lettered_cells, lettered_pieces, word_letters, Gets, FailsAs, FailsBySink, IsPieceFault}
 use Rattle.page_core_base.specs.declared.cells.Cell.{Cell}
 use Rattle.page_core_base.specs.declared.cells.Font.{Font}
 use Rattle.page_core_base.specs.declared.pieces.Piece.{Piece}
-use Rattle.page_fill.specs.Caps.{IsHeld, is_sound}
-use Rattle.page_fill.specs.KeptTexts.{AreKept}
-use Rattle.page_fill.specs.LetteredWords.{AreWords}
+use Rattle.page_fill_rows.specs.laws.Views.{IsHeld}
+use Rattle.page_fill.specs.laws.Views.{is_sound, AreKept, AreWords}
 use Rattle.page_fill.proofs.FillerLaw.{items-law}
 use Rattle.page_fill.proofs.LetteredWordLemmas.{first-is, word-some}
-use Rattle.page_core_base.specs.Messages.{Message}
-use Rattle.page_core_base.specs.Rows.{LaidRow}
+use Rattle.page_core_base.specs.Messages.{Message, IsSinkFault}
+use Rattle.page_core_base.specs.Rows.{LaidRow, Laid, Gave, join, nothing, Item, shown, noted}
 use Rattle.page_core_base.specs.declared.faults.Fault.{Fault}
 use Rattle.page_core_base.specs.declared.faults.Fault.TheVariants.{Memory, Read, WriteText, WriteNotes, TooLong, Settings, Failed, Ended, BadIndex}
-use Rattle.page_core_base.specs.Laid.{Laid, Gave, Gets, join, nothing}
-use Rattle.page_core_base.specs.Fails.{FailsAs, FailsBySink, IsPieceFault, IsSinkFault}
 use Rattle.page_fill.specs.declared.edges.Edge.{Edge as FillEdge}
-use Rattle.page_core_base.specs.Pieces.{Item, shown, noted}
 use Rattle.page_fill.specs.machine.ByPiece.{laid_item, laid_items}
 use Rattle.page_fill.specs.Filling.{filled}
 use Rattle.page_engine.specs.machine.PageSinks.{Passed, Broken, Ends, Quiet, cause_later}

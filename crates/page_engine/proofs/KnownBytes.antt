@@ -1,17 +1,17 @@
 -- Runs over bytes in memory.
 use Rattle.std.proofs.Common.{◌≡◌, ℕ, ◌<◌, ◌-◌, ◌^◌, List, ◌++◌, length, take, Some, Result, Ok, Err, refl, ap, ◌∙◌, append-nil, arith, length-append}
-use Rattle.page_core_base.specs.Laid.{Laid, nothing}
+use Rattle.page_core_base.specs.Rows.{Laid, nothing, LaidRow}
 use Rattle.page_core_base.specs.Messages.{Message}
-use Rattle.page_core_base.specs.Rows.{LaidRow}
 use Rattle.page_core_base.specs.declared.faults.Fault.{Fault}
 use Rattle.page_core_base.specs.declared.faults.Fault.TheVariants.{Memory, Read, WriteText, WriteNotes, TooLong, Settings, Failed, Ended, BadIndex}
 use Rattle.page_core_base.specs.declared.page_settings.Settings.{Settings as PageSettings}
-use Rattle.page_core_streams.specs.Sources.{SourceState, source_state}
+use Rattle.page_core_streams.specs.Streams.{SourceState}
+use Rattle.page_core_streams.specs.laws.Views.{source_state}
 use Rattle.page_core_streams.proofs.GivenLemmas.{lean_long}
 use Rattle.page_engine.specs.declared.runs.Outcome.{Outcome}
-use Rattle.page_engine.specs.Page.{start}
-use Rattle.page_engine.specs.Runs.{RunsOver, RunsIn, whole_page, settled_page}
-use Rattle.page_engine.specs.Streams.{Sinks, Streams, AllCame, FrontCame}
+use Rattle.page_engine.specs.Edges.{start}
+use Rattle.page_engine.specs.Runs.{RunsOver, whole_page, settled_page, Sinks, Streams, AllCame, FrontCame}
+use Rattle.page_engine.specs.laws.Views.{RunsIn}
 use Rattle.std.proofs.lemmas.List.{take-append-le}
 
 -- a source over bytes before the first call, and after calls

@@ -7,8 +7,7 @@ use Rattle.page_fill.specs.machine.ByPiece.{laid_items}
 use Rattle.page_fill.specs.Filling.{filled}
 use Rattle.page_fill.specs.declared.edges.Edge.{Edge as FillEdge}
 use Rattle.page_roff_lines.specs.Lines.{Line}
-use Rattle.page_roff_source.specs.Edges.{Edge as RoffEdge}
-use Rattle.page_roff_source.specs.Given.{done}
+use Rattle.page_roff_source.specs.Runs.{Edge as RoffEdge, done}
 use Rattle.page_engine_lines.specs.Bodies.{BodyEdge}
 use Rattle.page_engine_lines.specs.Acts.{lines_items, lines_after}
 use Rattle.page_engine_lines.specs.Edges.{LinesEdge}
@@ -18,8 +17,8 @@ use Rattle.page_engine_lines.proofs.BodySharedLemmas.{Shared}
 use Rattle.page_engine_lines.proofs.SharedLemmas.{lines_shared}
 use Rattle.page_engine_lines.proofs.TreeLemmas.{one_after}
 use Rattle.page_engine.specs.Edges.{Edge, lines_at, moved, roff_at}
-use Rattle.page_engine.specs.Levels.{reported, worst_of}
-use Rattle.page_engine.specs.Page.{after, edge, last_number, raw_lines, settled, text_line}
+use Rattle.page_engine.specs.Page.{reported, worst_of, after, edge, last_number, raw_lines, settled}
+use Rattle.page_engine.specs.laws.Views.{text_line}
 use Rattle.page_engine.specs.machine.ByLine as by_line
 use Rattle.page_engine.proofs.Fixed.{fixed, filled_fixed, items_fixed}
 

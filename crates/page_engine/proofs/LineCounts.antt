@@ -3,14 +3,14 @@ use Rattle.std.proofs.Common.{◌≡◌, ℕ, ◌+◌, ◌<◌, ◌≤◌, ◌-�
 use Rattle.std.specs.Prelude.{if◌then◌else◌, ◌==◌}
 use Rattle.std.proofs.lemmas.Bool.{lt-ltb}
 use Rattle.page_core_base.specs.declared.page_settings.Encoding.{Encoding}
-use Rattle.page_roff_lines.specs.Bytes.{newline}
-use Rattle.page_roff_lines.specs.Cutting.{Point, first_point, point_after, lines_within, last_line, line_of, line_at, next_point, point_at, end_point}
+use Rattle.page_roff_lines.specs.laws.Views.{newline}
+use Rattle.page_roff_lines.specs.laws.Cutting.{Point, first_point, point_after, lines_within, last_line, line_of, line_at, next_point, point_at, end_point}
 use Rattle.page_roff_lines.specs.machine.Open.{Open, restart, put, put_plain, put_pair, put_in, close, without_return, newline_in, put_newline, put_byte, count_byte, ends_mark, next_open, end_open}
 use Rattle.page_roff_lines.specs.declared.Mode.{Mode}
 use Rattle.page_roff_lines.specs.declared.Mode.TheVariants.{Plain, Backslash, Comment, Dropped}
-use Rattle.page_engine.specs.Page.{Edge}
+use Rattle.page_engine.specs.Edges.{Edge}
 use Rattle.page_engine.proofs.Cutting.{at_most}
-use Rattle.page_engine.specs.States.{PageState, IsOpenAt, line_fault}
+use Rattle.page_engine.specs.laws.States.{PageState, IsOpenAt, line_fault}
 
 -- ---- a line that is whole has not begun again
 

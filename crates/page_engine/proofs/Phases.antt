@@ -1,19 +1,19 @@
 -- What a call on the layers did, as it is said of the page.
 use Rattle.std.proofs.Common.{◌≡◌, ℕ, ◌<◌, ◌-◌, ◌^◌, Some, refl, sym, ap, ◌∙◌, arith}
 use Rattle.std.proofs.Math.Path.{subst}
-use Rattle.page_core_base.specs.Fails.{IsSinkFault}
+use Rattle.page_core_base.specs.Messages.{IsSinkFault}
 use Rattle.page_core_base.specs.declared.faults.Fault.{Fault}
 use Rattle.page_core_base.specs.declared.faults.Fault.TheVariants as faults
 use Rattle.page_engine.specs.declared.pages.Phase.{Phase}
 use Rattle.page_engine.specs.declared.pages.Phase.TheVariants.{Open, Failed}
 use Rattle.page_engine.specs.declared.layers.Layers.{Layers}
-use Rattle.page_engine.specs.States.{PageState, IsOpenAt, IsFailedAt}
+use Rattle.page_engine.specs.laws.States.{PageState, IsOpenAt, IsFailedAt}
 use Rattle.page_engine_lines.specs.Edges.{LinesEdge}
-use Rattle.page_roff_source.specs.Edges.{counts_of}
+use Rattle.page_roff_source.specs.Runs.{counts_of}
 use Rattle.page_roff_source.specs.declared.counts.Counts.{Counts}
 use Rattle.page_engine.specs.Edges.{Edge}
 use Rattle.page_engine.specs.machine.Layers.{IsAt, edge_of, IsKept}
-use Rattle.page_engine.specs.Within.{IsWithin}
+use Rattle.page_engine.specs.laws.Within.{IsWithin}
 
 -- ---- the edge that the layers are at
 

@@ -2,13 +2,13 @@
 use Rattle.std.proofs.Common.{ℕ, ◌+◌, ◌*◌, ◌≤◌, List, [], ◌∷◌, length, Option, None, Some, arith}
 use Rattle.std.specs.Prelude.{sum_by, IfSome}
 use Rattle.std.proofs.lemmas.List.Sums.{sum_by-cons}
-use Rattle.page_roff_names.specs.Entries.{size}
-use Rattle.page_scopes.specs.Caps.{TargetsFit}
+use Rattle.page_roff_names.specs.Names.{size}
+use Rattle.page_scopes.specs.laws.Views.{TargetsFit}
 use Rattle.page_scopes.specs.declared.layouts.Kept.{Kept}
 use Rattle.page_scopes_tree.specs.declared.nestings.Scope.{Scope}
 use Rattle.page_scopes_labels.specs.declared.labels.Label.{Label}
-use Rattle.page_engine.specs.Page.{Edge}
-use Rattle.page_engine.specs.Within.{IsWithin, bytes_in, target_bytes, text_bytes}
+use Rattle.page_engine.specs.Edges.{Edge}
+use Rattle.page_engine.specs.laws.Within.{IsWithin, bytes_in, target_bytes, text_bytes}
 
 -- what fits has at most so many bytes
 in_most : {A : Type 0} (o : Option A) (Fits : A → Type 0) (bytes : A → ℕ) (most : ℕ) → ((x : A) → Fits x → bytes x ≤ most) → IfSome o Fits → bytes_in o bytes ≤ most

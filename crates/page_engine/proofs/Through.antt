@@ -1,21 +1,21 @@
 -- Parts of a page that follow one another, and what is known where a sink failed.
 use Rattle.std.proofs.Common.{◌≡◌, ℕ, false, Result, Ok, Err, ◌+◌, ◌<◌, ◌≤◌, ◌^◌, List, [], ◌∷◌, ◌++◌, length, take, drop, refl, sym, ap, ◌∙◌, append_assoc, append-nil, arith, length-append, inl, inr}
 use Rattle.std.proofs.lemmas.List.{take-append-drop}
-use Rattle.page_core_base.specs.Fails.{FailsAs}
+use Rattle.page_core_base.specs.laws.Views.{FailsAs, IsSink, Gives}
 use Rattle.page_core_base.specs.Messages.{Message}
-use Rattle.page_core_base.specs.Rows.{LaidRow}
-use Rattle.page_core_base.specs.Sinks.{IsSink, Gives}
-use Rattle.page_core_base.specs.Laid.{Laid, nothing}
+use Rattle.page_core_base.specs.Rows.{LaidRow, Laid, nothing}
 use Rattle.page_core_base.specs.declared.faults.Fault.{Fault}
 use Rattle.page_core_base.specs.declared.faults.Fault.TheVariants.{WriteText, WriteNotes}
 use Rattle.page_core_base.proofs.SinkLemmas.{within-join}
-use Rattle.page_roff_lines.specs.Cutting.{Point, point_after, lines_within, last_line}
+use Rattle.page_roff_lines.specs.laws.Cutting.{Point, point_after, lines_within, last_line}
 use Rattle.page_roff_lines.proofs.PointLemmas.{point_after-append}
 use Rattle.page_engine.specs.declared.runs.Run.{Run}
 use Rattle.page_engine.specs.machine.PageSinks.{cause_later}
-use Rattle.page_engine.specs.States.{PageState, IsOpenAt}
-use Rattle.page_engine.specs.Page.{Edge, IsReached, page}
-use Rattle.page_engine.specs.Streams.{Streams, Sinks, AllCame, FrontCame, Came, Front}
+use Rattle.page_engine.specs.laws.States.{PageState, IsOpenAt}
+use Rattle.page_engine.specs.Edges.{Edge}
+use Rattle.page_engine.specs.laws.Views.{IsReached, Came, Front}
+use Rattle.page_engine.specs.Page.{page}
+use Rattle.page_engine.specs.Runs.{Streams, Sinks, AllCame, FrontCame}
 use Rattle.page_engine.specs.machine.Points.{page_from, settled_from, BrokenFrom, BrokeFrom}
 use Rattle.page_engine.specs.machine.Steps.{CanTake, IsFresh, Moved, Settled, Through, ChunkBroke, PutsOut, no_more, TakesChunk}
 use Rattle.page_engine.proofs.WholeLines.{settled_none}

@@ -2,11 +2,11 @@
 use Rattle.std.proofs.Common.{◌≡◌, ℕ, List, [], ◌∷◌, ◌++◌, map, Option, Some, refl, sym, ap, ◌∙◌, append-nil}
 use Rattle.std.proofs.Math.Path.{subst}
 use Rattle.std.proofs.lemmas.List.{map-append}
-use Rattle.page_core_base.specs.Laid.{Laid, nothing, join, seq, join_assoc}
+use Rattle.page_core_base.specs.Rows.{Laid, nothing, join, seq, Item, noted}
+use Rattle.page_core_base.specs.laws.Views.{join_assoc}
 use Rattle.page_core_base.specs.Messages.{Message}
-use Rattle.page_core_base.specs.Pieces.{Item, noted}
 use Rattle.page_core_base.specs.declared.page_settings.Settings.{Settings}
-use Rattle.page_fill.specs.Edges as fill
+use Rattle.page_fill.specs.laws.Views as fill
 use Rattle.page_fill.specs.machine.ByPiece.{laid_items, laid_items-append}
 use Rattle.page_fill.specs.declared.edges.Edge.{Edge as FillEdge}
 use Rattle.page_fill.specs.Filling.{filled, row_end}
@@ -14,17 +14,17 @@ use Rattle.page_fill.proofs.FillerLaw.{items-law}
 use Rattle.page_fill.proofs.FillingLaw.{cut-law, held-law}
 use Rattle.page_fill.proofs.HeldSheets.{fresh-held}
 use Rattle.page_roff_lines.specs.Lines.{Line}
-use Rattle.page_roff_source.specs.Edges.{SourceLine}
+use Rattle.page_roff_source.specs.Runs.{SourceLine}
 use Rattle.page_engine_lines.specs.Acts.{lines_items, lines_after}
 use Rattle.page_engine_lines.specs.Edges.{LinesEdge, footer_items}
 use Rattle.page_engine_lines.specs.machine.Lines.{source_items, source_after, end_items}
 use Rattle.page_engine_lines.proofs.TreeLemmas.{lines_items-append, lines_after-append, one_items, one_after, no_items, none_after, end_items_after}
-use Rattle.page_engine.specs.Levels.{reported, worst_of, reported-append, worst_of-append}
-use Rattle.page_engine.specs.Page.{Edge, IsReached, last_line, lines_at, moved, of_page, start, raw, raw_lines, last_number, after, settled, edge, page, footer_laid, counts_at, text_line}
+use Rattle.page_engine.specs.Page.{reported, worst_of, of_page, raw, raw_lines, last_number, after, settled, edge, page, footer_laid}
+use Rattle.page_engine.specs.laws.Views.{reported-append, worst_of-append, IsReached, counts_at, text_line, shown_rows-append, shown_rows-nil}
+use Rattle.page_engine.specs.Edges.{Edge, last_line, lines_at, moved, start}
 use Rattle.page_engine.specs.machine.ByLine as by_line
 use Rattle.page_engine.proofs.Fixed.{filled_fixed}
 use Rattle.page_engine.proofs.LayerEdges.{lines_after_at, lines_at_edge, output_kept}
-use Rattle.page_engine.specs.Shown.{shown_rows-append, shown_rows-nil}
 
 -- ---- one thing after another, by levels
 

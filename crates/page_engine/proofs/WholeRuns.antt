@@ -1,25 +1,26 @@
 -- Whole runs.
 use Rattle.std.proofs.Common.{◌≡◌, ℕ, ◌-◌, ◌^◌, List, [], length, take, inl, inr, Result, Ok, Err, MatchResult, refl, sym, ap, ◌∙◌, arith}
 use Rattle.std.specs.Io.KnownBytes.{IsAtEnd}
-use Rattle.page_core_base.specs.Sinks.{IsSink}
-use Rattle.page_core_base.specs.Laid.{Laid, nothing}
-use Rattle.page_core_base.specs.Checks.{IsGood, IsFirst}
+use Rattle.page_core_base.specs.laws.Views.{IsSink}
+use Rattle.page_core_base.specs.Rows.{Laid, nothing}
+use Rattle.page_core_base.specs.Settings.{IsGood, IsFirst}
 use Rattle.page_core_base.specs.declared.faults.Fault.{Fault}
 use Rattle.page_core_base.specs.declared.faults.Fault.TheVariants.{Memory, Read, WriteText, WriteNotes, TooLong, Settings, Failed, Ended, BadIndex}
 use Rattle.page_core_base.specs.declared.page_settings.Settings.{Settings as PageSettings}
 use Rattle.page_core_base.specs.declared.page_settings.SettingFault.{SettingFault}
 use Rattle.page_roff_lines.specs.Lines.{lines}
-use Rattle.page_roff_lines.specs.Cutting.{Point, first_point, point_after, lines_from, last_line}
+use Rattle.page_roff_lines.specs.laws.Cutting.{Point, first_point, point_after, lines_from, last_line}
 use Rattle.page_roff_lines.proofs.WholeLemmas.{whole-is, made-is, left-is}
 use Rattle.page_roff_lines.proofs.LineAgreement.{lines-one_by_one}
 use Rattle.page_engine.specs.declared.runs.Outcome.{Outcome}
 use Rattle.page_engine.specs.declared.runs.Run.{Run}
-use Rattle.page_engine.specs.States.{IsOpenAt, CannotStart, Ends}
-use Rattle.page_engine.specs.Page.{Edge, counts_at, page, start, settled}
-use Rattle.page_core_streams.specs.Chunks.{Stops}
-use Rattle.page_core_streams.specs.Sources.{SourceState}
-use Rattle.page_engine.specs.Streams.{Streams, Sinks, AllCame, FrontCame}
-use Rattle.page_engine.specs.Runs.{RunsOver, Stopped, StoppedBy, BrokeIn, Broken, whole_page, settled_page}
+use Rattle.page_engine.specs.laws.States.{IsOpenAt, CannotStart, Ends}
+use Rattle.page_engine.specs.Edges.{Edge, start}
+use Rattle.page_engine.specs.laws.Views.{counts_at}
+use Rattle.page_engine.specs.Page.{page, settled}
+use Rattle.page_core_streams.specs.laws.Views.{Stops}
+use Rattle.page_core_streams.specs.Streams.{SourceState}
+use Rattle.page_engine.specs.Runs.{Streams, Sinks, AllCame, FrontCame, RunsOver, Stopped, StoppedBy, BrokeIn, Broken, whole_page, settled_page}
 use Rattle.page_engine.specs.machine.Points.{page_from, settled_from, BrokeFrom, BrokenFrom}
 use Rattle.page_engine.specs.machine.PageSinks.{cause_later}
 use Rattle.page_roff_source.specs.declared.counts.Counts.{Counts}

@@ -1,25 +1,24 @@
 -- What is held between two lines of a page: all of the past that decides the rest. No value is in it twice: the layers share the output, the width of
 -- rows, the indent and the number of the last line, and `lines_at` puts these into the edge of each. Source: mandoc(1), "DIAGNOSTICS".
-use Rattle.std.specs.Prelude.{◌≡◌, ℕ, Bool, true, Option, None, List, unwrap_or}
+use Rattle.std.specs.Prelude.{ℕ, Option, List, Bool, unwrap_or, None}
 use Rattle.page_core_base.specs.declared.note_kinds.Level.{Level}
 use Rattle.page_core_base.specs.declared.page_settings.Settings.{Settings}
-use Rattle.page_engine_lines.specs.Bodies.{BodyEdge, HeaderEdge, indent_of}
-use Rattle.page_engine_header.specs.declared.fields.Fields.{Fields}
-use Rattle.page_engine_lines.specs.Edges.{LinesEdge, start_of}
-use Rattle.page_fill.specs.Caps.{IsHeld, is_sound}
-use Rattle.page_fill.specs.Edges as fill
-use Rattle.page_fill.specs.declared.edges.Edge.{Edge as FillEdge}
-use Rattle.page_roff_blocks.specs.Levels.{Place}
 use Rattle.page_roff_names.specs.Names.{Definitions}
-use Rattle.page_roff_source.specs.Edges.{Edge as RoffEdge, counts_of}
+use Rattle.page_roff_blocks.specs.Forest.{Place}
+use Rattle.page_roff_source.specs.Runs.{Edge as RoffEdge, counts_of}
 use Rattle.page_roff_source.specs.declared.counts.Counts.{Counts}
-use Rattle.page_scopes.specs.Edges.{PageEdge}
-use Rattle.page_scopes.specs.declared.layouts.Kept.{Kept}
+use Rattle.page_sets.specs.declared.either.Either.{Either}
+use Rattle.page_scopes_labels.specs.declared.labels.Label.{Label}
 use Rattle.page_scopes_tree.specs.declared.nestings.Scope.{Scope}
 use Rattle.page_scopes_phrases.specs.declared.formatting.Formatting.{Formatting}
 use Rattle.page_scopes_phrases.specs.declared.kept_texts.KeptText.{KeptText}
-use Rattle.page_scopes_labels.specs.declared.labels.Label.{Label}
-use Rattle.page_sets.specs.declared.either.Either.{Either}
+use Rattle.page_scopes.specs.Bodies.{PageEdge}
+use Rattle.page_scopes.specs.declared.layouts.Kept.{Kept}
+use Rattle.page_fill.specs.Words as fill
+use Rattle.page_fill.specs.declared.edges.Edge.{Edge as FillEdge}
+use Rattle.page_engine_header.specs.declared.fields.Fields.{Fields}
+use Rattle.page_engine_lines.specs.Bodies.{HeaderEdge, indent_of, BodyEdge}
+use Rattle.page_engine_lines.specs.Edges.{LinesEdge, start_of}
 
 -- ---- the edge of a page
 
@@ -57,18 +56,9 @@ pub record Edge : Type 0 where
   -- the open row, and what waits before its next word; with the width of rows and the output of the page
   pub fill : FillEdge
 
--- source lines, lines taken of them, and interpolations
-abbrev pub counts_at : Edge → Counts
-counts_at e = e.roff.counts
-
 -- messages at a page's end are about its last line, the first one where none came
 abbrev pub last_line : Edge → ℕ
 last_line e = unwrap_or e.last 1
-
--- what holds at each edge that a page comes to: the open row and the open word hold together
-pub record IsReached (e : Edge) : Type 0 where
-  pub row : IsHeld e.fill.sheet
-  pub word : is_sound e.fill.word ≡ true
 
 -- ---- the edges of its layers
 

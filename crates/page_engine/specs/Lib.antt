@@ -1,10 +1,5 @@
-pub mod Levels
 pub mod Edges
 pub mod Page
-pub mod Streams
-pub mod States
-pub mod Within
-pub mod Shown
 pub mod Runs
-pub mod Written
+pub mod laws
 pub mod machine

@@ -1,17 +1,49 @@
--- A page: the rows and messages that its lines settle, and the page to its end. The forest of all lines (roff(7)) gives lines and messages, these are the
+-- A page: the rows and messages that its lines settle, by their levels, and the page to its end. Source: mandoc(1).
+use Rattle.std.specs.Prelude.{Bool, true, false, List, [], if◌then◌else◌, not, Option, None, Some, filter, fold, map, ℕ}
+use Rattle.page_core_base.specs.Messages.{is_below, Message, level_of}
+use Rattle.page_core_base.specs.Rows.{LaidRow, Laid, seq}
+use Rattle.page_core_base.specs.declared.note_kinds.Level.{Level}
+use Rattle.page_core_base.specs.declared.page_settings.Output.{Output}
+use Rattle.page_core_base.specs.declared.page_settings.Output.TheVariants.{Lint}
+use Rattle.page_roff_lines.specs.Lines.{Line}
+use Rattle.page_roff_source.specs.Runs.{SourceLine}
+use Rattle.page_fill.specs.Filling.{filled, row_end}
+use Rattle.page_fill.specs.declared.edges.Edge.{Edge as FillEdge}
+use Rattle.page_engine_lines.specs.Acts.{raw_line, lines_after, lines_items, page_items}
+use Rattle.page_engine_lines.specs.Edges.{footer_items}
+use Rattle.page_engine.specs.Edges.{Edge, lines_at, moved, last_line}
+
+-- ---- Rows that are given or not. Source: mandoc(1), -T lint.
+
+-- lint gives no row
+abbrev pub is_silent : Output → Bool
+is_silent Lint = true
+is_silent _ = false
+
+unfoldable pub shown_rows : Bool → List LaidRow → List LaidRow
+shown_rows silent rows = if silent then [] else rows
+
+-- ---- Messages by their levels. Source: mandoc(1), -W and "EXIT STATUS".
+
+-- whether messages of a level are reported: those at or above the least, and none where there is no least
+abbrev pub is_reported_level : Option Level → Level → Bool
+is_reported_level None level = false
+is_reported_level (Some least) level = not (is_below level least)
+
+unfoldable pub reported : Option Level → List Message → List Message
+reported least messages = filter (λ m. is_reported_level least (level_of m.kind)) messages
+
+-- the greatest level, from a first one
+abbrev pub worse : Option Level → Level → Option Level
+worse None level = Some level
+worse (Some worst) level = if is_below worst level then Some level else Some worst
+
+unfoldable pub worst_of : Option Level → List Message → Option Level
+worst_of worst messages = fold (λ found (m : Message). worse found (level_of m.kind)) worst messages
+
+-- ---- A page: the rows and messages that its lines settle, and the page to its end. The forest of all lines (roff(7)) gives lines and messages, these are the
 -- acts of one block tree (man(7), mdoc(7)), after that of the lines that leave its language open; its pieces are filled (roff(7), "Filling and
 -- adjusting"), messages go by their levels, and lint has no rows. Source: mandoc(1).
-use Rattle.std.specs.Prelude.{ℕ, Option, Some, List, [], map, fold}
-use Rattle.page_core_base.specs.Laid.{Laid, seq}
-use Rattle.page_engine_lines.specs.Acts.{raw_line, lines_items, lines_after, page_items}
-use Rattle.page_engine_lines.specs.Edges.{footer_items}
-use Rattle.page_fill.specs.declared.edges.Edge.{Edge as FillEdge}
-use Rattle.page_fill.specs.Filling.{filled, row_end}
-use Rattle.page_roff_lines.specs.Lines.{Line}
-use Rattle.page_roff_source.specs.Edges.{SourceLine}
-pub use Rattle.page_engine.specs.Edges.{Edge, IsReached, counts_at, last_line, lines_at, moved, start}
-use Rattle.page_engine.specs.Levels.{reported, worst_of}
-use Rattle.page_engine.specs.Shown.{is_silent, shown_rows}
 
 -- of what is filled, the rows unless the output is lint, the messages by their levels, and the worst of these
 abbrev pub of_page : Edge → Edge → Laid FillEdge → Laid Edge
@@ -44,10 +76,6 @@ settled e lines = of_page e (after e lines) (filled e.fill (lines_items (lines_a
 
 abbrev pub edge : Edge → List Line → Edge
 edge e lines = (settled e lines).edge
-
--- a line without a message of its cutting
-abbrev pub text_line : List ℕ → ℕ → Line
-text_line text number = record { number = number; text = text; notes = [] }
 
 -- ---- the whole page
 

@@ -1,18 +1,75 @@
--- What a run over the bytes of a page did. Source: mandoc(1).
-use Rattle.std.specs.Prelude.{◌≡◌, ◌<◌, ◌≤◌, ℕ, ◌-◌, ◌^◌, List, [], ◌++◌, Option, Some, Result, MatchResult, ◌⊎◌, length, take}
+-- What a run over the bytes of a page did: what it read, what it wrote to its streams, and how it ended. Source: mandoc(1).
 use Rattle.std.specs.Io.KnownBytes.{IsAtEnd}
-use Rattle.page_core_base.specs.Fails.{IsSinkFault, Rose}
+use Rattle.std.specs.Prelude.{List, ℕ, Option, flat_map, ◌≡◌, length, ◌-◌, ◌^◌, [], take, Result, MatchResult, ◌≤◌, ◌⊎◌, ◌++◌}
+use Rattle.page_core_base.specs.Messages.{Message, IsSinkFault, Rose}
+use Rattle.page_core_base.specs.Rows.{LaidRow, Laid, Gave, nothing}
+use Rattle.page_core_base.specs.Settings.{IsGood, IsFirst}
 use Rattle.page_core_base.specs.declared.faults.Fault.{Fault}
-use Rattle.page_core_base.specs.declared.faults.Fault.TheVariants.{Memory, Read, WriteText, WriteNotes, TooLong, Settings, Failed, Ended, BadIndex}
+use Rattle.page_core_base.specs.declared.faults.Fault.TheVariants.{Memory, Read, WriteText, WriteNotes, TooLong, Settings}
 use Rattle.page_core_base.specs.declared.page_settings.Settings.{Settings as PageSettings}
-use Rattle.page_core_base.specs.Laid.{Laid, nothing}
-use Rattle.page_roff_lines.specs.Lines.{lines}
-use Rattle.page_roff_lines.specs.Whole.{whole_lines, lines_made, line_left}
-use Rattle.page_core_base.specs.Checks.{IsGood, IsFirst}
+use Rattle.page_core_streams.specs.Streams.{Grows, row_bytes, GrowsInto, message_bytes, SourceState, IsTooLong, HasGiven, IsLean}
+use Rattle.page_roff_lines.specs.Lines.{lines, whole_lines, lines_made, line_left}
+use Rattle.page_engine.specs.Edges.{Edge, start}
+use Rattle.page_engine.specs.Page.{page, settled}
 use Rattle.page_engine.specs.declared.runs.Outcome.{Outcome}
-use Rattle.page_engine.specs.Page.{Edge, settled, page, start}
-use Rattle.page_core_streams.specs.Sources.{SourceState, HasGiven, IsLean, IsTooLong}
-use Rattle.page_engine.specs.Streams.{Streams, Sinks, AllCame, FrontCame}
+
+-- ---- A sink of rows and a sink of messages, and what came to them.
+
+-- what it means that rows and messages came, all of them or a front
+pub record Streams (R N : Type 0) : Type 1 where
+  pub row_gave : R → List LaidRow → R → Type 0
+  pub row_within : R → List LaidRow → R → Type 0
+  pub note_gave : N → List Message → N → Type 0
+  pub note_within : N → List Message → N → Type 0
+
+abbrev pub streams : {R N : Type 0} → (R → List LaidRow → R → Type 0) → (R → List LaidRow → R → Type 0)
+    → (N → List Message → N → Type 0) → (N → List Message → N → Type 0) → Streams R N
+streams row_gave row_within note_gave note_within =
+    record { row_gave = row_gave; row_within = row_within; note_gave = note_gave; note_within = note_within }
+
+-- all that is laid came; a front of it came to each
+abbrev pub AllCame : {R N E : Type 0} → Streams R N → R → R → N → N → Laid E → Type 0
+AllCame streams rows_before rows_after notes_before notes_after laid =
+    Gave streams.row_gave streams.note_gave rows_before rows_after notes_before notes_after laid
+
+abbrev pub FrontCame : {R N E : Type 0} → Streams R N → R → R → N → N → Laid E → Type 0
+FrontCame streams rows_before rows_after notes_before notes_after laid =
+    Gave streams.row_within streams.note_within rows_before rows_after notes_before notes_after laid
+
+-- the same of sinks that count their failures
+pub record Sinks (R N : Type 0) : Type 1 where
+  pub to : Streams R N
+  pub rows_failed : R → ℕ
+  pub notes_failed : N → ℕ
+
+abbrev pub sinks : {R N : Type 0} → (R → List LaidRow → R → Type 0) → (R → List LaidRow → R → Type 0)
+    → (R → ℕ) → (N → List Message → N → Type 0) → (N → List Message → N → Type 0) → (N → ℕ) → Sinks R N
+sinks row_gave row_within rows_failed note_gave note_within notes_failed = record {
+  to = streams row_gave row_within note_gave note_within;
+  rows_failed = rows_failed;
+  notes_failed = notes_failed;
+}
+
+-- ---- What a run writes: the bytes of rows and of messages.
+-- Source: mandoc(1), "ASCII Output" and "DIAGNOSTICS".
+
+-- a writer whose bytes are known got those of these rows; of a front of them
+abbrev pub WritesRows : {W : Type 0} → (W → Option (List ℕ)) → W → List LaidRow → W → Type 0
+WritesRows contents w rows w' = Grows (contents w) (contents w') (flat_map row_bytes rows)
+
+abbrev pub WritesRowsInto : {W : Type 0} → (W → Option (List ℕ)) → W → List LaidRow → W → Type 0
+WritesRowsInto contents w rows w' = GrowsInto (contents w) (contents w') (flat_map row_bytes rows)
+
+-- the same of messages about a file
+abbrev pub WritesNotes : {V : Type 0} → (V → Option (List ℕ)) → List ℕ → V → List Message → V → Type 0
+WritesNotes contents file v messages v' =
+    Grows (contents v) (contents v') (flat_map (message_bytes file) messages)
+
+abbrev pub WritesNotesInto : {V : Type 0} → (V → Option (List ℕ)) → List ℕ → V → List Message → V → Type 0
+WritesNotesInto contents file v messages v' =
+    GrowsInto (contents v) (contents v') (flat_map (message_bytes file) messages)
+
+-- ---- What a run over the bytes of a page did. Source: mandoc(1).
 
 -- ---- a whole run
 
@@ -126,34 +183,3 @@ pub record RunsOver {R N : Type 0} (result : Result Outcome Fault) (sinks : Sink
       (λ _. Quiet sinks source_before source_after rows_before rows_after notes_before notes_after)
       (λ fault. StoppedBy sinks source_before source_after rows_before rows_after notes_before notes_after
       settings asked bytes fault)
-
--- ---- a run over bytes in memory
-
--- a front of the page came that a front of the bytes makes
-pub record Began (came_front : Laid Edge → Type 0) (settings : PageSettings) (bytes : List ℕ) : Type 0 where
-  pub read : List ℕ
-  pub left : List ℕ
-  pub parts : bytes ≡ read ++ left
-  pub front : came_front (whole_page settings read)
-
--- by its fault: no read fails, and a page is too long by its bytes alone
-abbrev pub StoppedIn : (came_whole came_front : Laid Edge → Type 0) → PageSettings → List ℕ → Fault → Type 0
-StoppedIn came_whole came_front settings bytes Memory = IsGood settings × came_whole (nothing (start settings))
-StoppedIn came_whole came_front settings bytes Read = ⊥
-StoppedIn came_whole came_front settings bytes TooLong =
-    IsGood settings × (2 ^ 31 - 1 < length bytes) × came_whole (settled_page settings (take (2 ^ 31 - 1) bytes))
-StoppedIn came_whole came_front settings bytes WriteText = IsGood settings × Began came_front settings bytes
-StoppedIn came_whole came_front settings bytes WriteNotes = IsGood settings × Began came_front settings bytes
-StoppedIn came_whole came_front settings bytes (Settings fault) = IsFirst settings fault × came_whole (nothing (start settings))
-StoppedIn came_whole came_front settings bytes Failed = ⊥
-StoppedIn came_whole came_front settings bytes Ended = ⊥
-StoppedIn came_whole came_front settings bytes (BadIndex line) = ⊥
-
-abbrev pub RunsIn : {R N : Type 0} → Result Outcome Fault → Streams R N → R → R → N → N
-    → PageSettings → List ℕ → Type 0
-RunsIn result streams rows_before rows_after notes_before notes_after settings bytes = MatchResult result
-    (Whole streams rows_before rows_after notes_before notes_after settings bytes (Some []))
-    (λ fault. StoppedIn
-    (λ (laid : Laid Edge). AllCame streams rows_before rows_after notes_before notes_after laid)
-    (λ (laid : Laid Edge). FrontCame streams rows_before rows_after notes_before notes_after laid)
-    settings bytes fault)

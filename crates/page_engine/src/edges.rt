@@ -1,6 +1,6 @@
 //! What is held of a page between two of its lines, by itself: a page goes on from it.
 
-ghost use Rattle.page_engine.specs.Edges.{IsReached};
+ghost use Rattle.page_engine.specs.laws.Views.{IsReached};
 
 use page_core_base::Level;
 use page_engine_lines::LinesPart;

@@ -1,17 +1,18 @@
 //! Laws of pages on lists of lines.
 
 ghost use Rattle.std.specs.Prelude.{◌≡◌, ◌≤◌, ◌+◌, ◌*◌, List, ◌++◌, length};
-ghost use Rattle.page_core_base.specs.Laid.{join};
+ghost use Rattle.page_core_base.specs.Rows.{join};
 ghost use Rattle.page_core_base.specs.declared.page_settings.Settings.{Settings};
 ghost use Rattle.page_roff_lines.specs.Lines.{Line};
-ghost use Rattle.page_roff_source.specs.Each.{EachIsWithin};
+ghost use Rattle.page_roff_source.specs.laws.Views.{EachIsWithin};
 ghost use Rattle.page_core_base.specs.declared.limits.TheConstants.{EXPAND, REREAD};
 ghost use Rattle.page_engine_lines.specs.Acts.{lines_after};
 ghost use Rattle.page_engine_lines.specs.Edges.{start_of};
 ghost use Rattle.page_engine.specs.machine.ByLine as by_line;
-ghost use Rattle.page_engine.specs.Edges.{lines_at, roff_at};
-ghost use Rattle.page_engine.specs.Page.{Edge, IsReached, settled, edge, page, counts_at, start, raw_lines};
-ghost use Rattle.page_engine.specs.Within.{IsWithin, text_bytes};
+ghost use Rattle.page_engine.specs.Edges.{lines_at, roff_at, Edge, start};
+ghost use Rattle.page_engine.specs.laws.Views.{IsReached, counts_at};
+ghost use Rattle.page_engine.specs.Page.{settled, edge, page, raw_lines};
+ghost use Rattle.page_engine.specs.laws.Within.{IsWithin, text_bytes};
 
 /// The edges that a page comes to: the one of its start, and from each such edge the one that lines leave. What the layers share is in it once, and
 /// nothing is lost by that: the edges that it makes for roff and the body are those that the lines leave there.

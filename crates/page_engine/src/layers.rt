@@ -1,16 +1,16 @@
 //! The layers of a page: lines become rows and messages.
 
 ghost use Rattle.std.specs.Prelude.{◌≡◌, ◌<◌, ◌+◌, ◌^◌, true, false, OnOk, IfOk, IfErr, MatchResult, Some, None};
-ghost use Rattle.page_core_base.specs.Fails.{FailsBySink};
-ghost use Rattle.page_core_base.specs.Laid.{Gets};
-ghost use Rattle.page_core_base.specs.Texts.{IsLine, IsFreeLine};
-ghost use Rattle.page_roff_lines.specs.Cutting.{line_of};
-ghost use Rattle.page_roff_source.specs.Edges.{counts_of};
+ghost use Rattle.page_core_base.specs.laws.Views.{FailsBySink, Gets, IsFreeLine};
+ghost use Rattle.page_core_base.specs.Texts.{IsLine};
+ghost use Rattle.page_roff_lines.specs.laws.Cutting.{line_of};
+ghost use Rattle.page_roff_source.specs.Runs.{counts_of};
 ghost use Rattle.page_fill.specs.declared.edges.Edge.{Edge as FillEdge};
 ghost use Rattle.page_engine.specs.machine.Layers.{IsAt};
-ghost use Rattle.page_engine.specs.Within.{IsWithin};
+ghost use Rattle.page_engine.specs.laws.Within.{IsWithin};
 ghost use Rattle.page_engine.specs.machine.ByLine.{settled_text, settled_line, ended, end_laid};
-ghost use Rattle.page_engine.specs.Edges.{Edge, IsReached, last_line, lines_at, start};
+ghost use Rattle.page_engine.specs.Edges.{Edge, last_line, lines_at, start};
+ghost use Rattle.page_engine.specs.laws.Views.{IsReached};
 ghost use Rattle.page_engine.specs.machine.PageSinks.{Ends};
 
 use crate::edges::Edge as PageEdge;

@@ -2,7 +2,8 @@
 
 ghost use Rattle.std.specs.Prelude.{◌≡◌};
 ghost use Rattle.std.specs.Borrow.{GName};
-ghost use Rattle.page_engine.specs.Levels.{is_reported_level, worse, FilterGave, FilterWithin, filter-sink, filter-whole};
+ghost use Rattle.page_engine.specs.Page.{is_reported_level, worse};
+ghost use Rattle.page_engine.specs.laws.Views.{FilterGave, FilterWithin, filter-sink, filter-whole};
 
 use page_core_base::{Fault, Level, Note, NoteKind, NoteSink};
 
@@ -49,7 +50,7 @@ impl<N: NoteSink> NoteSink for LevelFilter<'_, N> {
 
     ghost whole = { filter-whole N.gave N.within N.whole (λ s. s.notes.now) (λ s. s.least) (λ s. s.worst) };
 
-    #[tactic(auto, unfolding(crate::specs::Levels::reported, crate::specs::Levels::worst_of))]
+    #[tactic(auto, unfolding(crate::specs::Page::reported, crate::specs::Page::worst_of))]
     fn note(&mut self, note: &Note) -> Result<(), Fault> {
         let level = note.kind.level();
         if !is_reported(self.least, level) {
@@ -61,7 +62,7 @@ impl<N: NoteSink> NoteSink for LevelFilter<'_, N> {
     }
 
     // A message at or above the level counts for the worst one, whatever the sink below does with it.
-    #[tactic(auto, unfolding(crate::specs::Levels::reported, crate::specs::Levels::worst_of))]
+    #[tactic(auto, unfolding(crate::specs::Page::reported, crate::specs::Page::worst_of))]
     fn takes(&self, kind: NoteKind) -> bool {
         is_reported(self.least, kind.level())
     }

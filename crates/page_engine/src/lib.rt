@@ -4,12 +4,12 @@
 //! are the lines of the bytes (`page_roff_lines`), above it the program. It gives out the calls on records and indexes (`page_engine_records`,
 //! `page_engine_index`), too.
 //!
-//! Read first `run_page` and `run_sinks` in `runs.rt`, with `specs/Runs.antt`; then `pages.rt`, with `specs/Page.antt` and `specs/States.antt`.
+//! Read first `run_page` and `run_sinks` in `runs.rt`, with `specs/Runs.antt`; then `pages.rt`, with `specs/Page.antt` and `specs/laws/States.antt`.
 //!
 //! Proved: `run_sinks`, over any source and any two sinks, `run_page`, over a reader and two writers, and `run_bytes`: rows, messages, worst level
 //! and counts are those of `page` over the page's lines (`specs/Page.antt`, `Runs.antt`), in bytes where they are written; each fault has its cause,
 //! where failures are counted, and each stream then holds a stated front. `Page` (`new`, `feed_line`, `take_line`, `end`, `phase`, `worst`,
-//! `counts`): a line gives exactly `settled`, and leaves `edge`, which is within its limits (`specs/States.antt`, `Within.antt`). `Page::edge`,
+//! `counts`): a line gives exactly `settled`, and leaves `edge`, which is within its limits (`specs/laws/States.antt`, `laws/Within.antt`). `Page::edge`,
 //! `Page::resume`: that edge as an object, and a page open at it. `cut_law`, `line_by_line_law`, `reached_law`, `count_law`, `texts_law`: a page may
 //! be cut between any two lines; lines and interpolations are counted and capped; what is held has at most 100,224 bytes of texts.
 #![tactic(auto)]

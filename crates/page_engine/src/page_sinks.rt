@@ -1,10 +1,8 @@
 //! What lies below the lines of a page: the filler, and the sinks of rows and messages.
 
 ghost use Rattle.std.specs.Borrow.{GName};
-ghost use Rattle.page_engine.specs.Levels.{filter-sink, filter-whole};
-ghost use Rattle.page_engine.specs.Shown.{shown-sink, shown-whole};
-ghost use Rattle.page_engine.specs.machine.PageSinks.{PageSinkGave, PageSinkWithin, message-sink, message-whole, message-fault};
-ghost use Rattle.page_engine.specs.machine.PageSinks.{PageSinkTook, PageSinkBroke, page-sink};
+ghost use Rattle.page_engine.specs.laws.Views.{filter-sink, filter-whole, shown-sink, shown-whole};
+ghost use Rattle.page_engine.specs.machine.PageSinks.{PageSinkGave, PageSinkWithin, message-sink, message-whole, message-fault, PageSinkTook, PageSinkBroke, page-sink};
 
 use crate::level_filters::LevelFilter;
 use crate::shown::Shown;

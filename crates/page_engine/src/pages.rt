@@ -1,14 +1,16 @@
 //! A page that streams: lines come one by one, and what they settle goes out at once.
 
 ghost use Rattle.std.specs.Prelude.{◌≡◌, ◌<◌, ◌+◌, ◌-◌, ◌^◌, true, false, [], ◌∷◌, None, Some, Err, IfOk, OnOk, OnErr, MatchOption, MatchResult};
-ghost use Rattle.page_core_base.specs.Checks.{IsGood};
+ghost use Rattle.page_core_base.specs.Settings.{IsGood};
 ghost use Rattle.page_core_base.specs.Texts.{IsLine};
 ghost use Rattle.page_core_base.specs.declared.faults.Fault.{Fault};
-ghost use Rattle.page_roff_lines.specs.Cutting.{line_of};
-ghost use Rattle.page_engine.specs.Page.{Edge, text_line, settled, page, start};
-ghost use Rattle.page_engine.specs.Streams.{sinks, AreWell};
-ghost use Rattle.page_engine.specs.Within.{HoldsWithin, IsWithin};
-ghost use Rattle.page_engine.specs.States.{IsOpenAt, CannotStart, closed, line_fault, line_fault_of, IsRefused, Takes, Ends};
+ghost use Rattle.page_roff_lines.specs.laws.Cutting.{line_of};
+ghost use Rattle.page_engine.specs.Edges.{Edge, start};
+ghost use Rattle.page_engine.specs.laws.Views.{text_line, AreWell};
+ghost use Rattle.page_engine.specs.Page.{settled, page};
+ghost use Rattle.page_engine.specs.Runs.{sinks};
+ghost use Rattle.page_engine.specs.laws.Within.{HoldsWithin, IsWithin};
+ghost use Rattle.page_engine.specs.laws.States.{IsOpenAt, CannotStart, closed, line_fault, line_fault_of, IsRefused, Takes, Ends};
 
 use crate::edges::Edge as PageEdge;
 use crate::layers::Layers;
@@ -76,7 +78,7 @@ pub struct Page {
 
 impl Model for Page {
     ghost use Rattle.page_engine.specs.machine.Layers.{edge_of, IsKept};
-    ghost use Rattle.page_engine.specs.States.{PageState};
+    ghost use Rattle.page_engine.specs.laws.States.{PageState};
 
     ghost Value = { PageState };
 

@@ -2,13 +2,13 @@
 
 ghost use Rattle.std.specs.Prelude.{◌≡◌, ◌<◌, ◌≤◌, ◌^◌, ℕ, List, length, IfOk, IfErr, Some, true};
 ghost use Rattle.std.specs.Io.KnownBytes.{Consumes};
-ghost use Rattle.page_core_base.specs.Checks.{IsGood};
-ghost use Rattle.page_core_streams.specs.Sources.{SourceState, source_state};
-ghost use Rattle.page_engine.specs.Page.{Edge};
-ghost use Rattle.page_engine.specs.States.{IsOpenAt, CannotStart};
-ghost use Rattle.page_engine.specs.Streams.{streams, sinks};
-ghost use Rattle.page_engine.specs.Written.{WritesRows, WritesRowsInto, WritesNotes, WritesNotesInto};
-ghost use Rattle.page_engine.specs.Runs.{Runs, RunsOver, RunsIn};
+ghost use Rattle.page_core_base.specs.Settings.{IsGood};
+ghost use Rattle.page_core_streams.specs.Streams.{SourceState};
+ghost use Rattle.page_core_streams.specs.laws.Views.{source_state};
+ghost use Rattle.page_engine.specs.Edges.{Edge};
+ghost use Rattle.page_engine.specs.laws.States.{IsOpenAt, CannotStart};
+ghost use Rattle.page_engine.specs.Runs.{streams, sinks, WritesRows, WritesRowsInto, WritesNotes, WritesNotesInto, Runs, RunsOver};
+ghost use Rattle.page_engine.specs.laws.Views.{RunsIn};
 ghost use Rattle.page_engine.specs.machine.Steps.{CanTake, TakesPart, TakesChunk, TakesLast, PutsOut, Finishes, StartsAt, IsFresh, ReadsAll};
 
 use crate::pages::Page;

@@ -2,7 +2,8 @@
 
 ghost use Rattle.std.specs.Prelude.{◌≡◌};
 ghost use Rattle.std.specs.Borrow.{GName};
-ghost use Rattle.page_engine.specs.Shown.{is_silent, ShownGave, ShownWithin, shown-sink, shown-whole};
+ghost use Rattle.page_engine.specs.Page.{is_silent};
+ghost use Rattle.page_engine.specs.laws.Views.{ShownGave, ShownWithin, shown-sink, shown-whole};
 
 use page_core_base::{Cell, Fault, Font, Output, RowSink};
 
@@ -38,7 +39,7 @@ impl<R: RowSink> RowSink for Shown<'_, R> {
 
     ghost whole = { shown-whole R.gave R.within R.whole (λ s. s.rows.now) (λ s. s.is_silent) };
 
-    #[tactic(auto, unfolding(crate::specs::Shown::shown_rows))]
+    #[tactic(auto, unfolding(crate::specs::Page::shown_rows))]
     fn row(&mut self, margin: u32, cells: &[Cell]) -> Result<(), Fault> {
         if self.is_silent {
             return Ok(());
@@ -46,7 +47,7 @@ impl<R: RowSink> RowSink for Shown<'_, R> {
         self.rows.row(margin, cells)
     }
 
-    #[tactic(auto, unfolding(crate::specs::Shown::shown_rows))]
+    #[tactic(auto, unfolding(crate::specs::Page::shown_rows))]
     fn blank_row(&mut self, margin: u32, cells: &[Cell]) -> Result<(), Fault> {
         if self.is_silent {
             return Ok(());
@@ -54,7 +55,7 @@ impl<R: RowSink> RowSink for Shown<'_, R> {
         self.rows.blank_row(margin, cells)
     }
 
-    #[tactic(auto, unfolding(crate::specs::Shown::shown_rows))]
+    #[tactic(auto, unfolding(crate::specs::Page::shown_rows))]
     fn ascii_row(
         &mut self,
         margin: u32,

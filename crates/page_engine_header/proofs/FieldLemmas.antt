@@ -6,7 +6,7 @@ use Rattle.page_core_base.specs.Messages.{text_front}
 use Rattle.page_core_base.specs.declared.places.Place.{Place}
 use Rattle.page_roff_syntax.specs.declared.quotes.Argument.{Argument}
 use Rattle.page_sets_names.specs.declared.macro_names.Prologue.TheVariants.{TH}
-use Rattle.page_engine_header.specs.Fields.{argument_cut, fields_after, first_field, or_else, volume_of}
+use Rattle.page_engine_header.specs.Header.{argument_cut, fields_after, first_field, or_else, volume_of}
 use Rattle.page_engine_header.specs.declared.fields.Fields.{Fields}
 
 -- ---- a front of a text

@@ -3,16 +3,14 @@ use Rattle.std.proofs.Common.{◌≡◌, ℕ, zero, suc, ◌-◌, ◌<◌, ◌�
 use Rattle.std.specs.List.{list_all}
 use Rattle.std.specs.Borrow.{GName}
 use Rattle.page_core_base.specs.declared.limits.TheConstants.{CELLS}
-use Rattle.page_core_base.specs.Latches.{Came}
-use Rattle.page_core_base.specs.Pieces.{Item, shown}
-use Rattle.page_core_base.specs.Words.{TakesKept, font_cells, is_kept, word_letters}
+use Rattle.page_core_base.specs.laws.Views.{Came, TakesKept, font_cells, is_kept, word_letters}
+use Rattle.page_core_base.specs.Rows.{Item, shown}
 use Rattle.page_core_base.specs.declared.cells.Cell.{Cell}
 use Rattle.page_core_base.specs.declared.cells.Font.{Font}
 use Rattle.page_core_base.specs.declared.pieces.Piece.{Piece}
 use Rattle.page_core_base.specs.declared.pieces.Piece.TheVariants.{Break, Char}
 use Rattle.page_core_base.specs.declared.places.Place.{Place}
-use Rattle.page_engine_header.specs.Header.{in_rows}
-use Rattle.page_engine_header.specs.Printing.{in_font}
+use Rattle.page_engine_header.specs.Header.{in_rows, in_font}
 use Rattle.page_engine_header.specs.machine.RowPlans.{RowPlanned, RowLeft}
 
 none_in_rows : (room : ℕ) → in_rows room [] ≡ []

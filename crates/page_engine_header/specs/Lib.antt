@@ -1,4 +1,3 @@
-pub mod Fields
-pub mod Printing
 pub mod Header
+pub mod laws
 pub mod machine

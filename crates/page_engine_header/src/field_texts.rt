@@ -2,9 +2,9 @@
 
 ghost use Rattle.std.specs.Prelude.{◌≡◌, ◌≤◌, ◌<◌, ◌+◌, ◌-◌, [], ◌∷◌, ◌++◌, ◌==◌, length, drop, take};
 ghost use Rattle.page_core_base.specs.declared.limits.TheConstants.{FIELD};
-ghost use Rattle.page_roff_syntax.specs.Arguments.{argument_view};
-ghost use Rattle.page_engine_header.specs.Fields as fields;
-ghost use Rattle.page_engine_header.specs.Fields.{first_field, or_else, said, said_len};
+ghost use Rattle.page_roff_syntax.specs.laws.Views.{argument_view};
+ghost use Rattle.page_engine_header.specs.Header as fields;
+ghost use Rattle.page_engine_header.specs.Header.{first_field, or_else, said, said_len};
 
 use arrayvec::ArrayVec;
 use page_core_base::FIELD;

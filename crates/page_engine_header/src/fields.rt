@@ -2,10 +2,10 @@
 
 ghost use Rattle.std.specs.Prelude.{◌≡◌, ◌≤◌, [], ◌∷◌, false, length, take, nat_lt};
 ghost use Rattle.std.specs.List.{flat_map};
-ghost use Rattle.page_core_base.specs.Latches.{Came};
+ghost use Rattle.page_core_base.specs.laws.Views.{Came};
 ghost use Rattle.page_sets_names.specs.declared.macro_names.Prologue.TheVariants.{TH, Dt};
-ghost use Rattle.page_engine_header.specs.Fields as fields;
-ghost use Rattle.page_engine_header.specs.Fields.{argument_cut, cut_item, no_fields, volume_of};
+ghost use Rattle.page_engine_header.specs.Header as fields;
+ghost use Rattle.page_engine_header.specs.Header.{argument_cut, cut_item, no_fields, volume_of};
 
 use crate::field_texts::Field;
 use page_core_base::{FIELD, Limit, NoteKind, PieceOut, Place};

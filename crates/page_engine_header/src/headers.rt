@@ -2,8 +2,9 @@
 
 ghost use Rattle.std.specs.Prelude.{◌≡◌, ◌≤◌, ◌<◌, ◌-◌, ◌^◌};
 ghost use Rattle.page_core_base.specs.declared.limits.TheConstants.{CELLS};
-ghost use Rattle.page_core_base.specs.Latches.{Came};
-ghost use Rattle.page_engine_header.specs.Header.{second_start, third_start, part_tokens, IsShort, in_rows, row_characters, row_items, if_empty, missing_items, header_items, header_row, footer_row};
+ghost use Rattle.page_core_base.specs.laws.Views.{Came};
+ghost use Rattle.page_engine_header.specs.Header.{second_start, third_start, in_rows, row_characters, row_items, if_empty, missing_items, header_items, header_row, footer_row};
+ghost use Rattle.page_engine_header.specs.laws.Views.{part_tokens, IsShort};
 
 use crate::fields::volume_of;
 use crate::full_rows::FullRows;

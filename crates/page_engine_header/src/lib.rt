@@ -2,7 +2,7 @@
 //!
 //! It is below the body of a page (`page_engine_lines`), which gives the header before its first event and the footer at its end.
 //!
-//! Read first: `Fields` in `fields.rt` with `specs/Fields.antt`, and `give_header` in `headers.rt` with `specs/Header.antt`.
+//! Read first: `specs/Header.antt`, with `Fields` in `fields.rt` and `give_header` in `headers.rt`.
 //!
 //! Proved: `Fields::copy`, `Fields::take`, `report_cut_fields`: the fields of the title's macros, and the messages of those that are cut.
 //! `give_header`, `give_footer_row`: header and footer, with their parts at the columns of the formula in `specs/Header.antt`, and no message of a

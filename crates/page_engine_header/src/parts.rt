@@ -1,10 +1,10 @@
 //! The parts of a header or a footer (man(7), `TH`).
 
 ghost use Rattle.std.specs.Prelude.{◌≡◌, ◌≤◌, length};
-ghost use Rattle.page_core_base.specs.Latches.{Came};
+ghost use Rattle.page_core_base.specs.laws.Views.{Came};
 ghost use Rattle.page_scopes_words.specs.Fonts.{roman_fonts};
-ghost use Rattle.page_engine_header.specs.Printing.{tokens_columns, tokens_items};
-ghost use Rattle.page_engine_header.specs.Header.{name_tokens, part_tokens, IsShort};
+ghost use Rattle.page_engine_header.specs.Header.{tokens_columns, tokens_items, name_tokens};
+ghost use Rattle.page_engine_header.specs.laws.Views.{part_tokens, IsShort};
 
 use crate::RunOut;
 use crate::printing::{give_char, give_text, text_columns};

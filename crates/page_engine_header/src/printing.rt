@@ -2,13 +2,13 @@
 //! message.
 
 ghost use Rattle.std.specs.Prelude.{◌≡◌, ◌≤◌, ◌<◌, ◌*◌, [], ◌∷◌, false, length, replicate, chars};
-ghost use Rattle.page_core_base.specs.Latches.{Came};
-ghost use Rattle.page_core_base.specs.Words.{is_printable_ascii};
-ghost use Rattle.page_core_escapes.specs.Escapes.{meaning_view};
-ghost use Rattle.page_core_escapes.specs.Tokens.{token_bytes, token_view, tokens_of};
+ghost use Rattle.page_core_base.specs.laws.Views.{Came, is_printable_ascii};
+ghost use Rattle.page_core_escapes.specs.laws.Views.{meaning_view, token_view};
+ghost use Rattle.page_core_escapes.specs.Tokens.{token_bytes, tokens_of};
 ghost use Rattle.page_core_numbers.specs.Columns.{characters_columns, printed_escape};
-ghost use Rattle.page_core_tables.specs.Printed.{printed_view};
-ghost use Rattle.page_engine_header.specs.Printing.{plain_printed, token_printed, tokens_columns, in_font, tokens_items, fonts_after};
+ghost use Rattle.page_core_tables.specs.laws.Views.{printed_view};
+ghost use Rattle.page_engine_header.specs.Header.{plain_printed, token_printed, tokens_columns, in_font, tokens_items};
+ghost use Rattle.page_engine_header.specs.laws.Views.{fonts_after};
 
 use crate::RunOut;
 use page_core_base::{BLANK_TEXT, Font, Output, Piece, Place, blank_text};

@@ -1,7 +1,7 @@
 //! Latches of pieces that take runs of characters (roff(7), "Filling and adjusting").
 
-ghost use Rattle.page_core_base.specs.Latches.{Came};
-ghost use Rattle.page_engine_header.specs.Printing.{in_font};
+ghost use Rattle.page_core_base.specs.laws.Views.{Came};
+ghost use Rattle.page_engine_header.specs.Header.{in_font};
 
 use page_core_base::{Font, Piece, PieceLatch, PieceOut, PieceSink, Place};
 

@@ -1,9 +1,9 @@
 -- The causes of a search's faults, from a sink to what lies below it.
 use Rattle.std.proofs.Common.{◌≡◌, ℕ, List, [], Option, Result, Ok, Err, sym, ap, ◌∙◌, subst}
-use Rattle.page_core_base.specs.Fails.{Rose}
+use Rattle.page_core_base.specs.Messages.{Rose}
 use Rattle.page_core_base.specs.declared.faults.Fault.{Fault}
 use Rattle.page_core_base.specs.declared.faults.Fault.TheVariants.{Memory, Read, WriteText, WriteNotes, TooLong, Settings, Failed, Ended, BadIndex}
-use Rattle.page_core_streams.specs.Sources.{SourceState}
+use Rattle.page_core_streams.specs.Streams.{SourceState}
 use Rattle.page_engine_index.specs.Searches.{RowsTo, Shown, FoundBad, ReadWhole, Quiet, SearchesOver}
 use Rattle.page_engine_index.specs.Whatis.{Asked}
 

@@ -4,7 +4,7 @@ use Rattle.std.specs.List.{list_any}
 use Rattle.std.proofs.Math.Seq.{split_at}
 use Rattle.std.proofs.lemmas.Bool.{and_right}
 use Rattle.std.proofs.lemmas.List.{take_at}
-use Rattle.page_core_base.specs.Sinks.{IsSink}
+use Rattle.page_core_base.specs.laws.Views.{IsSink}
 use Rattle.page_engine_index.specs.Entries.{Entry}
 use Rattle.page_engine_index.specs.Matches.{has_match}
 use Rattle.page_engine_index.specs.Records.{IsKept, entry_line}

@@ -3,7 +3,7 @@ use Rattle.std.proofs.Common.{◌≡◌, ℕ, ◌+◌, ◌<◌, ◌≤◌, ◌||
 use Rattle.std.proofs.lemmas.List.{drop_more, drop_all}
 use Rattle.std.specs.Borrow.{Bor}
 use Rattle.std.specs.List.{list_any}
-use Rattle.page_core_base.specs.Sinks.{IsSink}
+use Rattle.page_core_base.specs.laws.Views.{IsSink}
 use Rattle.page_core_base.specs.declared.faults.Fault.{Fault}
 use Rattle.page_engine_index.specs.Entries.{Entry}
 use Rattle.page_engine_index.specs.Searches.{RowsTo}

@@ -10,9 +10,9 @@ use Rattle.std.proofs.lemmas.List.{take-append-drop, take_at, take_all, length-t
 use Rattle.std.proofs.Math.Seq.{split_at}
 use Rattle.memchr.specs.Find.{IsFirstByte, is_byte}
 use Rattle.page_engine_index.proofs.FieldLemmas.{front_none}
-use Rattle.page_core_streams.specs.Chunks.{Stops}
-use Rattle.page_core_streams.specs.Sources.{SourceState}
-use Rattle.page_core_base.specs.Sinks.{IsSink}
+use Rattle.page_core_streams.specs.laws.Views.{Stops}
+use Rattle.page_core_streams.specs.Streams.{SourceState}
+use Rattle.page_core_base.specs.laws.Views.{IsSink}
 use Rattle.page_core_base.specs.declared.faults.Fault.{Fault}
 use Rattle.page_core_base.specs.declared.faults.Fault.TheVariants.{Memory, Read, WriteText, WriteNotes, TooLong, Settings, Failed, Ended, BadIndex}
 use Rattle.page_core_base.specs.declared.limits.TheConstants.{LINE}

@@ -1,10 +1,10 @@
 -- What a search of an index did, by its answer. Source: whatis(1).
 use Rattle.std.specs.Prelude.{◌≡◌, ◌≤◌, ℕ, ◌-◌, ◌^◌, List, [], ◌++◌, Option, Some, None, Result, MatchResult, ◌⊎◌, length, take}
 use Rattle.std.specs.Io.KnownBytes.{IsAtEnd}
-use Rattle.page_core_base.specs.Fails.{Rose}
+use Rattle.page_core_base.specs.Messages.{Rose}
 use Rattle.page_core_base.specs.declared.faults.Fault.{Fault}
 use Rattle.page_core_base.specs.declared.faults.Fault.TheVariants.{Memory, Read, WriteText, WriteNotes, TooLong, Settings, Failed, Ended, BadIndex}
-use Rattle.page_core_streams.specs.Sources.{SourceState, HasGiven, IsLean, IsTooLong}
+use Rattle.page_core_streams.specs.Streams.{SourceState, HasGiven, IsLean, IsTooLong}
 use Rattle.page_engine_index.specs.Entries.{index, whole_index}
 use Rattle.page_engine_index.specs.Whatis.{Asked, rows}
 

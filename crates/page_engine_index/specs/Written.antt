@@ -1,6 +1,6 @@
 -- What a search writes. Source: whatis(1).
 use Rattle.std.specs.Prelude.{ℕ, List, Option}
-use Rattle.page_core_streams.specs.Grows.{Adds, AddsInto}
+use Rattle.page_core_streams.specs.Streams.{Adds, AddsInto}
 use Rattle.page_engine_index.specs.Searches.{Rows}
 
 -- a row as its bytes

@@ -3,10 +3,9 @@
 ghost use Rattle.std.specs.Prelude.{◌≡◌, ℕ, List, [], ◌∷◌};
 ghost use Rattle.std.specs.Borrow.{GName};
 ghost use Rattle.std.specs.List.{flat_map};
-ghost use Rattle.page_core_base.specs.Sinks.{IsSink, Gives};
-ghost use Rattle.page_core_base.specs.Fails.{FailsAs};
-ghost use Rattle.page_core_streams.specs.Failures.{count_of};
-ghost use Rattle.page_core_streams.specs.Grows.{Adds, AddsInto, adds-sink, adds-whole};
+ghost use Rattle.page_core_base.specs.laws.Views.{IsSink, Gives, FailsAs};
+ghost use Rattle.page_core_streams.specs.laws.Views.{count_of, adds-sink, adds-whole};
+ghost use Rattle.page_core_streams.specs.Streams.{Adds, AddsInto};
 ghost use Rattle.page_engine_index.specs.Written.{own_bytes};
 
 use page_core_base::Fault;

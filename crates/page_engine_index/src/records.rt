@@ -2,8 +2,7 @@
 
 ghost use Rattle.std.specs.Prelude.{◌≡◌, MatchResult, IfErr, true};
 ghost use Rattle.std.specs.List.{flat_map};
-ghost use Rattle.page_core_streams.specs.Failures.{ErrsBy};
-ghost use Rattle.page_core_streams.specs.Grows.{Grows, GrowsInto};
+ghost use Rattle.page_core_streams.specs.Streams.{ErrsBy, Grows, GrowsInto};
 ghost use Rattle.page_engine_index.specs.Fields.{is_field};
 ghost use Rattle.page_engine_index.specs.Records.{entry_with, entry_line, printed_record};
 

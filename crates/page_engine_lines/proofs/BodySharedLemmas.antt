@@ -8,16 +8,15 @@ use Rattle.page_scopes.specs.Bodies.{begun_after}
 use Rattle.page_scopes.specs.declared.layouts.LayoutState.{LayoutState}
 use Rattle.page_scopes_tree.specs.machine.Asides.{With, act, aside, Beside}
 use Rattle.page_scopes_tree.specs.machine.Forests.{Ender, by_act, still_open, Forest, none, leaf, node, After, Rest, tree}
-use Rattle.page_scopes_tree.specs.OpenScopes.{labels}
+use Rattle.page_scopes_tree.specs.laws.Views.{labels, Step}
 use Rattle.page_scopes_tree.specs.machine.Layouts.{Layout, scope_of, closing_state, after, after_outer, after_rest, edge}
 use Rattle.page_scopes_tree.specs.declared.nestings.Scope.{Scope}
-use Rattle.page_scopes_tree.specs.Acts.{Step}
 use Rattle.page_scopes_tree.specs.machine.Nests.{Fact, coming, standing, refused}
 use Rattle.page_sets.specs.declared.either.Either.{Either}
 use Rattle.page_sets_lines.specs.declared.events.EventKind.{EventKind}
 use Rattle.page_sets_names.specs.declared.macro_names.Prologue.{Prologue}
-use Rattle.page_engine_lines.specs.Bodies.{BodyEdge, HeaderEdge, has_begun, indent_of}
-use Rattle.page_engine_lines.specs.Titles.{title_fields}
+use Rattle.page_engine_lines.specs.Bodies.{BodyEdge, HeaderEdge, indent_of, title_fields}
+use Rattle.page_engine_lines.specs.laws.Views.{has_begun}
 use Rattle.page_engine_lines.specs.machine.Trees.{Aside, reports, titles, closes, body_layout, body_nesting, opened, tree_after}
 
 -- ---- block trees

@@ -2,15 +2,17 @@
 use Rattle.std.proofs.Common.{◌≡◌, ℕ, Bool, true, false, not, ◌&&◌, ◌⊎◌, inl, inr, List, [], ◌∷◌, ◌++◌, drop, map, refl, sym, ◌∙◌, ap, append_assoc, append-nil, if◌then◌else◌}
 use Rattle.std.specs.List.{flat_map}
 use Rattle.page_core_base.specs.Messages.{Message}
-use Rattle.page_core_base.specs.Pieces.{Item, noted}
+use Rattle.page_core_base.specs.Rows.{Item, noted}
 use Rattle.page_core_base.specs.declared.places.Place.{Place}
 use Rattle.page_scopes.specs.Bodies.{begins}
-use Rattle.page_scopes.specs.Edges as scopes
-use Rattle.page_scopes.specs.Tables.{layout_tables}
+use Rattle.page_scopes.specs.Bodies as scopes
+use Rattle.page_scopes.specs.laws.Views as scopes_laws
+use Rattle.page_scopes.specs.laws.Views.{layout_tables}
 use Rattle.page_scopes.specs.declared.layouts.Kept.{Kept}
 use Rattle.page_scopes.specs.declared.layouts.LayoutState.{LayoutState}
 use Rattle.page_scopes_tree.specs.machine.Asides.{With, act, aside, Beside, beside, before_leaf}
-use Rattle.page_scopes_tree.specs.OpenScopes.{Edge, labels}
+use Rattle.page_scopes_tree.specs.Ends.{Edge}
+use Rattle.page_scopes_tree.specs.laws.Views.{labels, Step, comes, does, steps_of}
 use Rattle.page_scopes_tree.specs.machine.Layouts.{edge}
 use Rattle.page_scopes_tree.specs.machine.Machines.{run, run_items, step, step_items, placed_items, ended_items, count_ended, state_left}
 use Rattle.page_scopes_tree.specs.machine.Nestings.{Standing, IsSound, standing_of}
@@ -18,7 +20,6 @@ use Rattle.page_scopes_tree.proofs.AsideLemmas.{sound_with, act_items, act_step}
 use Rattle.page_scopes_tree.proofs.CutLemmas.{settled-append, edge-append}
 use Rattle.page_scopes_tree.proofs.RunLemmas.{settled-run}
 use Rattle.page_scopes_tree.proofs.EdgeLemmas.{edge-run}
-use Rattle.page_scopes_tree.specs.Acts.{Step, comes, does, steps_of}
 use Rattle.page_scopes_tree.specs.machine.Frames.{framed}
 use Rattle.page_scopes_tree.specs.machine.Nests.{Fact, scopes_nesting, step_standing}
 use Rattle.page_core_base.specs.declared.limits.TheConstants.{SCOPES}
@@ -33,7 +34,8 @@ use Rattle.page_sets_lines.specs.declared.events.Event.{Event}
 use Rattle.page_sets_lines.specs.declared.leaves.Leaf.{Leaf}
 use Rattle.page_sets_lines.specs.declared.leaves.Leaf.TheVariants as leaves
 use Rattle.page_sets_names.specs.declared.macro_names.Prologue.{Prologue}
-use Rattle.page_engine_lines.specs.Bodies.{BodyEdge, HeaderEdge, begin_items, scope_items, with_scopes, with_title, kind_items, kind_after, event_items, event_after, events_items, events_after, end_items}
+use Rattle.page_engine_lines.specs.Bodies.{BodyEdge, HeaderEdge}
+use Rattle.page_engine_lines.specs.laws.Views.{begin_items, scope_items, with_scopes, with_title, kind_items, kind_after, event_items, event_after, events_items, events_after, end_items}
 use Rattle.page_engine_lines.specs.Trees.{header_at}
 use Rattle.page_engine_lines.specs.machine.Trees.{Aside, reports, titles, closes, kind_steps, events_steps, page_end_steps, body_sides, body_nesting, body_layout, opened, body_of, tree_items, tree_after}
 
@@ -93,7 +95,7 @@ done_items h d a =
 
 comes_items : (h : HeaderEdge) (d : scopes.PageEdge) (event : Event (List ℕ))
     → step_items body_nesting body_layout (beside h d) (act (comes event))
-    ≡ (if scopes.begins_body d event then header_at event.place.line h else []) ++ step_items scopes_nesting (framed layout_tables) d (comes event)
+    ≡ (if scopes_laws.begins_body d event then header_at event.place.line h else []) ++ step_items scopes_nesting (framed layout_tables) d (comes event)
 comes_items h d event =
     let st = standing_of scopes_nesting d.mode (comes event) (labels d.scopes) in
     act_items scopes_nesting (framed layout_tables) body_sides h d (comes event)
@@ -120,7 +122,7 @@ plain_items b event =
     ∙ append_assoc begin first (second ++ [])
     ∙ ap (λ (t : List Item). begin ++ t) (sym (settled-run scopes_nesting scopes-sound lays d (steps_of event)))
 
-plain_after : (b : BodyEdge) (event : Event (List ℕ)) → tree_after b (map act (steps_of event)) ≡ with_scopes b (scopes.event_after b.scopes event)
+plain_after : (b : BodyEdge) (event : Event (List ℕ)) → tree_after b (map act (steps_of event)) ≡ with_scopes b (scopes_laws.event_after b.scopes event)
 plain_after b event =
     let d = b.scopes in
     let lays = framed layout_tables in
@@ -141,7 +143,7 @@ IsTitle kind = (name : Prologue) × (rest : List ℕ) × (kind ≡ kinds.Leaf (l
 record IsPlain (kind : EventKind (List ℕ)) : Type 0 where
   pub steps : (event : Event (List ℕ)) → kind_steps kind event ≡ map act (steps_of event)
   pub items : (b : BodyEdge) (event : Event (List ℕ)) → kind_items kind b event ≡ scope_items b event
-  pub after : (b : BodyEdge) (event : Event (List ℕ)) → kind_after kind b event ≡ with_scopes b (scopes.event_after b.scopes event)
+  pub after : (b : BodyEdge) (event : Event (List ℕ)) → kind_after kind b event ≡ with_scopes b (scopes_laws.event_after b.scopes event)
 
 leaf_kinds : (l : Leaf (List ℕ)) → IsTitle (kinds.Leaf l) ⊎ IsPlain (kinds.Leaf l)
 unfolding IsTitle

@@ -1,6 +1,6 @@
 -- What the block tree of a page gives is what that of the machine gives: helpers of proofs.
 use Rattle.std.proofs.Common.{◌≡◌, ℕ, zero, suc, Bool, true, false, List, [], ◌∷◌, ◌++◌, map, refl, sym, ap, ◌∙◌, append_assoc, append-nil}
-use Rattle.page_core_base.specs.Pieces.{Item}
+use Rattle.page_core_base.specs.Rows.{Item}
 use Rattle.page_engine_lines.specs.Bodies.{BodyEdge, HeaderEdge}
 use Rattle.page_engine_lines.specs.Trees as new
 use Rattle.page_engine_lines.specs.Trees.{PageAct, PageEvent, Step, Forest, After, Rest, State, Laid, tree, step_gave, begin_gave, end_gave, scope_of, lay, lay_outer, tree_of, laid_by}
@@ -10,7 +10,7 @@ use Rattle.page_engine_lines.proofs.TreeSameLemmas.{A, F, OldForest, OldRest, le
 use Rattle.page_scopes.specs.declared.layouts.Kept.{Kept}
 use Rattle.page_scopes.specs.declared.layouts.LayoutState.{LayoutState}
 use Rattle.page_scopes_labels.specs.declared.labels.Label.{Label}
-use Rattle.page_scopes_tree.specs.Acts as oldsteps
+use Rattle.page_scopes_tree.specs.laws.Views as oldsteps
 use Rattle.page_scopes_tree.specs.machine.Asides.{act, Beside}
 use Rattle.page_scopes_tree.specs.machine.Forests as forests
 use Rattle.page_scopes_tree.specs.machine.Layouts as lays

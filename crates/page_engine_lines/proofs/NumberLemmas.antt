@@ -10,25 +10,20 @@ use Rattle.page_roff_syntax.specs.LineForms.{form_of}
 use Rattle.page_roff_syntax.specs.declared.line_forms.LineForm.{LineForm}
 use Rattle.page_roff_syntax.specs.declared.line_forms.LineForm.TheVariants.{Comment, BlankLine, Text, Control}
 use Rattle.page_roff_heads.specs.declared.loops.LoopHead.{LoopHead}
-use Rattle.page_roff_blocks.specs.LineParts.{line_parts}
-use Rattle.page_roff_syntax.specs.OpenRegions.{Opened}
-use Rattle.page_roff_blocks.specs.Loops.{loop_text}
+use Rattle.page_roff_blocks.specs.Parts.{line_parts, loop_text}
+use Rattle.page_roff_syntax.specs.Regions.{Opened}
 use Rattle.page_roff_syntax.specs.declared.region_heads.RegionHead.{RegionHead}
-use Rattle.page_roff_values.specs.Arguments.{lines_in}
-use Rattle.page_roff_values.specs.Values.{expanded, units_of}
+use Rattle.page_roff_values.specs.Values.{lines_in, expanded, units_of}
 use Rattle.page_roff_blocks.specs.machine.Languages.{Kind}
 use Rattle.page_roff_blocks.proofs.KeepLemmas.{IsIfSome, IsAny, HasLeaves, HasLoopTexts, any_leaves, any_lines}
 use Rattle.page_roff_blocks.proofs.KeepEffects.{IsKeptAfter, KeepsEffects, page_keeps}
-use Rattle.page_roff_effects.specs.Commands.{called_body, command_of, command_or, copies, request_command}
-use Rattle.page_roff_effects.specs.States.{Memory, State, Outcome, Product, no_product, line_product, call_product, loop_product, after, counted, Setting, surroundings, nothing}
-use Rattle.page_roff_effects.specs.Leaves.{call_if, ControlLine, does, command_outcome, control_line, control_outcome, form_outcome, leaf_outcome}
-use Rattle.page_roff_effects.specs.RegionLines.{head_outcome, longer, longer_if, body_outcome, kind_outcome, line_outcome, end_outcome, body_freed, finish_region, finish_outcome}
-use Rattle.page_roff_effects.specs.LoopLines.{longer_if_some, loop_outcome, collect_outcome, repeats_text, close_outcome, body_in}
-use Rattle.page_roff_effects.specs.Effects.{budget_outcome, block_outcome, end_of_block_outcome}
+use Rattle.page_roff_effects.specs.Lines.{called_body, command_of, command_or, copies, request_command, call_if, ControlLine, does, command_outcome, control_line, control_outcome, form_outcome, leaf_outcome}
+use Rattle.page_roff_effects.specs.States.{Memory, Outcome, Product, no_product, line_product, call_product, loop_product, counted, Setting, surroundings, nothing, budget_outcome, block_outcome, end_of_block_outcome}
+use Rattle.page_roff_effects.specs.laws.Views.{State, after}
+use Rattle.page_roff_effects.specs.Regions.{head_outcome, longer, longer_if, body_outcome, kind_outcome, line_outcome, end_outcome, body_freed, finish_region, finish_outcome, longer_if_some, loop_outcome, collect_outcome, repeats_text, close_outcome, body_in}
 use Rattle.page_roff_effects.specs.machine.Effects.{effects, setting_of, tested_after, done_by, done_after}
-use Rattle.page_roff_source.specs.Edges.{Edge, SourceLine}
+use Rattle.page_roff_source.specs.Runs.{Edge, SourceLine, done}
 use Rattle.page_roff_source.specs.machine.Taking.{before_line, run_line, line_done}
-use Rattle.page_roff_source.specs.Given.{done}
 use Rattle.page_roff_source.specs.machine.LineByLine.{lines_done}
 use Rattle.page_roff_source.proofs.LineLemmas.{done-by_line}
 

@@ -1,23 +1,22 @@
 -- What is given up to the next line, and then the rest.
 use Rattle.std.proofs.Common.{◌≡◌, suc, ◌≤◌, List, [], ◌∷◌, ◌++◌, length, refl, ap, sym, ◌∙◌, append_assoc, append-nil, arith, Option, Some, None, MatchOption}
 use Rattle.std.specs.Prelude.{map}
-use Rattle.page_core_base.specs.Latches.{Came, CameUpTo}
-use Rattle.page_core_base.specs.LinesTaken.{Line}
+use Rattle.page_core_base.specs.laws.Views.{Came, CameUpTo}
+use Rattle.page_core_base.specs.Texts.{Line}
 use Rattle.page_core_base.specs.Messages.{Message}
-use Rattle.page_core_base.specs.Pieces.{Item, noted}
+use Rattle.page_core_base.specs.Rows.{Item, noted}
 use Rattle.page_roff_effects.specs.States.{Given, says, takes}
-use Rattle.page_roff_source.specs.Edges.{Edge}
-use Rattle.page_roff_source.specs.Taken.{given_of, line_taken}
+use Rattle.page_roff_source.specs.Runs.{Edge}
+use Rattle.page_roff_source.specs.laws.Views.{given_of, line_taken}
 use Rattle.page_roff_machine.specs.Giving.{notes_before, next_line, after_line}
 use Rattle.page_engine_lines.specs.Bodies.{BodyEdge}
 use Rattle.page_engine_lines.specs.machine.Given.{given_items, line_items, line_after, body_after}
 use Rattle.page_sets_lines.specs.declared.plain_lines.PlainLine.{PlainLine}
-use Rattle.page_sets_lines.specs.PlainLines.{plain_events, plain_line}
-use Rattle.page_sets.specs.Either.{either_events}
+use Rattle.page_sets_lines.specs.Lines.{plain_events, plain_line}
+use Rattle.page_sets.specs.Mdoc.{either_events, line_events as mdoc_line_events, mdoc_events}
 use Rattle.page_sets.specs.declared.either.Either.{Either}
 use Rattle.page_sets.specs.declared.either.Either.TheVariants as sets
 use Rattle.page_sets.specs.Man.{line_events as man_line_events, man_events}
-use Rattle.page_sets.specs.Mdoc.{line_events as mdoc_line_events, mdoc_events}
 
 -- a line that is no control line has the events that all sets of macros give of it
 pub plain_gives : (set : Either) (line : Line) (plain : PlainLine) → plain_line line.form line.text ≡ Some plain

@@ -4,8 +4,7 @@ use Rattle.std.proofs.Common.{◌≡◌, ℕ, Bool, true, false, List, Option, N
 use Rattle.std.specs.Prelude.{if◌then◌else◌}
 use Rattle.page_core_base.specs.declared.page_settings.Output.{Output}
 use Rattle.page_roff_effects.specs.States.{Given}
-use Rattle.page_roff_source.specs.Edges.{SourceLine}
-use Rattle.page_roff_source.specs.Given.{given}
+use Rattle.page_roff_source.specs.Runs.{SourceLine, given}
 use Rattle.page_engine_lines.specs.Bodies.{BodyEdge, chosen_if}
 use Rattle.page_engine_lines.specs.Trees.{Step, tree_after}
 use Rattle.page_engine_lines.proofs.BodySharedLemmas.{Shared, shared_of, sharing}

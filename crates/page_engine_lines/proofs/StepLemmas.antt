@@ -2,8 +2,9 @@
 use Rattle.std.proofs.Common.{◌≡◌, ℕ, Bool, true, List, [], ◌∷◌, ◌++◌, map, refl, sym, ap, ◌∙◌}
 use Rattle.std.proofs.lemmas.List.{map-append}
 use Rattle.page_core_base.specs.Messages.{Message}
-use Rattle.page_core_base.specs.Pieces.{Item, noted}
-use Rattle.page_engine_lines.specs.Bodies.{BodyEdge, end_items, events_after, events_items, has_begun}
+use Rattle.page_core_base.specs.Rows.{Item, noted}
+use Rattle.page_engine_lines.specs.Bodies.{BodyEdge}
+use Rattle.page_engine_lines.specs.laws.Views.{end_items, events_after, events_items, has_begun}
 use Rattle.page_engine_lines.specs.Trees.{Step, reports, kind_steps, events_steps, page_end_steps, tree_items, tree_after}
 use Rattle.page_engine_lines.specs.machine.Trees as machine
 use Rattle.page_engine_lines.specs.machine.Trees.{Aside, as_act}
@@ -11,7 +12,7 @@ use Rattle.page_engine_lines.proofs.BodySharedLemmas as shared
 use Rattle.page_engine_lines.proofs.BodySharedLemmas.{shared_of}
 use Rattle.page_engine_lines.proofs.BodyTreeLemmas as trees
 use Rattle.page_engine_lines.proofs.LaySameLemmas.{tree_items_law, tree_after_law}
-use Rattle.page_scopes_tree.specs.Acts as acts
+use Rattle.page_scopes_tree.specs.laws.Views as acts
 use Rattle.page_scopes_tree.specs.machine.Asides.{With}
 use Rattle.page_sets_lines.specs.declared.events.Event.{Event}
 use Rattle.page_sets_lines.specs.declared.events.EventKind.{EventKind}

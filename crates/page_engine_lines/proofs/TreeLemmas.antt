@@ -2,29 +2,28 @@
 use Rattle.std.proofs.Common.{◌≡◌, ℕ, ◌+◌, nat_lt, Bool, true, false, ◌&&◌, List, [], ◌∷◌, ◌++◌, length, map, Option, None, Some, ◌⊎◌, inl, inr, refl, sym, ap, ◌∙◌, append_assoc, append-nil, if◌then◌else◌}
 use Rattle.std.proofs.lemmas.Bool.{cases_Bool}
 use Rattle.std.proofs.lemmas.List.{map-append}
-use Rattle.page_core_base.specs.LinesTaken.{Line}
+use Rattle.page_core_base.specs.Texts.{Line}
 use Rattle.page_core_base.specs.Messages.{Message, message_about}
-use Rattle.page_core_base.specs.Pieces.{Item, noted}
+use Rattle.page_core_base.specs.Rows.{Item, noted}
 use Rattle.page_core_base.specs.declared.note_kinds.NoteKind.TheVariants.{TrailingBlank}
 use Rattle.page_roff_effects.specs.States.{Given, says, takes}
-use Rattle.page_roff_syntax.specs.Ends.{kept_len}
+use Rattle.page_roff_syntax.specs.Delimiters.{kept_len}
 use Rattle.page_roff_syntax.specs.LineForms.{is_white}
-use Rattle.page_roff_source.specs.Edges.{Edge, SourceLine, end_notes}
+use Rattle.page_roff_source.specs.Runs.{Edge, SourceLine, end_notes, given, done}
 use Rattle.page_roff_source.specs.machine.Taking.{before_line, run_line, line_given, line_done}
-use Rattle.page_roff_source.specs.Given.{given, done}
 use Rattle.page_roff_source.specs.machine.LineByLine.{lines_given, lines_done}
 use Rattle.page_roff_source.proofs.CutLemmas.{given-append, done-append}
 use Rattle.page_roff_source.proofs.LineLemmas.{given-by_line, done-by_line}
-use Rattle.page_engine_lines.specs.Bodies.{BodyEdge, chosen, chosen_if, decided, events_after, events_items, has_begun, has_title, end_items as body_end_items}
-use Rattle.page_engine_lines.specs.Languages.{language_of}
+use Rattle.page_engine_lines.specs.Bodies.{BodyEdge, chosen, chosen_if, language_of}
+use Rattle.page_engine_lines.specs.laws.Views.{decided, events_after, events_items, has_begun, has_title, end_items as body_end_items, ending_items}
 use Rattle.page_engine_lines.specs.Trees.{Step, reports, events_steps, page_end_steps, tree_items, tree_after}
 use Rattle.page_engine_lines.proofs.BodyTreeLemmas.{events_keep}
 use Rattle.page_engine_lines.proofs.StepLemmas.{items-append, after-append, items-none, after-none, message_items, message_after, events_tree_items, events_tree_after, end_tree, tree_title}
 use Rattle.page_scopes_words.specs.Words.{at}
-use Rattle.page_sets.specs.Either.{either_events}
+use Rattle.page_sets.specs.Mdoc.{either_events}
 use Rattle.page_sets.specs.declared.either.Either.{Either}
 use Rattle.page_sets_lines.specs.declared.events.Event.{Event}
-use Rattle.page_engine_lines.specs.Acts.{given_steps, before_language, from_language, first_language, reader, rest_steps, given_then, trailing_messages, raw_line, lines_items, lines_after, end_steps, ending_items, page_items}
+use Rattle.page_engine_lines.specs.Acts.{given_steps, before_language, from_language, first_language, reader, rest_steps, given_then, trailing_messages, raw_line, lines_items, lines_after, end_steps, page_items}
 use Rattle.page_engine_lines.specs.machine.Given.{set_events, line_items, line_after, given_items, body_after}
 use Rattle.page_engine_lines.specs.Edges.{LinesEdge}
 use Rattle.page_engine_lines.specs.machine.Lines.{source_line, trailing_notes, source_items, source_after, end_items}

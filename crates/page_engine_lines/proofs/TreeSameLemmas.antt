@@ -5,10 +5,9 @@ use Rattle.page_sets_lines.specs.declared.events.Event.{Event}
 use Rattle.page_sets_lines.specs.declared.events.EventKind.{EventKind}
 use Rattle.page_sets_lines.specs.declared.events.EventKind.TheVariants as kinds
 use Rattle.page_scopes_labels.specs.declared.labels.Label.{Label}
-use Rattle.page_scopes_tree.specs.Acts.{event_of}
-use Rattle.page_scopes_tree.specs.Acts as oldsteps
+use Rattle.page_scopes_tree.specs.Ends.{event_of, act_ends}
+use Rattle.page_scopes_tree.specs.laws.Views as oldsteps
 use Rattle.page_scopes_tree.specs.machine.Asides.{With, act, aside, stands_with}
-use Rattle.page_scopes_tree.specs.Ends.{act_ends}
 use Rattle.page_scopes_tree.specs.machine.Forests as old
 use Rattle.page_scopes_tree.specs.machine.Layouts as lays
 use Rattle.page_scopes_tree.specs.machine.Nestings.{Standing, standing_of, left_by, mode_of, as_nothing, inside}

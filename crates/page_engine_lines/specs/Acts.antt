@@ -1,21 +1,19 @@
 -- What roff gives of a page's lines, as acts of one block tree. Source: mandoc(1), "DIAGNOSTICS".
-use Rattle.std.specs.Prelude.{ℕ, ◌+◌, nat_lt, List, [], ◌∷◌, ◌++◌, length, map, Option, None, is_some, if◌then◌else◌}
 use Rattle.std.specs.Option.{option_or}
+use Rattle.std.specs.Prelude.{◌+◌, List, [], ◌∷◌, ◌++◌, is_some, if◌then◌else◌, Option, None, ℕ, nat_lt, length, map}
 use Rattle.page_core_base.specs.Messages.{Message, message_about}
-use Rattle.page_core_base.specs.Pieces.{Item}
+use Rattle.page_core_base.specs.Rows.{Item}
 use Rattle.page_core_base.specs.declared.note_kinds.NoteKind.TheVariants.{TrailingBlank}
-use Rattle.page_roff_effects.specs.States.{Given, says, takes}
-use Rattle.page_roff_syntax.specs.Ends.{kept_len}
+use Rattle.page_roff_syntax.specs.Delimiters.{kept_len}
 use Rattle.page_roff_syntax.specs.LineForms.{is_white}
-use Rattle.page_roff_source.specs.Edges.{Edge, SourceLine, end_notes}
-use Rattle.page_roff_source.specs.Given.{given, done}
-use Rattle.page_engine_lines.specs.Bodies.{BodyEdge, chosen_if}
-use Rattle.page_engine_lines.specs.Languages.{language_of}
-use Rattle.page_engine_lines.specs.Trees.{Step, reports, events_steps, page_end_steps, tree_items, tree_after}
-use Rattle.page_engine_lines.specs.Edges.{LinesEdge}
-use Rattle.page_scopes_words.specs.Words.{at}
-use Rattle.page_sets.specs.Either.{either_events}
+use Rattle.page_roff_effects.specs.States.{Given, says, takes}
+use Rattle.page_roff_source.specs.Runs.{given, SourceLine, done, Edge, end_notes}
+use Rattle.page_sets.specs.Mdoc.{either_events}
 use Rattle.page_sets.specs.declared.either.Either.{Either}
+use Rattle.page_scopes_words.specs.Words.{at}
+use Rattle.page_engine_lines.specs.Bodies.{language_of, BodyEdge, chosen_if}
+use Rattle.page_engine_lines.specs.Edges.{LinesEdge}
+use Rattle.page_engine_lines.specs.Trees.{Step, reports, events_steps, tree_after, tree_items, page_end_steps}
 
 -- a message is at its place, a line is the events that the macros of a set make of it
 abbrev pub given_steps : Either → List Given → List Step
@@ -81,10 +79,6 @@ lines_after e lines =
 -- the acts at the page's end, on a line: what roff left open is reported, and then the body ends
 abbrev pub end_steps : Edge → ℕ → List Step
 end_steps e line = map reports (end_notes e) ++ page_end_steps line
-
--- the pieces and messages of the page's end alone, on a line
-abbrev pub ending_items : LinesEdge → ℕ → List Item
-ending_items e line = tree_items e.body (end_steps e.roff line)
 
 -- of lines, and of the page's end after them
 abbrev pub page_items : LinesEdge → List SourceLine → ℕ → List Item

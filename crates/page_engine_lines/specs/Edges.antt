@@ -1,11 +1,11 @@
 -- What is held between two source lines of a page, and its footer. Source: roff(7), "LANGUAGE SYNTAX"; mandoc(1), "DIAGNOSTICS".
 use Rattle.std.specs.Prelude.{ℕ, List}
-use Rattle.page_core_base.specs.Pieces.{Item}
+use Rattle.page_core_base.specs.Rows.{Item}
 use Rattle.page_core_base.specs.declared.page_settings.Settings.{Settings}
-use Rattle.page_roff_source.specs.Edges as roff
-use Rattle.page_roff_source.specs.Edges.{Edge}
-use Rattle.page_engine_lines.specs.Bodies as bodies
+use Rattle.page_roff_source.specs.Runs.{Edge}
+use Rattle.page_roff_source.specs.Runs as roff
 use Rattle.page_engine_lines.specs.Bodies.{BodyEdge}
+use Rattle.page_engine_lines.specs.Bodies as bodies
 
 -- what decides the pieces of the lines to come
 pub record LinesEdge : Type 0 where

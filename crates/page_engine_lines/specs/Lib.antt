@@ -1,8 +1,6 @@
-pub mod Languages
-pub mod Bodies
-pub mod Caps
-pub mod Titles
-pub mod Trees
 pub mod Acts
+pub mod Bodies
 pub mod Edges
+pub mod Trees
+pub mod laws
 pub mod machine

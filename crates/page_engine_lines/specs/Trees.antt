@@ -1,26 +1,18 @@
 -- The body of a page: the block tree of its steps inside the open scopes, and what it gives, laid out sibling after sibling.
 -- Source: man(7), "MACRO OVERVIEW"; mdoc(7), "MACRO REFERENCE"; mandoc(1), "ASCII Output" and "DIAGNOSTICS".
-use Rattle.std.specs.Prelude.{ℕ, zero, suc, Bool, List, [], ◌∷◌, ◌++◌, drop, map, if◌then◌else◌}
-use Rattle.std.specs.List.{flat_map}
+use Rattle.std.specs.Prelude.{ℕ, List, [], ◌∷◌, flat_map, Bool, zero, suc, drop, map, if◌then◌else◌, ◌++◌}
 use Rattle.page_core_base.specs.Messages.{Message}
-use Rattle.page_core_base.specs.Pieces.{Item, noted}
+use Rattle.page_core_base.specs.Rows.{Item, noted}
 use Rattle.page_core_base.specs.declared.note_kinds.NoteKind.TheVariants.{NoBody}
 use Rattle.page_core_base.specs.declared.places.Place.{Place}
-use Rattle.page_engine_header.specs.Header.{header_items}
-use Rattle.page_engine_lines.specs.Bodies.{BodyEdge, HeaderEdge, is_mdoc}
-use Rattle.page_engine_lines.specs.Titles.{title_items, title_fields}
-use Rattle.page_scopes.specs.Bodies.{act_name, begins, begun_after, coming, stands}
-use Rattle.page_scopes.specs.Tables.{kept}
-use Rattle.page_scopes.specs.declared.layouts.Kept.{Kept}
-use Rattle.page_scopes.specs.declared.layouts.LayoutState.{LayoutState}
+use Rattle.page_sets_names.specs.declared.macro_names.Prologue.{Prologue as PrologueName}
+use Rattle.page_sets_lines.specs.declared.events.Event.{Event}
+use Rattle.page_sets_lines.specs.declared.events.EventKind.{EventKind}
+use Rattle.page_sets_lines.specs.declared.events.EventKind.TheVariants.{Leaf}
+use Rattle.page_sets_lines.specs.declared.leaves.Leaf.TheVariants.{Prologue}
 use Rattle.page_scopes_labels.specs.declared.labels.Label.{Label}
-use Rattle.page_scopes_nodes.specs.Begins.{begun_by}
-use Rattle.page_scopes_nodes.specs.Ends as ends
-use Rattle.page_scopes_phrases.specs.Outcomes.{Outcome}
-use Rattle.page_scopes_tree.specs.Acts.{event_of}
-use Rattle.page_scopes_tree.specs.Broken.{broken_notes, obstacle_notes}
-use Rattle.page_scopes_tree.specs.Ends.{act_ends}
-use Rattle.page_scopes_tree.specs.Placements.{act_placement, act_skips, is_passed_over}
+use Rattle.page_scopes_tree.specs.Ends.{event_of, act_ends}
+use Rattle.page_scopes_tree.specs.Placements.{act_placement, act_skips, is_passed_over, broken_notes, obstacle_notes}
 use Rattle.page_scopes_tree.specs.declared.acts.Act.{Act}
 use Rattle.page_scopes_tree.specs.declared.acts.Act.TheVariants as acts
 use Rattle.page_scopes_tree.specs.declared.nestings.Scope.{Scope}
@@ -28,11 +20,14 @@ use Rattle.page_scopes_tree.specs.declared.placements.Obstacle.{Obstacle}
 use Rattle.page_scopes_tree.specs.declared.placements.Placement.{Placement}
 use Rattle.page_scopes_tree.specs.declared.placements.Placement.TheVariants as placements
 use Rattle.page_scopes_words.specs.Words.{at, says}
-use Rattle.page_sets_lines.specs.declared.events.Event.{Event}
-use Rattle.page_sets_lines.specs.declared.events.EventKind.{EventKind}
-use Rattle.page_sets_lines.specs.declared.events.EventKind.TheVariants.{Leaf}
-use Rattle.page_sets_lines.specs.declared.leaves.Leaf.TheVariants.{Prologue}
-use Rattle.page_sets_names.specs.declared.macro_names.Prologue.{Prologue as PrologueName}
+use Rattle.page_scopes_phrases.specs.Phrases.{Outcome}
+use Rattle.page_scopes_nodes.specs.Begins.{begun_by}
+use Rattle.page_scopes_nodes.specs.Ends as ends
+use Rattle.page_scopes.specs.Bodies.{act_name, begins, begun_after, coming, stands, kept}
+use Rattle.page_scopes.specs.declared.layouts.Kept.{Kept}
+use Rattle.page_scopes.specs.declared.layouts.LayoutState.{LayoutState}
+use Rattle.page_engine_header.specs.Header.{header_items}
+use Rattle.page_engine_lines.specs.Bodies.{HeaderEdge, is_mdoc, title_items, title_fields, BodyEdge}
 
 -- ---- the steps of a page
 

@@ -1,14 +1,13 @@
 //! The body of a page: the events of its lines, with the header before the event that begins it (man(7)).
 
 ghost use Rattle.std.specs.Prelude.{◌≡◌, ◌≤◌, length, IfOk};
-ghost use Rattle.page_core_base.specs.Latches.{Came};
-ghost use Rattle.page_core_base.specs.LinesTaken.{line_view};
+ghost use Rattle.page_core_base.specs.laws.Views.{Came, line_view};
 ghost use Rattle.page_engine_lines.specs.Bodies as bodies;
-ghost use Rattle.page_engine_lines.specs.Bodies.{GivesEvent, GivesEvents, plain_event};
-ghost use Rattle.page_sets_lines.specs.Fits.{IsShort};
-ghost use Rattle.page_engine_lines.specs.Caps.{BodyFits};
-ghost use Rattle.page_sets_lines.specs.Events.{event_view};
-ghost use Rattle.page_sets_lines.specs.PlainLines.{line_end, plain_events};
+ghost use Rattle.page_engine_lines.specs.laws.Views as bodies_laws;
+ghost use Rattle.page_engine_lines.specs.laws.Views.{GivesEvent, GivesEvents, plain_event, BodyFits};
+ghost use Rattle.page_sets_lines.specs.laws.Views.{IsShort};
+ghost use Rattle.page_sets_lines.specs.laws.Events.{event_view};
+ghost use Rattle.page_sets_lines.specs.Lines.{line_end, plain_events};
 
 use crate::languages::language_of;
 use crate::titles::give_title;
@@ -134,7 +133,7 @@ impl Body {
 
     /// Whether the title is settled: the body of the page has begun, and its language is decided. A macro of the title comes too late then.
     pub fn has_title(&self) -> bool
-        ensures { result ≡ bodies.has_title self.now }
+        ensures { result ≡ bodies_laws.has_title self.now }
     {
         self.is_decided && self.scopes.has_begun()
     }
@@ -175,7 +174,7 @@ impl Body {
     #[inline(always)]
     pub fn decide(&mut self, line: Taken<'_>)
         requires { length line.text.now ≤ LINE }
-        ensures { self.new ≡ bodies.decided self.old (line_view line.entry) }
+        ensures { self.new ≡ bodies_laws.decided self.old (line_view line.entry) }
     {
         if !self.is_decided {
             if let Some(set) = language_of(line) {
@@ -193,7 +192,7 @@ impl Body {
 
     // Gives the header before an event that begins the body.
     fn give_begin<O: PieceOut>(&self, out: &mut O, event: &Event<&[u8]>)
-        ensures { Came O.left out.old (bodies.begin_items self.now (event_view event.now)) out.new }
+        ensures { Came O.left out.old (bodies_laws.begin_items self.now (event_view event.now)) out.new }
     {
         if self.scopes.begins_body(event) {
             let place = Place {
@@ -205,7 +204,7 @@ impl Body {
     }
 
     // Gives an event, and keeps what it leaves.
-    #[tactic(auto, unfolding(crate::specs::Bodies::event_items, crate::specs::Bodies::event_after))]
+    #[tactic(auto, unfolding(crate::specs::laws::Views::event_items, crate::specs::laws::Views::event_after))]
     #[inline(always)]
     fn give_event<O: PieceOut>(&mut self, out: &mut O, event: &Event<&[u8]>)
         requires { IsShort (event_view event.now) }
@@ -308,9 +307,9 @@ impl Body {
     }
 
     /// Ends the body after a line: the header and a message where no body began, and the end of all scopes.
-    #[tactic(auto, unfolding(crate::specs::Bodies::end_items))]
+    #[tactic(auto, unfolding(crate::specs::laws::Views::end_items))]
     pub fn give_end<O: PieceOut>(&mut self, line: u32, out: &mut O)
-        ensures came { Came O.left out.old (bodies.end_items self.old line) out.new }
+        ensures came { Came O.left out.old (bodies_laws.end_items self.old line) out.new }
         ensures header { self.new.header ≡ self.old.header }
     {
         if !self.scopes.has_begun() {

@@ -2,9 +2,10 @@
 
 ghost use Rattle.std.specs.Prelude.{◌≡◌, ℕ, List, [], ◌∷◌, ◌++◌, map};
 ghost use Rattle.page_core_base.specs.Messages.{Message};
-ghost use Rattle.page_core_base.specs.Pieces.{noted};
+ghost use Rattle.page_core_base.specs.Rows.{noted};
 ghost use Rattle.page_sets_lines.specs.declared.events.Event.{Event};
-ghost use Rattle.page_engine_lines.specs.Bodies.{BodyEdge, end_items, events_after, events_items};
+ghost use Rattle.page_engine_lines.specs.Bodies.{BodyEdge};
+ghost use Rattle.page_engine_lines.specs.laws.Views.{end_items, events_after, events_items};
 ghost use Rattle.page_engine_lines.specs.Trees.{Step, events_steps, page_end_steps, reports, tree_after, tree_items};
 ghost use Rattle.page_engine_lines.specs.machine.Trees as machine;
 

@@ -1,7 +1,7 @@
 //! A latch that takes the pieces and messages of the macros, and the messages of roff between them.
 
 ghost use Rattle.std.specs.Prelude.{List, ◌++◌, map};
-ghost use Rattle.page_core_base.specs.Pieces.{Item, noted};
+ghost use Rattle.page_core_base.specs.Rows.{Item, noted};
 
 use page_core_base::{Font, Note, NoteOut, Piece, PieceOut, Place};
 

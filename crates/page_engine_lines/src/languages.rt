@@ -1,8 +1,8 @@
 //! The language of a page (mandoc(1), `-m`; man(7), `TH`; mdoc(7), `Dd`).
 
 ghost use Rattle.std.specs.Prelude.{◌≡◌, ◌≤◌, length};
-ghost use Rattle.page_core_base.specs.LinesTaken.{line_view};
-ghost use Rattle.page_engine_lines.specs.Languages as languages;
+ghost use Rattle.page_core_base.specs.laws.Views.{line_view};
+ghost use Rattle.page_engine_lines.specs.Bodies as languages;
 
 use page_core_base::{LINE, Taken};
 use page_sets::Either;
@@ -31,7 +31,7 @@ fn control_language(line: Taken<'_>) -> Option<Either>
 }
 
 /// The language that a line decides, if it decides one.
-#[tactic(auto, unfolding(crate::specs::Languages::language_of))]
+#[tactic(auto, unfolding(crate::specs::Bodies::language_of))]
 pub(crate) fn language_of(line: Taken<'_>) -> Option<Either>
     requires { length line.text.now ≤ LINE }
     ensures { result ≡ languages.language_of (line_view line.entry) }

@@ -2,12 +2,13 @@
 
 ghost use Rattle.std.specs.Prelude.{◌≡◌, ℕ, List, [], ◌∷◌, ◌++◌, None, map};
 ghost use Rattle.page_core_base.specs.Messages.{Message};
-ghost use Rattle.page_core_base.specs.Pieces.{noted};
+ghost use Rattle.page_core_base.specs.Rows.{noted};
 ghost use Rattle.page_roff_effects.specs.States.{Given};
-ghost use Rattle.page_roff_source.specs.Edges.{SourceLine};
+ghost use Rattle.page_roff_source.specs.Runs.{SourceLine};
 ghost use Rattle.page_engine_lines.specs.Bodies.{BodyEdge};
 ghost use Rattle.page_engine_lines.specs.Trees.{tree_after};
-ghost use Rattle.page_engine_lines.specs.Acts.{ending_items, given_then, lines_after, lines_items, page_items, raw_line, reader, rest_steps};
+ghost use Rattle.page_engine_lines.specs.laws.Views.{ending_items};
+ghost use Rattle.page_engine_lines.specs.Acts.{given_then, lines_after, lines_items, page_items, raw_line, reader, rest_steps};
 ghost use Rattle.page_engine_lines.specs.machine.Given.{body_after, given_items};
 ghost use Rattle.page_engine_lines.specs.Edges.{LinesEdge};
 ghost use Rattle.page_engine_lines.specs.machine.Lines.{end_items, source_after, source_items};

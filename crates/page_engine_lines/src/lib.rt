@@ -9,7 +9,7 @@
 //!
 //! Proved: `Body` (`copy`, `give_line`, `give_plain`, `give_end`, `give_footer`): the pieces and messages of a line's events are `events_items`, with
 //! the header before the event that begins the body; those of the page's end are `end_items` and `footer_items` (`specs/Bodies.antt`).
-//! `Body::decide`: the language of a page is that of its first line that decides one (`specs/Languages.antt`). `body_tree_law`, `body_cut_law`: the block
+//! `Body::decide`: the language of a page is that of its first line that decides one (`specs/Bodies.antt`). `body_tree_law`, `body_cut_law`: the block
 //! tree of all events, laid out, with messages, title and header where they are in it, is what the events give one after another
 //! (`specs/Trees.antt`), cut anywhere. `machine_law`: so is the tree by which the stack of scopes is proved (`specs/machine/Trees.antt`). `PageLines` (`line`, `end`, `footer`, `counts`): what a source line gives: the message of white space at its end,
 //! roff's messages, and the items of the lines that roff takes of it, in their order (`source_items` in `specs/machine/Lines.antt`). `tree_law`,

@@ -1,12 +1,12 @@
 //! The layers of a page that make pieces of its source lines: roff, and the macros.
 
 ghost use Rattle.std.specs.Prelude.{◌≡◌, ◌<◌, ◌^◌, true, IfOk, IfErr};
-ghost use Rattle.page_core_base.specs.Texts.{IsLine, IsFreeLine};
-ghost use Rattle.page_core_base.specs.Latches.{Came, Emits};
-ghost use Rattle.page_roff_source.specs.Caps.{RoffFits};
-ghost use Rattle.page_roff_source.specs.Edges.{counts_of};
-ghost use Rattle.page_engine_lines.specs.Bodies.{has_title, start_of};
-ghost use Rattle.page_engine_lines.specs.Caps.{BodyFits};
+ghost use Rattle.page_core_base.specs.Texts.{IsLine};
+ghost use Rattle.page_core_base.specs.laws.Views.{IsFreeLine, Came, Emits};
+ghost use Rattle.page_roff_source.specs.laws.Views.{RoffFits};
+ghost use Rattle.page_roff_source.specs.Runs.{counts_of};
+ghost use Rattle.page_engine_lines.specs.laws.Views.{has_title, BodyFits};
+ghost use Rattle.page_engine_lines.specs.Bodies.{start_of};
 ghost use Rattle.page_engine_lines.specs.Edges as edges;
 ghost use Rattle.page_engine_lines.specs.machine.Lines as lines;
 
@@ -46,7 +46,7 @@ pub struct LinesPart {
 }
 
 impl Model for LinesPart {
-    ghost use Rattle.page_roff_source.specs.Parts.{edge_at};
+    ghost use Rattle.page_roff_source.specs.laws.Views.{edge_at};
     ghost use Rattle.page_engine_lines.specs.Edges.{LinesEdge};
 
     ghost Value = { LinesEdge };

@@ -1,10 +1,9 @@
 //! What roff gives of a source line, as pieces and messages.
 
 ghost use Rattle.std.specs.Prelude.{◌≡◌, ◌≤◌, length, None};
-ghost use Rattle.page_core_base.specs.Latches.{Came};
-ghost use Rattle.page_core_base.specs.LinesTaken.{line_view};
-ghost use Rattle.page_roff_source.specs.Taken.{given_of};
-ghost use Rattle.page_engine_lines.specs.Bodies.{events_after, events_items};
+ghost use Rattle.page_core_base.specs.laws.Views.{Came, line_view};
+ghost use Rattle.page_roff_source.specs.laws.Views.{given_of};
+ghost use Rattle.page_engine_lines.specs.laws.Views.{events_after, events_items};
 ghost use Rattle.page_engine_lines.specs.machine.Lines as lines;
 ghost use Rattle.page_engine_lines.specs.machine.Given.{given_items, body_after, line_after, line_items, set_events};
 

@@ -1,8 +1,8 @@
 //! The title of a page (man(7), `TH`; mdoc(7), `Dd`, `Dt`, `Os`).
 
 ghost use Rattle.std.specs.Prelude.{◌≡◌, ◌≤◌, length};
-ghost use Rattle.page_core_base.specs.Latches.{Came};
-ghost use Rattle.page_engine_lines.specs.Titles as titles;
+ghost use Rattle.page_core_base.specs.laws.Views.{Came};
+ghost use Rattle.page_engine_lines.specs.Bodies as titles;
 
 use page_core_base::{LINE, NoteKind, PieceOut, Place};
 use page_engine_header::{Fields, report_cut_fields};

@@ -1,7 +1,7 @@
 -- Lines that are read one after another, up to the end of the section NAME.
 use Rattle.std.proofs.Common.{◌≡◌, ℕ, Bool, true, false, List, [], ◌∷◌, ◌++◌, None, map, refl, ap, sym, ◌∙◌}
 use Rattle.std.specs.Prelude.{if◌then◌else◌}
-use Rattle.page_core_base.specs.Pieces.{Item, noted}
+use Rattle.page_core_base.specs.Rows.{Item, noted}
 use Rattle.page_engine_lines.specs.Acts.{lines_items}
 use Rattle.page_engine_lines.specs.Edges.{LinesEdge}
 use Rattle.page_engine_lines.specs.machine.Lines.{source_after, source_items}

@@ -6,14 +6,14 @@ use Rattle.std.specs.Str.{bytes_eq}
 use Rattle.std.proofs.lemmas.Bool.{cases_Bool}
 use Rattle.std.proofs.lemmas.List.{map-append}
 use Rattle.std.proofs.Math.Seq.{take-length}
-use Rattle.page_core_base.specs.Pieces.{Item, noted, shown}
+use Rattle.page_core_base.specs.Rows.{Item, noted, shown}
 use Rattle.page_core_base.specs.declared.cells.Font.{Font}
 use Rattle.page_core_base.specs.declared.page_settings.Output.TheVariants.{Ascii}
 use Rattle.page_core_base.specs.declared.places.Place.{Place}
 use Rattle.page_core_base.specs.declared.pieces.Piece.{Piece}
 use Rattle.page_core_base.specs.declared.pieces.Piece.TheVariants.{Text, Glyph, Char, Tab, Blank, Glue, Split, Break, RowEnd, Para, Space, Indent, Literal, Tag, TagEnd, Heading, Column}
-use Rattle.page_core_tables.specs.Printed.{char_printed, glyph_printed}
-use Rattle.page_engine_header.specs.Printing.{characters_of, in_font, plain_printed, token_printed, tokens_items}
+use Rattle.page_core_tables.specs.Glyphs.{char_printed, glyph_printed}
+use Rattle.page_engine_header.specs.Header.{characters_of, in_font, plain_printed, token_printed, tokens_items}
 use Rattle.page_core_escapes.specs.Tokens.{TextToken}
 use Rattle.page_scopes_words.specs.Fonts.{token_fonts}
 use Rattle.page_scopes_words.specs.declared.fonts.Fonts.{Fonts}

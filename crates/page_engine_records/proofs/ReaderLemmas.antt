@@ -2,8 +2,8 @@
 use Rattle.std.proofs.Common.{◌≡◌, ℕ, ◌+◌, ◌<◌, ◌≤◌, nat_lt, false, List, [], ◌∷◌, ◌++◌, length, drop, get_or, inl, inr, refl, sym, arith, add-one, drop-cons, Result, Ok, Err}
 use Rattle.std.proofs.lemmas.Bool.{cases_Bool}
 use Rattle.std.proofs.lemmas.List.{drop_all}
-use Rattle.page_core_base.specs.Latches.{Emits}
-use Rattle.page_core_base.specs.Pieces.{Item}
+use Rattle.page_core_base.specs.laws.Views.{Emits}
+use Rattle.page_core_base.specs.Rows.{Item}
 use Rattle.page_core_base.specs.declared.faults.Fault.{Fault}
 use Rattle.page_engine_records.proofs.TextLemmas.{without_room}
 use Rattle.page_engine_records.specs.NameTexts.{TEXT}

@@ -4,14 +4,14 @@ use Rattle.std.proofs.Math.Path.{subst}
 use Rattle.std.specs.Prelude.{if◌then◌else◌}
 use Rattle.std.specs.Io.KnownBytes.{IsAtEnd}
 use Rattle.std.proofs.lemmas.List.{take-append-drop}
-use Rattle.page_core_base.specs.Checks.{IsGood}
+use Rattle.page_core_base.specs.Settings.{IsGood}
 use Rattle.page_core_base.specs.declared.faults.Fault.{Fault}
 use Rattle.page_core_base.specs.declared.faults.Fault.TheVariants.{Memory, Read, WriteText, WriteNotes, TooLong, Settings, Failed, Ended, BadIndex}
 use Rattle.page_core_base.specs.declared.page_settings.Settings.{Settings as PageSettings}
-use Rattle.page_core_streams.specs.Chunks.{Stops}
-use Rattle.page_core_streams.specs.Sources.{SourceState}
+use Rattle.page_core_streams.specs.laws.Views.{Stops}
+use Rattle.page_core_streams.specs.Streams.{SourceState}
 use Rattle.page_engine_index.specs.declared.records.Record.{Record}
-use Rattle.page_roff_lines.specs.Cutting.{Point, first_point, last_line, lines_from, lines_within, point_after}
+use Rattle.page_roff_lines.specs.laws.Cutting.{Point, first_point, last_line, lines_from, lines_within, point_after}
 use Rattle.page_roff_lines.specs.Lines.{Line}
 use Rattle.page_roff_lines.proofs.LineAgreement.{lines-one_by_one}
 use Rattle.page_roff_lines.proofs.PointLemmas.{lines_within-append, point_after-append}

@@ -1,14 +1,14 @@
 -- The record that is read line by line, up to where it is settled, is the record of the whole page.
 use Rattle.std.proofs.Common.{◌≡◌, Bool, true, false, ◌&&◌, inl, inr, List, [], ◌∷◌, ◌++◌, None, map, refl, ap, sym, ◌∙◌}
 use Rattle.std.proofs.lemmas.Bool.{cases_Bool}
-use Rattle.page_core_base.specs.Pieces.{Item}
+use Rattle.page_core_base.specs.Rows.{Item}
 use Rattle.page_core_base.specs.declared.page_settings.Settings.{Settings}
-use Rattle.page_engine_lines.specs.Bodies.{has_title}
-use Rattle.page_engine_lines.specs.Acts.{lines_items, lines_after, ending_items, page_items}
+use Rattle.page_engine_lines.specs.laws.Views.{has_title, ending_items}
+use Rattle.page_engine_lines.specs.Acts.{lines_items, lines_after, page_items}
 use Rattle.page_engine_lines.specs.Edges.{LinesEdge, start_of}
 use Rattle.page_engine_lines.proofs.TreeLemmas.{ending_is, end_items_after, lines_after-append, lines_items-append, no_items, none_after, title_after}
 use Rattle.page_roff_lines.specs.Lines.{Line}
-use Rattle.page_roff_source.specs.Edges.{Edge, SourceLine}
+use Rattle.page_roff_source.specs.Runs.{Edge, SourceLine}
 use Rattle.page_roff_source.proofs.LineLemmas.{done-idle}
 use Rattle.page_engine_records.specs.machine.Fronts.{Front, after_line, after_lines, ended, front_record, is_settled, start}
 use Rattle.page_engine_records.specs.NameTexts.{name_text}

@@ -5,7 +5,7 @@ use Rattle.page_engine_index.specs.declared.records.Record.{Record}
 use Rattle.page_engine_lines.specs.Acts.{raw_line, page_items, lines_after}
 use Rattle.page_engine_lines.specs.Edges.{start_of}
 use Rattle.page_roff_lines.specs.Lines.{Line, lines}
-use Rattle.page_roff_source.specs.Edges.{SourceLine}
+use Rattle.page_roff_source.specs.Runs.{SourceLine}
 use Rattle.page_engine_records.specs.NameTexts.{name_text}
 use Rattle.page_engine_records.specs.Records.{record_by}
 

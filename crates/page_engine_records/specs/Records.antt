@@ -3,9 +3,9 @@ use Rattle.std.specs.Prelude.{ℕ, ◌+◌, ◌==◌, nat_eq, nat_lt, Bool, fals
 use Rattle.std.specs.List.{slice_split, starts_with}
 use Rattle.page_core_base.specs.declared.page_settings.Output.TheVariants.{Ascii}
 use Rattle.page_core_escapes.specs.Tokens.{tokens_of}
-use Rattle.page_engine_header.specs.Printing.{tokens_items}
+use Rattle.page_engine_header.specs.Header.{tokens_items}
 use Rattle.page_engine_index.specs.declared.records.Record.{Record}
-use Rattle.page_roff_syntax.specs.Ends.{kept_len}
+use Rattle.page_roff_syntax.specs.Delimiters.{kept_len}
 use Rattle.page_scopes_words.specs.Fonts.{roman_fonts}
 use Rattle.page_scopes_words.specs.Words.{at}
 use Rattle.page_engine_records.specs.NameTexts.{kept_text, signs_of}

@@ -1,12 +1,12 @@
 -- What reading the record of a page did, by its answer. Source: mandoc(1), makewhatis.
 use Rattle.std.specs.Prelude.{◌≡◌, ◌≤◌, ℕ, ◌-◌, ◌^◌, List, [], Option, Result, MatchResult}
 use Rattle.std.specs.Io.KnownBytes.{IsAtEnd}
-use Rattle.page_core_base.specs.Checks.{IsGood, IsFirst}
-use Rattle.page_core_base.specs.Fails.{Rose}
+use Rattle.page_core_base.specs.Settings.{IsGood, IsFirst}
+use Rattle.page_core_base.specs.Messages.{Rose}
 use Rattle.page_core_base.specs.declared.faults.Fault.{Fault}
 use Rattle.page_core_base.specs.declared.faults.Fault.TheVariants.{Memory, Read, WriteText, WriteNotes, TooLong, Settings, Failed, Ended, BadIndex}
 use Rattle.page_core_base.specs.declared.page_settings.Settings.{Settings as PageSettings}
-use Rattle.page_core_streams.specs.Sources.{SourceState, HasGiven, IsLean, IsTooLong}
+use Rattle.page_core_streams.specs.Streams.{SourceState, HasGiven, IsLean, IsTooLong}
 use Rattle.page_engine_index.specs.declared.records.Record.{Record}
 use Rattle.page_engine_records.specs.PageRecords.{page_record}
 

@@ -2,7 +2,7 @@
 
 ghost use Rattle.std.specs.Prelude.{◌≡◌, ◌<◌, ◌+◌, ◌^◌, None, false, true, IfOk, IfErr};
 ghost use Rattle.page_core_base.specs.Texts.{IsLine};
-ghost use Rattle.page_roff_lines.specs.Cutting.{line_of};
+ghost use Rattle.page_roff_lines.specs.laws.Cutting.{line_of};
 ghost use Rattle.page_engine_lines.specs.machine.Lines.{source_after, source_items};
 ghost use Rattle.page_engine_records.specs.machine.Fronts as fronts;
 ghost use Rattle.page_engine_records.specs.machine.NameTexts.{read};

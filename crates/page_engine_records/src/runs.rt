@@ -2,9 +2,9 @@
 
 ghost use Rattle.std.specs.Prelude.{◌≡◌, ◌<◌, ◌≤◌, ℕ, List, None, false, true, length, IfOk, IfErr};
 ghost use Rattle.std.specs.Io.KnownBytes.{Consumes};
-ghost use Rattle.page_core_base.specs.Latches.{Emits};
+ghost use Rattle.page_core_base.specs.laws.Views.{Emits};
 ghost use Rattle.page_core_escapes.specs.Tokens.{tokens_of};
-ghost use Rattle.page_engine_header.specs.Printing.{tokens_items};
+ghost use Rattle.page_engine_header.specs.Header.{tokens_items};
 ghost use Rattle.page_scopes_words.specs.Fonts.{roman_fonts};
 ghost use Rattle.page_scopes_words.specs.Words.{at};
 ghost use Rattle.page_engine_records.specs.Records.{record_by, section_text};

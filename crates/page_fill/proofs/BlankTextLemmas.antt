@@ -8,14 +8,17 @@ use Rattle.page_core_base.specs.declared.cells.Font.{Font}
 use Rattle.page_core_base.specs.declared.pieces.Piece.{Piece}
 use Rattle.page_core_base.specs.declared.pieces.Piece.TheVariants.{Text}
 use Rattle.page_core_base.specs.declared.places.Place.{Place}
-use Rattle.page_core_base.specs.Laid.{Laid, nothing, join, join_assoc, seq}
-use Rattle.page_fill_rows.specs.Characters.{cell_of}
+use Rattle.page_core_base.specs.Rows.{Laid, nothing, join, seq}
+use Rattle.page_core_base.specs.laws.Views.{join_assoc}
+use Rattle.page_fill_cells.specs.Cells.{cell_of}
 use Rattle.page_fill_cells.specs.machine.BlankRuns.{is_blank_byte}
-use Rattle.page_fill_rows.specs.machine.Sheets.{Sheet, letters, over}
+use Rattle.page_fill_rows.specs.OpenRows.{Sheet, over}
+use Rattle.page_fill_rows.specs.machine.Sheets.{letters}
 use Rattle.page_fill_cells.proofs.BlankRunLemmas.{blanks-plain, count-blank, count-cells}
 use Rattle.page_fill_rows.proofs.CharacterLemmas.{letters-append}
 use Rattle.page_fill_rows.proofs.PlainLemmas.{characters_of-plain}
-use Rattle.page_fill.specs.machine.Fill.{Edge, laid, laid_piece, on_sheet, opening, text}
+use Rattle.page_fill.specs.declared.edges.Edge.{Edge}
+use Rattle.page_fill.specs.machine.Fill.{laid, laid_piece, on_sheet, opening, text}
 use Rattle.page_fill.proofs.GlueLaw.{seq-nothing}
 use Rattle.page_fill.proofs.PlainWordLemmas.{text-plain}
 

@@ -8,16 +8,14 @@ use Rattle.page_core_base.specs.declared.pieces.Piece.TheVariants.{Char, Tab, Bl
 use Rattle.page_core_base.specs.declared.pieces.TagForm.TheVariants as forms
 use Rattle.page_core_base.specs.declared.note_kinds.NoteKind.TheVariants as notes
 use Rattle.page_core_base.specs.Messages.{message_about}
-use Rattle.page_core_base.specs.Pieces.{Item, shown, noted}
-use Rattle.page_core_base.specs.Rows.{LaidRow, row_of}
+use Rattle.page_core_base.specs.Rows.{Item, shown, noted, LaidRow, row_of}
 use Rattle.page_fill_rows.specs.OpenRows.{fresh}
-use Rattle.page_fill_rows.specs.Characters.{cells_of}
+use Rattle.page_fill_cells.specs.Cells.{cells_of}
 use Rattle.page_fill.specs.declared.edges.Edge.{Edge}
 use Rattle.page_fill.specs.Filled.{first_word, outcome, filling}
-use Rattle.page_fill.specs.PieceWords.{words_of, word_after_items, words_laid, content_laid}
+use Rattle.page_fill.specs.Words.{words_of, word_after_items, words_laid, content_laid, no_word}
 use Rattle.page_fill.specs.Filling.{groups, other_laid, groups_laid}
 use Rattle.page_fill.specs.Filling as filling_of
-use Rattle.page_fill.specs.Edges.{no_word}
 
 -- the start of a page of so many columns
 abbrev at_start : ℕ → Edge

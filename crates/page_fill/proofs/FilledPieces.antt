@@ -11,22 +11,22 @@ use Rattle.page_core_base.specs.declared.pieces.Piece.{Piece}
 use Rattle.page_core_base.specs.declared.pieces.Piece.TheVariants.{Text, Glyph, Char, Tab, Blank, Glue, Split, Break, RowEnd, Para, Space, Indent, Literal, Tag, TagEnd, Heading, Column}
 use Rattle.page_core_base.specs.declared.places.Place.{Place}
 use Rattle.page_core_base.specs.Messages.{Message}
-use Rattle.page_core_base.specs.Rows.{LaidRow, is_blank_row}
-use Rattle.page_core_base.specs.Laid.{Laid, join, seq}
-use Rattle.page_core_base.specs.Pieces.{Item}
-use Rattle.page_core_base.specs.Pieces as items
+use Rattle.page_core_base.specs.Rows.{LaidRow, is_blank_row, Laid, join, seq, Item}
+use Rattle.page_core_base.specs.Rows as items
 use Rattle.page_core_base.specs.declared.limits.TheConstants.{CELLS}
-use Rattle.page_core_tables.specs.Printed.{Printing, char_printed, glyph_printed}
+use Rattle.page_core_tables.specs.Glyphs.{Printing, char_printed, glyph_printed}
 use Rattle.page_fill.specs.declared.edges.OpenWord.{OpenWord}
 use Rattle.page_fill.specs.declared.edges.Edge.{Edge}
-use Rattle.page_fill_rows.specs.machine.Sheets.{Sheet, over, blank, passes, letter, space, more_blank_rows}
-use Rattle.page_fill_rows.specs.Characters.{cell_of, cells_of, characters_of, unknown_notes, with_notes}
-use Rattle.page_fill.specs.machine.Fill.{laid_piece, tab_notes}
+use Rattle.page_fill_rows.specs.OpenRows.{Sheet, over, more_blank_rows, characters_of, unknown_notes, with_notes}
+use Rattle.page_fill_cells.specs.Cells.{blank, cell_of, cells_of}
+use Rattle.page_fill_rows.specs.machine.Sheets.{passes, letter, space}
+use Rattle.page_fill.specs.machine.Fill.{laid_piece}
+use Rattle.page_fill.specs.Words.{tab_notes, cell_content, printed_content, text_content, tab_content, Words, and_then, words_from, words_of, word_after_items, frame_of, open_row_of, with_row, next_edge, going_on, words_laid, after_cell, word_after}
 use Rattle.page_fill.specs.machine.Items.{laid_items}
 use Rattle.page_fill.proofs.Marks.{Mark, reported, opened, spaced, lettered, letters_of, printed_marks, character_marks, text_marks, tab_marks, blank_marks, opening_marks, is_of_words, piece_marks}
 use Rattle.page_fill.specs.Filled.{CellOrNote, shown, noted, Row, filling}
-use Rattle.page_fill.specs.Caps.{IsHeld, is_sound}
-use Rattle.page_fill.specs.PieceWords.{cell_content, printed_content, text_content, tab_content, Words, and_then, words_from, words_of, word_after_items, frame_of, open_row_of, with_row, next_edge, going_on, words_laid, after_cell, word_after}
+use Rattle.page_fill_rows.specs.laws.Views.{IsHeld}
+use Rattle.page_fill.specs.laws.Views.{is_sound}
 use Rattle.page_fill.proofs.MarkRuns.{step, run, run-append}
 use Rattle.page_fill.proofs.MarkedPieces.{AreStanding, with_word, piece-run, stands-after, sound-after, run-literal}
 use Rattle.page_fill.proofs.FilledWords.{mark_of, marks_of, word_marks, words_marks, run-held, run-frame, filling-run, rest-run}

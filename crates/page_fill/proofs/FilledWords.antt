@@ -7,16 +7,17 @@ use Rattle.std.proofs.lemmas.Bool.Decides.{nat_tests}
 use Rattle.page_core_base.specs.declared.cells.Cell.{Cell}
 use Rattle.page_core_base.specs.declared.places.Place.{Place}
 use Rattle.page_core_base.specs.Messages.{Message}
-use Rattle.page_core_base.specs.Laid.{join, seq}
+use Rattle.page_core_base.specs.Rows.{join, seq}
 use Rattle.page_core_base.specs.declared.limits.TheConstants.{CELLS}
-use Rattle.page_fill_rows.specs.machine.Sheets.{Sheet, over, blank, passes, letter, space, given, begins, emptied}
+use Rattle.page_fill_rows.specs.OpenRows.{Sheet, over, with_notes}
+use Rattle.page_fill_cells.specs.Cells.{blank}
+use Rattle.page_fill_rows.specs.machine.Sheets.{passes, letter, space, given, begins, emptied}
 use Rattle.page_fill_rows.specs.machine.Sheets as sheets
-use Rattle.page_fill_rows.specs.Characters.{with_notes}
 use Rattle.page_fill.proofs.Marks.{Mark, reported, opened, spaced, lettered}
 use Rattle.page_fill.specs.Filled.{CellOrNote, shown, noted, Word, Frame, Row, counted, with_cell, before_word, row_begun, row_ended, full_row_ended, first_word, Outcome, fits, too_wide, too_many, after_note, outcome, by_word, by_blanks, one_word, rest_of_word, filling}
 use Rattle.page_fill.specs.machine.Words.{is_wide}
-use Rattle.page_fill.specs.Caps.{IsHeld}
-use Rattle.page_fill.specs.PieceWords.{frame_of, open_row_of}
+use Rattle.page_fill_rows.specs.laws.Views.{IsHeld}
+use Rattle.page_fill.specs.Words.{frame_of, open_row_of}
 use Rattle.page_fill.proofs.MarkRuns.{step, run, run-append}
 use Rattle.page_fill.proofs.HeldSheets.{letter-held, space-held, opens-held}
 

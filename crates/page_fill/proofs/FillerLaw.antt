@@ -2,10 +2,10 @@
 use Rattle.std.proofs.Common.{◌≡◌, ℕ, zero, suc, Bool, true, List, [], ◌∷◌, map, replicate, Option, None, Some, Result, Ok, Err, OnOk, refl, sym, ap, ◌∙◌}
 use Rattle.std.specs.Prelude.{if◌then◌else◌}
 use Rattle.page_core_base.specs.declared.faults.Fault.{Fault}
-use Rattle.page_core_base.specs.Laid.{Laid, join, seq}
-use Rattle.page_core_base.specs.Pieces.{Item, shown, noted}
+use Rattle.page_core_base.specs.Rows.{Laid, join, seq, Item, shown, noted}
 use Rattle.page_core_base.specs.declared.pieces.Piece.{Piece}
-use Rattle.page_fill.specs.Caps.{IsHeld, is_sound}
+use Rattle.page_fill_rows.specs.laws.Views.{IsHeld}
+use Rattle.page_fill.specs.laws.Views.{is_sound}
 use Rattle.page_fill.specs.declared.edges.Edge.{Edge}
 use Rattle.page_fill.specs.machine.Fill.{laid_piece, laid, ended}
 use Rattle.page_fill.specs.machine.Items as steps

@@ -7,19 +7,20 @@ use Rattle.page_core_base.specs.declared.pieces.Piece.{Piece}
 use Rattle.page_core_base.specs.declared.pieces.Piece.TheVariants.{Text, Glyph, Char, Tab, Blank, Glue, Split, Break, RowEnd, Para, Space, Indent, Literal, Tag, TagEnd, Heading, Column}
 use Rattle.page_core_base.specs.declared.places.Place.{Place}
 use Rattle.page_core_base.specs.Messages.{Message}
-use Rattle.page_core_base.specs.Laid.{Laid, nothing, join, seq}
-use Rattle.page_core_base.specs.Pieces.{Item, shown, noted}
+use Rattle.page_core_base.specs.Rows.{Laid, nothing, join, seq, Item, shown, noted}
 use Rattle.page_fill.specs.declared.edges.OpenTag.{OpenTag}
 use Rattle.page_fill.specs.declared.edges.Edge.{Edge}
 use Rattle.page_fill.specs.machine.Fill.{laid_piece, on_sheet, opening, tab, fixed_tab, filled_tab, to_stop, ended, paragraph, spaced, row_ended, heading, headed, without_tag, fits_hang}
-use Rattle.page_fill.specs.Edges.{no_word}
+use Rattle.page_fill.specs.Words.{no_word, cell_content, Words, and_then, words_laid, content_laid, after_cell}
 use Rattle.page_fill.specs.machine.Fill as fill
-use Rattle.page_fill_rows.specs.machine.Sheets.{over, blank, broken, empty_rows}
+use Rattle.page_fill_rows.specs.OpenRows.{over}
+use Rattle.page_fill_cells.specs.Cells.{blank}
+use Rattle.page_fill_rows.specs.machine.Sheets.{broken, empty_rows}
 use Rattle.page_fill.proofs.Marks.{Mark, letters_of, opening_marks}
 use Rattle.page_fill.proofs.Marks as marks
 use Rattle.page_fill.specs.Filled.{CellOrNote}
-use Rattle.page_fill.specs.Caps.{IsHeld, is_sound}
-use Rattle.page_fill.specs.PieceWords.{cell_content, Words, and_then, words_laid, content_laid, after_cell}
+use Rattle.page_fill_rows.specs.laws.Views.{IsHeld}
+use Rattle.page_fill.specs.laws.Views.{is_sound}
 use Rattle.page_fill.specs.machine.Items.{laid_items, laid_items-append}
 use Rattle.page_fill.specs.Filling.{Group, words, other, is_of_words, in_front, groups, row_end, blank_rows, after_tag, tag_end, stop_content, other_laid, groups_laid, filled}
 use Rattle.page_fill.proofs.MarkRuns.{run}

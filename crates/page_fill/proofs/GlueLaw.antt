@@ -7,16 +7,14 @@ use Rattle.page_core_base.specs.declared.cells.Font.{Font}
 use Rattle.page_core_base.specs.declared.page_settings.Output.{Output}
 use Rattle.page_core_base.specs.declared.pieces.Piece.TheVariants.{Text, Blank, Glue}
 use Rattle.page_core_base.specs.declared.places.Place.{Place}
-use Rattle.page_core_base.specs.Laid.{Laid, nothing, seq}
-use Rattle.page_core_base.specs.Pieces.{Item, shown}
-use Rattle.page_core_tables.specs.Printed.{char_printed}
+use Rattle.page_core_base.specs.Rows.{Laid, nothing, seq, Item, shown}
+use Rattle.page_core_tables.specs.Glyphs.{char_printed}
 use Rattle.page_fill.specs.declared.edges.Edge.{Edge}
 use Rattle.page_fill.specs.declared.edges.OpenWord.{OpenWord}
-use Rattle.page_fill.specs.Edges.{begun_word}
-use Rattle.page_fill_rows.specs.Characters.{characters_of}
+use Rattle.page_fill.specs.Words.{begun_word, text_content, printed_content, Words, word_of, words_of, word_after_items, going_on, next_edge, words_laid}
+use Rattle.page_fill_rows.specs.OpenRows.{characters_of}
 use Rattle.page_fill_rows.proofs.CharacterLemmas.{characters_of-text, chars-empty}
 use Rattle.page_fill.specs.Filled.{CellOrNote}
-use Rattle.page_fill.specs.PieceWords.{text_content, printed_content, Words, word_of, words_of, word_after_items, going_on, next_edge, words_laid}
 use Rattle.page_fill.specs.Filling.{words, groups, groups_laid, filled}
 
 pub seq-nothing : {E : Type 0} (l : Laid E) → seq l (λ f. nothing f) ≡ l

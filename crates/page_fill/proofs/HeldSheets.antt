@@ -10,16 +10,17 @@ use Rattle.page_core_base.specs.declared.pieces.Piece.{Piece}
 use Rattle.page_core_base.specs.declared.pieces.Piece.TheVariants.{Text, Glyph, Char, Tab, Blank, Glue, Split, Break, RowEnd, Para, Space, Indent, Literal, Tag, TagEnd, Heading, Column}
 use Rattle.page_core_base.specs.declared.pieces.TagForm.TheVariants as forms
 use Rattle.page_core_base.specs.declared.places.Place.{Place}
-use Rattle.page_core_base.specs.Laid.{nothing}
+use Rattle.page_core_base.specs.Rows.{nothing}
 use Rattle.page_core_base.specs.declared.limits.TheConstants.{CELLS}
-use Rattle.page_core_tables.specs.Printed.{char_printed, glyph_printed}
+use Rattle.page_core_tables.specs.Glyphs.{char_printed, glyph_printed}
 use Rattle.page_fill.specs.declared.edges.OpenTag.{OpenTag}
 use Rattle.page_fill.specs.declared.edges.Edge.{Edge}
-use Rattle.page_fill_rows.specs.machine.Sheets.{Sheet, blank, passes, letter, letters, space, spaces, new_word, opens, broken, empty_rows, fresh}
-use Rattle.page_fill_rows.specs.Characters.{cells_of, cell_of, characters_of, character, characters, glyph}
+use Rattle.page_fill_rows.specs.OpenRows.{Sheet, fresh, characters_of}
+use Rattle.page_fill_cells.specs.Cells.{blank, cells_of, cell_of}
+use Rattle.page_fill_rows.specs.machine.Sheets.{passes, letter, letters, space, spaces, new_word, opens, broken, empty_rows}
+use Rattle.page_fill_rows.specs.laws.Views.{character, characters, glyph, IsHeld}
 use Rattle.page_fill.specs.machine.Fill.{laid_piece, text, one_character, one_glyph, tab, opening, ended, paragraph, spaced, row_ended, heading, tag_ended, tag_end, after_tag, fits_hang, without_tag, stands, to_stop, missing_rows}
-use Rattle.page_fill.specs.Edges.{no_word}
-use Rattle.page_fill.specs.Caps.{IsHeld}
+use Rattle.page_fill.specs.Words.{no_word}
 
 pub letter-held : (s : Sheet) (cell : Cell) (place : Place) → IsHeld s → IsHeld (letter s cell place).edge
 unfolding letter

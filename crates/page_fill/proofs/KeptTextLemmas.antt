@@ -11,16 +11,16 @@ use Rattle.page_core_base.specs.declared.pieces.Piece.{Piece}
 use Rattle.page_core_base.specs.declared.pieces.Piece.TheVariants.{Text, Glyph, Char, Tab, Blank, Glue, Split, Break, RowEnd, Para, Space, Indent, Literal, Tag, TagEnd, Heading, Column}
 use Rattle.page_core_base.specs.declared.places.Place.{Place}
 use Rattle.page_core_base.specs.declared.limits.TheConstants.{CELLS}
-use Rattle.page_core_base.specs.Laid.{nothing}
-use Rattle.page_core_base.specs.Words.{is_kept, letters_of, word_letters}
-use Rattle.page_fill_cells.specs.Cells.{is_printable, is_printable_ascii}
-use Rattle.page_fill_rows.specs.Characters.{cell_of, cells_of}
+use Rattle.page_core_base.specs.Rows.{nothing}
+use Rattle.page_core_base.specs.laws.Views.{is_kept, letters_of, word_letters, is_printable, is_printable_ascii}
+use Rattle.page_fill_cells.specs.Cells.{cell_of, cells_of}
 use Rattle.page_fill_rows.specs.declared.TheConstants.{TAG_COLUMNS}
 use Rattle.page_fill_rows.specs.machine.Plain.{has_part_room, taken}
-use Rattle.page_fill_rows.specs.machine.Sheets.{Sheet}
+use Rattle.page_fill_rows.specs.OpenRows.{Sheet}
 use Rattle.page_fill_rows.proofs.PlainLemmas.{are_plain, characters_of-plain, of-plain}
-use Rattle.page_fill.specs.KeptTexts.{AreKept, goes_on, has_kept_room}
-use Rattle.page_fill.specs.machine.Fill.{Edge, laid, laid_piece, on_sheet, text}
+use Rattle.page_fill.specs.laws.Views.{AreKept, goes_on, has_kept_room}
+use Rattle.page_fill.specs.declared.edges.Edge.{Edge}
+use Rattle.page_fill.specs.machine.Fill.{laid, laid_piece, on_sheet, text}
 use Rattle.page_fill.proofs.LetteredPieces.{text-printable}
 use Rattle.page_fill.proofs.PlainWordLemmas.{character-text, text-part}
 

@@ -10,17 +10,19 @@ use Rattle.page_core_base.specs.declared.pieces.Piece.{Piece}
 use Rattle.page_core_base.specs.declared.pieces.Piece.TheVariants.{Text, Glyph, Char, Tab, Blank, Glue, Split, Break, RowEnd, Para, Space, Indent, Literal, Tag, TagEnd, Heading, Column}
 use Rattle.page_core_base.specs.declared.places.Place.{Place}
 use Rattle.page_core_base.specs.declared.limits.TheConstants.{CELLS}
-use Rattle.page_core_base.specs.Laid.{Laid, nothing, join, join_assoc, seq}
-use Rattle.page_core_base.specs.Words.{is_lettered, is_lettered_word, is_word, letters_of, word_letters}
-use Rattle.page_fill_cells.specs.Cells.{is_printable, is_printable_ascii}
-use Rattle.page_fill_rows.specs.Characters.{cell_of, cells_of}
+use Rattle.page_core_base.specs.Rows.{Laid, nothing, join, seq}
+use Rattle.page_core_base.specs.laws.Views.{join_assoc, is_lettered, is_lettered_word, is_word, letters_of, word_letters, is_printable, is_printable_ascii}
+use Rattle.page_fill_cells.specs.Cells.{cell_of, cells_of, blank}
 use Rattle.page_fill_rows.specs.machine.Plain.{has_word_room, spaced_by}
-use Rattle.page_fill_rows.specs.machine.Sheets.{Sheet, blank, letters, opens, over, space}
+use Rattle.page_fill_rows.specs.OpenRows.{Sheet, over}
+use Rattle.page_fill_rows.specs.machine.Sheets.{letters, opens, space}
 use Rattle.page_fill_rows.proofs.AnywhereLemmas.{letters-anywhere, letters-length, space-anywhere, space-length}
 use Rattle.page_fill_rows.proofs.CharacterLemmas.{letters-append}
 use Rattle.page_fill_rows.proofs.PlainLemmas.{are_plain, characters_of-plain}
 use Rattle.page_fill_rows.proofs.WrapLemmas.{both}
-use Rattle.page_fill.specs.machine.Fill.{Edge, begun_word, laid, laid_piece, on_sheet, opening, text}
+use Rattle.page_fill.specs.declared.edges.Edge.{Edge}
+use Rattle.page_fill.specs.Words.{begun_word}
+use Rattle.page_fill.specs.machine.Fill.{laid, laid_piece, on_sheet, opening, text}
 use Rattle.page_fill.proofs.BlankTextLemmas.{goes-on}
 use Rattle.page_fill.proofs.PlainWordLemmas.{character-text, opening-fits, opening-one, text-plain}
 

@@ -14,18 +14,20 @@ use Rattle.page_core_base.specs.declared.pieces.Piece.{Piece}
 use Rattle.page_core_base.specs.declared.pieces.Piece.TheVariants.{Blank}
 use Rattle.page_core_base.specs.declared.places.Place.{Place}
 use Rattle.page_core_base.specs.declared.limits.TheConstants.{CELLS}
-use Rattle.page_core_base.specs.Laid.{Laid, nothing, join, join_assoc}
-use Rattle.page_core_base.specs.Rows.{cells_in}
-use Rattle.page_core_base.specs.Words.{blank_words, is_lettered_word, is_word, joined_cells, lettered_cells, lettered_pieces, word_letters}
+use Rattle.page_core_base.specs.Rows.{Laid, nothing, join}
+use Rattle.page_core_base.specs.laws.Views.{join_assoc, cells_in, blank_words, is_lettered_word, is_word, joined_cells, lettered_cells, lettered_pieces, word_letters, is_printable_ascii}
 use Rattle.page_fill_cells.proofs.PlaceLemmas.{in-drop, in-length, in-take}
 use Rattle.page_fill_rows.specs.declared.TheConstants.{TAG_COLUMNS}
-use Rattle.page_fill_rows.specs.machine.Sheets.{Sheet, blank, cell_columns, columns, emptied, gives, letters, opens, over, passes}
-use Rattle.page_fill_rows.specs.machine.Plain.{begun_with, blank_counted, ends_before, free_cells, has_word_room, is_printable_ascii, next_free_cells, spaced_by, taken, word_end, word_start, words_taken, wraps_plain, wraps_words}
+use Rattle.page_fill_rows.specs.OpenRows.{Sheet, over}
+use Rattle.page_fill_cells.specs.Cells.{blank, cell_columns, columns}
+use Rattle.page_fill_rows.specs.machine.Sheets.{emptied, gives, letters, opens, passes}
+use Rattle.page_fill_rows.specs.machine.Plain.{begun_with, blank_counted, ends_before, free_cells, has_word_room, next_free_cells, spaced_by, taken, word_end, word_start, words_taken, wraps_plain, wraps_words}
 use Rattle.page_fill_rows.proofs.PlainLemmas.{are_plain, cells-fit, columns-blanks, columns-cells, in-plain, spaced-room, taken-cells}
 use Rattle.page_fill_rows.proofs.WordStartLemmas.{start-append}
 use Rattle.page_fill_rows.proofs.WrapLemmas.{both, both-cells}
-use Rattle.page_fill.specs.LetteredWords.{AreWords, first_letters, fits_after, is_in_row}
-use Rattle.page_fill.specs.machine.Fill.{Edge, laid}
+use Rattle.page_fill.specs.laws.Views.{AreWords, first_letters, fits_after, is_in_row}
+use Rattle.page_fill.specs.declared.edges.Edge.{Edge}
+use Rattle.page_fill.specs.machine.Fill.{laid}
 use Rattle.page_fill.specs.machine.LetteredWords.{AreSpaced, LaysUpTo, LaysWords}
 use Rattle.page_fill.specs.machine.PlainWords.{next_front, whole_words}
 use Rattle.page_fill.proofs.BlankTextLemmas.{laid-append}

@@ -1,8 +1,9 @@
 -- What marks do to the open row, one by one.
 use Rattle.std.proofs.Common.{◌≡◌, List, [], ◌∷◌, ◌++◌, refl, sym, ap, ◌∙◌}
-use Rattle.page_core_base.specs.Laid.{Laid, nothing, join, seq, join_assoc}
-use Rattle.page_fill_rows.specs.machine.Sheets.{Sheet, letter, space, opens}
-use Rattle.page_fill_rows.specs.Characters.{with_notes}
+use Rattle.page_core_base.specs.Rows.{Laid, nothing, join, seq}
+use Rattle.page_core_base.specs.laws.Views.{join_assoc}
+use Rattle.page_fill_rows.specs.OpenRows.{Sheet, with_notes}
+use Rattle.page_fill_rows.specs.machine.Sheets.{letter, space, opens}
 use Rattle.page_fill.proofs.Marks.{Mark, reported, opened, spaced, lettered}
 
 -- what one mark does

@@ -8,17 +8,19 @@ use Rattle.page_core_base.specs.declared.page_settings.Output.{Output}
 use Rattle.page_core_base.specs.declared.pieces.Piece.{Piece}
 use Rattle.page_core_base.specs.declared.pieces.Piece.TheVariants.{Text, Glyph, Char, Tab, Blank, Glue, Split, Break, RowEnd, Para, Space, Indent, Literal, Tag, TagEnd, Heading, Column}
 use Rattle.page_core_base.specs.declared.places.Place.{Place}
-use Rattle.page_core_base.specs.Laid.{Laid, nothing, join, seq}
-use Rattle.page_core_tables.specs.Printed.{Printing, char_printed, glyph_printed}
+use Rattle.page_core_base.specs.Rows.{Laid, nothing, join, seq}
+use Rattle.page_core_tables.specs.Glyphs.{Printing, char_printed, glyph_printed}
 use Rattle.page_core_base.specs.declared.limits.TheConstants.{CELLS}
 use Rattle.page_fill.specs.declared.edges.OpenWord.{OpenWord}
-use Rattle.page_fill_rows.specs.machine.Sheets.{Sheet, over, blank, letter, letters, space, spaces, new_word, opens, passes}
-use Rattle.page_fill_rows.specs.Characters.{with_notes, cell_of, cells_of, characters_of, unknown_notes, put, character, characters, glyph}
+use Rattle.page_fill_rows.specs.OpenRows.{Sheet, over, with_notes, characters_of, unknown_notes}
+use Rattle.page_fill_cells.specs.Cells.{blank, cell_of, cells_of}
+use Rattle.page_fill_rows.specs.machine.Sheets.{letter, letters, space, spaces, new_word, opens, passes}
+use Rattle.page_fill_rows.specs.laws.Views.{put, character, characters, glyph}
 use Rattle.page_fill.specs.declared.edges.Edge.{Edge}
-use Rattle.page_fill.specs.machine.Fill.{laid_piece, text, one_character, one_glyph, tab, opening, tab_notes, reports_tab, stands, fixed_tab, filled_tab, on_sheet, begun_word, blanks_wait, opened_word, glued_word}
+use Rattle.page_fill.specs.machine.Fill.{laid_piece, text, one_character, one_glyph, tab, opening, reports_tab, stands, fixed_tab, filled_tab, on_sheet, blanks_wait, opened_word, glued_word}
+use Rattle.page_fill.specs.Words.{tab_notes, begun_word, after_cell, word_after}
 use Rattle.page_fill.proofs.Marks.{Mark, reported, opened, spaced, lettered, letters_of, printed_marks, character_marks, text_marks, tab_marks, blank_marks, opening_marks, is_of_words, piece_marks}
-use Rattle.page_fill.specs.Caps.{is_sound}
-use Rattle.page_fill.specs.PieceWords.{after_cell, word_after}
+use Rattle.page_fill.specs.laws.Views.{is_sound}
 use Rattle.page_fill.proofs.MarkRuns.{step, run, run-append}
 
 pub letters-run : (s : Sheet) (cells : List Cell) (place : Place) → letters s cells place ≡ run s (letters_of place cells)

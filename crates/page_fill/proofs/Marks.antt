@@ -8,12 +8,11 @@ use Rattle.page_core_base.specs.declared.pieces.Piece.{Piece}
 use Rattle.page_core_base.specs.declared.pieces.Piece.TheVariants.{Text, Glyph, Char, Tab, Blank, Glue, Split, Break, RowEnd, Para, Space, Indent, Literal, Tag, TagEnd, Heading, Column}
 use Rattle.page_core_base.specs.declared.places.Place.{Place}
 use Rattle.page_core_base.specs.Messages.{Message}
-use Rattle.page_core_tables.specs.Printed.{Printing, char_printed, glyph_printed}
-use Rattle.page_fill_rows.specs.machine.Sheets.{blank}
-use Rattle.page_fill_rows.specs.Characters.{cell_of, cells_of, characters_of, unknown_notes}
+use Rattle.page_core_tables.specs.Glyphs.{Printing, char_printed, glyph_printed}
+use Rattle.page_fill_cells.specs.Cells.{blank, cell_of, cells_of}
+use Rattle.page_fill_rows.specs.OpenRows.{characters_of, unknown_notes}
 use Rattle.page_fill.specs.declared.edges.OpenWord.{OpenWord}
-use Rattle.page_fill.specs.machine.Fill.{tab_notes}
-use Rattle.page_fill.specs.PieceWords.{after_cell}
+use Rattle.page_fill.specs.Words.{tab_notes, after_cell}
 
 -- ---- marks
 

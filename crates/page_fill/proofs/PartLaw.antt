@@ -9,19 +9,17 @@ use Rattle.page_core_base.specs.declared.cells.Font.{Font}
 use Rattle.page_core_base.specs.declared.page_settings.Output.{Output}
 use Rattle.page_core_base.specs.declared.pieces.Piece.TheVariants.{Text, Split}
 use Rattle.page_core_base.specs.declared.places.Place.{Place}
-use Rattle.page_core_base.specs.Laid.{Laid, nothing, seq}
-use Rattle.page_core_base.specs.Pieces.{Item, shown}
+use Rattle.page_core_base.specs.Rows.{Laid, nothing, seq, Item, shown}
 use Rattle.page_core_base.specs.declared.limits.TheConstants.{CELLS}
-use Rattle.page_core_tables.specs.Printed.{char_printed, known}
+use Rattle.page_core_tables.specs.Glyphs.{char_printed, known}
 use Rattle.page_fill.specs.declared.edges.Edge.{Edge}
 use Rattle.page_fill.specs.declared.edges.OpenWord.{OpenWord}
-use Rattle.page_fill.specs.Edges.{begun_word}
-use Rattle.page_fill_rows.specs.OpenRows.{Sheet, columns, blank}
-use Rattle.page_fill_rows.specs.Characters.{cell_of, cells_of, characters_of}
-use Rattle.page_fill_rows.specs.machine.Plain.{is_printable, is_printable_ascii}
+use Rattle.page_fill.specs.Words.{begun_word, cell_content, text_content, Words, words_of, word_after_items, frame_of, open_row_of, next_edge, going_on}
+use Rattle.page_fill_rows.specs.OpenRows.{Sheet, characters_of}
+use Rattle.page_fill_cells.specs.Cells.{columns, blank, cell_of, cells_of}
+use Rattle.page_core_base.specs.laws.Views.{is_printable, is_printable_ascii}
 use Rattle.page_fill_rows.proofs.PlainLemmas.{characters_of-plain, columns-plain, first-plain, rest-plain}
 use Rattle.page_fill.specs.Filled.{Word, Frame, Row, first_word, outcome, one_word, rest_of_word, filling}
-use Rattle.page_fill.specs.PieceWords.{cell_content, text_content, Words, words_of, word_after_items, frame_of, open_row_of, next_edge, going_on}
 use Rattle.page_fill.specs.Filling.{groups, filled}
 use Rattle.page_fill.specs.machine.Words.{with_word, word_wrapped}
 use Rattle.page_fill.proofs.GlueLaw.{seq-nothing, one-group, laid-by}

@@ -3,13 +3,18 @@ use Rattle.std.proofs.Common.{◌≡◌, ℕ, suc, ◌+◌, ◌≤◌, true, fal
 use Rattle.std.proofs.lemmas.Bool.Decides.{nat_tests}
 use Rattle.page_core_base.specs.declared.cells.Font.{Font}
 use Rattle.page_core_base.specs.declared.places.Place.{Place}
-use Rattle.page_core_base.specs.Laid.{nothing, join}
+use Rattle.page_core_base.specs.Rows.{nothing, join}
 use Rattle.page_core_base.specs.declared.limits.TheConstants.{CELLS}
-use Rattle.page_fill_rows.specs.machine.Sheets.{columns, letters, opens, over, space, spaces}
-use Rattle.page_fill_rows.specs.Characters.{cells_of, character, characters}
-use Rattle.page_fill_rows.specs.machine.Plain.{has_part_room, has_room, has_word_room, is_printable_ascii, spaced_by, taken}
+use Rattle.page_fill_cells.specs.Cells.{columns, cells_of}
+use Rattle.page_fill_rows.specs.machine.Sheets.{letters, opens, space, spaces}
+use Rattle.page_fill_rows.specs.OpenRows.{over}
+use Rattle.page_fill_rows.specs.laws.Views.{character, characters}
+use Rattle.page_fill_rows.specs.machine.Plain.{has_part_room, has_room, has_word_room, spaced_by, taken}
+use Rattle.page_core_base.specs.laws.Views.{is_printable_ascii}
 use Rattle.page_fill_rows.proofs.PlainLemmas.{characters-plain, letters-fits, spaces-fit}
-use Rattle.page_fill.specs.machine.Fill.{Edge, text, one_character, opening, on_sheet, begun_word, stands}
+use Rattle.page_fill.specs.declared.edges.Edge.{Edge}
+use Rattle.page_fill.specs.machine.Fill.{text, one_character, opening, on_sheet, stands}
+use Rattle.page_fill.specs.Words.{begun_word}
 
 pub text-plain : (e : Edge) (bytes : List ℕ) (font : Font) (place : Place) → is_printable_ascii bytes ≡ true → (length bytes == 0) ≡ false
     → text e bytes font place

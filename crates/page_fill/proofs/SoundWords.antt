@@ -7,13 +7,13 @@ use Rattle.page_core_base.specs.declared.pieces.Piece.{Piece}
 use Rattle.page_core_base.specs.declared.pieces.Piece.TheVariants.{Text, Glyph, Char, Tab, Blank, Glue, Split, Break, RowEnd, Para, Space, Indent, Literal, Tag, TagEnd, Heading, Column}
 use Rattle.page_core_base.specs.declared.places.Place.{Place}
 use Rattle.page_core_base.specs.declared.pieces.TagForm.TheVariants as forms
-use Rattle.page_core_base.specs.Laid.{nothing}
+use Rattle.page_core_base.specs.Rows.{nothing}
 use Rattle.page_fill.specs.declared.edges.OpenTag.{OpenTag}
-use Rattle.page_fill_rows.specs.Characters.{characters_of}
+use Rattle.page_fill_rows.specs.OpenRows.{characters_of}
 use Rattle.page_fill.specs.declared.edges.Edge.{Edge}
 use Rattle.page_fill.specs.machine.Fill.{laid_piece, text, one_character, one_glyph, tab, opening, ended, paragraph, spaced, row_ended, heading, tag_ended, tag_end, after_tag, fits_hang, without_tag}
-use Rattle.page_fill.specs.Edges.{no_word}
-use Rattle.page_fill.specs.Caps.{is_sound}
+use Rattle.page_fill.specs.Words.{no_word}
+use Rattle.page_fill.specs.laws.Views.{is_sound}
 use Rattle.page_fill.proofs.MarkedPieces.{sound-after}
 
 opening-sound : (e : Edge) (place : Place) → is_sound e.word ≡ true → is_sound (opening e place).edge.word ≡ true

@@ -8,12 +8,12 @@ use Rattle.std.proofs.lemmas.List.Sums.{sum_by-append, sum_by-cons}
 use Rattle.unicode_width.specs.Width.{char_width}
 use Rattle.page_core_base.specs.declared.cells.Cell.{Cell}
 use Rattle.page_core_base.specs.declared.places.Place.{Place}
-use Rattle.page_core_base.specs.Laid.{nothing}
+use Rattle.page_core_base.specs.Rows.{nothing}
 use Rattle.page_core_base.specs.declared.limits.TheConstants.{CELLS}
 use Rattle.page_fill_rows.specs.declared.TheConstants.{TAG_COLUMNS}
-use Rattle.page_fill_rows.specs.OpenRows.{columns, cell_columns, blank}
+use Rattle.page_fill_cells.specs.Cells.{columns, cell_columns, blank}
 use Rattle.page_fill.specs.Filled.{CellOrNote, shown, Word, Frame, Row, opens, before_word, with_cell, first_word, Outcome, fits, too_wide, outcome, by_word, by_blanks, one_word}
-use Rattle.page_fill.specs.PieceWords.{cell_content}
+use Rattle.page_fill.specs.Words.{cell_content}
 use Rattle.page_fill.specs.machine.Words.{is_wide, tally, has_cell, tallied, fitting, with_word, word_wrapped, word_first}
 
 columns-cons : (c : Cell) (cs : List Cell) → columns (c ∷ cs) ≡ cell_columns c + columns cs

@@ -2,10 +2,11 @@
 use Rattle.std.proofs.Common.{◌≡◌, ℕ, ◌==◌, true, false, List, length, IsUtf8, chars, refl, ◌∙◌}
 use Rattle.page_core_base.specs.declared.cells.Font.{Font}
 use Rattle.page_core_base.specs.declared.places.Place.{Place}
-use Rattle.page_core_base.specs.Laid.{nothing, seq}
-use Rattle.page_fill_rows.specs.machine.Sheets.{over}
-use Rattle.page_fill_rows.specs.Characters.{characters}
-use Rattle.page_fill.specs.machine.Fill.{Edge, text, opening, opened_word, on_sheet}
+use Rattle.page_core_base.specs.Rows.{nothing, seq}
+use Rattle.page_fill_rows.specs.OpenRows.{over}
+use Rattle.page_fill_rows.specs.laws.Views.{characters}
+use Rattle.page_fill.specs.declared.edges.Edge.{Edge}
+use Rattle.page_fill.specs.machine.Fill.{text, opening, opened_word, on_sheet}
 use Rattle.page_fill_rows.proofs.CharacterLemmas.{chars-empty}
 
 pub text-none : (e : Edge) (bytes : List ℕ) (font : Font) (place : Place) → IsUtf8 bytes → (length bytes == 0) ≡ true

@@ -5,10 +5,10 @@ use Rattle.std.proofs.Math.Seq.{take-append-add}
 use Rattle.std.proofs.lemmas.List.{take-append-le, take_all}
 use Rattle.std.proofs.lemmas.Bool.{cases_Bool, cases_lt}
 use Rattle.std.proofs.lemmas.Bool.Decides.{nat_tests}
-use Rattle.page_core_base.specs.Words.{is_word, blank_words}
+use Rattle.page_core_base.specs.laws.Views.{is_word, blank_words}
 use Rattle.page_fill_rows.specs.machine.Plain.{word_start}
 use Rattle.page_fill_rows.proofs.WordStartLemmas.{start-append}
-use Rattle.page_fill.specs.LetteredWords.{first_letters}
+use Rattle.page_fill.specs.laws.Views.{first_letters}
 use Rattle.page_fill.specs.machine.PlainWords.{whole_words}
 
 -- no byte of these is a blank

@@ -5,17 +5,16 @@
 -- and are dropped where a row ends before them or among them. A row without an offending cell goes on. Where rows are kept as they are (no-fill
 -- mode), no row ends for its width, and blanks are cells of words. Each cell of a word, and each blank that a row took, counts for the open tag.
 -- Source: roff(7), "Filling and adjusting".
-use Rattle.std.specs.Prelude.{ℕ, ◌+◌, Bool, true, ◌&&◌, ◌==◌, nat_lt, min, List, [], ◌∷◌, ◌++◌, length, take, drop, replicate, if◌then◌else◌}
-use Rattle.page_core_base.specs.declared.cells.Cell.{Cell}
-use Rattle.page_core_base.specs.declared.places.Place.{Place}
+use Rattle.std.specs.Prelude.{ℕ, List, Bool, ◌+◌, true, min, [], ◌∷◌, ◌++◌, length, take, ◌==◌, if◌then◌else◌, ◌&&◌, nat_lt, drop, replicate}
+use Rattle.page_core_base.specs.Limits.{name_of, CELLS}
 use Rattle.page_core_base.specs.Messages.{Message, message_about}
-use Rattle.page_core_base.specs.Rows.{row_of}
-use Rattle.page_core_base.specs.Laid.{Laid, nothing, seq}
-use Rattle.page_core_base.specs.Limits.{CELLS, name_of}
+use Rattle.page_core_base.specs.Rows.{row_of, Laid, nothing, seq}
+use Rattle.page_core_base.specs.declared.cells.Cell.{Cell}
 use Rattle.page_core_base.specs.declared.limits.Limit.TheVariants.{Cells}
 use Rattle.page_core_base.specs.declared.note_kinds.NoteKind.TheVariants.{Limit}
-use Rattle.page_fill_rows.specs.OpenRows.{TAG_COLUMNS, columns, cell_columns, blank}
-use Rattle.page_fill_rows.specs.Characters.{with_notes}
+use Rattle.page_core_base.specs.declared.places.Place.{Place}
+use Rattle.page_fill_cells.specs.Cells.{cell_columns, columns, blank}
+use Rattle.page_fill_rows.specs.OpenRows.{TAG_COLUMNS, with_notes}
 
 -- ---- words
 

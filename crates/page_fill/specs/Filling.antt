@@ -1,19 +1,17 @@
 -- What filling is: pieces and the messages among them are groups of words, which fill rows, and what is between such groups.
 -- Source: roff(7), "Filling and adjusting"; mandoc(1).
-use Rattle.std.specs.Prelude.{ℕ, ◌+◌, ◌-◌, ◌%◌, Bool, true, false, ◌&&◌, ◌==◌, nat_lt, nat_le, min, List, [], ◌∷◌, length, replicate, Option, None, Some, if◌then◌else◌}
+use Rattle.std.specs.Prelude.{ℕ, List, Bool, true, false, [], ◌∷◌, if◌then◌else◌, ◌==◌, length, ◌&&◌, replicate, ◌+◌, ◌-◌, nat_le, min, Option, None, Some, ◌%◌, nat_lt}
+use Rattle.page_core_base.specs.Rows.{Item, shown, noted, Laid, nothing, row_of, seq}
 use Rattle.page_core_base.specs.declared.cells.Cell.{Cell}
 use Rattle.page_core_base.specs.declared.pieces.Piece.{Piece}
-use Rattle.page_core_base.specs.declared.pieces.Piece.TheVariants.{Text, Glyph, Char, Tab, Blank, Glue, Split, Break, RowEnd, Para, Space, Indent, Literal, Tag, TagEnd, Heading, Column}
+use Rattle.page_core_base.specs.declared.pieces.Piece.TheVariants.{Text, Glyph, Char, Blank, Glue, Split, Tab, Break, RowEnd, Para, Space, Indent, Literal, Tag, TagEnd, Heading, Column}
 use Rattle.page_core_base.specs.declared.places.Place.{Place}
-use Rattle.page_core_base.specs.Rows.{row_of}
-use Rattle.page_core_base.specs.Laid.{Laid, nothing, seq}
-use Rattle.page_core_base.specs.Pieces.{Item, shown, noted}
-use Rattle.page_fill.specs.declared.edges.OpenTag.{OpenTag}
+use Rattle.page_fill_cells.specs.Cells.{blank, columns}
+use Rattle.page_fill_rows.specs.OpenRows.{more_blank_rows, over}
+use Rattle.page_fill.specs.Filled.{row_ended, CellOrNote}
+use Rattle.page_fill.specs.Words.{no_word, open_row_of, next_edge, cell_content, with_tag, words_laid, content_laid}
 use Rattle.page_fill.specs.declared.edges.Edge.{Edge}
-use Rattle.page_fill.specs.Edges.{no_word, with_tag}
-use Rattle.page_fill_rows.specs.OpenRows.{over, blank, columns, more_blank_rows}
-use Rattle.page_fill.specs.Filled.{CellOrNote, row_ended}
-use Rattle.page_fill.specs.PieceWords.{cell_content, open_row_of, next_edge, words_laid, content_laid}
+use Rattle.page_fill.specs.declared.edges.OpenTag.{OpenTag}
 
 -- ---- groups
 

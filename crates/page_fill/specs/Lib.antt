@@ -1,8 +1,5 @@
 pub mod Filled
-pub mod PieceWords
 pub mod Filling
-pub mod KeptTexts
-pub mod LetteredWords
+pub mod Words
+pub mod laws
 pub mod machine
-pub mod Edges
-pub mod Caps

@@ -1,20 +1,18 @@
 //! The filler of a page, alone or with what it keeps of its open row.
 
 ghost use Rattle.std.specs.Prelude.{◌≡◌, ◌<◌, ◌≤◌, ℕ, true, false, List, [], ◌∷◌, length, map, replicate, IfOk, IfErr, IfSome, MatchOption, OnOk, OnErr, Some, None, Err, MatchResult};
-ghost use Rattle.page_core_base.specs.Fails.{FailsBySink};
-ghost use Rattle.page_core_base.specs.Laid.{Gets, nothing};
-ghost use Rattle.page_core_base.specs.Pieces.{piece_of, shown};
-ghost use Rattle.page_core_base.specs.Words.{is_printable_ascii, lettered_pieces};
+ghost use Rattle.page_core_base.specs.laws.Views.{FailsBySink, Gets, piece_of, is_printable_ascii, lettered_pieces};
+ghost use Rattle.page_core_base.specs.Rows.{nothing, shown};
 ghost use Rattle.page_core_base.specs.declared.blank_texts.TheConstants.{BLANK_TEXT};
 ghost use Rattle.page_core_base.specs.declared.limits.TheConstants.{CELLS};
 ghost use Rattle.page_core_base.specs.declared.pieces.Piece.{Piece};
 ghost use Rattle.page_core_base.specs.declared.pieces.Piece.TheVariants.{Text};
-ghost use Rattle.page_fill.specs.Caps.{FillFits, IsHeld, is_sound};
-ghost use Rattle.page_fill.specs.Edges as fill;
+ghost use Rattle.page_fill.specs.laws.Views.{FillFits, is_sound, AreKept, can_keep, AreWords, can_take};
+ghost use Rattle.page_fill_rows.specs.laws.Views.{IsHeld};
+ghost use Rattle.page_fill.specs.Words as fill;
+ghost use Rattle.page_fill.specs.laws.Views as fill_laws;
 ghost use Rattle.page_fill.specs.declared.edges.Edge.{Edge};
 ghost use Rattle.page_fill.specs.Filling.{filled, row_end};
-ghost use Rattle.page_fill.specs.KeptTexts.{AreKept, can_keep};
-ghost use Rattle.page_fill.specs.LetteredWords.{AreWords, can_take};
 
 use crate::Edge;
 use page_core_base::{Cell, Fault, Font, NoteSink, Output, Piece, Place, RowSink, Settings};
@@ -42,7 +40,8 @@ pub type Filler = FillerWith<OpenCells>;
 
 impl<K: KeepsRow> Model for FillerWith<K> {
     ghost use Rattle.std.specs.Prelude.{◌≡◌, true, Option, None, Some, if◌then◌else◌};
-    ghost use Rattle.page_fill.specs.Caps.{IsHeld, is_sound};
+    ghost use Rattle.page_fill_rows.specs.laws.Views.{IsHeld};
+    ghost use Rattle.page_fill.specs.laws.Views.{is_sound};
     ghost use Rattle.page_fill.specs.declared.edges.Edge.{Edge};
 
     ghost Value = { Option Edge };
@@ -61,7 +60,8 @@ pub struct FillerPart {
 
 impl Model for FillerPart {
     ghost use Rattle.std.specs.Prelude.{◌≡◌, true};
-    ghost use Rattle.page_fill.specs.Caps.{IsHeld, is_sound};
+    ghost use Rattle.page_fill_rows.specs.laws.Views.{IsHeld};
+    ghost use Rattle.page_fill.specs.laws.Views.{is_sound};
     ghost use Rattle.page_fill.specs.declared.edges.Edge.{Edge};
 
     ghost Value = { Edge };
@@ -96,7 +96,7 @@ impl<K: KeepsRow> FillerWith<K> {
         output: Output,
     ) -> Result<FillerWith<K>, AllocError>
         requires { IsHeld edge.now.sheet × (is_sound edge.now.word ≡ true) }
-        ensures { IfOk result (λ f. f ≡ Some (fill.under width output edge.now)) }
+        ensures { IfOk result (λ f. f ≡ Some (fill_laws.under width output edge.now)) }
     {
         let edge = edge.copy(alloc, width, output)?;
         let kept = K::of(alloc, &edge.sheet)?;
@@ -134,7 +134,7 @@ impl<K: KeepsRow> FillerWith<K> {
         part: FillerPart,
     ) -> Result<FillerWith<K>, (FillerPart, Fault)>
         ensures { MatchResult result
-            (λ f. f ≡ Some (fill.under settings.now.width settings.now.output part))
+            (λ f. f ≡ Some (fill_laws.under settings.now.width settings.now.output part))
             (λ refused. (refused.0 ≡ part) × (refused.1 ≡ Fault.Memory)) }
     {
         match FillerWith::copy_of(alloc, &part.edge, settings.width, settings.output) {
@@ -164,7 +164,7 @@ impl<K: KeepsRow> FillerWith<K> {
 
     /// How many blank rows are at the end of the rows that were given, the open row left aside.
     pub fn blank_rows(&self) -> u32
-        ensures { IfSome self.now (λ e. result ≡ fill.blank_rows_at_end e) }
+        ensures { IfSome self.now (λ e. result ≡ fill_laws.blank_rows_at_end e) }
     {
         self.edge.sheet.blank_rows()
     }
@@ -358,7 +358,7 @@ impl<K: KeepsRow> FillerWith<K> {
 impl FillerWith<OpenCells> {
     /// The open row's cells, at most `CELLS`.
     pub fn pending(&self) -> &[Cell]
-        ensures cells { IfSome self.now (λ e. result.now ≡ fill.open_cells e) }
+        ensures cells { IfSome self.now (λ e. result.now ≡ fill_laws.open_cells e) }
         ensures bound { length result.now ≤ CELLS }
     {
         self.kept.as_slice()

@@ -1,9 +1,9 @@
 //! Characters of a row that is kept as it is, which are taken at once where they go on with its last word.
 
 ghost use Rattle.std.specs.Prelude.{◌≡◌, ℕ, List, false, true};
-ghost use Rattle.page_core_base.specs.Laid.{nothing};
+ghost use Rattle.page_core_base.specs.Rows.{nothing};
 ghost use Rattle.page_core_base.specs.declared.pieces.Piece.{Piece};
-ghost use Rattle.page_fill.specs.KeptTexts.{AreKept, can_keep, has_kept_room};
+ghost use Rattle.page_fill.specs.laws.Views.{AreKept, can_keep, has_kept_room};
 ghost use Rattle.page_fill.specs.machine.Fill as fill;
 
 use crate::Edge;

@@ -1,23 +1,22 @@
 //! Laws of filling (roff(7), "Filling and adjusting").
 
 ghost use Rattle.std.specs.Prelude.{◌≡◌, ℕ, ◌+◌, ◌<◌, ◌≤◌, Bool, true, false, List, [], ◌∷◌, ◌++◌, length, IsUtf8};
-ghost use Rattle.page_core_base.specs.Laid.{nothing, join};
-ghost use Rattle.page_core_base.specs.Pieces.{Item, shown};
+ghost use Rattle.page_core_base.specs.Rows.{nothing, join, Item, shown};
 ghost use Rattle.page_core_base.specs.declared.cells.Cell.{Cell};
 ghost use Rattle.page_core_base.specs.declared.cells.Font.{Font};
 ghost use Rattle.page_core_base.specs.declared.pieces.Piece.TheVariants.{Text, Blank, Glue, Split};
 ghost use Rattle.page_core_base.specs.declared.places.Place.{Place};
 ghost use Rattle.page_core_base.specs.declared.limits.TheConstants.{CELLS};
-ghost use Rattle.page_fill.specs.Caps.{IsHeld, is_sound};
-ghost use Rattle.page_fill.specs.Edges as edges;
+ghost use Rattle.page_fill_rows.specs.laws.Views.{IsHeld};
+ghost use Rattle.page_fill.specs.laws.Views.{is_sound};
+ghost use Rattle.page_fill.specs.Words as edges;
 ghost use Rattle.page_fill.specs.declared.edges.Edge.{Edge};
-ghost use Rattle.page_fill_rows.specs.Characters.{cells_of};
+ghost use Rattle.page_fill_cells.specs.Cells.{cells_of};
 ghost use Rattle.page_fill_rows.specs.OpenRows as open_rows;
-ghost use Rattle.page_fill_rows.specs.machine.Plain.{is_printable_ascii};
+ghost use Rattle.page_core_base.specs.laws.Views.{is_printable_ascii};
 ghost use Rattle.page_fill.specs.machine.ByPiece.{laid_items};
 ghost use Rattle.page_fill.specs.Filled.{Frame, Row, one_word};
 ghost use Rattle.page_fill.specs.Filling as filling;
-ghost use Rattle.page_fill.specs.PieceWords as pieces;
 ghost use Rattle.page_fill.specs.machine.Words as row;
 
 /// What a filler lays piece by piece is what the definition says of the whole list: pieces and the messages among them are groups of
@@ -75,23 +74,23 @@ pub fn part_law()
         → is_printable_ascii part ≡ true → 0 < length part → length e.sheet.cells + length part ≤ CELLS
         → e.sheet.margin + open_rows.columns e.sheet.cells + length part ≤ e.sheet.width
         → filling.filled e (shown Split ∷ shown (Text part font place) ∷ [])
-        ≡ pieces.next_edge e e.word (nothing (row.with_word (pieces.open_row_of e.sheet) 0 (cells_of font part))) }
+        ≡ edges.next_edge e e.word (nothing (row.with_word (edges.open_row_of e.sheet) 0 (cells_of font part))) }
     ensures passes { (e : Edge) (part : List ℕ) (font : Font) (place : Place)
         → e.word.is_joined ≡ true → e.sheet.literal ≡ false → 0 < length e.sheet.cells
         → is_printable_ascii part ≡ true → 0 < length part → length e.sheet.cells + length part ≤ CELLS
         → e.sheet.margin + open_rows.columns e.sheet.cells ≤ e.sheet.width
         → e.sheet.width < e.sheet.margin + open_rows.columns e.sheet.cells + length part
         → filling.filled e (shown Split ∷ shown (Text part font place) ∷ [])
-        ≡ pieces.next_edge e e.word
-        (row.word_wrapped (pieces.frame_of e.sheet) (pieces.open_row_of e.sheet) 0 (cells_of font part)) }
+        ≡ edges.next_edge e e.word
+        (row.word_wrapped (edges.frame_of e.sheet) (edges.open_row_of e.sheet) 0 (cells_of font part)) }
     ensures whole { (e : Edge) (a b : List ℕ) (font : Font) (place : Place)
         → e.word.is_joined ≡ false → e.word.has_tab ≡ false → e.sheet.literal ≡ false → 0 < length e.sheet.cells
         → is_printable_ascii a ≡ true → 0 < length a → is_printable_ascii b ≡ true → 0 < length b
         → length e.sheet.cells + e.word.blanks + length a + length b ≤ CELLS
         → e.sheet.margin + open_rows.columns e.sheet.cells + e.word.blanks + length a + length b ≤ e.sheet.width
         → filling.filled e (shown (Text a font place) ∷ shown Split ∷ shown (Text b font place) ∷ [])
-        ≡ pieces.next_edge e (edges.begun_word false) (nothing (row.with_word
-        (row.with_word (pieces.open_row_of e.sheet) e.word.blanks (cells_of font a)) 0 (cells_of font b))) }
+        ≡ edges.next_edge e (edges.begun_word false) (nothing (row.with_word
+        (row.with_word (edges.open_row_of e.sheet) e.word.blanks (cells_of font a)) 0 (cells_of font b))) }
     ensures cut { (e : Edge) (a b : List ℕ) (font : Font) (place : Place)
         → e.word.is_joined ≡ false → e.word.has_tab ≡ false → e.sheet.literal ≡ false → 0 < length e.sheet.cells
         → is_printable_ascii a ≡ true → 0 < length a → is_printable_ascii b ≡ true → 0 < length b
@@ -99,6 +98,6 @@ pub fn part_law()
         → e.sheet.margin + open_rows.columns e.sheet.cells + e.word.blanks + length a ≤ e.sheet.width
         → e.sheet.width < e.sheet.margin + open_rows.columns e.sheet.cells + e.word.blanks + length a + length b
         → filling.filled e (shown (Text a font place) ∷ shown Split ∷ shown (Text b font place) ∷ [])
-        ≡ pieces.next_edge e (edges.begun_word false) (row.word_wrapped (pieces.frame_of e.sheet)
-        (row.with_word (pieces.open_row_of e.sheet) e.word.blanks (cells_of font a)) 0 (cells_of font b)) }
+        ≡ edges.next_edge e (edges.begun_word false) (row.word_wrapped (edges.frame_of e.sheet)
+        (row.with_word (edges.open_row_of e.sheet) e.word.blanks (cells_of font a)) 0 (cells_of font b)) }
 {}

@@ -2,15 +2,12 @@
 //! them.
 
 ghost use Rattle.std.specs.Prelude.{◌≡◌, ◌≤◌, ◌<◌, ◌+◌, ◌-◌, ◌==◌, ◌||◌, ℕ, List, drop, length, true};
-ghost use Rattle.page_core_base.specs.Fails.{FailsBySink};
-ghost use Rattle.page_core_base.specs.Laid.{Gets, Laid};
-ghost use Rattle.page_core_base.specs.Latches.{LaysOut};
-ghost use Rattle.page_core_base.specs.Words.{is_printable_ascii, lettered_pieces};
+ghost use Rattle.page_core_base.specs.laws.Views.{FailsBySink, Gets, LaysOut, is_printable_ascii, lettered_pieces};
+ghost use Rattle.page_core_base.specs.Rows.{Laid};
 ghost use Rattle.page_core_base.specs.declared.limits.TheConstants.{CELLS};
 ghost use Rattle.page_core_base.specs.declared.pieces.Piece.{Piece};
-ghost use Rattle.page_fill.specs.Caps.{is_sound};
+ghost use Rattle.page_fill.specs.laws.Views.{is_sound, AreWords, can_take, fits_after, is_in_row};
 ghost use Rattle.page_fill.specs.declared.edges.Edge.{Edge};
-ghost use Rattle.page_fill.specs.LetteredWords.{AreWords, can_take, fits_after, is_in_row};
 ghost use Rattle.page_fill.specs.machine.Fill as fill;
 ghost use Rattle.page_fill.specs.machine.LetteredWords.{LaysUpTo, LaysWords};
 ghost use Rattle.page_fill.specs.machine.PlainWords as plain_words;

@@ -1,13 +1,10 @@
 //! Pieces, one by one, over two sinks.
 
 ghost use Rattle.std.specs.Prelude.{◌≡◌, ◌≤◌, replicate, IfOk};
-ghost use Rattle.page_core_base.specs.Fails.{FailsBySink};
-ghost use Rattle.page_core_base.specs.Laid.{Gets};
-ghost use Rattle.page_core_base.specs.Latches.{LaysOut};
-ghost use Rattle.page_core_base.specs.Pieces.{piece_of};
+ghost use Rattle.page_core_base.specs.laws.Views.{FailsBySink, Gets, LaysOut, piece_of};
 ghost use Rattle.page_core_base.specs.declared.blank_texts.TheConstants.{BLANK_TEXT};
 ghost use Rattle.page_core_base.specs.declared.pieces.Piece.TheVariants.{Text};
-ghost use Rattle.page_fill.specs.Edges.{under};
+ghost use Rattle.page_fill.specs.laws.Views.{under};
 ghost use Rattle.page_fill.specs.machine.Fill as fill;
 
 use crate::edges::{Edge, NO_WORD};

@@ -1,7 +1,7 @@
 //! Words and characters that are taken at once.
 
 ghost use Rattle.std.specs.Prelude.{◌≡◌};
-ghost use Rattle.page_core_base.specs.Words.{is_printable_ascii};
+ghost use Rattle.page_core_base.specs.laws.Views.{is_printable_ascii};
 
 use page_core_base::{Fault, Font, NoteSink, RowSink};
 use page_fill::Filler;

@@ -9,7 +9,7 @@ use Rattle.page_core_base.specs.declared.cells.Font.{Font}
 use Rattle.page_core_base.specs.Rows.{is_blank_row, row_of}
 use Rattle.page_fill_cells.specs.Cells.{cell_of, cells_of}
 use Rattle.page_fill_cells.specs.machine.BlankRuns.{HasRun, is_blank_byte}
-use Rattle.page_fill_cells.specs.Cells.{is_printable_ascii}
+use Rattle.page_core_base.specs.laws.Views.{is_printable_ascii}
 use Rattle.page_fill_cells.proofs.BlankLemmas.{blank-append, blanks-blank, part-blank}
 
 -- ---- bytes that are blanks

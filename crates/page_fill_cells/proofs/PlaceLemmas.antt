@@ -9,12 +9,11 @@ use Rattle.page_core_base.specs.declared.cells.Cell.{Cell}
 use Rattle.page_core_base.specs.declared.cells.Font.{Font}
 use Rattle.page_core_base.specs.declared.limits.TheConstants.{CELLS}
 use Rattle.page_core_base.proofs.AsciiLemmas.{cells-more}
-use Rattle.page_core_base.specs.Rows.{cells_in, is_ascii, is_blank_row, row_of, trimmed}
-use Rattle.page_fill_cells.specs.Cells.{cell_of, cells_of}
+use Rattle.page_core_base.specs.laws.Views.{cells_in, is_ascii, is_printable, is_printable_ascii}
+use Rattle.page_core_base.specs.Rows.{is_blank_row, row_of, trimmed}
+use Rattle.page_fill_cells.specs.Cells.{cell_of, cells_of, cell_columns, columns}
 use Rattle.page_fill_cells.specs.machine.BlankRuns.{is_blank_byte}
 use Rattle.page_fill_cells.specs.machine.Places.{put_at}
-use Rattle.page_fill_cells.specs.Cells.{is_printable, is_printable_ascii}
-use Rattle.page_fill_cells.specs.Cells.{cell_columns, columns}
 use Rattle.page_fill_cells.proofs.BlankLemmas.{before-blank}
 use Rattle.page_fill_cells.proofs.PrintableLemmas.{first-plain, rest-plain, plain-columns}
 

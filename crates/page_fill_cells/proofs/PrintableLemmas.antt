@@ -4,7 +4,8 @@ use Rattle.std.proofs.lemmas.Bool.Decides.{nat_tests}
 use Rattle.std.proofs.lemmas.List.Sums.{sum_by-append}
 use Rattle.unicode_width.specs.Width.{char_width}
 use Rattle.page_core_base.specs.declared.cells.Font.{Font}
-use Rattle.page_fill_cells.specs.Cells.{cell_columns, cell_of, cells_of, columns, is_printable, is_printable_ascii}
+use Rattle.page_fill_cells.specs.Cells.{cell_columns, cell_of, cells_of, columns}
+use Rattle.page_core_base.specs.laws.Views.{is_printable, is_printable_ascii}
 
 -- a plain byte has a column
 pub plain-columns : (font : Font) (b : ℕ) → is_printable b ≡ true → cell_columns (cell_of font b) ≡ 1

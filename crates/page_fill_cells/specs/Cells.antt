@@ -1,10 +1,9 @@
 -- Cells, and the characters of ASCII that are one each. Source: mandoc(1), "ASCII Output".
-use Rattle.std.specs.Prelude.{ℕ, List, map, sum_by}
+use Rattle.std.specs.Prelude.{ℕ, List, sum_by, map}
 use Rattle.page_core_base.specs.declared.cells.Cell.{Cell}
 use Rattle.page_core_base.specs.declared.cells.Font.{Font}
 use Rattle.page_core_base.specs.declared.cells.Font.TheVariants.{R}
-pub use Rattle.page_core_base.specs.Words.{is_printable, is_printable_ascii}
-use Rattle.page_core_tables.specs.Printed.{char_columns}
+use Rattle.page_core_tables.specs.Glyphs.{char_columns}
 
 -- the columns of a cell, and of cells
 abbrev pub cell_columns : Cell → ℕ

@@ -4,7 +4,7 @@ ghost use Rattle.std.specs.Prelude.{◌≡◌, ◌<◌, ◌≤◌, ◌-◌, List
 ghost use Rattle.std.specs.List.{list_all};
 ghost use Rattle.page_core_base.specs.declared.cells.Cell.{Cell};
 ghost use Rattle.page_fill_cells.specs.machine.BlankRuns.{HasRun, is_blank_byte};
-ghost use Rattle.page_fill_cells.specs.Cells.{is_printable_ascii};
+ghost use Rattle.page_core_base.specs.laws.Views.{is_printable_ascii};
 
 use page_core_base::{Cell, Font};
 

@@ -1,7 +1,7 @@
 //! Cells in places that are reserved for good: a loop over the bytes of a text writes its cells and nothing else.
 
 ghost use Rattle.std.specs.Prelude.{◌≡◌, ◌+◌, ◌-◌, ◌≤◌, length, take, drop, replicate};
-ghost use Rattle.page_core_base.specs.Rows.{cells_in};
+ghost use Rattle.page_core_base.specs.laws.Views.{cells_in};
 ghost use Rattle.page_fill_cells.specs.Cells as cells;
 ghost use Rattle.page_fill_cells.specs.machine.Places.{put_at};
 

@@ -1,9 +1,10 @@
 //! The places of a row's cells.
 
 ghost use Rattle.std.specs.Prelude.{◌≡◌, ◌+◌, ◌-◌, ◌*◌, ◌<◌, ◌≤◌, [], ◌∷◌, ◌++◌, length, take, drop, set, replicate, IfOk, true, vec_capacity};
-ghost use Rattle.page_core_base.specs.Latches.{CameRows};
-ghost use Rattle.page_core_base.specs.Rows.{cells_in, is_blank_row, row_of};
+ghost use Rattle.page_core_base.specs.laws.Views.{CameRows, cells_in};
+ghost use Rattle.page_core_base.specs.Rows.{is_blank_row, row_of};
 ghost use Rattle.page_fill_cells.specs.Cells as cells;
+ghost use Rattle.page_core_base.specs.laws.Views as cells_laws;
 ghost use Rattle.page_fill_cells.specs.machine.Places.{put_at};
 
 use crate::ascii_places::{put_blank_text, put_byte, put_letters, put_text};
@@ -27,10 +28,9 @@ pub(crate) struct Places {
 
 impl Model for Places {
     ghost use Rattle.std.specs.Prelude.{◌≡◌, ◌≤◌, List, length, true, if◌then◌else◌, vec_capacity};
-    ghost use Rattle.page_core_base.specs.Rows.{cells_in};
+    ghost use Rattle.page_core_base.specs.laws.Views.{cells_in, is_printable_ascii};
     ghost use Rattle.page_core_base.specs.declared.cells.Cell.{Cell};
     ghost use Rattle.page_core_base.specs.declared.limits.TheConstants.{CELLS};
-    ghost use Rattle.page_fill_cells.specs.Cells.{is_printable_ascii};
 
     ghost Value = { List Cell };
 
@@ -43,7 +43,7 @@ impl Model for Places {
 
 // Whether a cell is a printable character of ASCII.
 fn is_ascii_cell(cell: Cell) -> bool
-    ensures { result ≡ cells.is_printable cell.c }
+    ensures { result ≡ cells_laws.is_printable cell.c }
 {
     ' ' <= cell.c && cell.c <= '~'
 }
@@ -136,7 +136,7 @@ impl Places {
 
     /// Puts a cell of each byte at a start and after it.
     pub(crate) fn put_plain(&mut self, start: usize, bytes: &[u8], font: Font)
-        requires plain { cells.is_printable_ascii bytes.now ≡ true }
+        requires plain { cells_laws.is_printable_ascii bytes.now ≡ true }
         requires room { start + length bytes.now ≤ length self.old }
         ensures { self.new ≡ put_at self.old start (cells.cells_of font bytes.now) }
     {
@@ -149,7 +149,7 @@ impl Places {
 
     /// Puts a cell of each byte, in the font beside it, at a start and after it.
     pub(crate) fn put_letters(&mut self, start: usize, bytes: &[u8], fonts: &[Font])
-        requires plain { cells.is_printable_ascii bytes.now ≡ true }
+        requires plain { cells_laws.is_printable_ascii bytes.now ≡ true }
         requires fonts { length fonts.now ≡ length bytes.now }
         requires room { start + length bytes.now ≤ length self.old }
         ensures { self.new ≡ put_at self.old start (cells_in bytes.now fonts.now) }

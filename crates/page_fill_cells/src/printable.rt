@@ -1,7 +1,7 @@
 //! Texts of printable ASCII.
 
 ghost use Rattle.std.specs.Prelude.{◌≡◌, ◌≤◌, ◌<◌, length};
-ghost use Rattle.page_fill_cells.specs.Cells.{is_printable_ascii};
+ghost use Rattle.page_core_base.specs.laws.Views.{is_printable_ascii};
 
 // Whether bytes are printable ASCII. All of them are read, so that the compiler can test many at once.
 #[inline(always)]

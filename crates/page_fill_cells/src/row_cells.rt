@@ -1,9 +1,10 @@
 //! The cells of a row, in places that are reserved for good.
 
 ghost use Rattle.std.specs.Prelude.{◌≡◌, ◌+◌, ◌*◌, ◌<◌, ◌≤◌, [], ◌∷◌, ◌++◌, ◌==◌, length, take, drop, replicate, IfOk, true, if◌then◌else◌};
-ghost use Rattle.page_core_base.specs.Latches.{CameRows};
-ghost use Rattle.page_core_base.specs.Rows.{cells_in, is_blank_row, row_of};
+ghost use Rattle.page_core_base.specs.laws.Views.{CameRows, cells_in};
+ghost use Rattle.page_core_base.specs.Rows.{is_blank_row, row_of};
 ghost use Rattle.page_fill_cells.specs.Cells as cells;
+ghost use Rattle.page_core_base.specs.laws.Views as cells_laws;
 ghost use Rattle.page_fill_cells.specs.machine.BlankRuns.{HasRun};
 
 use crate::blank_runs::{BlankRun, NO_RUN, is_long_run};
@@ -208,7 +209,7 @@ impl RowCells {
 
     /// Appends a cell of each byte.
     pub fn add_plain(&mut self, bytes: &[u8], font: Font)
-        requires plain { cells.is_printable_ascii bytes.now ≡ true }
+        requires plain { cells_laws.is_printable_ascii bytes.now ≡ true }
         requires room { length self.old + length bytes.now ≤ CELLS }
         ensures { self.new ≡ self.old ++ cells.cells_of font bytes.now }
     {
@@ -221,7 +222,7 @@ impl RowCells {
 
     /// Appends a cell of each byte, in the font beside it.
     pub fn add_letters(&mut self, bytes: &[u8], fonts: &[Font])
-        requires plain { cells.is_printable_ascii bytes.now ≡ true }
+        requires plain { cells_laws.is_printable_ascii bytes.now ≡ true }
         requires fonts { length fonts.now ≡ length bytes.now }
         requires room { length self.old + length bytes.now ≤ CELLS }
         ensures { self.new ≡ self.old ++ cells_in bytes.now fonts.now }
@@ -236,7 +237,7 @@ impl RowCells {
     /// Appends a cell of each byte, if all bytes are printable ASCII, and says whether they are.
     pub fn add_part(&mut self, bytes: &[u8], font: Font) -> bool
         requires { length self.old + length bytes.now ≤ CELLS }
-        ensures answer { result ≡ cells.is_printable_ascii bytes.now }
+        ensures answer { result ≡ cells_laws.is_printable_ascii bytes.now }
         ensures cells { self.new ≡ (if result then self.old ++ cells.cells_of font bytes.now else self.old) }
     {
         if is_long_run(bytes) {

@@ -4,9 +4,11 @@ use Rattle.std.proofs.lemmas.Bool.{cases_Bool}
 use Rattle.std.proofs.lemmas.Bool.Decides.{nat_tests}
 use Rattle.page_core_base.specs.declared.cells.Cell.{Cell}
 use Rattle.page_core_base.specs.declared.places.Place.{Place}
-use Rattle.page_core_base.specs.Laid.{Laid, join}
+use Rattle.page_core_base.specs.Rows.{Laid, join}
 use Rattle.page_core_base.specs.declared.limits.TheConstants.{CELLS}
-use Rattle.page_fill_rows.specs.machine.Sheets.{Sheet, blank, counted, letter, letters, passes, space}
+use Rattle.page_fill_rows.specs.OpenRows.{Sheet}
+use Rattle.page_fill_cells.specs.Cells.{blank}
+use Rattle.page_fill_rows.specs.machine.Sheets.{counted, letter, letters, passes, space}
 
 letter-anywhere : (s : Sheet) (cell : Cell) (p q : Place) → length s.cells < CELLS → letter s cell p ≡ letter s cell q
 unfolding letter

@@ -9,9 +9,12 @@ use Rattle.page_core_base.specs.declared.cells.Cell.{Cell}
 use Rattle.page_core_base.specs.declared.cells.Font.{Font}
 use Rattle.page_core_base.specs.declared.places.Place.{Place}
 use Rattle.page_core_base.specs.declared.page_settings.Output.{Output}
-use Rattle.page_core_base.specs.Laid.{join, join_assoc, nothing}
-use Rattle.page_fill_rows.specs.machine.Sheets.{Sheet, letter, letters}
-use Rattle.page_fill_rows.specs.Characters.{cell_of, cells_of, character, characters, characters_of}
+use Rattle.page_core_base.specs.Rows.{join, nothing}
+use Rattle.page_core_base.specs.laws.Views.{join_assoc}
+use Rattle.page_fill_rows.specs.OpenRows.{Sheet, characters_of}
+use Rattle.page_fill_rows.specs.machine.Sheets.{letter, letters}
+use Rattle.page_fill_cells.specs.Cells.{cell_of, cells_of}
+use Rattle.page_fill_rows.specs.laws.Views.{character, characters}
 
 pub chars_of_empty : (bytes : List ℕ) → length bytes ≡ 0 → chars bytes ≡ []
 chars_of_empty [] h = chars-nil

@@ -9,13 +9,15 @@ use Rattle.unicode_width.specs.Width.{char_width}
 use Rattle.page_core_base.specs.declared.cells.Cell.{Cell}
 use Rattle.page_core_base.specs.declared.cells.Font.{Font}
 use Rattle.page_core_base.specs.declared.places.Place.{Place}
-use Rattle.page_core_base.specs.Laid.{nothing}
-use Rattle.page_core_base.specs.Rows.{cells_in}
-use Rattle.page_core_tables.specs.Printed.{char_printed, known}
-use Rattle.page_fill_rows.specs.machine.Sheets.{Sheet, cell_columns, columns, counted, passes, blank, letter, letters, space, spaces}
+use Rattle.page_core_base.specs.Rows.{nothing}
+use Rattle.page_core_base.specs.laws.Views.{cells_in, is_printable, is_printable_ascii}
+use Rattle.page_core_tables.specs.Glyphs.{char_printed, known}
+use Rattle.page_fill_rows.specs.OpenRows.{Sheet, characters_of}
+use Rattle.page_fill_cells.specs.Cells.{cell_columns, columns, blank, cell_of, cells_of}
+use Rattle.page_fill_rows.specs.machine.Sheets.{counted, passes, letter, letters, space, spaces}
 use Rattle.page_core_base.specs.declared.limits.TheConstants.{CELLS}
 use Rattle.page_fill_rows.specs.declared.TheConstants.{TAG_COLUMNS}
-use Rattle.page_fill_rows.specs.Characters.{cell_of, cells_of, character, characters, characters_of}
+use Rattle.page_fill_rows.specs.laws.Views.{character, characters}
 use Rattle.page_fill_rows.specs.machine.Room.{IsSound}
 use Rattle.page_fill_rows.proofs.CharacterLemmas.{characters_of-text}
 use Rattle.page_core_base.specs.declared.page_settings.Output.{Output}
@@ -23,7 +25,7 @@ use Rattle.std.proofs.lemmas.Str.{chars-IsAscii, IsUtf8-from_ascii}
 use Rattle.std.proofs.lemmas.Str.Ascii.{IsAscii-nil, IsAscii-cons}
 use Rattle.std.specs.Str.{IsAscii}
 pub use Rattle.page_fill_cells.proofs.PrintableLemmas.{columns-plain, first-plain, plain-columns, rest-plain}
-use Rattle.page_fill_rows.specs.machine.Plain.{is_printable, is_printable_ascii, has_room, taken, has_word_room, spaced_by}
+use Rattle.page_fill_rows.specs.machine.Plain.{has_room, taken, has_word_room, spaced_by}
 
 -- both parts of a plain text are plain
 pub parts-plain : (n : ℕ) (bytes : List ℕ) → is_printable_ascii bytes ≡ true → (is_printable_ascii (take n bytes) ≡ true) × (is_printable_ascii (drop n bytes) ≡ true)

@@ -6,12 +6,13 @@ use Rattle.page_core_base.specs.declared.cells.Cell.{Cell}
 use Rattle.page_core_base.specs.declared.cells.Font.{Font}
 use Rattle.page_core_base.specs.declared.limits.TheConstants.{CELLS}
 use Rattle.page_core_base.specs.declared.places.Place.{Place}
-use Rattle.page_core_base.specs.Laid.{Laid, join, nothing}
-use Rattle.page_fill_rows.specs.Characters.{cell_of}
+use Rattle.page_core_base.specs.Rows.{Laid, join, nothing}
+use Rattle.page_fill_cells.specs.Cells.{cell_of}
 use Rattle.page_fill_rows.specs.declared.TheConstants.{TAG_COLUMNS}
 use Rattle.page_fill_rows.specs.machine.Room.{IsSound}
 use Rattle.page_fill_rows.specs.machine.Plain.{has_room, room, taken}
-use Rattle.page_fill_rows.specs.machine.Sheets.{Sheet, letters}
+use Rattle.page_fill_rows.specs.OpenRows.{Sheet}
+use Rattle.page_fill_rows.specs.machine.Sheets.{letters}
 use Rattle.page_fill_cells.proofs.BlankRunLemmas.{blanks-plain, count-blank, count-cells}
 use Rattle.page_fill_rows.proofs.CharacterLemmas.{letters-append}
 use Rattle.page_fill_rows.proofs.PlainLemmas.{letters-fits, sound-more}

@@ -2,15 +2,13 @@
 use Rattle.std.proofs.Common.{◌≡◌, List, [], ◌++◌, Option, None, Some, is_some, false, refl, Result, Ok, Err, MatchResult, ◌∙◌, append-nil, sym}
 use Rattle.std.specs.Borrow.{GName}
 use Rattle.std.specs.Result.{result_err}
-use Rattle.page_core_base.specs.Laid.{Laid, Gets}
+use Rattle.page_core_base.specs.Rows.{Laid, LaidRow}
+use Rattle.page_core_base.specs.laws.Views.{Gets, FailsAs, FailsBySink, Gives, IsSink, UpTo}
 use Rattle.page_fill_rows.specs.machine.RowPlans.{Planned, Left, Seen}
 use Rattle.page_core_base.proofs.SinkLemmas.{UpTo-all, UpTo-more, UpTo-within}
-use Rattle.page_core_base.specs.Fails.{FailsAs, FailsBySink}
-use Rattle.page_core_base.specs.Sinks.{Gives, IsSink, UpTo}
 use Rattle.page_core_base.specs.declared.faults.Fault.{Fault}
 use Rattle.page_core_base.specs.declared.faults.Fault.TheVariants.{WriteText, WriteNotes}
 use Rattle.page_core_base.specs.Messages.{Message}
-use Rattle.page_core_base.specs.Rows.{LaidRow}
 
 -- what came up to a rest is a front of all
 front : {S I : Type 0} {gave within : S → List I → S → Type 0} → IsSink gave within → ((s t : S) (xs : List I) → gave s xs t → within s xs t)

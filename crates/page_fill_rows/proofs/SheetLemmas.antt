@@ -2,8 +2,9 @@
 use Rattle.std.proofs.Common.{◌≡◌, ℕ, zero, suc, ◌+◌, ◌-◌, ◌<◌, ◌≤◌, [], ◌∷◌, length, replicate, append-nil, ap, refl, arith}
 use Rattle.page_core_base.specs.declared.cells.Cell.{Cell}
 use Rattle.page_core_base.specs.declared.places.Place.{Place}
-use Rattle.page_core_base.specs.Laid.{join, nothing}
-use Rattle.page_fill_rows.specs.machine.Sheets.{Sheet, space, spaces, letter, letters}
+use Rattle.page_core_base.specs.Rows.{join, nothing}
+use Rattle.page_fill_rows.specs.OpenRows.{Sheet}
+use Rattle.page_fill_rows.specs.machine.Sheets.{space, spaces, letter, letters}
 
 pub spaces-more : (s : Sheet) (n i : ℕ) (place : Place) → i < n
     → spaces s (n - i) place ≡ join (space s place) (spaces (space s place).edge (n - (i + 1)) place)

@@ -4,12 +4,12 @@ use Rattle.std.proofs.lemmas.Bool.Decides.{nat_tests}
 use Rattle.std.proofs.lemmas.List.{length-append, length-replicate, length-take-le, take_more}
 use Rattle.page_core_base.specs.declared.cells.Cell.{Cell}
 use Rattle.page_core_base.specs.declared.cells.Font.{Font}
-use Rattle.page_core_base.specs.Rows.{cells_in}
+use Rattle.page_core_base.specs.laws.Views.{cells_in, is_printable_ascii}
 use Rattle.page_core_base.specs.declared.limits.TheConstants.{CELLS}
 use Rattle.page_fill_rows.specs.declared.TheConstants.{TAG_COLUMNS}
 use Rattle.page_fill_rows.specs.machine.Room.{IsSound}
-use Rattle.page_fill_rows.specs.machine.Plain.{is_printable_ascii, word_start}
-use Rattle.page_fill_rows.specs.machine.Sheets.{blank}
+use Rattle.page_fill_rows.specs.machine.Plain.{word_start}
+use Rattle.page_fill_cells.specs.Cells.{blank}
 use Rattle.page_fill_rows.proofs.PlainLemmas.{in-plain, sound-cells, sound-spaces}
 use Rattle.page_fill_cells.proofs.PlaceLemmas.{in-length}
 

@@ -6,11 +6,12 @@ use Rattle.std.proofs.lemmas.Bool.Decides.{nat_tests}
 use Rattle.std.proofs.lemmas.List.Sums.{sum_by-append}
 use Rattle.page_core_base.specs.declared.cells.Cell.{Cell}
 use Rattle.page_core_base.specs.declared.places.Place.{Place}
-use Rattle.page_core_base.specs.Laid.{Laid, nothing, join}
-use Rattle.page_core_base.specs.Rows.{row_of}
+use Rattle.page_core_base.specs.Rows.{Laid, nothing, join, row_of}
 use Rattle.page_core_base.specs.declared.limits.TheConstants.{CELLS}
 use Rattle.page_fill_rows.specs.declared.TheConstants.{TAG_COLUMNS}
-use Rattle.page_fill_rows.specs.machine.Sheets.{Sheet, blank, cell_columns, columns, counted, emptied, given, gives, letter, letters, opens, over, passes, space, wraps}
+use Rattle.page_fill_rows.specs.OpenRows.{Sheet, over}
+use Rattle.page_fill_cells.specs.Cells.{blank, cell_columns, columns}
+use Rattle.page_fill_rows.specs.machine.Sheets.{counted, emptied, given, gives, letter, letters, opens, passes, space, wraps}
 use Rattle.page_fill_rows.specs.machine.Plain.{ends_before, has_room, spaced, wraps_plain}
 use Rattle.page_fill_rows.proofs.PlainLemmas.{are_plain, blank-one, cells-fit, counts-more, first-column, has-more, others-plain}
 use Rattle.page_fill_rows.proofs.SheetLemmas.{letters-one}

@@ -1,3 +1,3 @@
 pub mod OpenRows
-pub mod Characters
+pub mod laws
 pub mod machine

@@ -1,9 +1,28 @@
--- The open row, and what is known of the rows above it. Source: roff(7), "Filling and adjusting"; mandoc(1), "ASCII Output".
-use Rattle.std.specs.Prelude.{ℕ, ◌+◌, ◌≤◌, Bool, false, min, List, [], length}
+-- The open row: what a character and a glyph print into it, and what is known of the rows above it. Source: roff(7), "Filling and adjusting".
+use Rattle.std.specs.Prelude.{List, ◌++◌, ℕ, [], if◌then◌else◌, Option, option_map, option_to_list, Bool, ◌+◌, min, false}
+use Rattle.std.specs.Str.{chars, is_utf8}
+use Rattle.page_core_base.specs.Messages.{Message, message_about}
+use Rattle.page_core_base.specs.Rows.{Laid}
 use Rattle.page_core_base.specs.declared.cells.Cell.{Cell}
-use Rattle.page_core_base.specs.Laid.{Laid}
-use Rattle.page_core_base.specs.Limits.{CELLS}
-pub use Rattle.page_fill_cells.specs.Cells.{blank, cell_columns, columns}
+use Rattle.page_core_base.specs.declared.note_kinds.NoteKind.TheVariants.{NoGlyph}
+use Rattle.page_core_base.specs.declared.places.Place.{Place}
+pub use Rattle.page_fill_cells.specs.Cells.{cell_of, cells_of, columns}
+
+-- ---- What a character and a glyph print, as cells of the open row. Source: mandoc_char(7); mandoc(1), -T ascii and -T utf8.
+
+-- messages come before what is laid
+abbrev pub with_notes : {E : Type 0} → List Message → Laid E → Laid E
+with_notes notes l = record { rows = l.rows; notes = notes ++ l.notes; edge = l.edge }
+
+-- the characters of a text; bytes that are not UTF-8 have none
+unfoldable pub characters_of : List ℕ → List ℕ
+characters_of bytes = if is_utf8 bytes then chars bytes else []
+
+-- what can't be printed is reported
+abbrev pub unknown_notes : Option (List ℕ) → Place → List Message
+unknown_notes text place = option_to_list (option_map (message_about NoGlyph place) text)
+
+-- ---- The open row, and what is known of the rows above it. Source: roff(7), "Filling and adjusting"; mandoc(1), "ASCII Output".
 
 -- the columns up to which those of a tag are counted: no hang is as great, so more of them make no difference
 abbrev pub TAG_COLUMNS : ℕ
@@ -32,12 +51,6 @@ pub record Sheet : Type 0 where
   -- the columns of the open tag's cells, up to TAG_COLUMNS, and whether it has a cell
   pub tag_columns : ℕ
   pub tag_begun : Bool
-
--- the places of the open row's last word lie within the row, which has at most CELLS cells: so it is at each edge that a page comes to
-pub record IsHeld (s : Sheet) : Type 0 where
-  pub gap_within : s.gap ≤ s.word
-  pub word_within : s.word ≤ length s.cells
-  pub bounded : length s.cells ≤ CELLS
 
 -- what is laid, under another edge
 abbrev pub over : {E F : Type 0} → Laid E → (E → F) → Laid F

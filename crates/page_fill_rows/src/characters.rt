@@ -2,10 +2,12 @@
 
 ghost use Rattle.std.specs.Prelude.{[], ◌∷◌};
 ghost use Rattle.std.specs.Str.{chars};
-ghost use Rattle.page_core_base.specs.Latches.{LaysOut};
-ghost use Rattle.page_core_tables.specs.Printed.{printed_view, unknown_text};
+ghost use Rattle.page_core_base.specs.laws.Views.{LaysOut};
+ghost use Rattle.page_core_tables.specs.laws.Views.{printed_view};
+ghost use Rattle.page_core_tables.specs.Glyphs.{unknown_text};
 ghost use Rattle.page_fill_rows.specs.machine.Sheets as sheet;
-ghost use Rattle.page_fill_rows.specs.Characters as shown;
+ghost use Rattle.page_fill_rows.specs.OpenRows as shown;
+ghost use Rattle.page_fill_rows.specs.laws.Views as shown_laws;
 
 use crate::open_rows::OpenRow;
 use crate::plain_texts::put_bytes;
@@ -14,7 +16,7 @@ use page_core_tables::{Printed, printed_char, printed_glyph};
 
 // Reports that there is no glyph, and puts what stands for it.
 fn put_unknown<O: RowOut>(row: &mut OpenRow, detail: &[u8], font: Font, place: Place, out: &mut O)
-    ensures { LaysOut O.left out.old (shown.put row.old
+    ensures { LaysOut O.left out.old (shown_laws.put row.old
         (unknown_text detail.now) font place) out.new row.new }
 {
     out.report(&Note::about(NoteKind::NoGlyph, place, detail));
@@ -37,7 +39,7 @@ fn put_printed<O: RowOut>(
     place: Place,
     out: &mut O,
 )
-    ensures { LaysOut O.left out.old (shown.put row.old
+    ensures { LaysOut O.left out.old (shown_laws.put row.old
         (printed_view printed.entry) font place) out.new row.new }
 {
     match printed {
@@ -52,7 +54,7 @@ fn put_printed<O: RowOut>(
 }
 
 /// Puts a character.
-#[tactic(auto, unfolding(crate::specs::Characters::character))]
+#[tactic(auto, unfolding(crate::specs::laws::Views::character))]
 pub fn put_character<O: RowOut>(
     row: &mut OpenRow,
     output: Output,
@@ -61,7 +63,7 @@ pub fn put_character<O: RowOut>(
     place: Place,
     out: &mut O,
 )
-    ensures { LaysOut O.left out.old (shown.character output row.old c font place) out.new row.new }
+    ensures { LaysOut O.left out.old (shown_laws.character output row.old c font place) out.new row.new }
 {
     put_printed(row, printed_char(output, c), font, place, out);
 }
@@ -75,7 +77,7 @@ pub fn put_characters<O: RowOut>(
     place: Place,
     out: &mut O,
 )
-    ensures { LaysOut O.left out.old (shown.characters output row.old
+    ensures { LaysOut O.left out.old (shown_laws.characters output row.old
         (chars text.now) font place) out.new row.new }
 {
     for c in text.chars() {
@@ -84,7 +86,7 @@ pub fn put_characters<O: RowOut>(
 }
 
 /// Puts the glyph of a name.
-#[tactic(auto, unfolding(crate::specs::Characters::glyph))]
+#[tactic(auto, unfolding(crate::specs::laws::Views::glyph))]
 pub fn put_glyph<O: RowOut>(
     row: &mut OpenRow,
     output: Output,
@@ -93,7 +95,7 @@ pub fn put_glyph<O: RowOut>(
     place: Place,
     out: &mut O,
 )
-    ensures { LaysOut O.left out.old (shown.glyph output row.old name.now font place) out.new row.new }
+    ensures { LaysOut O.left out.old (shown_laws.glyph output row.old name.now font place) out.new row.new }
 {
     put_printed(row, printed_glyph(output, name), font, place, out);
 }

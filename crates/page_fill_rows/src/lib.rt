@@ -2,10 +2,10 @@
 //!
 //! In the pipeline (bytes, lines, roff, macro set, scopes, filling, rows) it is the last step: an [`OpenRow`] takes cells and blanks, and
 //! gives each row to a sink as soon as no later cell can change it. It knows words only by their places in the row; what a word is is
-//! in `page_fill`. Read `Sheet` in `specs/OpenRows.antt` first, which is all that a row holds, and then `specs/Characters.antt`.
+//! in `page_fill`. Read `specs/OpenRows.antt` first, and in it `Sheet`, which is all that a row holds.
 //!
 //! Proved: `OpenRow`, `put_character`, `put_characters`, `put_glyph`, `put_plain`, `word_start`, `word_end`: what the open row is after each call, and the rows and
-//! messages that the call settles (`specs/Characters.antt`, `specs/machine/Sheets.antt` and `Plain.antt`). `RowLatch`: the rows and messages that two sinks were given, and the fault of the first that failed. `KeepsRow`: what is kept beside an open row
+//! messages that the call settles (`specs/OpenRows.antt`, `specs/machine/Sheets.antt`, `Plain.antt`). `RowLatch`: the rows and messages that two sinks were given, and the fault of the first that failed. `KeepsRow`: what is kept beside an open row
 //! shows its cells (`OpenCells`), or nothing (`NoCells`). `plain_law`: printable ASCII that is put into the row as a whole settles what its cells settle
 //! one by one. `constants_law`: the constants are those that the definitions cite.
 #![tactic(auto)]

@@ -1,11 +1,10 @@
 //! The open row, cell by cell.
 
 ghost use Rattle.std.specs.Prelude.{◌≡◌, ◌+◌, ◌-◌, ◌<◌, ◌≤◌, ◌==◌, [], ◌∷◌, ◌++◌, length, take, drop, replicate, IfOk, true, false, if◌then◌else◌};
-ghost use Rattle.page_core_base.specs.Latches.{CameRows, LaysOut};
-ghost use Rattle.page_core_base.specs.Messages.{message_of};
-ghost use Rattle.page_core_base.specs.Rows.{cells_in, row_of};
-ghost use Rattle.page_fill_rows.specs.Characters as shown;
-ghost use Rattle.page_fill_rows.specs.OpenRows.{IsHeld};
+ghost use Rattle.page_core_base.specs.laws.Views.{CameRows, LaysOut, message_of, cells_in};
+ghost use Rattle.page_core_base.specs.Rows.{row_of};
+ghost use Rattle.page_fill_rows.specs.OpenRows as shown;
+ghost use Rattle.page_fill_rows.specs.laws.Views.{IsHeld};
 ghost use Rattle.page_fill_rows.specs.machine.Plain as plain;
 ghost use Rattle.page_fill_rows.specs.machine.Sheets as sheet;
 
@@ -50,7 +49,7 @@ pub struct OpenRow {
 
 impl Model for OpenRow {
     ghost use Rattle.page_fill_rows.specs.machine.Room.{IsSound};
-    ghost use Rattle.page_fill_rows.specs.machine.Sheets.{Sheet};
+    ghost use Rattle.page_fill_rows.specs.OpenRows.{Sheet};
 
     ghost Value = { Sheet };
 

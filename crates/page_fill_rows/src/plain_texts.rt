@@ -1,8 +1,8 @@
 //! Plain texts: their bytes are read, and put into the open row, as a whole.
 
 ghost use Rattle.std.specs.Prelude.{◌≡◌, ◌≤◌, ◌<◌, ◌+◌, length, take, drop, true};
-ghost use Rattle.page_core_base.specs.Latches.{LaysOut};
-ghost use Rattle.page_fill_rows.specs.Characters as shown;
+ghost use Rattle.page_core_base.specs.laws.Views.{LaysOut};
+ghost use Rattle.page_fill_rows.specs.OpenRows as shown;
 ghost use Rattle.page_fill_rows.specs.machine.Plain as plain;
 ghost use Rattle.page_fill_rows.specs.machine.Sheets as sheet;
 

@@ -3,8 +3,8 @@ use Rattle.std.proofs.Common.{◌≡◌, ℕ, zero, suc, ◌<◌, ◌≤◌, ◌
 use Rattle.std.specs.List.{prefix_len}
 use Rattle.std.proofs.lemmas.Bool.{cases_Bool}
 use Rattle.std.proofs.lemmas.Bool.Decides.{nat_tests}
-use Rattle.page_scopes_phrases.specs.Cells.{after_tab, cell, cells, cells_within, first_part, has_tab, other_cells, span, without_blanks}
-use Rattle.page_scopes_phrases.specs.Outcomes.{Outcome, followed_by}
+use Rattle.page_scopes_phrases.specs.LineWords.{after_tab, cell, cells, cells_within, first_part, has_tab, other_cells, span, without_blanks}
+use Rattle.page_scopes_phrases.specs.Phrases.{Outcome, followed_by}
 use Rattle.page_scopes_phrases.specs.declared.formatting.Formatting.{Formatting}
 use Rattle.page_scopes_phrases.specs.declared.phrases.Phrase.{Phrase}
 

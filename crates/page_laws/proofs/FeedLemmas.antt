@@ -3,15 +3,17 @@ use Rattle.std.proofs.Common.{◌≡◌, ◌<◌, ◌≤◌, ◌+◌, ◌-◌, �
 use Rattle.std.proofs.lemmas.List.{take_more, drop_more, take-append-drop, length-map, length-take-le}
 use mathlib.Core.List.{map-append}
 use Rattle.page_core_base.specs.declared.faults.Fault.{Fault}
-use Rattle.page_core_base.specs.Fails.{IsSinkFault}
-use Rattle.page_core_base.specs.Laid.{Laid, join, nothing}
-use Rattle.page_core_base.specs.Sinks.{IsSink}
+use Rattle.page_core_base.specs.Messages.{IsSinkFault}
+use Rattle.page_core_base.specs.Rows.{Laid, join, nothing}
+use Rattle.page_core_base.specs.laws.Views.{IsSink}
 use Rattle.page_roff_lines.specs.Lines.{Line}
 use Rattle.page_engine.specs.machine.ByLine as by_line
-use Rattle.page_engine.specs.Page.{Edge, IsReached, settled, edge, counts_at}
-use Rattle.page_engine.specs.States.{PageState, IsOpenAt, line_fault}
+use Rattle.page_engine.specs.Edges.{Edge}
+use Rattle.page_engine.specs.laws.Views.{IsReached, counts_at, Came, Front}
+use Rattle.page_engine.specs.Page.{settled, edge}
+use Rattle.page_engine.specs.laws.States.{PageState, IsOpenAt, line_fault}
 use Rattle.page_roff_source.specs.declared.counts.Counts.{Counts}
-use Rattle.page_engine.specs.Streams.{Sinks, Came, Front}
+use Rattle.page_engine.specs.Runs.{Sinks}
 use Rattle.page_laws.specs.declared.feeding.Numbered.{Numbered}
 use Rattle.page_laws.specs.Fed.{line_given, lines_given}
 

@@ -1,25 +1,23 @@
 -- A line whose last event is at the column after its last byte: helpers of proofs.
 use Rattle.std.proofs.Common.{◌≡◌, ℕ, zero, suc, ◌+◌, Bool, true, false, List, [], ◌∷◌, ◌++◌, length, refl, ap, ◌∙◌, arith, None, Some}
 use Rattle.std.specs.Prelude.{codes}
-use Rattle.page_core_base.specs.LinesTaken.{Line}
+use Rattle.page_core_base.specs.Texts.{Line}
 use Rattle.page_roff_syntax.specs.declared.quotes.Argument.{Argument}
 use Rattle.page_roff_syntax.specs.declared.quotes.Quoting.TheVariants.{Unclosed}
 use Rattle.page_roff_syntax.specs.Arguments.{first_arguments, arguments}
-use Rattle.page_sets_lines.specs.ControlLines.{before_name, name_end, name_of, is_nameless, arguments_after}
+use Rattle.page_sets_lines.specs.Lines.{before_name, name_end, name_of, is_nameless, arguments_after, generated_word, line_end, word_event, word_place}
 use Rattle.page_sets.specs.Mdoc.{control_events, head_events, line_parts, mdoc_events, named_events}
-use Rattle.page_sets_mdoc_lines.specs.Parts.{LineParts, parts}
+use Rattle.page_sets_mdoc_lines.specs.Parts.{LineParts, parts, is_real, word_delimiter, word_call, is_closing, takes_next}
 use Rattle.page_sets_mdoc_lines.specs.declared.macros.Inline.TheVariants as inlines
 use Rattle.page_sets_mdoc_lines.specs.declared.blocks.LineMacro.TheVariants as lines
 use Rattle.page_sets_mdoc_blocks.specs.Fronts.{line_arguments}
 use Rattle.page_laws.specs.Places.{quote_after, flag_line, last_argument, flag_events}
 use Rattle.page_core_base.specs.declared.cells.Font.TheVariants.{B}
-use Rattle.page_sets_lines.specs.PlainLines.{generated_word, line_end, word_event, word_place}
 use Rattle.page_sets_lines.specs.declared.events.Event.{Event}
 use Rattle.page_sets_lines.specs.declared.events.Join.TheVariants.{Apart, Glued}
 use Rattle.page_sets_lines.specs.declared.events.Role.TheVariants as roles
 use Rattle.page_sets_names.specs.declared.generated_texts.GeneratedText.TheVariants.{Dash}
 use Rattle.page_sets_mdoc_lines.specs.Rows.{is_parsed, line_macro, row_of}
-use Rattle.page_sets_mdoc_lines.specs.LineWords.{is_real, word_delimiter, word_call, is_closing, takes_next}
 
 quote_len : (blanks : ℕ) → length (quote_after blanks) ≡ suc blanks
 quote_len zero = refl

@@ -2,8 +2,7 @@
 use Rattle.std.proofs.Common.{◌≡◌, ℕ, List, [], ◌∷◌, take, Option, None, Some, option_map, refl, ap, arith}
 use Rattle.std.proofs.lemmas.List.{take_all, length-take}
 use Rattle.page_core_base.specs.declared.page_settings.Output.{Output}
-use Rattle.page_core_tables.specs.Glyphs.{Symbol, glyph_of}
-use Rattle.page_core_tables.specs.Printed.{glyph_printed, symbol_printed}
+use Rattle.page_core_tables.specs.Glyphs.{Symbol, glyph_of, glyph_printed, symbol_printed}
 
 -- a name of a glyph has two bytes
 same-glyph : (name : List ℕ) → glyph_of (take 64 name) ≡ glyph_of name

@@ -3,8 +3,8 @@ use Rattle.std.proofs.Common.{◌≡◌, refl, ℕ, Bool, true, false, List, [],
 use Rattle.std.specs.Option.{option_or}
 use Rattle.std.specs.Str.{bytes_eq}
 use Rattle.std.proofs.lemmas.Bool.{cases_Bool}
-use Rattle.page_core_base.specs.LinesTaken.{Line}
-use Rattle.page_core_base.specs.TableRows.{row_in}
+use Rattle.page_core_base.specs.Texts.{Line}
+use Rattle.page_core_base.specs.Messages.{row_in}
 use Rattle.page_core_base.specs.declared.cells.Font.{Font}
 use Rattle.page_core_base.specs.declared.cells.Font.TheVariants as fonts
 use Rattle.page_core_base.specs.declared.places.Place.{Place}
@@ -16,10 +16,8 @@ use Rattle.page_sets_lines.specs.declared.events.Join.TheVariants.{Apart, Glued}
 use Rattle.page_sets_lines.specs.declared.events.EventKind.{EventKind}
 use Rattle.page_sets_lines.specs.declared.events.Event.{Event}
 use Rattle.page_sets_lines.specs.declared.plain_lines.PlainLine.{PlainLine}
-use Rattle.page_sets_lines.specs.ControlLines.{name_end, name_of, name_place, is_nameless, arguments_after, open_quote, rest_of}
-use Rattle.page_sets_lines.specs.PlainLines.{layout_request, line_start, plain_line}
-use Rattle.page_sets.specs.ManRows.{table, macro_row, request_row, row_of}
-use Rattle.page_sets.specs.Man.{effect_kind, line_scope, one_word, plain_words, alternating_words, option_words, section_words, reference_words, further_words, words_events, break_events, quote_at, missing_quote, quote_events, kind_events, scope_events, last_events, macro_events, lone_events, named_events, control_events, line_events, man_events}
+use Rattle.page_sets_lines.specs.Lines.{name_end, name_of, name_place, is_nameless, arguments_after, open_quote, rest_of, layout_request, line_start, plain_line}
+use Rattle.page_sets.specs.Man.{table, macro_row, request_row, row_of, effect_kind, line_scope, one_word, plain_words, alternating_words, option_words, section_words, reference_words, further_words, words_events, break_events, quote_at, missing_quote, quote_events, kind_events, scope_events, last_events, macro_events, lone_events, named_events, control_events, line_events, man_events}
 use Rattle.page_laws.specs.Places.{IsInLine, AreAll}
 use Rattle.page_laws.proofs.PlaceLemmas.{AreAll-append, either_at, AnyAt, AllSit, IsAtIfGiven, open_at, all_sit, start_in, name_in}
 

@@ -1,13 +1,12 @@
 -- The events of mdoc(7) are in their line: helpers of proofs.
 use Rattle.std.proofs.Common.{◌≡◌, ℕ, ◌≤◌, Bool, true, false, List, [], ◌∷◌, length, refl, arith, inl, inr, Option, None, Some, if◌then◌else◌}
 use Rattle.std.proofs.lemmas.Bool.{cases_Bool}
-use Rattle.page_core_base.specs.LinesTaken.{Line}
+use Rattle.page_core_base.specs.Texts.{Line}
 use Rattle.page_core_base.specs.declared.note_kinds.NoteKind.{NoteKind}
 use Rattle.page_core_base.specs.declared.note_kinds.NoteKind.TheVariants.{UnknownMacro, EmptyMacro}
 use Rattle.page_roff_syntax.specs.declared.quotes.Argument.{Argument}
 use Rattle.page_roff_syntax.specs.declared.requests.LayoutRequest.{LayoutRequest}
-use Rattle.page_sets_lines.specs.ControlLines.{name_end, name_of, name_place, is_nameless, is_unclosed}
-use Rattle.page_sets_lines.specs.PlainLines.{layout_request, plain_line, word_place}
+use Rattle.page_sets_lines.specs.Lines.{name_end, name_of, name_place, is_nameless, is_unclosed, layout_request, plain_line, word_place}
 use Rattle.page_sets_lines.specs.declared.events.Event.{Event}
 use Rattle.page_sets_lines.specs.declared.events.EventKind.{EventKind}
 use Rattle.page_sets_lines.specs.declared.line_steps.SynopsisStep.TheVariants.{Break}
@@ -15,9 +14,7 @@ use Rattle.page_sets_lines.specs.declared.plain_lines.PlainLine.{PlainLine}
 use Rattle.page_sets_mdoc_lines.specs.declared.blocks.LineMacro.{LineMacro}
 use Rattle.page_sets_mdoc_lines.specs.declared.blocks.LineMacro.TheVariants as lines
 use Rattle.page_sets_mdoc_lines.specs.declared.macros.Inline.{Inline}
-use Rattle.page_sets_mdoc_lines.specs.Parts.{Call, LineParts, has_calls, if_parsed, part_first, parts, tail_alone, takes}
-use Rattle.page_sets_mdoc_lines.specs.LineWords.{closes, is_closing, word_call, word_delimiter}
-use Rattle.page_sets_mdoc_lines.specs.Delimiters.{delimiter_of}
+use Rattle.page_sets_mdoc_lines.specs.Parts.{Call, LineParts, has_calls, if_parsed, part_first, parts, tail_alone, takes, closes, is_closing, word_call, word_delimiter, delimiter_of}
 use Rattle.page_roff_syntax.specs.Arguments.{is_quoted}
 use Rattle.page_roff_syntax.specs.declared.quotes.Quoting.{Quoting}
 use Rattle.page_roff_syntax.specs.declared.quotes.Quoting.TheVariants.{Bare, Closed, Unclosed}

@@ -6,8 +6,7 @@ use Rattle.page_core_base.specs.declared.cells.Font.{Font}
 use Rattle.page_core_base.specs.declared.cells.Font.TheVariants.{R, B, I}
 use Rattle.page_core_base.specs.declared.places.Place.{Place}
 use Rattle.page_roff_syntax.specs.declared.quotes.Argument.{Argument}
-use Rattle.page_sets_lines.specs.ControlLines.{is_unclosed}
-use Rattle.page_sets_lines.specs.PlainLines.{word_place}
+use Rattle.page_sets_lines.specs.Lines.{is_unclosed, word_place}
 use Rattle.page_sets_lines.specs.declared.events.Event.{Event}
 use Rattle.page_sets_lines.specs.declared.line_steps.SynopsisStep.{SynopsisStep}
 use Rattle.page_sets_names.specs.declared.generated_texts.GeneratedText.{GeneratedText}
@@ -18,12 +17,9 @@ use Rattle.page_sets_mdoc_lines.specs.declared.macros.Pair.TheVariants as pairs
 use Rattle.page_sets_mdoc_lines.specs.declared.macros.Inline.{Inline}
 use Rattle.page_sets_mdoc_lines.specs.declared.macros.Inline.TheVariants as inlines
 use Rattle.page_sets_mdoc_lines.specs.declared.blocks.Sentence.{Sentence}
-use Rattle.page_sets_mdoc_lines.specs.LineWords.{word_delimiter, is_real, is_closing}
-use Rattle.page_sets_mdoc_lines.specs.Parts.{front_len}
-use Rattle.page_sets_mdoc_words.specs.Printed.{word_or_delimiter, printed_word, printed, is_opening}
-use Rattle.page_sets_mdoc_words.specs.Inlines.{refused, with_words, lone, named, manual_name, default_word, flags, lone_dash, section, reference, more_arguments, arguments, function_words, function, next_arguments, function_opened, bsd, colon, uri_event, address, link_words, link, missing_quote, author, prefix, opened, closed, inline_events}
-use Rattle.page_sets_mdoc_words.specs.Sentences.{name_count, has_comma, name_mark, marked, joined, names_events, given_names, sentence_events, file_events, include_events}
-use Rattle.page_sets_mdoc_words.specs.Synopses.{preceded, followed, framed, before_words, after_words, placed_events}
+use Rattle.page_sets_mdoc_lines.specs.Parts.{word_delimiter, is_real, is_closing, front_len}
+use Rattle.page_sets_mdoc_words.specs.Inlines.{word_or_delimiter, printed_word, printed, is_opening, refused, with_words, lone, named, manual_name, default_word, flags, lone_dash, section, reference, more_arguments, arguments, function_words, function, next_arguments, function_opened, bsd, colon, uri_event, address, link_words, link, missing_quote, author, prefix, opened, closed, inline_events}
+use Rattle.page_sets_mdoc_words.specs.Sentences.{name_count, has_comma, name_mark, marked, joined, names_events, given_names, sentence_events, file_events, include_events, preceded, followed, framed, before_words, after_words, placed_events}
 use Rattle.page_laws.specs.Places.{AreAll}
 use Rattle.page_laws.proofs.PlaceLemmas.{AreAll-append, either_at, AnyAt, TextAt, Sits, SitsIfGiven, AllSit, AllSit-take, AllSit-drop}
 

@@ -2,12 +2,10 @@
 use Rattle.std.proofs.Common.{◌≡◌, ℕ, zero, suc, ◌+◌, ◌<◌, ◌≤◌, ◌==◌, Bool, true, false, List, [], ◌∷◌, length, drop, fold, Option, None, Some, option_map, IfSome, MatchOption, ℤ, inl, inr, refl, ◌∙◌, arith, length-drop}
 use Rattle.std.specs.List.{prefix_len}
 use Rattle.std.proofs.lemmas.Bool.{cases_Bool}
-use Rattle.page_core_escapes.specs.Bytes.{is_among, is_digit, plus, minus, parenthesis, closing_parenthesis}
+use Rattle.page_core_escapes.specs.Lengths.{is_among, is_digit, plus, minus, parenthesis, closing_parenthesis}
 use Rattle.page_core_numbers.specs.declared.scales.Scale.{Scale}
-use Rattle.page_core_numbers.specs.Numbers.{number_at, digits_of, after_digits, fraction_of, after_fraction, after_scale, scale_at, point}
+use Rattle.page_core_numbers.specs.Expressions.{number_at, digits_of, after_digits, fraction_of, after_fraction, after_scale, scale_at, point, operator_at, operator_named, operator_len, begins_equal, Read, number, after_close, in_parentheses, operand_inside, operand_by, first, after_operation, next_operator, operations_at, expression_by, expression_within}
 use Rattle.std.specs.Prelude.{is_some, codes, ◌&&◌}
-use Rattle.page_core_numbers.specs.Operators.{operator_at, operator_named, operator_len, begins_equal}
-use Rattle.page_core_numbers.specs.Expressions.{Read, number, after_close, in_parentheses, operand_inside, operand_by, first, after_operation, next_operator, operations_at, expression_by, expression_within}
 use Rattle.page_laws.specs.Operations.{operand_of, done}
 
 -- what is left is no longer than the text that was read

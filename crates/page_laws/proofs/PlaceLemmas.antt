@@ -3,14 +3,13 @@ use Rattle.std.proofs.Common.{◌≡◌, ℕ, zero, suc, ◌+◌, ◌-◌, ◌�
 use Rattle.std.proofs.lemmas.Bool.{cases_Bool}
 use Rattle.std.proofs.lemmas.Bool.Decides.{nat_tests}
 use Rattle.std.proofs.lemmas.List.{drop-drop}
-use Rattle.page_core_base.specs.LinesTaken.{Line}
+use Rattle.page_core_base.specs.Texts.{Line}
 use Rattle.page_core_base.specs.declared.places.Place.{Place}
 use Rattle.page_roff_syntax.specs.declared.quotes.Argument.{Argument}
 use Rattle.page_roff_syntax.specs.Arguments.{is_blank, begins_quoted, argument_len, quoted_len, first_argument, first_arguments, quoted_argument, bare_argument, arguments}
 use Rattle.page_sets_lines.specs.declared.events.Event.{Event}
 use Rattle.page_sets_lines.specs.declared.events.EventKind.{EventKind}
-use Rattle.page_sets_lines.specs.ControlLines.{before_name, name_end, name_place, is_nameless, is_unclosed, open_quote, arguments_after}
-use Rattle.page_sets_lines.specs.PlainLines.{event_at, line_start, word_place}
+use Rattle.page_sets_lines.specs.Lines.{before_name, name_end, name_place, is_nameless, is_unclosed, open_quote, arguments_after, event_at, line_start, word_place}
 use Rattle.page_laws.specs.Places.{ends_in_quote, prints_text, last_column, IsInLine, AreAll}
 
 -- ---- events

@@ -7,12 +7,12 @@ use Rattle.std.proofs.lemmas.Bool.Decides.{nat_tests}
 use Rattle.std.proofs.lemmas.Str.{IsUtf8-drop, byte_from_char, encode_ascii, len_utf8_bounds, length-encode}
 use Rattle.page_core_base.specs.declared.page_settings.Output.{Output}
 use Rattle.page_core_base.specs.declared.page_settings.Output.TheVariants.{Ascii}
-use Rattle.page_core_escapes.specs.Escapes.{escape_of, read_escape}
+use Rattle.page_core_escapes.specs.Meanings.{escape_of, read_escape}
 use Rattle.page_core_escapes.specs.Lengths.{escape_len}
 use Rattle.page_core_escapes.proofs.Characters.{first_of}
 use Rattle.page_core_escapes.proofs.Contents.{escape_len-some}
 use Rattle.page_core_escapes.proofs.EscapeTexts.{escape_cuts}
-use Rattle.page_core_tables.specs.Printed.{char_printed}
+use Rattle.page_core_tables.specs.Glyphs.{char_printed}
 use Rattle.page_core_numbers.specs.Columns.{front_len, printed_escape, printed_front, printed_text, printed_within}
 use Rattle.page_core_numbers.proofs.ColumnLemmas.{front-character, front-escape}
 

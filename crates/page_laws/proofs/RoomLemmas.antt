@@ -4,8 +4,7 @@ use Rattle.std.proofs.lemmas.List.{take_all, length-take}
 use Rattle.page_core_base.specs.Limits.{NAME}
 use Rattle.page_core_base.specs.declared.page_settings.Output.{Output}
 use Rattle.page_roff_effects.specs.States.{sum_of_counts}
-use Rattle.page_roff_source.specs.Edges.{SourceLine, first_edge}
-use Rattle.page_roff_source.specs.Given.{done}
+use Rattle.page_roff_source.specs.Runs.{SourceLine, first_edge, done}
 use Rattle.page_roff_source.proofs.CountLemmas.{lines_bound, lines_expansions}
 use Rattle.page_roff_syntax.specs.Arguments.{NAME_ROOM, argument_name, argument_value}
 use Rattle.page_roff_syntax.specs.declared.quotes.Argument.{Argument}

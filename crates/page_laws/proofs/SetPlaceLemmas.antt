@@ -2,8 +2,8 @@
 use Rattle.std.proofs.Common.{◌≡◌, ℕ, ◌+◌, ◌≤◌, min, ◌&&◌, List, [], ◌∷◌, length, inl, inr, arith}
 use Rattle.std.proofs.lemmas.Bool.{cases_Bool}
 use Rattle.page_core_base.specs.Limits.{LINE}
-use Rattle.page_core_base.specs.LinesTaken.{Line}
-use Rattle.page_sets.specs.Either.{either_events}
+use Rattle.page_core_base.specs.Texts.{Line}
+use Rattle.page_sets.specs.Mdoc.{either_events}
 use Rattle.page_sets.specs.declared.either.Either.{Either}
 use Rattle.page_sets.specs.declared.either.Either.TheVariants as sets
 use Rattle.page_sets_lines.specs.declared.events.Event.{Event}

@@ -1,8 +1,7 @@
 -- The content of a quoted argument, by what is first in it. Source: roff(7), "Escape sequences".
 use Rattle.std.specs.Prelude.{ℕ, ◌+◌, ◌==◌, nat_eq, Bool, List, ◌∷◌, drop, if◌then◌else◌, Option, Some, option_map, option_and_then}
 use Rattle.std.specs.List.{starts_with}
-use Rattle.page_core_escapes.specs.Bytes.{backslash}
-use Rattle.page_core_escapes.specs.Lengths.{content_len, escape_len}
+use Rattle.page_core_escapes.specs.Lengths.{backslash, content_len, escape_len}
 
 -- how many bytes are before the delimiter: an escape is passed over, the delimiter ends the content, and any other byte is of it
 abbrev pub content_from : (pairs : Bool) → (delimiter : List ℕ) → ℕ → List ℕ → Option ℕ

@@ -2,9 +2,11 @@
 use Rattle.std.specs.Prelude.{List, map, Result, MatchResult}
 use Rattle.page_core_base.specs.declared.faults.Fault.{Fault}
 use Rattle.page_roff_lines.specs.Lines.{Line}
-use Rattle.page_engine.specs.Page.{Edge, text_line, settled, edge}
-use Rattle.page_engine.specs.States.{PageState, IsOpenAt}
-use Rattle.page_engine.specs.Streams.{Sinks, Came, Front}
+use Rattle.page_engine.specs.Edges.{Edge}
+use Rattle.page_engine.specs.laws.Views.{text_line, Came, Front}
+use Rattle.page_engine.specs.Page.{settled, edge}
+use Rattle.page_engine.specs.laws.States.{PageState, IsOpenAt}
+use Rattle.page_engine.specs.Runs.{Sinks}
 use Rattle.page_laws.specs.declared.feeding.Numbered.{Numbered}
 
 -- a text with its number, as a line

@@ -1,6 +1,6 @@
 -- Fronts of what lines settle.
 use Rattle.std.specs.Prelude.{◌≡◌, List, ◌++◌}
-use Rattle.page_core_base.specs.Laid.{Laid}
+use Rattle.page_core_base.specs.Rows.{Laid}
 
 -- a list that another one begins with
 pub record IsFront {A : Type 0} (front all : List A) : Type 0 where

@@ -2,7 +2,9 @@
 
 ghost use Rattle.std.specs.Prelude.{List, ◌++◌};
 ghost use Rattle.page_roff_lines.specs.Lines.{Line};
-ghost use Rattle.page_engine.specs.Page.{Edge, IsReached, settled, page};
+ghost use Rattle.page_engine.specs.Edges.{Edge};
+ghost use Rattle.page_engine.specs.laws.Views.{IsReached};
+ghost use Rattle.page_engine.specs.Page.{settled, page};
 ghost use Rattle.page_laws.specs.Fronts.{IsLaidFront};
 
 use page_engine::cut_law;

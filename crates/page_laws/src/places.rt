@@ -2,8 +2,8 @@
 
 ghost use Rattle.std.specs.Prelude.{◌≡◌, ◌≤◌, ◌+◌, ℕ, length, min};
 ghost use Rattle.page_core_base.specs.Limits.{LINE};
-ghost use Rattle.page_core_base.specs.LinesTaken.{Line};
-ghost use Rattle.page_sets.specs.Either.{either_events};
+ghost use Rattle.page_core_base.specs.Texts.{Line};
+ghost use Rattle.page_sets.specs.Mdoc.{either_events};
 ghost use Rattle.page_sets.specs.declared.either.Either.{Either};
 ghost use Rattle.page_sets.specs.declared.either.Either.TheVariants.{Mdoc};
 ghost use Rattle.page_laws.specs.Places.{AreAll, IsInLine, flag_events, flag_line};

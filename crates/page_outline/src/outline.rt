@@ -108,7 +108,7 @@ impl NoteSink for Outline {
 }
 
 impl PieceSink for Outline {
-    ghost use Rattle.page_core_base.specs.Fails.{IsPieceFault};
+    ghost use Rattle.page_core_base.specs.laws.Views.{IsPieceFault};
 
     ghost took = { λ _ _ _. Unit {0} };
 

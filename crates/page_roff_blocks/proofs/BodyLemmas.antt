@@ -1,8 +1,7 @@
 -- What a re-read line and all effects of parts keep, the bodies that run keep: helpers of proofs.
 use Rattle.std.proofs.Common.{ℕ, zero, suc, Bool, true, false, not, ◌&&◌, List, Option, Some, None}
-use Rattle.page_roff_blocks.specs.LineParts.{line_parts}
-use Rattle.page_roff_blocks.specs.Levels.{first_place}
-use Rattle.page_roff_blocks.specs.Loops.{loop_text}
+use Rattle.page_roff_blocks.specs.Parts.{line_parts, loop_text}
+use Rattle.page_roff_blocks.specs.Forest.{first_place}
 use Rattle.page_roff_blocks.specs.machine.Run.{run_lines}
 use Rattle.page_roff_blocks.specs.machine.Languages.{Kind, page, body, inner, Done, gives, calls, repeats, state_of, TURNS, is_some, finish_at, run_body, turns, done_by, meaning_by, done_at, meaning_at}
 use Rattle.page_roff_blocks.specs.machine.Budgets.{Budgeted, Effects, with_rest, charge, begin_line, whether_run, meet, test, unopened_by, read_line, end_line, collect_some, meaning, done_with, closed_with, turn_by, turn, language}

@@ -1,10 +1,9 @@
 -- What a source line takes of its budget: helpers of proofs.
 use Rattle.std.proofs.Common.{ℕ, zero, suc, ◌+◌, ◌≤◌, Bool, true, false, List, [], ◌∷◌, Option, Some, None, sym, subst, arith}
-use Rattle.page_roff_blocks.specs.LineParts.{line_parts}
-use Rattle.page_roff_syntax.specs.RegionHeads.{is_ending}
-use Rattle.page_roff_blocks.specs.Levels.{Levels, at_line}
-use Rattle.page_roff_syntax.specs.OpenRegions.{Opened}
-use Rattle.page_roff_blocks.specs.Loops.{loop_text}
+use Rattle.page_roff_blocks.specs.Parts.{line_parts, loop_text}
+use Rattle.page_roff_syntax.specs.Regions.{is_ending, Opened}
+use Rattle.page_roff_blocks.specs.Forest.{Levels}
+use Rattle.page_roff_blocks.specs.laws.Views.{at_line}
 use Rattle.page_roff_blocks.specs.machine.Run.{At, keep_if}
 use Rattle.page_roff_blocks.specs.machine.Steps.{step_inside, collect_if, step_from, step, step_lines}
 use Rattle.page_roff_blocks.specs.machine.Steps as steps

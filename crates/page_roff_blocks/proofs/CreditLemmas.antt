@@ -10,9 +10,10 @@ use Rattle.page_roff_blocks.specs.declared.line_parts.Opening.TheVariants as ope
 use Rattle.page_roff_syntax.specs.declared.region_heads.RegionHead.{RegionHead}
 use Rattle.page_roff_blocks.specs.declared.levels.Way.{Way}
 use Rattle.page_roff_blocks.specs.declared.levels.Way.TheVariants.{Runs, Skips, Exceeds}
-use Rattle.page_roff_blocks.specs.Levels.{Levels, way_of, BlockCursor, after_part, guarded_by, reached, reached_in, reached_from, reached_if}
-use Rattle.page_roff_syntax.specs.OpenRegions.{Opened}
-use Rattle.page_roff_blocks.specs.Loops.{loop_text}
+use Rattle.page_roff_blocks.specs.Forest.{Levels}
+use Rattle.page_roff_blocks.specs.laws.Views.{way_of, BlockCursor, after_part, guarded_by, reached, reached_in, reached_from, reached_if}
+use Rattle.page_roff_syntax.specs.Regions.{Opened}
+use Rattle.page_roff_blocks.specs.Parts.{loop_text}
 use Rattle.page_roff_blocks.specs.machine.Run.{Meaning, At, meet_as, value, keep_if, refuse_if}
 use Rattle.page_roff_blocks.specs.machine.Steps.{met, guard_with, guard_met, block_with, opening_met, block_met, collect_if}
 use Rattle.page_roff_blocks.specs.machine.Steps as steps

@@ -5,9 +5,8 @@ use Rattle.page_roff_blocks.specs.declared.line_parts.LinePart.TheVariants.{Leaf
 use Rattle.page_roff_blocks.specs.declared.levels.Ended.{Ended}
 use Rattle.page_roff_blocks.specs.declared.levels.Ended.TheVariants as endings
 use Rattle.page_roff_heads.specs.declared.loops.LoopHead.{LoopHead}
-use Rattle.page_roff_blocks.specs.Levels.{after_part, leave, what_ends}
-use Rattle.page_roff_syntax.specs.OpenRegions.{Opened}
-use Rattle.page_roff_syntax.specs.RegionHeads.{is_ending}
+use Rattle.page_roff_blocks.specs.laws.Views.{after_part, leave, what_ends}
+use Rattle.page_roff_syntax.specs.Regions.{Opened, is_ending}
 use Rattle.page_roff_blocks.specs.machine.Run.{Meaning, At}
 use Rattle.page_roff_blocks.specs.machine.Steps.{met}
 use Rattle.page_core_base.specs.declared.limits.TheConstants.{CALLS}

@@ -6,18 +6,16 @@ use Rattle.std.proofs.lemmas.List.{drop-drop, drop_all, take_all}
 use Rattle.page_roff_syntax.specs.LineForms.{form_of, without_comment}
 use Rattle.page_roff_syntax.specs.declared.line_forms.LineForm.{LineForm}
 use Rattle.page_roff_syntax.specs.declared.line_forms.LineForm.TheVariants.{Comment, BlankLine, Text, Control}
-use Rattle.page_roff_heads.specs.Conditions.{condition_len}
-use Rattle.page_roff_heads.specs.Heads.{conditional_of, guarded_of, end_place, block_end_of}
-use Rattle.page_roff_heads.specs.Loops.{loop_of}
+use Rattle.page_roff_heads.specs.Conditions.{condition_len, blank_len, after_blanks, begins_pair, is_some_line, remainder_of}
+use Rattle.page_roff_heads.specs.Heads.{conditional_of, guarded_of, end_place, block_end_of, loop_of}
 use Rattle.page_roff_heads.specs.declared.loops.LoopRead.{LoopRead}
-use Rattle.page_roff_heads.specs.Texts.{blank_len, after_blanks, begins_pair, is_some_line, remainder_of}
 use Rattle.page_roff_heads.specs.declared.texts.Placed.{Placed}
 use Rattle.page_roff_blocks.specs.declared.parts.Keyword.{Keyword}
 use Rattle.page_roff_blocks.specs.declared.parts.Keyword.TheVariants as keywords
 use Rattle.page_roff_blocks.specs.declared.line_parts.LinePart.{LinePart}
 use Rattle.page_roff_blocks.specs.declared.line_parts.LinePart.TheVariants.{Leaf, Guard, Block, Loop, End, Region}
-use Rattle.page_roff_blocks.specs.LineParts.{part_of, with_part, line_parts, line_parts_left, whole_line_part}
-use Rattle.page_roff_blocks.specs.Parts.{rest_text, loop_part_if, plain_part, raw_rest, keyword_of, keyword_part, form_part, written_part}
+use Rattle.page_roff_blocks.specs.Parts.{part_of, with_part, line_parts, whole_line_part, rest_text, loop_part_if, plain_part, raw_rest, keyword_of, keyword_part, form_part, written_part}
+use Rattle.page_roff_blocks.specs.laws.Views.{line_parts_left}
 use Rattle.page_roff_blocks.specs.machine.LinePlaces.{IsEndOf, IsRestIn, rest_at, parts_at, place_after, is_block, opens_block}
 use Rattle.page_roff_blocks.proofs.LinePartLemmas.{end_rest, line_parts_cons}
 

@@ -7,11 +7,10 @@ use Rattle.page_roff_blocks.specs.declared.line_parts.Head.{Head}
 use Rattle.page_roff_blocks.specs.declared.line_parts.Opening.{Opening}
 use Rattle.page_roff_blocks.specs.declared.line_parts.Opening.TheVariants as openings
 use Rattle.page_roff_syntax.specs.declared.region_heads.RegionHead.{RegionHead}
-use Rattle.page_roff_blocks.specs.LineParts.{line_parts}
-use Rattle.page_roff_syntax.specs.RegionHeads.{end_name, is_ending}
-use Rattle.page_roff_blocks.specs.Forest.{Forest, empty, line, leaf, guard, block, loop, region, Source, ends, shuts, opens, holds, Inside, unended, ended, before, enclose, enregion, keep, line_of, region_line, source_of, inside_of}
-use Rattle.page_roff_blocks.specs.Levels.{Levels, enter, open_loop, skip, leave, leave_from, leave_loop, leave_level, what_ends, ends_from, loop_ends, level_ends, BlockCursor, at_line, after_part, guarded_by, reached, reached_in, reached_from}
-use Rattle.page_roff_syntax.specs.OpenRegions.{Opened, opened}
+use Rattle.page_roff_blocks.specs.Parts.{line_parts}
+use Rattle.page_roff_syntax.specs.Regions.{end_name, is_ending, Opened, opened}
+use Rattle.page_roff_blocks.specs.Forest.{Forest, empty, line, leaf, guard, block, loop, region, Source, ends, shuts, opens, holds, Inside, unended, ended, before, enclose, enregion, keep, line_of, region_line, source_of, inside_of, Levels}
+use Rattle.page_roff_blocks.specs.laws.Views.{enter, open_loop, skip, leave, leave_from, leave_loop, leave_level, what_ends, ends_from, loop_ends, level_ends, BlockCursor, at_line, after_part, guarded_by, reached, reached_in, reached_from}
 use Rattle.page_roff_blocks.specs.declared.levels.Way.{Way}
 use Rattle.page_roff_blocks.specs.declared.levels.Way.TheVariants.{Runs, Skips, Exceeds}
 use Rattle.page_roff_blocks.specs.machine.Run.{Meaning, Flow, At, fresh, past, guarded, meet_as, meet, keep_if, end_region, pass_region, pass, gather, leaf_if, guard_if, enter_if, block_by, loop_by, loop_if, run, read, here_at, here_in, here, enter_loop, enter_opening, enter_at, enter_in, enter_block, end_by, leave_block, meet_at, meet_in, open_region, read_at, run_source, run_inside, run_from, run_lines}

@@ -15,10 +15,10 @@ use Rattle.page_roff_blocks.specs.declared.levels.Way.TheVariants.{Runs, Skips, 
 use Rattle.page_roff_syntax.specs.declared.region_heads.RegionHead.{RegionHead}
 use Rattle.page_roff_blocks.specs.declared.block_cursors.Reached.{Reached}
 use Rattle.page_roff_blocks.specs.declared.block_cursors.Reached.TheVariants.{PassedOver, First, Remainder}
-use Rattle.page_roff_blocks.specs.LineParts.{line_parts}
-use Rattle.page_roff_syntax.specs.RegionHeads.{is_ending}
-use Rattle.page_roff_blocks.specs.Levels.{Levels, bit_after, way_of, enter, open_loop, what_ends, BlockCursor, at_line, after_part, reached, first_place}
-use Rattle.page_roff_syntax.specs.OpenRegions.{Opened, opened}
+use Rattle.page_roff_blocks.specs.Parts.{line_parts}
+use Rattle.page_roff_syntax.specs.Regions.{is_ending, Opened, opened}
+use Rattle.page_roff_blocks.specs.Forest.{Levels, bit_after, first_place}
+use Rattle.page_roff_blocks.specs.laws.Views.{way_of, enter, open_loop, what_ends, BlockCursor, at_line, after_part, reached}
 use Rattle.page_roff_blocks.specs.machine.Run.{Meaning, At, meet_as, value, keep_if, leaf_if, loop_if, refuse_if, end_by, run_lines}
 use Rattle.page_roff_blocks.specs.machine.Steps.{met, step_leaf, guard_with, guard_met, step_guard, block_with, opening_met, block_met, step_block, step_loop, step_end, step_region, step_parts, step_inside, collect_if, begin_line, step_from, step, step_lines}
 use Rattle.page_roff_blocks.proofs.FoldLemmas.{run_is_steps}

@@ -4,9 +4,9 @@ use Rattle.page_roff_heads.specs.declared.conditions.Condition.{Condition}
 use Rattle.page_roff_heads.specs.declared.loops.LoopHead.{LoopHead}
 use Rattle.page_roff_blocks.specs.declared.line_parts.Head.{Head}
 use Rattle.page_roff_syntax.specs.declared.region_heads.RegionHead.{RegionHead}
-use Rattle.page_roff_blocks.specs.Levels.{first_place}
-use Rattle.page_roff_syntax.specs.OpenRegions.{Opened}
-use Rattle.page_roff_blocks.specs.Loops.{loop_text}
+use Rattle.page_roff_blocks.specs.Forest.{first_place}
+use Rattle.page_roff_syntax.specs.Regions.{Opened}
+use Rattle.page_roff_blocks.specs.Parts.{loop_text}
 use Rattle.page_roff_blocks.specs.machine.Run.{At, run_lines}
 use Rattle.page_core_base.specs.declared.limits.TheConstants.{CALLS}
 use Rattle.page_roff_blocks.specs.machine.Languages.{Kind, page, body, inner, Done, gives, calls, repeats, TURNS, is_some, finish_at, run_body, done_by, meaning_by, done_at, meaning_at, run_page}

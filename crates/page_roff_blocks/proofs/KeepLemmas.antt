@@ -16,11 +16,10 @@ use Rattle.page_roff_blocks.specs.declared.levels.Way.TheVariants.{Runs, Skips, 
 use Rattle.page_roff_syntax.specs.declared.region_heads.RegionHead.{RegionHead}
 use Rattle.page_roff_blocks.specs.declared.block_cursors.Reached.{Reached}
 use Rattle.page_roff_blocks.specs.declared.block_cursors.Reached.TheVariants.{PassedOver, First, Remainder}
-use Rattle.page_roff_blocks.specs.LineParts.{line_parts}
-use Rattle.page_roff_syntax.specs.RegionHeads.{is_ending}
-use Rattle.page_roff_blocks.specs.Levels.{Levels, way_of, what_ends, BlockCursor, at_line, reached}
-use Rattle.page_roff_syntax.specs.OpenRegions.{Opened}
-use Rattle.page_roff_blocks.specs.Loops.{loop_text}
+use Rattle.page_roff_blocks.specs.Parts.{line_parts, loop_text}
+use Rattle.page_roff_syntax.specs.Regions.{is_ending, Opened}
+use Rattle.page_roff_blocks.specs.Forest.{Levels}
+use Rattle.page_roff_blocks.specs.laws.Views.{way_of, what_ends, BlockCursor, at_line, reached}
 use Rattle.page_roff_blocks.specs.machine.Run.{Meaning, At, meet_as, value, leaf_if, loop_if, refuse_if, keep_if, end_by, run_lines}
 use Rattle.page_roff_blocks.specs.machine.Steps.{met, step_leaf, guard_with, guard_met, step_guard, block_with, opening_met, block_met, step_block, step_loop, step_end, step_region, step_parts, step_inside, collect_if, begin_line, step_from, step, step_lines}
 use Rattle.page_roff_blocks.proofs.FoldLemmas.{run_is_steps}

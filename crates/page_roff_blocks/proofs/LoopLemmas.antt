@@ -6,8 +6,7 @@ use Rattle.std.proofs.lemmas.List.{length-take-le}
 use Rattle.page_roff_syntax.specs.LineForms.{form_of}
 use Rattle.page_roff_syntax.specs.declared.line_forms.LineForm.{LineForm}
 use Rattle.page_roff_syntax.specs.declared.line_forms.LineForm.TheVariants.{Comment, BlankLine, Text, Control}
-use Rattle.page_roff_heads.specs.Heads.{conditional_of, guarded_of, end_place, block_end_of}
-use Rattle.page_roff_heads.specs.Loops.{loop_of}
+use Rattle.page_roff_heads.specs.Heads.{conditional_of, guarded_of, end_place, block_end_of, loop_of}
 use Rattle.page_roff_heads.specs.declared.loops.LoopRead.{LoopRead}
 use Rattle.page_roff_blocks.specs.declared.line_parts.LinePart.{LinePart}
 use Rattle.page_roff_blocks.specs.declared.line_parts.LinePart.TheVariants.{Leaf, Guard, Block, Loop, End, Region}
@@ -15,9 +14,9 @@ use Rattle.page_roff_blocks.specs.declared.line_parts.Head.{Head}
 use Rattle.page_roff_blocks.specs.declared.parts.Keyword.{Keyword}
 use Rattle.page_roff_blocks.specs.declared.parts.Keyword.TheVariants as keywords
 use Rattle.page_roff_blocks.specs.declared.parts.Part.{Part}
-use Rattle.page_roff_blocks.specs.Loops.{blocks_left, blocks_after, before_end, left_by, left_in, left_of, left_rest, len_before, len_of}
+use Rattle.page_roff_blocks.specs.Parts.{blocks_left, blocks_after, before_end, left_by, left_in, left_of, len_before, len_of, head_line_part, loop_part_if, end_part, plain_part, raw_rest, keyword_of, keyword_part, form_part, written_part}
+use Rattle.page_roff_blocks.specs.laws.Views.{left_rest}
 use Rattle.page_roff_blocks.specs.machine.LinePlaces.{IsEndOf, place_after}
-use Rattle.page_roff_blocks.specs.Parts.{head_line_part, loop_part_if, end_part, plain_part, raw_rest, keyword_of, keyword_part, form_part, written_part}
 use Rattle.page_roff_blocks.proofs.LinePartLemmas.{IsShorter, room, room_left, written_shorter}
 use Rattle.page_roff_blocks.proofs.EndLemmas.{to_end, written_ends, end_further}
 

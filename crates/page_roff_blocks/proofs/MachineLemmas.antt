@@ -5,9 +5,9 @@ use Rattle.page_roff_blocks.specs.declared.line_parts.LinePart.{LinePart}
 use Rattle.page_roff_blocks.specs.declared.line_parts.LinePart.TheVariants.{Leaf, Guard, Block, Loop, End, Region}
 use Rattle.page_roff_blocks.specs.declared.levels.Ended.{Ended}
 use Rattle.page_roff_blocks.specs.declared.levels.Ended.TheVariants as endings
-use Rattle.page_roff_syntax.specs.RegionHeads.{is_ending}
-use Rattle.page_roff_blocks.specs.Levels.{BlockCursor, at_line, after_part, leave, what_ends, first_place}
-use Rattle.page_roff_syntax.specs.OpenRegions.{Opened}
+use Rattle.page_roff_syntax.specs.Regions.{is_ending, Opened}
+use Rattle.page_roff_blocks.specs.laws.Views.{BlockCursor, at_line, after_part, leave, what_ends}
+use Rattle.page_roff_blocks.specs.Forest.{first_place}
 use Rattle.page_roff_blocks.specs.machine.Run.{Meaning, At, end_by, headed}
 use Rattle.page_roff_blocks.specs.machine.Run as blocks
 use Rattle.page_roff_blocks.specs.machine.Steps.{met, step_leaf, step_loop, step_end, step_region, step_parts, step_inside, step_from, step, step_lines}

@@ -9,10 +9,10 @@ use Rattle.page_roff_blocks.specs.declared.line_parts.Opening.{Opening}
 use Rattle.page_roff_blocks.specs.declared.levels.Ended.{Ended}
 use Rattle.page_roff_blocks.specs.declared.levels.Ended.TheVariants as endings
 use Rattle.page_roff_syntax.specs.declared.region_heads.RegionHead.{RegionHead}
-use Rattle.page_roff_blocks.specs.LineParts.{line_parts}
-use Rattle.page_roff_syntax.specs.RegionHeads.{is_ending}
-use Rattle.page_roff_blocks.specs.Levels.{Levels, leave, what_ends, BlockCursor, at_line, after_part}
-use Rattle.page_roff_syntax.specs.OpenRegions.{Opened}
+use Rattle.page_roff_blocks.specs.Parts.{line_parts}
+use Rattle.page_roff_syntax.specs.Regions.{is_ending, Opened}
+use Rattle.page_roff_blocks.specs.Forest.{Levels}
+use Rattle.page_roff_blocks.specs.laws.Views.{leave, what_ends, BlockCursor, at_line, after_part}
 use Rattle.page_roff_blocks.specs.machine.Run.{At, keep_if}
 use Rattle.page_roff_blocks.specs.machine.Steps.{met, guard_met, step_guard, block_met, step_block, step_region}
 use Rattle.page_roff_blocks.specs.machine.Steps as steps

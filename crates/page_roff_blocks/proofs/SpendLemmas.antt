@@ -13,11 +13,10 @@ use Rattle.page_roff_blocks.specs.declared.levels.Ended.TheVariants as endings
 use Rattle.page_roff_syntax.specs.declared.region_heads.RegionHead.{RegionHead}
 use Rattle.page_roff_blocks.specs.declared.levels.Way.{Way}
 use Rattle.page_roff_blocks.specs.declared.levels.Way.TheVariants.{Runs, Skips, Exceeds}
-use Rattle.page_roff_blocks.specs.LineParts.{line_parts}
-use Rattle.page_roff_syntax.specs.RegionHeads.{is_ending}
-use Rattle.page_roff_blocks.specs.Levels.{Levels, way_of, leave, what_ends, BlockCursor, at_line, after_part, guarded_by, reached, reached_in, reached_from, reached_if, first_place}
-use Rattle.page_roff_syntax.specs.OpenRegions.{Opened}
-use Rattle.page_roff_blocks.specs.Loops.{loop_text}
+use Rattle.page_roff_blocks.specs.Parts.{line_parts, loop_text}
+use Rattle.page_roff_syntax.specs.Regions.{is_ending, Opened}
+use Rattle.page_roff_blocks.specs.Forest.{Levels, first_place}
+use Rattle.page_roff_blocks.specs.laws.Views.{way_of, leave, what_ends, BlockCursor, at_line, after_part, guarded_by, reached, reached_in, reached_from, reached_if}
 use Rattle.page_roff_blocks.specs.machine.Run.{Meaning, At, meet_as, value, keep_if, leaf_if, loop_if, refuse_if, end_by, run_lines}
 use Rattle.page_roff_blocks.specs.machine.Steps.{met, step_leaf, guard_with, guard_met, step_guard, block_with, opening_met, block_met, step_block, step_loop, step_end, step_region, step_parts, step_inside, collect_if, step_from, step, step_lines}
 use Rattle.page_roff_blocks.specs.machine.Steps as steps
@@ -27,7 +26,7 @@ use Rattle.page_roff_blocks.specs.machine.Languages.{Kind, page, body, inner, Do
 use Rattle.page_roff_blocks.specs.machine.Budgets.{Budgeted, Effects, with_rest, charge_by, charge, begin_line, whether_run, meet, test, unopened_by, read_line, end_line, collect_some, meaning, done_with, closed_with, turn_by, turn, language}
 use Rattle.page_roff_blocks.specs.machine.Machine.{Turning, Frame, Running, entered, looped, turned, at_part, between, depth, next, next_in, finish_if, leaf_next, loop_next, end_next, part_next, region_next, line_next, turn_if, turn_next, body_next, source_next}
 use Rattle.page_roff_blocks.specs.machine.Machine as machine
-use Rattle.page_roff_blocks.specs.Spent.{Spends}
+use Rattle.page_roff_blocks.specs.laws.Spent.{Spends}
 use Rattle.page_roff_blocks.specs.machine.Spending.{unspent_if, unspent_at, unspent, AreMet, LeadsIn, Leads}
 use Rattle.page_roff_blocks.proofs.KeepLemmas.{turns_keep}
 

@@ -1,15 +1,49 @@
--- The raw lines of one source as a forest, found from the raw text alone. Source: roff(7), "if", "while", "de", "ig".
--- No definition and no value of a condition has a part in it.
--- A raw line is of any type that has a text: it may have more than that, as its number.
-use Rattle.std.specs.Prelude.{ℕ, Bool, true, false, List, [], ◌∷◌}
+-- The raw lines of one source as a forest, found from the raw text alone, and the levels of its blocks. Source: roff(7), "Conditionals", `while`.
+use Rattle.std.specs.Prelude.{ℕ, Bool, List, false, [], not, Option, None, ◌∷◌, true}
+use Rattle.page_roff_syntax.specs.Regions.{Opened, end_name, is_ending}
+use Rattle.page_roff_syntax.specs.declared.region_heads.RegionHead.{RegionHead}
 use Rattle.page_roff_heads.specs.declared.loops.LoopHead.{LoopHead}
+use Rattle.page_roff_blocks.specs.Parts.{line_parts}
+use Rattle.page_roff_blocks.specs.declared.line_parts.Branch.{Branch}
+use Rattle.page_roff_blocks.specs.declared.line_parts.Branch.TheVariants.{If, IfElse, Else}
+use Rattle.page_roff_blocks.specs.declared.line_parts.Head.{Head}
 use Rattle.page_roff_blocks.specs.declared.line_parts.LinePart.{LinePart}
 use Rattle.page_roff_blocks.specs.declared.line_parts.LinePart.TheVariants.{Leaf, Guard, Block, Loop, End, Region}
-use Rattle.page_roff_blocks.specs.declared.line_parts.Head.{Head}
 use Rattle.page_roff_blocks.specs.declared.line_parts.Opening.{Opening}
-use Rattle.page_roff_syntax.specs.declared.region_heads.RegionHead.{RegionHead}
-use Rattle.page_roff_blocks.specs.LineParts.{line_parts}
-use Rattle.page_roff_syntax.specs.RegionHeads.{end_name, is_ending}
+
+-- ---- Where a source is: the levels of its blocks, and an open region between two lines. Source: roff(7), "if", "ie", "el", "while".
+
+-- The innermost level's bit for `ie`, and the bits of the levels around it from the inside out.
+pub record Levels : Type 0 where
+  pub bit : Bool
+  pub outer : List Bool
+  -- whether a loop is being collected in the innermost level
+  pub in_loop : Bool
+  -- the number of skipped blocks that are open there: those in the loop, where one is collected
+  pub skipped : ℕ
+
+-- outside all blocks
+unfoldable pub outside : Levels
+outside = record { bit = false; outer = []; in_loop = false; skipped = 0 }
+
+-- `ie` sets the bit of its level to the opposite of its condition, `el` clears it
+unfoldable pub bit_after : Branch (List ℕ) → Bool → Bool → Bool
+bit_after (If condition) value bit = bit
+bit_after (IfElse condition) value bit = not value
+bit_after Else value bit = false
+
+-- where a source is between two lines
+pub record Place : Type 0 where
+  pub region : Option Opened
+  pub levels : Levels
+
+-- before the first line of a source
+unfoldable pub first_place : Place
+first_place = record { region = None; levels = outside }
+
+-- ---- The raw lines of one source as a forest, found from the raw text alone. Source: roff(7), "if", "while", "de", "ig".
+-- No definition and no value of a condition has a part in it.
+-- A raw line is of any type that has a text: it may have more than that, as its number.
 
 -- siblings, each with those that follow it
 pub data Forest (X : Type 0) : Type 0 where

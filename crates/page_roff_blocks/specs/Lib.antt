@@ -1,8 +1,4 @@
-pub mod LineParts
-pub mod Caps
-pub mod Parts
-pub mod Loops
 pub mod Forest
-pub mod Levels
-pub mod Spent
+pub mod Parts
+pub mod laws
 pub mod machine

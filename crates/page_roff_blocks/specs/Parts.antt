@@ -1,10 +1,13 @@
--- The first part of a raw line as it is written, found from its text alone. Source: roff(7), "if", "ie", "el", "while".
-use Rattle.std.specs.Prelude.{ℕ, ◌-◌, Bool, true, false, List, [], ◌∷◌, drop, Option, Some, None}
+-- The parts of a raw line, found from its text alone, and what of it belongs to a loop. Source: roff(7), "Conditionals", `while`.
+use Rattle.std.specs.Prelude.{Option, Some, None, ℕ, List, Bool, true, false, [], ◌∷◌, ◌-◌, drop, zero, suc, length, take}
 use Rattle.page_roff_syntax.specs.LineForms.{form_of}
+use Rattle.page_roff_syntax.specs.Regions.{region_head}
+use Rattle.page_roff_syntax.specs.Requests.{request_of}
 use Rattle.page_roff_syntax.specs.declared.line_forms.LineForm.{LineForm}
 use Rattle.page_roff_syntax.specs.declared.line_forms.LineForm.TheVariants.{Comment, BlankLine, Text, Control}
-use Rattle.page_roff_heads.specs.Heads.{conditional_of, guarded_of, block_end_of}
-use Rattle.page_roff_heads.specs.Loops.{loop_of}
+use Rattle.page_roff_syntax.specs.declared.requests.Request.{Request}
+use Rattle.page_roff_syntax.specs.declared.requests.Request.TheVariants as requests
+use Rattle.page_roff_heads.specs.Heads.{block_end_of, conditional_of, guarded_of, loop_of}
 use Rattle.page_roff_heads.specs.declared.conditions.Condition.{Condition}
 use Rattle.page_roff_heads.specs.declared.heads.BlockEnd.{BlockEnd}
 use Rattle.page_roff_heads.specs.declared.heads.Conditional.{Conditional}
@@ -12,20 +15,18 @@ use Rattle.page_roff_heads.specs.declared.heads.Guarded.{Guarded}
 use Rattle.page_roff_heads.specs.declared.loops.LoopHead.{LoopHead}
 use Rattle.page_roff_heads.specs.declared.loops.LoopRead.{LoopRead}
 use Rattle.page_roff_heads.specs.declared.texts.Placed.{Placed}
-use Rattle.page_roff_blocks.specs.declared.line_parts.LinePart.{LinePart}
-use Rattle.page_roff_blocks.specs.declared.line_parts.LinePart.TheVariants.{Leaf, Guard, Block, Loop, End, Region}
 use Rattle.page_roff_blocks.specs.declared.line_parts.Branch.{Branch}
 use Rattle.page_roff_blocks.specs.declared.line_parts.Branch.TheVariants.{If, IfElse, Else}
 use Rattle.page_roff_blocks.specs.declared.line_parts.Head.{Head}
+use Rattle.page_roff_blocks.specs.declared.line_parts.LinePart.{LinePart}
+use Rattle.page_roff_blocks.specs.declared.line_parts.LinePart.TheVariants.{Region, Guard, Block, Loop, Leaf, End}
+use Rattle.page_roff_blocks.specs.declared.line_parts.Opening.{Opening}
 use Rattle.page_roff_blocks.specs.declared.line_parts.Opening.TheVariants as openings
-use Rattle.page_roff_blocks.specs.declared.parts.Columns.{Columns}
 use Rattle.page_roff_blocks.specs.declared.parts.Keyword.{Keyword}
 use Rattle.page_roff_blocks.specs.declared.parts.Keyword.TheVariants as keywords
 use Rattle.page_roff_blocks.specs.declared.parts.Part.{Part}
-use Rattle.page_roff_syntax.specs.Requests.{request_of}
-use Rattle.page_roff_syntax.specs.declared.requests.Request.{Request}
-use Rattle.page_roff_syntax.specs.declared.requests.Request.TheVariants as requests
-use Rattle.page_roff_syntax.specs.RegionHeads.{region_head}
+
+-- ---- The first part of a raw line as it is written, found from its text alone. Source: roff(7), "if", "ie", "el", "while".
 
 -- what a control line of a name heads
 abbrev pub keyword_in : Option Request → Keyword
@@ -117,16 +118,119 @@ form_part line (Control name column rest rest_column) = keyword_part (keyword_of
 unfoldable pub written_part : List ℕ → Part (List ℕ)
 written_part line = form_part line (form_of line)
 
--- ---- of the program: a control line's columns, and its first part by what it heads
+-- ---- What of a raw line belongs to a loop. Source: roff(7), "while".
 
-abbrev pub columns_of : LineForm (List ℕ) → Option Columns
-columns_of Comment = None
-columns_of BlankLine = None
-columns_of (Text text) = None
-columns_of (Control name column rest rest_column) = Some (record { name = column; rest = rest_column })
+-- the blocks that are open in a loop after the end of one; none of them where it is the loop that ends
+abbrev pub blocks_left : Bool → ℕ → Option ℕ
+blocks_left false blocks = Some blocks
+blocks_left true zero = None
+blocks_left true (suc blocks) = Some blocks
 
-abbrev pub named_part : Keyword → List ℕ → LineForm (List ℕ) → Part (List ℕ)
-named_part keyword line Comment = plain_part line
-named_part keyword line BlankLine = plain_part line
-named_part keyword line (Text text) = plain_part line
-named_part keyword line (Control name column rest rest_column) = keyword_part keyword line column rest rest_column
+-- those after a part, which the end of a block may follow
+abbrev pub blocks_after : LinePart (List ℕ) → Bool → ℕ → Option ℕ
+blocks_after (Leaf text) is_end blocks = blocks_left is_end blocks
+blocks_after (Guard head) is_end blocks = Some blocks
+blocks_after (Block opening) is_end blocks = Some (suc blocks)
+blocks_after (Loop head) is_end blocks = Some blocks
+blocks_after End is_end blocks = blocks_left true blocks
+blocks_after (Region head) is_end blocks = Some blocks
+
+-- the bytes of a part before the end of a block
+abbrev pub before_end : LinePart (List ℕ) → ℕ
+before_end (Leaf text) = length text
+before_end (Guard head) = 0
+before_end (Block opening) = 0
+before_end (Loop head) = 0
+before_end End = 0
+before_end (Region head) = 0
+
+-- What is left of a line from the \} on that ends the loop, if one does: at most n remainders deep, where this
+-- many blocks are open in the loop.
+abbrev pub left_by : Option ℕ → (ℕ → Option (List ℕ)) → List ℕ → Option (List ℕ)
+left_by None further rest = Some rest
+left_by (Some blocks) further rest = further blocks
+
+abbrev pub left_in : ℕ → ℕ → Option (List ℕ) → Option (List ℕ)
+left_in zero blocks rest = None
+left_in (suc n) blocks None = None
+left_in (suc n) blocks (Some line) =
+    let part = written_part line in
+    left_by (blocks_after part.line_part part.is_end blocks) (λ blocks. left_in n blocks part.rest) (drop (before_end part.line_part) line)
+
+-- all of them: each remainder is shorter than its line
+unfoldable pub left_of : ℕ → List ℕ → Option (List ℕ)
+left_of blocks line = left_in (suc (length line)) blocks (Some line)
+
+-- the bytes before it
+abbrev pub len_before : List ℕ → Option (List ℕ) → Option ℕ
+len_before line None = None
+len_before line (Some rest) = Some (length line - length rest)
+
+unfoldable pub len_of : ℕ → List ℕ → Option ℕ
+len_of blocks line = len_before line (left_of blocks line)
+
+-- an empty text is none
+abbrev pub some_text : List ℕ → Option (List ℕ)
+some_text [] = None
+some_text (byte ∷ bytes) = Some (byte ∷ bytes)
+
+abbrev pub text_before : List ℕ → Option ℕ → Option (List ℕ)
+text_before line None = Some line
+text_before line (Some len) = some_text (take len line)
+
+-- What of a line belongs to a loop in which this many blocks are open: what is before the \} that ends it, if
+-- that is more than nothing; else all of the line, be it empty.
+unfoldable pub loop_text : ℕ → List ℕ → Option (List ℕ)
+loop_text blocks line = text_before line (len_of blocks line)
+
+-- what of the text after its block belongs to it; an empty text is left out
+abbrev pub unless_empty : Option (List ℕ) → Option (List ℕ)
+unless_empty None = None
+unless_empty (Some text) = some_text text
+
+unfoldable pub first_text : List ℕ → Option (List ℕ)
+first_text first = unless_empty (loop_text 0 first)
+
+-- ---- The parts of a raw line, found from its text alone. Source: roff(7), "if", "ie", "el", "while".
+
+-- of what follows the block of a loop on its line, only what belongs to the loop
+abbrev pub loop_body : Option (List ℕ) → Option (List ℕ)
+loop_body None = None
+loop_body (Some first) = first_text first
+
+abbrev pub whole_opening : Opening (List ℕ) → Opening (List ℕ)
+whole_opening (openings.Conditional head) = openings.Conditional head
+whole_opening (openings.Loop head) = openings.Loop (record { condition = head.condition; body = loop_body head.body })
+
+abbrev pub whole_line_part : LinePart (List ℕ) → LinePart (List ℕ)
+whole_line_part (Leaf text) = Leaf text
+whole_line_part (Guard head) = Guard head
+whole_line_part (Block opening) = Block (whole_opening opening)
+whole_line_part (Loop head) = Loop head
+whole_line_part End = End
+whole_line_part (Region head) = Region head
+
+abbrev pub whole_part : Part (List ℕ) → Part (List ℕ)
+whole_part part = record { line_part = whole_line_part part.line_part; is_end = part.is_end; rest = part.rest }
+
+-- the first part of a line
+unfoldable pub part_of : List ℕ → Part (List ℕ)
+part_of line = whole_part (written_part line)
+
+-- a part, and then the others
+abbrev pub ends_first : Bool → List (LinePart (List ℕ)) → List (LinePart (List ℕ))
+ends_first true more = End ∷ more
+ends_first false more = more
+
+abbrev pub with_part : Part (List ℕ) → List (LinePart (List ℕ)) → List (LinePart (List ℕ))
+with_part part more = part.line_part ∷ ends_first part.is_end more
+
+-- the parts of a line; a remainder is a line of its own, at most n of them deep
+abbrev pub parts : ℕ → Option (List ℕ) → List (LinePart (List ℕ))
+parts zero rest = []
+parts (suc n) None = []
+parts (suc n) (Some line) = with_part (part_of line) (parts n (part_of line).rest)
+
+-- all of them: each remainder is shorter than its line
+unfoldable pub line_parts : List ℕ → List (LinePart (List ℕ))
+line_parts line = parts (suc (length line)) (Some line)

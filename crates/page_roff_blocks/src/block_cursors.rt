@@ -2,7 +2,8 @@
 
 ghost use Rattle.std.specs.Prelude.{◌≡◌, ◌<◌, ◌≤◌, ◌^◌, true, length};
 ghost use Rattle.page_core_base.specs.declared.limits.TheConstants.{CONDS};
-ghost use Rattle.page_roff_blocks.specs.Levels.{outside, at_line, passed, reached};
+ghost use Rattle.page_roff_blocks.specs.Forest.{outside};
+ghost use Rattle.page_roff_blocks.specs.laws.Views.{at_line, passed, reached};
 
 use crate::levels::{Answer, Levels};
 use std::marker::Model;
@@ -43,7 +44,7 @@ pub struct BlockCursor {
 }
 
 impl Model for BlockCursor {
-    ghost use Rattle.page_roff_blocks.specs.Levels.{BlockCursor};
+    ghost use Rattle.page_roff_blocks.specs.laws.Views.{BlockCursor};
 
     ghost Value = { BlockCursor };
 
@@ -52,7 +53,7 @@ impl Model for BlockCursor {
 
 impl BlockCursor {
     /// Before the first line of a source.
-    #[tactic(auto, unfolding(crate::specs::Levels::at_line))]
+    #[tactic(auto, unfolding(crate::specs::laws::Views::at_line))]
     pub fn new() -> BlockCursor
         ensures { result ≡ at_line outside }
     {
@@ -64,7 +65,7 @@ impl BlockCursor {
     }
 
     /// Before a line, at these levels.
-    #[tactic(auto, unfolding(crate::specs::Levels::at_line))]
+    #[tactic(auto, unfolding(crate::specs::laws::Views::at_line))]
     pub fn at(levels: Levels) -> BlockCursor
         ensures { result ≡ at_line levels }
     {
@@ -83,7 +84,7 @@ impl BlockCursor {
     }
 
     /// A line begins, or has ended.
-    #[tactic(auto, unfolding(crate::specs::Levels::at_line))]
+    #[tactic(auto, unfolding(crate::specs::laws::Views::at_line))]
     pub fn begin_line(&mut self)
         ensures { self.new ≡ at_line self.old.levels }
     {
@@ -92,7 +93,7 @@ impl BlockCursor {
     }
 
     /// How the next part of the line is reached.
-    #[tactic(auto, unfolding(crate::specs::Levels::reached, crate::specs::Levels::reached_in, crate::specs::Levels::reached_from, crate::specs::Levels::reached_if))]
+    #[tactic(auto, unfolding(crate::specs::laws::Views::reached, crate::specs::laws::Views::reached_in, crate::specs::laws::Views::reached_from, crate::specs::laws::Views::reached_if))]
     pub fn reached(&self) -> Reached
         ensures { result ≡ reached self.now }
     {
@@ -106,7 +107,7 @@ impl BlockCursor {
     }
 
     /// Goes past a part of the line.
-    #[tactic(auto, unfolding(crate::specs::Levels::after_part))]
+    #[tactic(auto, unfolding(crate::specs::laws::Views::after_part))]
     pub fn pass(&mut self, pass: Pass)
         requires { self.old.levels.skipped < 2 ^ 63 }
         ensures { self.new ≡ passed pass self.old }

@@ -8,7 +8,7 @@ ghost use Rattle.page_roff_blocks.specs.machine.Fronts.{over, over_running, IsFr
 ghost use Rattle.page_roff_blocks.specs.machine.Languages.{body, TURNS, Language, run_body, turns, meaning_at, run_page, run_page_lines};
 ghost use Rattle.page_roff_blocks.specs.machine.Measures.{measure, HasMeasure, HasBodyWithin, IsFirst};
 ghost use Rattle.page_roff_blocks.specs.machine.Spending.{unspent, AreMet, Leads};
-ghost use Rattle.page_roff_blocks.specs.Spent.{Spends};
+ghost use Rattle.page_roff_blocks.specs.laws.Spent.{Spends};
 ghost use Rattle.page_roff_blocks.specs.machine.Machine.{Running, at_page, rest_of, next, stands_at};
 
 /// What is still to come of running sources is what comes of them after one step more, from a line of the page down to its end.

@@ -1,10 +1,8 @@
 //! Laws of sources.
 
 ghost use Rattle.std.specs.Prelude.{◌≡◌, ◌≤◌, ℕ, ◌+◌, ◌*◌, List, ◌++◌, length, drop};
-ghost use Rattle.page_roff_blocks.specs.LineParts.{with_part, part_of, line_parts, line_parts_left};
-ghost use Rattle.page_roff_blocks.specs.Levels.{BlockCursor};
-ghost use Rattle.page_roff_blocks.specs.Loops.{before_end, blocks_after, left_by, left_of, left_rest};
-ghost use Rattle.page_roff_blocks.specs.Parts.{written_part};
+ghost use Rattle.page_roff_blocks.specs.Parts.{with_part, part_of, line_parts, before_end, blocks_after, left_by, left_of, written_part};
+ghost use Rattle.page_roff_blocks.specs.laws.Views.{line_parts_left, BlockCursor, left_rest};
 ghost use Rattle.page_roff_blocks.specs.declared.line_parts.LinePart.{LinePart};
 ghost use Rattle.page_roff_blocks.specs.machine.Run.{Meaning, run_lines, At, headed, each_line};
 ghost use Rattle.page_roff_blocks.specs.machine.Steps.{step_parts, step_lines};

@@ -2,8 +2,8 @@
 
 ghost use Rattle.std.specs.Prelude.{◌≡◌, ◌<◌, ◌≤◌, ◌^◌, length};
 ghost use Rattle.page_core_base.specs.declared.limits.TheConstants.{CONDS};
-ghost use Rattle.page_roff_blocks.specs.LineParts.{branch_view};
-ghost use Rattle.page_roff_blocks.specs.Levels.{outside, bit_after, answered, way_of, enter, open_loop, skip, leave, what_ends};
+ghost use Rattle.page_roff_blocks.specs.laws.Views.{branch_view, answered, way_of, enter, open_loop, skip, leave, what_ends};
+ghost use Rattle.page_roff_blocks.specs.Forest.{outside, bit_after};
 
 use crate::line_parts::Branch;
 use arrayvec::ArrayVec;
@@ -53,7 +53,7 @@ pub struct Levels {
 }
 
 impl Model for Levels {
-    ghost use Rattle.page_roff_blocks.specs.Levels.{Levels};
+    ghost use Rattle.page_roff_blocks.specs.Forest.{Levels};
 
     ghost Value = { Levels };
 
@@ -64,7 +64,7 @@ impl Model for Levels {
 
 impl Branch<&[u8]> {
     /// The bit of a level after a head with this value.
-    #[tactic(auto, unfolding(crate::specs::Levels::bit_after))]
+    #[tactic(auto, unfolding(crate::specs::Forest::bit_after))]
     fn bit_after(&self, value: bool, bit: bool) -> bool
         ensures { result ≡ bit_after (branch_view self.now) value bit }
     {
@@ -113,7 +113,7 @@ impl Levels {
     }
 
     /// Outside all blocks.
-    #[tactic(auto, unfolding(crate::specs::Levels::outside))]
+    #[tactic(auto, unfolding(crate::specs::Forest::outside))]
     pub fn new() -> Levels
         ensures { result ≡ outside }
     {
@@ -147,7 +147,7 @@ impl Levels {
     }
 
     /// How a block is entered whose head has this value.
-    #[tactic(auto, unfolding(crate::specs::Levels::way_of, crate::specs::Levels::way_in))]
+    #[tactic(auto, unfolding(crate::specs::laws::Views::way_of, crate::specs::laws::Views::way_in))]
     pub fn way(&self, value: bool) -> Way
         ensures { result ≡ way_of value (length self.now.outer) }
     {
@@ -161,7 +161,7 @@ impl Levels {
     }
 
     /// What the end of a block ends here.
-    #[tactic(auto, unfolding(crate::specs::Levels::what_ends, crate::specs::Levels::ends_from, crate::specs::Levels::loop_ends, crate::specs::Levels::level_ends))]
+    #[tactic(auto, unfolding(crate::specs::laws::Views::what_ends, crate::specs::laws::Views::ends_from, crate::specs::laws::Views::loop_ends, crate::specs::laws::Views::level_ends))]
     pub fn ended(&self) -> Ended
         ensures { result ≡ what_ends self.now }
     {
@@ -184,7 +184,7 @@ impl Levels {
     }
 
     // Enters a block whose head is run, and leaves this.
-    #[tactic(auto, unfolding(crate::specs::Levels::way_of, crate::specs::Levels::way_in, crate::specs::Levels::enter))]
+    #[tactic(auto, unfolding(crate::specs::laws::Views::way_of, crate::specs::laws::Views::way_in, crate::specs::laws::Views::enter))]
     pub(crate) fn enter(&mut self, answer: Answer)
         ensures { self.new ≡ enter (way_of answer.value (length self.old.outer)) answer.bit self.old }
     {
@@ -200,7 +200,7 @@ impl Levels {
     }
 
     // Enters a block that is passed over.
-    #[tactic(auto, unfolding(crate::specs::Levels::skip))]
+    #[tactic(auto, unfolding(crate::specs::laws::Views::skip))]
     pub(crate) fn skip(&mut self)
         requires { self.old.skipped < 2 ^ 63 }
         ensures { self.new ≡ skip self.old }
@@ -209,7 +209,7 @@ impl Levels {
     }
 
     // Begins to collect a loop.
-    #[tactic(auto, unfolding(crate::specs::Levels::open_loop))]
+    #[tactic(auto, unfolding(crate::specs::laws::Views::open_loop))]
     pub(crate) fn open_loop(&mut self)
         ensures { self.new ≡ open_loop self.old }
     {
@@ -217,7 +217,7 @@ impl Levels {
     }
 
     // The innermost block ends, or the loop that is collected.
-    #[tactic(auto, unfolding(crate::specs::Levels::leave, crate::specs::Levels::leave_from, crate::specs::Levels::leave_loop, crate::specs::Levels::leave_level))]
+    #[tactic(auto, unfolding(crate::specs::laws::Views::leave, crate::specs::laws::Views::leave_from, crate::specs::laws::Views::leave_loop, crate::specs::laws::Views::leave_level))]
     pub(crate) fn leave(&mut self)
         ensures { self.new ≡ leave self.old }
     {

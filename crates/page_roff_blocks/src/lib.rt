@@ -3,7 +3,7 @@
 //! machine is proved by it (`page_roff_source` defines what a page does), with its laws, and the count of a budget.
 //!
 //! It is between the heads of conditionals and loops (`page_roff_heads`) and what the parts of lines do (`page_roff_effects`). It runs nothing:
-//! `page_roff_machine` does. Read `specs/Forest.antt` first, then `Loops.antt`, `Levels.antt` and the laws in `laws.rt`; the code begins in `parts.rt`.
+//! `page_roff_machine` does. Read `specs/Parts.antt` first, then `Forest.antt` and the laws in `laws.rt`; the code begins in `parts.rt`.
 //!
 //! Proved: `LinePlace` (`next_line_part`, `pass_line_part`, `opens_block`), `loop_text`, `Levels`, `OpenRegion`, `BlockCursor`,
 //! `Standing`: the parts of a raw line, what of it belongs to a loop, and the open and skipped blocks, the open loop and the open region of a

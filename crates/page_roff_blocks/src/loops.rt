@@ -2,9 +2,9 @@
 
 ghost use Rattle.std.specs.Prelude.{◌≡◌, ◌≤◌, ◌<◌, ◌+◌, ◌^◌, true, length, IfSome};
 ghost use Rattle.page_core_base.specs.declared.limits.TheConstants.{LINE};
-ghost use Rattle.page_roff_blocks.specs.LineParts.{line_part_view, opening_view, part_of, part_view, whole_opening, FitsOpening, FitsPart, FitsRest};
-ghost use Rattle.page_roff_blocks.specs.Loops.{blocks_left, blocks_after, before_end, some_text, len_of, loop_text, first_text};
-ghost use Rattle.page_roff_syntax.specs.RegionHeads.{text_view};
+ghost use Rattle.page_roff_blocks.specs.laws.Views.{line_part_view, opening_view, part_view, FitsOpening, FitsPart, FitsRest};
+ghost use Rattle.page_roff_blocks.specs.Parts.{part_of, whole_opening, blocks_left, blocks_after, before_end, some_text, len_of, loop_text, first_text};
+ghost use Rattle.page_roff_syntax.specs.laws.Views.{text_view};
 
 use crate::line_parts::{LinePart, Opening};
 use crate::line_places::place_after;
@@ -73,7 +73,7 @@ fn some_text(text: &[u8]) -> Option<&[u8]>
 
 /// What of a line belongs to a loop in which this many blocks are open: what is before the `\}` that ends it, if
 /// that is more than nothing; else all of the line, be it empty.
-#[tactic(auto, unfolding(crate::specs::Loops::loop_text))]
+#[tactic(auto, unfolding(crate::specs::Parts::loop_text))]
 pub fn loop_text(line: &[u8], open_blocks: u64) -> Option<&[u8]>
     requires short { length line.now ≤ LINE }
     requires room { open_blocks < 2 ^ 63 }
@@ -87,7 +87,7 @@ pub fn loop_text(line: &[u8], open_blocks: u64) -> Option<&[u8]>
 }
 
 // What of the text after its block belongs to a loop.
-#[tactic(auto, unfolding(crate::specs::Loops::first_text))]
+#[tactic(auto, unfolding(crate::specs::Parts::first_text))]
 fn first_text(first: &[u8]) -> Option<&[u8]>
     requires { length first.now ≤ LINE }
     ensures value { text_view result ≡ first_text first.now }
@@ -120,7 +120,7 @@ fn whole_opening(opening: Opening<&[u8]>) -> Opening<&[u8]>
 }
 
 /// The first part of a line.
-#[tactic(auto, unfolding(crate::specs::LineParts::part_of))]
+#[tactic(auto, unfolding(crate::specs::Parts::part_of))]
 pub(crate) fn part_of(line: &[u8]) -> Part<&[u8]>
     requires { length line.now ≤ LINE }
     ensures value { part_view result ≡ part_of line.now }

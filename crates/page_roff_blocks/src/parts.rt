@@ -2,17 +2,15 @@
 
 ghost use Rattle.std.specs.Prelude.{◌≡◌, ◌≤◌, ◌+◌, true, [], ◌∷◌, length, Some};
 ghost use Rattle.page_core_base.specs.declared.limits.TheConstants.{LINE};
-ghost use Rattle.page_roff_syntax.specs.LineForms.{form_of, name_of};
-ghost use Rattle.page_roff_heads.specs.Heads.{conditional_of, guarded_of, guarded_view, FitsGuarded};
-ghost use Rattle.page_roff_heads.specs.Loops.{loop_of, loop_view, FitsLoop};
-ghost use Rattle.page_roff_heads.specs.Texts.{remainder_view};
+ghost use Rattle.page_roff_syntax.specs.LineForms.{form_of};
+ghost use Rattle.page_roff_syntax.specs.laws.Views.{name_of, text_view};
+ghost use Rattle.page_roff_heads.specs.Heads.{conditional_of, guarded_of, loop_of};
+ghost use Rattle.page_roff_heads.specs.laws.Views.{guarded_view, FitsGuarded, loop_view, FitsLoop, remainder_view};
 ghost use Rattle.page_roff_blocks.specs.declared.line_parts.LinePart.TheVariants.{Leaf};
 ghost use Rattle.page_roff_blocks.specs.declared.line_parts.Branch.TheVariants.{If, IfElse};
-ghost use Rattle.page_roff_blocks.specs.LineParts.{head_view, part_view, line_parts, IsWithin, FitsBranch, FitsRest, FitsPart};
-ghost use Rattle.page_roff_blocks.specs.Parts.{keyword_of, rest_text, head_part, conditional_part, else_part, loop_part, end_part, plain_part, written_part};
-ghost use Rattle.page_roff_blocks.specs.Parts.{columns_of, named_part};
+ghost use Rattle.page_roff_blocks.specs.laws.Views.{head_view, part_view, IsWithin, FitsBranch, FitsRest, FitsPart, columns_of, named_part};
+ghost use Rattle.page_roff_blocks.specs.Parts.{line_parts, keyword_of, rest_text, head_part, conditional_part, else_part, loop_part, end_part, plain_part, written_part};
 ghost use Rattle.page_roff_blocks.specs.declared.parts.Keyword.TheVariants as keywords;
-ghost use Rattle.page_roff_syntax.specs.RegionHeads.{text_view};
 
 use crate::line_parts::{Branch, Head, LinePart, Opening};
 use page_core_base::LINE;

@@ -1,7 +1,7 @@
 //! Where a page is between two lines (roff(7), "if", "while", "de").
 
 ghost use Rattle.std.specs.Prelude.{◌≡◌};
-ghost use Rattle.page_roff_syntax.specs.OpenRegions.{opened_view};
+ghost use Rattle.page_roff_syntax.specs.laws.Views.{opened_view};
 
 use crate::levels::Levels;
 use page_roff_syntax::OpenRegion;
@@ -15,7 +15,7 @@ pub struct Standing {
 }
 
 impl Model for Standing {
-    ghost use Rattle.page_roff_blocks.specs.Levels.{Place};
+    ghost use Rattle.page_roff_blocks.specs.Forest.{Place};
 
     ghost Value = { Place };
 

@@ -5,10 +5,8 @@ use Rattle.std.proofs.lemmas.Bool.Decides.{nat_tests}
 use Rattle.std.proofs.lemmas.List.{drop-drop, length-drop}
 use Rattle.page_core_base.specs.declared.page_settings.Encoding.{Encoding}
 use Rattle.page_roff_decoding.specs.declared.characters.Front.{Front}
-use Rattle.page_roff_decoding.specs.Characters.{Character, character, later_length, characters_after, characters, bytes_of, all_bytes}
-use Rattle.page_roff_decoding.specs.Limit.{line_limit}
+use Rattle.page_roff_decoding.specs.Decoding.{Character, character, later_length, characters_after, characters, bytes_of, all_bytes, line_limit, characters_within}
 use Rattle.page_roff_decoding.specs.machine.Fronts.{as_character, width_of, later_of}
-use Rattle.page_roff_decoding.specs.Decoding.{characters_within}
 use Rattle.page_roff_decoding.proofs.ScanLemmas.{rest_of}
 
 -- the bytes of a character before are passed over

@@ -4,8 +4,7 @@ use Rattle.std.specs.Prelude.{nat_lt, ◌==◌, ◌≢◌}
 use Rattle.std.proofs.lemmas.Bool.Decides.{nat_tests}
 use Rattle.std.proofs.lemmas.List.{drop_more, drop_all}
 use Rattle.page_core_base.specs.declared.page_settings.Encoding.TheVariants.{Auto, Latin1, Utf8}
-use Rattle.page_roff_decoding.specs.Characters.{sequence_length}
-use Rattle.page_roff_decoding.specs.Decoding.{choice_of}
+use Rattle.page_roff_decoding.specs.Decoding.{sequence_length, choice_of}
 
 below : (a b : ℕ) → a < b → nat_lt a b ≡ true
 below a b h = grind (arith, nat_tests)

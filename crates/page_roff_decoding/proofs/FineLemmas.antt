@@ -9,9 +9,8 @@ use Rattle.std.proofs.str.Valid.{of_two}
 use Rattle.page_core_base.specs.Texts.{IsLine, has_no_control}
 use Rattle.page_core_base.specs.declared.page_settings.Encoding.{Encoding}
 use Rattle.page_core_base.specs.declared.page_settings.Encoding.TheVariants.{Auto, Ascii, Latin1, Utf8}
-use Rattle.page_roff_decoding.specs.Limit.{line_limit, line_limit_is}
-use Rattle.page_roff_decoding.specs.Characters.{Character, good, bad, is_printable, latin1_bytes, sequence_length, high_character, character, later_length, characters_after, characters, bytes_of, all_bytes}
-use Rattle.page_roff_decoding.specs.Decoding.{characters_within}
+use Rattle.page_roff_decoding.specs.Decoding.{line_limit, Character, good, bad, is_printable, latin1_bytes, sequence_length, high_character, character, later_length, characters_after, characters, bytes_of, all_bytes, characters_within}
+use Rattle.page_roff_decoding.specs.laws.Views.{line_limit_is}
 use Rattle.page_roff_decoding.proofs.SequenceLemmas.{Fine, split_true, sequence-fine, ascii_plain, tab_plain, both_true, plain_two}
 
 -- a printable byte of ASCII, or a tab

@@ -5,9 +5,7 @@ use Rattle.std.specs.List.{list_all}
 use Rattle.std.proofs.lemmas.Bool.Decides.{nat_tests}
 use Rattle.page_core_base.specs.declared.page_settings.Encoding.{Encoding}
 use Rattle.page_core_base.specs.declared.page_settings.Encoding.TheVariants.{Auto}
-use Rattle.page_roff_decoding.specs.Limit.{line_limit}
-use Rattle.page_roff_decoding.specs.Characters.{Character, good, is_printable, character, later_length, characters_after, characters, all_bytes}
-use Rattle.page_roff_decoding.specs.Decoding.{choice_of, characters_within, bad_notes}
+use Rattle.page_roff_decoding.specs.Decoding.{line_limit, Character, good, is_printable, character, later_length, characters_after, characters, all_bytes, choice_of, characters_within, bad_notes}
 use Rattle.std.proofs.lemmas.List.{take-append-drop, drop-drop, length-take, length-take-le}
 use Rattle.page_roff_decoding.specs.declared.characters.Front.{Front}
 use Rattle.page_roff_decoding.specs.machine.Fronts.{as_character, width_of, later_of}

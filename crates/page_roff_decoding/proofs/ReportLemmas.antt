@@ -8,17 +8,16 @@ use Rattle.std.proofs.lemmas.Bool.Decides.{nat_tests}
 use Rattle.std.proofs.lemmas.List.{drop_all, length-take-le, take_all}
 use Rattle.page_core_base.specs.declared.note_kinds.NoteKind.TheVariants.{BadChar}
 use Rattle.page_core_base.specs.Messages.{Message, text_front}
-use Rattle.page_core_base.specs.Sinks.{IsSink}
+use Rattle.page_core_base.specs.laws.Views.{IsSink}
 use Rattle.page_core_base.proofs.TextLemmas.{whole_front}
 use Rattle.page_core_base.specs.Limits.{name_of}
 use Rattle.page_core_base.specs.declared.limits.Limit.TheVariants.{Line as LineLimit}
 use Rattle.page_core_base.specs.declared.page_settings.Encoding.{Encoding}
 use Rattle.page_roff_decoding.specs.declared.characters.Front.{Front}
 use Rattle.page_roff_decoding.specs.declared.characters.Front.TheVariants.{Same, Latin1, Bad}
-use Rattle.page_roff_decoding.specs.Limit.{line_limit, line_limit_is}
-use Rattle.page_roff_decoding.specs.Characters.{Character, good, bad, is_printable, character, later_length, characters_after, characters, bytes_of}
+use Rattle.page_roff_decoding.specs.Decoding.{line_limit, Character, good, bad, is_printable, character, later_length, characters_after, characters, bytes_of, characters_within, bad_character, notes_of, bad_notes}
+use Rattle.page_roff_decoding.specs.laws.Views.{line_limit_is}
 use Rattle.page_roff_decoding.specs.machine.Fronts.{as_character, width_of, later_of, size_of}
-use Rattle.page_roff_decoding.specs.Decoding.{characters_within, bad_character, notes_of, bad_notes}
 use Rattle.page_roff_decoding.proofs.CharacterLemmas.{characters-at, from}
 use Rattle.page_roff_decoding.proofs.PlainLemmas.{bad_notes-text}
 use Rattle.page_roff_decoding.proofs.ScanLemmas.{rest_of}

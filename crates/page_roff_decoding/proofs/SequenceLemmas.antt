@@ -6,7 +6,7 @@ use Rattle.std.proofs.lemmas.Bool.Decides.{nat_tests, eqb_tells, leb_tells}
 use Rattle.std.proofs.str.Valid.{of_two, of_three, of_four}
 use Rattle.std.proofs.str.Laws.{Follows}
 use Rattle.page_core_base.specs.Texts.{has_no_control, is_no_control}
-use Rattle.page_roff_decoding.specs.Characters.{is_second, is_later, sequence_length}
+use Rattle.page_roff_decoding.specs.Decoding.{is_second, is_later, sequence_length}
 
 three_low : (x y z : ℕ) → 224 ≤ x → 128 ≤ y → (x ≡ 224 → 160 ≤ y) → 2048 ≤ (x - 224) * 4096 + (y - 128) * 64 + (z - 128)
 three_low x y z a b low = elim (eqb_tells x 224) [ inl is ↦ let l = low is.1 in omega arith | inr n ↦ let m = n.1 in omega arith ]

@@ -1,4 +1,3 @@
-pub mod Characters
 pub mod Decoding
-pub mod Limit
+pub mod laws
 pub mod machine

@@ -1,6 +1,6 @@
 //! The characters of a line's bytes (mandoc(1), -K).
 ghost use Rattle.std.specs.Prelude.{◌≡◌, ◌+◌, ◌<◌, ◌≤◌, length, slice_index, IsTrue};
-ghost use Rattle.page_roff_decoding.specs.Characters.{sequence_length, is_second, is_later, is_printable, character, later_length};
+ghost use Rattle.page_roff_decoding.specs.Decoding.{sequence_length, is_second, is_later, is_printable, character, later_length};
 ghost use Rattle.page_roff_decoding.specs.machine.Fronts.{as_character, later_of, width_of, size_of};
 
 use page_core_base::Encoding;
@@ -32,7 +32,7 @@ fn is_later(byte: u8) -> bool
 }
 
 // Whether a byte may be the second one after a first one, of a character of U+00A0 or above.
-#[tactic(auto, unfolding(crate::specs::Characters::is_second))]
+#[tactic(auto, unfolding(crate::specs::Decoding::is_second))]
 fn is_second(first: u8, byte: u8) -> bool
     ensures value { result ≡ is_second first byte }
     ensures later { IsTrue result → 128 ≤ byte }
@@ -48,7 +48,7 @@ fn is_second(first: u8, byte: u8) -> bool
 
 /// How many bytes the well-formed UTF-8 sequence of a character of U+00A0 or above takes at the front of
 /// `text`; 0 where none does.
-#[tactic(auto, unfolding(crate::specs::Characters::sequence_length))]
+#[tactic(auto, unfolding(crate::specs::Decoding::sequence_length))]
 pub fn sequence_len(text: &[u8]) -> usize
     ensures value { result ≡ sequence_length text.now }
     ensures within { result ≤ length text.now }
@@ -76,7 +76,7 @@ pub fn is_printable(byte: u8) -> bool
 impl Front {
     /// The character at the front of `text`.
     #[inline(always)]
-    #[tactic(auto, unfolding(crate::specs::Characters::character, crate::specs::Characters::high_character, crate::specs::Characters::later_length, crate::specs::Characters::high_later_length))]
+    #[tactic(auto, unfolding(crate::specs::Decoding::character, crate::specs::Decoding::high_character, crate::specs::Decoding::later_length, crate::specs::Decoding::high_later_length))]
     pub fn of(text: &[u8], encoding: Encoding) -> Front
         requires { 0 < length text.now }
         ensures value { as_character result text.now ≡ character encoding (slice_index text.now 0) text.now }

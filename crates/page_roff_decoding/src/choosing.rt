@@ -1,8 +1,7 @@
 //! What decides how a line is decoded (mandoc(1), -K).
 ghost use Rattle.std.specs.Prelude.{◌≡◌};
 ghost use Rattle.std.specs.List.{list_all};
-ghost use Rattle.page_roff_decoding.specs.Characters.{is_printable};
-ghost use Rattle.page_roff_decoding.specs.Decoding.{choice_of};
+ghost use Rattle.page_roff_decoding.specs.Decoding.{is_printable, choice_of};
 
 use crate::characters::{is_printable, sequence_len};
 use page_core_base::Encoding;

@@ -2,17 +2,15 @@
 ghost use Rattle.std.specs.Prelude.{◌≡◌, ◌-◌, ◌+◌, ◌<◌, ◌≤◌, ◌++◌, length, take, true, nat_le, nat_lt, if◌then◌else◌};
 ghost use Rattle.std.specs.List.{list_all};
 ghost use Rattle.page_core_base.specs.Texts.{IsLine};
-ghost use Rattle.page_roff_decoding.specs.Limit.{line_limit};
-ghost use Rattle.page_roff_decoding.specs.Characters.{characters, bytes_of, all_bytes, is_printable};
+ghost use Rattle.page_roff_decoding.specs.Decoding.{line_limit, characters, bytes_of, all_bytes, is_printable, line_characters};
 ghost use Rattle.page_roff_decoding.specs.machine.Fronts.{as_character, width_of};
-ghost use Rattle.page_roff_decoding.specs.Decoding.{line_characters};
 
 use crate::characters::Front;
 use crate::texts::text_within;
 use page_core_base::{BoundedText, Encoding, LINE};
 
 // Appends the text at the front of some bytes, as far as it fits; how many bytes that are.
-#[tactic(auto, using(crate::specs::Limit::line_limit_is))]
+#[tactic(auto, using(crate::specs::laws::Views::line_limit_is))]
 fn put_text(decoded: &mut BoundedText<LINE>, bytes: &[u8]) -> usize
     ensures within { result ≤ length bytes.now }
     ensures fits { result ≤ line_limit - length decoded.old }
@@ -28,7 +26,7 @@ fn put_text(decoded: &mut BoundedText<LINE>, bytes: &[u8]) -> usize
 
 // Appends the character at the front of `text`, where it fits; whether it does.
 #[inline(always)]
-#[tactic(auto, unfolding(crate::specs::Limit::line_limit))]
+#[tactic(auto, unfolding(crate::specs::Decoding::line_limit))]
 fn put_front(decoded: &mut BoundedText<LINE>, front: Front, text: &[u8]) -> bool
     requires { width_of front ≤ length text.now }
     ensures fits { result

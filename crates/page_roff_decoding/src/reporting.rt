@@ -1,9 +1,7 @@
 //! The messages about a line that is cut (mandoc(1), "DIAGNOSTICS").
 ghost use Rattle.std.specs.Prelude.{◌≡◌, ℕ, ◌+◌, ◌<◌, List, ◌++◌};
 ghost use Rattle.std.specs.Char.{digit_char};
-ghost use Rattle.page_core_base.specs.Sinks.{Gives};
-ghost use Rattle.page_core_base.specs.Fails.{FailsAs};
-ghost use Rattle.page_core_base.specs.Messages.{message_of};
+ghost use Rattle.page_core_base.specs.laws.Views.{Gives, FailsAs, message_of};
 ghost use Rattle.page_roff_decoding.specs.machine.Fronts.{as_character};
 ghost use Rattle.page_roff_decoding.specs.Decoding.{bad_character as spec_bad_character, limit_note as spec_limit_note, notes_of, bad_notes, limit_notes, line_characters};
 

@@ -2,7 +2,7 @@
 ghost use Rattle.std.specs.Prelude.{◌≡◌, ◌+◌, ◌≤◌, length, drop, take, map, true};
 ghost use Rattle.std.specs.List.{prefix_len, list_all};
 ghost use Rattle.std.specs.Simd.Lanes.{mask_l};
-ghost use Rattle.page_roff_decoding.specs.Characters.{is_printable};
+ghost use Rattle.page_roff_decoding.specs.Decoding.{is_printable};
 ghost use Rattle.page_roff_decoding.specs.machine.Scan.{is_text as spec_is_text, is_stop};
 
 use crate::characters::is_printable;

@@ -4,7 +4,7 @@ use Rattle.std.proofs.lemmas.List.{get_or-drop}
 use Rattle.memchr.specs.Find.{IsFirstByte, is_byte}
 use Rattle.page_roff_syntax.specs.Arguments.{is_blank, first_argument, quoted_argument, bare_argument, argument_len, first_arguments, arguments}
 use Rattle.page_roff_syntax.specs.declared.quotes.Argument.{Argument}
-use Rattle.page_roff_definitions.specs.Arguments.{closing_notes, closings_notes}
+use Rattle.page_roff_definitions.specs.Definitions.{closing_notes, closings_notes}
 
 abbrev HasNone : List ℕ → Type 0
 HasNone text = (i : ℕ) → i < length text → (get_or text i 0 == 34) ≡ false

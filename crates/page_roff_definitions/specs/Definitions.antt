@@ -1,23 +1,85 @@
--- What the requests for definitions do. Source: roff(7), "ds", "as", "nr", "rm", "rn", "rr".
-use Rattle.std.specs.Prelude.{◌≡◌, ℕ, ◌+◌, ◌≤◌, length, Bool, true, false, ◌==◌, ◌||◌, List, [], ◌∷◌, ◌++◌, if◌then◌else◌, Option, Some, None, unwrap_or, ℤ, pos, ◌+ℤ◌}
+-- What the requests for definitions do, and the call of a macro. Source: roff(7), `as`, `de`, `ds`, `nr`, `rm`, `rn`.
+use Rattle.std.specs.List.{prefix_len}
+use Rattle.std.specs.Prelude.{ℕ, ◌-◌, List, [], ◌∷◌, flat_map, ◌+◌, length, drop, ◌==◌, if◌then◌else◌, ◌++◌, Option, Some, None, unwrap_or, Bool, false, ◌||◌, ℤ, pos, ◌+ℤ◌, true}
+use Rattle.page_core_base.specs.Limits.{name_of}
 use Rattle.page_core_base.specs.Messages.{Message, message_about}
+use Rattle.page_core_base.specs.declared.limits.Limit.{Limit}
+use Rattle.page_core_base.specs.declared.note_kinds.NoteKind.TheVariants.{Unterminated}
 use Rattle.page_core_base.specs.declared.note_kinds.NoteKind.TheVariants as kinds
 use Rattle.page_core_base.specs.declared.places.Place.{Place}
-use Rattle.page_core_base.specs.Limits.{LINE}
-use Rattle.page_core_base.specs.declared.limits.Limit.{Limit}
-use Rattle.page_core_base.specs.Limits.{name_of}
-use Rattle.page_core_numbers.specs.Numbers.{in_range}
-use Rattle.page_roff_syntax.specs.Arguments.{arguments, argument_name}
+use Rattle.page_core_numbers.specs.Expressions.{in_range}
+use Rattle.page_roff_syntax.specs.Arguments.{is_blank, argument_value, argument_name, arguments}
 use Rattle.page_roff_syntax.specs.declared.quotes.Argument.{Argument}
-use Rattle.page_roff_names.specs.declared.rows.Meaning.TheVariants.{String}
-use Rattle.page_roff_names.specs.Entries.{definition, Definition}
-use Rattle.page_roff_names.specs.Names.{Definitions, look, string_of, number_of, with_text, without_text, with_register, without_register, refusal}
-use Rattle.page_core_base.specs.Latches.{Came}
-use Rattle.page_roff_values.specs.Numbers.{value_of, messages_of}
-use Rattle.page_roff_definitions.specs.declared.definitions.RequestLine.{RequestLine}
+use Rattle.page_roff_syntax.specs.declared.quotes.Quoting.{Quoting}
+use Rattle.page_roff_syntax.specs.declared.quotes.Quoting.TheVariants.{Bare, Closed, Unclosed}
 use Rattle.page_roff_syntax.specs.declared.requests.DefinitionRequest.{DefinitionRequest}
 use Rattle.page_roff_syntax.specs.declared.requests.DefinitionRequest.TheVariants.{DefineString, AppendString, SetRegister, Remove, Rename, RemoveRegisters}
-use Rattle.page_roff_definitions.specs.Arguments.{closings_notes, first_text, value_after}
+use Rattle.page_roff_names.specs.Names.{Definitions, refusal, definition, with_text, string_of, Definition, without_text, look, without_register, number_of, with_register}
+use Rattle.page_roff_names.specs.declared.rows.Meaning.TheVariants.{String}
+use Rattle.page_roff_values.specs.Answers.{value_of, messages_of}
+
+-- ---- The arguments of requests for definitions. Source: roff(7), "Macro syntax" and "ds".
+
+abbrev pub at : ℕ → ℕ → Place
+at line column = record { line = line; column = column }
+
+-- one without its last quote is reported at its first one
+abbrev pub closing_at : ℕ → ℕ → Quoting → List Message
+closing_at line column Bare = []
+closing_at line column Closed = []
+closing_at line column Unclosed = message_about Unterminated (at line (column - 1)) [] ∷ []
+
+abbrev pub closing_notes : ℕ → Argument (List ℕ) → List Message
+closing_notes line argument = closing_at line argument.column argument.quoting
+
+abbrev pub closings_notes : ℕ → List (Argument (List ℕ)) → List Message
+closings_notes line arguments = flat_map (closing_notes line) arguments
+
+-- the text of the first of these arguments; none: the empty text
+abbrev pub first_text : List (Argument (List ℕ)) → List ℕ
+first_text [] = []
+first_text (argument ∷ arguments) = argument.text
+
+-- the last quote of an argument
+abbrev pub closing_len : Quoting → ℕ
+closing_len Bare = 0
+closing_len Closed = 1
+closing_len Unclosed = 0
+
+-- how many bytes of a text, of which the first is at a column, an argument and what is before it take
+abbrev pub end_of : ℕ → Argument (List ℕ) → ℕ
+end_of column argument = argument.column - column + length argument.text + closing_len argument.quoting
+
+abbrev pub after_blanks : List ℕ → List ℕ
+after_blanks text = drop (prefix_len is_blank text) text
+
+-- a leading quote (34) is dropped
+abbrev pub without_quote : List ℕ → List ℕ
+without_quote [] = []
+without_quote (byte ∷ bytes) = if byte == 34 then bytes else byte ∷ bytes
+
+-- the value of a string is what follows its name and blanks
+abbrev pub value_after : ℕ → List ℕ → Argument (List ℕ) → List ℕ
+value_after column rest name = without_quote (after_blanks (drop (end_of column name) rest))
+
+-- ---- A call of a macro: the body that it runs, line by line, and its arguments, packed. Source: roff(7), "MACRO SYNTAX" and "de".
+
+-- a macro that is called: the lines of its body, and its arguments, each with a line feed after it
+pub record Call : Type 0 where
+  pub body : List ℕ
+  pub packed : List ℕ
+
+-- a body with one line more, which ends in a line feed (10)
+abbrev pub with_line : List ℕ → List ℕ → List ℕ
+with_line body line = body ++ (line ++ (10 ∷ []))
+
+-- ---- arguments
+
+-- each argument with a line feed (10) after it, which no line holds
+abbrev pub packed : List (Argument (List ℕ)) → List ℕ
+packed arguments = flat_map (λ argument. argument_value argument ++ (10 ∷ [])) arguments
+
+-- ---- What the requests for definitions do. Source: roff(7), "ds", "as", "nr", "rm", "rn", "rr".
 
 -- what is defined after a request, and its messages
 pub record Outcome : Type 0 where
@@ -144,11 +206,3 @@ does RemoveRegisters column rest names place old =
 -- what a request does at a place, of which the finished rest begins at a column
 unfoldable pub outcome_of : DefinitionRequest → Place → ℕ → List ℕ → Definitions → Outcome
 outcome_of request place column rest old = does request column rest (arguments column rest) place old
-
--- the definitions are those of the outcome, and its messages came
-abbrev pub Does : {P S : Type 0} → (P → S → List Message → Type 0) → S → S → Definitions → Outcome → Type 0
-Does left old new definitions wanted = (definitions ≡ wanted.definitions) × Came left old wanted.notes new
-
--- the rest of a request's line lies within a line
-abbrev pub FitsRequest : RequestLine → Type 0
-FitsRequest line = (length line.rest.now ≤ LINE) × (line.rest_column + length line.rest.now ≤ LINE + 1)

@@ -1,4 +1,3 @@
-pub mod Arguments
 pub mod Definitions
-pub mod Calls
+pub mod laws
 pub mod machine

@@ -1,10 +1,11 @@
 //! The arguments of requests for definitions.
 
 ghost use Rattle.std.specs.Prelude.{◌≡◌, ◌≤◌, ◌+◌, length};
-ghost use Rattle.page_core_base.specs.Latches.{Came};
-ghost use Rattle.page_roff_syntax.specs.Arguments.{argument_view, arguments};
-ghost use Rattle.page_roff_definitions.specs.Arguments as ends;
-ghost use Rattle.page_roff_definitions.specs.Arguments.{closing_notes, closings_notes, after_blanks, without_quote, value_after};
+ghost use Rattle.page_core_base.specs.laws.Views.{Came};
+ghost use Rattle.page_roff_syntax.specs.laws.Views.{argument_view};
+ghost use Rattle.page_roff_syntax.specs.Arguments.{arguments};
+ghost use Rattle.page_roff_definitions.specs.Definitions as ends;
+ghost use Rattle.page_roff_definitions.specs.Definitions.{closing_notes, closings_notes, after_blanks, without_quote, value_after};
 
 use memchr::memchr;
 use page_core_base::{LINE, Note, NoteKind, NoteOut, Place};

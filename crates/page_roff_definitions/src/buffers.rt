@@ -1,10 +1,10 @@
 //! What was taken last, in memory that is reserved once: a line, a call, the body of a region or a loop.
 
 ghost use Rattle.std.specs.Prelude.{◌≡◌, ◌≤◌, length, false, IfOk, IfSome, None, Some};
-ghost use Rattle.page_core_base.specs.LinesTaken.{line_view};
+ghost use Rattle.page_core_base.specs.laws.Views.{line_view};
 ghost use Rattle.page_core_base.specs.declared.limits.TheConstants.{BODY, LINE};
 ghost use Rattle.page_roff_definitions.specs.machine.Buffers.{no_line, AddsLine};
-ghost use Rattle.page_roff_syntax.specs.Regions.{text_view};
+ghost use Rattle.page_roff_syntax.specs.laws.Views.{text_view};
 
 use page_core_base::{BODY, BoundedText, Form, LINE, Taken};
 use std::alloc::{AllocError, Global};
@@ -20,7 +20,7 @@ pub struct LineBuffer {
 }
 
 impl Model for LineBuffer {
-    ghost use Rattle.page_core_base.specs.LinesTaken.{Line};
+    ghost use Rattle.page_core_base.specs.Texts.{Line};
 
     ghost Value = { Line };
 

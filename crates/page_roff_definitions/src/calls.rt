@@ -3,11 +3,11 @@
 ghost use Rattle.std.specs.Prelude.{◌≡◌, ℕ, true, ◌≤◌, ◌+◌, [], ◌∷◌, ◌++◌, length, IfOk};
 ghost use Rattle.std.specs.Vec.{vec_len, vec_capacity};
 ghost use Rattle.page_core_base.specs.declared.limits.TheConstants.{BODY, LINE};
-ghost use Rattle.page_roff_syntax.specs.Arguments.{argument_view, argument_value, arguments};
+ghost use Rattle.page_roff_syntax.specs.laws.Views.{argument_view};
+ghost use Rattle.page_roff_syntax.specs.Arguments.{argument_value, arguments};
 ghost use Rattle.page_core_base.specs.Texts.{unpaired};
-ghost use Rattle.page_roff_definitions.specs.Arguments.{closing_notes, closings_notes};
+ghost use Rattle.page_roff_definitions.specs.Definitions.{closing_notes, closings_notes, packed};
 ghost use Rattle.page_roff_definitions.specs.machine.Buffers.{no_call, Packs};
-ghost use Rattle.page_roff_definitions.specs.Calls.{packed};
 
 use memchr::memchr;
 use page_core_base::{ARGS, BODY, BoundedText, LINE, after_byte, append};
@@ -100,7 +100,7 @@ impl Model for CallBuffer {
     ghost use Rattle.std.specs.Prelude.{◌≤◌, ◌+◌};
     ghost use Rattle.std.specs.Vec.{vec_capacity};
     ghost use Rattle.page_core_base.specs.declared.limits.TheConstants.{ARGS, LINE};
-    ghost use Rattle.page_roff_definitions.specs.Calls.{Call};
+    ghost use Rattle.page_roff_definitions.specs.Definitions.{Call};
 
     ghost Value = { Call };
 

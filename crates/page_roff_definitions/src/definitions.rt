@@ -3,10 +3,10 @@
 ghost use Rattle.std.specs.Prelude.{◌≡◌, ◌≤◌, ◌+◌, length};
 ghost use Rattle.page_core_base.specs.declared.limits.TheConstants.{LINE};
 ghost use Rattle.page_roff_syntax.specs.Arguments.{arguments};
-ghost use Rattle.page_core_base.specs.Latches.{Came};
-ghost use Rattle.page_roff_definitions.specs.Arguments.{first_text};
+ghost use Rattle.page_core_base.specs.laws.Views.{Came};
+ghost use Rattle.page_roff_definitions.specs.Definitions.{first_text};
 ghost use Rattle.page_roff_definitions.specs.Definitions as defining;
-ghost use Rattle.page_roff_definitions.specs.Definitions.{Does, FitsRequest};
+ghost use Rattle.page_roff_definitions.specs.laws.Views.{Does, FitsRequest};
 
 use crate::arguments::{report_closings, value_after};
 use page_core_base::{Limit, Note, NoteKind, NoteOut, Place};

@@ -5,9 +5,8 @@ use Rattle.page_roff_heads.specs.declared.conditions.Condition.{Condition}
 use Rattle.page_roff_heads.specs.declared.conditions.Test.{Test}
 use Rattle.page_roff_heads.specs.declared.conditions.Test.TheVariants.{Always, Unknown, IsDefined, IsRegister, Expression, Texts, Missing}
 use Rattle.page_roff_heads.specs.declared.texts.Placed.{Placed}
-use Rattle.page_roff_values.specs.Environments.{Surroundings}
+use Rattle.page_roff_values.specs.Values.{Surroundings, Spot, Laid, NEST, start, after_bytes}
 use Rattle.page_roff_values.specs.machine.Texts.{IsText, AreLines, MeasureAlike}
-use Rattle.page_roff_values.specs.Values.{Spot, Laid, NEST, start, after_bytes}
 use Rattle.page_roff_values.proofs.AlikeLemmas.{measured_by, value_alike}
 use Rattle.page_roff_values.specs.Answers.{expands, unless_cut, after, number_answer, texts_answer, bytes_before, bytes_between, second_answer, test_answer, condition_answer}
 

@@ -6,28 +6,27 @@ use Rattle.std.proofs.lemmas.List.Sums.{prefix_len-le-length}
 use Rattle.page_core_base.specs.declared.limits.TheConstants.{ARGS, LINE}
 use Rattle.page_core_base.specs.declared.lines_taken.Form.TheVariants as forms
 use Rattle.page_roff_syntax.specs.Arguments.{arguments}
-use Rattle.page_roff_syntax.specs.LineForms.{control_line, form_of, has_word, is_control, is_name, name_len, name_of, name_start, uncommented_form, without_comment}
+use Rattle.page_roff_syntax.specs.LineForms.{control_line, form_of, has_word, is_control, is_name, name_len, name_start, uncommented_form, without_comment}
+use Rattle.page_roff_syntax.specs.laws.Views.{name_of}
 use Rattle.page_roff_syntax.specs.Requests.{request_of}
 use Rattle.page_roff_syntax.specs.declared.line_forms.LineForm.{LineForm}
 use Rattle.page_roff_syntax.specs.declared.line_forms.LineForm.TheVariants.{BlankLine, Text}
 use Rattle.page_roff_syntax.specs.declared.quotes.Argument.{Argument}
-use Rattle.page_roff_blocks.specs.LineParts.{line_parts}
+use Rattle.page_roff_blocks.specs.Parts.{line_parts}
 use Rattle.page_roff_blocks.specs.declared.line_parts.LinePart.TheVariants.{Leaf}
 use Rattle.page_roff_blocks.proofs.LinePartLemmas.{one_leaf, plain_named, plain_nameless}
 use Rattle.page_roff_values.specs.machine.Verbatim.{GivesItself}
 use Rattle.page_roff_names.specs.Names.{Definitions}
-use Rattle.page_roff_definitions.specs.Arguments.{closings_notes}
-use Rattle.page_roff_definitions.specs.Calls as made
-use Rattle.page_roff_definitions.specs.Calls.{packed}
+use Rattle.page_roff_definitions.specs.Definitions.{closings_notes, packed}
+use Rattle.page_roff_definitions.specs.Definitions as made
 use Rattle.page_roff_definitions.specs.machine.Buffers.{Packs}
 use Rattle.page_roff_effects.specs.declared.at_once.AtOnce.{AtOnce}
 use Rattle.page_roff_effects.specs.declared.at_once.AtOnce.TheVariants as ways
 use Rattle.page_roff_effects.specs.declared.commands.Command.TheVariants.{Call, Pass}
 use Rattle.page_roff_effects.specs.declared.commands.ProductKind.TheVariants as kinds
 use Rattle.page_roff_effects.specs.machine.Acting.{Acting, measured, plain_form, CallsIf, IsOrdinary, IsQuiet, TakesIf}
-use Rattle.page_core_base.specs.Texts.{IsFreeLine}
-use Rattle.page_roff_effects.specs.Commands.{called_body, command_of, command_or, request_command}
-use Rattle.page_roff_effects.specs.Leaves.{ControlLine, calls, control_outcome, command_outcome, does, leaf_outcome, rest_column, rest_of, text_outcome}
+use Rattle.page_core_base.specs.laws.Views.{IsFreeLine}
+use Rattle.page_roff_effects.specs.Lines.{called_body, command_of, command_or, request_command, ControlLine, calls, control_outcome, command_outcome, does, leaf_outcome, rest_column, rest_of, text_outcome}
 use Rattle.page_roff_effects.specs.States.{Memory, Outcome, Setting, call_product, gives_line, surroundings}
 use Rattle.page_roff_effects.proofs.CallLemmas.{leaf_callable}
 use Rattle.page_roff_effects.proofs.FreeLemmas.{free_itself, uncommented, unended}

@@ -10,8 +10,7 @@ use Rattle.page_roff_effects.specs.declared.commands.Command.{Command}
 use Rattle.page_roff_effects.specs.declared.commands.Command.TheVariants.{Call, Define, Ignore, Refuse, Pass}
 use Rattle.page_roff_effects.specs.declared.commands.ProductKind.{ProductKind}
 use Rattle.page_roff_effects.specs.machine.Acting.{Acting, kind_of, Lends, IsCallable, IfCalled}
-use Rattle.page_roff_effects.specs.Commands.{within_limit, command_of}
-use Rattle.page_roff_effects.specs.Leaves.{ControlLine, call_if, does, command_outcome, control_outcome, control_line, form_outcome, leaf_outcome}
+use Rattle.page_roff_effects.specs.Lines.{within_limit, command_of, ControlLine, call_if, does, command_outcome, control_outcome, control_line, form_outcome, leaf_outcome}
 use Rattle.page_roff_effects.specs.States.{Memory, Outcome, Product, no_product, line_product, call_product, loop_product, Setting, nothing}
 
 IsWithin : Bool → Product → Type 0

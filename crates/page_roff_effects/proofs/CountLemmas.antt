@@ -1,7 +1,7 @@
 -- How many interpolations a part makes: helpers of proofs.
 use Rattle.std.proofs.Common.{◌≡◌, ℕ, ◌+◌, ◌-◌, ◌≤◌, ◌==◌, Bool, true, false, is_some, List, [], length, Option, Some, None, refl, ap, ◌∙◌, arith, if◌then◌else◌}
 use Rattle.page_core_base.specs.declared.places.Place.{Place}
-use Rattle.page_roff_syntax.specs.OpenRegions.{Opened}
+use Rattle.page_roff_syntax.specs.Regions.{Opened}
 use Rattle.page_roff_syntax.specs.declared.region_heads.RegionHead.{RegionHead}
 use Rattle.page_roff_syntax.specs.declared.regions.RegionKind.{RegionKind}
 use Rattle.page_roff_syntax.specs.declared.regions.RegionKind.TheVariants.{Define, Append, Ignore, Table, Equation, Picture}
@@ -13,21 +13,19 @@ use Rattle.page_roff_heads.specs.declared.conditions.Test.{Test}
 use Rattle.page_roff_heads.specs.declared.conditions.Test.TheVariants.{Always, Unknown, IsDefined, IsRegister, Expression, Texts, Missing}
 use Rattle.page_roff_heads.specs.declared.loops.LoopHead.{LoopHead}
 use Rattle.page_core_base.specs.declared.limits.TheConstants.{EXPAND}
-use Rattle.page_roff_values.specs.Environments.{Surroundings}
-use Rattle.page_roff_values.specs.Values.{Spot, Laid, IsWithin, start, expanded, NEST}
+use Rattle.page_roff_values.specs.Values.{Surroundings, Spot, Laid, start, expanded, NEST}
+use Rattle.page_roff_values.specs.laws.Views.{IsWithin}
 use Rattle.page_roff_values.proofs.LineLemmas.{value_within}
 use Rattle.page_roff_values.specs.Answers.{Answer, condition_answer, test_answer, unless_cut, expands, bytes_between}
 use Rattle.page_roff_blocks.specs.machine.Languages.{Kind, state_of}
-use Rattle.page_roff_blocks.specs.Spent.{Spends}
+use Rattle.page_roff_blocks.specs.laws.Spent.{Spends}
 use Rattle.page_roff_effects.specs.declared.commands.Command.{Command}
 use Rattle.page_roff_effects.specs.declared.commands.Command.TheVariants as commands
-use Rattle.page_roff_effects.specs.Commands.{command_of, copies}
-use Rattle.page_roff_effects.specs.States.{Memory, State, Outcome, Product, no_product, line_product, call_product, loop_product, sum_of_counts, Setting, surroundings, nothing}
-use Rattle.page_roff_effects.specs.States as states
-use Rattle.page_roff_effects.specs.Leaves.{call_if, ControlLine, does, command_outcome, control_outcome, form_outcome, leaf_outcome}
-use Rattle.page_roff_effects.specs.RegionLines.{head_outcome, longer, longer_if, body_outcome, kind_outcome, line_outcome, end_outcome, body_freed, finish_region, finish_outcome}
-use Rattle.page_roff_effects.specs.LoopLines.{longer_if_some, loop_outcome, collect_outcome, repeats_text, close_outcome}
-use Rattle.page_roff_effects.specs.Effects.{answer_of, budget_outcome, block_outcome, end_of_block_outcome}
+use Rattle.page_roff_effects.specs.Lines.{command_of, copies, call_if, ControlLine, does, command_outcome, control_outcome, form_outcome, leaf_outcome}
+use Rattle.page_roff_effects.specs.States.{Memory, Outcome, Product, no_product, line_product, call_product, loop_product, sum_of_counts, Setting, surroundings, nothing, answer_of, budget_outcome, block_outcome, end_of_block_outcome}
+use Rattle.page_roff_effects.specs.laws.Views.{State}
+use Rattle.page_roff_effects.specs.laws.Views as states
+use Rattle.page_roff_effects.specs.Regions.{head_outcome, longer, longer_if, body_outcome, kind_outcome, line_outcome, end_outcome, body_freed, finish_region, finish_outcome, longer_if_some, loop_outcome, collect_outcome, repeats_text, close_outcome}
 use Rattle.page_roff_effects.specs.machine.Effects.{effects, setting_of, turn_answer, tested_after, done_by, done_after, expansions_of}
 
 -- so many more than before, at most

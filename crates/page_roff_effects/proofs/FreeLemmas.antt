@@ -17,7 +17,7 @@ use Rattle.page_roff_parts.specs.machine.Verbatim.{IsFree, may_call}
 use Rattle.page_roff_parts.proofs.VerbatimLemmas.{verbatim_free}
 use Rattle.page_roff_values.specs.machine.Verbatim.{GivesItself}
 use Rattle.page_roff_values.proofs.CopiedLemmas.{gives_itself}
-use Rattle.page_core_base.specs.Texts.{IsFreeLine, is_backslash, is_key}
+use Rattle.page_core_base.specs.laws.Views.{IsFreeLine, is_backslash, is_key}
 use Rattle.page_roff_effects.specs.machine.FreeLines.{IsFreeFrom}
 
 -- ---- what a free line lacks

@@ -1,17 +1,16 @@
 -- What was given before stays in front: helpers of proofs.
 use Rattle.std.proofs.Common.{◌≡◌, ℕ, zero, suc, Bool, true, false, not, ◌&&◌, List, Option, Some, None, refl, ap, ◌∙◌, append_assoc}
 use Rattle.page_roff_heads.specs.declared.conditions.Condition.{Condition}
-use Rattle.page_roff_syntax.specs.OpenRegions.{Opened}
-use Rattle.page_roff_blocks.specs.Loops.{loop_text}
+use Rattle.page_roff_syntax.specs.Regions.{Opened}
+use Rattle.page_roff_blocks.specs.Parts.{loop_text}
 use Rattle.page_roff_values.specs.Answers.{Answer}
 use Rattle.page_roff_blocks.specs.machine.Languages.{Kind, page, body, Done, gives, calls, repeats}
 use Rattle.page_roff_blocks.specs.machine.Budgets.{Budgeted, with_rest, charge_by, charge, begin_line, whether_run, meet, test, unopened_by, read_line, end_line, collect_some, meaning, done_with, closed_with, turn_by, turn, language}
 use Rattle.page_roff_blocks.specs.machine.Fronts.{over_pair, over_done, IsFrontOfParts, IsFront}
-use Rattle.page_roff_effects.specs.States.{State, Outcome, Product, no_product, line_product, call_product, loop_product, Given, after}
-use Rattle.page_roff_effects.specs.Leaves.{leaf_outcome}
-use Rattle.page_roff_effects.specs.RegionLines.{head_outcome, line_outcome, end_outcome, finish_outcome}
-use Rattle.page_roff_effects.specs.LoopLines.{loop_outcome, collect_outcome, close_outcome}
-use Rattle.page_roff_effects.specs.Effects.{answer_of, test_outcome, budget_outcome, block_outcome, end_of_block_outcome}
+use Rattle.page_roff_effects.specs.laws.Views.{State, after}
+use Rattle.page_roff_effects.specs.States.{Outcome, Product, no_product, line_product, call_product, loop_product, Given, answer_of, test_outcome, budget_outcome, block_outcome, end_of_block_outcome}
+use Rattle.page_roff_effects.specs.Lines.{leaf_outcome}
+use Rattle.page_roff_effects.specs.Regions.{head_outcome, line_outcome, end_outcome, finish_outcome, loop_outcome, collect_outcome, close_outcome}
 use Rattle.page_roff_effects.specs.machine.Effects.{effects, setting_of, turn_answer, tested_after, done_by, done_after, given_before, in_front}
 
 after_front : (g : List Given) (s : State) (o : Outcome) → after (given_before g s) o ≡ given_before g (after s o)

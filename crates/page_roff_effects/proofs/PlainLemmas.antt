@@ -6,13 +6,14 @@ use Rattle.std.proofs.lemmas.List.Sums.{prefix_len_passes}
 use Rattle.std.specs.List.{prefix_len}
 use Rattle.page_core_base.specs.declared.limits.TheConstants.{LINE}
 use Rattle.page_core_base.specs.declared.lines_taken.Form.TheVariants as forms
-use Rattle.page_roff_syntax.specs.LineForms.{is_plain, has_word, begins_control, without_comment, uncommented_form}
+use Rattle.page_roff_syntax.specs.laws.Views.{is_plain, begins_control}
+use Rattle.page_roff_syntax.specs.LineForms.{has_word, without_comment, uncommented_form}
 use Rattle.page_roff_syntax.specs.declared.line_forms.LineForm.TheVariants.{Text}
 use Rattle.page_roff_syntax.proofs.FormLemmas.{read_first, read_all, front_of}
 use Rattle.page_roff_values.proofs.LineLemmas.{plain_expanded}
 use Rattle.page_roff_values.specs.Values.{nothing, adds, start}
 use Rattle.page_roff_effects.specs.machine.Acting.{Acting, measured, plain_form, line_laid}
-use Rattle.page_roff_effects.specs.Leaves.{leaf_outcome}
+use Rattle.page_roff_effects.specs.Lines.{leaf_outcome}
 use Rattle.page_roff_effects.specs.States.{Memory, Setting, counted, gives_line, surroundings}
 
 no_comment : (line : List ℕ) → prefix_len is_plain line ≡ length line → without_comment line ≡ line

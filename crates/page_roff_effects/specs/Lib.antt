@@ -1,8 +1,5 @@
-pub mod Caps
-pub mod Commands
-pub mod Effects
-pub mod Leaves
-pub mod LoopLines
-pub mod RegionLines
+pub mod Lines
+pub mod Regions
 pub mod States
+pub mod laws
 pub mod machine

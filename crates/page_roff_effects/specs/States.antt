@@ -1,13 +1,20 @@
--- What the parts of a source change, and what they give. Source: roff(7), "LANGUAGE SYNTAX", "ds", "de".
-use Rattle.std.specs.Prelude.{ℕ, ◌+◌, ◌-◌, ◌^◌, min, Bool, List, [], ◌∷◌, ◌++◌, map, Option, None}
+-- What the parts of a source change, and what they give. Source: roff(7).
+use Rattle.std.specs.Prelude.{ℕ, List, Option, [], None, ◌∷◌, ◌+◌, ◌++◌, ◌-◌, ◌^◌, min, Bool, false, codes}
+use Rattle.page_core_base.specs.Limits.{name_of}
 use Rattle.page_core_base.specs.Messages.{Message, message_about}
-use Rattle.page_core_base.specs.LinesTaken.{Line}
+use Rattle.page_core_base.specs.Texts.{Line}
+use Rattle.page_core_base.specs.declared.limits.Limit.TheVariants as limits
 use Rattle.page_core_base.specs.declared.lines_taken.Form.{Form}
 use Rattle.page_core_base.specs.declared.note_kinds.NoteKind.{NoteKind}
+use Rattle.page_core_base.specs.declared.note_kinds.NoteKind.TheVariants as kinds
 use Rattle.page_core_base.specs.declared.places.Place.{Place}
-use Rattle.page_roff_definitions.specs.Calls.{Call}
 use Rattle.page_roff_names.specs.Names.{Definitions, definitions}
-use Rattle.page_roff_values.specs.Environments.{Surroundings}
+use Rattle.page_roff_heads.specs.declared.conditions.Condition.{Condition}
+use Rattle.page_roff_values.specs.Answers.{Answer, condition_answer}
+use Rattle.page_roff_values.specs.Values.{Surroundings}
+use Rattle.page_roff_definitions.specs.Definitions.{Call}
+
+-- ---- What the parts of a source change, and what they give. Source: roff(7), "LANGUAGE SYNTAX", "ds", "de".
 
 -- What is remembered from part to part: what names stand for; the body that the open region has so far, where it defines a macro and
 -- no limit was passed, or the text of the loop that is collected; the number of the source line; how many interpolations were made.
@@ -47,20 +54,11 @@ pub data Given : Type 0 where
   says : Message → Given
   takes : Line → Given
 
--- what is remembered, and what was given so far, in order
-pub record State : Type 0 where
-  pub memory : Memory
-  pub out : List Given
-
 abbrev pub lines_of : Product → List Given
 lines_of no_product = []
 lines_of (line_product line) = takes line ∷ []
 lines_of (call_product call) = []
 lines_of (loop_product text) = []
-
--- after a part: its messages come before its line
-abbrev pub after : State → Outcome → State
-after s o = record { memory = o.memory; out = s.out ++ (map says o.notes ++ lines_of o.product) }
 
 -- ---- outcomes
 
@@ -129,3 +127,24 @@ pub record Setting : Type 0 where
 abbrev pub surroundings : Bool → Setting → Memory → Surroundings
 surroundings copy setting m =
     record { copy = copy; definitions = m.definitions; arguments = setting.arguments; units = setting.units }
+
+-- ---- What the parts of a source do to what is remembered, but for lines and regions. Source: roff(7), "if", "while"; mandoc(1), "DIAGNOSTICS".
+
+-- a condition: its messages, and the interpolations that it made
+unfoldable pub answer_of : Setting → Condition (List ℕ) → Memory → Answer
+answer_of setting condition m = condition_answer (surroundings false setting m) m.number condition
+
+abbrev pub test_outcome : Answer → Memory → Outcome
+test_outcome answer m = reports answer.notes (counted answer.edge.count m)
+
+-- a re-read line beyond the budget
+unfoldable pub budget_outcome : Memory → Outcome
+budget_outcome m = reports_at kinds.Loop 1 (name_of limits.Reread) m
+
+-- a true block beyond the limit of open ones, whose head's name is in a column
+unfoldable pub block_outcome : ℕ → Memory → Outcome
+block_outcome column m = reports_at kinds.Limit column (name_of limits.Conds) m
+
+-- the end of a block where none is open
+unfoldable pub end_of_block_outcome : Memory → Outcome
+end_of_block_outcome m = reports_at kinds.NotOpen 1 (codes "\\}") m

@@ -1,19 +1,18 @@
 //! What the parts of a source do, with what is remembered from part to part (roff(7), "LANGUAGE SYNTAX").
 
 ghost use Rattle.std.specs.Prelude.{◌≡◌, ◌≤◌, [], ◌∷◌, false, length, IfOk, None, Some};
-ghost use Rattle.page_core_base.specs.LinesTaken.{line_view};
+ghost use Rattle.page_core_base.specs.laws.Views.{line_view, Came};
 ghost use Rattle.page_core_base.specs.declared.limits.TheConstants.{ARGS, LINE};
-ghost use Rattle.page_roff_heads.specs.Conditions.{condition_view, test_view, FitsTest};
-ghost use Rattle.page_roff_values.specs.Arguments.{arguments_in};
+ghost use Rattle.page_roff_heads.specs.laws.Views.{condition_view, test_view, FitsTest};
+ghost use Rattle.page_roff_values.specs.Values.{arguments_in};
 ghost use Rattle.page_roff_values.specs.machine.Views.{surroundings_of};
 ghost use Rattle.page_roff_values.specs.Values as laying;
 ghost use Rattle.page_roff_effects.specs.machine.Acting as acting;
-ghost use Rattle.page_roff_effects.specs.Caps.{MemoryFits};
+ghost use Rattle.page_roff_effects.specs.laws.Views.{MemoryFits};
 ghost use Rattle.page_roff_effects.specs.machine.Acting.{measured, Does, Tests, Expands, ExpandsOrKeeps};
-ghost use Rattle.page_roff_effects.specs.Effects.{answer_of, budget_outcome, block_outcome, end_of_block_outcome};
+ghost use Rattle.page_roff_effects.specs.States.{answer_of, budget_outcome, block_outcome, end_of_block_outcome};
 ghost use Rattle.page_roff_effects.specs.machine.Effects.{turn_answer};
 ghost use Rattle.page_core_base.specs.Messages.{message_about};
-ghost use Rattle.page_core_base.specs.Latches.{Came};
 
 use crate::memories::Remembered;
 use page_core_base::{ARGS, Limit, Note, NoteKind, NoteOut, Output, Place, Taken};
@@ -251,7 +250,7 @@ impl Actions {
     }
 
     /// Whether a condition holds.
-    #[tactic(auto, unfolding(crate::specs::Effects::answer_of))]
+    #[tactic(auto, unfolding(crate::specs::States::answer_of))]
     pub fn test<O: NoteOut>(&mut self, condition: &Condition<&[u8]>, out: &mut O) -> bool
         requires { FitsTest (test_view condition.now.test) }
         ensures { Tests O.left self.old out.old
@@ -280,7 +279,7 @@ impl Actions {
     }
 
     /// A re-read line comes beyond the budget.
-    #[tactic(auto, unfolding(crate::specs::Effects::budget_outcome))]
+    #[tactic(auto, unfolding(crate::specs::States::budget_outcome))]
     pub fn exhaust<O: NoteOut>(&mut self, out: &mut O)
         ensures { Does O.left self.old out.old (budget_outcome self.old.memory) self.new out.new }
     {
@@ -294,7 +293,7 @@ impl Actions {
     }
 
     /// A true block comes beyond the limit of open ones; the name of its head is in a column.
-    #[tactic(auto, unfolding(crate::specs::Effects::block_outcome))]
+    #[tactic(auto, unfolding(crate::specs::States::block_outcome))]
     pub fn refuse<O: NoteOut>(&mut self, column: u32, out: &mut O)
         ensures { Does O.left self.old out.old (block_outcome column self.old.memory) self.new out.new }
     {
@@ -308,7 +307,7 @@ impl Actions {
     }
 
     /// The end of a block comes where none is open.
-    #[tactic(auto, unfolding(crate::specs::Effects::end_of_block_outcome))]
+    #[tactic(auto, unfolding(crate::specs::States::end_of_block_outcome))]
     pub fn report_unopened<O: NoteOut>(&mut self, out: &mut O)
         ensures { Does O.left self.old out.old (end_of_block_outcome self.old.memory) self.new out.new }
     {

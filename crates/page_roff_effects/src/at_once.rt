@@ -1,12 +1,12 @@
 //! Lines that are taken at once, as they are written: most of a page is made of them (roff(7), "LANGUAGE SYNTAX" and "MACRO SYNTAX").
 
 ghost use Rattle.std.specs.Prelude.{◌≡◌, ◌+◌, ◌≤◌, true, length, None, Some};
-ghost use Rattle.page_core_base.specs.LinesTaken.{line_view};
+ghost use Rattle.page_core_base.specs.laws.Views.{line_view, IsFreeLine};
 ghost use Rattle.page_core_base.specs.declared.limits.TheConstants.{LINE};
-ghost use Rattle.page_roff_syntax.specs.LineForms.{form_of, name_of};
+ghost use Rattle.page_roff_syntax.specs.LineForms.{form_of};
+ghost use Rattle.page_roff_syntax.specs.laws.Views.{name_of};
 ghost use Rattle.page_roff_effects.specs.machine.Acting.{measured, CallsIf, IsTaken, TakesIf};
-ghost use Rattle.page_core_base.specs.Texts.{IsFreeLine};
-ghost use Rattle.page_roff_effects.specs.Leaves.{leaf_outcome};
+ghost use Rattle.page_roff_effects.specs.Lines.{leaf_outcome};
 
 use crate::actions::Actions;
 use crate::commands::{body_or_nothing, is_called, is_ordinary};

@@ -2,8 +2,8 @@
 
 ghost use Rattle.std.specs.Prelude.{◌≡◌, ◌≤◌, [], length, true, IfSome, is_some, unwrap_or};
 ghost use Rattle.page_core_base.specs.declared.limits.TheConstants.{BODY};
-ghost use Rattle.page_roff_syntax.specs.RegionHeads.{text_view};
-ghost use Rattle.page_roff_effects.specs.Commands as named;
+ghost use Rattle.page_roff_syntax.specs.laws.Views.{text_view};
+ghost use Rattle.page_roff_effects.specs.Lines as named;
 ghost use Rattle.page_roff_effects.specs.machine.Acting.{IsOrdinary};
 
 use page_core_base::BODY;
@@ -93,7 +93,7 @@ pub(crate) fn is_ordinary(name: &[u8]) -> bool
 
 impl Command {
     /// What a name stands for.
-    #[tactic(auto, unfolding(crate::specs::Commands::command_of))]
+    #[tactic(auto, unfolding(crate::specs::Lines::command_of))]
     pub(crate) fn of(name: &[u8], names: &mut Names) -> Command
         ensures command { result ≡ named.command_of name.now names.old }
         ensures same { names.new ≡ names.old }

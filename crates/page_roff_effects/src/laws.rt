@@ -4,7 +4,7 @@ ghost use Rattle.std.specs.Prelude.{◌≡◌, ℕ, List};
 ghost use Rattle.page_core_base.specs.declared.limits.TheConstants.{EXPAND};
 ghost use Rattle.page_roff_blocks.specs.machine.Budgets.{language};
 ghost use Rattle.page_roff_blocks.specs.machine.Fronts.{IsFront};
-ghost use Rattle.page_roff_blocks.specs.Spent.{Spends};
+ghost use Rattle.page_roff_blocks.specs.laws.Spent.{Spends};
 ghost use Rattle.page_roff_effects.specs.machine.Effects.{effects, expansions_of, in_front};
 ghost use Rattle.page_roff_effects.specs.States.{Given};
 

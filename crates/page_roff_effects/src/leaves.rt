@@ -4,11 +4,11 @@ ghost use Rattle.std.specs.Prelude.{◌≡◌, ◌≤◌, ◌+◌, ◌++◌, len
 ghost use Rattle.page_core_base.specs.declared.limits.TheConstants.{LINE};
 ghost use Rattle.page_roff_syntax.specs.LineForms.{form_of};
 ghost use Rattle.page_roff_syntax.specs.declared.line_forms.LineForm.TheVariants.{Control};
-ghost use Rattle.page_core_base.specs.Latches.{Came};
+ghost use Rattle.page_core_base.specs.laws.Views.{Came};
 ghost use Rattle.page_roff_effects.specs.machine.Acting.{control_view, measured, plain_form, text_given, Does, Gives, Takes, IfCalled, IsCallable};
 ghost use Rattle.page_core_base.specs.declared.lines_taken.Form.TheVariants as forms;
-ghost use Rattle.page_roff_effects.specs.Leaves as leaves;
-ghost use Rattle.page_roff_effects.specs.Leaves.{leaf_outcome};
+ghost use Rattle.page_roff_effects.specs.Lines as leaves;
+ghost use Rattle.page_roff_effects.specs.Lines.{leaf_outcome};
 ghost use Rattle.page_roff_effects.specs.States.{gives_line};
 
 use crate::actions::{Actions, report_at};
@@ -239,7 +239,7 @@ impl Actions {
     }
 
     // Expands a control line, and does what it says.
-    #[tactic(auto, unfolding(crate::specs::Leaves::control_outcome, crate::specs::Leaves::command_outcome))]
+    #[tactic(auto, unfolding(crate::specs::Lines::control_outcome, crate::specs::Lines::command_outcome))]
     fn control<O: NoteOut>(
         &mut self,
         may_call: bool,
@@ -286,7 +286,7 @@ impl Actions {
     }
 
     // Does what a raw line of this form says.
-    #[tactic(auto, unfolding(crate::specs::Leaves::leaf_outcome))]
+    #[tactic(auto, unfolding(crate::specs::Lines::leaf_outcome))]
     fn take_form<O: NoteOut>(&mut self, may_call: bool, text: &[u8], out: &mut O) -> ProductKind
         requires { length text.now ≤ LINE }
         ensures { Gives O.left self.old out.old

@@ -1,10 +1,9 @@
 //! Heads and lines of loops (roff(7), "while").
 
 ghost use Rattle.std.specs.Prelude.{◌≡◌, length, Some};
-ghost use Rattle.page_roff_blocks.specs.LineParts.{loop_head_view};
+ghost use Rattle.page_roff_blocks.specs.laws.Views.{loop_head_view};
 ghost use Rattle.page_roff_effects.specs.machine.Acting.{Does, Gives, IfRepeated, IsRepeatable};
-ghost use Rattle.page_roff_effects.specs.LoopLines as loops;
-ghost use Rattle.page_roff_effects.specs.RegionLines as regions;
+ghost use Rattle.page_roff_effects.specs.Regions as loops;
 ghost use Rattle.page_roff_effects.specs.States.{with_body};
 
 use crate::actions::{Actions, report_at};
@@ -17,7 +16,7 @@ impl Actions {
     // Adds a raw line to what is collected, if that passed no limit.
     fn keep_line<O: NoteOut>(&mut self, line: &[u8], out: &mut O)
         ensures { Does O.left self.old out.old
-            (regions.longer self.old.memory.body line.now self.old.memory) self.new out.new }
+            (loops.longer self.old.memory.body line.now self.old.memory) self.new out.new }
     {
         if self.body.text().is_some() && !self.body.add_line(line) {
             report_long_body(self.number, out);
@@ -25,7 +24,7 @@ impl Actions {
     }
 
     /// A loop that is run begins, with what of its head's line belongs to it.
-    #[tactic(auto, unfolding(crate::specs::LoopLines::loop_outcome))]
+    #[tactic(auto, unfolding(crate::specs::Regions::loop_outcome))]
     pub fn open_loop<O: NoteOut>(&mut self, head: &LoopHead<&[u8]>, out: &mut O)
         ensures { Does O.left self.old out.old
             (loops.loop_outcome (loop_head_view head.now) self.old.memory) self.new out.new }
@@ -38,7 +37,7 @@ impl Actions {
     }
 
     /// A raw line of a loop comes, which is still run or was given up.
-    #[tactic(auto, unfolding(crate::specs::LoopLines::collect_outcome))]
+    #[tactic(auto, unfolding(crate::specs::Regions::collect_outcome))]
     pub fn collect_line<O: NoteOut>(&mut self, is_run: bool, line: &[u8], out: &mut O)
         ensures { Does O.left self.old out.old
             (loops.collect_outcome is_run line.now self.old.memory) self.new out.new }
@@ -72,7 +71,7 @@ impl Actions {
     }
 
     /// A loop is whole, which is still run or was given up, where one more source may run or not. What comes of it is lent from then on.
-    #[tactic(auto, unfolding(crate::specs::LoopLines::close_outcome))]
+    #[tactic(auto, unfolding(crate::specs::Regions::close_outcome))]
     pub fn close_loop<O: NoteOut>(
         &mut self,
         may_call: bool,

@@ -6,12 +6,12 @@ ghost use Rattle.page_core_base.specs.declared.note_kinds.NoteKind.TheVariants a
 ghost use Rattle.page_core_base.specs.Limits.{name_of};
 ghost use Rattle.page_core_base.specs.declared.limits.Limit.TheVariants as limits;
 ghost use Rattle.page_core_base.specs.declared.limits.TheConstants.{BODY, LINE};
-ghost use Rattle.page_roff_syntax.specs.OpenRegions.{within_limit, opened_view};
-ghost use Rattle.page_roff_syntax.specs.RegionHeads.{macro_name, region_view, text_view};
-ghost use Rattle.page_roff_definitions.specs.Definitions as defining;
-ghost use Rattle.page_core_base.specs.Latches.{Came};
+ghost use Rattle.page_roff_syntax.specs.Regions.{within_limit, macro_name};
+ghost use Rattle.page_roff_syntax.specs.laws.Views.{opened_view, region_view, text_view};
+ghost use Rattle.page_roff_definitions.specs.laws.Views as defining;
+ghost use Rattle.page_core_base.specs.laws.Views.{Came};
 ghost use Rattle.page_roff_effects.specs.machine.Acting.{measured, Does, Gives};
-ghost use Rattle.page_roff_effects.specs.RegionLines as regions;
+ghost use Rattle.page_roff_effects.specs.Regions as regions;
 ghost use Rattle.page_roff_effects.specs.States.{Memory, reports, with_body};
 
 use crate::actions::{Actions, report_at};
@@ -62,7 +62,7 @@ fn begin_named(kind: RegionKind, name: &[u8], names: &Names, body: &mut BodyBuff
 }
 
 // Begins the body of a macro, where its name is within the limit of names.
-#[tactic(auto, unfolding(page_roff_syntax::specs::OpenRegions::within_limit))]
+#[tactic(auto, unfolding(page_roff_syntax::specs::Regions::within_limit))]
 fn begin_within(kind: RegionKind, name: &[u8], names: &Names, body: &mut BodyBuffer)
     ensures { body.new ≡ regions.body_begun kind (within_limit (Some name.now)) names.now }
 {
@@ -74,7 +74,7 @@ fn begin_within(kind: RegionKind, name: &[u8], names: &Names, body: &mut BodyBuf
 }
 
 // Begins the body that a region defines, where it defines one.
-#[tactic(auto, unfolding(page_roff_syntax::specs::OpenRegions::within_limit))]
+#[tactic(auto, unfolding(page_roff_syntax::specs::Regions::within_limit))]
 fn begin_body(head: &RegionHead<&[u8]>, names: &Names, body: &mut BodyBuffer)
     ensures { body.new
         ≡ regions.body_begun head.now.kind (within_limit (macro_name (region_view head.now))) names.now }
@@ -131,7 +131,7 @@ fn report_missing<O: NoteOut>(name: &[u8], line: u32, out: &mut O)
 
 impl Actions {
     /// A region begins, which is run or passed over.
-    #[tactic(auto, unfolding(crate::specs::RegionLines::head_outcome))]
+    #[tactic(auto, unfolding(crate::specs::Regions::head_outcome))]
     pub fn open_region<O: NoteOut>(&mut self, head: &RegionHead<&[u8]>, is_run: bool, out: &mut O)
         ensures { Does O.left self.old out.old
             (regions.head_outcome (region_view head.now) is_run self.old.memory) self.new out.new }
@@ -166,7 +166,7 @@ impl Actions {
     }
 
     /// A line of a region comes, which is run or passed over. What comes of it is lent from then on.
-    #[tactic(auto, unfolding(crate::specs::RegionLines::line_outcome))]
+    #[tactic(auto, unfolding(crate::specs::Regions::line_outcome))]
     pub fn read_line<O: NoteOut>(
         &mut self,
         region: &OpenRegion,
@@ -194,7 +194,7 @@ impl Actions {
     }
 
     /// The end line of a region comes, which is run or passed over.
-    #[tactic(auto, unfolding(crate::specs::RegionLines::end_outcome))]
+    #[tactic(auto, unfolding(crate::specs::Regions::end_outcome))]
     pub fn end_region<O: NoteOut>(&mut self, region: &OpenRegion, is_run: bool, out: &mut O)
         ensures { Does O.left self.old out.old
             (regions.end_outcome region.now is_run self.old.memory) self.new out.new }
@@ -237,7 +237,7 @@ impl Actions {
     }
 
     /// A source ends, in an open region or not, in a loop that is collected or not, with whether all was given up.
-    #[tactic(auto, unfolding(crate::specs::RegionLines::finish_outcome))]
+    #[tactic(auto, unfolding(crate::specs::Regions::finish_outcome))]
     pub fn finish<O: NoteOut>(
         &mut self,
         region: Option<&OpenRegion>,

@@ -11,10 +11,8 @@ use Rattle.page_roff_heads.specs.declared.conditions.Kind.TheVariants.{True, Fal
 use Rattle.page_roff_heads.specs.declared.conditions.Test.{Test}
 use Rattle.page_roff_heads.specs.declared.conditions.Test.TheVariants as tests
 use Rattle.page_roff_heads.specs.declared.conditions.TestRead.{TestRead}
-use Rattle.page_roff_heads.specs.Conditions.{both_len, condition_len, condition_of, has_both, is_odd, kind_of, longer, name_after, name_len, named, read_kind, read_test, reads, second_of, text_before, texts_after, texts_at, turn_len}
-use Rattle.page_roff_heads.specs.Expressions.{argument_len, expression_len, expression_rest}
+use Rattle.page_roff_heads.specs.Conditions.{both_len, condition_len, condition_of, has_both, is_odd, kind_of, longer, name_after, name_len, named, read_kind, read_test, reads, second_of, text_before, texts_after, texts_at, turn_len, argument_len, expression_len, expression_rest, after_blanks, blank_len, placed}
 use Rattle.page_roff_syntax.specs.Delimiters.{character_len, delimiter_of, place_of, quoted_len, width_len}
-use Rattle.page_roff_heads.specs.Texts.{after_blanks, blank_len, placed}
 use Rattle.page_roff_heads.proofs.Reading.{texts_together}
 use Rattle.page_roff_syntax.proofs.DelimiterLemmas.{quoted_none, quoted_some}
 

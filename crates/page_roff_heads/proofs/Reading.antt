@@ -8,10 +8,10 @@ use Rattle.std.specs.List.{prefix_len}
 use Rattle.std.specs.Prelude.{◌&&◌, ◌||◌}
 use Rattle.page_roff_syntax.specs.machine.Pairs.{LacksPair}
 use Rattle.page_roff_syntax.proofs.PairLemmas.{lacks_later}
-use Rattle.page_roff_syntax.specs.LineForms.{is_white, is_plain, begins_comment}
+use Rattle.page_roff_syntax.specs.LineForms.{is_white, begins_comment}
+use Rattle.page_roff_syntax.specs.laws.Views.{is_plain}
 use Rattle.page_roff_syntax.specs.Delimiters.{character_len, width_len}
-use Rattle.page_roff_heads.specs.Expressions.{argument_len, expression_rest, expression_len}
-use Rattle.page_roff_heads.specs.Conditions.{longer, texts_after, texts_at}
+use Rattle.page_roff_heads.specs.Conditions.{argument_len, expression_rest, expression_len, longer, texts_after, texts_at}
 use Rattle.page_roff_heads.specs.Heads.{end_place}
 
 -- two texts with their delimiters

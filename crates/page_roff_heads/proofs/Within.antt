@@ -7,9 +7,8 @@ use Rattle.std.proofs.lemmas.List.{length-take-le}
 use Rattle.page_roff_syntax.specs.declared.line_forms.LineForm.TheVariants.{Control}
 use Rattle.page_roff_syntax.specs.LineForms.{has_word, begins_comment, without_comment, is_control, is_name, is_white, name_start, name_len, control_line, uncommented_form, form_of}
 use Rattle.page_roff_heads.specs.declared.texts.Placed.{Placed}
-use Rattle.page_roff_heads.specs.Conditions.{condition_len}
+use Rattle.page_roff_heads.specs.Conditions.{condition_len, blank_len, after_blanks, begins_pair, is_some_line, remainder_of}
 use Rattle.page_roff_heads.specs.Heads.{guarded_of, conditional_of, end_place, block_end_of}
-use Rattle.page_roff_heads.specs.Texts.{blank_len, after_blanks, begins_pair, is_some_line, remainder_of}
 
 -- a remainder that has so many bytes at most
 abbrev pub IsWithin : ℕ → Option (Placed (List ℕ)) → Type 0

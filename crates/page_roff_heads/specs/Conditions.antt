@@ -1,18 +1,69 @@
--- The condition of a conditional, as it is written. Source: roff(7), "Conditional expressions".
-use Rattle.std.specs.Prelude.{ℕ, ◌+◌, ◌≤◌, ◌%◌, Bool, true, false, ◌==◌, ◌&&◌, nat_le, nat_lt, ◌||◌, List, [], ◌∷◌, length, take, drop, codes, if◌then◌else◌}
+-- The condition of a conditional, as it is written. Source: roff(7), "Conditionals".
 use Rattle.std.specs.List.{prefix_len, list_any}
-use Rattle.std.specs.Borrow.{Bor}
-use Rattle.page_core_base.specs.Limits.{LINE}
-use Rattle.page_roff_syntax.specs.Delimiters.{character_len, delimiter_of, place_of}
-use Rattle.page_roff_syntax.specs.LineForms.{is_name}
+use Rattle.std.specs.Prelude.{ℕ, List, drop, Bool, false, ◌==◌, ◌&&◌, [], ◌∷◌, true, not, if◌then◌else◌, Option, Some, None, ◌+◌, zero, suc, nat_le, ◌||◌, codes, take, length, nat_lt, ◌%◌}
+use Rattle.page_roff_syntax.specs.Arguments.{is_blank}
+use Rattle.page_roff_syntax.specs.Delimiters.{width_len, place_of, character_len, delimiter_of}
+use Rattle.page_roff_syntax.specs.LineForms.{begins_comment, is_white, is_name}
 use Rattle.page_roff_heads.specs.declared.conditions.Condition.{Condition}
 use Rattle.page_roff_heads.specs.declared.conditions.Kind.{Kind}
 use Rattle.page_roff_heads.specs.declared.conditions.Kind.TheVariants.{True, False, Defined, Register, Expression, Letter, Delimiter}
 use Rattle.page_roff_heads.specs.declared.conditions.Test.{Test}
 use Rattle.page_roff_heads.specs.declared.conditions.Test.TheVariants as tests
 use Rattle.page_roff_heads.specs.declared.conditions.TestRead.{TestRead}
-use Rattle.page_roff_heads.specs.Expressions.{expression_len}
-use Rattle.page_roff_heads.specs.Texts.{placed, placed_view, FitsPlaced, blank_len, after_blanks}
+use Rattle.page_roff_heads.specs.declared.texts.Placed.{Placed}
+
+-- ---- Texts at their places in a line. Source: roff(7), "LANGUAGE SYNTAX".
+
+abbrev pub placed : ℕ → List ℕ → Placed (List ℕ)
+placed column text = record { text = text; column = column }
+
+-- the blanks at a text's front, and what is after them
+abbrev pub blank_len : List ℕ → ℕ
+blank_len text = prefix_len is_blank text
+
+abbrev pub after_blanks : List ℕ → List ℕ
+after_blanks text = drop (blank_len text) text
+
+-- a text begins with the pair of a backslash (92) and this byte
+abbrev pub begins_pair : ℕ → List ℕ → Bool
+begins_pair key [] = false
+begins_pair key (byte ∷ []) = false
+begins_pair key (byte ∷ next ∷ bytes) = byte == 92 && next == key
+
+-- it is a line of its own: neither empty nor a comment
+abbrev pub is_some_line : List ℕ → Bool
+is_some_line [] = false
+is_some_line (byte ∷ []) = true
+is_some_line (byte ∷ next ∷ bytes) = not (byte == 92 && begins_comment next)
+
+-- A remainder loses its blanks. It is a line unless it is empty or a comment.
+abbrev pub remainder_at : ℕ → List ℕ → Option (Placed (List ℕ))
+remainder_at column text = if is_some_line text then Some (placed column text) else None
+
+unfoldable pub remainder_of : ℕ → List ℕ → Option (Placed (List ℕ))
+remainder_of column text = remainder_at (column + blank_len text) (after_blanks text)
+
+-- ---- What ends an expression. Source: roff(7), "Conditional expressions" and "Escape sequences".
+
+-- the argument of the escape \w (119), after its letter
+abbrev pub argument_len : ℕ → List ℕ → ℕ
+argument_len letter text = if letter == 119 then width_len text else 0
+
+-- An expression goes up to a blank, a tab or \{ (123). This many bytes at its front belong to the argument of a \w.
+abbrev pub expression_rest : ℕ → List ℕ → ℕ
+expression_rest zero [] = 0
+expression_rest zero (byte ∷ []) = if is_white byte then 0 else 1
+expression_rest zero (byte ∷ next ∷ bytes) =
+    if is_white byte then 0
+    else if byte == 92 then (if next == 123 then 0 else 2 + expression_rest (argument_len next bytes) bytes)
+    else 1 + expression_rest zero (next ∷ bytes)
+expression_rest (suc passed) [] = 0
+expression_rest (suc passed) (byte ∷ bytes) = 1 + expression_rest passed bytes
+
+abbrev pub expression_len : List ℕ → ℕ
+expression_len text = expression_rest zero text
+
+-- ---- The condition of a conditional, as it is written. Source: roff(7), "Conditional expressions".
 
 abbrev pub is_among : List ℕ → ℕ → Bool
 is_among bytes byte = list_any (λ one. byte == one) bytes
@@ -121,31 +172,3 @@ condition_of column text =
 
 unfoldable pub condition_len : ℕ → List ℕ → ℕ
 condition_len column text = turn_len text + (read_test (column + turn_len text) (drop (turn_len text) text)).len
-
--- ---- of the program, with what its texts hold
-
-abbrev pub test_view : Test (Bor (List ℕ)) → Test (List ℕ)
-test_view (tests.Always holds) = tests.Always holds
-test_view (tests.Unknown letter) = tests.Unknown letter.now
-test_view (tests.IsDefined name) = tests.IsDefined name.now
-test_view (tests.IsRegister name) = tests.IsRegister name.now
-test_view (tests.Expression text) = tests.Expression (placed_view text)
-test_view (tests.Texts first second) = tests.Texts (placed_view first) (placed_view second)
-test_view tests.Missing = tests.Missing
-
-abbrev pub read_view : TestRead (Bor (List ℕ)) → TestRead (List ℕ)
-read_view read = reads (test_view read.test) read.len
-
-abbrev pub condition_view : Condition (Bor (List ℕ)) → Condition (List ℕ)
-condition_view condition =
-    record { column = condition.column; is_turned = condition.is_turned; test = test_view condition.test }
-
--- its texts lie within a line
-abbrev pub FitsTest : Test (List ℕ) → Type 0
-FitsTest (tests.Always holds) = Unit {0}
-FitsTest (tests.Unknown letter) = length letter ≤ LINE
-FitsTest (tests.IsDefined name) = length name ≤ LINE
-FitsTest (tests.IsRegister name) = length name ≤ LINE
-FitsTest (tests.Expression text) = FitsPlaced text
-FitsTest (tests.Texts first second) = FitsPlaced first × FitsPlaced second
-FitsTest tests.Missing = Unit {0}

@@ -1,14 +1,14 @@
--- The heads of conditionals, and the ends of their blocks, as they are written. Source: roff(7), "if", "ie", "el" and "\}".
-use Rattle.std.specs.Prelude.{ℕ, ◌+◌, ◌≤◌, Bool, true, false, ◌==◌, nat_lt, List, [], ◌∷◌, length, take, drop, if◌then◌else◌, Option, Some, None, option_map, IfSome}
-use Rattle.std.specs.Borrow.{Bor}
-use Rattle.page_core_base.specs.Limits.{LINE}
-use Rattle.page_roff_syntax.specs.LineForms.{begins_comment, without_comment}
+-- The heads of conditionals and of loops, and the ends of their blocks, as they are written. Source: roff(7), "Conditionals", `while`.
+use Rattle.std.specs.Prelude.{ℕ, List, [], drop, if◌then◌else◌, ◌+◌, take, Bool, Option, true, false, ◌==◌, ◌∷◌, length, nat_lt, Some, None}
+use Rattle.page_roff_syntax.specs.LineForms.{without_comment, begins_comment}
+use Rattle.page_roff_heads.specs.Conditions.{after_blanks, begins_pair, condition_len, blank_len, remainder_of, condition_of}
 use Rattle.page_roff_heads.specs.declared.heads.BlockEnd.{BlockEnd}
 use Rattle.page_roff_heads.specs.declared.heads.Conditional.{Conditional}
 use Rattle.page_roff_heads.specs.declared.heads.Guarded.{Guarded}
+use Rattle.page_roff_heads.specs.declared.loops.LoopRead.{LoopRead}
 use Rattle.page_roff_heads.specs.declared.texts.Placed.{Placed}
-use Rattle.page_roff_heads.specs.Conditions.{condition_of, condition_len, condition_view, FitsTest}
-use Rattle.page_roff_heads.specs.Texts.{blank_len, after_blanks, begins_pair, remainder_of, remainder_view, FitsPlaced}
+
+-- ---- The heads of conditionals, and the ends of their blocks, as they are written. Source: roff(7), "if", "ie", "el" and "\}".
 
 abbrev pub guards : Bool → Option (Placed (List ℕ)) → Guarded (List ℕ)
 guards opens remainder = record { opens_block = opens; remainder = remainder }
@@ -52,26 +52,23 @@ block_end_of line =
     })
     else None
 
--- ---- of the program, with what its texts hold
+-- ---- The heads of loops, as they are written. Source: roff(7), "while".
 
-abbrev pub guarded_view : Guarded (Bor (List ℕ)) → Guarded (List ℕ)
-guarded_view guarded = record { opens_block = guarded.opens_block; remainder = remainder_view guarded.remainder }
+-- What follows the \{ (123) that opens a block, without the blanks before it. Its comment is kept. Nothing where
+-- no block is opened.
+unfoldable pub first_of : List ℕ → List ℕ
+first_of text = if begins_pair 123 (after_blanks text) then after_blanks (drop 2 (after_blanks text)) else []
 
-abbrev pub conditional_view : Conditional (Bor (List ℕ)) → Conditional (List ℕ)
-conditional_view head = record { condition = condition_view head.condition; guarded = guarded_view head.guarded }
+-- a condition as it is written, and what it guards; the condition ends before a comment
+abbrev pub loop_at : ℕ → List ℕ → LoopRead (List ℕ)
+loop_at column text =
+    let len = condition_len column (without_comment text) in
+    record {
+      condition = take len text;
+      guarded = guarded_of (column + len) (drop len text);
+      first = first_of (drop len text);
+    }
 
-abbrev pub one_end_view : BlockEnd (Bor (List ℕ)) → BlockEnd (List ℕ)
-one_end_view end = record { before = end.before.now; remainder = remainder_view end.remainder }
-
-abbrev pub block_end_view : Option (BlockEnd (Bor (List ℕ))) → Option (BlockEnd (List ℕ))
-block_end_view end = option_map one_end_view end
-
--- texts and columns lie within a line
-abbrev pub FitsGuarded : Guarded (List ℕ) → Type 0
-FitsGuarded guarded = IfSome guarded.remainder FitsPlaced
-
-abbrev pub FitsConditional : Conditional (List ℕ) → Type 0
-FitsConditional head = FitsTest head.condition.test × FitsGuarded head.guarded
-
-abbrev pub FitsBlockEnd : BlockEnd (List ℕ) → Type 0
-FitsBlockEnd end = (length end.before ≤ LINE) × IfSome end.remainder FitsPlaced
+-- the rest of a control line `while`, of which the first byte is at a column
+unfoldable pub loop_of : ℕ → List ℕ → LoopRead (List ℕ)
+loop_of column rest = loop_at (column + blank_len rest) (after_blanks rest)

@@ -1,5 +1,3 @@
-pub mod Texts
-pub mod Expressions
 pub mod Conditions
 pub mod Heads
-pub mod Loops
+pub mod laws

@@ -2,7 +2,7 @@
 
 ghost use Rattle.std.specs.Prelude.{◌≡◌, ◌+◌, ◌<◌, ◌≤◌, length, drop, IsTrue, MatchOption};
 ghost use Rattle.page_core_base.specs.declared.limits.TheConstants.{LINE};
-ghost use Rattle.page_roff_heads.specs.Expressions.{argument_len, expression_len};
+ghost use Rattle.page_roff_heads.specs.Conditions.{argument_len, expression_len};
 ghost use Rattle.page_roff_syntax.specs.Delimiters as written;
 
 use page_core_base::LINE;

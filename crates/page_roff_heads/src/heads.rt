@@ -1,7 +1,8 @@
 //! The heads of conditionals, and the ends of their blocks (roff(7), `if`, `ie`, `el` and `\}`).
 
 ghost use Rattle.std.specs.Prelude.{◌≡◌, ◌≤◌, ◌<◌, ◌+◌, length, IfSome};
-ghost use Rattle.page_roff_heads.specs.Heads.{guarded_of, guarded_view, conditional_at, conditional_of, conditional_view, end_place, block_end_of, block_end_view, FitsGuarded, FitsConditional, FitsBlockEnd};
+ghost use Rattle.page_roff_heads.specs.Heads.{guarded_of, conditional_at, conditional_of, end_place, block_end_of};
+ghost use Rattle.page_roff_heads.specs.laws.Views.{guarded_view, conditional_view, block_end_view, FitsGuarded, FitsConditional, FitsBlockEnd};
 
 use crate::conditions::{Condition, read_before_comment};
 use crate::texts::{Placed, begins_pair, remainder};

@@ -2,10 +2,10 @@
 //! blocks end (roff(7), "Conditional expressions"). All of it is read from the raw line alone.
 //!
 //! It is above `page_roff_syntax`; `page_roff_blocks` parts lines by it, and `page_roff_values` answers the conditions that it reads.
-//! Read `specs/Heads.antt`, `Loops.antt` and `Conditions.antt` first.
+//! Read `specs/Heads.antt` and `Conditions.antt` first.
 //!
 //! Proved: `read_conditional`, `read_loop`, `read_guarded`, `block_end`, `remainder`: the condition of a conditional or a loop, whether it opens a
-//! block, what it guards, and where a line ends a block, all by the raw text alone (`specs/Heads.antt`, `Conditions.antt`, `Loops.antt`).
+//! block, what it guards, and where a line ends a block, all by the raw text alone (`specs/Heads.antt`, `Conditions.antt`).
 #![tactic(auto)]
 
 mod conditions;

@@ -1,7 +1,8 @@
 //! The heads of loops (roff(7), `while`).
 
 ghost use Rattle.std.specs.Prelude.{◌≡◌, ◌≤◌, ◌+◌, length};
-ghost use Rattle.page_roff_heads.specs.Loops.{first_of, loop_at, loop_of, loop_view, FitsLoop};
+ghost use Rattle.page_roff_heads.specs.Heads.{first_of, loop_at, loop_of};
+ghost use Rattle.page_roff_heads.specs.laws.Views.{loop_view, FitsLoop};
 
 use crate::conditions::read_before_comment;
 use crate::heads::{Guarded, read_guarded};
@@ -30,7 +31,7 @@ pub struct LoopRead<W> {
 }
 
 // What follows the `\{` that opens a block, without the blanks before it.
-#[tactic(auto, unfolding(crate::specs::Loops::first_of))]
+#[tactic(auto, unfolding(crate::specs::Heads::first_of))]
 fn first_of(text: &[u8]) -> &[u8]
     ensures value { result.now ≡ first_of text.now }
     ensures short { length result.now ≤ length text.now }
@@ -60,7 +61,7 @@ fn loop_at(text: &[u8], column: u32) -> LoopRead<&[u8]>
 }
 
 /// Reads the rest of a control line `while` with its comment: what follows its name. The first byte is at a column.
-#[tactic(auto, unfolding(crate::specs::Loops::loop_of))]
+#[tactic(auto, unfolding(crate::specs::Heads::loop_of))]
 pub fn read_loop(rest: &[u8], column: u32) -> LoopRead<&[u8]>
     requires short { length rest.now ≤ LINE }
     requires room { column + length rest.now ≤ LINE + 1 }

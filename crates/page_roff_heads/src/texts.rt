@@ -1,7 +1,8 @@
 //! Texts at their places in a line.
 
 ghost use Rattle.std.specs.Prelude.{◌≡◌, ◌≤◌, ◌+◌, length, IfSome};
-ghost use Rattle.page_roff_heads.specs.Texts.{placed_view, FitsPlaced, begins_pair, is_some_line, remainder_at, remainder_of, remainder_view};
+ghost use Rattle.page_roff_heads.specs.laws.Views.{placed_view, FitsPlaced, remainder_view};
+ghost use Rattle.page_roff_heads.specs.Conditions.{begins_pair, is_some_line, remainder_at, remainder_of};
 
 use page_core_base::LINE;
 use page_roff_syntax::blank_len;
@@ -48,7 +49,7 @@ fn remainder_at(text: &[u8], column: u32) -> Option<Placed<&[u8]>>
 
 /// The remainder of a line, without the blanks before it: a line of its own, unless it is empty or a comment. The
 /// first byte is at a column.
-#[tactic(auto, unfolding(crate::specs::Texts::remainder_of))]
+#[tactic(auto, unfolding(crate::specs::Conditions::remainder_of))]
 pub fn remainder(text: &[u8], column: u32) -> Option<Placed<&[u8]>>
     requires short { length text.now ≤ LINE }
     requires room { column + length text.now ≤ LINE + 1 }

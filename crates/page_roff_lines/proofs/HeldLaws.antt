@@ -3,13 +3,15 @@ use Rattle.std.proofs.Common.{◌≡◌, ℕ, ◌-◌, ◌≤◌, Bool, true, fa
 use Rattle.std.specs.Prelude.{◌==◌}
 use Rattle.std.proofs.lemmas.List.{length-take}
 use Rattle.page_core_base.specs.declared.page_settings.Encoding.{Encoding}
-use Rattle.page_roff_decoding.specs.Limit.{line_limit, line_limit_is}
+use Rattle.page_roff_decoding.specs.Decoding.{line_limit}
+use Rattle.page_roff_decoding.specs.laws.Views.{line_limit_is}
 use Rattle.page_roff_lines.specs.declared.Mode.{Mode}
 use Rattle.page_roff_lines.specs.declared.Mode.TheVariants.{Plain, Backslash, Comment, Dropped}
-use Rattle.page_roff_lines.specs.Bytes.{newline, hash}
+use Rattle.page_roff_lines.specs.laws.Views.{newline}
+use Rattle.page_roff_lines.specs.Lines.{hash}
 use Rattle.page_roff_lines.specs.machine.Held.{Held, extend, shorten}
 use Rattle.page_roff_lines.specs.machine.Open.{Open, restart, close, count_byte, put, put_plain, put_pair, put_in, without_return, newline_in, put_newline, put_byte, ends_mark, next_open}
-use Rattle.page_roff_lines.specs.Cutting.{Point, first_point, point_at, next_point, point_after, IsAfter}
+use Rattle.page_roff_lines.specs.laws.Cutting.{Point, first_point, point_at, next_point, point_after, IsAfter}
 use Rattle.page_roff_lines.proofs.PointLemmas.{point_after-append}
 
 -- within the limit

@@ -6,18 +6,16 @@ use borrow.Author.Tests.{ne_eqb}
 use Rattle.std.proofs.lemmas.Bool.Decides.{eqb_tells}
 use Rattle.page_core_base.specs.declared.page_settings.Encoding.{Encoding}
 use Rattle.page_core_base.specs.declared.page_settings.Encoding.TheVariants.{Auto, Ascii, Latin1, Utf8}
-use Rattle.page_roff_decoding.specs.Characters.{good, bad, is_printable, sequence_length, character, later_length, characters_after, characters}
-use Rattle.page_roff_decoding.specs.Decoding.{choice_of}
+use Rattle.page_roff_decoding.specs.Decoding.{good, bad, is_printable, sequence_length, character, later_length, characters_after, characters, choice_of}
 use Rattle.page_roff_lines.specs.declared.Mode.{Mode}
 use Rattle.page_roff_lines.specs.declared.Mode.TheVariants.{Plain, Backslash, Comment, Dropped}
 use Rattle.page_roff_lines.specs.declared.Mark.{Mark}
 use Rattle.page_roff_lines.specs.declared.Mark.TheVariants.{Unread, First, Second, Absent, Present}
-use Rattle.page_roff_lines.specs.Bytes.{newline, hash}
-use Rattle.page_roff_lines.specs.Logical.{Kept, kept_lines, has_mark}
+use Rattle.page_roff_lines.specs.laws.Views.{newline}
+use Rattle.page_roff_lines.specs.Lines.{hash, Kept, kept_lines, has_mark, Line, decode_line, or_else, choice_of_lines, page_encoding, lines}
 use Rattle.page_roff_lines.specs.machine.Open.{Open, first_open, restart, close, count_byte, put, put_plain, put_pair, put_in, put_byte, ends_mark, mark_after, is_marked, next_open, end_open, end_in, kept_of, if_whole, whole_lines, open_after, lines_from as raw_lines_from}
 use Rattle.page_roff_lines.specs.machine.Run.{is_settled}
-use Rattle.page_roff_lines.specs.Lines.{Line, decode_line, or_else, choice_of_lines, page_encoding, lines}
-use Rattle.page_roff_lines.specs.Cutting.{Point, first_point, encoding_after, point_at, next_point, end_point, line_at, lines_within, point_after, lines_from, IsAfter, IsFed}
+use Rattle.page_roff_lines.specs.laws.Cutting.{Point, first_point, encoding_after, point_at, next_point, end_point, line_at, lines_within, point_after, lines_from, IsAfter, IsFed}
 use Rattle.page_roff_lines.proofs.OpenLaws.{next_open-mark}
 use Rattle.page_roff_lines.proofs.PointLemmas.{open_point, point_after-append, lines_within-append}
 use Rattle.page_roff_lines.proofs.MarkLemmas.{kept_lines-one_by_one}

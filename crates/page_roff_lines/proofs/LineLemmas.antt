@@ -3,12 +3,12 @@ use Rattle.std.proofs.Common.{◌≡◌, ℕ, suc, ◌+◌, ◌-◌, ◌<◌, Bo
 use Rattle.std.specs.Prelude.{◌==◌}
 use Rattle.std.specs.List.{list_all}
 use Rattle.std.proofs.lemmas.Bool.Decides.{nat_tests}
-use Rattle.page_roff_decoding.specs.Characters.{is_printable}
+use Rattle.page_roff_decoding.specs.Decoding.{is_printable}
 use Rattle.page_roff_decoding.proofs.ScanLemmas.{and_true}
 use Rattle.page_roff_lines.specs.declared.Mode.{Mode}
 use Rattle.page_roff_lines.specs.declared.Mode.TheVariants.{Plain}
 use Rattle.page_roff_lines.specs.declared.Mark.{Mark}
-use Rattle.page_roff_lines.specs.Bytes.{newline, carriage_return}
+use Rattle.page_roff_lines.specs.laws.Views.{newline, carriage_return}
 use Rattle.page_roff_lines.specs.machine.Held.{Held, nothing_held, extend}
 use Rattle.page_roff_lines.specs.machine.Open.{Open, next_open, open_after, restart}
 use Rattle.page_roff_lines.specs.machine.Run.{IsFine, ReadsText, is_settled, run_in, with_run}

@@ -9,7 +9,7 @@ use Rattle.page_roff_lines.specs.declared.Mode.TheVariants.{Plain}
 use Rattle.page_roff_lines.specs.declared.Mark.{Mark}
 use Rattle.page_roff_lines.specs.declared.Mark.TheVariants.{First, Second, Absent, Present}
 use Rattle.page_roff_lines.specs.machine.Held.{nothing_held, extend}
-use Rattle.page_roff_lines.specs.Logical.{logical_lines, keep, kept_lines, has_mark}
+use Rattle.page_roff_lines.specs.Lines.{logical_lines, keep, kept_lines, has_mark}
 use Rattle.page_roff_lines.specs.machine.Open.{Open, first_open, restart, next_open, put_byte, close, put_in, put_plain, put, count_byte, ends_mark, mark_after, end_open, end_in, open_after, whole_lines, if_whole, last_line, lines_from}
 use Rattle.page_roff_lines.proofs.RunLemmas.{st}
 use Rattle.page_roff_lines.proofs.Agreement.{lines_from-start}

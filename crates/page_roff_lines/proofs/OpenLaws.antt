@@ -7,7 +7,8 @@ use Rattle.page_roff_decoding.proofs.ScanLemmas.{rest_of}
 use Rattle.page_roff_lines.specs.declared.Mode.{Mode}
 use Rattle.page_roff_lines.specs.declared.Mode.TheVariants.{Plain, Backslash, Comment, Dropped}
 use Rattle.page_roff_lines.specs.declared.Mark.{Mark}
-use Rattle.page_roff_lines.specs.Bytes.{newline, hash}
+use Rattle.page_roff_lines.specs.laws.Views.{newline}
+use Rattle.page_roff_lines.specs.Lines.{hash}
 use Rattle.page_roff_lines.specs.machine.Open.{Open, restart, close, count_byte, put, put_plain, put_pair, put_in, without_return, newline_in, put_newline, put_byte, ends_mark, mark_after, next_open, kept_of, if_whole, whole_lines, open_after}
 
 pub open_after-append : (o : Open) (xs ys : List ℕ) → open_after o (xs ++ ys) ≡ open_after (open_after o xs) ys

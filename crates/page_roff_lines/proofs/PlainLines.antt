@@ -4,12 +4,9 @@ use Rattle.std.specs.Prelude.{nat_lt, ◌||◌}
 use Rattle.std.specs.List.{list_all}
 use Rattle.std.proofs.lemmas.Bool.Decides.{nat_tests}
 use Rattle.page_core_base.specs.declared.page_settings.Encoding.{Encoding}
-use Rattle.page_roff_decoding.specs.Limit.{line_limit}
-use Rattle.page_roff_decoding.specs.Characters.{is_printable}
-use Rattle.page_roff_decoding.specs.Decoding.{limit_notes}
+use Rattle.page_roff_decoding.specs.Decoding.{line_limit, is_printable, limit_notes}
 use Rattle.page_roff_decoding.proofs.PlainLemmas.{singles, characters-plain, characters_within-singles, all_bytes-singles, bad_notes-singles}
-use Rattle.page_roff_lines.specs.Logical.{Kept}
-use Rattle.page_roff_lines.specs.Lines.{decode_line}
+use Rattle.page_roff_lines.specs.Lines.{Kept, decode_line}
 
 below_itself : (n : ℕ) → nat_lt n n ≡ false
 below_itself n = grind (arith, nat_tests)

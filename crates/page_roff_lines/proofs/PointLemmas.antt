@@ -2,9 +2,9 @@
 use Rattle.std.proofs.Common.{◌≡◌, ℕ, zero, suc, ◌-◌, ◌≤◌, Bool, true, false, cond, List, [], ◌∷◌, ◌++◌, length, take, get_or, refl, sym, ap, ◌∙◌, append_assoc, append-nil, add-one, arith}
 use Rattle.std.proofs.lemmas.List.{take_more}
 use Rattle.page_core_base.specs.declared.page_settings.Encoding.{Encoding}
-use Rattle.page_roff_lines.specs.Logical.{Kept}
+use Rattle.page_roff_lines.specs.Lines.{Kept}
 use Rattle.page_roff_lines.specs.machine.Open.{Open, next_open, end_open, kept_of, if_whole, whole_lines, open_after}
-use Rattle.page_roff_lines.specs.Cutting.{Point, Cutting, encoding_after, point_at, next_point, end_point, line_of, line_at, lines_within, point_after}
+use Rattle.page_roff_lines.specs.laws.Cutting.{Point, Cutting, encoding_after, point_at, next_point, end_point, line_of, line_at, lines_within, point_after}
 use Rattle.page_roff_lines.proofs.OpenLaws.{open_after-append}
 
 -- the law: a page cut anywhere

@@ -6,9 +6,9 @@ use Rattle.page_roff_lines.specs.declared.Mode.{Mode}
 use Rattle.page_roff_lines.specs.declared.Mode.TheVariants.{Plain}
 use Rattle.page_roff_lines.specs.declared.Mark.{Mark}
 use Rattle.page_roff_lines.specs.declared.Mark.TheVariants.{Unread, First, Second, Absent, Present}
-use Rattle.page_roff_lines.specs.Bytes.{newline, carriage_return, backslash, quote, hash}
+use Rattle.page_roff_lines.specs.laws.Views.{newline, carriage_return}
+use Rattle.page_roff_lines.specs.Lines.{backslash, quote, hash, Physical, after_byte, read, read_pair}
 use Rattle.page_roff_lines.specs.machine.Held.{Held, hold, shorten}
-use Rattle.page_roff_lines.specs.Physical.{Physical, after_byte, read, read_pair}
 use Rattle.page_roff_lines.specs.machine.Open.{Open, restart, next_open, put_byte, put_newline, newline_in, without_return, close, count_byte, ends_mark, mark_after, end_open, end_in, open_after, whole_lines, if_whole}
 use Rattle.page_roff_lines.specs.machine.Run.{is_settled}
 use Rattle.page_roff_lines.proofs.RunLemmas.{st, any}

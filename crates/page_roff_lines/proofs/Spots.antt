@@ -3,12 +3,13 @@ use Rattle.std.proofs.Common.{◌≡◌, ℕ, zero, suc, ◌+◌, ◌-◌, Bool,
 use Rattle.std.specs.Prelude.{◌==◌, if◌then◌else◌}
 use Rattle.std.proofs.Common.{inl, inr}
 use Rattle.std.proofs.lemmas.Bool.Decides.{eqb_tells}
-use Rattle.page_roff_decoding.specs.Limit.{line_limit}
+use Rattle.page_roff_decoding.specs.Decoding.{line_limit}
 use Rattle.page_roff_lines.specs.declared.Mode.{Mode}
 use Rattle.page_roff_lines.specs.declared.Mode.TheVariants.{Plain, Backslash, Comment, Dropped}
 use Rattle.page_roff_lines.specs.declared.Mark.{Mark}
 use Rattle.page_roff_lines.specs.declared.Mark.TheVariants.{Unread, First, Second, Absent, Present}
-use Rattle.page_roff_lines.specs.Bytes.{newline, carriage_return, backslash, quote, hash}
+use Rattle.page_roff_lines.specs.laws.Views.{newline, carriage_return}
+use Rattle.page_roff_lines.specs.Lines.{backslash, quote, hash}
 use Rattle.page_roff_lines.specs.machine.Held.{Held, hold, extend, shorten}
 use Rattle.page_roff_lines.specs.machine.Open.{Open, restart, next_open, put_byte, put_in, put_plain, put_pair, pair_mode, put, count_byte, ends_mark, mark_after}
 use Rattle.page_roff_lines.specs.machine.Run.{is_settled}

@@ -8,7 +8,7 @@ use Rattle.std.proofs.lemmas.List.Sums.{prefix_len-le-length, prefix_len_passes}
 use native.Mathlib.Nat.{pow-suc, mul_comm, zero-div, div-one, div-div-eq-div-mul}
 use lib.Lanes.{mask_l}
 use lib.Count.{count_trailing_zeros}
-use Rattle.page_roff_decoding.specs.Characters.{is_printable}
+use Rattle.page_roff_decoding.specs.Decoding.{is_printable}
 use Rattle.page_roff_decoding.specs.machine.Scan.{is_text, is_stop}
 use Rattle.page_roff_decoding.proofs.ScanLemmas.{rest_of, all-append, not-not, run_bound, run_stops, run_through, text-printable}
 use Rattle.page_roff_lines.specs.declared.Mode.TheVariants.{Plain}

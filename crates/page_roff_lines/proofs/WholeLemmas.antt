@@ -8,11 +8,10 @@ use Rattle.page_roff_lines.specs.declared.Mode.{Mode}
 use Rattle.page_roff_lines.specs.declared.Mode.TheVariants.{Plain, Backslash, Comment, Dropped}
 use Rattle.page_roff_lines.specs.declared.Mark.{Mark}
 use Rattle.page_roff_lines.specs.declared.Mark.TheVariants.{Unread, First, Second, Absent, Present}
-use Rattle.page_roff_lines.specs.Bytes.{newline, hash}
+use Rattle.page_roff_lines.specs.laws.Views.{newline}
+use Rattle.page_roff_lines.specs.Lines.{hash, lines, letter, whole_lines, lines_made, line_left}
 use Rattle.page_roff_lines.specs.machine.Open.{Open, restart, close, count_byte, put, put_plain, put_pair, pair_mode, put_in, without_return, newline_in, put_newline, put_byte, ends_mark, mark_after, next_open, end_open}
-use Rattle.page_roff_lines.specs.Lines.{lines}
-use Rattle.page_roff_lines.specs.Cutting.{Point, first_point, point_at, next_point, end_point, point_after, line_at, lines_within, last_line}
-use Rattle.page_roff_lines.specs.Whole.{letter, whole_lines, lines_made, line_left}
+use Rattle.page_roff_lines.specs.laws.Cutting.{Point, first_point, point_at, next_point, end_point, point_after, line_at, lines_within, last_line}
 use Rattle.page_roff_lines.proofs.OpenLaws.{next_open-mark}
 use Rattle.page_roff_lines.proofs.PointLemmas.{point_after-append, lines_within-append}
 use Rattle.page_roff_lines.proofs.LineAgreement.{lines-one_by_one, next_open-whole}

@@ -4,12 +4,11 @@ ghost use mathlib.Core.Option.{none};
 ghost use Rattle.std.specs.Borrow.{sem, follows_so};
 ghost use Rattle.page_core_base.specs.declared.page_settings.Encoding.{Encoding as AnyEncoding};
 ghost use Rattle.page_roff_decoding.specs.Decoding.{choice_of};
-ghost use Rattle.page_roff_lines.specs.Lines.{lines};
-ghost use Rattle.page_roff_lines.specs.Cutting.{Point, first_point, point_after, lines_within, last_line, lines_from};
-ghost use Rattle.page_roff_lines.specs.Whole.{whole_lines, lines_made, line_left};
-ghost use Rattle.page_core_base.specs.Sinks.{Gives};
-ghost use Rattle.page_core_base.specs.Fails.{FailsAs, Rose};
-ghost use Rattle.page_core_base.specs.Texts.{IsLine, IsFreeLine};
+ghost use Rattle.page_roff_lines.specs.Lines.{lines, whole_lines, lines_made, line_left};
+ghost use Rattle.page_roff_lines.specs.laws.Cutting.{Point, first_point, point_after, lines_within, last_line, lines_from};
+ghost use Rattle.page_core_base.specs.laws.Views.{Gives, FailsAs, IsFreeLine};
+ghost use Rattle.page_core_base.specs.Messages.{Rose};
+ghost use Rattle.page_core_base.specs.Texts.{IsLine};
 
 use crate::open::OpenLine;
 use page_core_base::{BoundedText, Encoding, Fault, LINE, NoteSink};
@@ -30,7 +29,7 @@ pub struct Cutter {
 
 impl Model for Cutter {
     ghost use Rattle.std.specs.Prelude.{if◌then◌else◌};
-    ghost use Rattle.page_roff_lines.specs.Cutting.{Cutting, encoding_after};
+    ghost use Rattle.page_roff_lines.specs.laws.Cutting.{Cutting, encoding_after};
 
     ghost Value = { Cutting };
 
@@ -45,7 +44,7 @@ impl Model for Cutter {
 }
 
 impl Cutter {
-    ghost use Rattle.page_roff_lines.specs.Cutting.{first_point, point_after, lines_within, line_of, end_point, line_at, IsAfter, IsFed};
+    ghost use Rattle.page_roff_lines.specs.laws.Cutting.{first_point, point_after, lines_within, line_of, end_point, line_at, IsAfter, IsFed};
     ghost use Rattle.page_roff_lines.specs.contracts.cutter.Cutter.{the_row};
 
     /// A cutter before the first byte of a page, with all the memory that it will ever hold. Its fault is
@@ -107,7 +106,7 @@ impl Cutter {
 
     // The encoding with the line that is whole, which may be known to be printable.
     #[inline(always)]
-    #[tactic(auto, unfolding(crate::specs::Cutting::encoding_after))]
+    #[tactic(auto, unfolding(crate::specs::laws::Cutting::encoding_after))]
     fn line_encoding(&self, printable: bool) -> Encoding
         requires waits { self.now.ready ≡ true }
         requires printable { printable ≡ true → choice_of self.now.point.line.text.bytes ≡ Encoding.Auto }

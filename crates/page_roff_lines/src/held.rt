@@ -1,9 +1,9 @@
 //! The first bytes of a text that grows and shrinks at its end.
 ghost use Rattle.std.specs.Prelude.{◌≡◌, ◌+◌, ◌^◌, ◌<◌, ◌≤◌, ◌∷◌, [], length, true, IfOk};
 ghost use Rattle.std.specs.List.{list_all};
-ghost use Rattle.page_roff_decoding.specs.Characters.{is_printable};
+ghost use Rattle.page_roff_decoding.specs.Decoding.{is_printable};
 ghost use Rattle.page_roff_lines.specs.machine.Held.{extend, shorten, nothing_held};
-ghost use Rattle.page_core_base.specs.Texts.{IsFreeLine};
+ghost use Rattle.page_core_base.specs.laws.Views.{IsFreeLine};
 
 use page_core_base::LINE;
 use page_roff_decoding::{is_printable, is_printable_ascii};
@@ -25,9 +25,9 @@ impl Model for HeldText {
     ghost use Rattle.std.specs.Prelude.{◌≡◌, ◌≤◌, true, vec_len, vec_capacity};
     ghost use Rattle.std.specs.List.{list_all};
     ghost use Rattle.page_core_base.specs.declared.limits.TheConstants.{LINE};
-    ghost use Rattle.page_roff_decoding.specs.Characters.{is_printable};
+    ghost use Rattle.page_roff_decoding.specs.Decoding.{is_printable};
     ghost use Rattle.page_roff_lines.specs.machine.Held.{Held};
-    ghost use Rattle.page_core_base.specs.Texts.{IsFreeLine};
+    ghost use Rattle.page_core_base.specs.laws.Views.{IsFreeLine};
 
     ghost Value = { Held };
 

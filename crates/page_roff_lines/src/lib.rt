@@ -1,12 +1,12 @@
 //! The logical lines of a page: physical lines cut from its bytes, read pairwise, joined and decoded.
 //!
 //! The front of the pipeline: `Cutter` takes chunks of bytes and lends lines, which go to `page_roff_source`. `page_roff_decoding` decodes them. Read
-//! `specs/Lines.antt` and `Logical.antt` first, then `cutter.rt`.
+//! `specs/Lines.antt` first, then `cutter.rt`.
 //!
 //! Proved: `Cutter::new`, `feed`, `end`, `line`: in whatever chunks the bytes of a page come, the lines are those of `lines` (`specs/Lines.antt`);
-//! those of the bytes so far come first in the page, whatever follows (`IsFed` in `specs/Cutting.antt`). `is_free`: in a line of which it says so no comment, no end of a block and no interpolation begins.
+//! those of the bytes so far come first in the page, whatever follows (`IsFed` in `specs/laws/Cutting.antt`). `is_free`: in a line of which it says so no comment, no end of a block and no interpolation begins.
 //! `one_by_one_law`, `cut_law`, `held_law`: this definition agrees with the step from point to point, a page may be cut anywhere, and an open line holds at
-//! most its limit. `whole_law`: what is whole at a point is said by lists of lines alone (`specs/Whole.antt`).
+//! most its limit. `whole_law`: what is whole at a point is said by lists of lines alone (`specs/Lines.antt`).
 #![tactic(auto)]
 
 mod cutter;

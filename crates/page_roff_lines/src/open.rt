@@ -1,9 +1,9 @@
 //! The open logical line of a page.
 ghost use Rattle.std.specs.Prelude.{◌≡◌, ◌+◌, ◌-◌, ◌^◌, ◌<◌, ◌≤◌, ◌∷◌, [], length, take, true, false, IfOk, if◌then◌else◌};
 ghost use Rattle.std.specs.List.{list_all};
-ghost use Rattle.page_roff_decoding.specs.Characters.{is_printable};
+ghost use Rattle.page_roff_decoding.specs.Decoding.{is_printable};
 ghost use Rattle.page_roff_lines.specs.machine.Open.{pair_mode as spec_pair_mode};
-ghost use Rattle.page_core_base.specs.Texts.{IsFreeLine};
+ghost use Rattle.page_core_base.specs.laws.Views.{IsFreeLine};
 
 use crate::scanning::{comment_run, fine_len, paired_run};
 use crate::{HeldText, Mark, Mode};
@@ -112,7 +112,7 @@ fn pair_mode(byte: u8) -> Mode
 
 impl OpenLine {
     ghost use Rattle.page_roff_lines.specs.machine.Open.{first_open, restart, put, put_plain, put_pair, put_in, without_return, newline_in, put_newline, next_open, end_open, count_byte, close, ends_mark, open_after, whole_lines, kept_of, is_marked};
-    ghost use Rattle.page_roff_lines.specs.Bytes.{newline};
+    ghost use Rattle.page_roff_lines.specs.laws.Views.{newline};
     ghost use Rattle.page_roff_lines.specs.machine.Run.{InText, IsFine, IsRead, ReadsText, with_run};
 
     /// Before the first byte of a page, with the memory that it will ever hold.
@@ -515,7 +515,7 @@ impl OpenLine {
     }
 
     /// Whether the line has more bytes than are kept.
-    #[tactic(auto, using(page_roff_decoding::specs::Limit::line_limit_is))]
+    #[tactic(auto, using(page_roff_decoding::specs::laws::Views::line_limit_is))]
     pub fn is_cut(&self) -> bool
         ensures { result ≡ (kept_of self.now).cut }
     {

@@ -1,9 +1,9 @@
 //! Passing over the bytes of a page that stand for themselves, a vector at a time.
 ghost use Rattle.std.specs.Prelude.{◌≡◌, ℕ, ◌+◌, ◌<◌, ◌≤◌, length, take, slice_index, true, false};
 ghost use Rattle.std.specs.List.{list_all};
-ghost use Rattle.page_roff_decoding.specs.Characters.{is_printable};
+ghost use Rattle.page_roff_decoding.specs.Decoding.{is_printable};
 ghost use Rattle.page_roff_lines.specs.machine.Run.{BeginsPair, IsFine, IsFreeTo, IsText, is_quiet, ends_run as spec_ends_run, stays as spec_stays};
-ghost use Rattle.page_core_base.specs.Texts.{IsFreeLine};
+ghost use Rattle.page_core_base.specs.laws.Views.{IsFreeLine};
 
 use crate::Mode;
 use crate::open::{BACKSLASH, HASH, NEWLINE, QUOTE};

@@ -18,9 +18,10 @@ use Rattle.page_roff_syntax.specs.declared.region_heads.RegionHead.{RegionHead}
 use Rattle.page_roff_blocks.specs.declared.block_cursors.Pass.TheVariants as passes
 use Rattle.page_roff_blocks.specs.declared.block_cursors.Reached.{Reached}
 use Rattle.page_roff_blocks.specs.declared.block_cursors.Reached.TheVariants.{PassedOver, First, Remainder}
-use Rattle.page_roff_blocks.specs.LineParts.{line_parts}
-use Rattle.page_roff_blocks.specs.Levels.{Levels, BlockCursor, answered, after_part, guarded_by, way_of, passed, reached, reached_in, skip, what_ends, at_line, leave}
-use Rattle.page_roff_syntax.specs.OpenRegions.{Opened, opened}
+use Rattle.page_roff_blocks.specs.Parts.{line_parts}
+use Rattle.page_roff_blocks.specs.Forest.{Levels}
+use Rattle.page_roff_blocks.specs.laws.Views.{BlockCursor, answered, after_part, guarded_by, way_of, passed, reached, reached_in, skip, what_ends, at_line, leave}
+use Rattle.page_roff_syntax.specs.Regions.{Opened, opened}
 use Rattle.page_roff_blocks.specs.machine.Run.{Meaning, meet_as, value, refuse_if, keep_if}
 use Rattle.page_roff_blocks.specs.machine.Steps as steps
 use Rattle.page_roff_blocks.specs.machine.Steps.{met, guard_with, guard_met, step_guard, block_with, opening_met, block_met, step_block, step_region, collect_if}
@@ -34,7 +35,8 @@ use Rattle.page_roff_effects.specs.declared.commands.ProductKind.{ProductKind}
 use Rattle.page_roff_effects.specs.declared.commands.ProductKind.TheVariants as kinds
 use Rattle.page_roff_effects.specs.machine.Acting.{IfCalled, IsCallable, IfRepeated, IsRepeatable, acting_effects, measured}
 use Rattle.page_roff_effects.specs.machine.Effects.{effects}
-use Rattle.page_roff_effects.specs.States.{State, says}
+use Rattle.page_roff_effects.specs.laws.Views.{State}
+use Rattle.page_roff_effects.specs.States.{says}
 use Rattle.page_roff_stack.specs.declared.next.Next.{Next}
 use Rattle.page_roff_stack.specs.declared.next.Next.TheVariants.{Part, Line, RegionLine, Turn, SourceEnd, Nothing}
 use Rattle.page_roff_stack.specs.machine.Changes.{is_page, next_line, first_line_parts, first_region, region_of, past}

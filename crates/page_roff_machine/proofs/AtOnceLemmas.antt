@@ -1,13 +1,14 @@
 -- A source line that is taken at once gives what its run gives: helpers of proofs.
 use Rattle.std.proofs.Common.{◌≡◌, ℕ, ◌+◌, ◌≤◌, ◌^◌, Bool, true, false, List, [], ◌∷◌, Option, Some, None, inl, inr, refl, sym, ap, ap₂, subst, ◌∙◌}
-use Rattle.page_core_base.specs.LinesTaken.{Line}
+use Rattle.page_core_base.specs.Texts.{Line}
 use Rattle.page_core_base.specs.declared.page_settings.Output.{Output}
 use Rattle.page_core_base.specs.declared.limits.TheConstants.{REREAD}
 use Rattle.page_roff_blocks.specs.declared.line_parts.LinePart.{LinePart}
 use Rattle.page_roff_blocks.specs.declared.line_parts.LinePart.TheVariants.{Leaf}
-use Rattle.page_roff_blocks.specs.LineParts.{line_parts}
-use Rattle.page_roff_blocks.specs.Levels.{Levels, BlockCursor, at_line, after_part, outside, reached, reached_in, reached_from, reached_if}
-use Rattle.page_roff_syntax.specs.OpenRegions.{Opened}
+use Rattle.page_roff_blocks.specs.Parts.{line_parts}
+use Rattle.page_roff_blocks.specs.Forest.{Levels, outside}
+use Rattle.page_roff_blocks.specs.laws.Views.{BlockCursor, at_line, after_part, reached, reached_in, reached_from, reached_if}
+use Rattle.page_roff_syntax.specs.Regions.{Opened}
 use Rattle.page_roff_blocks.specs.machine.Run.{At, meet_as}
 use Rattle.page_roff_blocks.specs.machine.Steps.{met, begin_line, collect_if}
 use Rattle.page_roff_blocks.specs.machine.Languages.{Kind, page, body, Language, Done, calls, finish_at, gives, is_some, meaning_at, meaning_by, run_page}
@@ -19,11 +20,12 @@ use Rattle.page_roff_blocks.specs.machine.Counting.{Budget, budgeted, begun, ren
 use Rattle.page_roff_blocks.specs.machine.Measures.{AreOnLine, HasMeasure, IsFirst, IsOnLine}
 use Rattle.page_roff_effects.specs.machine.Acting.{with_number, with_arguments, acting_effects, acting_setting, measured, ActingSetting}
 use Rattle.page_roff_effects.specs.machine.Effects.{effects, done_after, done_by}
-use Rattle.page_roff_effects.specs.Leaves.{leaf_outcome}
-use Rattle.page_roff_effects.specs.RegionLines.{finish_outcome}
-use Rattle.page_roff_definitions.specs.Calls.{Call}
-use Rattle.page_roff_values.specs.Arguments.{arguments_in, lines_in}
-use Rattle.page_roff_effects.specs.States.{Memory, Outcome, State, Given, takes, call_product, line_product, numbered}
+use Rattle.page_roff_effects.specs.Lines.{leaf_outcome}
+use Rattle.page_roff_effects.specs.Regions.{finish_outcome}
+use Rattle.page_roff_definitions.specs.Definitions.{Call}
+use Rattle.page_roff_values.specs.Values.{arguments_in, lines_in}
+use Rattle.page_roff_effects.specs.States.{Memory, Outcome, Given, takes, call_product, line_product, numbered}
+use Rattle.page_roff_effects.specs.laws.Views.{State}
 use Rattle.page_roff_stack.specs.machine.Changes.{is_page, page_line}
 use Rattle.page_roff_stack.specs.machine.Stacks.{Stack, is_nothing, next_of}
 use Rattle.page_roff_stack.specs.machine.Stacks as stacks

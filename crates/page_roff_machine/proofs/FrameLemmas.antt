@@ -7,9 +7,10 @@ use Rattle.page_roff_blocks.specs.declared.block_cursors.Pass.{Pass}
 use Rattle.page_roff_blocks.specs.declared.block_cursors.Pass.TheVariants as passes
 use Rattle.page_roff_blocks.specs.declared.levels.Way.{Way}
 use Rattle.page_roff_blocks.specs.declared.levels.Way.TheVariants.{Runs, Skips, Exceeds}
-use Rattle.page_roff_blocks.specs.Levels.{Levels, BlockCursor, at_line, after_part, way_of, enter, skip, leave_level, leave_loop, leave_from, leave, passed}
-use Rattle.page_roff_syntax.specs.OpenRegions.{Opened, opened}
-use Rattle.page_roff_values.specs.Arguments.{begin_first, arguments_in, lines_in}
+use Rattle.page_roff_blocks.specs.Forest.{Levels}
+use Rattle.page_roff_blocks.specs.laws.Views.{BlockCursor, at_line, after_part, way_of, enter, skip, leave_level, leave_loop, leave_from, leave, passed}
+use Rattle.page_roff_syntax.specs.Regions.{Opened, opened}
+use Rattle.page_roff_values.specs.Values.{begin_first, arguments_in, lines_in}
 use Rattle.page_roff_blocks.specs.machine.Machine.{Frame, Turning, turned, at_part}
 use Rattle.page_roff_blocks.specs.machine.Measures.{weight, turns_of}
 use Rattle.page_roff_stack.specs.declared.movements.Movement.{Movement}

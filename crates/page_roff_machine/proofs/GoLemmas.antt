@@ -10,9 +10,9 @@ use Rattle.page_roff_blocks.specs.declared.levels.Way.TheVariants.{Runs, Skips, 
 use Rattle.page_roff_blocks.specs.declared.line_parts.Branch.TheVariants.{Else}
 use Rattle.page_roff_blocks.specs.declared.levels.Answer.{Answer}
 use Rattle.page_roff_blocks.specs.declared.block_cursors.Pass.TheVariants as passes
-use Rattle.page_roff_blocks.specs.Levels.{after_part, leave, what_ends}
+use Rattle.page_roff_blocks.specs.laws.Views.{after_part, leave, what_ends}
 use Rattle.page_roff_blocks.specs.machine.Run.{refuse_if}
-use Rattle.page_roff_values.specs.Arguments.{arguments_in, lines_in}
+use Rattle.page_roff_values.specs.Values.{arguments_in, lines_in}
 use Rattle.page_roff_blocks.specs.machine.Languages.{arguments_of, Kind, page, body, gives, calls, Language, is_some}
 use Rattle.page_roff_blocks.specs.machine.Machine.{Frame, entered, at_part, depth, leaf_next, end_next}
 use Rattle.page_roff_blocks.specs.machine.Budgets.{Budgeted, meaning, language, with_rest}
@@ -20,9 +20,9 @@ use Rattle.page_roff_effects.specs.declared.commands.ProductKind.{ProductKind}
 use Rattle.page_roff_effects.specs.declared.commands.ProductKind.TheVariants as kinds
 use Rattle.page_roff_effects.specs.machine.Acting as acting
 use Rattle.page_roff_effects.specs.machine.Acting.{Acting, IsCallable, acting_effects, acting_setting}
-use Rattle.page_roff_effects.specs.Effects.{block_outcome}
+use Rattle.page_roff_effects.specs.States.{block_outcome, Given, says, takes}
 use Rattle.page_roff_effects.specs.machine.Effects.{effects}
-use Rattle.page_roff_effects.specs.States.{State, Given, says, takes}
+use Rattle.page_roff_effects.specs.laws.Views.{State}
 use Rattle.page_roff_stack.specs.machine.Changes.{past, next_line, is_page, went}
 use Rattle.page_roff_stack.specs.declared.movements.Movement.{Movement}
 use Rattle.page_roff_stack.specs.declared.movements.Movement.TheVariants as moves

@@ -2,8 +2,8 @@
 use Rattle.std.proofs.Common.{◌≡◌, ℕ, suc, Bool, true, false, List, [], ◌∷◌, ◌++◌, drop, map, length, Option, Some, refl, sym, ap, ◌∙◌, arith}
 use Rattle.page_core_base.specs.Messages.{Message}
 use Rattle.page_core_base.specs.declared.page_settings.Output.{Output}
-use Rattle.page_roff_blocks.specs.Levels.{after_part}
-use Rattle.page_roff_values.specs.Arguments.{lines_in}
+use Rattle.page_roff_blocks.specs.laws.Views.{after_part}
+use Rattle.page_roff_values.specs.Values.{lines_in}
 use Rattle.page_roff_blocks.specs.machine.Languages.{arguments_of, Kind, page, body, inner, repeats, Language, is_some}
 use Rattle.page_roff_blocks.specs.machine.Machine.{Frame, looped, at_part, depth, leaf_next, loop_next}
 use Rattle.page_roff_blocks.specs.machine.Measures.{weight}
@@ -11,8 +11,9 @@ use Rattle.page_roff_blocks.specs.machine.Budgets.{Budgeted, language}
 use Rattle.page_roff_effects.specs.declared.commands.ProductKind.{ProductKind}
 use Rattle.page_roff_effects.specs.declared.commands.ProductKind.TheVariants as kinds
 use Rattle.page_roff_effects.specs.machine.Acting.{IsRepeatable, IfRepeated, acting_effects, acting_setting}
-use Rattle.page_roff_effects.specs.LoopLines.{first_line, condition_in, body_in}
-use Rattle.page_roff_effects.specs.States.{State, Given, says}
+use Rattle.page_roff_effects.specs.Regions.{first_line, condition_in, body_in}
+use Rattle.page_roff_effects.specs.laws.Views.{State}
+use Rattle.page_roff_effects.specs.States.{Given, says}
 use Rattle.page_roff_stack.specs.machine.Changes.{past}
 use Rattle.page_roff_stack.specs.machine.Stacks.{with_top, first_text}
 use Rattle.page_roff_stack.specs.machine.Views.{unpacked}

@@ -4,8 +4,9 @@ use Rattle.std.proofs.lemmas.List.{append-nil}
 use Rattle.page_core_base.specs.Messages.{Message}
 use Rattle.page_core_base.specs.declared.page_settings.Output.{Output}
 use Rattle.page_roff_blocks.specs.declared.line_parts.LinePart.{LinePart}
-use Rattle.page_roff_blocks.specs.Levels.{Place, at_line}
-use Rattle.page_roff_syntax.specs.OpenRegions.{Opened}
+use Rattle.page_roff_blocks.specs.Forest.{Place}
+use Rattle.page_roff_blocks.specs.laws.Views.{at_line}
+use Rattle.page_roff_syntax.specs.Regions.{Opened}
 use Rattle.page_roff_blocks.specs.machine.Run.{Meaning, At}
 use Rattle.page_roff_blocks.specs.machine.Languages.{Language, meaning_at, run_page}
 use Rattle.page_roff_blocks.specs.machine.Machine.{Frame, depth, at_page, rest_of, next, stands_at}
@@ -19,7 +20,8 @@ use Rattle.page_roff_effects.specs.machine.Acting as acting
 use Rattle.page_roff_effects.specs.machine.Acting.{Acting, with_number, with_arguments, acting_effects, measured}
 use Rattle.page_roff_effects.specs.machine.Effects.{in_front}
 use Rattle.page_roff_stack.specs.machine.Changes.{page_line}
-use Rattle.page_roff_effects.specs.States.{Memory, State, Given, says}
+use Rattle.page_roff_effects.specs.States.{Memory, Given, says}
+use Rattle.page_roff_effects.specs.laws.Views.{State}
 use Rattle.page_roff_values.specs.machine.Views.{units_of_bytes}
 use Rattle.page_roff_effects.proofs.GivenLemmas.{is_front}
 use Rattle.page_roff_stack.specs.declared.next.Next.{Next}

@@ -5,14 +5,15 @@ use Rattle.std.proofs.lemmas.List.{append-nil}
 use Rattle.page_core_base.specs.Messages.{Message}
 use Rattle.page_core_base.specs.declared.page_settings.Output.{Output}
 use Rattle.page_roff_blocks.specs.machine.Run.{At}
-use Rattle.page_core_base.specs.Latches.{Came}
-use Rattle.page_roff_blocks.specs.Levels.{outside, at_line, after_part}
-use Rattle.page_roff_values.specs.Arguments.{arguments_in}
+use Rattle.page_core_base.specs.laws.Views.{Came}
+use Rattle.page_roff_blocks.specs.Forest.{outside}
+use Rattle.page_roff_blocks.specs.laws.Views.{at_line, after_part}
+use Rattle.page_roff_values.specs.Values.{arguments_in}
 use Rattle.page_roff_blocks.specs.machine.Languages.{body, finish_at}
 use Rattle.page_roff_blocks.specs.machine.Machine.{next, next_in, source_next, body_next, entered, at_part}
 use Rattle.page_roff_effects.specs.machine.Acting.{acting_effects, measured}
 use Rattle.page_roff_effects.specs.declared.commands.ProductKind.TheVariants as kinds
-use Rattle.page_roff_effects.specs.RegionLines.{finish_outcome}
+use Rattle.page_roff_effects.specs.Regions.{finish_outcome}
 use Rattle.page_roff_stack.specs.machine.Changes.{past}
 use Rattle.page_roff_machine.specs.declared.budgeted_actions.BudgetedActions.{BudgetedActions}
 use Rattle.page_roff_machine.specs.declared.acts.Act.TheVariants as acts
@@ -23,7 +24,8 @@ use Rattle.page_roff_blocks.specs.machine.Fronts.{over}
 use Rattle.page_roff_blocks.proofs.MeasureLemmas.{next_falls}
 use Rattle.page_roff_blocks.proofs.OnLineLemmas.{first_falls}
 use Rattle.page_roff_effects.specs.machine.Effects.{effects, in_front}
-use Rattle.page_roff_effects.specs.States.{State, Given, says, takes}
+use Rattle.page_roff_effects.specs.laws.Views.{State}
+use Rattle.page_roff_effects.specs.States.{Given, says, takes}
 use Rattle.page_roff_stack.specs.declared.next.Next.TheVariants.{Nothing}
 use Rattle.page_roff_stack.specs.machine.Stacks.{Stack, running, with_top, call_of, next_of, is_nothing, step_in}
 use Rattle.page_roff_machine.specs.declared.acts.Act.{Act}

@@ -1,6 +1,6 @@
 -- What a source line gives, from one line for the set of macros to the next. Source: roff(7), "LANGUAGE SYNTAX".
 use Rattle.std.specs.Prelude.{List, [], ◌∷◌, Option, Some, None}
-use Rattle.page_core_base.specs.LinesTaken.{Line}
+use Rattle.page_core_base.specs.Texts.{Line}
 use Rattle.page_core_base.specs.Messages.{Message}
 use Rattle.page_roff_effects.specs.States.{Given, says, takes}
 

@@ -2,13 +2,9 @@
 
 ghost use Rattle.std.specs.Prelude.{◌≡◌, ◌≤◌, ◌<◌, ◌^◌, ◌&&◌, true, false, not, length};
 ghost use Rattle.page_core_base.specs.declared.limits.TheConstants.{LINE};
-ghost use Rattle.page_roff_blocks.specs.LineParts.{branch_view, loop_head_view, FitsBranch};
-ghost use Rattle.page_roff_syntax.specs.RegionHeads.{region_view};
-ghost use Rattle.page_roff_syntax.specs.OpenRegions.{opened_view};
-ghost use Rattle.page_roff_machine.specs.machine.Doing.{Does, Answers, Makes, IsAt, IsIn, HasRoom, state_after, line_after, done_as};
-ghost use Rattle.page_roff_machine.specs.machine.Doing.{charged_in, begun_in, met_in, value_in, answer_in, region_in, leaf_in};
-ghost use Rattle.page_roff_machine.specs.machine.Doing.{opened_in, closed_in, passed_in, kept_in, collected_in, turned_in};
-ghost use Rattle.page_roff_machine.specs.machine.Doing.{read_in, read_kept_in, ended_in, ended_kept_in, unopened_in, finished_in};
+ghost use Rattle.page_roff_blocks.specs.laws.Views.{branch_view, loop_head_view, FitsBranch};
+ghost use Rattle.page_roff_syntax.specs.laws.Views.{region_view, opened_view};
+ghost use Rattle.page_roff_machine.specs.machine.Doing.{Does, Answers, Makes, IsAt, IsIn, HasRoom, state_after, line_after, done_as, charged_in, begun_in, met_in, value_in, answer_in, region_in, leaf_in, opened_in, closed_in, passed_in, kept_in, collected_in, turned_in, read_in, read_kept_in, ended_in, ended_kept_in, unopened_in, finished_in};
 ghost use Rattle.page_roff_effects.specs.machine.Acting.{IfCalled, IsCallable, IfRepeated, IsRepeatable};
 ghost use Rattle.page_roff_effects.specs.declared.commands.ProductKind.TheVariants as kinds;
 

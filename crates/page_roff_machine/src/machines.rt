@@ -1,12 +1,11 @@
 //! The machine that runs the lines of a page (roff(7), "LANGUAGE SYNTAX"): its macros, conditionals, loops and regions.
 
 ghost use Rattle.std.specs.Prelude.{◌≡◌, ◌+◌, ◌*◌, ◌<◌, ◌≤◌, ◌^◌, true, IfOk, length, sum_by};
-ghost use Rattle.page_core_base.specs.LinesTaken.{line_view};
-ghost use Rattle.page_core_base.specs.Texts.{IsLine, IsFreeLine};
+ghost use Rattle.page_core_base.specs.laws.Views.{line_view, IsFreeLine, Came};
+ghost use Rattle.page_core_base.specs.Texts.{IsLine};
 ghost use Rattle.page_core_base.specs.declared.limits.TheConstants.{ARGS, BODY, CALLS, LINE};
-ghost use Rattle.page_roff_blocks.specs.Caps.{PlaceFits};
-ghost use Rattle.page_core_base.specs.Latches.{Came};
-ghost use Rattle.page_roff_effects.specs.Caps.{MemoryFits};
+ghost use Rattle.page_roff_blocks.specs.laws.Views.{PlaceFits};
+ghost use Rattle.page_roff_effects.specs.laws.Views.{MemoryFits};
 ghost use Rattle.page_roff_machine.specs.machine.Machines.{Advances, BeginsOrTakes, IsNew, Resumes, is_idle, end_memory, end_notes, place_of};
 ghost use Rattle.page_roff_machine.specs.machine.Moving.{IsPassed};
 

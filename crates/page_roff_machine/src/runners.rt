@@ -1,16 +1,16 @@
 //! The steps of the machine: what comes next is done, and the input stack moves on.
 
 ghost use Rattle.std.specs.Prelude.{◌≡◌, ◌≤◌, ◌^◌, true, false, None, length};
-ghost use Rattle.page_core_base.specs.Texts.{IsLine, IsFreeLine};
+ghost use Rattle.page_core_base.specs.Texts.{IsLine};
+ghost use Rattle.page_core_base.specs.laws.Views.{IsFreeLine};
 ghost use Rattle.page_core_base.specs.declared.limits.TheConstants.{ARGS};
-ghost use Rattle.page_roff_blocks.specs.Levels as levels;
+ghost use Rattle.page_roff_blocks.specs.laws.Views as levels;
 ghost use Rattle.page_roff_effects.specs.declared.commands.ProductKind.TheVariants as kinds;
 ghost use Rattle.page_roff_effects.specs.machine.Acting.{IsCallable};
 ghost use Rattle.page_roff_stack.specs.machine.Stacks.{next_of, part_in, is_part, is_line, may_end, is_nothing};
 ghost use Rattle.page_roff_machine.specs.machine.Doing.{IsIn};
 ghost use Rattle.page_roff_machine.specs.machine.Machines.{Advances};
-ghost use Rattle.page_roff_machine.specs.machine.Moving.{Collects, Decides, Moves, Closes, Shifts, Repeats, Suits, CanBegin};
-ghost use Rattle.page_roff_machine.specs.machine.Moving.{called, passes_block, progress_as, way_after, with_arguments_of};
+ghost use Rattle.page_roff_machine.specs.machine.Moving.{Collects, Decides, Moves, Closes, Shifts, Repeats, Suits, CanBegin, called, passes_block, progress_as, way_after, with_arguments_of};
 ghost use Rattle.page_roff_machine.specs.machine.AtOnce.{Enters, IsOutside, TakesAtOnceIf};
 ghost use Rattle.page_roff_machine.specs.machine.Stepping.{IsSound, IsMeasured, Steps, StepsOn, machine_of};
 

@@ -14,9 +14,8 @@ use Rattle.page_core_base.specs.declared.limits.TheConstants.{BODY}
 use Rattle.page_core_base.specs.declared.limits.Limit.{Limit}
 use Rattle.page_roff_names.specs.declared.changes.OtherSet.{OtherSet}
 use Rattle.page_roff_names.specs.declared.rows.Meaning.{Meaning}
-use Rattle.page_roff_names.specs.Caps.{EntryFits, EntriesFit, DefinitionsFit}
-use Rattle.page_roff_names.specs.Entries.{Entries, Definition, definition, size, name_at, definition_at, value_at}
-use Rattle.page_roff_names.specs.Names.{Definitions, definitions, with_text, Defines, by_bytes, first_passed, look, put, without}
+use Rattle.page_roff_names.specs.laws.Views.{EntryFits, EntriesFit, DefinitionsFit, name_at, definition_at, value_at, Defines}
+use Rattle.page_roff_names.specs.Names.{Entries, Definition, definition, size, Definitions, definitions, with_text, by_bytes, first_passed, look, put, without}
 use Rattle.page_roff_names.specs.machine.Changes.{refusal_beside, Settles, RenamesBeside, IsKept, IsStore, IsBelow, IsAbove}
 use Rattle.page_roff_names.proofs.Laid.{length-remove, size-remove, length-insert, size-insert}
 use Rattle.page_roff_names.proofs.Search.{same_name, look_hit, put_hit, without_hit, look_miss, put_miss}

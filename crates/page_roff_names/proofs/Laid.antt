@@ -3,7 +3,8 @@ use Rattle.std.proofs.Common.{◌≡◌, ℕ, zero, suc, ◌+◌, ◌<◌, ◌�
 use Rattle.std.proofs.lemmas.List.{take_at, drop_at, drop-drop}
 use Rattle.std.specs.List.{insert, remove}
 use Rattle.page_roff_names.specs.declared.rows.Span.{Span}
-use Rattle.page_roff_names.specs.Entries.{Entries, Definition, definition, size, name_at, definition_at, value_at, meaning_at, with_meaning}
+use Rattle.page_roff_names.specs.Names.{Entries, Definition, definition, size}
+use Rattle.page_roff_names.specs.laws.Views.{name_at, definition_at, value_at, meaning_at, with_meaning}
 use Rattle.page_roff_names.specs.declared.rows.Meaning.{Meaning}
 use Rattle.page_core_base.specs.declared.limits.TheConstants.{DEFS, NAMES}
 use Rattle.page_roff_names.specs.machine.Layout.{flat, layout, cut, extent, relaid, marked, IsLaid}

@@ -8,8 +8,8 @@ use Rattle.std.specs.FinMap.{is_sorted, slice_cmp-IsAntisymmetric, nat_cmp-IsAnt
 use Rattle.std.specs.FinMap.Entries.{below_all, by_order}
 use Rattle.std.specs.List.{insert, remove}
 use Rattle.std.proofs.lemmas.Cmp.{nat_list_cmp_total}
-use Rattle.page_roff_names.specs.Entries.{Entries, Definition, name_at, definition_at}
-use Rattle.page_roff_names.specs.Names.{by_bytes, look, put, without}
+use Rattle.page_roff_names.specs.Names.{Entries, Definition, by_bytes, look, put, without}
+use Rattle.page_roff_names.specs.laws.Views.{name_at, definition_at}
 use Rattle.page_roff_names.specs.machine.Changes.{IsBelow, IsAbove}
 
 and_left : (a b : Bool) → T (a && b) → T a

@@ -1,5 +1,3 @@
-pub mod Caps
-pub mod Entries
 pub mod Names
-pub mod Predefined
+pub mod laws
 pub mod machine

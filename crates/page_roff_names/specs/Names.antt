@@ -1,23 +1,52 @@
--- Strings and macros by name, number registers by name, and which definitions are refused.
--- Source: roff(7), "MACRO SYNTAX", "ds", "as", "de", "am", "rm", "rn", "nr", "rr".
-use Rattle.std.specs.Prelude.{◌≡◌, ℕ, ◌+◌, ℤ, nat_lt, cond, not, List, [], length, MatchOption, MatchResult}
-use Rattle.std.specs.Borrow.{Bor}
-use Rattle.std.specs.declared.option.Option.{Option}
-use Rattle.std.specs.declared.option.Option.TheVariants.{Some, None}
-use Rattle.std.specs.declared.result.Result.{Result}
-use Rattle.std.specs.declared.result.Result.TheVariants.{Ok}
-use Rattle.std.specs.declared.cmp.Ordering.{Ordering}
-use Rattle.std.specs.Ordering.{nat_cmp, eq_by_cmp}
+-- Strings and macros by name, number registers by name, and which definitions are refused. Source: roff(7), `ds`, `de`, `nr`.
 use Rattle.std.specs.Cmp.Lexicographic.{slice_cmp}
 use Rattle.std.specs.FinMap.{find as find_entry, put as put_entry}
 use Rattle.std.specs.FinMap.Entries.{where_key}
+use Rattle.std.specs.Ordering.{nat_cmp, eq_by_cmp}
+use Rattle.std.specs.Prelude.{ℕ, List, ◌+◌, [], ◌∷◌, length, codes, Option, option_map, find, not, ℤ, nat_lt, cond}
+use Rattle.std.specs.Str.{bytes_eq}
+use Rattle.std.specs.declared.cmp.Ordering.{Ordering}
+use Rattle.std.specs.declared.option.Option.TheVariants.{Some, None}
 use Rattle.page_core_base.specs.Limits.{BODY, DEFS, NAME, NAMES}
 use Rattle.page_core_base.specs.declared.limits.Limit.{Limit}
 use Rattle.page_core_base.specs.declared.limits.Limit.TheVariants.{Name, Names, Body, Defs}
 use Rattle.page_roff_names.specs.declared.rows.Meaning.{Meaning}
 use Rattle.page_roff_names.specs.declared.rows.Meaning.TheVariants.{String, Macro, Register}
-use Rattle.page_roff_names.specs.Entries.{Definition, Entries, definition, size}
-use Rattle.page_roff_names.specs.Predefined.{predefined}
+
+-- ---- What names stand for, as a list of entries. Source: roff(7), "ds", "de", "nr".
+
+-- what a name stands for: a string or a macro with its value, or a number register
+pub record Definition : Type 0 where
+  pub meaning : Meaning
+  pub value : List ℕ
+
+abbrev pub definition : Meaning → List ℕ → Definition
+definition the_meaning the_value = record { meaning = the_meaning; value = the_value }
+
+-- a name and its definition, for each name
+abbrev pub Entries : Type 0
+Entries = List (List ℕ × Definition)
+
+-- the bytes of all names and values
+abbrev pub size : Entries → ℕ
+size [] = 0
+size (e ∷ es) = length e.0 + length e.1.value + size es
+
+-- ---- The strings that are there before any is defined. Source: roff(7), "PREDEFINED STRINGS".
+
+abbrev pub predefined_strings : List (List ℕ × List ℕ)
+predefined_strings =
+    (codes "R", codes "\\(rg") ∷ (codes "Tm", codes "(Tm)") ∷ (codes "S", [])
+    ∷ (codes "lq", codes "\\(lq") ∷ (codes "rq", codes "\\(rq") ∷ (codes "q", codes "\\(dq")
+    ∷ (codes "Ba", codes "|") ∷ (codes "Am", codes "&") ∷ (codes "Lt", codes "<") ∷ (codes "Gt", codes ">")
+    ∷ (codes "Ne", codes "\\(!=") ∷ (codes "Le", codes "\\(<=") ∷ (codes "Ge", codes "\\(>=")
+    ∷ (codes "Pm", codes "\\(+-") ∷ []
+
+unfoldable pub predefined : List ℕ → Option (List ℕ)
+predefined name = option_map (λ row. row.1) (find (λ row. bytes_eq name row.0) predefined_strings)
+
+-- ---- Strings and macros by name, number registers by name, and which definitions are refused.
+-- Source: roff(7), "MACRO SYNTAX", "ds", "as", "de", "am", "rm", "rn", "nr", "rr".
 
 -- names in the order of their bytes
 abbrev pub by_bytes : List ℕ → List ℕ → Ordering
@@ -68,10 +97,6 @@ abbrev pub number_or_none : Option Definition → Option ℤ
 number_or_none None = None
 number_or_none (Some d) = number_in d.meaning
 
--- what is lent is this
-abbrev pub Lends : Option (Bor (List ℕ)) → Option (List ℕ) → Type 0
-Lends lent wanted = MatchOption lent (wanted ≡ None) (λ value. wanted ≡ Some value.now)
-
 -- the string of a name; a predefined one is there while no definition hides it
 abbrev pub string_of : List ℕ → Definitions → Option (List ℕ)
 string_of name d = string_or (predefined name) (look name d.texts)
@@ -109,22 +134,3 @@ abbrev pub refusal : List ℕ → List ℕ → Definitions → Option Limit
 refusal name value d =
     first_passed (length name) (length d.texts + length d.registers)
     (length value) (size d.texts + size d.registers)
-
--- all is as wanted, or else a limit is named and all is as it was
-abbrev pub Defines :
-    List ℕ → List ℕ → Definitions → Definitions → Result (Unit {0}) Limit → Definitions → Type 0
-Defines name value wanted old result new = MatchResult result
-    (λ _. (refusal name value wanted ≡ None) × (new ≡ wanted))
-    (λ limit. (refusal name value wanted ≡ Some limit) × (new ≡ old))
-
--- a string or a macro with this value is defined, or a limit is named
-abbrev pub DefinesText :
-    Meaning → List ℕ → List ℕ → Definitions → Result (Unit {0}) Limit → Definitions → Type 0
-DefinesText meaning name value old result new =
-    Defines name value (with_text name (definition meaning value) old) old result new
-
--- roff(7), "rn": a name without a definition is passed over
-abbrev pub Renames : List ℕ → List ℕ → Definitions → Result (Unit {0}) Limit → Definitions → Type 0
-Renames old_name name old result new = MatchOption (look old_name old.texts)
-    ((result ≡ Ok tt) × (new ≡ old))
-    (λ d. Defines name d.value (with_text name d (without_text old_name old)) old result new)

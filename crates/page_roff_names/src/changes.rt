@@ -4,13 +4,9 @@ ghost use Rattle.std.specs.Prelude.{IsTrue, MatchOption, MatchResult, Some, None
 ghost use Rattle.std.specs.FinMap.{is_sorted};
 ghost use Rattle.std.specs.List.{insert, remove};
 ghost use Rattle.std.specs.Vec.{vec_capacity};
-ghost use Rattle.page_roff_names.specs.Caps.{EntriesFit};
-ghost use Rattle.page_roff_names.specs.Entries.{Definition, definition, size, name_at, definition_at};
-ghost use Rattle.page_roff_names.specs.Predefined.{predefined};
-ghost use Rattle.page_roff_names.specs.Names.{by_bytes, look, put, without, string_or, body_or_none};
-ghost use Rattle.page_roff_names.specs.Names.{first_passed, Lends};
-ghost use Rattle.page_roff_names.specs.machine.Changes.{refusal_beside, Settles, RenamesBeside, IsKept};
-ghost use Rattle.page_roff_names.specs.machine.Changes.{FoundAt, MissingAt, StandsAt};
+ghost use Rattle.page_roff_names.specs.laws.Views.{EntriesFit, name_at, definition_at, Lends};
+ghost use Rattle.page_roff_names.specs.Names.{Definition, definition, size, predefined, by_bytes, look, put, without, string_or, body_or_none, first_passed};
+ghost use Rattle.page_roff_names.specs.machine.Changes.{refusal_beside, Settles, RenamesBeside, IsKept, FoundAt, MissingAt, StandsAt};
 
 use crate::predefined::predefined;
 use crate::rows::{Meaning, Row};

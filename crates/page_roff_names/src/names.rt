@@ -1,9 +1,7 @@
 //! The names of a page: its strings and macros, and its number registers.
 ghost use Rattle.std.specs.Prelude.{◌≡◌, [], ◌++◌, IfOk, length, option_map, unwrap_or};
-ghost use Rattle.page_roff_names.specs.Caps.{DefinitionsFit};
-ghost use Rattle.page_roff_names.specs.Names.{Definitions, definitions, string_of, body_of, number_of};
-ghost use Rattle.page_roff_names.specs.Names.{without_text, with_register, without_register};
-ghost use Rattle.page_roff_names.specs.Names.{Lends, Defines, DefinesText, Renames};
+ghost use Rattle.page_roff_names.specs.laws.Views.{DefinitionsFit, Lends, Defines, DefinesText, Renames};
+ghost use Rattle.page_roff_names.specs.Names.{Definitions, definitions, string_of, body_of, number_of, without_text, with_register, without_register};
 
 use crate::changes::{
     body, body_so_far, copy, find, find_near, others, rename, settle, settle_longer, string,

@@ -1,11 +1,11 @@
 //! The strings that are there before any is defined (roff(7)).
 
 ghost use Rattle.std.specs.Prelude.{◌≤◌, length, MatchOption};
-ghost use Rattle.page_roff_names.specs.Predefined.{predefined};
-ghost use Rattle.page_roff_names.specs.Names.{Lends};
+ghost use Rattle.page_roff_names.specs.Names.{predefined};
+ghost use Rattle.page_roff_names.specs.laws.Views.{Lends};
 
 /// The value of a predefined string.
-#[tactic(auto, unfolding(crate::specs::Predefined::predefined))]
+#[tactic(auto, unfolding(crate::specs::Names::predefined))]
 pub(crate) fn predefined(name: &[u8]) -> Option<&'static [u8]>
     ensures is { Lends result (predefined name.now) }
     ensures short { MatchOption result (Unit {0}) (λ value. length value.now ≤ 4) }

@@ -3,7 +3,8 @@ ghost use Rattle.std.specs.Prelude.{◌≡◌, ◌+◌, ◌<◌, ◌≤◌, ◌^
 ghost use Rattle.std.specs.Prelude.{[], ◌++◌, length, take, drop};
 ghost use Rattle.std.specs.List.{insert, remove};
 ghost use Rattle.std.specs.Vec.{vec_len, vec_capacity};
-ghost use Rattle.page_roff_names.specs.Entries.{Entries, size, name_at, definition_at, definition, with_meaning};
+ghost use Rattle.page_roff_names.specs.Names.{Entries, size, definition};
+ghost use Rattle.page_roff_names.specs.laws.Views.{name_at, definition_at, with_meaning};
 ghost use Rattle.page_roff_names.specs.machine.Layout.{extent, layout, relaid, marked};
 
 use page_core_base::{DEFS, NAMES, append};
@@ -36,7 +37,7 @@ pub struct Row {
 
 impl Model for Row {
     ghost use Rattle.std.specs.Vec.{vec_capacity};
-    ghost use Rattle.page_roff_names.specs.Entries.{Entries};
+    ghost use Rattle.page_roff_names.specs.Names.{Entries};
     ghost use Rattle.page_roff_names.specs.machine.Layout.{cut, IsLaid};
 
     ghost Value = { Entries };

@@ -5,7 +5,8 @@ use Rattle.memchr.specs.Find.{IsFirstByte, is_byte}
 use Rattle.page_roff_syntax.specs.Delimiters.{begins_pair, character_len}
 use Rattle.page_roff_parts.specs.declared.parts.Call.{Call}
 use Rattle.page_roff_parts.specs.declared.parts.Call.TheVariants.{String, Register, Argument, Width}
-use Rattle.page_roff_parts.specs.Parts.{CutText, SeenText, copies, calls, cut, two_characters, bracketed, name_cut, content_len, delimited, width_cut, plain, after_plain, argument_call, call_cut, pair, is_doubled, escape, begins_escape, seen, parts_up_to, parts}
+use Rattle.page_roff_parts.specs.Parts.{CutText, SeenText, copies, calls, cut, two_characters, bracketed, name_cut, content_len, delimited, width_cut, plain, after_plain, argument_call, call_cut, pair, is_doubled, escape, seen, parts_up_to, parts}
+use Rattle.page_roff_parts.specs.laws.Views.{begins_escape}
 
 -- ---- copies
 

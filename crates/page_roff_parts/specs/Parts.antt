@@ -1,10 +1,9 @@
 -- What a text is made of: bytes that are copied, and interpolations. Source: roff(7), "Escape sequences", `\*`, `\n`, `\$`, `\w`,
 -- and on copy mode.
-use Rattle.std.specs.Prelude.{ℕ, zero, suc, ◌+◌, Bool, false, not, ◌==◌, nat_lt, ◌&&◌, List, [], ◌∷◌, length, take, drop, position}
-use Rattle.std.specs.Prelude.{Option, Some, None, option_map, unwrap_or, if◌then◌else◌}
-use Rattle.page_roff_syntax.specs.Delimiters.{begins_pair, character_len, place_of}
+use Rattle.std.specs.Prelude.{ℕ, List, ◌+◌, take, drop, ◌==◌, Option, Some, None, if◌then◌else◌, position, option_map, [], ◌∷◌, nat_lt, length, Bool, not, ◌&&◌, unwrap_or, zero, suc}
+use Rattle.page_roff_syntax.specs.Delimiters.{character_len, place_of, begins_pair}
 use Rattle.page_roff_parts.specs.declared.parts.Call.{Call}
-use Rattle.page_roff_parts.specs.declared.parts.Call.TheVariants.{String, Register, Argument, Width}
+use Rattle.page_roff_parts.specs.declared.parts.Call.TheVariants.{Argument, String, Register, Width}
 use Rattle.page_roff_parts.specs.declared.parts.Part.{Part}
 use Rattle.page_roff_parts.specs.declared.parts.Part.TheVariants.{Copied, Called}
 
@@ -97,10 +96,6 @@ escape copy [] = copies (92 ∷ []) []
 escape copy (letter ∷ bs) =
     if is_doubled copy letter then copies (92 ∷ []) bs
     else unwrap_or (call_cut copy letter bs) (pair (letter ∷ bs))
-
-abbrev pub begins_escape : List ℕ → Bool
-begins_escape [] = false
-begins_escape (b ∷ bs) = b == 92
 
 unfoldable pub seen : Bool → List ℕ → SeenText
 seen copy [] = copies [] []

@@ -5,7 +5,7 @@ ghost use Rattle.page_roff_parts.specs.declared.known_fronts.TheConstants.{COUNT
 ghost use Rattle.page_roff_parts.specs.machine.Brackets as brackets;
 ghost use Rattle.page_roff_parts.specs.machine.Fronts.{IsFront};
 ghost use Rattle.page_roff_parts.specs.machine.Known.{AreFronts, AreKnown, IsKnown, StayBefore};
-ghost use Rattle.page_roff_parts.specs.Parts.{begins_escape};
+ghost use Rattle.page_roff_parts.specs.laws.Views.{begins_escape};
 ghost use Rattle.page_roff_syntax.specs.machine.Closed.{AreMarked};
 ghost use Rattle.page_roff_syntax.specs.declared.closed_widths.TheConstants.{MET_WORDS};
 

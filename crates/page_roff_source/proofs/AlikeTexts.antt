@@ -2,7 +2,7 @@
 use Rattle.std.proofs.Common.{◌≡◌, ℕ, ◌==◌, is_some, Bool, true, false, List, length, if◌then◌else◌, refl, ap}
 use Rattle.page_core_base.specs.Texts.{IsLine}
 use Rattle.page_core_base.specs.declared.lines_taken.Form.TheVariants as forms
-use Rattle.page_roff_syntax.specs.OpenRegions.{Opened}
+use Rattle.page_roff_syntax.specs.Regions.{Opened}
 use Rattle.page_roff_blocks.specs.machine.Run.{At}
 use Rattle.page_roff_effects.proofs.AlikeLemmas.{condition_alike}
 use Rattle.page_roff_syntax.specs.LineForms.{form_of}
@@ -18,12 +18,11 @@ use Rattle.page_roff_values.proofs.AlikeLemmas.{value_alike}
 use Rattle.page_roff_blocks.specs.machine.Budgets.{Budgeted, language}
 use Rattle.page_roff_blocks.specs.machine.Languages.{Kind, run_page}
 use Rattle.page_roff_blocks.proofs.SameEffects.{SameEffects, page_same}
-use Rattle.page_roff_effects.specs.Commands.{command_of, copies}
-use Rattle.page_roff_effects.specs.Effects.{answer_of}
+use Rattle.page_roff_effects.specs.Lines.{command_of, copies, ControlLine, after_expansion, does, command_outcome, control_line, control_outcome, form_outcome, leaf_outcome}
+use Rattle.page_roff_effects.specs.States.{answer_of, Memory, surroundings, gives_line, nothing}
 use Rattle.page_roff_effects.specs.machine.Effects.{effects, setting_of, tested_after, done_after}
-use Rattle.page_roff_effects.specs.Leaves.{ControlLine, after_expansion, does, command_outcome, control_line, control_outcome, form_outcome, leaf_outcome}
-use Rattle.page_roff_effects.specs.RegionLines.{longer, body_outcome, kind_outcome, line_outcome}
-use Rattle.page_roff_effects.specs.States.{Memory, State, surroundings, gives_line, nothing, after}
+use Rattle.page_roff_effects.specs.Regions.{longer, body_outcome, kind_outcome, line_outcome}
+use Rattle.page_roff_effects.specs.laws.Views.{State, after}
 use Rattle.page_roff_source.specs.machine.Texts.{AreLines, HoldsTexts}
 use Rattle.page_roff_source.proofs.LinePartTexts.{line_leaves, loop_texts, line_tests}
 use Rattle.page_roff_source.proofs.BodyTexts.{such}

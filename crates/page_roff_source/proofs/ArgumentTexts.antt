@@ -12,7 +12,7 @@ use Rattle.page_roff_syntax.specs.declared.quotes.Argument.{Argument}
 use Rattle.page_roff_syntax.specs.declared.quotes.Quoting.TheVariants.{Closed, Unclosed}
 use Rattle.page_roff_values.specs.machine.Texts.{IsText}
 use Rattle.page_roff_values.proofs.PlainTexts.{text_append, text_cut, text_after}
-use Rattle.page_roff_definitions.specs.Arguments.{closing_len, end_of, after_blanks, without_quote, value_after}
+use Rattle.page_roff_definitions.specs.Definitions.{closing_len, end_of, after_blanks, without_quote, value_after}
 use Rattle.page_roff_source.proofs.Cuts.{CutsAt, end_cut, past_ascii, IsStop, stop_cut, stop_later, stop_start, after_ascii, prefix_cut, byte_low, blank_low}
 
 -- ---- where an argument ends

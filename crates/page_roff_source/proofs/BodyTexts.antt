@@ -4,11 +4,11 @@ use Rattle.std.proofs.lemmas.Bool.{and_parts, eqb-true}
 use Rattle.page_core_base.specs.Texts.{IsLine, is_no_control, has_no_control}
 use Rattle.page_roff_syntax.specs.declared.quotes.Argument.{Argument}
 use Rattle.page_roff_blocks.proofs.KeepLemmas.{AreSuch}
-use Rattle.page_roff_values.specs.Arguments.{arguments_in, lines_in}
+use Rattle.page_roff_values.specs.Values.{arguments_in, lines_in}
 use Rattle.page_roff_values.specs.machine.Texts.{AreTexts}
-use Rattle.page_roff_definitions.specs.Calls.{with_line, packed}
+use Rattle.page_roff_definitions.specs.Definitions.{with_line, packed}
 use Rattle.page_roff_syntax.specs.Arguments.{argument_value}
-use Rattle.page_roff_effects.specs.LoopLines.{first_line, condition_in, body_in}
+use Rattle.page_roff_effects.specs.Regions.{first_line, condition_in, body_in}
 use Rattle.page_roff_source.specs.machine.Texts.{ended, AreLines, IsBody, IsPacked}
 use Rattle.page_roff_source.proofs.ArgumentTexts.{AreArguments, argument_text}
 use Rattle.page_roff_source.proofs.Cuts.{nil_line}

@@ -6,11 +6,9 @@ use Rattle.page_core_base.specs.Texts.{IsLine}
 use Rattle.page_roff_effects.proofs.AlikeLemmas.{HasTexts}
 use Rattle.page_roff_syntax.specs.LineForms.{without_comment}
 use Rattle.page_roff_heads.specs.declared.conditions.Condition.{Condition}
-use Rattle.page_roff_heads.specs.Conditions.{is_among, is_letter, begins_expression, kind_of, second_of, has_both, texts_after, texts_at, read_kind, read_test, turn_len, condition_of}
-use Rattle.page_roff_heads.specs.Expressions.{expression_len}
+use Rattle.page_roff_heads.specs.Conditions.{is_among, is_letter, begins_expression, kind_of, second_of, has_both, texts_after, texts_at, read_kind, read_test, turn_len, condition_of, expression_len, blank_len, after_blanks}
 use Rattle.page_roff_syntax.specs.Delimiters.{character_len, delimiter_of, place_of}
 use Rattle.page_roff_heads.specs.Heads.{conditional_of}
-use Rattle.page_roff_heads.specs.Texts.{blank_len, after_blanks}
 use Rattle.page_roff_values.specs.machine.Texts.{IsText}
 use Rattle.page_roff_values.proofs.PartTexts.{taken}
 use Rattle.page_roff_values.proofs.PlainTexts.{text_cut}

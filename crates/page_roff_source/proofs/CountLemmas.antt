@@ -2,26 +2,24 @@
 use Rattle.std.proofs.Common.{◌≡◌, ℕ, ◌+◌, ◌*◌, ◌≤◌, Bool, true, false, List, [], ◌∷◌, ◌++◌, length, map, Option, Some, None, refl, ap, ◌∙◌, append-nil, arith}
 use Rattle.page_core_base.specs.Messages.{Message}
 use Rattle.page_roff_heads.specs.declared.conditions.Condition.{Condition}
-use Rattle.page_roff_syntax.specs.OpenRegions.{Opened}
+use Rattle.page_roff_syntax.specs.Regions.{Opened}
 use Rattle.page_core_base.specs.declared.limits.TheConstants.{EXPAND, REREAD}
 use Rattle.page_roff_values.specs.Values.{units_of}
 use Rattle.page_roff_blocks.specs.machine.Languages.{Kind, state_of}
-use Rattle.page_roff_blocks.specs.Spent.{Spends}
+use Rattle.page_roff_blocks.specs.laws.Spent.{Spends}
 use Rattle.page_roff_blocks.proofs.BudgetLemmas.{page_line_bound}
 use Rattle.page_roff_blocks.proofs.SpendLemmas.{page_spends}
-use Rattle.page_roff_effects.specs.Effects.{answer_of, test_outcome, budget_outcome, block_outcome, end_of_block_outcome}
+use Rattle.page_roff_effects.specs.States.{answer_of, test_outcome, budget_outcome, block_outcome, end_of_block_outcome, Given, says, takes, Memory, Outcome, Product, no_product, line_product, call_product, loop_product, lines_of, with_body}
 use Rattle.page_roff_effects.specs.machine.Effects.{effects, turn_answer, expansions_of, tested_after, done_by, done_after, setting_of}
-use Rattle.page_roff_effects.specs.Leaves.{leaf_outcome}
-use Rattle.page_roff_effects.specs.LoopLines.{loop_outcome, collect_outcome, repeats_if, repeats_text, close_outcome}
-use Rattle.page_roff_effects.specs.RegionLines.{head_outcome, line_outcome, end_outcome, finish_outcome}
-use Rattle.page_roff_effects.specs.States.{Given, says, takes, State, Memory, Outcome, Product, no_product, line_product, call_product, loop_product, lines_of, after, with_body}
+use Rattle.page_roff_effects.specs.Lines.{leaf_outcome}
+use Rattle.page_roff_effects.specs.Regions.{loop_outcome, collect_outcome, repeats_if, repeats_text, close_outcome, head_outcome, line_outcome, end_outcome, finish_outcome}
+use Rattle.page_roff_effects.specs.laws.Views.{State, after}
 use Rattle.page_roff_effects.proofs.CountLemmas.{spends}
 use Rattle.page_roff_machine.proofs.DoingLemmas.{head_plain, end_plain, finish_plain, loop_plain, collect_plain}
-use Rattle.page_roff_source.specs.Edges.{Edge, SourceLine, line_count}
+use Rattle.page_roff_source.specs.Runs.{Edge, SourceLine, given, done}
+use Rattle.page_roff_source.specs.laws.Views.{line_count, EachIsWithin}
 use Rattle.page_roff_source.specs.machine.Taking.{before_line, run_line, line_given, line_done}
-use Rattle.page_roff_source.specs.Given.{given, done}
 use Rattle.page_roff_source.specs.machine.LineByLine.{lines_given, lines_done}
-use Rattle.page_roff_source.specs.Each.{EachIsWithin}
 use Rattle.page_roff_source.proofs.LineLemmas.{given-by_line, done-idle, one_done}
 
 count-append : (xs ys : List Given) → line_count (xs ++ ys) ≡ line_count xs + line_count ys

@@ -1,9 +1,8 @@
 -- A page that is cut between two lines: helpers of proofs.
 use Rattle.std.proofs.Common.{◌≡◌, List, [], ◌∷◌, ◌++◌, map, refl, ap, sym, ◌∙◌, append_assoc}
 use Rattle.page_roff_effects.specs.States.{Given, says}
-use Rattle.page_roff_source.specs.Edges.{Edge, SourceLine}
+use Rattle.page_roff_source.specs.Runs.{Edge, SourceLine, run_all, given, done}
 use Rattle.page_roff_source.specs.machine.Taking.{line_given, line_done}
-use Rattle.page_roff_source.specs.Given.{run_all, given, done}
 use Rattle.page_roff_source.specs.machine.LineByLine.{lines_given, lines_done}
 use Rattle.page_roff_source.proofs.LineLemmas.{given-by_line, done-idle, idle}
 

@@ -14,16 +14,13 @@ use Rattle.page_roff_syntax.specs.Arguments.{argument_name, arguments}
 use Rattle.page_roff_syntax.specs.declared.quotes.Argument.{Argument}
 use Rattle.page_roff_names.specs.declared.rows.Meaning.{Meaning}
 use Rattle.page_roff_names.specs.declared.rows.Meaning.TheVariants.{String, Macro, Register}
-use Rattle.page_roff_names.specs.Entries.{Definition, Entries, definition}
-use Rattle.page_roff_names.specs.Names.{Definitions, by_bytes, look, put, without, string_in, body_in, string_or, body_or_none, string_of, body_of, with_text, without_text, with_register, refusal}
-use Rattle.page_roff_names.specs.Predefined.{predefined_strings, predefined}
+use Rattle.page_roff_names.specs.Names.{Definition, Entries, definition, Definitions, by_bytes, look, put, without, string_in, body_in, string_or, body_or_none, string_of, body_of, with_text, without_text, with_register, refusal, predefined_strings, predefined}
 use Rattle.page_roff_syntax.specs.declared.requests.DefinitionRequest.{DefinitionRequest}
 use Rattle.page_roff_syntax.specs.declared.requests.DefinitionRequest.TheVariants.{DefineString, AppendString, SetRegister, Remove, Rename, RemoveRegisters}
 use Rattle.page_roff_values.specs.machine.Texts.{IsText}
 use Rattle.page_roff_values.proofs.PlainTexts.{nil_text, ascii_text, text_append}
-use Rattle.page_roff_definitions.specs.Arguments.{first_text, value_after}
-use Rattle.page_roff_definitions.specs.Definitions.{Outcome, outcome, settled, settles, renames_found, removes, removes_registers, is_read_only, next_number, sets_register, if_named, nr, rn, ds, as_request, does, outcome_of}
-use Rattle.page_roff_effects.specs.Commands.{within_limit, called_body}
+use Rattle.page_roff_definitions.specs.Definitions.{first_text, value_after, Outcome, outcome, settled, settles, renames_found, removes, removes_registers, is_read_only, next_number, sets_register, if_named, nr, rn, ds, as_request, does, outcome_of}
+use Rattle.page_roff_effects.specs.Lines.{within_limit, called_body}
 use Rattle.page_roff_source.specs.machine.Texts.{IsBody, IsValue, AreEntries, IsBodyIfSome}
 use Rattle.page_roff_source.proofs.ArgumentTexts.{HasFirst, arguments_first, value_after_text}
 use Rattle.page_roff_source.proofs.BodyTexts.{no_body}

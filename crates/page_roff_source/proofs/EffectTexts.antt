@@ -5,8 +5,7 @@ use Rattle.std.proofs.lemmas.Str.{IsCharBoundary-from_take}
 use Rattle.page_core_base.specs.declared.limits.TheConstants.{BODY}
 use Rattle.page_core_base.specs.Messages.{Message}
 use Rattle.page_core_base.specs.Texts.{IsLine}
-use Rattle.page_roff_syntax.specs.OpenRegions.{Opened, within_limit}
-use Rattle.page_roff_syntax.specs.RegionHeads.{macro_name}
+use Rattle.page_roff_syntax.specs.Regions.{Opened, within_limit, macro_name}
 use Rattle.page_roff_blocks.specs.machine.Run.{At}
 use Rattle.page_roff_syntax.specs.declared.region_heads.RegionHead.{RegionHead}
 use Rattle.page_roff_syntax.specs.Arguments.{arguments}
@@ -21,10 +20,9 @@ use Rattle.page_roff_syntax.specs.declared.regions.RegionKind.TheVariants.{Defin
 use Rattle.page_roff_syntax.specs.Requests.{request_of}
 use Rattle.page_roff_syntax.specs.declared.requests.Request.{Request}
 use Rattle.page_roff_syntax.specs.declared.requests.Request.TheVariants as requests
-use Rattle.page_roff_values.specs.Environments.{Surroundings}
+use Rattle.page_roff_values.specs.Values.{Surroundings, expanded, start, NEST}
 use Rattle.page_roff_values.specs.machine.Texts.{IsText, AreArgumentTexts}
 use Rattle.page_roff_values.specs.machine.Texts as environments
-use Rattle.page_roff_values.specs.Values.{expanded, start, NEST}
 use Rattle.page_roff_values.proofs.GrowLemmas.{finished_front}
 use Rattle.page_roff_values.proofs.LineLemmas.{value_within}
 use Rattle.page_roff_values.proofs.PlainTexts.{nil_text, text_cut, text_at}
@@ -33,14 +31,12 @@ use Rattle.page_roff_blocks.specs.machine.Budgets.{Budgeted, language}
 use Rattle.page_roff_blocks.specs.machine.Languages.{Kind, page, body, arguments_of, inner, run_page}
 use Rattle.page_roff_blocks.proofs.KeepEffects.{IsKeptAfter, KeepsEffects, page_keeps}
 use Rattle.page_roff_blocks.proofs.KeepLemmas.{IsIfSome, IsLoopHead}
-use Rattle.page_roff_effects.specs.Commands.{called_body, request_command, command_or, command_of, copies}
-use Rattle.page_roff_effects.specs.Effects.{answer_of, test_outcome, budget_outcome, block_outcome, end_of_block_outcome}
+use Rattle.page_roff_effects.specs.Lines.{called_body, request_command, command_or, command_of, copies, call_if, ControlLine, rest_of, rest_column, does, command_outcome, control_outcome, control_line, form_outcome, leaf_outcome}
+use Rattle.page_roff_effects.specs.States.{answer_of, test_outcome, budget_outcome, block_outcome, end_of_block_outcome, Memory, first_memory, Setting, surroundings, counted, Product, no_product, line_product, call_product, loop_product, lines_of, Given, says, takes, Outcome, nothing}
 use Rattle.page_roff_effects.specs.machine.Effects.{effects, setting_of, turn_answer, tested_after, done_by, done_after}
-use Rattle.page_roff_definitions.specs.Calls.{with_line, packed}
-use Rattle.page_roff_effects.specs.Leaves.{call_if, ControlLine, rest_of, rest_column, does, command_outcome, control_outcome, control_line, form_outcome, leaf_outcome}
-use Rattle.page_roff_effects.specs.RegionLines.{first_body, body_begun, head_outcome, longer_if, longer, body_outcome, kind_outcome, line_outcome, macro_definition, body_freed, end_outcome, finish_region, finish_outcome}
-use Rattle.page_roff_effects.specs.LoopLines.{longer_if_some, loop_outcome, collect_outcome, repeats_text, close_outcome}
-use Rattle.page_roff_effects.specs.States.{Memory, first_memory, Setting, surroundings, counted, Product, no_product, line_product, call_product, loop_product, lines_of, Given, says, takes, State, Outcome, nothing, after}
+use Rattle.page_roff_definitions.specs.Definitions.{with_line, packed}
+use Rattle.page_roff_effects.specs.Regions.{first_body, body_begun, head_outcome, longer_if, longer, body_outcome, kind_outcome, line_outcome, macro_definition, body_freed, end_outcome, finish_region, finish_outcome, longer_if_some, loop_outcome, collect_outcome, repeats_text, close_outcome}
+use Rattle.page_roff_effects.specs.laws.Views.{State, after}
 use Rattle.page_roff_source.specs.machine.Texts.{AreLines, IsBody, IsPacked, AreEntries, IsBodyIfSome, HoldsTexts, AreGiven}
 use Rattle.page_roff_source.proofs.ArgumentTexts.{arguments_texts}
 use Rattle.page_roff_source.proofs.LinePartTexts.{line_leaves, loop_texts}

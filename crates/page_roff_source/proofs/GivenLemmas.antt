@@ -1,6 +1,6 @@
 -- What is given up to the next line, and after it: helpers of proofs.
 use Rattle.std.proofs.Common.{◌≡◌, List, [], ◌∷◌, ◌++◌, map, Option, Some, None, MatchOption, refl, ap}
-use Rattle.page_core_base.specs.LinesTaken.{Line}
+use Rattle.page_core_base.specs.Texts.{Line}
 use Rattle.page_core_base.specs.Messages.{Message}
 use Rattle.page_roff_effects.specs.States.{Given, says, takes}
 use Rattle.page_roff_machine.specs.Giving.{notes_before, next_line, after_line}

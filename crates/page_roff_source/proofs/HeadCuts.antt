@@ -7,10 +7,8 @@ use Rattle.std.proofs.lemmas.Bool.{cases_Bool, and_parts, or_cases, leb-true, lt
 use Rattle.page_core_escapes.proofs.Boundaries.{character_begins, character_ends}
 use Rattle.page_roff_syntax.specs.Arguments.{is_blank}
 use Rattle.page_roff_syntax.specs.LineForms.{is_white, is_name}
-use Rattle.page_roff_heads.specs.Conditions.{is_among, is_between, is_letter, begins_expression, kind_of, name_len, second_of, both_len, has_both, texts_after, texts_at, read_test, turn_len, condition_len}
-use Rattle.page_roff_heads.specs.Expressions.{argument_len, expression_rest, expression_len}
+use Rattle.page_roff_heads.specs.Conditions.{is_among, is_between, is_letter, begins_expression, kind_of, name_len, second_of, both_len, has_both, texts_after, texts_at, read_test, turn_len, condition_len, argument_len, expression_rest, expression_len, blank_len, after_blanks}
 use Rattle.page_roff_syntax.specs.Delimiters.{character_len, delimiter_of, place_of}
-use Rattle.page_roff_heads.specs.Texts.{blank_len, after_blanks}
 use Rattle.page_roff_values.proofs.PartTexts.{taken}
 use Rattle.page_roff_source.proofs.Cuts.{CutsAt, CutsAt-add, start_cut, end_cut, past_ascii, IsStop, stop_cut, stop_later, stop_start, prefix_cut, prefix_stop, byte_low, blank_low, white_low, name_low}
 

@@ -13,11 +13,9 @@ use Rattle.page_roff_syntax.specs.LineForms.{is_white, is_name, is_control, has_
 use Rattle.page_roff_syntax.specs.declared.line_forms.LineForm.TheVariants.{BlankLine, Text, Control}
 use Rattle.page_roff_heads.specs.declared.texts.Placed.{Placed}
 use Rattle.page_roff_heads.specs.declared.heads.BlockEnd.{BlockEnd}
-use Rattle.page_roff_heads.specs.Conditions.{condition_len}
+use Rattle.page_roff_heads.specs.Conditions.{condition_len, placed, blank_len, after_blanks, begins_pair, is_some_line, remainder_of}
 use Rattle.page_roff_heads.specs.declared.loops.LoopRead.{LoopRead}
-use Rattle.page_roff_heads.specs.Heads.{guards, guarded_of, conditional_of, end_place, block_end_of}
-use Rattle.page_roff_heads.specs.Loops.{first_of, loop_of}
-use Rattle.page_roff_heads.specs.Texts.{placed, blank_len, after_blanks, begins_pair, is_some_line, remainder_of}
+use Rattle.page_roff_heads.specs.Heads.{guards, guarded_of, conditional_of, end_place, block_end_of, first_of, loop_of}
 use Rattle.page_roff_values.proofs.GrowLemmas.{HasNoneBefore}
 use Rattle.page_roff_effects.proofs.ControlLemmas.{uncommented_front, uncommented_short}
 use Rattle.page_roff_source.proofs.Cuts.{CutsAt, CutsAt-boundary, CutsAt-add, start_cut, past_ascii, IsStop, stop_cut, after_ascii, prefix_cut, prefix_stop, byte_low, blank_low, white_low, name_low, nil_line, line_cut}

@@ -1,8 +1,7 @@
 -- The forest of all lines of a page gives what its lines give one after another: helpers of proofs.
 use Rattle.std.proofs.Common.{◌≡◌, ℕ, ◌+◌, Bool, true, false, cond, List, [], ◌∷◌, ◌++◌, length, map, Option, Some, None, option_map, refl, sym, ap, ◌∙◌, append_assoc, append-nil, arith}
-use Rattle.page_roff_syntax.specs.RegionHeads.{is_ending}
-use Rattle.page_roff_blocks.specs.Levels.{Levels, Place}
-use Rattle.page_roff_syntax.specs.OpenRegions.{Opened}
+use Rattle.page_roff_syntax.specs.Regions.{is_ending, Opened}
+use Rattle.page_roff_blocks.specs.Forest.{Levels, Place}
 use Rattle.page_roff_blocks.specs.machine.Run.{Meaning, At, after_head, each_line}
 use Rattle.page_roff_blocks.specs.machine.Steps as steps
 use Rattle.page_roff_blocks.specs.machine.Steps.{step_inside, step_from, step, step_lines}
@@ -17,12 +16,12 @@ use Rattle.page_roff_blocks.specs.machine.Fronts.{over}
 use Rattle.page_roff_blocks.proofs.FrontLemmas.{rest_front}
 use Rattle.page_roff_blocks.proofs.MachineLemmas.{page_law}
 use Rattle.page_roff_effects.specs.machine.Effects.{effects, in_front}
-use Rattle.page_roff_effects.specs.States.{State, Given, says, Memory, numbered}
+use Rattle.page_roff_effects.specs.laws.Views.{State}
+use Rattle.page_roff_effects.specs.States.{Given, says, Memory, numbered}
 use Rattle.page_roff_effects.proofs.GivenLemmas.{is_front}
-use Rattle.page_roff_source.specs.Edges.{Edge, SourceLine}
+use Rattle.page_roff_source.specs.Runs.{Edge, SourceLine, run_all, given, done}
 use Rattle.page_roff_source.specs.machine.Taking.{before_line, run_line, run_begun, line_given, line_done}
-use Rattle.page_roff_source.specs.Taken.{line_begun}
-use Rattle.page_roff_source.specs.Given.{run_all, given, done}
+use Rattle.page_roff_source.specs.laws.Views.{line_begun}
 use Rattle.page_roff_source.specs.machine.Given as machine
 use Rattle.page_roff_source.specs.machine.Given.{head_of}
 use Rattle.page_roff_source.specs.machine.LineByLine.{lines_given, lines_done, StandsAt}

@@ -9,17 +9,14 @@ use Rattle.page_roff_syntax.specs.declared.line_forms.LineForm.TheVariants.{Comm
 use Rattle.page_roff_heads.specs.declared.heads.BlockEnd.{BlockEnd}
 use Rattle.page_roff_heads.specs.declared.loops.LoopRead.{LoopRead}
 use Rattle.page_roff_heads.specs.declared.texts.Placed.{Placed}
-use Rattle.page_roff_heads.specs.Heads.{guarded_of, conditional_of, block_end_of}
-use Rattle.page_roff_heads.specs.Loops.{loop_of}
+use Rattle.page_roff_heads.specs.Heads.{guarded_of, conditional_of, block_end_of, loop_of}
 use Rattle.page_roff_blocks.specs.declared.line_parts.LinePart.{LinePart}
 use Rattle.page_roff_blocks.specs.declared.line_parts.LinePart.TheVariants.{Leaf, Guard, Block, Loop, End, Region}
 use Rattle.page_roff_blocks.specs.declared.line_parts.Head.{Head}
 use Rattle.page_roff_blocks.specs.declared.line_parts.Opening.{Opening}
 use Rattle.page_roff_blocks.specs.declared.line_parts.Opening.TheVariants as openings
-use Rattle.page_roff_blocks.specs.LineParts.{loop_body, whole_opening, whole_line_part, part_of, ends_first, parts, line_parts}
+use Rattle.page_roff_blocks.specs.Parts.{loop_body, whole_opening, whole_line_part, part_of, ends_first, parts, line_parts, blocks_after, before_end, left_by, left_in, left_of, len_before, len_of, some_text, text_before, loop_text, unless_empty, first_text, keyword_in, rest_text, head_line_part, loop_part_if, end_part, cut_part, plain_part, raw_rest, keyword_part, form_part, written_part}
 use Rattle.page_roff_blocks.specs.machine.LinePlaces.{IsEndOf}
-use Rattle.page_roff_blocks.specs.Loops.{blocks_after, before_end, left_by, left_in, left_of, len_before, len_of, some_text, text_before, loop_text, unless_empty, first_text}
-use Rattle.page_roff_blocks.specs.Parts.{keyword_in, rest_text, head_line_part, loop_part_if, end_part, cut_part, plain_part, raw_rest, keyword_part, form_part, written_part}
 use Rattle.page_roff_blocks.proofs.EndLemmas.{written_ends, end_further}
 use Rattle.page_roff_syntax.specs.Requests.{request_of}
 use Rattle.page_roff_syntax.specs.declared.requests.Request.{Request}

@@ -3,10 +3,10 @@ use Rattle.std.proofs.Common.{◌≡◌, ℕ, List, ◌++◌, Option, None, Some
 use Rattle.std.specs.Borrow.{GName}
 use Rattle.page_core_base.specs.Messages.{Message}
 use Rattle.page_core_base.specs.machine.Plans.{Planned, Left, TookNotes, BrokeNotes}
-use Rattle.page_core_base.specs.Sinks.{IsSink}
+use Rattle.page_core_base.specs.laws.Views.{IsSink}
 use Rattle.page_core_base.specs.declared.faults.Fault.{Fault}
 use Rattle.page_core_base.proofs.LatchLemmas as latches
-use Rattle.page_roff_source.specs.Fuses.{Reports}
+use Rattle.page_roff_source.specs.laws.Views.{Reports}
 
 reported : {N A : Type 0} {gave within : N → List Message → N → Type 0} {failed : N → ℕ} {s t : N} {notes : List Message} (r : Result A Fault)
     → MatchResult r (λ _. TookNotes gave failed s notes t) (λ fault. BrokeNotes within failed s fault notes t) → Reports gave within failed r s notes t

@@ -1,13 +1,13 @@
 -- The machine that runs a page's lines is at the page's edge: helpers of proofs.
 use Rattle.std.proofs.Common.{◌≡◌, ℕ, ◌+◌, ◌*◌, ◌≤◌, ◌<◌, ◌^◌, Bool, true, false, List, [], ◌∷◌, length, Option, Some, None, IfSome, is_some, option_map, refl, sym, ap, subst, ◌∙◌, arith}
-use Rattle.page_core_base.specs.Texts.{IsLine}
+use Rattle.page_core_base.specs.Texts.{IsLine, Line}
 use Rattle.page_core_base.specs.declared.limits.TheConstants.{LINE, REREAD}
-use Rattle.page_core_base.specs.LinesTaken.{Line, line_view}
+use Rattle.page_core_base.specs.laws.Views.{line_view}
 use Rattle.page_core_base.specs.declared.lines_taken.Taken.{Taken}
 use Rattle.page_core_base.specs.Messages.{Message}
 use Rattle.page_core_base.specs.declared.page_settings.Output.{Output}
-use Rattle.page_roff_blocks.specs.Caps.{PlaceFits}
-use Rattle.page_roff_blocks.specs.Levels.{Place, at_line, outside, first_place}
+use Rattle.page_roff_blocks.specs.laws.Views.{PlaceFits, at_line}
+use Rattle.page_roff_blocks.specs.Forest.{Place, outside, first_place}
 use Rattle.page_roff_blocks.specs.machine.Run.{At}
 use Rattle.page_roff_blocks.specs.machine.Languages.{run_page}
 use Rattle.page_roff_blocks.specs.machine.Counting.{Budget}
@@ -15,10 +15,10 @@ use Rattle.page_roff_blocks.specs.machine.Machine.{next}
 use Rattle.page_roff_blocks.specs.machine.Budgets.{Budgeted}
 use Rattle.page_roff_stack.specs.machine.Stacks.{is_nothing}
 use Rattle.page_roff_stack.specs.machine.Stacks as stack
-use Rattle.page_roff_effects.specs.Caps.{MemoryFits}
-use Rattle.page_roff_effects.specs.RegionLines.{finish_outcome}
+use Rattle.page_roff_effects.specs.laws.Views.{MemoryFits, State}
+use Rattle.page_roff_effects.specs.Regions.{finish_outcome}
 use Rattle.page_roff_effects.specs.machine.Acting.{ActingSetting}
-use Rattle.page_roff_effects.specs.States.{Given, State, Memory, takes, first_memory, numbered}
+use Rattle.page_roff_effects.specs.States.{Given, Memory, takes, first_memory, numbered}
 use Rattle.page_roff_machine.specs.Giving.{next_line, after_line}
 use Rattle.page_roff_machine.specs.machine.Machines.{Machine, output_of, language_of, outcome_of, to_come, end_of, place_of, stands, stands_after, begun_at, Begins, Takes, BeginsOrTakes, Advances, taken_if, IsIdleUnless, IsNew, Resumes}
 use Rattle.page_roff_machine.specs.machine.Moving.{IsPassed}
@@ -27,10 +27,8 @@ use Rattle.page_roff_machine.proofs.MachineLemmas.{idle_stands, new_idle, resume
 use Rattle.page_roff_source.specs.machine.Texts.{HoldsTexts, AreGiven}
 use Rattle.page_roff_source.proofs.EffectTexts.{first_holds, finish_holds}
 use Rattle.page_roff_source.specs.declared.counts.Counts.{Counts}
-use Rattle.page_roff_source.specs.Caps.{RoffFits}
-use Rattle.page_roff_source.specs.Edges.{Edge, SourceLine, first_edge, counts_of, end_notes}
-use Rattle.page_roff_source.specs.Parts.{Part, IsPart, edge_at, part_of}
-use Rattle.page_roff_source.specs.Taken.{given_of, line_taken, left_if}
+use Rattle.page_roff_source.specs.laws.Views.{RoffFits, Part, IsPart, edge_at, part_of, given_of, line_taken, left_if}
+use Rattle.page_roff_source.specs.Runs.{Edge, SourceLine, first_edge, counts_of, end_notes}
 use Rattle.page_roff_source.specs.machine.Taking.{LinesState, before_line, TakesSource, line_done, line_given, run_line, run_begun}
 use Rattle.page_roff_source.specs.declared.roff_lines.Remaining.{Remaining}
 use Rattle.page_roff_source.specs.declared.roff_lines.Remaining.TheVariants as remaining

@@ -1,9 +1,9 @@
 -- How many skipped blocks a line begins: helpers of proofs.
 use Rattle.std.proofs.Common.{ℕ, ◌+◌, ◌*◌, ◌≤◌, Bool, true, false, List, [], ◌∷◌, length, Option, Some, None, sym, subst, arith}
-use Rattle.page_roff_blocks.specs.LineParts.{line_parts}
-use Rattle.page_roff_syntax.specs.RegionHeads.{is_ending}
-use Rattle.page_roff_blocks.specs.Levels.{Levels, at_line}
-use Rattle.page_roff_syntax.specs.OpenRegions.{Opened}
+use Rattle.page_roff_blocks.specs.Parts.{line_parts}
+use Rattle.page_roff_syntax.specs.Regions.{is_ending, Opened}
+use Rattle.page_roff_blocks.specs.Forest.{Levels}
+use Rattle.page_roff_blocks.specs.laws.Views.{at_line}
 use Rattle.page_roff_blocks.specs.machine.Run.{Meaning, At, run_lines}
 use Rattle.page_roff_blocks.specs.machine.Steps.{begin_line, step_inside, step_from, step, step_lines}
 use Rattle.page_roff_blocks.proofs.FoldLemmas.{run_is_steps}
@@ -13,7 +13,7 @@ use Rattle.page_roff_blocks.specs.machine.Languages.{page, meaning_at, run_page}
 use Rattle.page_core_base.specs.declared.limits.TheConstants.{CALLS}
 use Rattle.page_roff_blocks.specs.machine.Budgets.{language}
 use Rattle.page_roff_effects.specs.machine.Effects.{effects}
-use Rattle.page_roff_source.specs.Edges.{Edge, SourceLine}
+use Rattle.page_roff_source.specs.Runs.{Edge, SourceLine}
 use Rattle.page_roff_source.specs.machine.Taking.{before_line, run_line, line_done}
 
 IsRoomy : {S : Type 0} → Levels → List ℕ → At S → Type 0

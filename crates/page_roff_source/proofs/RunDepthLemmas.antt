@@ -4,31 +4,29 @@ use Rattle.std.proofs.lemmas.Bool.Decides.{nat_tests}
 use Rattle.page_core_base.specs.Limits.{CALLS}
 use Rattle.page_roff_heads.specs.Conditions.{condition_of}
 use Rattle.page_roff_heads.specs.declared.conditions.Condition.{Condition}
-use Rattle.page_roff_blocks.specs.Levels.{first_place}
-use Rattle.page_roff_blocks.specs.Loops.{loop_text}
+use Rattle.page_roff_blocks.specs.Forest.{first_place}
+use Rattle.page_roff_blocks.specs.Parts.{loop_text}
 use Rattle.page_roff_blocks.specs.machine.Run as old
 use Rattle.page_roff_blocks.specs.machine.Run.{Meaning, headed}
 use Rattle.page_roff_blocks.specs.machine.Languages as langs
 use Rattle.page_roff_blocks.specs.machine.Languages.{Kind, page, body, inner, arguments_of, is_some, Done, state_of, Language, TURNS, run_if, finish_at}
 use Rattle.page_roff_blocks.specs.machine.Budgets as budgets
 use Rattle.page_roff_blocks.specs.machine.Budgets.{Budgeted, Effects, language, with_rest, charge, charge_by, done_with, closed_with, turn_by, unopened_by, collect_some}
-use Rattle.page_roff_syntax.specs.OpenRegions.{Opened}
-use Rattle.page_roff_values.specs.Arguments.{arguments_in, lines_in}
+use Rattle.page_roff_syntax.specs.Regions.{Opened}
+use Rattle.page_roff_values.specs.Values.{arguments_in, lines_in}
 use Rattle.page_roff_effects.specs.machine.Effects as effs
-use Rattle.page_roff_effects.specs.Effects.{end_of_block_outcome}
+use Rattle.page_roff_effects.specs.States.{end_of_block_outcome, Memory, Outcome, Product, no_product, line_product, call_product, loop_product}
 use Rattle.page_roff_effects.specs.machine.Effects.{effects, done_after, setting_of, tested_after}
-use Rattle.page_roff_effects.specs.LoopLines.{close_outcome, repeats_text, repeats_if, condition_in, body_in}
-use Rattle.page_roff_effects.specs.RegionLines.{finish_outcome, line_outcome, end_outcome}
+use Rattle.page_roff_effects.specs.Regions.{close_outcome, repeats_text, repeats_if, condition_in, body_in, finish_outcome, line_outcome, end_outcome}
 use Rattle.page_roff_effects.specs.States as states
-use Rattle.page_roff_effects.specs.States.{Memory, Outcome, Product, no_product, line_product, call_product, loop_product}
-use Rattle.page_roff_source.specs.Edges.{SourceLine}
+use Rattle.page_roff_effects.specs.laws.Views as states_laws
+use Rattle.page_roff_source.specs.Runs.{SourceLine, State, after, spend, reread, page_line, body_line, Around, At, gather_some, test, run_lines, run_product, runs_at}
 use Rattle.page_roff_source.specs.machine.Given.{head_of}
 use Rattle.page_roff_source.specs.Runs as runs
-use Rattle.page_roff_source.specs.Runs.{State, after, spend, reread, page_line, body_line, Around, At, gather_some, test, run_lines, run_product, runs_at}
 use Rattle.page_roff_source.proofs.RunLemmas.{Old, new, met, at, meets_new, Alike, lines_law}
 
 module _ (units : List ℕ → ℕ) where
-  abbrev e : Effects states.State
+  abbrev e : Effects states_laws.State
   e = effects units
 
   abbrev lang : Language Old
@@ -36,10 +34,10 @@ module _ (units : List ℕ → ℕ) where
 
   -- ---- the budget
 
-  fields : ℕ → Bool → ℕ → states.State → Old
+  fields : ℕ → Bool → ℕ → states_laws.State → Old
   fields left gave_up taken r = record { left = left; gave_up = gave_up; taken = taken; rest = r }
 
-  charge_fields : (left : ℕ) (g : Bool) (taken : ℕ) (r : states.State) → reread (new (fields left g taken r)) ≡ new (charge e (fields left g taken r))
+  charge_fields : (left : ℕ) (g : Bool) (taken : ℕ) (r : states_laws.State) → reread (new (fields left g taken r)) ≡ new (charge e (fields left g taken r))
   unfolding reread spend after charge charge_by with_rest effects fields
   charge_fields left true taken r = refl
   charge_fields zero false taken r = refl
@@ -61,7 +59,7 @@ module _ (units : List ℕ → ℕ) where
 
   -- ---- what a leaf or a whole loop leaves
 
-  state_law : (p : Product) (b : Old) (r : states.State) → with_rest e b r ≡ state_of (done_with e b (effs.done_by p r))
+  state_law : (p : Product) (b : Old) (r : states_laws.State) → with_rest e b r ≡ state_of (done_with e b (effs.done_by p r))
   unfolding done_with effs.done_by
   state_law no_product b r = refl
   state_law (line_product x) b r = refl
@@ -171,7 +169,7 @@ module _ (units : List ℕ → ℕ) where
 
   -- ---- calls
 
-  product_law : (depth : ℕ) → ((args : Option (List (List ℕ))) → DoesSo depth (body args)) → (kind : Kind) (p : Product) (b : Old) (r : states.State)
+  product_law : (depth : ℕ) → ((args : Option (List (List ℕ))) → DoesSo depth (body args)) → (kind : Kind) (p : Product) (b : Old) (r : states_laws.State)
       → run_product (around depth) (arguments_of kind) p (new (with_rest e b r)) ≡ new (langs.done_by lang (inside depth) kind (done_with e b (effs.done_by p r)))
   unfolding run_product langs.done_by done_with effs.done_by inner with_rest
   product_law depth so kind no_product b r = refl
@@ -182,8 +180,8 @@ module _ (units : List ℕ → ℕ) where
 
   does_law : (depth : ℕ) (kind : Kind) → DoesSo depth kind
   unfolding runs_at langs.done_at after with_rest done_after
-  does_law zero kind o b = ap (λ c. new c) (state_law o.product b (states.after b.rest o))
-  does_law (suc depth) kind o b = product_law depth (λ args. does_law depth (body args)) kind o.product b (states.after b.rest o)
+  does_law zero kind o b = ap (λ c. new c) (state_law o.product b (states_laws.after b.rest o))
+  does_law (suc depth) kind o b = product_law depth (λ args. does_law depth (body args)) kind o.product b (states_laws.after b.rest o)
 
   -- ---- the page
 

@@ -11,20 +11,18 @@ use Rattle.page_roff_blocks.specs.declared.line_parts.Opening.{Opening}
 use Rattle.page_roff_blocks.specs.declared.line_parts.Opening.TheVariants as openings
 use Rattle.page_roff_blocks.specs.declared.levels.Way.{Way}
 use Rattle.page_roff_blocks.specs.declared.levels.Way.TheVariants.{Runs, Skips, Exceeds}
-use Rattle.page_roff_blocks.specs.Forest.{Forest, empty, line, leaf, guard, block, loop, region, Source, ends, shuts, opens, holds, Inside, unended, ended, source_of, inside_of}
-use Rattle.page_roff_blocks.specs.Levels as levels
-use Rattle.page_roff_blocks.specs.Levels.{Levels, Place, first_place, bit_after}
-use Rattle.page_roff_blocks.specs.Loops.{loop_text}
+use Rattle.page_roff_blocks.specs.Forest.{Forest, empty, line, leaf, guard, block, loop, region, Source, ends, shuts, opens, holds, Inside, unended, ended, source_of, inside_of, Levels, Place, first_place, bit_after}
+use Rattle.page_roff_blocks.specs.laws.Views as levels
+use Rattle.page_roff_blocks.specs.Parts.{loop_text}
 use Rattle.page_roff_blocks.specs.machine.Run as old
 use Rattle.page_roff_blocks.specs.machine.Run.{Meaning, Flow}
 use Rattle.page_roff_blocks.specs.machine.Budgets.{Budgeted}
 use Rattle.page_roff_syntax.specs.declared.region_heads.RegionHead.{RegionHead}
-use Rattle.page_roff_syntax.specs.OpenRegions.{Opened, opened}
-use Rattle.page_roff_effects.specs.Effects.{answer_of, test_outcome, budget_outcome, block_outcome, end_of_block_outcome}
-use Rattle.page_roff_effects.specs.Leaves.{leaf_outcome}
-use Rattle.page_roff_effects.specs.LoopLines.{loop_outcome, collect_outcome, close_outcome}
-use Rattle.page_roff_effects.specs.RegionLines.{head_outcome, line_outcome, end_outcome, finish_outcome}
-use Rattle.page_roff_effects.specs.States as states
+use Rattle.page_roff_syntax.specs.Regions.{Opened, opened}
+use Rattle.page_roff_effects.specs.States.{answer_of, test_outcome, budget_outcome, block_outcome, end_of_block_outcome}
+use Rattle.page_roff_effects.specs.Lines.{leaf_outcome}
+use Rattle.page_roff_effects.specs.Regions.{loop_outcome, collect_outcome, close_outcome, head_outcome, line_outcome, end_outcome, finish_outcome}
+use Rattle.page_roff_effects.specs.laws.Views as states
 use Rattle.page_roff_source.specs.Runs.{State, after, spend, reread, page_line, body_line, Around, Mode, runs, passes, gathers, mode_by, mode, are_run, Spot, fresh, past, At, meet, gather_some, gather_line, test, value, skip, with_bit, enter_if, enter_run, enter, does, close_loop, leave_level, leave_by, leave, leaf_after, loop_after, guard_after, line_after, region_line, region_lines, region_end, open_region, region_after, run, run_source, run_inside, run_from, run_lines}
 
 -- ---- the same states

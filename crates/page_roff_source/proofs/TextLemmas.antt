@@ -1,8 +1,7 @@
 -- Each line that roff gives is one: helpers of proofs.
 use Rattle.std.proofs.Common.{◌≡◌, Bool, true, false, List, [], ◌∷◌, Option, Some, None, refl, subst}
-use Rattle.page_core_base.specs.LinesTaken.{Line}
+use Rattle.page_core_base.specs.Texts.{Line, IsLine}
 use Rattle.std.proofs.lemmas.Str.{is_utf8-from_IsUtf8}
-use Rattle.page_core_base.specs.Texts.{IsLine}
 use Rattle.page_core_base.specs.declared.page_settings.Output.{Output}
 use Rattle.page_roff_values.specs.machine.Texts.{MeasureAlike}
 use Rattle.page_roff_values.specs.Values.{units_of}
@@ -16,8 +15,8 @@ use Rattle.page_roff_machine.specs.machine.Machines.{taken_if}
 use Rattle.page_roff_source.specs.machine.Texts.{HoldsTexts, AreGiven}
 use Rattle.page_roff_source.proofs.AlikeTexts.{page_alike}
 use Rattle.page_roff_source.proofs.EffectTexts.{HoldsState, page_texts}
-use Rattle.page_roff_source.specs.Edges.{Edge, SourceLine}
-use Rattle.page_roff_source.specs.Taken.{given_of, line_taken, left_if}
+use Rattle.page_roff_source.specs.Runs.{Edge, SourceLine}
+use Rattle.page_roff_source.specs.laws.Views.{given_of, line_taken, left_if}
 use Rattle.page_roff_source.specs.machine.Taking.{before_line, run_line}
 
 -- of a line it gives lines, and what is remembered stays text

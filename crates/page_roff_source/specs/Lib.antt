@@ -1,9 +1,3 @@
-pub mod Caps
-pub mod Edges
-pub mod Fuses
 pub mod Runs
-pub mod Given
-pub mod Each
-pub mod Parts
-pub mod Taken
+pub mod laws
 pub mod machine

@@ -1,15 +1,15 @@
 //! What roff gives of a page's lines, one finished line at a time (roff(7), "LANGUAGE SYNTAX").
 //!
 //! The top of roff: it takes the lines of `page_roff_lines`, runs them on `page_roff_machine`, and lends finished lines to the sets of macros:
-//! `RoffLines` to the page, `Roff` over a sink of messages. Read `specs/Edges.antt` (what decides the rest), `Given.antt` (all
-//! lines) and `Runs.antt` (what a source does) first, then `specs/machine/Taking.antt` (one line at a time) with `roff_lines.rt`.
+//! `RoffLines` to the page, `Roff` over a sink of messages. Read `specs/Runs.antt` (what a source does, all
+//! lines, and what decides the rest) first, then `specs/machine/Taking.antt` (one line at a time) with `roff_lines.rt`.
 //!
 //! Proved: `Roff::new`, `source`, `take`, `end`, `idle`, `counts`, and `RoffLines`, the same without a sink that fails: what a source line gives
-//! up to its end is `line_given`, from the edge where the lines before it left the page (`specs/Edges.antt`, `specs/machine/Taking.antt`), in
+//! up to its end is `line_given`, from the edge where the lines before it left the page (`specs/Runs.antt`, `specs/machine/Taking.antt`), in
 //! lines of UTF-8; after a fault of the sink and after the end the answer is `Failed`. `Roff::part`, `Roff::from_part`: roff's part of what is
-//! held between two lines (`specs/Parts.antt`), and roff that goes on from it. `caps_law`: what is held, and what runs, is within its limits
-//! (`specs/Caps.antt`). `forest_law`, `cut_law`, `count_law`, `room_law`: the forest of all lines gives what the lines give one after another
-//! (`specs/Given.antt`); a line takes at most 1,001 lines, with at most 1,000 interpolations for each. `machine_law`: the run by which the machine is
+//! held between two lines (`specs/laws/Views.antt`), and roff that goes on from it. `caps_law`: what is held, and what runs, is within its limits
+//! (`specs/laws/Views.antt`). `forest_law`, `cut_law`, `count_law`, `room_law`: the forest of all lines gives what the lines give one after another
+//! (`specs/Runs.antt`); a line takes at most 1,001 lines, with at most 1,000 interpolations for each. `machine_law`: the run by which the machine is
 //! proved (`specs/machine/Given.antt`) is that of the definitions.
 //! `texts_law`: where each line of a page is UTF-8 of at most 65,536 bytes without a control character but the tab, so is each line that roff gives of
 //! it, and each string, argument and line of a macro, whatever is defined, appended, cut or passed (`specs/machine/Texts.antt`). `alike_law`: where two

@@ -15,7 +15,7 @@ pub struct RoffPart {
 }
 
 impl Model for RoffPart {
-    ghost use Rattle.page_roff_source.specs.Parts.{Part, IsPart};
+    ghost use Rattle.page_roff_source.specs.laws.Views.{Part, IsPart};
 
     ghost Value = { Part };
 

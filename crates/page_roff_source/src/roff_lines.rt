@@ -3,16 +3,13 @@
 ghost use Rattle.std.specs.Prelude.{◌≡◌, ◌≤◌, ◌<◌, ◌^◌, ⊤, true, [], length, IfOk, IfSome, None, option_map};
 ghost use mathlib.Core.Option.{none};
 ghost use Rattle.std.specs.Borrow.{sem, follows_so};
-ghost use Rattle.page_core_base.specs.LinesTaken.{line_view};
-ghost use Rattle.page_core_base.specs.Texts.{IsLine, IsFreeLine};
+ghost use Rattle.page_core_base.specs.laws.Views.{line_view, IsFreeLine, Came};
+ghost use Rattle.page_core_base.specs.Texts.{IsLine};
 ghost use Rattle.page_core_base.specs.declared.limits.TheConstants.{LINE};
-ghost use Rattle.page_core_base.specs.Latches.{Came};
 ghost use Rattle.page_roff_machine.specs.Giving.{notes_before, next_line};
-ghost use Rattle.page_roff_source.specs.Caps.{RoffFits, RunsWithin};
-ghost use Rattle.page_roff_source.specs.Edges.{first_edge, end_notes, counts_of};
-ghost use Rattle.page_roff_source.specs.Taken.{given_of, line_taken, is_idle};
+ghost use Rattle.page_roff_source.specs.laws.Views.{RoffFits, RunsWithin, given_of, line_taken, is_idle, edge_at, part_of};
+ghost use Rattle.page_roff_source.specs.Runs.{first_edge, end_notes, counts_of};
 ghost use Rattle.page_roff_source.specs.machine.Taking.{run_begun, TakesSource};
-ghost use Rattle.page_roff_source.specs.Parts.{edge_at, part_of};
 ghost use Rattle.page_roff_source.specs.machine.RoffLines.{RunsOn, run_if};
 
 use crate::counts::Counts;

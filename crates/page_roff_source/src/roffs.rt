@@ -3,15 +3,12 @@
 ghost use Rattle.std.specs.Prelude.{◌≡◌, true, ◌<◌, ◌^◌, ⊤, [], None, Some, Ok, Err, IfOk, IfErr, IfSome, MatchResult, option_map};
 ghost use mathlib.Core.Option.{none};
 ghost use Rattle.std.specs.Borrow.{sem, follows_so};
-ghost use Rattle.page_core_base.specs.LinesTaken.{line_view};
+ghost use Rattle.page_core_base.specs.laws.Views.{line_view};
 ghost use Rattle.page_core_base.specs.Texts.{IsLine};
 ghost use Rattle.page_roff_machine.specs.Giving.{notes_before, next_line};
-ghost use Rattle.page_roff_source.specs.Caps.{RoffFits, RunsWithin};
-ghost use Rattle.page_roff_source.specs.Edges.{Edge, end_notes, counts_of};
-ghost use Rattle.page_roff_source.specs.Taken.{line_begun, given_of, line_taken};
+ghost use Rattle.page_roff_source.specs.laws.Views.{RoffFits, RunsWithin, line_begun, given_of, line_taken, part_of, first_state, state_at, is_idle_at, counts_from, Reports};
+ghost use Rattle.page_roff_source.specs.Runs.{Edge, end_notes, counts_of};
 ghost use Rattle.page_roff_machine.specs.machine.Machines.{taken_if};
-ghost use Rattle.page_roff_source.specs.Parts.{part_of};
-ghost use Rattle.page_roff_source.specs.Fuses.{first_state, state_at, is_idle_at, counts_from, Reports};
 
 use crate::counts::Counts;
 use crate::parts::RoffPart;
@@ -34,7 +31,7 @@ pub struct Roff {
 
 impl Model for Roff {
     ghost use Rattle.std.specs.Prelude.{◌≡◌, true, Some, None, if◌then◌else◌};
-    ghost use Rattle.page_roff_source.specs.Fuses.{RoffState};
+    ghost use Rattle.page_roff_source.specs.laws.Views.{RoffState};
 
     ghost Value = { RoffState };
 
@@ -44,7 +41,7 @@ impl Model for Roff {
       counts = r.counts;
     } };
 
-    ghost use Rattle.page_roff_source.specs.Edges.{counts_of};
+    ghost use Rattle.page_roff_source.specs.Runs.{counts_of};
 
     ghost invariant = { λ r. r.is_going ≡ true → r.lines.edge.to_come ≡ None → r.counts ≡ counts_of r.lines.edge };
 }

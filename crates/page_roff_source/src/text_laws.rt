@@ -3,7 +3,7 @@
 ghost use Rattle.std.specs.Prelude.{◌≡◌, ℕ, List};
 ghost use Rattle.page_roff_blocks.specs.machine.Run.{At};
 ghost use Rattle.page_roff_effects.specs.machine.Effects.{effects};
-ghost use Rattle.page_roff_effects.specs.States.{State};
+ghost use Rattle.page_roff_effects.specs.laws.Views.{State};
 ghost use Rattle.page_roff_blocks.specs.machine.Budgets.{Budgeted, language};
 ghost use Rattle.page_roff_blocks.specs.machine.Languages.{run_page};
 ghost use Rattle.page_roff_values.specs.machine.Texts.{MeasureAlike};

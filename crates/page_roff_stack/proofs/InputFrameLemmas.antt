@@ -5,11 +5,11 @@ use Rattle.std.specs.Borrow.{Bor}
 use Rattle.page_core_base.specs.declared.limits.TheConstants.{LINE}
 use Rattle.page_roff_blocks.specs.declared.line_parts.LinePart.{LinePart}
 use Rattle.page_roff_blocks.specs.declared.line_places.LinePlace.{LinePlace}
-use Rattle.page_roff_blocks.specs.LineParts.{line_parts, ReadsNext}
+use Rattle.page_roff_blocks.specs.Parts.{line_parts}
+use Rattle.page_roff_blocks.specs.laws.Views.{ReadsNext, BlockCursor, at_line, after_part, way_of, open_loop, skip, passed}
 use Rattle.page_roff_blocks.specs.declared.block_cursors.Pass.{Pass}
 use Rattle.page_roff_blocks.specs.declared.block_cursors.Pass.TheVariants as passes
-use Rattle.page_roff_blocks.specs.Levels.{BlockCursor, at_line, after_part, way_of, open_loop, skip, passed}
-use Rattle.page_roff_syntax.specs.OpenRegions.{Opened}
+use Rattle.page_roff_syntax.specs.Regions.{Opened}
 use Rattle.page_roff_blocks.specs.machine.LinePlaces.{parts_at, line_end, is_at_end, IsPlaceIn}
 use Rattle.page_roff_blocks.proofs.LinePartLemmas.{line_parts_cons}
 use Rattle.page_roff_blocks.proofs.RoomLemmas.{line_parts_room, enter_room, leave_room}
@@ -19,7 +19,7 @@ use Rattle.page_roff_stack.specs.declared.input_frames.InputFrame.{InputFrame}
 use Rattle.page_roff_stack.specs.declared.source_kinds.SourceKind.{SourceKind}
 use Rattle.page_roff_stack.specs.declared.source_kinds.SourceKind.TheVariants as sources
 use Rattle.page_roff_stack.specs.declared.spans.Span.{Span}
-use Rattle.page_roff_values.specs.Arguments.{lines_in}
+use Rattle.page_roff_values.specs.Values.{lines_in}
 use Rattle.page_roff_stack.specs.machine.Ahead.{IsAfter}
 use Rattle.page_roff_stack.specs.machine.Changes.{past, in_region, next_line, first_line_parts, begins_next, begins_line, ends_with, is_over, HasPart, IfEnters, AreShort, IsBounded}
 use Rattle.page_roff_stack.specs.machine.Held.{span_text, only_line, AreLinesOf, IsSpanIn, IsFirstLine}

@@ -5,7 +5,7 @@ use Rattle.std.proofs.lemmas.Bool.{cases_Bool, eqb-true}
 use Rattle.std.proofs.lemmas.List.{drop-drop, drop-take, drop_all, length-take, length-take-le}
 use Rattle.page_core_base.specs.Texts.{has_no_control, is_no_control}
 use Rattle.page_core_base.specs.declared.limits.TheConstants.{LINE}
-use Rattle.page_roff_values.specs.Arguments.{begin_first, arguments_in, lines_in}
+use Rattle.page_roff_values.specs.Values.{begin_first, arguments_in, lines_in}
 use Rattle.page_roff_values.proofs.ArgumentLemmas.{last_of}
 use Rattle.page_roff_blocks.specs.machine.Measures.{weight}
 use Rattle.page_roff_stack.specs.declared.spans.Span.{Span}

@@ -3,13 +3,14 @@ use Rattle.std.proofs.Common.{◌≡◌, ℕ, false, suc, ◌-◌, ◌<◌, ◌�
 use Rattle.std.proofs.Math.Seq.{take-append_seam, drop-append_seam}
 use Rattle.page_core_base.specs.Texts.{IsLine}
 use Rattle.page_core_base.specs.declared.limits.TheConstants.{BODY, LINE}
-use Rattle.page_roff_blocks.specs.Levels.{BlockCursor, at_line, outside}
-use Rattle.page_roff_syntax.specs.OpenRegions.{Opened}
+use Rattle.page_roff_blocks.specs.laws.Views.{BlockCursor, at_line}
+use Rattle.page_roff_blocks.specs.Forest.{outside}
+use Rattle.page_roff_syntax.specs.Regions.{Opened}
 use Rattle.page_roff_blocks.specs.machine.LinePlaces.{line_end}
 use Rattle.page_roff_blocks.specs.machine.Languages.{Kind, page, body, inner, TURNS}
 use Rattle.page_roff_blocks.specs.machine.Machine.{Frame, Turning, entered, looped}
 use Rattle.page_roff_blocks.specs.machine.Measures.{weight, work_in}
-use Rattle.page_roff_values.specs.Arguments.{arguments_in, lines_in}
+use Rattle.page_roff_values.specs.Values.{arguments_in, lines_in}
 use Rattle.page_roff_stack.specs.declared.input_frames.InputFrame.{InputFrame}
 use Rattle.page_roff_stack.specs.declared.source_kinds.SourceKind.{SourceKind}
 use Rattle.page_roff_stack.specs.declared.source_kinds.SourceKind.TheVariants as sources

@@ -1,7 +1,7 @@
 -- What comes next in the sources that run: helpers of proofs.
 use Rattle.std.proofs.Common.{◌≡◌, ℕ, zero, suc, ◌-◌, ◌<◌, Bool, true, false, List, [], ◌∷◌, length, Option, Some, None, refl, ◌∙◌, arith}
 use Rattle.page_roff_blocks.specs.declared.line_parts.LinePart.{LinePart}
-use Rattle.page_roff_syntax.specs.OpenRegions.{Opened}
+use Rattle.page_roff_syntax.specs.Regions.{Opened}
 use Rattle.page_roff_blocks.specs.machine.Run.{Meaning}
 use Rattle.page_roff_blocks.specs.machine.Languages.{Language, meaning_at}
 use Rattle.page_roff_blocks.specs.machine.Machine as machine

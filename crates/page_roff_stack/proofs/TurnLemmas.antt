@@ -5,11 +5,12 @@ use Rattle.std.proofs.lemmas.Bool.{cases_Bool}
 use Rattle.std.proofs.lemmas.Bool.Decides.{nat_tests}
 use Rattle.page_core_base.specs.declared.limits.TheConstants.{BODY}
 use Rattle.page_roff_blocks.specs.declared.line_places.LinePlace.{LinePlace}
-use Rattle.page_roff_blocks.specs.Levels.{BlockCursor, at_line, outside}
+use Rattle.page_roff_blocks.specs.laws.Views.{BlockCursor, at_line}
+use Rattle.page_roff_blocks.specs.Forest.{outside}
 use Rattle.page_roff_blocks.specs.machine.LinePlaces.{line_end}
 use Rattle.page_roff_blocks.specs.machine.Machine.{Frame, turned}
 use Rattle.page_roff_blocks.specs.machine.Measures.{work_in}
-use Rattle.page_roff_values.specs.Arguments.{lines_in}
+use Rattle.page_roff_values.specs.Values.{lines_in}
 use Rattle.page_roff_stack.specs.declared.input_frames.InputFrame.{InputFrame}
 use Rattle.page_roff_stack.specs.declared.source_kinds.SourceKind.{SourceKind}
 use Rattle.page_roff_stack.specs.declared.source_kinds.SourceKind.TheVariants as sources

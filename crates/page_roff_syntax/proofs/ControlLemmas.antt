@@ -3,7 +3,8 @@ use Rattle.std.proofs.Common.{◌≡◌, ℕ, zero, suc, ◌+◌, ◌≤◌, ◌
 use Rattle.std.specs.List.{prefix_len}
 use Rattle.std.proofs.lemmas.Bool.{cases_Bool, eqb-true}
 use Rattle.std.proofs.lemmas.Bool.Decides.{nat_tests}
-use Rattle.page_roff_syntax.specs.LineForms.{is_white, is_name, is_plain, is_control, has_word, begins_comment, begins_control, without_comment, name_start, name_len, name_of, control_line, form_of}
+use Rattle.page_roff_syntax.specs.LineForms.{is_white, is_name, is_control, has_word, begins_comment, without_comment, name_start, name_len, control_line, form_of}
+use Rattle.page_roff_syntax.specs.laws.Views.{is_plain, begins_control, name_of}
 use Rattle.page_roff_syntax.proofs.FormLemmas.{plain_false}
 use Rattle.page_roff_syntax.specs.declared.line_forms.LineForm.TheVariants.{Control}
 

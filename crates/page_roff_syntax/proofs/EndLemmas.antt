@@ -2,7 +2,7 @@
 use Rattle.std.proofs.Common.{◌≡◌, ℕ, ◌+◌, ◌-◌, ◌<◌, ◌≤◌, ◌==◌, Bool, true, false, List, [], ◌∷◌, ◌++◌, length, take, get_or, refl, ◌∙◌, arith}
 use Rattle.std.proofs.lemmas.List.{take_more, length-take-le}
 use Rattle.std.proofs.lemmas.Bool.Decides.{nat_tests}
-use Rattle.page_roff_syntax.specs.Ends.{kept_len}
+use Rattle.page_roff_syntax.specs.Delimiters.{kept_len}
 
 pub kept-white : (drops : ℕ → Bool) → (xs : List ℕ) (x : ℕ) → drops x ≡ true → kept_len drops (xs ++ x ∷ []) ≡ kept_len drops xs
 kept-white drops [] x h = rw h refl

@@ -5,7 +5,8 @@ use Rattle.std.proofs.lemmas.List.{drop_more, drop-drop, get_or-drop}
 use Rattle.std.proofs.lemmas.List.Sums.{prefix_len_is, prefix_len_stops, prefix_len-le-length}
 use Rattle.std.specs.List.{prefix_len}
 use Rattle.memchr.specs.Find.{IsFirstByte, is_byte}
-use Rattle.page_roff_syntax.specs.LineForms.{is_plain, begins_comment, without_comment}
+use Rattle.page_roff_syntax.specs.laws.Views.{is_plain}
+use Rattle.page_roff_syntax.specs.LineForms.{begins_comment, without_comment}
 
 -- ---- the first backslash
 

@@ -1,12 +1,11 @@
 -- The arguments of a control line. Source: roff(7), "Macro syntax".
-use Rattle.std.specs.Prelude.{◌≡◌, ◌≤◌, ℕ, zero, suc, ◌+◌, Bool, true, false, ◌==◌, nat_lt, min, List, [], ◌∷◌, length, take, drop, if◌then◌else◌, Option, MatchOption}
 use Rattle.std.specs.List.{prefix_len}
-use Rattle.std.specs.Borrow.{Bor}
+use Rattle.std.specs.Prelude.{ℕ, Bool, ◌==◌, ◌+◌, List, [], ◌∷◌, if◌then◌else◌, nat_lt, length, true, false, take, drop, min, zero, suc}
 use Rattle.page_core_base.specs.Limits.{NAME}
 use Rattle.page_core_base.specs.Texts.{unpaired}
 use Rattle.page_roff_syntax.specs.declared.quotes.Argument.{Argument}
 use Rattle.page_roff_syntax.specs.declared.quotes.Quoting.{Quoting}
-use Rattle.page_roff_syntax.specs.declared.quotes.Quoting.TheVariants.{Bare, Closed, Unclosed}
+use Rattle.page_roff_syntax.specs.declared.quotes.Quoting.TheVariants.{Closed, Unclosed, Bare}
 
 -- blanks (32) part arguments, tabs do not
 abbrev pub is_blank : ℕ → Bool
@@ -90,19 +89,3 @@ arguments column text = first_arguments (length text) column text
 
 abbrev pub has_arguments : List ℕ → Bool
 has_arguments rest = nat_lt (prefix_len is_blank rest) (length rest)
-
--- an argument of the program, with what its text holds
-abbrev pub argument_view : Argument (Bor (List ℕ)) → Argument (List ℕ)
-argument_view argument =
-    record { text = argument.text.now; column = argument.column; quoting = argument.quoting }
-
--- the first of a text's arguments, if there is one, and the bytes after which the others begin
-abbrev pub ReadsFirst : ℕ → List ℕ → Option (Argument (Bor (List ℕ)) × ℕ) → Type 0
-ReadsFirst column text result =
-    MatchOption result (arguments column text ≡ [])
-    (λ read. (read.1 ≤ length text) × (arguments column text ≡ argument_view read.0 ∷ arguments (column + read.1) (drop read.1 text)))
-
--- the first of the arguments that are still to be read, if there is one, and then the others
-abbrev pub ReadsNext : List (Argument (List ℕ)) → Option (Argument (Bor (List ℕ))) → List (Argument (List ℕ)) → Type 0
-ReadsNext old result new =
-    MatchOption result ((old ≡ []) × (new ≡ [])) (λ argument. old ≡ argument_view argument ∷ new)

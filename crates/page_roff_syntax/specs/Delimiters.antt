@@ -1,7 +1,20 @@
--- Texts between delimiters. Source: roff(7), "Conditional expressions" and "Escape sequences", `\w`.
-use Rattle.std.specs.Prelude.{ℕ, Bool, false, ◌+◌, ◌==◌, nat_eq, nat_lt, min, List, [], ◌∷◌, length, take, drop, if◌then◌else◌}
+-- The end of a text, and texts between delimiters. Source: roff(7), "Language syntax".
 use Rattle.std.specs.List.{starts_with}
+use Rattle.std.specs.Prelude.{ℕ, ◌+◌, Bool, ◌==◌, ◌&&◌, List, [], ◌∷◌, if◌then◌else◌, take, min, length, nat_eq, nat_lt, drop, false}
 use Rattle.std.specs.Str.{continuation_len}
+
+-- ---- The end of a text.
+
+-- the bytes up to those at a text's end of which something holds
+abbrev pub kept_len : (ℕ → Bool) → List ℕ → ℕ
+kept_len drops [] = 0
+kept_len drops (byte ∷ bytes) = if kept_len drops bytes == 0 && drops byte then 0 else 1 + kept_len drops bytes
+
+-- a text without those bytes
+abbrev pub kept : (ℕ → Bool) → List ℕ → List ℕ
+kept drops text = take (kept_len drops text) text
+
+-- ---- Texts between delimiters. Source: roff(7), "Conditional expressions" and "Escape sequences", `\w`.
 
 -- the bytes of a text's first character, of which the first says how many there are
 abbrev pub character_len : List ℕ → ℕ

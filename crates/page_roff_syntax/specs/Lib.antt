@@ -1,9 +1,7 @@
-pub mod Regions
-pub mod Requests
-pub mod Ends
-pub mod LineForms
 pub mod Arguments
 pub mod Delimiters
+pub mod LineForms
+pub mod Regions
+pub mod Requests
+pub mod laws
 pub mod machine
-pub mod RegionHeads
-pub mod OpenRegions

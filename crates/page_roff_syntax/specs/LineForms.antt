@@ -1,10 +1,8 @@
 -- The form of a raw line: a comment, a blank line, a text line or a control line. Source: roff(7), "LANGUAGE SYNTAX".
-use Rattle.std.specs.Prelude.{ℕ, ◌+◌, ◌≤◌, Bool, false, not, ◌==◌, nat_lt, ◌||◌, List, [], ◌∷◌, length, take, drop, if◌then◌else◌, Option, Some, None, option_map}
 use Rattle.std.specs.List.{prefix_len}
-use Rattle.std.specs.Borrow.{Bor}
-use Rattle.page_core_base.specs.Limits.{LINE}
+use Rattle.std.specs.Prelude.{ℕ, Bool, ◌==◌, ◌||◌, nat_lt, List, length, [], ◌∷◌, if◌then◌else◌, not, drop, ◌+◌, take}
 use Rattle.page_roff_syntax.specs.declared.line_forms.LineForm.{LineForm}
-use Rattle.page_roff_syntax.specs.declared.line_forms.LineForm.TheVariants.{Comment, BlankLine, Text, Control}
+use Rattle.page_roff_syntax.specs.declared.line_forms.LineForm.TheVariants.{Control, Comment, Text, BlankLine}
 
 -- a blank (32) or a tab (9)
 abbrev pub is_white : ℕ → Bool
@@ -17,10 +15,6 @@ has_word text = nat_lt (prefix_len is_white text) (length text)
 abbrev pub begins_comment : ℕ → Bool
 begins_comment byte = byte == 34 || byte == 35
 
--- a byte that is no backslash
-abbrev pub is_plain : ℕ → Bool
-is_plain byte = not (byte == 92)
-
 -- a line up to its comment
 abbrev pub without_comment : List ℕ → List ℕ
 without_comment [] = []
@@ -32,10 +26,6 @@ without_comment (byte ∷ next ∷ bytes) =
 -- the control characters: the full stop (46) and the apostrophe (39)
 abbrev pub is_control : ℕ → Bool
 is_control byte = byte == 46 || byte == 39
-
-abbrev pub begins_control : List ℕ → Bool
-begins_control [] = false
-begins_control (byte ∷ bytes) = is_control byte
 
 -- a name ends before a blank, a tab or a backslash
 abbrev pub is_name : ℕ → Bool
@@ -60,28 +50,3 @@ uncommented_form (byte ∷ bytes) = if is_control byte then control_line bytes e
 -- the form of a line
 abbrev pub form_of : List ℕ → LineForm (List ℕ)
 form_of line = if has_word line then uncommented_form (without_comment line) else BlankLine
-
--- the name of a control line; others have none
-abbrev pub name_of : LineForm (List ℕ) → Option (List ℕ)
-name_of Comment = None
-name_of BlankLine = None
-name_of (Text text) = None
-name_of (Control name column rest rest_column) = Some name
-
--- a name of the program, with what its text holds
-abbrev pub name_view : Option (Bor (List ℕ)) → Option (List ℕ)
-name_view name = option_map (λ text. text.now) name
-
--- a form of the program, with what its texts hold
-abbrev pub form_view : LineForm (Bor (List ℕ)) → LineForm (List ℕ)
-form_view Comment = Comment
-form_view BlankLine = BlankLine
-form_view (Text text) = Text text.now
-form_view (Control name column rest rest_column) = Control name.now column rest.now rest_column
-
--- texts and columns lie within a line
-abbrev pub FitsLine : LineForm (List ℕ) → Type 0
-FitsLine Comment = Unit {0}
-FitsLine BlankLine = Unit {0}
-FitsLine (Text text) = length text ≤ LINE
-FitsLine (Control name column rest rest_column) = (length rest ≤ LINE) × (rest_column + length rest ≤ LINE + 1)

@@ -1,8 +1,17 @@
--- Regions: the names that begin and end them. Source: roff(7), "de", "am", "ig", "TS", "EQ", "PS".
-use Rattle.std.specs.Prelude.{ℕ, List, Option, Some, None, codes}
-use Rattle.std.specs.Borrow.{Bor}
+-- Regions: the names that begin and end them, their heads and their end lines, and how much is held of one that is open. Source: roff(7), `de`, `ig`.
+use Rattle.std.specs.Prelude.{ℕ, List, codes, Option, Some, None, ◌==◌, length, if◌then◌else◌, [], ◌∷◌, option_map, nat_le, Bool, false, not, ◌||◌}
+use Rattle.std.specs.Str.{bytes_eq}
+use Rattle.page_core_base.specs.Limits.{NAME}
+use Rattle.page_roff_syntax.specs.Arguments.{arguments, argument_name}
+use Rattle.page_roff_syntax.specs.LineForms.{form_of}
+use Rattle.page_roff_syntax.specs.declared.line_forms.LineForm.{LineForm}
+use Rattle.page_roff_syntax.specs.declared.line_forms.LineForm.TheVariants.{Comment, BlankLine, Text, Control}
+use Rattle.page_roff_syntax.specs.declared.quotes.Argument.{Argument}
+use Rattle.page_roff_syntax.specs.declared.region_heads.RegionHead.{RegionHead}
 use Rattle.page_roff_syntax.specs.declared.regions.RegionKind.{RegionKind}
 use Rattle.page_roff_syntax.specs.declared.regions.RegionKind.TheVariants.{Define, Append, Ignore, Table, Equation, Picture}
+
+-- ---- Regions: the names that begin and end them. Source: roff(7), "de", "am", "ig", "TS", "EQ", "PS".
 
 abbrev pub region_name : RegionKind → List ℕ
 region_name Define = codes "de"
@@ -21,7 +30,103 @@ fixed_ending Table = Some (codes "TE")
 fixed_ending Equation = Some (codes "EN")
 fixed_ending Picture = Some (codes "PE")
 
--- a text of the program, if there is one
-abbrev pub text_view : Option (Bor (List ℕ)) → Option (List ℕ)
-text_view None = None
-text_view (Some text) = Some text.now
+-- ---- Regions: their heads, and the lines that end them. Source: roff(7), "de", "am", "ig", "TS", "EQ", "PS".
+
+-- an argument without a byte is no name
+abbrev pub as_named : Argument (List ℕ) → Option (Argument (List ℕ))
+as_named a = if length a.text == 0 then None else Some a
+
+-- the first argument, if it is a name
+abbrev pub first_named : List (Argument (List ℕ)) → Option (Argument (List ℕ))
+first_named [] = None
+first_named (a ∷ more) = as_named a
+
+abbrev pub second_named : List (Argument (List ℕ)) → Option (Argument (List ℕ))
+second_named [] = None
+second_named (a ∷ more) = first_named more
+
+-- the macro that a region defines is its head's first argument
+abbrev pub name_in : RegionKind → List (Argument (List ℕ)) → Option (Argument (List ℕ))
+name_in Define args = first_named args
+name_in Append args = first_named args
+name_in Ignore args = None
+name_in Table args = None
+name_in Equation args = None
+name_in Picture args = None
+
+-- the end name is the argument after it, or the first one of `ig`; that of a table, an equation or a
+-- picture is fixed
+abbrev pub ending_in : RegionKind → List (Argument (List ℕ)) → Option (Argument (List ℕ))
+ending_in Define args = second_named args
+ending_in Append args = second_named args
+ending_in Ignore args = first_named args
+ending_in Table args = None
+ending_in Equation args = None
+ending_in Picture args = None
+
+abbrev pub head_with : RegionKind → ℕ → List (Argument (List ℕ)) → RegionHead (List ℕ)
+head_with kind column args =
+    record { kind = kind; column = column; name = name_in kind args; ending = ending_in kind args }
+
+-- the head of a region: the column of its name, and its rest, of which the first byte is at a column
+unfoldable pub region_head : RegionKind → ℕ → ℕ → List ℕ → RegionHead (List ℕ)
+region_head kind column rest_column rest = head_with kind column (arguments rest_column rest)
+
+-- ---- what its names are
+
+abbrev pub macro_name : RegionHead (List ℕ) → Option (List ℕ)
+macro_name head = option_map argument_name head.name
+
+-- the end name that it asks for
+abbrev pub asked_ending : RegionHead (List ℕ) → Option (List ℕ)
+asked_ending head = option_map argument_name head.ending
+
+-- a full stop where there is none, or one beyond the limit of names
+abbrev pub ending_of : Option (List ℕ) → List ℕ
+ending_of None = codes "."
+ending_of (Some name) = if nat_le (length name) NAME then name else codes "."
+
+abbrev pub end_name_or : Option (List ℕ) → Option (List ℕ) → List ℕ
+end_name_or None asked = ending_of asked
+end_name_or (Some name) asked = ending_of (Some name)
+
+-- the name of its end line
+abbrev pub end_name : RegionHead (List ℕ) → List ℕ
+end_name head = end_name_or (fixed_ending head.kind) (asked_ending head)
+
+abbrev pub is_too_long : Option (List ℕ) → Bool
+is_too_long None = false
+is_too_long (Some name) = not (nat_le (length name) NAME)
+
+-- its name, or its end name, is beyond the limit
+abbrev pub has_long_name : RegionHead (List ℕ) → Bool
+has_long_name head = is_too_long (macro_name head) || is_too_long (asked_ending head)
+
+-- a control line of this name
+abbrev pub is_called : List ℕ → LineForm (List ℕ) → Bool
+is_called ending Comment = false
+is_called ending BlankLine = false
+is_called ending (Text text) = false
+is_called ending (Control name column rest rest_column) = bytes_eq name ending
+
+-- whether a line ends a region of that end name
+unfoldable pub is_ending : List ℕ → List ℕ → Bool
+is_ending ending line = is_called ending (form_of line)
+
+-- ---- A region that is open, and how much is held of it. Source: roff(7), "de", "am", "ig"; mandoc(1), "DIAGNOSTICS".
+
+-- An open region: what it is, the macro that it defines, the name of its end line, and whether it is run. A
+-- name beyond the limit of names defines nothing.
+pub record Opened : Type 0 where
+  pub kind : RegionKind
+  pub name : Option (List ℕ)
+  pub ending : List ℕ
+  pub is_run : Bool
+
+unfoldable pub within_limit : Option (List ℕ) → Option (List ℕ)
+within_limit None = None
+within_limit (Some name) = if nat_le (length name) NAME then Some name else None
+
+unfoldable pub opened : RegionHead (List ℕ) → Bool → Opened
+opened head is_run =
+    record { kind = head.kind; name = within_limit (macro_name head); ending = end_name head; is_run = is_run }

@@ -1,6 +1,6 @@
 -- The names that roff knows, one row each. Source: roff(7), "REQUEST REFERENCE".
-use Rattle.std.specs.Prelude.{ℕ, true, false, List, [], ◌∷◌, Option, codes}
-use Rattle.page_core_base.specs.TableRows.{row_in}
+use Rattle.std.specs.Prelude.{ℕ, true, false, List, [], ◌∷◌, codes, Option}
+use Rattle.page_core_base.specs.Messages.{row_in}
 use Rattle.page_roff_syntax.specs.declared.regions.RegionKind.TheVariants.{Define, Append, Ignore, Table, Equation, Picture}
 use Rattle.page_roff_syntax.specs.declared.requests.DefinitionRequest.TheVariants.{DefineString, AppendString, SetRegister, Remove, Rename, RemoveRegisters}
 use Rattle.page_roff_syntax.specs.declared.requests.LayoutRequest.TheVariants.{Break, Space, Font, Shift, Literal}

@@ -2,7 +2,8 @@
 
 ghost use Rattle.std.specs.Prelude.{◌≡◌, ◌≤◌, ◌+◌, length, IfSome};
 ghost use Rattle.std.specs.List.{prefix_len};
-ghost use Rattle.page_roff_syntax.specs.Arguments.{is_blank, arguments, has_arguments, ReadsFirst, ReadsNext};
+ghost use Rattle.page_roff_syntax.specs.Arguments.{is_blank, arguments, has_arguments};
+ghost use Rattle.page_roff_syntax.specs.laws.Views.{ReadsFirst, ReadsNext};
 
 use crate::quotes::{Argument, first_argument};
 use page_core_base::LINE;

@@ -2,7 +2,8 @@
 
 ghost use Rattle.std.specs.Prelude.{◌≡◌, ◌≤◌, length, take};
 ghost use Rattle.std.specs.List.{prefix_len};
-ghost use Rattle.page_roff_syntax.specs.LineForms.{is_plain, begins_comment, without_comment};
+ghost use Rattle.page_roff_syntax.specs.laws.Views.{is_plain};
+ghost use Rattle.page_roff_syntax.specs.LineForms.{begins_comment, without_comment};
 
 use crate::pairs::lacks_pair;
 use memchr::memchr;

@@ -1,7 +1,8 @@
 //! The end of a text.
 
 ghost use Rattle.std.specs.Prelude.{◌≡◌, ◌≤◌, ℕ, Bool, length};
-ghost use Rattle.page_roff_syntax.specs.Ends.{IsTest, kept_len};
+ghost use Rattle.page_roff_syntax.specs.laws.Views.{IsTest};
+ghost use Rattle.page_roff_syntax.specs.Delimiters.{kept_len};
 
 /// The number of bytes of a text up to those at its end of which a test holds.
 pub fn kept_len<F: Fn(u8) -> bool>(text: &[u8], drops: F) -> usize

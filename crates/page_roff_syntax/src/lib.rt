@@ -4,14 +4,14 @@
 //! The lowest crate of roff: heads, commands, calls and regions are read by it, and so are the lines that the sets of macros get. The names that roff knows are
 //! one table, with one row for each request and what it is. A region is lines that are no part of the text,
 //! but the body of a macro, ignored, or a table, an equation or a picture. Read `specs/LineForms.antt`, `Arguments.antt` and `Requests.antt` first,
-//! and `RegionHeads.antt` for regions.
+//! and `Regions.antt` for regions.
 //!
 //! Proved: `form_of`, `control_name`, `Arguments::next_argument`, `read_argument`: the form of a raw line, the name of a control line, and its
 //! arguments one after another, are those of `specs/LineForms.antt` and `Arguments.antt`; `arguments_law`: of which there are as many as the text has. `Argument::value_len`, `value_front`: what an argument says, as
 //! far as a field has room for it. `Request::of`, `RegionKind::name`, `fixed_ending`: which names
 //! are requests, and what each is, by one table (`specs/Requests.antt`, `Regions.antt`), with which the rows of the program are compared.
-//! `region_head`, `is_ending`: what the head of a region names and which raw line ends it (`specs/RegionHeads.antt`). `OpenRegion`: what of the head
-//! decides the rest, its names within their limit (`specs/OpenRegions.antt`). `place_of`, `width_len`: where a delimiter comes again outside
+//! `region_head`, `is_ending`: what the head of a region names and which raw line ends it (`specs/Regions.antt`). `OpenRegion`: what of the head
+//! decides the rest, its names within their limit (`specs/Regions.antt`). `place_of`, `width_len`: where a delimiter comes again outside
 //! pairs (`specs/Delimiters.antt`); `mark_closed`: which widths have no end, by one reading of a text. `name_room_law`: the room of a name is that of the definition.
 #![tactic(auto)]
 

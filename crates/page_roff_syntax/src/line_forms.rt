@@ -2,8 +2,8 @@
 
 ghost use Rattle.std.specs.Prelude.{◌≡◌, ◌≤◌, ◌<◌, false, length};
 ghost use Rattle.std.specs.List.{prefix_len};
-ghost use Rattle.page_roff_syntax.specs.LineForms.{is_white, is_name, has_word, begins_control, without_comment, control_line, form_of, FitsLine};
-ghost use Rattle.page_roff_syntax.specs.LineForms.{form_view, name_of, name_view};
+ghost use Rattle.page_roff_syntax.specs.LineForms.{is_white, is_name, has_word, without_comment, control_line, form_of};
+ghost use Rattle.page_roff_syntax.specs.laws.Views.{begins_control, FitsLine, form_view, name_of, name_view};
 
 use crate::comments::uncommented_len;
 use page_core_base::LINE;

@@ -1,7 +1,8 @@
 //! The name that an argument is (roff(7), "Macro syntax", "ds", "nr", "de").
 
 ghost use Rattle.std.specs.Prelude.{◌≡◌, ◌≤◌, length, take};
-ghost use Rattle.page_roff_syntax.specs.Arguments.{argument_view, argument_name};
+ghost use Rattle.page_roff_syntax.specs.laws.Views.{argument_view};
+ghost use Rattle.page_roff_syntax.specs.Arguments.{argument_name};
 ghost use Rattle.page_roff_syntax.specs.Arguments as arguments;
 
 use crate::quotes::Argument;

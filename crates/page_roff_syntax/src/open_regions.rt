@@ -2,10 +2,9 @@
 
 ghost use Rattle.std.specs.Prelude.{◌≡◌, ◌≤◌, length, option_map};
 ghost use Rattle.page_core_base.specs.declared.limits.TheConstants.{LINE, NAME};
-ghost use Rattle.page_roff_syntax.specs.OpenRegions.{RegionFits};
-ghost use Rattle.page_roff_syntax.specs.OpenRegions.{name_if, within_limit, opened};
-ghost use Rattle.page_roff_syntax.specs.RegionHeads.{is_ending, text_view, region_view};
-ghost use Rattle.page_roff_syntax.specs.Arguments.{argument_view, argument_name};
+ghost use Rattle.page_roff_syntax.specs.laws.Views.{RegionFits, name_if, text_view, region_view, argument_view};
+ghost use Rattle.page_roff_syntax.specs.Regions.{within_limit, opened, is_ending};
+ghost use Rattle.page_roff_syntax.specs.Arguments.{argument_name};
 
 use crate::region_heads::{RegionHead, copy_of, is_ending};
 use crate::{Argument, RegionKind};
@@ -24,11 +23,11 @@ pub struct OpenRegion {
 }
 
 impl Model for OpenRegion {
-    ghost use Rattle.page_roff_syntax.specs.OpenRegions.{Opened};
+    ghost use Rattle.page_roff_syntax.specs.Regions.{Opened};
 
     ghost Value = { Opened };
 
-    ghost use Rattle.page_roff_syntax.specs.OpenRegions.{name_if};
+    ghost use Rattle.page_roff_syntax.specs.laws.Views.{name_if};
 
     ghost view = { λ r. record {
       kind = r.kind;
@@ -39,7 +38,7 @@ impl Model for OpenRegion {
 }
 
 // A name within the limit of names, and whether it is.
-#[tactic(auto, unfolding(crate::specs::OpenRegions::within_limit))]
+#[tactic(auto, unfolding(crate::specs::Regions::within_limit))]
 fn short_name(name: &[u8]) -> (ArrayVec<u8, NAME>, bool)
     ensures { name_if result.1 result.0.items ≡ within_limit (Some name.now) }
 {
@@ -51,7 +50,7 @@ fn short_name(name: &[u8]) -> (ArrayVec<u8, NAME>, bool)
 }
 
 // The name that a region defines, and whether there is one within the limit of names.
-#[tactic(auto, unfolding(crate::specs::OpenRegions::within_limit))]
+#[tactic(auto, unfolding(crate::specs::Regions::within_limit))]
 fn usable_name(name: Option<Argument<&[u8]>>) -> (ArrayVec<u8, NAME>, bool)
     ensures { name_if result.1 result.0.items
         ≡ within_limit (option_map argument_name (option_map argument_view name.entry)) }
@@ -64,7 +63,7 @@ fn usable_name(name: Option<Argument<&[u8]>>) -> (ArrayVec<u8, NAME>, bool)
 
 impl OpenRegion {
     /// The region of a head, which may be run or not.
-    #[tactic(auto, unfolding(crate::specs::OpenRegions::opened))]
+    #[tactic(auto, unfolding(crate::specs::Regions::opened))]
     pub fn new(head: &RegionHead<&[u8]>, is_run: bool) -> OpenRegion
         ensures { result ≡ opened (region_view head.now) is_run }
     {

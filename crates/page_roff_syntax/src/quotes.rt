@@ -2,7 +2,8 @@
 
 ghost use Rattle.std.specs.Prelude.{◌≡◌, ◌≢◌, ◌≤◌, ◌<◌, ◌+◌, ◌^◌, ◌==◌, ◌&&◌, not, length, min, drop, get_or};
 ghost use Rattle.std.specs.List.{prefix_len};
-ghost use Rattle.page_roff_syntax.specs.Arguments.{argument_view, is_quoted, bare_len, quoted_len, quoted_argument, begins_quoted, first_argument, argument_len};
+ghost use Rattle.page_roff_syntax.specs.laws.Views.{argument_view};
+ghost use Rattle.page_roff_syntax.specs.Arguments.{is_quoted, bare_len, quoted_len, quoted_argument, begins_quoted, first_argument, argument_len};
 
 use memchr::memchr2;
 

@@ -2,8 +2,9 @@
 
 ghost use Rattle.std.specs.Prelude.{◌≡◌, ◌≤◌, ◌+◌, length, option_map};
 ghost use Rattle.page_core_base.specs.declared.limits.TheConstants.{LINE, NAME};
-ghost use Rattle.page_roff_syntax.specs.Arguments.{argument_view, argument_name, arguments};
-ghost use Rattle.page_roff_syntax.specs.RegionHeads.{ending_of, end_name, has_long_name, is_too_long, region_head, is_ending, region_view, NameOfNext};
+ghost use Rattle.page_roff_syntax.specs.laws.Views.{argument_view, region_view, NameOfNext};
+ghost use Rattle.page_roff_syntax.specs.Arguments.{argument_name, arguments};
+ghost use Rattle.page_roff_syntax.specs.Regions.{ending_of, end_name, has_long_name, is_too_long, region_head, is_ending};
 
 use crate::{Argument, Arguments, LineForm, RegionKind, form_of};
 use arrayvec::ArrayVec;
@@ -87,7 +88,7 @@ impl<'a> RegionHead<&'a [u8]> {
 
 /// The head of a region of a kind: the column of its name and, without its comment, the rest of its line,
 /// of which the first byte is at another.
-#[tactic(auto, unfolding(crate::specs::RegionHeads::region_head))]
+#[tactic(auto, unfolding(crate::specs::Regions::region_head))]
 pub fn region_head(
     kind: RegionKind,
     column: u32,
@@ -115,7 +116,7 @@ pub fn region_head(
 }
 
 /// Whether a raw line ends a region of that end name.
-#[tactic(auto, unfolding(crate::specs::RegionHeads::is_ending))]
+#[tactic(auto, unfolding(crate::specs::Regions::is_ending))]
 pub fn is_ending(ending: &[u8], line: &[u8]) -> bool
     requires { length line.now ≤ LINE }
     ensures { result ≡ is_ending ending.now line.now }

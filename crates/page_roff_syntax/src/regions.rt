@@ -2,7 +2,8 @@
 //! "de", "am", "ig", "TS", "EQ", "PS").
 
 ghost use Rattle.std.specs.Prelude.{◌≡◌};
-ghost use Rattle.page_roff_syntax.specs.Regions.{region_name, fixed_ending, text_view};
+ghost use Rattle.page_roff_syntax.specs.Regions.{region_name, fixed_ending};
+ghost use Rattle.page_roff_syntax.specs.laws.Views.{text_view};
 
 /// The request or macro that begins a region.
 #[derive(Clone, Copy)]

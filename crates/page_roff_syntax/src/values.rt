@@ -2,7 +2,8 @@
 
 ghost use Rattle.std.specs.Prelude.{◌≡◌, ◌≤◌, length};
 ghost use Rattle.page_core_base.specs.Messages.{text_front};
-ghost use Rattle.page_roff_syntax.specs.Arguments.{argument_value, argument_view};
+ghost use Rattle.page_roff_syntax.specs.Arguments.{argument_value};
+ghost use Rattle.page_roff_syntax.specs.laws.Views.{argument_view};
 ghost use Rattle.page_core_base.specs.Texts.{unpaired};
 
 use crate::quotes::Argument;

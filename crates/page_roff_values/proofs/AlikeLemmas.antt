@@ -9,11 +9,9 @@ use Rattle.page_roff_parts.specs.declared.parts.Call.{Call}
 use Rattle.page_roff_parts.specs.declared.parts.Call.TheVariants.{String, Register, Argument, Width}
 use Rattle.page_roff_parts.specs.declared.parts.Part.{Part}
 use Rattle.page_roff_parts.specs.declared.parts.Part.TheVariants.{Copied, Called}
-use Rattle.page_roff_values.specs.Arguments.{argument_of}
-use Rattle.page_roff_values.specs.Environments.{Surroundings}
+use Rattle.page_roff_values.specs.Values.{argument_of, Surroundings, Spot, Laid, unless, seq, ends, counts, put, lay, charge, value_or, inside, leaves, width, interpolated, call_at, value}
 use Rattle.page_roff_parts.specs.Parts.{parts, without_lone}
 use Rattle.page_roff_values.specs.machine.Texts.{IsText, AreLines, MeasureAlike}
-use Rattle.page_roff_values.specs.Values.{Spot, Laid, unless, seq, ends, counts, put, lay, charge, value_or, inside, leaves, width, interpolated, call_at, value}
 use Rattle.page_roff_values.proofs.PartTexts.{CallText, ArePartTexts, parts_texts, lone_text}
 use Rattle.page_roff_values.proofs.PlainTexts.{nil_text}
 use Rattle.page_roff_values.proofs.ValueTexts.{SomeText, argument_text, string_text, value_text}

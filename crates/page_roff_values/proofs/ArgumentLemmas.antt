@@ -2,7 +2,7 @@
 use Rattle.std.proofs.Common.{◌≡◌, ℕ, zero, suc, ◌+◌, ◌<◌, ◌≤◌, Bool, true, false, ◌==◌, List, [], ◌∷◌, ◌++◌, length, get_or, take, drop, if◌then◌else◌, refl, ◌∙◌, sym, append-nil, arith, ◌*◌}
 use Rattle.std.proofs.lemmas.Bool.{eqb-true}
 use Rattle.page_core_base.specs.declared.limits.TheConstants.{ARGS}
-use Rattle.page_roff_values.specs.Arguments.{begin_first, arguments_in, argument_at, spaced, spaced_quoted}
+use Rattle.page_roff_values.specs.Values.{begin_first, arguments_in, argument_at, spaced, spaced_quoted}
 use Rattle.page_roff_values.specs.machine.Held.{AreHeld}
 
 pub not_true : (b : Bool) → ¬ (b ≡ true) → b ≡ false

@@ -8,10 +8,8 @@ use Rattle.page_roff_names.specs.Names.{string_of}
 use Rattle.page_core_base.specs.declared.limits.TheConstants.{EXPAND}
 use Rattle.page_roff_parts.specs.declared.parts.Call.{Call}
 use Rattle.page_roff_parts.specs.declared.parts.Call.TheVariants.{String, Register, Argument, Width}
-use Rattle.page_roff_values.specs.Arguments.{argument_of}
-use Rattle.page_roff_values.specs.Environments.{Surroundings, register_of}
+use Rattle.page_roff_values.specs.Values.{argument_of, Surroundings, register_of, Spot, Laid, nothing, join, seq, says, ends, counts, put, charge, width, interpolated, call_at, value}
 use Rattle.page_roff_parts.specs.Parts.{without_lone}
-use Rattle.page_roff_values.specs.Values.{Spot, Laid, nothing, join, seq, says, ends, counts, put, charge, width, interpolated, call_at, value}
 use Rattle.page_roff_values.specs.machine.Rest.{HUGE, rest, room_in, size, steps}
 use Rattle.page_roff_values.proofs.LayLemmas.{seq_more, seq_nothing}
 

@@ -10,10 +10,9 @@ use Rattle.page_roff_parts.specs.Parts.{parts, parts_up_to}
 use Rattle.page_roff_parts.specs.machine.Fronts.{IsFront, copied_front}
 use Rattle.page_roff_parts.specs.machine.Verbatim.{IsVerbatim}
 use Rattle.page_roff_parts.proofs.FrontLemmas.{front_whole, map_is}
-use Rattle.page_roff_values.specs.Environments.{Surroundings}
+use Rattle.page_roff_values.specs.Values.{Surroundings, NEST, Laid, Spot, adds, call_at, expanded, finished_len, lay, nothing, put, seq, start, value}
 use Rattle.page_roff_values.specs.machine.Rest.{rest}
 use Rattle.page_roff_values.specs.machine.Verbatim.{GivesItself}
-use Rattle.page_roff_values.specs.Values.{NEST, Laid, Spot, adds, call_at, expanded, finished_len, lay, nothing, put, seq, start, value}
 use Rattle.page_roff_values.proofs.LayLemmas.{seq_nothing}
 use Rattle.page_roff_values.proofs.LineLemmas.{put_all}
 

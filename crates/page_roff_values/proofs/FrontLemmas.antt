@@ -7,7 +7,7 @@ use Rattle.std.proofs.lemmas.Bool.Decides.{nat_tests}
 use Rattle.std.proofs.lemmas.Str.{IsUtf8-drop, byte_from_char, len_utf8_bounds, length-encode}
 use Rattle.page_core_base.specs.declared.page_settings.Output.{Output}
 use Rattle.page_core_base.specs.declared.page_settings.Output.TheVariants.{Ascii}
-use Rattle.page_core_escapes.specs.Escapes.{escape_of, read_escape}
+use Rattle.page_core_escapes.specs.Meanings.{escape_of, read_escape}
 use Rattle.page_core_escapes.specs.Lengths.{escape_len}
 use Rattle.page_core_escapes.proofs.Characters.{first_of}
 use Rattle.page_core_escapes.proofs.Contents.{escape_len-some}

@@ -1,9 +1,8 @@
 -- A text alone is what is to be read: helpers of proofs.
 use Rattle.std.proofs.Common.{◌≡◌, ℕ, false, List, [], ◌∷◌, refl, sym, ◌∙◌}
 use Rattle.std.proofs.Math.Nat.{sub-zero}
-use Rattle.page_roff_values.specs.Environments.{Surroundings}
+use Rattle.page_roff_values.specs.Values.{Surroundings, NEST, Spot, nothing, seq, value}
 use Rattle.page_roff_values.specs.machine.Rest.{rest}
-use Rattle.page_roff_values.specs.Values.{NEST, Spot, nothing, seq, value}
 use Rattle.page_roff_values.proofs.LayLemmas.{seq_nothing, seq_end}
 
 rest_alone : (env : Surroundings) (room : ℕ) (text : List ℕ) (s : Spot) → rest env room (text ∷ []) s ≡ value env room text s

@@ -12,10 +12,8 @@ use Rattle.page_roff_parts.specs.declared.parts.Call.{Call}
 use Rattle.page_roff_parts.specs.declared.parts.Call.TheVariants.{String, Register, Argument, Width}
 use Rattle.page_roff_parts.specs.declared.parts.Part.{Part}
 use Rattle.page_roff_parts.specs.declared.parts.Part.TheVariants.{Copied, Called}
-use Rattle.page_roff_values.specs.Arguments.{argument_of}
-use Rattle.page_roff_values.specs.Environments.{Surroundings, register_of}
+use Rattle.page_roff_values.specs.Values.{argument_of, Surroundings, register_of, Spot, Laid, nothing, unless, seq, says, ends, adds, counts, kept, put, lay, charge, value_or, inside, leaves, width, interpolated, call_at, value, start, expanded, NEST, finished_len}
 use Rattle.page_roff_parts.specs.Parts.{plain, after_plain, copies, seen, parts, without_lone}
-use Rattle.page_roff_values.specs.Values.{Spot, Laid, nothing, unless, seq, says, ends, adds, counts, kept, put, lay, charge, value_or, inside, leaves, width, interpolated, call_at, value, start, expanded, NEST, finished_len}
 use Rattle.page_roff_values.proofs.LineLemmas.{put_all}
 use Rattle.page_roff_parts.proofs.ReadLemmas.{parts_more}
 

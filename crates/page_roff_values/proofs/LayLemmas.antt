@@ -1,7 +1,7 @@
 -- How one thing is laid after another: helpers of proofs.
 use Rattle.std.proofs.Common.{◌≡◌, Bool, true, false, not, List, ◌++◌, refl, sym, ap, ◌∙◌, append_assoc, append-nil}
 use Rattle.page_core_base.specs.Messages.{Message}
-use Rattle.page_roff_values.specs.Latches.{Goes}
+use Rattle.page_roff_values.specs.laws.Views.{Goes}
 use Rattle.page_roff_values.specs.Values.{Spot, Laid, nothing, join, unless, seq}
 
 abbrev laid : List Message → Spot → Laid

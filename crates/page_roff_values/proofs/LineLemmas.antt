@@ -13,10 +13,9 @@ use Rattle.page_roff_parts.specs.declared.parts.Call.{Call}
 use Rattle.page_roff_parts.specs.declared.parts.Call.TheVariants.{String, Register, Argument, Width}
 use Rattle.page_roff_parts.specs.declared.parts.Part.{Part}
 use Rattle.page_roff_parts.specs.declared.parts.Part.TheVariants.{Copied, Called}
-use Rattle.page_roff_values.specs.Arguments.{argument_of}
-use Rattle.page_roff_values.specs.Environments.{Surroundings, register_of}
+use Rattle.page_roff_values.specs.Values.{argument_of, Surroundings, register_of, Spot, Laid, nothing, unless, seq, says, ends, adds, counts, kept, character_end, put, lay, charge, value_or, inside, leaves, width, interpolated, call_at, value, start, expanded, finished_len}
 use Rattle.page_roff_parts.specs.Parts.{copies, seen, parts, parts_up_to, without_lone}
-use Rattle.page_roff_values.specs.Values.{Spot, Laid, nothing, unless, seq, says, ends, adds, counts, kept, character_end, put, lay, charge, value_or, inside, leaves, width, interpolated, call_at, value, start, expanded, IsWithin, finished_len}
+use Rattle.page_roff_values.specs.laws.Views.{IsWithin}
 use Rattle.page_roff_values.proofs.LayLemmas.{seq_end}
 use Rattle.page_roff_parts.proofs.ReadLemmas.{parts_more, plain_part}
 

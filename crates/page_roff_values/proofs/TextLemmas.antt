@@ -5,9 +5,8 @@ use Rattle.std.proofs.lemmas.List.{reverse-append}
 use Rattle.std.specs.Borrow.{Bor}
 use Rattle.page_roff_parts.specs.declared.parts.Part.{Part}
 use Rattle.page_roff_parts.specs.declared.parts.Part.TheVariants.{Copied, Called}
-use Rattle.page_roff_values.specs.Environments.{Surroundings}
+use Rattle.page_roff_values.specs.Values.{Surroundings, Spot, nothing, seq, lay, call_at, value}
 use Rattle.page_roff_parts.specs.Parts.{SeenText, seen, parts, parts_up_to}
-use Rattle.page_roff_values.specs.Values.{Spot, nothing, seq, lay, call_at, value}
 use Rattle.page_roff_values.specs.machine.Rest.{rest, room_in, one, size}
 use Rattle.page_roff_values.proofs.LayLemmas.{seq_nothing, seq_assoc}
 use Rattle.page_roff_parts.proofs.ReadLemmas.{parts_more, seen_shorter}

@@ -14,11 +14,9 @@ use Rattle.page_roff_parts.specs.declared.parts.Call.{Call}
 use Rattle.page_roff_parts.specs.declared.parts.Call.TheVariants.{String, Register, Argument, Width}
 use Rattle.page_roff_parts.specs.declared.parts.Part.{Part}
 use Rattle.page_roff_parts.specs.declared.parts.Part.TheVariants.{Copied, Called}
-use Rattle.page_roff_values.specs.Arguments.{spaced, spaced_quoted, joined, quoted, argument_at, argument_named, argument_of}
-use Rattle.page_roff_values.specs.Environments.{Surroundings, register_of}
+use Rattle.page_roff_values.specs.Values.{spaced, spaced_quoted, joined, quoted, argument_at, argument_named, argument_of, Surroundings, register_of, Spot, Laid, nothing, unless, seq, says, ends, adds, counts, kept, character_end, put, lay, charge, value_or, inside, leaves, width, interpolated, call_at, value, finished_len}
 use Rattle.page_roff_parts.specs.Parts.{parts, without_lone}
 use Rattle.page_roff_values.specs.machine.Texts.{IsText, AreTexts, AreArgumentTexts, AreLines}
-use Rattle.page_roff_values.specs.Values.{Spot, Laid, nothing, unless, seq, says, ends, adds, counts, kept, character_end, put, lay, charge, value_or, inside, leaves, width, interpolated, call_at, value, finished_len}
 use Rattle.page_roff_values.proofs.PlainTexts.{nil_text, ascii_text, text_append, text_at}
 use Rattle.page_roff_values.proofs.PartTexts.{CallText, ArePartTexts, parts_texts, lone_text}
 

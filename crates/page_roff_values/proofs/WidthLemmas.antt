@@ -9,13 +9,12 @@ use Rattle.page_core_base.specs.Messages.{Message}
 use Rattle.page_core_base.specs.declared.page_settings.Output.{Output}
 use Rattle.page_core_numbers.specs.Columns.{columns_of}
 use Rattle.page_roff_values.specs.declared.expansions.Nested.TheInside.{Inside}
-use Rattle.page_roff_values.specs.Environments.{Surroundings}
+use Rattle.page_roff_values.specs.Values.{Surroundings, Spot, Laid, nothing, join, seq, put, inside, outside, leaves, column_of, width, value}
 use Rattle.page_roff_values.specs.machine.Expansions.{NestedSpot, nested_of}
-use Rattle.page_roff_values.specs.Latches.{Goes}
+use Rattle.page_roff_values.specs.laws.Views.{Goes}
 use Rattle.page_roff_values.specs.machine.Rest.{rest}
 use Rattle.page_roff_values.specs.machine.Steps.{going_inside, going_outside}
 use Rattle.page_roff_values.specs.machine.Views.{units_of_bytes}
-use Rattle.page_roff_values.specs.Values.{Spot, Laid, nothing, join, seq, put, inside, outside, leaves, column_of, width, value}
 use Rattle.page_roff_values.proofs.FollowLemmas.{value_follows}
 use Rattle.page_roff_values.proofs.GoingLemmas.{begins}
 use Rattle.page_roff_values.proofs.LayLemmas.{seq_more, goes_on}

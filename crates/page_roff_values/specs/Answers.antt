@@ -1,20 +1,31 @@
--- Whether a condition holds. Source: roff(7), "Conditional expressions".
-use Rattle.std.specs.Prelude.{◌≡◌, ℕ, ◌-◌, Bool, true, false, not, ◌||◌, List, [], ◌∷◌, ◌++◌, length, take, drop, is_some, if◌then◌else◌}
+-- Whether a condition holds, and the value of an expression. Source: roff(7), "Conditionals", "Numerical expressions".
 use Rattle.std.specs.Int.{is_positive}
+use Rattle.std.specs.Prelude.{ℕ, List, ℤ, Bool, not, if◌then◌else◌, ◌||◌, is_some, true, false, ◌++◌, [], take, drop, ◌-◌, length, ◌∷◌}
 use Rattle.std.specs.Str.{bytes_eq}
 use Rattle.page_core_base.specs.Messages.{Message, message_about}
 use Rattle.page_core_base.specs.declared.note_kinds.NoteKind.TheVariants.{BadCondition}
 use Rattle.page_core_base.specs.declared.places.Place.{Place}
+use Rattle.page_core_numbers.specs.Expressions.{expression_of, messages_at}
+use Rattle.page_core_numbers.specs.declared.scales.Scale.TheVariants.{Basic}
+use Rattle.page_roff_syntax.specs.Requests.{request_of}
+use Rattle.page_roff_names.specs.Names.{Definitions, string_of, body_of}
 use Rattle.page_roff_heads.specs.declared.conditions.Condition.{Condition}
 use Rattle.page_roff_heads.specs.declared.conditions.Test.{Test}
 use Rattle.page_roff_heads.specs.declared.conditions.Test.TheVariants.{Always, Unknown, IsDefined, IsRegister, Expression, Texts, Missing}
 use Rattle.page_roff_heads.specs.declared.texts.Placed.{Placed}
-use Rattle.page_roff_names.specs.Names.{Definitions, string_of, body_of}
-use Rattle.page_roff_values.specs.Environments.{Surroundings, register_found}
-use Rattle.page_roff_values.specs.Values.{Spot, Laid, NEST, value, start, after_bytes}
-use Rattle.page_core_base.specs.Latches.{Came}
-use Rattle.page_roff_values.specs.Numbers.{value_of, messages_of}
-use Rattle.page_roff_syntax.specs.Requests.{request_of}
+use Rattle.page_roff_values.specs.Values.{Spot, Surroundings, register_found, Laid, NEST, value, after_bytes, start}
+
+-- ---- The value of an expression, and its messages. Source: roff(7), "Numerical expressions".
+
+-- the expression at a text's front; a number without a unit is in basic units
+abbrev pub value_of : List ℕ → ℤ
+value_of text = (expression_of Basic text).value
+
+-- its messages are all at one place
+abbrev pub messages_of : Place → List ℕ → List Message
+messages_of place text = messages_at place.line place.column (expression_of Basic text).troubles
+
+-- ---- Whether a condition holds. Source: roff(7), "Conditional expressions".
 
 -- what a condition gives: whether it holds, its messages, and its line after that
 pub record Answer : Type 0 where
@@ -81,10 +92,6 @@ test_answer env place is_turned (Expression text) s =
 test_answer env place is_turned (Texts first second) s =
     after (expands env (bytes_before first) first.text s) (second_answer env is_turned first second)
 test_answer env place is_turned Missing s = answers false [] s
-
--- a call answered so, with these messages and this line
-abbrev pub Gives : {P S : Type 0} → (P → S → List Message → Type 0) → S → S → Bool → Spot → Answer → Type 0
-Gives left old new result edge answer = (result ≡ answer.holds) × (edge ≡ answer.edge) × Came left old answer.notes new
 
 -- the condition of a head in a source line
 unfoldable pub condition_answer : Surroundings → ℕ → Condition (List ℕ) → Answer

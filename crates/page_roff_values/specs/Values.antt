@@ -1,23 +1,112 @@
 -- The value of a text: the finished line, its messages, and how many interpolations were made. Source: roff(7), "Escape sequences".
 use Rattle.std.specs.Fmt.{decimal, signed_decimal}
-use Rattle.std.specs.Prelude.{ℕ, zero, suc, ◌+◌, ◌-◌, ◌*◌, ◌≤◌, Bool, true, false, ◌&&◌, nat_le, nat_lt, List, [], ◌∷◌, ◌++◌, length, take, get_or, codes, if◌then◌else◌}
-use Rattle.std.specs.Prelude.{Option, Some, None, unwrap_or}
-use Rattle.page_core_base.specs.Limits.{EXPAND, LINE}
+use Rattle.std.specs.Prelude.{ℕ, List, [], ◌∷◌, ◌==◌, if◌then◌else◌, ◌++◌, drop, zero, suc, ◌-◌, nat_le, ◌&&◌, Option, Some, None, Bool, length, codes, ℤ, pos, unwrap_or, ◌+◌, true, false, nat_lt, get_or, take, ◌*◌}
+use Rattle.std.specs.Str.{bytes_eq}
+use Rattle.page_core_base.specs.Limits.{LINE, EXPAND, name_of}
 use Rattle.page_core_base.specs.Messages.{Message, message_about}
-use Rattle.page_core_base.specs.declared.page_settings.Output.{Output}
+use Rattle.page_core_base.specs.declared.limits.Limit.TheVariants as limits
 use Rattle.page_core_base.specs.declared.note_kinds.NoteKind.{NoteKind}
-use Rattle.page_core_base.specs.declared.note_kinds.NoteKind.TheVariants.{UndefString, ArgOutside, Loop, Limit}
+use Rattle.page_core_base.specs.declared.note_kinds.NoteKind.TheVariants.{Limit, Loop, UndefString, ArgOutside}
+use Rattle.page_core_base.specs.declared.page_settings.Output.{Output}
 use Rattle.page_core_numbers.specs.Columns.{columns_of}
-use Rattle.page_roff_names.specs.Names.{string_of}
+use Rattle.page_roff_names.specs.Names.{Definitions, number_of, string_of}
+use Rattle.page_roff_parts.specs.Parts.{without_lone, parts}
 use Rattle.page_roff_parts.specs.declared.parts.Call.{Call}
 use Rattle.page_roff_parts.specs.declared.parts.Call.TheVariants.{String, Register, Argument, Width}
 use Rattle.page_roff_parts.specs.declared.parts.Part.{Part}
 use Rattle.page_roff_parts.specs.declared.parts.Part.TheVariants.{Copied, Called}
-use Rattle.page_roff_values.specs.Arguments.{argument_of}
-use Rattle.page_roff_values.specs.Environments.{Surroundings, register_of}
-use Rattle.page_roff_parts.specs.Parts.{parts, without_lone}
-use Rattle.page_core_base.specs.Limits.{name_of}
-use Rattle.page_core_base.specs.declared.limits.Limit.TheVariants as limits
+
+-- ---- The arguments of the macro that runs: roff(7), "Macro syntax", and the escape `\$`.
+
+-- a byte in front of the first text of a list
+abbrev pub begin_first : ℕ → List (List ℕ) → List (List ℕ)
+begin_first byte [] = (byte ∷ []) ∷ []
+begin_first byte (text ∷ texts) = (byte ∷ text) ∷ texts
+
+-- the arguments in a list of bytes, where each is followed by a line feed (10)
+unfoldable pub arguments_in : List ℕ → List (List ℕ)
+arguments_in [] = []
+arguments_in (byte ∷ bytes) =
+    if byte == 10 then [] ∷ arguments_in bytes else begin_first byte (arguments_in bytes)
+
+-- the lines of a macro's body, each with a line feed at its end
+abbrev pub lines_in : List ℕ → List (List ℕ)
+lines_in bytes = arguments_in bytes
+
+-- each argument with a blank (32) before it; the same with quotes (34) around each
+abbrev pub spaced : List (List ℕ) → List ℕ
+spaced [] = []
+spaced (argument ∷ arguments) = 32 ∷ (argument ++ spaced arguments)
+
+abbrev pub spaced_quoted : List (List ℕ) → List ℕ
+spaced_quoted [] = []
+spaced_quoted (argument ∷ arguments) = 32 ∷ 34 ∷ (argument ++ (34 ∷ spaced_quoted arguments))
+
+-- `\$*`: all arguments, separated by blanks
+abbrev pub joined : List (List ℕ) → List ℕ
+joined arguments = drop 1 (spaced arguments)
+
+-- `\$@`: all arguments, each in quotes, separated by blanks
+abbrev pub quoted : List (List ℕ) → List ℕ
+quoted arguments = drop 1 (spaced_quoted arguments)
+
+-- the argument of this number, from 0; nothing where there are fewer
+abbrev pub argument_at : ℕ → List (List ℕ) → List ℕ
+argument_at n [] = []
+argument_at zero (argument ∷ arguments) = argument
+argument_at (suc n) (argument ∷ arguments) = argument_at n arguments
+
+-- what stands for the character after `\$`: 1 to 9, * (42) or @ (64)
+abbrev pub argument_named : ℕ → List (List ℕ) → Option (List ℕ)
+argument_named name arguments =
+    if nat_le 49 name && nat_le name 57 then Some (argument_at (name - 49) arguments)
+    else (if name == 42 then Some (joined arguments)
+    else (if name == 64 then Some (quoted arguments) else None))
+
+-- the value of an escape `\$` as it is written; another character has none, and outside a macro none has one
+abbrev pub argument_of : List ℕ → Option (List (List ℕ)) → Option (List ℕ)
+argument_of escape None = None
+argument_of [] (Some arguments) = None
+argument_of (a ∷ []) (Some arguments) = None
+argument_of (a ∷ b ∷ []) (Some arguments) = None
+argument_of (a ∷ b ∷ name ∷ []) (Some arguments) = argument_named name arguments
+argument_of (a ∷ b ∷ name ∷ c ∷ more) (Some arguments) = None
+
+-- ---- What interpolations read: roff(7), "Escape sequences", and the read-only number registers.
+
+-- Whether it is copy mode; the names of the page; the arguments of the macro that runs, if one does; how many basic units wide a finished
+-- text is.
+pub record Surroundings : Type 0 where
+  pub copy : Bool
+  pub definitions : Definitions
+  pub arguments : Option (List (List ℕ))
+  pub units : List ℕ → ℕ
+
+abbrev pub argument_count : Option (List (List ℕ)) → ℕ
+argument_count None = 0
+argument_count (Some arguments) = length arguments
+
+-- the registers that a page can't set
+abbrev pub read_only : List ℕ → Option (List (List ℕ)) → Option ℤ
+read_only name arguments =
+    if bytes_eq name (codes ".$") then Some (pos (argument_count arguments))
+    else (if bytes_eq name (codes ".g") then Some (pos 1)
+    else (if bytes_eq name (codes ".H") then Some (pos 24)
+    else (if bytes_eq name (codes ".V") then Some (pos 40) else None)))
+
+abbrev pub or_else : Option ℤ → Option ℤ → Option ℤ
+or_else (Some n) otherwise = Some n
+or_else None otherwise = otherwise
+
+-- the number in a register, if there is such a register
+abbrev pub register_found : List ℕ → Surroundings → Option ℤ
+register_found name env = or_else (read_only name env.arguments) (number_of name env.definitions)
+
+-- a register that there is not has 0
+abbrev pub register_of : List ℕ → Surroundings → ℤ
+register_of name env = unwrap_or (register_found name env) (pos 0)
+
+-- ---- The value of a text: the finished line, its messages, and how many interpolations were made. Source: roff(7), "Escape sequences".
 
 -- how many interpolations may be inside one another
 unfoldable pub NEST : ℕ
@@ -169,13 +258,3 @@ expanded env line text = value env NEST text (start line)
 -- this many bytes of the line are before the text that comes
 abbrev pub after_bytes : ℕ → Spot → Spot
 after_bytes bytes_before s = record s { around = record s.around { bytes_before = bytes_before } }
-
--- what a line gives: itself, or what was finished
-abbrev pub taken : Bool → ℕ → List ℕ → Spot → Spot
-taken true line text s = adds text (start line)
-taken false line text s = s
-
--- within its limits
-pub record IsWithin (s : Spot) : Type 0 where
-  pub text : length s.text ≤ LINE
-  pub count : s.count ≤ EXPAND

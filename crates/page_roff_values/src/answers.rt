@@ -3,11 +3,9 @@
 ghost use Rattle.std.specs.Prelude.{◌≡◌, false, ◌-◌, ◌≤◌, ◌^◌, take, drop};
 ghost use Rattle.std.specs.Str.{bytes_eq};
 ghost use Rattle.page_roff_values.specs.Answers as asked;
-ghost use Rattle.page_roff_values.specs.Answers.{Gives};
-ghost use Rattle.page_roff_heads.specs.Conditions.{condition_view, test_view, FitsTest};
-ghost use Rattle.page_roff_heads.specs.Texts.{placed_view, FitsPlaced};
+ghost use Rattle.page_roff_values.specs.laws.Views.{Gives, Goes};
+ghost use Rattle.page_roff_heads.specs.laws.Views.{condition_view, test_view, FitsTest, placed_view, FitsPlaced};
 ghost use Rattle.page_roff_values.specs.machine.Views.{surroundings_of};
-ghost use Rattle.page_roff_values.specs.Latches.{Goes};
 ghost use Rattle.page_roff_values.specs.Values.{nothing};
 
 use crate::environments::Environment;

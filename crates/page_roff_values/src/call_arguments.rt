@@ -2,9 +2,8 @@
 
 ghost use Rattle.std.specs.Prelude.{◌≡◌, ◌+◌, ◌*◌, ◌≤◌, ◌<◌, ◌++◌, [], ◌∷◌, length, IfOk, None, Some, drop};
 ghost use Rattle.std.specs.Vec.{vec_len, vec_capacity};
-ghost use Rattle.page_roff_values.specs.Arguments.{arguments_in, argument_at, argument_of, joined, quoted, spaced, spaced_quoted};
-ghost use Rattle.page_roff_values.specs.Environments.{argument_count};
-ghost use Rattle.page_roff_names.specs.Names.{Lends};
+ghost use Rattle.page_roff_values.specs.Values.{arguments_in, argument_at, argument_of, joined, quoted, spaced, spaced_quoted, argument_count};
+ghost use Rattle.page_roff_names.specs.laws.Views.{Lends};
 
 use memchr::memchr;
 use page_core_base::{ARGS, append};
@@ -25,7 +24,7 @@ pub struct CallArguments {
 impl Model for CallArguments {
     ghost use Rattle.std.specs.Prelude.{ℕ, List, Option, Some, None, ◌≡◌, if◌then◌else◌};
     ghost use Rattle.std.specs.Vec.{vec_capacity};
-    ghost use Rattle.page_roff_values.specs.Arguments.{arguments_in};
+    ghost use Rattle.page_roff_values.specs.Values.{arguments_in};
     ghost use Rattle.page_roff_values.specs.machine.Held.{AreHeld};
 
     ghost Value = { Option (List (List ℕ)) };

@@ -1,7 +1,7 @@
 //! What interpolations read: the names of a page, the arguments of the macro that runs, and the read-only number registers (roff(7)).
 
 ghost use Rattle.std.specs.Prelude.{◌≡◌};
-ghost use Rattle.page_roff_values.specs.Environments.{read_only, register_found, register_of};
+ghost use Rattle.page_roff_values.specs.Values.{read_only, register_found, register_of};
 ghost use Rattle.page_roff_values.specs.machine.Views.{surroundings_of};
 
 use crate::call_arguments::CallArguments;

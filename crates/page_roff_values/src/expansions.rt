@@ -3,9 +3,10 @@
 ghost use Rattle.std.specs.Prelude.{◌≡◌, ◌+◌, ◌-◌, ◌*◌, ◌^◌, ◌<◌, ◌≤◌, ℕ, length, not, false, nat_lt, IfOk, MatchOption, if◌then◌else◌};
 ghost use Rattle.std.specs.Fmt.{decimal, signed_decimal};
 ghost use Rattle.page_core_base.specs.declared.limits.TheConstants.{LINE};
-ghost use Rattle.page_roff_values.specs.Latches.{Goes};
+ghost use Rattle.page_roff_values.specs.laws.Views.{Goes};
 ghost use Rattle.page_roff_values.specs.machine.Rest.{Reads, calling, going_on, size, steps, texts_of};
 ghost use Rattle.page_roff_values.specs.Values as laying;
+ghost use Rattle.page_roff_values.specs.laws.Views as laying_laws;
 ghost use Rattle.page_roff_values.specs.machine.Expansions.{outermost, over};
 ghost use Rattle.page_roff_values.specs.machine.Steps.{going_inside, going_outside};
 ghost use Rattle.page_roff_parts.specs.machine.Views.{call_of};
@@ -439,7 +440,7 @@ impl Expansion {
     ) -> bool
         requires { length text.now ≤ LINE }
         ensures { Goes O.left out.old (laying.expanded (surroundings_of env.now) line text.now)
-            out.new (laying.nothing (laying.taken result line text.now self.new)) }
+            out.new (laying.nothing (laying_laws.taken result line text.now self.new)) }
     {
         self.begin(line);
         if is_verbatim(text, env.copy) {

@@ -1,8 +1,8 @@
 //! Numerical expressions in the lines of a page: their values, with messages to a latch (roff(7), "Numerical expressions").
 
 ghost use Rattle.std.specs.Prelude.{◌≡◌};
-ghost use Rattle.page_roff_values.specs.Numbers.{value_of, messages_of};
-ghost use Rattle.page_core_base.specs.Latches.{Came};
+ghost use Rattle.page_roff_values.specs.Answers.{value_of, messages_of};
+ghost use Rattle.page_core_base.specs.laws.Views.{Came};
 
 use page_core_base::{NoteOut, Place};
 use page_core_numbers::{Scale, evaluate};

@@ -6,7 +6,7 @@ use Rattle.page_scopes_tree.specs.declared.nestings.Scope.{Scope}
 use Rattle.page_scopes_labels.specs.declared.labels.Label.{Label}
 use Rattle.page_scopes_layout.specs.declared.lists.OpenList.{OpenList}
 use Rattle.page_scopes_phrases.specs.declared.kept_texts.KeptText.{KeptText}
-use Rattle.page_scopes.specs.Caps.{ListsFit, TargetsFit}
+use Rattle.page_scopes.specs.laws.Views.{ListsFit, TargetsFit}
 use Rattle.page_scopes.specs.declared.layouts.Kept.{Kept}
 
 pub text_fits : (text : Option KeptText) → IfSome text (λ text. length text.text ≤ FIELD)

@@ -1,24 +1,12 @@
--- The front of a page's body, and what events give that open no scope. Source: man(7), mdoc(7); mandoc(1), "DIAGNOSTICS".
-use Rattle.std.specs.Prelude.{ℕ, Bool, true, false, not, ◌&&◌, List, [], ◌∷◌, ◌++◌, Option, None, Some, if◌then◌else◌}
-use Rattle.page_core_base.specs.Pieces.{Item, shown}
+-- The body of a page: what its events give, by the block tree of its scopes laid out. Source: man(7), mdoc(7).
+use Rattle.std.specs.Prelude.{ℕ, Bool, true, false, List, not, ◌&&◌, if◌then◌else◌, [], ◌∷◌, ◌++◌, Some, Option, None}
+use Rattle.page_core_base.specs.Rows.{Item, shown}
 use Rattle.page_core_base.specs.declared.note_kinds.NoteKind.TheVariants.{BeforeSection}
-use Rattle.page_core_base.specs.declared.pieces.Piece.TheVariants as pieces
 use Rattle.page_core_base.specs.declared.page_settings.Output.{Output}
+use Rattle.page_core_base.specs.declared.pieces.Piece.TheVariants as pieces
 use Rattle.page_core_base.specs.declared.places.Place.{Place}
 use Rattle.page_core_numbers.specs.declared.scales.Scale.TheVariants.{Basic}
 use Rattle.page_roff_syntax.specs.declared.quotes.Argument.{Argument}
-use Rattle.page_scopes_blocks.specs.NameHangs.{kind_counted}
-use Rattle.page_scopes_layout.specs.Nodes.{margin_items}
-use Rattle.page_scopes_layout.specs.declared.contexts.Context.{Context}
-use Rattle.page_scopes_nodes.specs.EventKinds.{kind_outcome, name_after}
-use Rattle.page_scopes_phrases.specs.LineWords.{argument_word, line_word}
-use Rattle.page_scopes_phrases.specs.Outcomes.{Outcome, nothing, row_break}
-use Rattle.page_scopes_phrases.specs.declared.kept_texts.KeptText.{KeptText}
-use Rattle.page_scopes_phrases.specs.declared.formatting.Formatting.{Formatting}
-use Rattle.page_scopes_words.specs.Numbers.{number_notes}
-use Rattle.page_scopes_tree.specs.declared.acts.Act.{Act}
-use Rattle.page_scopes_tree.specs.declared.acts.Act.TheVariants as acts
-use Rattle.page_scopes_words.specs.Words.{at, says}
 use Rattle.page_sets_lines.specs.declared.blocks.BlockCloser.TheVariants as block_closers
 use Rattle.page_sets_lines.specs.declared.events.Event.{Event}
 use Rattle.page_sets_lines.specs.declared.events.EventKind.{EventKind}
@@ -31,6 +19,25 @@ use Rattle.page_sets_lines.specs.declared.openers.Closer.{Closer}
 use Rattle.page_sets_lines.specs.declared.openers.Closer.TheVariants as closers
 use Rattle.page_sets_lines.specs.declared.openers.LineOpener.TheVariants as lines
 use Rattle.page_sets_lines.specs.declared.openers.Opener.TheVariants as openers
+use Rattle.page_scopes_tree.specs.Placements.{ScopesEdge}
+use Rattle.page_scopes_tree.specs.declared.acts.Act.{Act}
+use Rattle.page_scopes_tree.specs.declared.acts.Act.TheVariants as acts
+use Rattle.page_scopes_words.specs.Words.{at, says, number_notes}
+use Rattle.page_scopes_layout.specs.Lists.{margin_items}
+use Rattle.page_scopes_layout.specs.declared.contexts.Context.{Context}
+use Rattle.page_scopes_phrases.specs.LineWords.{argument_word, line_word}
+use Rattle.page_scopes_phrases.specs.Phrases.{Outcome, nothing, row_break}
+use Rattle.page_scopes_phrases.specs.Phrases as formatting
+use Rattle.page_scopes_phrases.specs.declared.formatting.Formatting.{Formatting}
+use Rattle.page_scopes_phrases.specs.declared.kept_texts.KeptText.{KeptText}
+use Rattle.page_scopes_blocks.specs.Blocks.{kind_counted}
+use Rattle.page_scopes_nodes.specs.Begins.{kept_target}
+use Rattle.page_scopes_nodes.specs.Leaves.{kind_outcome, name_after}
+use Rattle.page_scopes_nodes.specs.declared.page_layouts.PageLayout.{PageLayout}
+use Rattle.page_scopes.specs.declared.layouts.Kept.{Kept}
+use Rattle.page_scopes.specs.declared.layouts.LayoutState.{LayoutState}
+
+-- ---- The front of a page's body, and what events give that open no scope. Source: man(7), mdoc(7); mandoc(1), "DIAGNOSTICS".
 
 -- ---- what begins the body: words, scopes, and lines as they are; a message where its macro does
 
@@ -111,3 +118,22 @@ stands output (acts.PageEnd line) name has_begun s = row_break s
 abbrev pub act_name : Act (Event (List ℕ)) → Option KeptText → Option KeptText
 act_name (acts.Event event) name = name_after event.kind name
 act_name (acts.PageEnd line) name = name
+
+-- ---- The layout of man(7) and mdoc(7): what scopes keep, begin with and end with, and what other events give. Source: man(7), "MACRO OVERVIEW"; mdoc(7), "MACRO REFERENCE".
+
+-- before a page's first line
+abbrev pub start : PageLayout → LayoutState
+start page = record { page = page; formatting = formatting.start page.indent; has_begun = false; name = None }
+
+abbrev pub kept : Event (List ℕ) → LayoutState → Kept
+kept event s = record { context = s.formatting.context; target = kept_target event.kind }
+
+-- ---- What the events of a page give, by the block tree of its scopes laid out, and what decides the rest. Source: man(7), mdoc(7).
+
+-- scopes' part of a page's edge: the open scopes, and what the page is formatted by
+abbrev pub PageEdge : Type 0
+PageEdge = ScopesEdge LayoutState Kept
+
+-- before a page's first line no scope is open
+abbrev pub start_edge : PageLayout → PageEdge
+start_edge page = record { mode = false; scopes = []; state = start page }

@@ -1,5 +1,2 @@
 pub mod Bodies
-pub mod Tables
-pub mod Edges
-pub mod Sinks
-pub mod Caps
+pub mod laws

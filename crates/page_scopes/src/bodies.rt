@@ -1,13 +1,13 @@
 //! The front of a page's body, and what events give that open no scope (man(7), mdoc(7)).
 
 ghost use Rattle.std.specs.Prelude.{◌≡◌};
-ghost use Rattle.page_core_base.specs.Latches.{Came};
+ghost use Rattle.page_core_base.specs.laws.Views.{Came};
 ghost use Rattle.page_scopes.specs.Bodies as bodies;
-ghost use Rattle.page_scopes_nodes.specs.EventKinds.{name_after};
-ghost use Rattle.page_sets_lines.specs.Fits.{CloserFits, KindFits};
-ghost use Rattle.page_scopes_phrases.specs.Outcomes.{GivesOutcome};
-ghost use Rattle.page_scopes_tree.specs.Acts.{TakesAct, act_view};
-ghost use Rattle.page_sets_lines.specs.Events.{closer_view, kind_view, given_view, leaf_view, opener_view, step_view};
+ghost use Rattle.page_scopes_nodes.specs.Leaves.{name_after};
+ghost use Rattle.page_sets_lines.specs.laws.Views.{CloserFits, KindFits};
+ghost use Rattle.page_scopes_phrases.specs.laws.Views.{GivesOutcome};
+ghost use Rattle.page_scopes_tree.specs.laws.Views.{TakesAct, act_view};
+ghost use Rattle.page_sets_lines.specs.laws.Events.{closer_view, kind_view, given_view, leaf_view, opener_view, step_view};
 ghost use Rattle.page_sets_lines.specs.declared.events.EventKind.TheVariants as kinds;
 ghost use Rattle.page_sets_lines.specs.declared.leaves.Leaf.TheVariants as leaves;
 

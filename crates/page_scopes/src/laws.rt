@@ -1,9 +1,9 @@
 //! Laws of the scopes of a page (man(7), mdoc(7)).
 
 ghost use Rattle.std.specs.Prelude.{◌≡◌, ℕ, ◌≤◌, List, ◌++◌, length};
-ghost use Rattle.page_scopes.specs.Edges.{PageEdge, end_items, scopes_after, scopes_items};
-ghost use Rattle.page_scopes.specs.Tables.{layout_tables};
-ghost use Rattle.page_scopes_tree.specs.Edges.{page_items};
+ghost use Rattle.page_scopes.specs.Bodies.{PageEdge};
+ghost use Rattle.page_scopes.specs.laws.Views.{end_items, scopes_after, scopes_items, layout_tables};
+ghost use Rattle.page_scopes_tree.specs.laws.Edges.{page_items};
 ghost use Rattle.page_sets_lines.specs.declared.events.Event.{Event};
 
 use crate::LayoutState;

@@ -1,9 +1,9 @@
 //! The layout of man(7) and mdoc(7).
 
 ghost use Rattle.std.specs.Prelude.{◌≡◌, ◌<◌, ◌∷◌, reverse, vec_capacity, vec_len};
-ghost use Rattle.page_roff_syntax.specs.Arguments.{argument_view};
-ghost use Rattle.page_scopes.specs.Tables.{start};
-ghost use Rattle.page_scopes_phrases.specs.KeptTexts.{kept_of};
+ghost use Rattle.page_roff_syntax.specs.laws.Views.{argument_view};
+ghost use Rattle.page_scopes.specs.Bodies.{start};
+ghost use Rattle.page_scopes_phrases.specs.Names.{kept_of};
 ghost use Rattle.page_scopes_tree.specs.machine.Stacks.{Keeps};
 
 use crate::bodies::{give_coming, give_standing};
@@ -111,8 +111,8 @@ impl LayoutState {
 }
 
 impl Renderer for LayoutState {
-    ghost use Rattle.page_scopes.specs.Tables.{layout_tables};
-    ghost use Rattle.page_sets_lines.specs.Fits.{KindFits};
+    ghost use Rattle.page_scopes.specs.laws.Views.{layout_tables};
+    ghost use Rattle.page_sets_lines.specs.laws.Views.{KindFits};
 
     type Kept = Kept;
 

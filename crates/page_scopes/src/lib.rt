@@ -1,12 +1,11 @@
 //! The scopes of a page, laid out: events in, pieces and messages out (man(7), mdoc(7)).
 //!
 //! It puts together the tree of scopes (`page_scopes_tree`), and what they begin and end with and what the other events give
-//! (`page_scopes_nodes`). Read `specs/Edges.antt` first (what events give, and what decides the rest), then `Tables.antt` and `Bodies.antt`.
+//! (`page_scopes_nodes`). Read `specs/Bodies.antt` first (what events give, and what decides the rest).
 //!
 //! Proved: `OpenScopes` (`new`, `copy`, `restart`, `give_event`, `give_end`, `begins_body`, `has_begun`, `depth`): over any set of macros, an event
-//! and the page's end give the layout of the block tree of the events so far, and leave what decides the rest (`specs/Edges.antt`, `Tables.antt`,
-//! `Bodies.antt`). `Scopes` (`new`, `apply`, `finish`, `depth`): the same over any sink of pieces, or a front of it and the fault; then, and after
-//! the end, each call fails. `Scopes::part`, `Scopes::from_part`: what is held between two lines (`specs/Sinks.antt`). `scopes_law`: events may be
+//! and the page's end give the layout of the block tree of the events so far, and leave what decides the rest (`specs/Bodies.antt`). `Scopes` (`new`, `apply`, `finish`, `depth`): the same over any sink of pieces, or a front of it and the fault; then, and after
+//! the end, each call fails. `Scopes::part`, `Scopes::from_part`: what is held between two lines (`specs/laws/Views.antt`). `scopes_law`: events may be
 //! cut anywhere.
 #![tactic(auto)]
 

@@ -1,11 +1,11 @@
 //! The open scopes of a page, laid out into a latch (man(7), mdoc(7)).
 
 ghost use Rattle.std.specs.Prelude.{◌≡◌, ◌≤◌, IfOk, length};
-ghost use Rattle.page_core_base.specs.Latches.{Came};
-ghost use Rattle.page_scopes.specs.Caps.{ScopesFit};
-ghost use Rattle.page_scopes.specs.Edges.{begins_body, end_after, end_items, event_after, event_items, start_edge, under};
-ghost use Rattle.page_sets_lines.specs.Fits.{KindFits};
-ghost use Rattle.page_sets_lines.specs.Events.{kind_view, event_view};
+ghost use Rattle.page_core_base.specs.laws.Views.{Came};
+ghost use Rattle.page_scopes.specs.laws.Views.{ScopesFit, begins_body, end_after, end_items, event_after, event_items, under};
+ghost use Rattle.page_scopes.specs.Bodies.{start_edge};
+ghost use Rattle.page_sets_lines.specs.laws.Views.{KindFits};
+ghost use Rattle.page_sets_lines.specs.laws.Events.{kind_view, event_view};
 
 use crate::LayoutState;
 use crate::bodies::begins;
@@ -23,7 +23,7 @@ pub struct OpenScopes {
 }
 
 impl Model for OpenScopes {
-    ghost use Rattle.page_scopes.specs.Edges.{PageEdge};
+    ghost use Rattle.page_scopes.specs.Bodies.{PageEdge};
 
     ghost Value = { PageEdge };
 

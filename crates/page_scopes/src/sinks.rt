@@ -1,11 +1,11 @@
 //! The scopes of a page over a sink of pieces (man(7), mdoc(7)).
 
 ghost use Rattle.std.specs.Prelude.{◌≡◌, ◌≤◌, None, Some, Err, IfSome, MatchResult, length, option_map};
-ghost use Rattle.page_core_base.specs.Fails.{FailsByPieces};
-ghost use Rattle.page_scopes.specs.Edges.{end_items, event_items, start_edge};
-ghost use Rattle.page_scopes.specs.Sinks.{GoesOn, Settles, SinkEdge, after_event, chosen, layout_of, part_of, resumed, start_of};
-ghost use Rattle.page_sets_lines.specs.Fits.{KindFits};
-ghost use Rattle.page_sets_lines.specs.Events.{kind_view, event_view};
+ghost use Rattle.page_core_base.specs.laws.Views.{FailsByPieces};
+ghost use Rattle.page_scopes.specs.laws.Views.{end_items, event_items, GoesOn, Settles, SinkEdge, after_event, chosen, layout_of, part_of, resumed, start_of};
+ghost use Rattle.page_scopes.specs.Bodies.{start_edge};
+ghost use Rattle.page_sets_lines.specs.laws.Views.{KindFits};
+ghost use Rattle.page_sets_lines.specs.laws.Events.{kind_view, event_view};
 
 use crate::OpenScopes;
 use page_core_base::{Fault, PieceLatch, PieceSink, SCOPES, Settings};
@@ -28,7 +28,7 @@ pub struct Scopes {
 
 impl Model for Scopes {
     ghost use Rattle.std.specs.Prelude.{Option, None, Some, if◌then◌else◌};
-    ghost use Rattle.page_scopes.specs.Sinks.{SinkEdge};
+    ghost use Rattle.page_scopes.specs.laws.Views.{SinkEdge};
 
     ghost Value = { Option SinkEdge };
 
@@ -44,7 +44,7 @@ pub struct ScopesPart {
 }
 
 impl Model for ScopesPart {
-    ghost use Rattle.page_scopes.specs.Sinks.{Part};
+    ghost use Rattle.page_scopes.specs.laws.Views.{Part};
 
     ghost Value = { Part };
 

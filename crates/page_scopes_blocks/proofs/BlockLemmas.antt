@@ -1,7 +1,7 @@
 -- What comes in two parts: helpers of proofs.
 use Rattle.std.proofs.Common.{List, ◌++◌, append_assoc, subst}
-use Rattle.page_core_base.specs.Latches.{Came}
-use Rattle.page_core_base.specs.Pieces.{Item}
+use Rattle.page_core_base.specs.laws.Views.{Came}
+use Rattle.page_core_base.specs.Rows.{Item}
 
 -- messages, and then what follows them
 pub came_after : {P O : Type 0} (left : P → O → List Item → Type 0) (s t u : O) (notes items : List Item) → Came left s notes t → Came left t items u

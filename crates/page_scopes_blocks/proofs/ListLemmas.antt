@@ -3,19 +3,19 @@ use Rattle.std.proofs.Common.{ℕ, ◌≤◌, List, [], ◌∷◌, length, Optio
 use Rattle.std.specs.Prelude.{int_lt}
 use Rattle.std.proofs.lemmas.Bool.{cases_Bool}
 use Rattle.std.proofs.lemmas.Int.{ints}
-use Rattle.page_scopes_layout.specs.Margins.{hold}
+use Rattle.page_scopes_layout.specs.Contexts.{hold}
 use Rattle.page_core_base.specs.declared.limits.TheConstants.{LINE}
 use Rattle.page_roff_syntax.specs.declared.quotes.Argument.{Argument}
 use Rattle.page_sets_lines.proofs.OrderLemmas.{AreArguments, all_arguments}
-use Rattle.page_sets_lines.specs.ControlLines.{arguments_after}
-use Rattle.page_sets_lines.specs.Laws.{IsArgument, IsArgumentIfGiven}
-use Rattle.page_sets_lines.specs.Lists.{list_word, no_options, option_read, options_after, with_argument, with_word}
+use Rattle.page_sets_lines.specs.Lines.{arguments_after}
+use Rattle.page_sets_lines.specs.laws.Sets.{IsArgument, IsArgumentIfGiven}
+use Rattle.page_sets_lines.specs.Blocks.{list_word, no_options, option_read, options_after, with_argument, with_word}
 use Rattle.page_sets_lines.specs.declared.lists.Awaited.{Awaited}
 use Rattle.page_sets_lines.specs.declared.lists.Awaited.TheVariants as awaited
 use Rattle.page_sets_lines.specs.declared.lists.ListOptions.{ListOptions}
 use Rattle.page_sets_lines.specs.declared.lists.ListWord.{ListWord}
 use Rattle.page_sets_lines.specs.declared.lists.ListWord.TheVariants as words
-use Rattle.page_scopes_blocks.specs.ListWidths.{LengthFits}
+use Rattle.page_scopes_blocks.specs.laws.Views.{LengthFits}
 
 pub argument_short : (text : List ℕ) (argument : Argument (List ℕ)) → length text ≤ LINE → IsArgument text argument → length argument.text ≤ LINE
 argument_short text argument short slice = let within = slice.slice.within in omega (arith, within, short)

@@ -1,19 +1,84 @@
--- What the blocks of mdoc(7) begin with. Source: mdoc(7), "MACRO REFERENCE".
-use Rattle.std.specs.Prelude.{ℕ, Bool, List, ◌∷◌, Option, unwrap_or, pos, if◌then◌else◌}
-use Rattle.page_core_base.specs.Pieces.{shown}
+-- What the blocks of mdoc(7) begin with, and the words that they print themselves. Source: mdoc(7).
+use Rattle.std.specs.Prelude.{None, codes, ℕ, List, Some, Bool, ◌∷◌, if◌then◌else◌, Option, unwrap_or, pos, ◌+◌, min, false}
+use Rattle.page_core_base.specs.Rows.{shown}
+use Rattle.page_core_base.specs.declared.cells.Font.TheVariants.{B}
 use Rattle.page_core_base.specs.declared.page_settings.Output.{Output}
 use Rattle.page_core_base.specs.declared.pieces.Piece.TheVariants as pieces
 use Rattle.page_core_base.specs.declared.places.Place.{Place}
+use Rattle.page_roff_syntax.specs.Arguments.{is_quoted}
 use Rattle.page_roff_syntax.specs.declared.quotes.Argument.{Argument}
-use Rattle.page_scopes_layout.specs.Begins.{display_begun, entered_context, font_if_given, function_begun, reference_begun}
-use Rattle.page_scopes_layout.specs.Nodes.{margin_items}
-use Rattle.page_scopes_phrases.specs.Outcomes.{Outcome, after_notes, nothing}
-use Rattle.page_scopes_phrases.specs.Formatting.{in_context, row_ended}
-use Rattle.page_scopes_phrases.specs.declared.formatting.Formatting.{Formatting}
+use Rattle.page_sets_names.specs.Marks.{opening, quotation_marks, closing}
+use Rattle.page_sets_names.specs.declared.generated_texts.GeneratedText.TheVariants.{OpenParenthesis, FullStop}
+use Rattle.page_sets_lines.specs.declared.blocks.Block.TheVariants as blocks
 use Rattle.page_sets_lines.specs.declared.blocks.BlockOpener.{BlockOpener}
 use Rattle.page_sets_lines.specs.declared.blocks.BlockOpener.TheVariants as openers
-use Rattle.page_scopes_blocks.specs.BlockWords.{block_words, function_name}
-use Rattle.page_scopes_blocks.specs.ListWidths.{given_columns, given_notes}
+use Rattle.page_sets_lines.specs.declared.events.EventKind.{EventKind}
+use Rattle.page_sets_lines.specs.declared.events.EventKind.TheVariants as kinds
+use Rattle.page_sets_lines.specs.declared.events.Join.TheVariants.{Apart, Glued}
+use Rattle.page_sets_lines.specs.declared.events.Role.{Role}
+use Rattle.page_sets_lines.specs.declared.events.Role.TheVariants as roles
+use Rattle.page_sets_lines.specs.declared.events.Word.{Word}
+use Rattle.page_sets_lines.specs.declared.leaves.Leaf.TheVariants as leaves
+use Rattle.page_sets_lines.specs.declared.line_steps.LineStep.TheVariants as steps
+use Rattle.page_sets_lines.specs.declared.openers.LineOpener.{LineOpener}
+use Rattle.page_sets_lines.specs.declared.openers.LineOpener.TheVariants as lines
+use Rattle.page_scopes_labels.specs.declared.labels.Explicit.TheVariants.{Block}
+use Rattle.page_scopes_labels.specs.declared.labels.Label.{Label}
+use Rattle.page_scopes_labels.specs.declared.labels.Label.TheVariants as labels
+use Rattle.page_scopes_words.specs.Widths.{name_columns}
+use Rattle.page_scopes_layout.specs.Contexts.{display_begun, font_if_given, function_begun, reference_begun, entered_context, MARGIN}
+use Rattle.page_scopes_layout.specs.Lists.{margin_items}
+use Rattle.page_scopes_layout.specs.declared.contexts.SeriesSoFar.{SeriesSoFar}
+use Rattle.page_scopes_layout.specs.declared.contexts.SeriesSoFar.TheVariants.{Begun}
+use Rattle.page_scopes_phrases.specs.LineWords.{generated_word, own_word, argument_word, line_word}
+use Rattle.page_scopes_phrases.specs.Names.{function_end}
+use Rattle.page_scopes_phrases.specs.Phrases.{Outcome, own_phrase, phrase_outcome, nothing, followed_by, row_ended, after_notes, in_context, counting}
+use Rattle.page_scopes_phrases.specs.declared.formatting.Formatting.{Formatting}
+use Rattle.page_scopes_phrases.specs.declared.kept_texts.KeptText.{KeptText}
+use Rattle.page_scopes_blocks.specs.Lists.{given_columns, given_notes}
+
+-- ---- The words that blocks and line scopes of mdoc(7) print themselves, where they begin and where they end. Source: mdoc(7), "MACRO REFERENCE".
+
+-- ---- where a scope begins
+
+-- a dash is before a description (`Nd`)
+abbrev pub dash : Place → Formatting → Outcome
+dash place s = phrase_outcome place.line (own_phrase place (codes "\\(en") None Apart Apart) s
+
+-- `Aq Bq Brq Dq Op Pq Ql Qq Sq`, and `Nd`; the words of an enclosure are glued to its marks
+abbrev pub line_words : Place → LineOpener → Formatting → Outcome
+line_words place (lines.Enclosure marks) s = generated_word place (own_word (opening marks) Apart Glued) s
+line_words place lines.Description s = dash place s
+line_words place _ s = nothing s
+
+-- `Ao Bo Bro Do Oo Po Qo So`, and `Eo`, of which the mark is a word; no other block has one
+abbrev pub block_words : Place → BlockOpener (List ℕ) → Formatting → Outcome
+block_words place (openers.Quotation quotation) s = generated_word place (own_word (opening (quotation_marks quotation)) Apart Glued) s
+block_words place (openers.Custom (Some mark)) s = line_word place.line (record (argument_word None Apart mark) { after = Glued }) s
+block_words place _ s = nothing s
+
+-- a function (`Fo`) begins with its name in bold, and what opens its arguments
+abbrev pub function_name : Place → Argument (List ℕ) → Formatting → Outcome
+function_name place name s =
+    followed_by (line_word place.line (argument_word (Some B) Apart name) s) (generated_word place (own_word OpenParenthesis Glued Glued))
+
+-- ---- where it ends, by its closer, with its line, by force or with the page
+
+-- after the last field of a reference (`Rs`), where it has one
+abbrev pub reference_end : SeriesSoFar → Place → Formatting → Outcome
+reference_end Begun place s = generated_word place (own_word FullStop Glued Apart) s
+reference_end _ place s = nothing s
+
+-- the mark of `Ec` is a word after its block has ended
+abbrev pub last_words : Place → Label → Formatting → Outcome
+last_words place (labels.Line (lines.Enclosure marks)) s = generated_word place (own_word (closing marks) Glued Apart) s
+last_words place (labels.Explicit (Block (blocks.Quotation quotation))) s =
+    generated_word place (own_word (closing (quotation_marks quotation)) Glued Apart) s
+last_words place (labels.Explicit (Block blocks.Reference)) s = reference_end s.context.fields place s
+last_words place (labels.Explicit (Block blocks.Function)) s = function_end place s
+last_words place _ s = nothing s
+
+-- ---- What the blocks of mdoc(7) begin with. Source: mdoc(7), "MACRO REFERENCE".
 
 -- ---- displays (`Bd`)
 
@@ -42,3 +107,29 @@ block_front output place opener s = block_words place opener s
 -- nothing is set in it yet
 unfoldable pub block_opened : Output → Place → BlockOpener (List ℕ) → Formatting → Outcome
 block_opened output place opener s = block_front output place opener (in_context (entered_context s.context) s)
+
+-- ---- The columns of the words of `Nm` that begin a row of the SYNOPSIS: later rows are as many further in. Source: mdoc(7), `Nm`.
+
+-- a word more, and the blank after it; they are held to as many as a margin
+abbrev pub columns_after : ℕ → ℕ → ℕ
+columns_after so_far columns = min (so_far + columns + 1) MARGIN
+
+-- the words of a name are counted
+abbrev pub counted : Option ℕ → Option ℕ → Formatting → Formatting
+counted (Some so_far) (Some columns) s = counting (Some (columns_after so_far columns)) s
+counted _ _ s = s
+
+abbrev pub word_columns : Output → Role → Word (List ℕ) → Option ℕ
+word_columns output roles.Delimiter word = None
+word_columns output _ word = Some (name_columns output (is_quoted word.arg.quoting) word.arg.text)
+
+-- the columns of an event: of a word that is no delimiter, and of the name of the manual, which may have none
+abbrev pub kind_columns : Output → EventKind (List ℕ) → Option KeptText → Option ℕ
+kind_columns output (kinds.Word word) name = word_columns output word.role word
+kind_columns output (kinds.Leaf (leaves.Step steps.ManualName)) None = Some 0
+kind_columns output (kinds.Leaf (leaves.Step steps.ManualName)) (Some name) = Some (name_columns output false name.text)
+kind_columns output _ name = None
+
+-- before an event is laid out, on a page whose manual has this name
+unfoldable pub kind_counted : Output → EventKind (List ℕ) → Option KeptText → Formatting → Formatting
+kind_counted output kind name s = counted s.line.name_columns (kind_columns output kind name) s

@@ -1,7 +1,3 @@
-pub mod Tags
-pub mod BlockWords
 pub mod Blocks
-pub mod NameHangs
-pub mod ListWidths
-pub mod OpenLists
-pub mod Items
+pub mod Lists
+pub mod laws

@@ -1,15 +1,15 @@
 //! The words that blocks and line scopes of mdoc(7) print themselves (mdoc(7), "MACRO REFERENCE").
 
 ghost use Rattle.std.specs.Prelude.{◌≡◌, None, codes};
-ghost use Rattle.page_roff_syntax.specs.Arguments.{argument_view};
-ghost use Rattle.page_scopes_blocks.specs.BlockWords as words;
+ghost use Rattle.page_roff_syntax.specs.laws.Views.{argument_view};
+ghost use Rattle.page_scopes_blocks.specs.Blocks as words;
 ghost use Rattle.page_scopes_labels.specs.declared.labels.Explicit.TheVariants as explicits;
 ghost use Rattle.page_scopes_labels.specs.declared.labels.Label.TheVariants as labels;
 ghost use Rattle.page_scopes_phrases.specs.LineWords.{argument_word, own_word};
-ghost use Rattle.page_sets_lines.specs.Fits.{ArgumentFits, BlockOpenerFits, FitsAt, GivenFits};
-ghost use Rattle.page_scopes_phrases.specs.Outcomes.{GivesOutcome};
-ghost use Rattle.page_scopes_phrases.specs.Phrases.{own_phrase, phrase_view};
-ghost use Rattle.page_sets_lines.specs.Events.{block_opener_view, given_view, word_view};
+ghost use Rattle.page_sets_lines.specs.laws.Views.{ArgumentFits, BlockOpenerFits, FitsAt, GivenFits};
+ghost use Rattle.page_scopes_phrases.specs.laws.Views.{GivesOutcome, phrase_view};
+ghost use Rattle.page_scopes_phrases.specs.Phrases.{own_phrase};
+ghost use Rattle.page_sets_lines.specs.laws.Events.{block_opener_view, given_view, word_view};
 ghost use Rattle.page_sets_lines.specs.declared.blocks.BlockOpener.TheVariants.{Custom};
 ghost use Rattle.page_sets_lines.specs.declared.events.Join.TheVariants.{Apart, Glued};
 ghost use Rattle.page_sets_names.specs.Marks.{closing, opening};

@@ -1,16 +1,16 @@
 //! What the blocks of mdoc(7) begin with (mdoc(7), "MACRO REFERENCE").
 
 ghost use Rattle.std.specs.Prelude.{◌≡◌, pos, unwrap_or};
-ghost use Rattle.page_core_base.specs.Latches.{Came};
-ghost use Rattle.page_roff_syntax.specs.Arguments.{argument_view};
-ghost use Rattle.page_scopes_blocks.specs.BlockWords.{function_name};
+ghost use Rattle.page_core_base.specs.laws.Views.{Came};
+ghost use Rattle.page_roff_syntax.specs.laws.Views.{argument_view};
+ghost use Rattle.page_scopes_blocks.specs.Blocks.{function_name};
 ghost use Rattle.page_scopes_blocks.specs.Blocks as blocks;
-ghost use Rattle.page_scopes_blocks.specs.ListWidths.{given_columns, given_notes};
-ghost use Rattle.page_scopes_layout.specs.Begins.{function_begun};
-ghost use Rattle.page_sets_lines.specs.Fits.{ArgumentFits, BlockOpenerFits, GivenFits};
-ghost use Rattle.page_scopes_phrases.specs.Formatting.{in_context};
-ghost use Rattle.page_scopes_phrases.specs.Outcomes.{GivesOutcome};
-ghost use Rattle.page_sets_lines.specs.Events.{block_opener_view, given_view};
+ghost use Rattle.page_scopes_blocks.specs.Lists.{given_columns, given_notes};
+ghost use Rattle.page_scopes_layout.specs.Contexts.{function_begun};
+ghost use Rattle.page_sets_lines.specs.laws.Views.{ArgumentFits, BlockOpenerFits, GivenFits};
+ghost use Rattle.page_scopes_phrases.specs.Phrases.{in_context};
+ghost use Rattle.page_scopes_phrases.specs.laws.Views.{GivesOutcome};
+ghost use Rattle.page_sets_lines.specs.laws.Events.{block_opener_view, given_view};
 
 use crate::block_words::{give_block_words, give_function_name};
 use page_core_base::{Output, Piece, PieceOut, Place};

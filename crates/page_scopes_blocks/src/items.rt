@@ -1,10 +1,10 @@
 //! Items of lists: their marks and numbers (mdoc(7), `Bl` and `It`).
 
 ghost use Rattle.std.specs.Prelude.{◌≡◌, ◌≤◌, ◌++◌, length, codes, decimal, None};
-ghost use Rattle.page_sets_lines.specs.Fits.{FitsAt};
-ghost use Rattle.page_scopes_phrases.specs.Outcomes.{GivesOutcome};
-ghost use Rattle.page_scopes_phrases.specs.Phrases.{own_phrase, phrase_view};
-ghost use Rattle.page_scopes_blocks.specs.Items as items;
+ghost use Rattle.page_sets_lines.specs.laws.Views.{FitsAt};
+ghost use Rattle.page_scopes_phrases.specs.laws.Views.{GivesOutcome, phrase_view};
+ghost use Rattle.page_scopes_phrases.specs.Phrases.{own_phrase};
+ghost use Rattle.page_scopes_blocks.specs.Lists as items;
 ghost use Rattle.page_sets_lines.specs.declared.events.Join.TheVariants.{Apart};
 
 use crate::tags::{TagPlace, give_phrase_tag};
@@ -90,7 +90,7 @@ fn begin_item<O: PieceOut>(out: &mut O, state: &mut Formatting)
 }
 
 /// Gives what an item of the open list begins with.
-#[tactic(auto, unfolding(crate::specs::Items::item_opened))]
+#[tactic(auto, unfolding(crate::specs::Lists::item_opened))]
 pub fn give_item<O: PieceOut>(out: &mut O, place: Place, state: &mut Formatting)
     ensures { GivesOutcome O.left out.old (items.item_opened place state.old) out.new state.new }
 {

@@ -3,10 +3,10 @@
 ghost use Rattle.std.specs.Prelude.{◌≡◌, ◌≤◌, ◌*◌, Some};
 ghost use Rattle.page_core_base.specs.declared.limits.TheConstants.{LINE};
 ghost use Rattle.page_roff_syntax.specs.Arguments.{is_quoted};
-ghost use Rattle.page_scopes_blocks.specs.NameHangs as hangs;
-ghost use Rattle.page_scopes_words.specs.Names.{name_columns};
-ghost use Rattle.page_sets_lines.specs.Fits.{KindFits, FitsAt};
-ghost use Rattle.page_sets_lines.specs.Events.{kind_view, word_view};
+ghost use Rattle.page_scopes_blocks.specs.Blocks as hangs;
+ghost use Rattle.page_scopes_words.specs.Widths.{name_columns};
+ghost use Rattle.page_sets_lines.specs.laws.Views.{KindFits, FitsAt};
+ghost use Rattle.page_sets_lines.specs.laws.Events.{kind_view, word_view};
 ghost use Rattle.page_sets_lines.specs.declared.events.EventKind.TheVariants as kinds;
 ghost use Rattle.page_sets_lines.specs.declared.leaves.Leaf.TheVariants as leaves;
 ghost use Rattle.page_sets_lines.specs.declared.line_steps.LineStep.TheVariants as steps;
@@ -64,7 +64,7 @@ fn count_manual_name(output: Output, name: &Option<ManualName>, so_far: u16, sta
 
 /// Counts the columns of what an event prints, before it is laid out, where the words of a name that begins a row of the SYNOPSIS are counted; delimiters
 /// do not count. The name is that of the manual.
-#[tactic(auto, unfolding(crate::specs::NameHangs::kind_counted))]
+#[tactic(auto, unfolding(crate::specs::Blocks::kind_counted))]
 #[inline(always)]
 pub fn count_name(
     output: Output,

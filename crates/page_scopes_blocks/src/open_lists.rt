@@ -1,12 +1,12 @@
 //! What lists begin with (mdoc(7), `Bl`).
 
 ghost use Rattle.std.specs.Prelude.{◌≡◌, ◌≤◌, length, pos, unwrap_or};
-ghost use Rattle.page_core_base.specs.Latches.{Came};
+ghost use Rattle.page_core_base.specs.laws.Views.{Came};
 ghost use Rattle.page_scopes_layout.specs.Lists.{list_begun};
-ghost use Rattle.page_scopes_phrases.specs.Outcomes.{GivesOutcome};
-ghost use Rattle.page_scopes_blocks.specs.ListWidths.{LengthFits};
-ghost use Rattle.page_scopes_blocks.specs.OpenLists as lists;
-ghost use Rattle.page_sets_lines.specs.Lists.{options_view};
+ghost use Rattle.page_scopes_phrases.specs.laws.Views.{GivesOutcome};
+ghost use Rattle.page_scopes_blocks.specs.laws.Views.{LengthFits};
+ghost use Rattle.page_scopes_blocks.specs.Lists as lists;
+ghost use Rattle.page_sets_lines.specs.laws.Views.{options_view};
 
 use crate::widths::{give_columns, give_given, hang_of};
 use page_core_base::{LINE, Output, Piece, PieceOut, Place};
@@ -82,7 +82,7 @@ fn begin_list<O: PieceOut>(out: &mut O, said: &SaidList, state: &mut Formatting)
 }
 
 /// Gives what a list begins with, compact or not, with its arguments as they are.
-#[tactic(auto, unfolding(crate::specs::OpenLists::list_opened))]
+#[tactic(auto, unfolding(crate::specs::Lists::list_opened))]
 pub fn give_list<O: PieceOut>(
     out: &mut O,
     output: Output,

@@ -1,12 +1,12 @@
 //! Tags: words in front of a text that hangs (man(7), `IP`, `SY`).
 
 ghost use Rattle.std.specs.Prelude.{◌≡◌};
-ghost use Rattle.page_sets_lines.specs.Fits.{ArgumentFits, FitsAt};
-ghost use Rattle.page_scopes_phrases.specs.Outcomes.{GivesOutcome, followed_by};
-ghost use Rattle.page_scopes_phrases.specs.Phrases.{phrase_outcome, phrase_view};
+ghost use Rattle.page_sets_lines.specs.laws.Views.{ArgumentFits, FitsAt};
+ghost use Rattle.page_scopes_phrases.specs.laws.Views.{GivesOutcome, phrase_view};
+ghost use Rattle.page_scopes_phrases.specs.Phrases.{followed_by, phrase_outcome};
 ghost use Rattle.page_scopes_phrases.specs.LineWords.{line_word};
-ghost use Rattle.page_scopes_blocks.specs.Tags as tags;
-ghost use Rattle.page_sets_lines.specs.Events.{word_view};
+ghost use Rattle.page_scopes_blocks.specs.Lists as tags;
+ghost use Rattle.page_sets_lines.specs.laws.Events.{word_view};
 
 use page_core_base::{Piece, PieceOut, TagForm};
 use page_scopes_layout::{Context, PagePart, give_margins};
@@ -91,7 +91,7 @@ fn give_tag_phrase<O: PieceOut>(
 }
 
 /// Gives a tag of the words of a phrase.
-#[tactic(auto, unfolding(crate::specs::Tags::phrase_tag))]
+#[tactic(auto, unfolding(crate::specs::Lists::phrase_tag))]
 pub fn give_phrase_tag<O: PieceOut>(
     out: &mut O,
     tag: TagPlace,
@@ -124,7 +124,7 @@ fn give_tag_words<O: PieceOut>(
 }
 
 /// Gives a tag of the words of an argument.
-#[tactic(auto, unfolding(crate::specs::Tags::tag))]
+#[tactic(auto, unfolding(crate::specs::Lists::tag))]
 pub fn give_tag<O: PieceOut>(
     out: &mut O,
     tag: TagPlace,

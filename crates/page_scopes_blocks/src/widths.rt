@@ -1,12 +1,12 @@
 //! The widths that the arguments of `Bl` give (mdoc(7), `Bl`).
 
 ghost use Rattle.std.specs.Prelude.{◌≡◌, ◌≤◌, length, option_map, unwrap_or};
-ghost use Rattle.page_core_base.specs.Latches.{Came};
-ghost use Rattle.page_roff_syntax.specs.Arguments.{argument_view};
-ghost use Rattle.page_scopes_blocks.specs.ListWidths as widths;
-ghost use Rattle.page_scopes_blocks.specs.ListWidths.{LengthFits};
-ghost use Rattle.page_scopes_layout.specs.Margins.{hold};
-ghost use Rattle.page_sets_lines.specs.Events.{given_view};
+ghost use Rattle.page_core_base.specs.laws.Views.{Came};
+ghost use Rattle.page_roff_syntax.specs.laws.Views.{argument_view};
+ghost use Rattle.page_scopes_blocks.specs.Lists as widths;
+ghost use Rattle.page_scopes_blocks.specs.laws.Views.{LengthFits};
+ghost use Rattle.page_scopes_layout.specs.Contexts.{hold};
+ghost use Rattle.page_sets_lines.specs.laws.Events.{given_view};
 ghost use Rattle.page_sets_lines.specs.declared.lists.ListKind.TheVariants.{Column};
 
 use page_core_base::{LINE, Limit, NoteKind, Output, PieceOut, Place};

@@ -3,9 +3,9 @@ use Rattle.std.specs.Prelude.{ℕ, ◌+◌, ◌*◌, ◌≤◌, false, List, [],
 use Rattle.std.proofs.Common.{arith}
 use Rattle.page_sets_lines.specs.declared.events.EventKind.TheVariants.{Raw}
 use Rattle.page_sets_lines.specs.declared.events.Event.{Event}
-use Rattle.page_core_base.specs.LinesTaken.{Line}
-use Rattle.page_sets_lines.specs.Laws.{AreSlices, AreInOrder}
-use Rattle.page_sets_lines.specs.PlainLines.{event_at, line_end, line_start}
+use Rattle.page_core_base.specs.Texts.{Line}
+use Rattle.page_sets_lines.specs.laws.Sets.{AreSlices, AreInOrder}
+use Rattle.page_sets_lines.specs.Lines.{event_at, line_end, line_start}
 use Rattle.page_sets_lines.proofs.LawLemmas.{whole_part}
 use Rattle.page_scopes_cases.specs.declared.verbatim.Stage.{Stage}
 use Rattle.page_scopes_cases.specs.declared.verbatim.Stage.TheVariants.{Start, Shown, Ended}

@@ -3,7 +3,7 @@ use Rattle.std.specs.Prelude.{ℕ, ◌≤◌, Bool, true, false, List, [], ◌�
 use Rattle.std.specs.Str.{bytes_eq}
 use Rattle.page_core_base.specs.declared.cells.Font.TheVariants.{I}
 use Rattle.page_core_base.specs.declared.note_kinds.NoteKind.TheVariants.{UnknownMacro}
-use Rattle.page_core_base.specs.LinesTaken.{Line}
+use Rattle.page_core_base.specs.Texts.{Line}
 use Rattle.page_roff_syntax.specs.declared.quotes.Argument.{Argument}
 use Rattle.page_roff_syntax.specs.Arguments.{has_arguments}
 use Rattle.page_sets_names.specs.declared.marks.Quotation.TheVariants.{Do}
@@ -17,8 +17,7 @@ use Rattle.page_sets_lines.specs.declared.events.Role.TheVariants as roles
 use Rattle.page_sets_lines.specs.declared.events.EventKind.{EventKind}
 use Rattle.page_sets_lines.specs.declared.events.EventKind.TheVariants as kinds
 use Rattle.page_sets_lines.specs.declared.events.Event.{Event}
-use Rattle.page_sets_lines.specs.ControlLines.{name_end, name_of, name_place, is_nameless, arguments_after}
-use Rattle.page_sets_lines.specs.PlainLines.{event_at, line_end, plain_line, plain_events, word_place}
+use Rattle.page_sets_lines.specs.Lines.{name_end, name_of, name_place, is_nameless, arguments_after, event_at, line_end, plain_line, plain_events, word_place}
 use Rattle.page_scopes_checks.specs.declared.marked.MarkedPlace.{MarkedPlace}
 use Rattle.page_scopes_checks.specs.declared.marked.MarkedPlace.TheVariants as places
 

@@ -2,12 +2,11 @@
 use Rattle.std.proofs.Common.{ℕ, ◌+◌, ◌*◌, ◌≤◌, Bool, true, false, List, [], ◌∷◌, length, arith, inl, inr, Option, None, Some, codes}
 use Rattle.std.specs.Str.{bytes_eq}
 use Rattle.std.proofs.lemmas.Bool.{cases_Bool}
-use Rattle.page_core_base.specs.LinesTaken.{Line}
+use Rattle.page_core_base.specs.Texts.{Line}
 use Rattle.page_roff_syntax.specs.declared.quotes.Argument.{Argument}
 use Rattle.page_sets_lines.specs.declared.plain_lines.PlainLine.{PlainLine}
-use Rattle.page_sets_lines.specs.Laws.{HasSlices, AreSlices, AreInOrder}
-use Rattle.page_sets_lines.specs.ControlLines.{name_end, name_of, is_nameless, arguments_after}
-use Rattle.page_sets_lines.specs.PlainLines.{plain_line}
+use Rattle.page_sets_lines.specs.laws.Sets.{HasSlices, AreSlices, AreInOrder}
+use Rattle.page_sets_lines.specs.Lines.{name_end, name_of, is_nameless, arguments_after, plain_line}
 use Rattle.page_sets_lines.proofs.ArgumentLaws.{ArgumentsFrom, all_after, earlier, few_after}
 use Rattle.page_sets_lines.proofs.LawLemmas.{end_within, name_part, line_slices, line_order}
 use Rattle.page_scopes_checks.specs.declared.marked.MarkedPlace.{MarkedPlace}

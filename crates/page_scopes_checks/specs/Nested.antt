@@ -1,6 +1,6 @@
 -- A layout for tests: each scope is four columns further in, and is shown by its name. Source: man(7).
 use Rattle.std.specs.Prelude.{ℕ, ◌+◌, ◌-◌, ◌^◌, min, List, [], ◌∷◌}
-use Rattle.page_core_base.specs.Pieces.{Item, shown}
+use Rattle.page_core_base.specs.Rows.{Item, shown}
 use Rattle.page_core_base.specs.declared.cells.Font.TheVariants.{R}
 use Rattle.page_core_base.specs.declared.pieces.Piece.TheVariants.{Text, Break, Indent}
 use Rattle.page_core_base.specs.declared.places.Place.{Place}

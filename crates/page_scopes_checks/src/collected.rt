@@ -1,8 +1,8 @@
 //! The events of a line as a list.
 
 ghost use Rattle.std.specs.Prelude.{◌≡◌, ◌≤◌, length, map, IfOk};
-ghost use Rattle.page_core_base.specs.LinesTaken.{line_view};
-ghost use Rattle.page_sets_lines.specs.Events.{event_view};
+ghost use Rattle.page_core_base.specs.laws.Views.{line_view};
+ghost use Rattle.page_sets_lines.specs.laws.Events.{event_view};
 
 use page_core_base::{LINE, Taken};
 use page_sets::{Event, MacroSet};

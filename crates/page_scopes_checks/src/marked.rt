@@ -1,10 +1,10 @@
 //! A third set, which keeps the laws of macro sets: `I` sets its words in italic, `Open` begins a quotation, and `Close` ends it.
 
 ghost use Rattle.std.specs.Prelude.{◌≡◌, ◌≤◌, length};
-ghost use Rattle.page_core_base.specs.LinesTaken.{line_view};
-ghost use Rattle.page_roff_syntax.specs.Arguments.{argument_view};
-ghost use Rattle.page_sets_lines.specs.Events.{event_view, kind_view};
-ghost use Rattle.page_sets_lines.specs.PlainLines.{event_at};
+ghost use Rattle.page_core_base.specs.laws.Views.{line_view};
+ghost use Rattle.page_roff_syntax.specs.laws.Views.{argument_view};
+ghost use Rattle.page_sets_lines.specs.laws.Events.{event_view, kind_view};
+ghost use Rattle.page_sets_lines.specs.Lines.{event_at};
 ghost use Rattle.page_scopes_checks.specs.Marked as marked;
 
 use page_core_base::{Font, LINE, NoteKind, Place, Taken};

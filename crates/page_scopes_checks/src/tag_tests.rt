@@ -1,8 +1,8 @@
 //! Tags of arguments, which are in front of the text of their paragraph.
 
 ghost use Rattle.std.specs.Prelude.{◌≤◌, length};
-ghost use Rattle.page_sets_lines.specs.Fits.{ArgumentFits};
-ghost use Rattle.page_sets_lines.specs.Events.{word_view};
+ghost use Rattle.page_sets_lines.specs.laws.Views.{ArgumentFits};
+ghost use Rattle.page_sets_lines.specs.laws.Events.{word_view};
 
 use crate::leaf_pages::{MOST, check_shown};
 use page_core_base::{Font, Place};

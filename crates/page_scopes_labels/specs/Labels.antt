@@ -1,35 +1,19 @@
 -- What an open scope is, and what is known of it by that alone: one row for each. Source: man(7), "MACRO OVERVIEW"; mdoc(7), "MACRO REFERENCE".
-use Rattle.std.specs.Prelude.{ℕ, Bool, true, false, List, codes}
-use Rattle.std.specs.Borrow.{Bor}
+use Rattle.std.specs.Prelude.{ℕ, false, List, true, codes, Bool}
 use Rattle.std.specs.Str.{bytes_eq}
-use Rattle.page_sets_lines.specs.Blocks.{block_closer_name, block_name}
-use Rattle.page_sets_names.specs.MacroNames.{font_macro_name, heading_name, link_closer_name, link_name, one_line_name, tag_name}
 use Rattle.page_sets_names.specs.Marks.{marks_name}
-use Rattle.page_sets_lines.specs.declared.openers.LineOpener.TheVariants.{Head, Heading, Tag, FontWords, Enclosure, Description, OneLine}
+use Rattle.page_sets_names.specs.Names.{font_macro_name, heading_name, link_closer_name, link_name, one_line_name, tag_name}
+use Rattle.page_sets_lines.specs.Blocks.{block_closer_name, block_name}
 use Rattle.page_sets_lines.specs.declared.blocks.Block.TheVariants as blocks
 use Rattle.page_sets_lines.specs.declared.lists.ListKind.TheVariants as kinds
+use Rattle.page_sets_lines.specs.declared.openers.LineOpener.TheVariants.{Head, Heading, Tag, FontWords, Enclosure, Description, OneLine}
 use Rattle.page_scopes_labels.specs.declared.labels.Explicit.{Explicit}
 use Rattle.page_scopes_labels.specs.declared.labels.Explicit.TheVariants.{RelativeMargin, Target, Syntax, Block}
 use Rattle.page_scopes_labels.specs.declared.labels.Label.{Label}
 use Rattle.page_scopes_labels.specs.declared.labels.Label.TheVariants as labels
 use Rattle.page_scopes_labels.specs.declared.labels.LabelRow.{LabelRow}
 use Rattle.page_scopes_labels.specs.declared.labels.ScopeEnd.{ScopeEnd}
-use Rattle.page_scopes_labels.specs.declared.labels.ScopeEnd.TheVariants.{Implied, Line, Closer}
-
--- what texts of a row hold
-abbrev pub end_view : ScopeEnd (Bor (List ℕ)) → ScopeEnd (List ℕ)
-end_view Implied = Implied
-end_view Line = Line
-end_view (Closer name) = Closer name.now
-
-abbrev pub row_view : LabelRow (Bor (List ℕ)) → LabelRow (List ℕ)
-row_view row = record {
-  name = row.name.now;
-  end = end_view row.end;
-  is_level = row.is_level;
-  owns_prevailing = row.owns_prevailing;
-  guards_fonts = row.guards_fonts;
-}
+use Rattle.page_scopes_labels.specs.declared.labels.ScopeEnd.TheVariants.{Line, Implied, Closer}
 
 -- a scope that keeps nothing apart
 abbrev pub plain_row : List ℕ → ScopeEnd (List ℕ) → LabelRow (List ℕ)

@@ -2,6 +2,7 @@
 
 ghost use Rattle.std.specs.Prelude.{◌≡◌};
 ghost use Rattle.page_scopes_labels.specs.Labels as labels;
+ghost use Rattle.page_scopes_labels.specs.laws.Views as labels_laws;
 
 use page_sets_lines::{Block, LineOpener, Link, ListKind};
 
@@ -63,7 +64,7 @@ pub struct LabelRow<W> {
 // The row of a scope that keeps nothing apart.
 #[inline(always)]
 fn plain_row(name: &'static str, end: ScopeEnd<&'static str>) -> LabelRow<&'static str>
-    ensures { labels.row_view result ≡ labels.plain_row name.now (labels.end_view end.entry) }
+    ensures { labels_laws.row_view result ≡ labels.plain_row name.now (labels_laws.end_view end.entry) }
 {
     LabelRow {
         name,
@@ -77,7 +78,7 @@ fn plain_row(name: &'static str, end: ScopeEnd<&'static str>) -> LabelRow<&'stat
 // The row of a scope with paragraphs and a prevailing indent of its own.
 #[inline(always)]
 fn level_row(name: &'static str, end: ScopeEnd<&'static str>) -> LabelRow<&'static str>
-    ensures { labels.row_view result ≡ labels.level_row name.now (labels.end_view end.entry) }
+    ensures { labels_laws.row_view result ≡ labels.level_row name.now (labels_laws.end_view end.entry) }
 {
     LabelRow {
         name,
@@ -91,7 +92,7 @@ fn level_row(name: &'static str, end: ScopeEnd<&'static str>) -> LabelRow<&'stat
 // The row of a line scope that leaves the fonts as they were.
 #[inline(always)]
 fn guard_row(name: &'static str) -> LabelRow<&'static str>
-    ensures { labels.row_view result ≡ labels.guard_row name.now }
+    ensures { labels_laws.row_view result ≡ labels.guard_row name.now }
 {
     LabelRow {
         name,
@@ -105,7 +106,7 @@ fn guard_row(name: &'static str) -> LabelRow<&'static str>
 // The row of a scope that ends with a line.
 #[inline(always)]
 fn line_row(opener: LineOpener) -> LabelRow<&'static str>
-    ensures { labels.row_view result ≡ labels.label_row (Label.Line opener) }
+    ensures { labels_laws.row_view result ≡ labels.label_row (Label.Line opener) }
 {
     match opener {
         LineOpener::Head => plain_row("It", ScopeEnd::Line),
@@ -132,7 +133,7 @@ impl Label {
     /// What is known of the scope by its label alone.
     #[inline(always)]
     pub fn row(self) -> LabelRow<&'static str>
-        ensures { labels.row_view result ≡ labels.label_row self }
+        ensures { labels_laws.row_view result ≡ labels.label_row self }
     {
         match self {
             Label::Item => plain_row("It", ScopeEnd::Implied),

@@ -1,14 +1,14 @@
 -- How far a heading is `NAME` or `SYNOPSIS`, by what it prints in ASCII. Source: mdoc(7), "MANUAL STRUCTURE"; mandoc_char(7).
-use Rattle.std.specs.Prelude.{ℕ, ◌+◌, min, ◌==◌, nat_lt, Bool, true, false, not, ◌&&◌, List, [], ◌∷◌, length, take, drop, codes, Option, None, Some, if◌then◌else◌, pos, int_lt}
 use Rattle.std.specs.List.{fold}
 use Rattle.std.specs.Option.{option_map_or}
+use Rattle.std.specs.Prelude.{ℕ, List, codes, false, Some, None, length, take, drop, ◌+◌, min, Option, if◌then◌else◌, ◌==◌, Bool, not, ◌&&◌, [], ◌∷◌, pos, int_lt, true, nat_lt}
 use Rattle.std.specs.Str.{bytes_eq, chars, is_utf8}
+use Rattle.page_core_tables.specs.Glyphs.{spelling_of, glyph_of}
 use Rattle.page_core_escapes.specs.Meanings as escapes
 use Rattle.page_core_escapes.specs.Meanings.{Meaning}
 use Rattle.page_core_escapes.specs.Tokens.{TextToken, white, plain, quotes, escaped, tokens_of}
 use Rattle.page_core_numbers.specs.Expressions.{expression_of}
 use Rattle.page_core_numbers.specs.declared.scales.Scale.TheVariants.{Em}
-use Rattle.page_core_tables.specs.Glyphs.{glyph_of, spelling_of}
 use Rattle.page_scopes_layout.specs.declared.contexts.Context.{Context}
 use Rattle.page_scopes_layout.specs.declared.contexts.PagePart.{PagePart}
 use Rattle.page_scopes_layout.specs.declared.contexts.PagePart.TheVariants as parts

@@ -1,7 +1,7 @@
 //! The context in which a scope begins (man(7), mdoc(7)).
 
 ghost use Rattle.std.specs.Prelude.{◌≡◌};
-ghost use Rattle.page_scopes_layout.specs.Begins as begins;
+ghost use Rattle.page_scopes_layout.specs.Contexts as begins;
 
 use crate::margins::further_in;
 use crate::{Context, PREVAILING, PagePart, PageSection, SeriesSoFar, hold};

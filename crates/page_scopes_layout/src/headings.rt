@@ -4,8 +4,8 @@ ghost use Rattle.std.specs.Prelude.{◌≡◌, ◌≤◌, [], length};
 ghost use Rattle.std.specs.List.{fold};
 ghost use Rattle.std.specs.Option.{option_map_or};
 ghost use Rattle.std.specs.Str.{chars};
-ghost use Rattle.page_core_escapes.specs.Escapes.{meaning_view};
-ghost use Rattle.page_core_escapes.specs.Tokens.{plain, token_view, tokens_of};
+ghost use Rattle.page_core_escapes.specs.laws.Views.{meaning_view, token_view};
+ghost use Rattle.page_core_escapes.specs.Tokens.{plain, tokens_of};
 ghost use Rattle.page_core_tables.specs.Glyphs.{glyph_of};
 ghost use Rattle.page_scopes_layout.specs.Headings as headings;
 

@@ -1,7 +1,7 @@
 //! The margins of rows (man(7)).
 
 ghost use Rattle.std.specs.Prelude.{◌≡◌};
-ghost use Rattle.page_scopes_layout.specs.Margins as margins;
+ghost use Rattle.page_scopes_layout.specs.Contexts as margins;
 
 use crate::{Context, MARGIN, PagePart};
 

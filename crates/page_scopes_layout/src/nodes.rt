@@ -1,9 +1,9 @@
 //! What a scope gives where it begins and where it ends, but its words (man(7), mdoc(7)).
 
 ghost use Rattle.std.specs.Prelude.{◌≡◌, [], ◌∷◌};
-ghost use Rattle.page_core_base.specs.Latches.{Came};
-ghost use Rattle.page_core_base.specs.Pieces.{shown};
-ghost use Rattle.page_scopes_layout.specs.Nodes as nodes;
+ghost use Rattle.page_core_base.specs.laws.Views.{Came};
+ghost use Rattle.page_core_base.specs.Rows.{shown};
+ghost use Rattle.page_scopes_layout.specs.Lists as nodes;
 
 use crate::{Context, OpenList, hold, margins_of};
 use page_core_base::{Piece, PieceOut, TagForm};

@@ -2,11 +2,11 @@
 use Rattle.std.proofs.Common.{◌≡◌, ℕ, ◌+◌, ◌-◌, ◌<◌, ◌≤◌, ◌==◌, true, false, List, [], ◌∷◌, ◌++◌, length, get_or, take, drop, refl, ap, sym, ◌∙◌, arith}
 use Rattle.std.proofs.lemmas.List.{take_more, drop_more, get_or-drop}
 use Rattle.std.proofs.Common.{length-drop}
-use Rattle.page_core_base.specs.Pieces.{shown}
+use Rattle.page_core_base.specs.Rows.{shown}
 use Rattle.page_core_base.specs.declared.cells.Font.{Font}
 use Rattle.page_core_base.specs.declared.pieces.Piece.TheVariants as pieces
 use Rattle.page_core_base.specs.declared.places.Place.{Place}
-use Rattle.page_scopes_nodes.specs.RawLines.{cells_after, part_items}
+use Rattle.page_scopes_nodes.specs.Leaves.{cells_after, part_items}
 
 more_by : (text : List ℕ) (start n : ℕ) → start + n < length text
     → take (n + 1) (drop start text) ≡ take n (drop start text) ++ get_or text (start + n) 0 ∷ []

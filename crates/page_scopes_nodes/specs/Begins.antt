@@ -1,31 +1,152 @@
--- What a scope begins with, of any event that opens one, and what it keeps. Source: man(7), "MACRO OVERVIEW"; mdoc(7), "MACRO REFERENCE".
-use Rattle.std.specs.Prelude.{ℕ, List, Option, None, Some}
+-- What a scope begins with, of any event that opens one, and what it keeps. Source: man(7), mdoc(7).
+use Rattle.std.specs.Prelude.{Bool, List, [], ◌∷◌, ◌++◌, ℕ, false, true, codes, Option, option_map, unwrap_or, if◌then◌else◌, None, Some, ◌+◌, pos}
+use Rattle.page_core_base.specs.Rows.{Item, shown}
 use Rattle.page_core_base.specs.declared.cells.Font.{Font}
+use Rattle.page_core_base.specs.declared.cells.Font.TheVariants.{B}
 use Rattle.page_core_base.specs.declared.cells.Font.TheVariants as faces
+use Rattle.page_core_base.specs.declared.note_kinds.NoteKind.TheVariants.{SkipPara}
+use Rattle.page_core_base.specs.declared.pieces.Piece.TheVariants.{Text}
 use Rattle.page_core_base.specs.declared.places.Place.{Place}
-use Rattle.page_scopes_layout.specs.Begins.{entered_context, font_begun, heading_begun, one_line_begun, tag_begun}
-use Rattle.page_scopes_layout.specs.Lists.{head_begun}
-use Rattle.page_scopes_layout.specs.Nodes.{line_begin_items}
-use Rattle.page_scopes_layout.specs.declared.contexts.Context.{Context}
-use Rattle.page_scopes_blocks.specs.BlockWords.{line_words}
-use Rattle.page_scopes_layout.specs.Headings.{no_heading}
-use Rattle.page_scopes_phrases.specs.KeptTexts.{kept_of}
-use Rattle.page_scopes_phrases.specs.Outcomes.{Outcome, followed_by, nothing}
-use Rattle.page_scopes_phrases.specs.Formatting.{in_context, row_ended}
-use Rattle.page_scopes_phrases.specs.declared.kept_texts.KeptText.{KeptText}
-use Rattle.page_scopes_phrases.specs.declared.formatting.Formatting.{Formatting}
-use Rattle.page_sets_lines.specs.declared.events.EventKind.{EventKind}
-use Rattle.page_sets_lines.specs.declared.events.EventKind.TheVariants as kinds
-use Rattle.page_sets_lines.specs.declared.events.Event.{Event}
+use Rattle.page_core_escapes.specs.Tokens.{TextToken, tokens_of}
+use Rattle.page_roff_syntax.specs.Arguments.{is_quoted}
+use Rattle.page_roff_syntax.specs.declared.quotes.Argument.{Argument}
+use Rattle.page_sets_names.specs.Names.{paragraph_name}
 use Rattle.page_sets_names.specs.declared.macro_names.FontMacro.{FontMacro}
 use Rattle.page_sets_names.specs.declared.macro_names.FontMacro.TheVariants as fonts
 use Rattle.page_sets_names.specs.declared.macro_names.HeadingName.{HeadingName}
 use Rattle.page_sets_names.specs.declared.macro_names.HeadingName.TheVariants as headings
+use Rattle.page_sets_names.specs.declared.macro_names.ParagraphName.{ParagraphName}
+use Rattle.page_sets_lines.specs.declared.blocks.BlockOpener.{BlockOpener}
+use Rattle.page_sets_lines.specs.declared.blocks.BlockOpener.TheVariants as block_openers
+use Rattle.page_sets_lines.specs.declared.events.Event.{Event}
+use Rattle.page_sets_lines.specs.declared.events.EventKind.{EventKind}
+use Rattle.page_sets_lines.specs.declared.events.EventKind.TheVariants as kinds
+use Rattle.page_sets_lines.specs.declared.events.Join.TheVariants.{Apart}
 use Rattle.page_sets_lines.specs.declared.openers.LineOpener.{LineOpener}
 use Rattle.page_sets_lines.specs.declared.openers.LineOpener.TheVariants as lines
+use Rattle.page_sets_lines.specs.declared.openers.Opener.{Opener}
 use Rattle.page_sets_lines.specs.declared.openers.Opener.TheVariants as openers
-use Rattle.page_scopes_nodes.specs.Openers.{opened}
+use Rattle.page_scopes_labels.specs.declared.labels.Explicit.TheVariants.{RelativeMargin, Syntax}
+use Rattle.page_scopes_labels.specs.declared.labels.Label.{Label}
+use Rattle.page_scopes_labels.specs.declared.labels.Label.TheVariants as labels
+use Rattle.page_scopes_words.specs.Widths.{name_columns}
+use Rattle.page_scopes_words.specs.Words.{token_notes, at, columns_notes, says, columns_value}
+use Rattle.page_scopes_words.specs.declared.fonts.Fonts.{Fonts}
+use Rattle.page_scopes_words.specs.declared.settings.Setting.{Setting}
+use Rattle.page_scopes_layout.specs.Contexts.{entered_context, paragraph_begun, indented_begun, hold, hanging_begun, margin_begun, syntax_begun, text_margin, section_begun, subsection_begun, font_begun, heading_begun, one_line_begun, tag_begun}
+use Rattle.page_scopes_layout.specs.Headings.{heading_broken, no_heading}
+use Rattle.page_scopes_layout.specs.Lists.{begin_items, head_begun, line_begin_items}
+use Rattle.page_scopes_layout.specs.declared.contexts.Context.{Context}
+use Rattle.page_scopes_phrases.specs.LineWords.{argument_word}
+use Rattle.page_scopes_phrases.specs.Names.{cut_notes, fonts_through, after_kept, gap_items, parts_items, kept_of}
+use Rattle.page_scopes_phrases.specs.Phrases.{Outcome, in_context, row_ended, after_notes, nothing, followed_by}
+use Rattle.page_scopes_phrases.specs.declared.formatting.Formatting.{Formatting}
+use Rattle.page_scopes_phrases.specs.declared.kept_texts.KeptText.{KeptText}
+use Rattle.page_scopes_blocks.specs.Blocks.{block_opened, line_words}
+use Rattle.page_scopes_blocks.specs.Lists.{tag, list_opened, item_opened}
 use Rattle.page_scopes_nodes.specs.declared.page_layouts.PageLayout.{PageLayout}
+
+-- ---- The target of a link: its messages where the link begins, and the target in angles where it ends. Source: man(7), `UR`, `MT`.
+
+-- ---- where the link begins
+
+abbrev pub notes_of : (quoted : Bool) → Place → List TextToken → List Item
+notes_of quoted place [] = []
+notes_of quoted place (token ∷ tokens) = token_notes quoted place token ++ notes_of quoted place tokens
+
+-- its escapes are reported at its column, and that it is cut at the macro
+abbrev pub target_notes : Place → Argument (List ℕ) → List Item
+target_notes place argument =
+    notes_of (is_quoted argument.quoting) (at place.line argument.column) (tokens_of (is_quoted argument.quoting) argument.text)
+    ++ cut_notes place argument
+
+-- ---- where it ends
+
+abbrev pub target_fonts : KeptText → Context → Setting Fonts
+target_fonts target c = fonts_through c.fonts (tokens_of false target.text)
+
+abbrev pub mark_items : Font → Place → List ℕ → List Item
+mark_items font place mark = shown (Text mark font place) ∷ []
+
+-- the target in angles, a word, without the messages of its escapes, all at the place where the link ends; a mark ends no sentence, and leaves one that has ended
+unfoldable pub target_word : Place → KeptText → Formatting → Outcome
+target_word place target s = record {
+  items = gap_items s place
+      ++ (mark_items s.context.fonts.value.font place (codes "<")
+      ++ (parts_items s.context.is_literal.value 1 place s.context.fonts (tokens_of false target.text)
+      ++ mark_items (target_fonts target s.context).value.font place (codes ">")));
+  state = after_kept place (record s {
+    context = record s.context { fonts = target_fonts target s.context; has_row = true };
+    heading = heading_broken s.context.part s.heading;
+  });
+}
+
+-- ---- What the scopes that go on after their line begin with, macro by macro. Source: man(7), "MACRO OVERVIEW"; mdoc(7), "MACRO REFERENCE".
+
+-- the messages of a number that may be given
+abbrev pub given_notes : Place → Option (List ℕ) → List Item
+given_notes place number = unwrap_or (option_map (columns_notes place) number) []
+
+-- a scope begins in the context of its front, and the row ends
+abbrev pub begun : Label → Context → Formatting → Outcome
+begun label front s = record { items = begin_items label front; state = row_ended (in_context front s) }
+
+-- `PP`, `LP`, `P`: skipped where there is nothing before them since the heading
+abbrev pub plain : Place → ParagraphName → Formatting → Outcome
+plain place name s =
+    if s.has_content then begun labels.Paragraph (paragraph_begun (entered_context s.context)) s
+    else record { items = says SkipPara place (paragraph_name name) ∷ []; state = in_context (entered_context s.context) s }
+
+-- `TP`, `IP`: the text is a number of columns, or the prevailing indent, further in
+abbrev pub indented : Place → Option (List ℕ) → Formatting → Outcome
+indented place hang s = after_notes (given_notes place hang) (begun labels.Paragraph (indented_begun (option_map columns_value hang) (entered_context s.context)) s)
+
+-- the tag of `IP` is at the margin
+abbrev pub given_tag : ℕ → Option (Argument (List ℕ)) → Formatting → Outcome
+given_tag line None s = nothing s
+given_tag line (Some argument) s =
+    tag (record { margin = s.context.margin; hang = hold s.context.hang }) line (argument_word None Apart argument) s
+
+-- `HP`: the rows after the first are further in
+abbrev pub hanging : Place → Option (List ℕ) → Formatting → Outcome
+hanging place hang s = after_notes (given_notes place hang) (begun labels.Paragraph (hanging_begun (option_map columns_value hang) (entered_context s.context)) s)
+
+-- `RS`: all is further in
+abbrev pub margin : Place → Option (List ℕ) → Formatting → Outcome
+margin place columns s =
+    after_notes (given_notes place columns)
+    (begun (labels.Explicit RelativeMargin) (margin_begun (option_map columns_value columns) (entered_context s.context)) s)
+
+-- `SY`: the name in bold is a tag at the margin of the text, which hangs by the name's columns and a blank
+abbrev pub name_hang : PageLayout → Argument (List ℕ) → ℕ
+name_hang page name = name_columns page.output (is_quoted name.quoting) name.text + 1
+
+abbrev pub synopsis : PageLayout → ℕ → Argument (List ℕ) → Formatting → Outcome
+synopsis page line name s =
+    followed_by (begun (labels.Explicit Syntax) (syntax_begun (text_margin s.context) (name_hang page name) (entered_context s.context)) s)
+    (tag (record { margin = text_margin s.context; hang = hold (pos (name_hang page name)) }) line (argument_word (Some B) Apart name))
+
+-- `Bl`, and the other blocks
+abbrev pub block : PageLayout → Place → BlockOpener (List ℕ) → Formatting → Outcome
+block page place (block_openers.List kind is_compact options) s = list_opened page.output place kind is_compact options s
+block page place opener s = block_opened page.output place opener s
+
+-- ---- all of them: `SH`, `SS`, `Sh` and `Ss` are at the page's indent, and a link (`UR`, `MT`) gives the messages of its target
+
+unfoldable pub opened : PageLayout → Place → Opener (List ℕ) → Formatting → Outcome
+opened page place openers.Item s = item_opened place s
+opened page place openers.Section s = begun labels.Section (section_begun page.indent (entered_context s.context)) s
+opened page place openers.Subsection s = begun labels.Section (subsection_begun page.indent (entered_context s.context)) s
+opened page place (openers.Paragraph name) s = plain place name s
+opened page place (openers.Tagged hang) s = indented place hang s
+opened page place (openers.Indented argument hang) s = followed_by (indented place hang s) (given_tag place.line argument)
+opened page place (openers.Hanging hang) s = hanging place hang s
+opened page place (openers.RelativeMargin columns) s = margin place columns s
+opened page place (openers.Target kind target) s = record { items = target_notes place target; state = in_context (entered_context s.context) s }
+opened page place (openers.Syntax name) s = synopsis page place.line name s
+opened page place (openers.Block opener) s = block page place opener s
+
+-- ---- What a scope begins with, of any event that opens one, and what it keeps. Source: man(7), "MACRO OVERVIEW"; mdoc(7), "MACRO REFERENCE".
 
 -- ---- scopes that end with a line: heads of items (`It`), headings at the left edge (`SH`, `Sh`) or 3 columns in (`SS`, `Ss`), tags (`TP`, `TQ`), fonts (`B`, `I`, `SM`,
 -- `SB`), rows that are alone (`D1`, `Dl`), enclosures and descriptions (`Nd`)

@@ -1,24 +1,27 @@
--- What a scope ends with: the target of a link or the mark of an enclosure, its own pieces, and what is known after it. Source: man(7), "MACRO OVERVIEW"; mdoc(7), "MACRO REFERENCE".
-use Rattle.std.specs.Prelude.{false, Option, None, Some, if◌then◌else◌}
+-- What a scope and a line end with. Source: man(7), mdoc(7).
+use Rattle.std.specs.Prelude.{Option, None, Some, false, if◌then◌else◌, Bool, not, ◌&&◌, [], ◌∷◌}
+use Rattle.page_core_base.specs.Rows.{shown}
+use Rattle.page_core_base.specs.declared.pieces.Piece.TheVariants as pieces
 use Rattle.page_core_base.specs.declared.places.Place.{Place}
-use Rattle.page_scopes_layout.specs.Contexts.{restored}
-use Rattle.page_scopes_layout.specs.Nodes.{end_items, is_row}
-use Rattle.page_scopes_layout.specs.declared.contexts.Context.{Context}
-use Rattle.page_scopes_layout.specs.declared.contexts.PageSection.{PageSection}
-use Rattle.page_scopes_blocks.specs.BlockWords.{last_words}
-use Rattle.page_scopes_layout.specs.Headings.{headed_section}
-use Rattle.page_scopes_layout.specs.declared.headings.HeadingSoFar.{HeadingSoFar}
-use Rattle.page_scopes_phrases.specs.Outcomes.{Outcome, followed_by}
-use Rattle.page_scopes_phrases.specs.Formatting.{in_context, row_ended}
-use Rattle.page_scopes_phrases.specs.declared.formatting.Formatting.{Formatting}
+use Rattle.page_sets_names.specs.declared.macro_names.HeadingName.TheVariants as headings
+use Rattle.page_sets_lines.specs.declared.blocks.Block.TheVariants as blocks
+use Rattle.page_sets_lines.specs.declared.openers.LineOpener.TheVariants as lines
 use Rattle.page_scopes_labels.specs.declared.labels.Explicit.TheVariants as explicits
 use Rattle.page_scopes_labels.specs.declared.labels.Label.{Label}
 use Rattle.page_scopes_labels.specs.declared.labels.Label.TheVariants as labels
-use Rattle.page_sets_lines.specs.declared.blocks.Block.TheVariants as blocks
-use Rattle.page_sets_names.specs.declared.macro_names.HeadingName.TheVariants as headings
-use Rattle.page_sets_lines.specs.declared.openers.LineOpener.TheVariants as lines
-use Rattle.page_scopes_nodes.specs.Targets.{target_word}
+use Rattle.page_scopes_layout.specs.Contexts.{restored}
+use Rattle.page_scopes_layout.specs.Headings.{headed_section}
+use Rattle.page_scopes_layout.specs.Lists.{is_row, end_items}
+use Rattle.page_scopes_layout.specs.declared.contexts.Context.{Context}
+use Rattle.page_scopes_layout.specs.declared.contexts.PageSection.{PageSection}
+use Rattle.page_scopes_layout.specs.declared.headings.HeadingSoFar.{HeadingSoFar}
+use Rattle.page_scopes_phrases.specs.Phrases.{Outcome, row_ended, in_context, followed_by, line_ended}
+use Rattle.page_scopes_phrases.specs.declared.formatting.Formatting.{Formatting}
 use Rattle.page_scopes_phrases.specs.declared.kept_texts.KeptText.{KeptText}
+use Rattle.page_scopes_blocks.specs.Blocks.{last_words}
+use Rattle.page_scopes_nodes.specs.Begins.{target_word}
+
+-- ---- What a scope ends with: the target of a link or the mark of an enclosure, its own pieces, and what is known after it. Source: man(7), "MACRO OVERVIEW"; mdoc(7), "MACRO REFERENCE".
 
 -- the target of a link (`UR` up to `UE`, `MT` up to `ME`) is its last word
 abbrev pub last_word : Place → Label → Option KeptText → Formatting → Outcome
@@ -53,3 +56,15 @@ left label before s =
 
 unfoldable pub ended : Label → Context → Option KeptText → Place → Formatting → Outcome
 ended label before target place s = followed_by (last_word place label target s) (left label before)
+
+-- ---- The end of a line: what it gives. Source: roff(7), `nf`, `\c`.
+
+-- where rows are kept, a line with words of the page's text is a row, unless it ends in `\c`
+abbrev pub ends_row : Formatting → Bool
+ends_row s = s.context.is_literal.value && (not s.line.is_cut && s.line.has_row_words)
+
+abbrev pub line_end : Formatting → Outcome
+line_end s = record {
+  items = if ends_row s then shown pieces.RowEnd ∷ [] else [];
+  state = line_ended s;
+}

@@ -1,10 +1,3 @@
-pub mod Requests
-pub mod RawLines
-pub mod Steps
-pub mod Leaves
-pub mod LineEnds
-pub mod EventKinds
-pub mod Targets
-pub mod Openers
 pub mod Begins
 pub mod Ends
+pub mod Leaves

@@ -1,11 +1,11 @@
 //! What a scope begins with, of any event that opens one (man(7), mdoc(7)).
 
 ghost use Rattle.std.specs.Prelude.{◌≡◌};
-ghost use Rattle.page_scopes_layout.specs.Begins.{entered_context};
-ghost use Rattle.page_sets_lines.specs.Fits.{KindFits};
-ghost use Rattle.page_scopes_phrases.specs.Outcomes.{GivesOutcome};
+ghost use Rattle.page_scopes_layout.specs.Contexts.{entered_context};
+ghost use Rattle.page_sets_lines.specs.laws.Views.{KindFits};
+ghost use Rattle.page_scopes_phrases.specs.laws.Views.{GivesOutcome};
 ghost use Rattle.page_scopes_nodes.specs.Begins as begins;
-ghost use Rattle.page_sets_lines.specs.Events.{kind_view, event_view};
+ghost use Rattle.page_sets_lines.specs.laws.Events.{kind_view, event_view};
 
 use crate::PageLayout;
 use crate::openers::give_opened;

@@ -1,9 +1,9 @@
 //! What a scope ends with (man(7), mdoc(7)).
 
 ghost use Rattle.std.specs.Prelude.{◌≡◌, if◌then◌else◌};
-ghost use Rattle.page_scopes_layout.specs.Nodes.{is_row};
-ghost use Rattle.page_scopes_phrases.specs.Outcomes.{GivesOutcome};
-ghost use Rattle.page_scopes_phrases.specs.Formatting.{row_ended};
+ghost use Rattle.page_scopes_layout.specs.Lists.{is_row};
+ghost use Rattle.page_scopes_phrases.specs.laws.Views.{GivesOutcome};
+ghost use Rattle.page_scopes_phrases.specs.Phrases.{row_ended};
 ghost use Rattle.page_scopes_nodes.specs.Ends as ends;
 
 use crate::targets::give_target;

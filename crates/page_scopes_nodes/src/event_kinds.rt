@@ -1,10 +1,10 @@
 //! What events give that open and close nothing (man(7), mdoc(7)).
 
 ghost use Rattle.std.specs.Prelude.{◌≡◌};
-ghost use Rattle.page_scopes_nodes.specs.EventKinds as event_kinds;
-ghost use Rattle.page_sets_lines.specs.Fits.{KindFits};
-ghost use Rattle.page_scopes_phrases.specs.Outcomes.{GivesOutcome};
-ghost use Rattle.page_sets_lines.specs.Events.{kind_view};
+ghost use Rattle.page_scopes_nodes.specs.Leaves as event_kinds;
+ghost use Rattle.page_sets_lines.specs.laws.Views.{KindFits};
+ghost use Rattle.page_scopes_phrases.specs.laws.Views.{GivesOutcome};
+ghost use Rattle.page_sets_lines.specs.laws.Events.{kind_view};
 
 use crate::{end_line, give_leaf, give_raw_line};
 use page_core_base::{PieceOut, Place};
@@ -13,7 +13,7 @@ use page_scopes_words::report_part;
 use page_sets_lines::EventKind;
 
 /// Gives a word, a leaf, a line as it is, a line's end, or a message; nothing of what opens or closes. The name is that of the manual.
-#[tactic(auto, unfolding(crate::specs::EventKinds::kind_outcome))]
+#[tactic(auto, unfolding(crate::specs::Leaves::kind_outcome))]
 #[inline(always)]
 pub fn give_kind<O: PieceOut>(
     out: &mut O,

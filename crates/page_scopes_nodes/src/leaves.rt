@@ -1,13 +1,13 @@
 //! What opens and closes nothing (man(7), mdoc(7); roff(7)).
 
 ghost use Rattle.std.specs.Prelude.{◌≡◌};
-ghost use Rattle.page_core_base.specs.Latches.{Came};
-ghost use Rattle.page_sets_lines.specs.Fits.{LeafFits};
+ghost use Rattle.page_core_base.specs.laws.Views.{Came};
+ghost use Rattle.page_sets_lines.specs.laws.Views.{LeafFits};
 ghost use Rattle.page_scopes_nodes.specs.Leaves as leaves;
-ghost use Rattle.page_scopes_nodes.specs.Requests.{given_rows, given_rows_notes};
-ghost use Rattle.page_scopes_phrases.specs.Outcomes.{GivesOutcome};
-ghost use Rattle.page_scopes_words.specs.Settings.{set_to};
-ghost use Rattle.page_sets_lines.specs.Events.{leaf_view, text_view};
+ghost use Rattle.page_scopes_nodes.specs.Leaves.{given_rows, given_rows_notes};
+ghost use Rattle.page_scopes_phrases.specs.laws.Views.{GivesOutcome};
+ghost use Rattle.page_scopes_words.specs.Fonts.{set_to};
+ghost use Rattle.page_sets_lines.specs.laws.Events.{leaf_view, text_view};
 
 use crate::margins::give_row_margins;
 use crate::requests::{give_given_rows, give_literal, give_request};

@@ -2,13 +2,13 @@
 //! with: tags, names, targets of links, headings and fonts.
 //!
 //! Each event gives an outcome in the context of the open scopes: leaves, raw lines and the ends of lines by themselves, and where an event opens or
-//! ends a scope, macro by macro. Words go to `page_scopes_phrases`. Read `specs/Leaves.antt` first (a row for each leaf), with `Requests.antt` (roff(7))
-//! and `Steps.antt` (of mdoc(7)); then `Openers.antt`, `Begins.antt` (line scopes) and `Ends.antt`.
+//! ends a scope, macro by macro. Words go to `page_scopes_phrases`. Read `specs/Leaves.antt` first (a row for each leaf),
+//! then `Begins.antt` and `Ends.antt`.
 //!
 //! Proved: `give_kind`, `give_leaf`, `give_raw_line`, `end_line`: what each blank line, request and raw line gives, with the context and what is known
-//! after it (`specs/Leaves.antt`, `Requests.antt`, `RawLines.antt`, `EventKinds.antt`). `give_begun`, `give_ended`: what each scope of man(7) and
+//! after it (`specs/Leaves.antt`). `give_begun`, `give_ended`: what each scope of man(7) and
 //! mdoc(7) begins and ends with, words and all: paragraphs and their tags, relative margins, the name of a synopsis, headings, fonts, the target of a
-//! link (`specs/Openers.antt`, `Begins.antt`, `Ends.antt`, `Targets.antt`).
+//! link (`specs/Begins.antt`, `Ends.antt`).
 #![tactic(auto)]
 
 mod begins;

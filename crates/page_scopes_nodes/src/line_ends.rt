@@ -1,8 +1,8 @@
 //! The end of a line (roff(7), `nf`, `\c`).
 
 ghost use Rattle.std.specs.Prelude.{◌≡◌};
-ghost use Rattle.page_scopes_nodes.specs.LineEnds as ends;
-ghost use Rattle.page_scopes_phrases.specs.Outcomes.{GivesOutcome};
+ghost use Rattle.page_scopes_nodes.specs.Ends as ends;
+ghost use Rattle.page_scopes_phrases.specs.laws.Views.{GivesOutcome};
 
 use page_core_base::{Piece, PieceOut};
 use page_scopes_phrases::Formatting;

@@ -1,7 +1,7 @@
 //! The margins of a context after the end of a row (man(7)).
 
-ghost use Rattle.page_core_base.specs.Latches.{Came};
-ghost use Rattle.page_scopes_phrases.specs.Outcomes.{row_margin_items};
+ghost use Rattle.page_core_base.specs.laws.Views.{Came};
+ghost use Rattle.page_scopes_phrases.specs.Phrases.{row_margin_items};
 
 use page_core_base::{Piece, PieceOut};
 use page_scopes_layout::{Context, give_margins};

@@ -1,19 +1,19 @@
 //! What the scopes that go on after their line begin with, macro by macro (man(7), mdoc(7)).
 
 ghost use Rattle.std.specs.Prelude.{◌≡◌, Some, option_map};
-ghost use Rattle.page_core_base.specs.Latches.{Came};
+ghost use Rattle.page_core_base.specs.laws.Views.{Came};
 ghost use Rattle.page_core_base.specs.declared.cells.Font.TheVariants.{B};
-ghost use Rattle.page_roff_syntax.specs.Arguments.{argument_view};
-ghost use Rattle.page_sets_lines.specs.Fits.{ArgumentFits, BlockOpenerFits, GivenFits, OpenerFits};
-ghost use Rattle.page_scopes_blocks.specs.Tags as tags;
+ghost use Rattle.page_roff_syntax.specs.laws.Views.{argument_view};
+ghost use Rattle.page_sets_lines.specs.laws.Views.{ArgumentFits, BlockOpenerFits, GivenFits, OpenerFits};
+ghost use Rattle.page_scopes_blocks.specs.Lists as tags;
 ghost use Rattle.page_scopes_labels.specs.declared.labels.Label.TheVariants.{Section};
-ghost use Rattle.page_scopes_layout.specs.Begins.{entered_context, section_begun, subsection_begun};
+ghost use Rattle.page_scopes_layout.specs.Contexts.{entered_context, section_begun, subsection_begun};
 ghost use Rattle.page_scopes_phrases.specs.LineWords.{argument_word};
-ghost use Rattle.page_scopes_phrases.specs.Outcomes.{GivesOutcome};
-ghost use Rattle.page_scopes_words.specs.Numbers.{columns_value};
+ghost use Rattle.page_scopes_phrases.specs.laws.Views.{GivesOutcome};
+ghost use Rattle.page_scopes_words.specs.Words.{columns_value};
 ghost use Rattle.page_sets_lines.specs.declared.events.Join.TheVariants.{Apart};
-ghost use Rattle.page_scopes_nodes.specs.Openers as openers;
-ghost use Rattle.page_sets_lines.specs.Events.{block_opener_view, given_view, opener_view, text_view};
+ghost use Rattle.page_scopes_nodes.specs.Begins as openers;
+ghost use Rattle.page_sets_lines.specs.laws.Events.{block_opener_view, given_view, opener_view, text_view};
 
 use crate::PageLayout;
 use crate::targets::report_target;
@@ -211,7 +211,7 @@ fn begin_block<O: PieceOut>(
 }
 
 /// Gives what an opener at a place begins with.
-#[tactic(auto, unfolding(crate::specs::Openers::opened))]
+#[tactic(auto, unfolding(crate::specs::Begins::opened))]
 pub(crate) fn give_opened<O: PieceOut>(
     out: &mut O,
     page: &PageLayout,

@@ -1,9 +1,9 @@
 //! Lines of tables, equations and pictures: rows of their characters as they are (roff(7), `TS`, `EQ` and `PS`).
 
 ghost use Rattle.std.specs.Prelude.{[]};
-ghost use Rattle.page_core_base.specs.Latches.{Came};
-ghost use Rattle.page_scopes_phrases.specs.Outcomes.{GivesOutcome};
-ghost use Rattle.page_scopes_nodes.specs.RawLines as raw;
+ghost use Rattle.page_core_base.specs.laws.Views.{Came};
+ghost use Rattle.page_scopes_phrases.specs.laws.Views.{GivesOutcome};
+ghost use Rattle.page_scopes_nodes.specs.Leaves as raw;
 
 use page_core_base::{Font, Piece, PieceOut, Place};
 use page_scopes_phrases::Formatting;
@@ -33,7 +33,7 @@ fn give_cells<O: PieceOut>(out: &mut O, place: Place, font: Font, text: &[u8])
 }
 
 /// Gives a line as it is, as a row of its own.
-#[tactic(auto, unfolding(crate::specs::RawLines::raw_line))]
+#[tactic(auto, unfolding(crate::specs::Leaves::raw_line))]
 #[inline(never)]
 pub fn give_raw_line<O: PieceOut>(out: &mut O, place: Place, text: &[u8], state: &mut Formatting)
     ensures { GivesOutcome O.left out.old (raw.raw_line place text.now state.old) out.new state.new }

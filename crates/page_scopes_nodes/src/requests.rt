@@ -1,16 +1,16 @@
 //! Requests that change rows (roff(7), "REQUEST REFERENCE").
 
 ghost use Rattle.std.specs.Prelude.{◌≡◌, ◌∷◌, ◌++◌, [], Some};
-ghost use Rattle.page_core_base.specs.Latches.{Came};
-ghost use Rattle.page_core_base.specs.Pieces.{shown};
+ghost use Rattle.page_core_base.specs.laws.Views.{Came};
+ghost use Rattle.page_core_base.specs.Rows.{shown};
 ghost use Rattle.page_core_base.specs.declared.pieces.Piece.TheVariants.{Space};
-ghost use Rattle.page_core_escapes.specs.Escapes.{face_view};
-ghost use Rattle.page_roff_syntax.specs.Arguments.{argument_view};
-ghost use Rattle.page_scopes_phrases.specs.Outcomes.{GivesOutcome, row_margin_items};
-ghost use Rattle.page_scopes_nodes.specs.Requests as requests;
-ghost use Rattle.page_scopes_phrases.specs.Formatting.{in_context, row_ended, with_content};
-ghost use Rattle.page_scopes_words.specs.Numbers.{columns_notes};
-ghost use Rattle.page_sets_lines.specs.Events.{given_view, request_view, text_view};
+ghost use Rattle.page_core_escapes.specs.laws.Views.{face_view};
+ghost use Rattle.page_roff_syntax.specs.laws.Views.{argument_view};
+ghost use Rattle.page_scopes_phrases.specs.laws.Views.{GivesOutcome};
+ghost use Rattle.page_scopes_phrases.specs.Phrases.{row_margin_items, in_context, row_ended, with_content};
+ghost use Rattle.page_scopes_nodes.specs.Leaves as requests;
+ghost use Rattle.page_scopes_words.specs.Words.{columns_notes};
+ghost use Rattle.page_sets_lines.specs.laws.Events.{given_view, request_view, text_view};
 
 use crate::margins::give_row_margins;
 use page_core_base::{Piece, PieceOut, Place};

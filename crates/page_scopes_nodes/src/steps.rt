@@ -1,13 +1,14 @@
 //! What macros of mdoc(7) change in their line, or print there (mdoc(7), "MACRO REFERENCE").
 
 ghost use Rattle.std.specs.Prelude.{◌≡◌, not, unwrap_or, if◌then◌else◌};
-ghost use Rattle.page_sets_lines.specs.Fits.{StepFits};
+ghost use Rattle.page_sets_lines.specs.laws.Views.{StepFits};
 ghost use Rattle.page_scopes_layout.specs.Headings.{in_synopsis};
 ghost use Rattle.page_scopes_layout.specs.declared.contexts.SeriesSoFar.TheVariants.{Begun};
 ghost use Rattle.page_scopes_phrases.specs.LineWords.{own_word};
-ghost use Rattle.page_scopes_phrases.specs.Outcomes.{GivesOutcome, nothing};
-ghost use Rattle.page_scopes_nodes.specs.Steps as steps;
-ghost use Rattle.page_sets_lines.specs.Events.{step_view};
+ghost use Rattle.page_scopes_phrases.specs.laws.Views.{GivesOutcome};
+ghost use Rattle.page_scopes_phrases.specs.Phrases.{nothing};
+ghost use Rattle.page_scopes_nodes.specs.Leaves as steps;
+ghost use Rattle.page_sets_lines.specs.laws.Events.{step_view};
 ghost use Rattle.page_sets_lines.specs.declared.events.Join.TheVariants.{Apart, Glued};
 ghost use Rattle.page_sets_names.specs.declared.generated_texts.GeneratedText.TheVariants.{Comma, Include};
 

@@ -1,11 +1,11 @@
 //! The target of a link: its messages where the link begins, and the target in angles where it ends (man(7), `UR`, `MT`).
 
 ghost use Rattle.std.specs.Prelude.{◌≤◌, ◌<◌, length};
-ghost use Rattle.page_core_base.specs.Latches.{Came};
+ghost use Rattle.page_core_base.specs.laws.Views.{Came};
 ghost use Rattle.page_core_escapes.specs.Tokens.{tokens_of};
-ghost use Rattle.page_roff_syntax.specs.Arguments.{argument_view};
-ghost use Rattle.page_scopes_phrases.specs.Outcomes.{GivesOutcome};
-ghost use Rattle.page_scopes_nodes.specs.Targets as targets;
+ghost use Rattle.page_roff_syntax.specs.laws.Views.{argument_view};
+ghost use Rattle.page_scopes_phrases.specs.laws.Views.{GivesOutcome};
+ghost use Rattle.page_scopes_nodes.specs.Begins as targets;
 
 use page_core_base::{Font, LINE, Piece, PieceOut, Place};
 use page_core_escapes::Tokens;
@@ -49,7 +49,7 @@ fn give_mark<O: PieceOut>(out: &mut O, font: Font, place: Place, mark: &str)
 }
 
 /// Gives a target in angles, at the place where its link ends.
-#[tactic(auto, unfolding(crate::specs::Targets::target_word))]
+#[tactic(auto, unfolding(crate::specs::Begins::target_word))]
 pub(crate) fn give_target<O: PieceOut>(
     out: &mut O,
     place: Place,

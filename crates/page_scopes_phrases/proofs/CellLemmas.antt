@@ -4,13 +4,14 @@ use Rattle.std.specs.List.{prefix_len}
 use Rattle.std.proofs.lemmas.Bool.{cases_Bool}
 use Rattle.std.proofs.lemmas.Bool.Decides.{nat_tests}
 use Rattle.std.proofs.lemmas.List.{drop_more}
-use Rattle.page_core_base.specs.Latches.{CameUpTo}
-use Rattle.page_core_base.specs.Pieces.{Item}
+use Rattle.page_core_base.specs.laws.Views.{CameUpTo}
+use Rattle.page_core_base.specs.Rows.{Item}
 use Rattle.page_core_escapes.specs.Tokens.{begins_white, is_space, is_white, token_at, token_len, tokens_of}
 use Rattle.page_core_escapes.proofs.TokenLemmas.{tokens_more, tokens_none}
-use Rattle.page_scopes_phrases.specs.Cells.{after_tab, before_blanks, before_tab, cell, cells_within, first_part, has_tab, other_cells, other_cells_text, span, span_of, tab_in, white_byte, white_columns, with_more}
-use Rattle.page_sets_lines.specs.Fits.{FitsAt}
-use Rattle.page_scopes_phrases.specs.Outcomes.{GivesOutcome, Outcome, followed_by}
+use Rattle.page_scopes_phrases.specs.LineWords.{after_tab, before_blanks, before_tab, cell, cells_within, first_part, has_tab, other_cells, other_cells_text, span, span_of, tab_in, white_byte, white_columns, with_more}
+use Rattle.page_sets_lines.specs.laws.Views.{FitsAt}
+use Rattle.page_scopes_phrases.specs.laws.Views.{GivesOutcome}
+use Rattle.page_scopes_phrases.specs.Phrases.{Outcome, followed_by}
 use Rattle.page_scopes_phrases.specs.declared.cells.CellSpan.{CellSpan}
 use Rattle.page_scopes_phrases.specs.declared.phrases.Phrase.{Phrase}
 use Rattle.page_scopes_phrases.specs.declared.formatting.Formatting.{Formatting}

@@ -5,18 +5,19 @@ use Rattle.std.proofs.lemmas.List.{drop_all}
 use Rattle.std.proofs.Math.Seq.{drop-cons}
 use Rattle.page_core_base.specs.declared.cells.Font.{Font}
 use Rattle.page_core_base.specs.declared.places.Place.{Place}
-use Rattle.page_core_base.specs.Pieces.{Item}
+use Rattle.page_core_base.specs.Rows.{Item}
 use Rattle.page_core_escapes.specs.Meanings as meanings
 use Rattle.page_core_escapes.specs.Meanings.{Meaning}
-use Rattle.page_core_escapes.specs.Tokens.{TextToken, white, plain, quotes, escaped, begins_word, token_at, token_len, tokens_len, tokens_of}
+use Rattle.page_core_escapes.specs.Tokens.{TextToken, white, plain, quotes, escaped, token_at, token_len, tokens_len, tokens_of}
+use Rattle.page_core_escapes.specs.laws.Views.{begins_word}
 use Rattle.page_core_escapes.proofs.TokenLemmas.{len_within, tokens_more, tokens_none}
 use Rattle.page_scopes_words.specs.declared.fonts.Fonts.{Fonts}
 use Rattle.page_scopes_words.specs.declared.settings.Setting.{Setting}
 use Rattle.page_scopes_words.specs.Fonts.{fonts_after}
-use Rattle.page_scopes_words.specs.Tokens.{blank_count, blank_text}
+use Rattle.page_scopes_words.specs.Words.{blank_count, blank_text}
 use Rattle.page_scopes_words.proofs.BlankCountLemmas.{count-within}
 use Rattle.page_scopes_text.proofs.PartedLemmas.{white_front, white_some, word_some}
-use Rattle.page_scopes_phrases.specs.KeptTexts.{part_items}
+use Rattle.page_scopes_phrases.specs.Names.{part_items}
 use Rattle.page_scopes_phrases.specs.declared.kept_names.Known.TheVariants.{Blanks, Nothing}
 use Rattle.page_scopes_phrases.specs.declared.kept_names.NamePart.{NamePart}
 use Rattle.page_scopes_phrases.specs.machine.NameParts.{meaning_known, part_of, parts_of, token_known}

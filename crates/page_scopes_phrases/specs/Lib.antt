@@ -1,9 +1,5 @@
-pub mod Formatting
-pub mod Outcomes
-pub mod Phrases
-pub mod Cells
 pub mod LineWords
-pub mod KeptTexts
-pub mod ManualNames
-pub mod FunctionEnds
+pub mod Names
+pub mod Phrases
+pub mod laws
 pub mod machine

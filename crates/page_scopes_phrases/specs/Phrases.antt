@@ -1,39 +1,112 @@
--- A text that an event prints: its fonts, and how it is beside the words around it. Source: man(7), `B`, `BR`; roff(7), `\f`, `\c`.
-use Rattle.std.specs.Prelude.{ℕ, ◌+◌, max, min, Bool, true, false, not, ◌||◌, ◌&&◌, List, Option, None, Some, is_some, if◌then◌else◌}
-use Rattle.std.specs.Borrow.{Bor}
+-- What a page is formatted by, what an event gives and leaves, and the text that it prints. Source: man(7), mdoc(7).
+use Rattle.std.specs.Prelude.{false, None, ℕ, if◌then◌else◌, Bool, not, ◌==◌, ◌||◌, true, Option, List, [], ◌∷◌, ◌++◌, Some, max, ◌+◌, min, ◌&&◌, is_some}
 use Rattle.page_core_base.specs.Limits.{LINE}
+use Rattle.page_core_base.specs.Rows.{Item, shown}
 use Rattle.page_core_base.specs.declared.cells.Font.{Font}
+use Rattle.page_core_base.specs.declared.pieces.Piece.TheVariants.{Break}
 use Rattle.page_core_base.specs.declared.places.Place.{Place}
+use Rattle.page_sets_lines.specs.declared.events.Join.{Join}
+use Rattle.page_sets_lines.specs.declared.events.Join.TheVariants.{Apart, Glued, Parted}
+use Rattle.page_scopes_words.specs.Fonts.{with_font}
+use Rattle.page_scopes_words.specs.declared.fonts.Fonts.{Fonts}
+use Rattle.page_scopes_words.specs.declared.pens.Pen.{Pen}
+use Rattle.page_scopes_words.specs.declared.pens.TextStyle.{TextStyle}
+use Rattle.page_scopes_words.specs.declared.settings.Setting.{Setting}
+use Rattle.page_scopes_layout.specs.Contexts as contexts
+use Rattle.page_scopes_layout.specs.Headings.{no_heading, heading_further}
+use Rattle.page_scopes_layout.specs.Lists.{margin_items}
 use Rattle.page_scopes_layout.specs.declared.contexts.Context.{Context}
 use Rattle.page_scopes_layout.specs.declared.contexts.PagePart.{PagePart}
 use Rattle.page_scopes_layout.specs.declared.contexts.PagePart.TheVariants as parts
-use Rattle.page_scopes_words.specs.declared.settings.Setting.{Setting}
-use Rattle.page_scopes_layout.specs.Headings.{heading_further}
-use Rattle.page_scopes_phrases.specs.Outcomes.{Outcome}
-use Rattle.page_scopes_phrases.specs.Formatting.{next_gap}
-use Rattle.page_scopes_phrases.specs.declared.phrases.Phrase.{Phrase}
+use Rattle.page_scopes_text.specs.Texts.{words_of, text_after, last_word, text_items}
 use Rattle.page_scopes_phrases.specs.declared.formatting.Formatting.{Formatting}
-use Rattle.page_scopes_text.specs.Parted.{words_of}
-use Rattle.page_scopes_text.specs.Texts.{last_word, text_after, text_items}
-use Rattle.page_scopes_words.specs.declared.pens.Pen.{Pen}
-use Rattle.page_scopes_words.specs.declared.pens.TextStyle.{TextStyle}
-use Rattle.page_scopes_words.specs.Fonts.{with_font}
-use Rattle.page_scopes_words.specs.declared.fonts.Fonts.{Fonts}
-use Rattle.page_sets_lines.specs.declared.events.Join.{Join}
-use Rattle.page_sets_lines.specs.declared.events.Join.TheVariants.{Apart, Glued, Parted}
+use Rattle.page_scopes_phrases.specs.declared.formatting.LineSoFar.{LineSoFar}
+use Rattle.page_scopes_phrases.specs.declared.phrases.Phrase.{Phrase}
 
--- a phrase of the program, with what its text holds
-abbrev pub phrase_view : Phrase (Bor (List ℕ)) → Phrase (List ℕ)
-phrase_view p = record {
-  text = p.text.now;
-  column = p.column;
-  is_quoted = p.is_quoted;
-  is_line = p.is_line;
-  is_written = p.is_written;
-  font = p.font;
-  before = p.before;
-  after = p.after;
+-- ---- What a page is formatted by: the context of the open scopes, and what no scope restores, which is known along the page and of its line. Source: man(7); roff(7), "Sentences", `\c`.
+
+-- at the front of a line
+abbrev pub no_line : LineSoFar
+no_line = record {
+  has_words = false;
+  has_row_words = false;
+  is_after_word = false;
+  is_cut = false;
+  ends_blank = false;
+  is_sentence = false;
+  joins_next = false;
+  fonts_before = None;
+  name_columns = None;
+  last_word = 1;
 }
+
+-- the blanks before the next word; none after a dash that is glued to what comes after it in its line
+abbrev pub next_gap : Formatting → ℕ
+next_gap s = if s.line.joins_next then 0 else s.gap
+
+-- before a page's first line
+abbrev pub start : (page_indent : ℕ) → Formatting
+start page_indent = record { context = contexts.start page_indent; has_content = false; gap = 1; line = no_line; heading = no_heading }
+
+-- there is one blank after a line with words, two after a sentence, none where it ends in `\c` or where no blanks are between words; what is glued stays glued
+abbrev pub line_gap : (spacing : Bool) → LineSoFar → ℕ → ℕ
+line_gap spacing line gap = if not line.has_words then gap else if line.is_cut || (gap == 0 || not spacing) then 0 else if line.is_sentence then 2 else 1
+
+abbrev pub line_ended : Formatting → Formatting
+line_ended s = record s { gap = line_gap s.context.has_spacing.value s.line s.gap; line = no_line }
+
+-- another context holds
+abbrev pub in_context : Context → Formatting → Formatting
+in_context c s = record s { context = c }
+
+-- the row ends: no word is in it yet
+abbrev pub row_ended : Formatting → Formatting
+row_ended s = record s { line = record s.line { has_row_words = false; is_after_word = false } }
+
+-- something came since the last heading
+abbrev pub with_content : Formatting → Formatting
+with_content s = record s { has_content = true }
+
+-- `Nm`: the columns of its words are counted from here on, and later rows are as many further in
+abbrev pub counting : Option ℕ → Formatting → Formatting
+counting columns s = record s { line = record s.line { name_columns = columns } }
+
+-- ---- What an event gives, and what it leaves. Source: man(7), mdoc(7).
+
+-- pieces and messages, and by what the page is then formatted
+pub record Outcome : Type 0 where
+  pub items : List Item
+  pub state : Formatting
+
+-- it prints nothing, and leaves this state
+abbrev pub nothing : Formatting → Outcome
+nothing s = record { items = []; state = s }
+
+-- the row ends
+abbrev pub row_break : Formatting → Outcome
+row_break s = record { items = shown Break ∷ []; state = row_ended s }
+
+-- the row ends, and other margins hold
+abbrev pub row_margin_items : Context → List Item
+row_margin_items c = shown Break ∷ margin_items c
+
+-- and rows go on in their context
+abbrev pub at_margins : Formatting → Outcome
+at_margins s = record { items = row_margin_items s.context; state = row_ended s }
+
+-- messages come first, or other items
+abbrev pub after_notes : List Item → Outcome → Outcome
+after_notes notes o = record o { items = notes ++ o.items }
+
+-- then the state changes
+abbrev pub changed : (Formatting → Formatting) → Outcome → Outcome
+changed change o = record o { state = change o.state }
+
+-- one after the other
+abbrev pub followed_by : Outcome → (Formatting → Outcome) → Outcome
+followed_by first next = after_notes first.items (next first.state)
+
+-- ---- A text that an event prints: its fonts, and how it is beside the words around it. Source: man(7), `B`, `BR`; roff(7), `\f`, `\c`.
 
 -- ---- before its words
 

@@ -1,11 +1,11 @@
 //! Texts in the columns of a list (mdoc(7), `Bl -column`, `Ta`).
 ghost use Rattle.std.specs.Prelude.{◌≡◌, ◌≤◌, ◌<◌, ◌==◌, if◌then◌else◌, Bool, length, position, IfSome};
 ghost use Rattle.std.specs.List.{prefix_len};
-ghost use Rattle.page_core_escapes.specs.Tokens.{is_space, token_bytes, token_view};
-ghost use Rattle.page_scopes_phrases.specs.Cells as cells;
-ghost use Rattle.page_sets_lines.specs.Fits.{FitsAt};
-ghost use Rattle.page_scopes_phrases.specs.Outcomes.{GivesOutcome};
-ghost use Rattle.page_scopes_phrases.specs.Phrases.{phrase_view};
+ghost use Rattle.page_core_escapes.specs.Tokens.{is_space, token_bytes};
+ghost use Rattle.page_core_escapes.specs.laws.Views.{token_view};
+ghost use Rattle.page_scopes_phrases.specs.LineWords as cells;
+ghost use Rattle.page_sets_lines.specs.laws.Views.{FitsAt};
+ghost use Rattle.page_scopes_phrases.specs.laws.Views.{GivesOutcome, phrase_view};
 
 use crate::phrases::is_text;
 use crate::{Formatting, Phrase, give_phrase};

@@ -1,6 +1,6 @@
 //! What a page is formatted by: the context of the open scopes, and what is known along the page and of its line so far (man(7); roff(7), "Sentences").
 ghost use Rattle.std.specs.Prelude.{◌≡◌};
-ghost use Rattle.page_scopes_phrases.specs.Formatting as formatting;
+ghost use Rattle.page_scopes_phrases.specs.Phrases as formatting;
 
 use page_scopes_layout::{Context, HeadingSoFar};
 use page_scopes_words::{Fonts, Setting};

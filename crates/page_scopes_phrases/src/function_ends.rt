@@ -1,8 +1,9 @@
 //! What ends a function, of `Fn` or of `Fo` (mdoc(7), "MACRO REFERENCE").
 ghost use Rattle.std.specs.Prelude.{◌≡◌};
-ghost use Rattle.page_scopes_phrases.specs.FunctionEnds as ends;
+ghost use Rattle.page_scopes_phrases.specs.Names as ends;
 ghost use Rattle.page_scopes_phrases.specs.LineWords.{own_word};
-ghost use Rattle.page_scopes_phrases.specs.Outcomes.{GivesOutcome, row_break};
+ghost use Rattle.page_scopes_phrases.specs.laws.Views.{GivesOutcome};
+ghost use Rattle.page_scopes_phrases.specs.Phrases.{row_break};
 ghost use Rattle.page_sets_lines.specs.declared.events.Join.TheVariants.{Apart, Glued};
 ghost use Rattle.page_sets_names.specs.declared.generated_texts.GeneratedText.TheVariants.{CloseParenthesis, Semicolon};
 
@@ -54,7 +55,7 @@ fn give_declaration_end<O: PieceOut>(out: &mut O, place: Place, state: &mut Form
 }
 
 /// Gives the end of a function, of `Fn` or of `Fo`: what closes its arguments, and in the SYNOPSIS a semicolon and the end of the row.
-#[tactic(auto, unfolding(crate::specs::FunctionEnds::function_end))]
+#[tactic(auto, unfolding(crate::specs::Names::function_end))]
 pub fn give_function_end<O: PieceOut>(out: &mut O, place: Place, state: &mut Formatting)
     ensures { GivesOutcome O.left out.old (ends.function_end place state.old) out.new state.new }
 {

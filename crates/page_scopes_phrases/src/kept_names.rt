@@ -1,7 +1,8 @@
 //! The name of the manual as it is kept, with what is known of its tokens: it may be printed many times (mdoc(7), `Nm`).
 ghost use Rattle.std.specs.Prelude.{◌≡◌, ◌≤◌, length, false};
-ghost use Rattle.page_core_escapes.specs.Tokens.{token_bytes, token_view, tokens_of};
-ghost use Rattle.page_scopes_phrases.specs.KeptTexts as kept;
+ghost use Rattle.page_core_escapes.specs.Tokens.{token_bytes, tokens_of};
+ghost use Rattle.page_core_escapes.specs.laws.Views.{token_view};
+ghost use Rattle.page_scopes_phrases.specs.Names as kept;
 ghost use Rattle.page_scopes_phrases.specs.machine.NameParts as names;
 
 use crate::KeptText;
@@ -91,8 +92,8 @@ fn parts_of(text: &[u8]) -> ArrayVec<NamePart, 256>
 }
 
 impl ManualName {
-    ghost use Rattle.page_roff_syntax.specs.Arguments.{argument_view};
-    ghost use Rattle.page_scopes_phrases.specs.KeptTexts.{kept_of};
+    ghost use Rattle.page_roff_syntax.specs.laws.Views.{argument_view};
+    ghost use Rattle.page_scopes_phrases.specs.Names.{kept_of};
 
     // The name that a kept text is.
     fn read(kept: KeptText) -> ManualName

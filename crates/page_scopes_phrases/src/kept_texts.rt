@@ -56,8 +56,8 @@ pub struct KeptText {
 }
 
 impl KeptText {
-    ghost use Rattle.page_roff_syntax.specs.Arguments.{argument_view};
-    ghost use Rattle.page_scopes_phrases.specs.KeptTexts.{kept_of};
+    ghost use Rattle.page_roff_syntax.specs.laws.Views.{argument_view};
+    ghost use Rattle.page_scopes_phrases.specs.Names.{kept_of};
 
     /// The same text.
     pub fn copy(&self) -> KeptText

@@ -1,14 +1,15 @@
 //! What a kept text prints, wherever it is printed (man(7), `UR`, `MT`; mdoc(7), `Nm`).
 ghost use Rattle.std.specs.Prelude.{◌≡◌, ◌≤◌, ◌<◌, ◌+◌, ◌∷◌, ◌++◌, [], length, false, if◌then◌else◌};
-ghost use Rattle.page_core_base.specs.Latches.{Came, CameUpTo};
-ghost use Rattle.page_core_base.specs.Pieces.{shown};
+ghost use Rattle.page_core_base.specs.laws.Views.{Came, CameUpTo};
+ghost use Rattle.page_core_base.specs.Rows.{shown};
 ghost use Rattle.page_core_base.specs.declared.pieces.Piece.TheVariants.{Blank};
-ghost use Rattle.page_core_escapes.specs.Tokens.{token_view, tokens_of};
+ghost use Rattle.page_core_escapes.specs.laws.Views.{token_view};
+ghost use Rattle.page_core_escapes.specs.Tokens.{tokens_of};
 ghost use Rattle.page_core_base.specs.declared.limits.TheConstants.{FIELD};
-ghost use Rattle.page_roff_syntax.specs.Arguments.{argument_view};
-ghost use Rattle.page_scopes_phrases.specs.KeptTexts as kept;
+ghost use Rattle.page_roff_syntax.specs.laws.Views.{argument_view};
+ghost use Rattle.page_scopes_phrases.specs.Names as kept;
 ghost use Rattle.page_scopes_phrases.specs.machine.NameParts as names;
-ghost use Rattle.page_scopes_words.specs.Tokens.{blank_text};
+ghost use Rattle.page_scopes_words.specs.Words.{blank_text};
 ghost use Rattle.page_scopes_words.specs.Words as words;
 
 use crate::kept_names::{Known, NamePart};

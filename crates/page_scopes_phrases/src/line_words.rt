@@ -1,13 +1,12 @@
 //! Words of a line, and words that a macro prints itself (man(7), mdoc(7); roff(7), "Macro syntax").
 ghost use Rattle.std.specs.Prelude.{◌≡◌};
-ghost use Rattle.page_core_base.specs.Latches.{Came};
-ghost use Rattle.page_roff_syntax.specs.Arguments.{argument_view};
-ghost use Rattle.page_sets_lines.specs.Fits.{FitsAt};
-ghost use Rattle.page_scopes_phrases.specs.Cells.{text_outcome};
+ghost use Rattle.page_core_base.specs.laws.Views.{Came};
+ghost use Rattle.page_roff_syntax.specs.laws.Views.{argument_view};
+ghost use Rattle.page_sets_lines.specs.laws.Views.{FitsAt};
+ghost use Rattle.page_scopes_phrases.specs.LineWords.{text_outcome};
 ghost use Rattle.page_scopes_phrases.specs.LineWords as lines;
-ghost use Rattle.page_scopes_phrases.specs.Outcomes.{GivesOutcome};
-ghost use Rattle.page_scopes_phrases.specs.Phrases.{phrase_view};
-ghost use Rattle.page_sets_lines.specs.Events.{word_view};
+ghost use Rattle.page_scopes_phrases.specs.laws.Views.{GivesOutcome, phrase_view};
+ghost use Rattle.page_sets_lines.specs.laws.Events.{word_view};
 
 use crate::cells::{give_cells, in_columns};
 use crate::{Formatting, Phrase, give_phrase};

@@ -1,11 +1,11 @@
 //! The name of the manual: the first word of the first `Nm` that has one, which each `Nm` without words prints (mdoc(7), `Nm`).
 ghost use Rattle.std.specs.Prelude.{◌≡◌, [], Some};
-ghost use Rattle.page_core_base.specs.Latches.{Came};
-ghost use Rattle.page_roff_syntax.specs.Arguments.{argument_view};
-ghost use Rattle.page_sets_lines.specs.Fits.{FitsAt};
-ghost use Rattle.page_scopes_phrases.specs.ManualNames as names;
-ghost use Rattle.page_scopes_phrases.specs.Outcomes.{GivesOutcome};
-ghost use Rattle.page_scopes_phrases.specs.Phrases.{own_phrase, phrase_view};
+ghost use Rattle.page_core_base.specs.laws.Views.{Came};
+ghost use Rattle.page_roff_syntax.specs.laws.Views.{argument_view};
+ghost use Rattle.page_sets_lines.specs.laws.Views.{FitsAt};
+ghost use Rattle.page_scopes_phrases.specs.Names as names;
+ghost use Rattle.page_scopes_phrases.specs.laws.Views.{GivesOutcome, phrase_view};
+ghost use Rattle.page_scopes_phrases.specs.Phrases.{own_phrase};
 ghost use Rattle.page_core_base.specs.declared.cells.Font.TheVariants.{B};
 ghost use Rattle.page_sets_lines.specs.declared.events.Join.TheVariants.{Apart};
 ghost use Rattle.page_sets_lines.specs.declared.events.Role.TheVariants.{Name};
@@ -61,7 +61,7 @@ fn nameless(place: Place) -> Phrase<&'static [u8]>
 }
 
 // Gives the word of a manual without a name.
-#[tactic(auto, unfolding(crate::specs::ManualNames::missing_name))]
+#[tactic(auto, unfolding(crate::specs::Names::missing_name))]
 fn give_nameless<O: PieceOut>(out: &mut O, place: Place, state: &mut Formatting)
     ensures { GivesOutcome O.left out.old (names.missing_name place state.old) out.new state.new }
 {
@@ -91,7 +91,7 @@ fn has_gap_cells(state: &Formatting) -> bool
 }
 
 // Gives a name in bold.
-#[tactic(auto, unfolding(crate::specs::ManualNames::name_word))]
+#[tactic(auto, unfolding(crate::specs::Names::name_word))]
 fn give_name_word<O: PieceOut>(out: &mut O, place: Place, name: &ManualName, state: &mut Formatting)
     ensures { GivesOutcome O.left out.old (names.name_word place name.now state.old) out.new state.new }
 {

@@ -1,10 +1,9 @@
 //! Texts that events print: their fonts, and how they are beside the words around them (man(7), `B`, `BR`).
 ghost use Rattle.std.specs.Prelude.{◌≡◌, ◌≤◌, ◌&&◌, length, not};
 ghost use Rattle.page_core_base.specs.declared.limits.TheConstants.{LINE};
-ghost use Rattle.page_sets_lines.specs.Fits.{FitsAt};
-ghost use Rattle.page_scopes_phrases.specs.Outcomes.{GivesOutcome};
+ghost use Rattle.page_sets_lines.specs.laws.Views.{FitsAt};
+ghost use Rattle.page_scopes_phrases.specs.laws.Views.{GivesOutcome, phrase_view};
 ghost use Rattle.page_scopes_phrases.specs.Phrases as phrases;
-ghost use Rattle.page_scopes_phrases.specs.Phrases.{phrase_view};
 
 use crate::Formatting;
 use page_core_base::{Font, LINE, PieceOut, Place};

@@ -7,24 +7,23 @@ use Rattle.std.proofs.lemmas.List.{map-append, take-append-drop}
 use Rattle.std.proofs.lemmas.List.Folds.{length-prefix_len, list_all-append}
 use Rattle.std.proofs.lemmas.Bool.{cases_Bool}
 use Rattle.std.proofs.lemmas.Bool.Decides.{nat_tests}
-use Rattle.page_core_base.specs.Pieces.{Item, shown}
+use Rattle.page_core_base.specs.Rows.{Item, shown, hyphen, later_pieces, part_pieces, parts_of}
 use Rattle.page_core_base.specs.declared.cells.Cell.{Cell}
 use Rattle.page_core_base.specs.declared.cells.Font.TheVariants.{R}
 use Rattle.page_core_base.specs.declared.pieces.Piece.{Piece}
 use Rattle.page_core_base.specs.declared.pieces.Piece.TheVariants.{Text}
 use Rattle.page_core_base.specs.declared.places.Place.{Place}
-use Rattle.page_core_base.specs.Words.{font_cells, is_kept, is_word, hyphen, later_pieces, part_pieces, letters_of, parts_of, word_letters}
+use Rattle.page_core_base.specs.laws.Views.{font_cells, is_kept, is_word, letters_of, word_letters}
 use Rattle.page_core_base.proofs.WordPartLemmas.{joined, joined-parts, parts-full}
-use Rattle.page_core_escapes.specs.Tokens.{begins_white, begins_word, is_white, plain, token_len}
-use Rattle.page_scopes_words.specs.Pens.{body_after, gap_after, white_after, word_after}
-use Rattle.page_scopes_words.specs.Words.{at, has_tab, white_cells}
+use Rattle.page_core_escapes.specs.Tokens.{begins_white, is_white, plain, token_len}
+use Rattle.page_core_escapes.specs.laws.Views.{begins_word}
+use Rattle.page_scopes_words.specs.Words.{body_after, gap_after, white_after, word_after, at, has_tab, white_cells}
 use Rattle.page_scopes_words.specs.declared.pens.Pen.{Pen}
 use Rattle.page_scopes_words.specs.declared.pens.TextStyle.{TextStyle}
 use Rattle.page_scopes_text.proofs.PartedLemmas.{all_before, no_word, white_token}
 use Rattle.page_scopes_text.proofs.TextLemmas.{after_others_more, after_spaced_word, others_more, spaced_word}
-use Rattle.page_scopes_text.specs.Parted.{spaced_front, words_of}
-use Rattle.page_scopes_text.specs.Texts.{others_after, others_items, place_after, spaced_after, spaced_items}
-use Rattle.page_scopes_text.specs.Words.{printed_items, word_items}
+use Rattle.page_scopes_text.specs.laws.Views.{spaced_front}
+use Rattle.page_scopes_text.specs.Texts.{words_of, others_after, others_items, place_after, spaced_after, spaced_items, printed_items, word_items}
 use Rattle.page_scopes_text.specs.machine.Kept.{AreCells, IsKept, ReadsKept, kept_pen}
 use Rattle.page_scopes_text.specs.machine.Reads.{ReadsPlain}
 

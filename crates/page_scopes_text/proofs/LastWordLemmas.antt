@@ -3,11 +3,11 @@ use Rattle.std.proofs.Common.{◌≡◌, ℕ, ◌+◌, ◌-◌, ◌<◌, ◌≤�
 use Rattle.std.specs.Prelude.{◌==◌, if◌then◌else◌}
 use Rattle.std.proofs.lemmas.Bool.{cases_Bool}
 use Rattle.std.proofs.lemmas.List.{length-drop, length-take-le}
-use Rattle.page_core_escapes.specs.Tokens.{begins_white, begins_word, is_white, token_len, tokens_len}
+use Rattle.page_core_escapes.specs.Tokens.{begins_white, is_white, token_len, tokens_len}
+use Rattle.page_core_escapes.specs.laws.Views.{begins_word}
 use Rattle.page_scopes_text.proofs.PartedLemmas.{no_word, spaced_more, white_some, words_none}
 use Rattle.page_scopes_text.proofs.TextLemmas.{next_word, not_none}
-use Rattle.page_scopes_text.specs.Parted.{Parted, words_of}
-use Rattle.page_scopes_text.specs.Texts.{last_of, last_word}
+use Rattle.page_scopes_text.specs.Texts.{Parted, words_of, last_of, last_word}
 
 -- of the white space at a text's front, so many bytes, and the word after it, this is left
 pub record Passes (quoted : Bool) (text rest : List ℕ) (n : ℕ) : Type 0 where

@@ -5,8 +5,8 @@ use Rattle.std.proofs.lemmas.List.{drop_all, length-map, map-append, take_all}
 use Rattle.std.proofs.lemmas.List.Folds.{list_all-append}
 use Rattle.std.proofs.lemmas.Bool.{cases_Bool}
 use Rattle.std.proofs.lemmas.Bool.Decides.{nat_tests}
-use Rattle.page_core_base.specs.Pieces.{Item, shown}
-use Rattle.page_core_base.specs.Words.{hyphen, is_lettered, is_printable, is_printable_ascii, is_word, letters_of, parts_after, parts_of, word_letters}
+use Rattle.page_core_base.specs.Rows.{Item, shown, hyphen, parts_after, parts_of}
+use Rattle.page_core_base.specs.laws.Views.{is_lettered, is_printable, is_printable_ascii, is_word, letters_of, word_letters}
 use Rattle.page_core_base.proofs.WordPartLemmas.{whole-first}
 use Rattle.page_core_base.specs.declared.cells.Cell.{Cell}
 use Rattle.page_core_base.specs.declared.cells.Font.{Font}
@@ -14,17 +14,15 @@ use Rattle.page_core_base.specs.declared.pieces.Piece.{Piece}
 use Rattle.page_core_base.specs.declared.pieces.Piece.TheVariants.{Char, Text}
 use Rattle.page_core_escapes.specs.Meanings as meanings
 use Rattle.page_core_escapes.specs.Meanings.{Face, is_known}
-use Rattle.page_core_escapes.specs.Tokens.{TextToken, begins_word, escaped, is_white, plain, prints_itself, quotes, token_at, token_bytes, token_len}
+use Rattle.page_core_escapes.specs.Tokens.{TextToken, escaped, is_white, plain, prints_itself, quotes, token_at, token_bytes, token_len}
+use Rattle.page_core_escapes.specs.laws.Views.{begins_word}
 use Rattle.page_core_base.specs.declared.places.Place.{Place}
-use Rattle.page_scopes_words.specs.Words.{face_notes, is_glue}
+use Rattle.page_scopes_words.specs.Words.{face_notes, is_glue, token_prints, pen_after, pen_through}
 use Rattle.page_scopes_words.specs.declared.settings.Setting.{Setting}
 use Rattle.page_scopes_words.specs.declared.fonts.Fonts.{Fonts}
 use Rattle.page_scopes_text.proofs.PartedLemmas.{others_same, pen_more, plain_word, tokens_more, words_more}
-use Rattle.page_scopes_text.specs.Parted.{Parted, words_of}
-use Rattle.page_scopes_text.specs.Words.{tokens_items, word_notes}
+use Rattle.page_scopes_text.specs.Texts.{Parted, words_of, tokens_items, word_notes}
 use Rattle.page_scopes_words.specs.Fonts.{fonts_after}
-use Rattle.page_scopes_words.specs.Tokens.{token_prints}
-use Rattle.page_scopes_words.specs.Pens.{pen_after, pen_through}
 use Rattle.page_scopes_words.specs.machine.Letters.{letters_in}
 use Rattle.page_scopes_text.specs.machine.Letters.{Lettered, ReadsLetters, inside}
 use Rattle.page_scopes_words.specs.declared.pens.Pen.{Pen}

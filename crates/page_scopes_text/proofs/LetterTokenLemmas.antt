@@ -2,9 +2,8 @@
 use Rattle.std.proofs.Common.{◌≡◌, ℕ, ◌||◌, Bool, true, false, List, [], ◌∷◌, length, take, drop, refl, ap, sym, ◌∙◌, append-nil, arith}
 use Rattle.std.proofs.lemmas.List.{length-take-le}
 use Rattle.page_core_base.specs.declared.cells.Cell.{Cell}
-use Rattle.page_core_escapes.specs.Escapes.{escape_of}
+use Rattle.page_core_escapes.specs.Meanings.{escape_of, Face, is_known}
 use Rattle.page_core_escapes.specs.Meanings as meanings
-use Rattle.page_core_escapes.specs.Meanings.{Face, is_known}
 use Rattle.page_core_escapes.specs.Tokens.{TextToken, escaped, token_at, token_bytes, token_len}
 use Rattle.page_core_escapes.specs.machine.ShortEscapes.{ShortFont}
 use Rattle.page_scopes_words.specs.Fonts.{face_fonts}

@@ -4,17 +4,17 @@ use Rattle.std.specs.Prelude.{◌==◌, if◌then◌else◌}
 use Rattle.std.specs.List.{list_all, prefix_len}
 use Rattle.std.proofs.lemmas.List.{get_or_past, take_all}
 use Rattle.std.proofs.lemmas.Bool.Decides.{nat_tests}
-use Rattle.page_core_base.specs.Latches.{Came, CameUpTo}
-use Rattle.page_core_base.specs.Pieces.{Item, shown}
-use Rattle.page_core_base.specs.Words.{lettered_cells, lettered_pieces}
+use Rattle.page_core_base.specs.laws.Views.{Came, CameUpTo, lettered_cells, lettered_pieces}
+use Rattle.page_core_base.specs.Rows.{Item, shown}
 use Rattle.page_core_base.specs.declared.cells.Cell.{Cell}
 use Rattle.page_core_base.specs.declared.cells.Font.{Font}
 use Rattle.page_core_base.specs.declared.cells.Font.TheVariants.{R, I, B, BI}
 use Rattle.page_core_base.specs.declared.pieces.Piece.{Piece}
 use Rattle.page_core_base.specs.declared.pieces.Piece.TheVariants.{Blank}
 use Rattle.page_core_base.specs.declared.places.Place.{Place}
-use Rattle.page_core_escapes.specs.Tokens.{TextToken, begins_word, prints_itself, token_len}
-use Rattle.page_scopes_words.specs.Words.{at}
+use Rattle.page_core_escapes.specs.Tokens.{TextToken, prints_itself, token_len}
+use Rattle.page_core_escapes.specs.laws.Views.{begins_word}
+use Rattle.page_scopes_words.specs.Words.{at, gap_after, pen_after, pen_through, word_after, word_begun, word_ended}
 use Rattle.page_scopes_words.specs.declared.fonts.Fonts.{Fonts}
 use Rattle.page_scopes_words.specs.declared.settings.Setting.{Setting}
 use Rattle.page_scopes_words.specs.machine.Letters.{GivesLetters, letters_in}
@@ -24,10 +24,8 @@ use Rattle.page_scopes_text.proofs.LetteredWordLemmas.{reads_after_blank, white_
 use Rattle.page_scopes_text.proofs.PartedLemmas.{blank_len}
 use Rattle.page_scopes_text.proofs.RunWordLemmas.{first_reads, one_word, run_reads}
 use Rattle.page_scopes_text.proofs.TextLemmas.{after_others_more, after_spaced_word, others_more, spaced_word}
-use Rattle.page_scopes_text.specs.Parted.{Spaced, spaced_front, words_of}
-use Rattle.page_scopes_text.specs.Texts.{others_after, others_items, spaced_items}
-use Rattle.page_scopes_text.specs.Words.{body_items, empty_items, gap_items, tokens_items, word_items, word_notes}
-use Rattle.page_scopes_words.specs.Pens.{gap_after, pen_after, pen_through, word_after, word_begun, word_ended}
+use Rattle.page_scopes_text.specs.Texts.{Spaced, words_of, others_after, others_items, spaced_items, body_items, empty_items, gap_items, tokens_items, word_items, word_notes}
+use Rattle.page_scopes_text.specs.laws.Views.{spaced_front}
 use Rattle.page_scopes_words.specs.machine.Pens.{resting}
 use Rattle.page_scopes_words.specs.declared.pens.Pen.{Pen}
 use Rattle.page_scopes_words.specs.declared.pens.TextStyle.{TextStyle}

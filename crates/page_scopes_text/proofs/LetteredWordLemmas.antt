@@ -5,23 +5,22 @@ use Rattle.std.proofs.lemmas.Bool.{cases_lt}
 use Rattle.std.proofs.lemmas.List.{map-append}
 use Rattle.std.proofs.lemmas.List.Folds.{list_all-append}
 use Rattle.std.proofs.lemmas.Bool.Decides.{nat_tests}
-use Rattle.page_core_base.specs.Pieces.{Item, shown}
-use Rattle.page_core_base.specs.Words.{is_lettered_word, lettered_cells, lettered_pieces, word_letters}
+use Rattle.page_core_base.specs.Rows.{Item, shown}
+use Rattle.page_core_base.specs.laws.Views.{is_lettered_word, lettered_cells, lettered_pieces, word_letters}
 use Rattle.page_core_base.specs.declared.cells.Cell.{Cell}
 use Rattle.page_core_base.specs.declared.cells.Font.TheVariants.{R}
 use Rattle.page_core_base.specs.declared.pieces.Piece.{Piece}
 use Rattle.page_core_base.specs.declared.pieces.Piece.TheVariants.{Blank}
-use Rattle.page_core_escapes.specs.Tokens.{TextToken, begins_word, token_len}
-use Rattle.page_scopes_words.specs.Words.{at}
+use Rattle.page_core_escapes.specs.Tokens.{TextToken, token_len}
+use Rattle.page_core_escapes.specs.laws.Views.{begins_word}
+use Rattle.page_scopes_words.specs.Words.{at, gap_after, pen_through, white_after, word_after, word_begun, word_ended}
 use Rattle.page_scopes_words.specs.declared.settings.Setting.{Setting}
 use Rattle.page_scopes_words.specs.declared.fonts.Fonts.{Fonts}
 use Rattle.page_scopes_text.proofs.PartedLemmas.{blank_len, no_word}
 use Rattle.page_scopes_text.proofs.TextLemmas.{after_others_more, after_spaced_word, others_more, spaced_word}
-use Rattle.page_scopes_text.specs.Parted.{Spaced, spaced_front, words_of}
-use Rattle.page_scopes_text.specs.Texts.{others_after, others_items, place_after, spaced_after, spaced_items, white_items}
-use Rattle.page_scopes_words.specs.Pens.{gap_after, pen_through, white_after, word_after, word_begun, word_ended}
+use Rattle.page_scopes_text.specs.Texts.{Spaced, words_of, others_after, others_items, place_after, spaced_after, spaced_items, white_items, body_items, empty_items, gap_items, tokens_items, word_items, word_notes}
+use Rattle.page_scopes_text.specs.laws.Views.{spaced_front}
 use Rattle.page_scopes_words.specs.machine.Pens.{resting}
-use Rattle.page_scopes_text.specs.Words.{body_items, empty_items, gap_items, tokens_items, word_items, word_notes}
 use Rattle.page_scopes_words.specs.machine.Letters.{letters_in}
 use Rattle.page_scopes_text.specs.machine.Letters.{AddsAfterBlank, AddsWord, AddsWords, Grows, PrintsFirst, ReadsAfterBlank, ReadsLetters, ReadsWords, inside}
 use Rattle.page_scopes_words.specs.declared.pens.Pen.{Pen}

@@ -1,13 +1,12 @@
 -- Parts of a word, one after another.
 use Rattle.std.proofs.Common.{◌≡◌, ℕ, ◌<◌, ◌≤◌, List, [], ◌∷◌, length, refl, ap, sym, ◌∙◌, arith}
-use Rattle.page_core_base.specs.Pieces.{shown}
-use Rattle.page_core_base.specs.Words.{parts_after, parts_of}
+use Rattle.page_core_base.specs.Rows.{shown, parts_after, parts_of}
 use Rattle.page_core_base.specs.declared.cells.Font.{Font}
 use Rattle.page_core_base.specs.declared.pieces.Piece.TheVariants.{Split}
 use Rattle.page_core_base.specs.declared.places.Place.{Place}
 use Rattle.page_core_base.proofs.WordPartLemmas.{joined, joined-parts}
 use Rattle.page_scopes_text.specs.machine.Parts.{later_items}
-use Rattle.page_scopes_text.specs.Words.{parts_items}
+use Rattle.page_scopes_text.specs.Texts.{parts_items}
 
 pub no_parts : (font : Font) (place : Place) (bytes : List ℕ) → length bytes ≤ 0 → parts_items font place bytes ≡ []
 unfolding parts_after

@@ -4,17 +4,18 @@ use Rattle.std.specs.List.{list_all, prefix_len}
 use Rattle.std.proofs.lemmas.List.Folds.{length-prefix_len}
 use Rattle.std.proofs.lemmas.Bool.{cases_Bool}
 use Rattle.std.proofs.lemmas.Bool.Decides.{nat_tests}
-use Rattle.page_core_base.specs.Words.{is_word}
+use Rattle.page_core_base.specs.laws.Views.{is_word}
 use Rattle.page_core_base.specs.declared.places.Place.{Place}
-use Rattle.page_core_escapes.specs.Tokens.{TextToken, white, plain, quotes, escaped, begins_word, begins_white, is_space, is_white, prints_itself, token_at, token_len}
-use Rattle.page_core_escapes.specs.Escapes.{escape_of, read_escape}
+use Rattle.page_core_escapes.specs.Tokens.{TextToken, white, plain, quotes, escaped, begins_white, is_space, is_white, prints_itself, token_at, token_len}
+use Rattle.page_core_escapes.specs.laws.Views.{begins_word}
+use Rattle.page_core_escapes.specs.Meanings.{escape_of, read_escape}
 use Rattle.page_core_escapes.specs.Lengths.{escape_len}
 use Rattle.page_core_escapes.proofs.Contents.{escape_len-some}
 use Rattle.page_core_escapes.proofs.TokenLemmas.{tokens_more as text_tokens, tokens_none, word_token, not_white, space_token, white_first}
-use Rattle.page_scopes_text.specs.Words.{printed_items, tokens_items}
-use Rattle.page_scopes_words.specs.Pens.{pen_after, pen_through}
+use Rattle.page_scopes_text.specs.Texts.{printed_items, tokens_items, Parted, after_token, parted, words_of}
+use Rattle.page_scopes_words.specs.Words.{pen_after, pen_through}
 use Rattle.page_scopes_words.specs.declared.pens.Pen.{Pen}
-use Rattle.page_scopes_text.specs.Parted.{Parted, after_token, parted, words_of, spaced_front}
+use Rattle.page_scopes_text.specs.laws.Views.{spaced_front}
 use Rattle.page_scopes_text.specs.machine.Reads.{ReadsPlain}
 
 token_before : (token : TextToken) (text : Parted) → is_space token ≡ false → after_token token text ≡ record { word = token ∷ text.word; others = text.others }

@@ -2,17 +2,15 @@
 use Rattle.std.proofs.Common.{◌≡◌, ℕ, ◌<◌, ◌≤◌, ◌==◌, Bool, true, false, List, [], ◌++◌, length, take, drop, refl, ap, sym, ◌∙◌, append-nil, append_assoc, arith}
 use Rattle.std.specs.Prelude.{if◌then◌else◌}
 use Rattle.std.proofs.lemmas.Bool.Decides.{nat_tests}
-use Rattle.page_core_base.specs.Pieces.{Item}
+use Rattle.page_core_base.specs.Rows.{Item}
 use Rattle.page_core_base.specs.declared.cells.Font.TheVariants.{R}
-use Rattle.page_core_escapes.specs.Tokens.{begins_white, begins_word, token_len}
-use Rattle.page_scopes_words.specs.Words.{at, has_tab}
+use Rattle.page_core_escapes.specs.Tokens.{begins_white, token_len}
+use Rattle.page_core_escapes.specs.laws.Views.{begins_word}
+use Rattle.page_scopes_words.specs.Words.{at, has_tab, body_after, has_gap_cells, indented_pen, white_after, word_after, blank_cells}
 use Rattle.page_scopes_text.proofs.PartedLemmas.{no_word, spaced_more, white_some, word_some, words_more, words_none}
-use Rattle.page_scopes_text.specs.Parted.{Parted, spaced_front, words_of}
-use Rattle.page_scopes_text.specs.Texts.{gap_place, indented_items, is_indented, leading_after, leading_items, others_after, others_items, place_after, spaced_after, spaced_items, text_after, white_items, words_items}
+use Rattle.page_scopes_text.specs.Texts.{Parted, words_of, gap_place, indented_items, is_indented, leading_after, leading_items, others_after, others_items, place_after, spaced_after, spaced_items, text_after, white_items, words_items, word_items}
+use Rattle.page_scopes_text.specs.laws.Views.{spaced_front}
 use Rattle.page_scopes_text.specs.machine.Reads.{first_after, first_items}
-use Rattle.page_scopes_words.specs.Pens.{body_after, has_gap_cells, indented_pen, white_after, word_after}
-use Rattle.page_scopes_words.specs.Tokens.{blank_cells}
-use Rattle.page_scopes_text.specs.Words.{word_items}
 use Rattle.page_scopes_words.specs.declared.pens.Pen.{Pen}
 use Rattle.page_scopes_words.specs.declared.pens.TextStyle.{TextStyle}
 

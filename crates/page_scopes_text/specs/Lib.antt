@@ -1,4 +1,3 @@
-pub mod Parted
-pub mod Words
 pub mod Texts
+pub mod laws
 pub mod machine

@@ -1,17 +1,88 @@
--- A text as pieces and messages: its words, and the white space between them. Source: roff(7), "LANGUAGE SYNTAX"; mandoc(1), "DIAGNOSTICS".
-use Rattle.std.specs.Prelude.{ℕ, ◌+◌, ◌==◌, Bool, false, not, ◌&&◌, List, [], ◌∷◌, ◌++◌, length, if◌then◌else◌}
-use Rattle.page_core_base.specs.Pieces.{Item, shown}
+-- A text as pieces and messages: its words, and the white space between them. Source: roff(7), "Filling and adjusting".
+use Rattle.std.specs.Prelude.{ℕ, List, [], ◌∷◌, Bool, ◌++◌, map, if◌then◌else◌, ◌==◌, ◌+◌, length, not, ◌&&◌, false}
+use Rattle.page_core_base.specs.Rows.{Item, shown, part_pieces, parts_of}
+use Rattle.page_core_base.specs.declared.cells.Font.{Font}
 use Rattle.page_core_base.specs.declared.cells.Font.TheVariants.{R}
-use Rattle.page_core_base.specs.declared.pieces.Piece.TheVariants.{Break}
+use Rattle.page_core_base.specs.declared.pieces.Piece.TheVariants.{Text, Blank, Break}
 use Rattle.page_core_base.specs.declared.places.Place.{Place}
-use Rattle.page_core_escapes.specs.Tokens.{TextToken, tokens_len}
-use Rattle.page_scopes_words.specs.Words.{at, has_tab, white_cells}
-use Rattle.page_scopes_text.specs.Parted.{Spaced, Parted}
-use Rattle.page_scopes_text.specs.Words.{body_items, word_items, word_notes}
-use Rattle.page_scopes_words.specs.Tokens.{blank_cells}
-use Rattle.page_scopes_words.specs.Pens.{body_after, has_gap_cells, indented_pen, white_after, word_after}
+use Rattle.page_core_escapes.specs.Tokens.{TextToken, white, tokens_of, plain, tokens_len}
+use Rattle.page_scopes_words.specs.Words.{token_notes, token_items, pen_after, pen_through, word_begun, blank_cells, at, gap_after, white_cells, has_tab, white_after, word_after, indented_pen, has_gap_cells, body_after}
 use Rattle.page_scopes_words.specs.declared.pens.Pen.{Pen}
 use Rattle.page_scopes_words.specs.declared.pens.TextStyle.{TextStyle}
+
+-- ---- The words of a text, each with the blanks and tabs before it. Source: roff(7), "LANGUAGE SYNTAX".
+
+-- a word, and the white space before it
+pub record Spaced : Type 0 where
+  pub white : List ℕ
+  pub word : List TextToken
+
+-- A text: the word at its front, which is empty where white space is there, and those after it. The last of them is empty where white space is at
+-- the text's end.
+pub record Parted : Type 0 where
+  pub word : List TextToken
+  pub others : List Spaced
+
+abbrev pub after_token : TextToken → Parted → Parted
+after_token (white bytes) text = record { word = []; others = record { white = bytes; word = text.word } ∷ text.others }
+after_token token text = record { word = token ∷ text.word; others = text.others }
+
+abbrev pub parted : List TextToken → Parted
+parted [] = record { word = []; others = [] }
+parted (token ∷ tokens) = after_token token (parted tokens)
+
+-- the words of a text, which is quoted or not
+abbrev pub words_of : Bool → List ℕ → Parted
+words_of quoted text = parted (tokens_of quoted text)
+
+-- ---- A word as pieces and messages. Source: roff(7), "ESCAPE SEQUENCES"; mandoc(1), "DIAGNOSTICS".
+
+-- ---- messages
+
+abbrev pub word_notes : (quoted : Bool) → Place → List TextToken → List Item
+word_notes quoted place [] = []
+word_notes quoted place (token ∷ tokens) = token_notes quoted place token ++ word_notes quoted place tokens
+
+-- ---- what tokens of a word print
+
+-- bytes that print themselves, at whose hyphens a row may end
+abbrev pub parts_items : Font → Place → List ℕ → List Item
+parts_items font place bytes = map shown (part_pieces font place (parts_of bytes))
+
+-- a token of a word that is parted or not
+abbrev pub printed_items : (quoted splits : Bool) → Font → Place → TextToken → List Item
+printed_items quoted splits font place (plain bytes) = if splits then parts_items font place bytes else shown (Text bytes font place) ∷ []
+printed_items quoted splits font place token = token_items quoted font place token
+
+-- each token prints in the font that those before it leave
+abbrev pub tokens_items : (quoted : Bool) → Place → Pen → List TextToken → List Item
+tokens_items quoted place pen [] = []
+tokens_items quoted place pen (token ∷ tokens) =
+    printed_items quoted pen.splits pen.fonts.value.font place token ++ tokens_items quoted place (pen_after pen token) tokens
+
+-- ---- a word
+
+-- a word that prints nothing is a text without characters
+abbrev pub empty_items : Bool → Place → List Item
+empty_items has_cell place = if has_cell then [] else shown (Text [] R place) ∷ []
+
+abbrev pub body_items : (quoted : Bool) → Place → Pen → List TextToken → List Item
+body_items quoted place pen word =
+    tokens_items quoted place (word_begun pen) word ++ empty_items (pen_through (word_begun pen) word).has_cell place
+
+-- the blanks before a word part it, or are kept where a word is before it
+abbrev pub gap_items : TextStyle → Bool → Place → Pen → List Item
+gap_items style has_tab place pen =
+    if style.is_literal then (if pen.is_after_word then blank_cells pen.gap R place else [])
+    else if pen.gap == 0 then [] else shown (Blank pen.gap has_tab) ∷ []
+
+-- a word's messages come first; then the blanks before it, and what it prints
+abbrev pub word_items : TextStyle → ℕ → Bool → Pen → List TextToken → List Item
+word_items style line has_tab pen word =
+    word_notes style.is_quoted (at line pen.column) word
+    ++ (gap_items style has_tab (at line pen.column) pen ++ body_items style.is_quoted (at line pen.column) (gap_after style pen) word)
+
+-- ---- A text as pieces and messages: its words, and the white space between them. Source: roff(7), "LANGUAGE SYNTAX"; mandoc(1), "DIAGNOSTICS".
 
 -- ---- the column of a text's last word
 

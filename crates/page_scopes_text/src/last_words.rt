@@ -1,8 +1,9 @@
 //! Where the last word of a text is: white space that no word follows is reported there (roff(7), "LANGUAGE SYNTAX").
 
 ghost use Rattle.std.specs.Prelude.{◌≡◌, ◌≤◌, ◌<◌, ◌+◌, ◌^◌, false, if◌then◌else◌, length};
-ghost use Rattle.page_core_escapes.specs.Tokens.{begins_white, begins_word, tokens_len};
-ghost use Rattle.page_scopes_text.specs.Parted.{words_of};
+ghost use Rattle.page_core_escapes.specs.Tokens.{begins_white, tokens_len};
+ghost use Rattle.page_core_escapes.specs.laws.Views.{begins_word};
+ghost use Rattle.page_scopes_text.specs.Texts.{words_of};
 ghost use Rattle.page_scopes_text.specs.Texts as texts;
 
 use page_core_base::LINE;
@@ -68,8 +69,7 @@ impl<'a> Model for Front<'a> {
     ghost Value = { ℕ };
 
     ghost use Rattle.page_core_base.specs.declared.limits.TheConstants.{LINE};
-    ghost use Rattle.page_scopes_text.specs.Parted.{words_of};
-    ghost use Rattle.page_scopes_text.specs.Texts.{last_word};
+    ghost use Rattle.page_scopes_text.specs.Texts.{words_of, last_word};
 
     ghost view = { λ f. last_word f.column f.last (words_of f.quoted f.text.now) };
 

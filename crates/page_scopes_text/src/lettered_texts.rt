@@ -2,9 +2,9 @@
 
 ghost use Rattle.std.specs.Prelude.{◌≡◌, ℕ, ◌≤◌, ◌<◌, ◌+◌, ◌==◌, ◌∷◌, not, false, true, [], length, IfSome, MatchOption};
 ghost use Rattle.std.specs.List.{list_all};
-ghost use Rattle.page_core_base.specs.Latches.{Came, CameUpTo};
-ghost use Rattle.page_core_escapes.specs.Tokens.{begins_word};
-ghost use Rattle.page_scopes_text.specs.Parted.{words_of};
+ghost use Rattle.page_core_base.specs.laws.Views.{Came, CameUpTo};
+ghost use Rattle.page_core_escapes.specs.laws.Views.{begins_word};
+ghost use Rattle.page_scopes_text.specs.Texts.{words_of};
 ghost use Rattle.page_scopes_text.specs.Texts as texts;
 ghost use Rattle.page_scopes_text.specs.machine.Letters.{AddsWords};
 ghost use Rattle.page_scopes_text.specs.machine.LetteredTexts.{GivesFront, GoesOn, is_in_font};

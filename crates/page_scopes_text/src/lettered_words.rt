@@ -2,10 +2,11 @@
 
 ghost use Rattle.std.specs.Prelude.{◌≡◌, ◌≤◌, ◌<◌, ◌+◌, ◌^◌, ◌==◌, ◌&&◌, not, ℕ, List, false, true, [], ◌∷◌, ◌++◌, length, take, drop, IfSome, MatchOption};
 ghost use Rattle.std.specs.List.{list_all};
-ghost use Rattle.page_core_base.specs.Words.{hyphen, is_printable, is_printable_ascii, is_word, parts_of};
+ghost use Rattle.page_core_base.specs.Rows.{hyphen, parts_of};
+ghost use Rattle.page_core_base.specs.laws.Views.{is_printable, is_printable_ascii, is_word};
 ghost use Rattle.page_core_base.specs.declared.cells.Font.TheVariants.{R};
-ghost use Rattle.page_core_escapes.specs.Escapes.{meaning_view};
-ghost use Rattle.page_core_escapes.specs.Tokens.{begins_word, escaped, plain, token_view};
+ghost use Rattle.page_core_escapes.specs.laws.Views.{meaning_view, begins_word, token_view};
+ghost use Rattle.page_core_escapes.specs.Tokens.{escaped, plain};
 ghost use Rattle.page_scopes_text.specs.machine.Letters.{AddsAfterBlank, AddsWord, AddsWords, Grows, ReadsAfterBlank, ReadsFont, ReadsToken, TakesToken};
 ghost use Rattle.page_scopes_words.specs.machine.Letters.{letters_in};
 ghost use Rattle.page_scopes_words.specs.machine.RunEnds.{GoesOn};

@@ -1,11 +1,11 @@
 //! Texts of a page as pieces and messages, word by word: blanks, fonts, rows that are kept as they are, and the messages of escapes (roff(7)).
 //!
 //! A text of an event comes in with a `Pen` (`page_scopes_words`), which is what is known before it; its pieces go down to be filled. Read
-//! `specs/Parted.antt` first (the words of a text), then `Words.antt` (a word) and `Texts.antt` (what parts words). What the code does faster is
-//! in `specs/machine/`.
+//! `specs/Texts.antt` first: the words of a text, a word, and what parts words. What the code does faster is in
+//! `specs/machine/`.
 //!
 //! Proved: `give_text`: the pieces and messages of a text, word by word, with the blanks before each, in rows that are filled or kept
-//! (`specs/Parted.antt`, `Words.antt`, `Texts.antt`).
+//! (`specs/Texts.antt`).
 #![tactic(auto)]
 
 mod kept_texts;

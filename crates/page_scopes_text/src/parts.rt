@@ -1,10 +1,11 @@
 //! The parts of words: a row may end after a hyphen between two letters (roff(7), "Filling and adjusting").
 
 ghost use Rattle.std.specs.Prelude.{◌≡◌, ◌<◌, ◌==◌, false, length};
-ghost use Rattle.page_core_base.specs.Latches.{Came, CameUpTo};
-ghost use Rattle.page_core_escapes.specs.Tokens.{is_space, plain, token_view};
+ghost use Rattle.page_core_base.specs.laws.Views.{Came, CameUpTo};
+ghost use Rattle.page_core_escapes.specs.Tokens.{is_space, plain};
+ghost use Rattle.page_core_escapes.specs.laws.Views.{token_view};
 ghost use Rattle.page_scopes_text.specs.machine.Parts.{later_items};
-ghost use Rattle.page_scopes_text.specs.Words as words;
+ghost use Rattle.page_scopes_text.specs.Texts as words;
 
 use page_core_base::{Font, Piece, PieceOut, Place, first_part_len};
 use page_core_escapes::Token;

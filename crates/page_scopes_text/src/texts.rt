@@ -1,13 +1,14 @@
 //! Texts: words, and the white space between them (roff(7), "LANGUAGE SYNTAX").
 
 ghost use Rattle.std.specs.Prelude.{◌≡◌, ℕ, ◌≤◌, ◌<◌, ◌+◌, ◌==◌, ◌^◌, true, false, if◌then◌else◌, length};
-ghost use Rattle.page_core_base.specs.Latches.{Came, CameUpTo};
-ghost use Rattle.page_core_escapes.specs.Tokens.{begins_white, begins_word};
-ghost use Rattle.page_scopes_text.specs.Parted.{spaced_front, words_of};
+ghost use Rattle.page_core_base.specs.laws.Views.{Came, CameUpTo};
+ghost use Rattle.page_core_escapes.specs.Tokens.{begins_white};
+ghost use Rattle.page_core_escapes.specs.laws.Views.{begins_word};
+ghost use Rattle.page_scopes_text.specs.laws.Views.{spaced_front};
+ghost use Rattle.page_scopes_text.specs.Texts.{words_of};
 ghost use Rattle.page_scopes_text.specs.machine.Reads.{Fits, ReadsSpaced, Within, first_after, first_items};
 ghost use Rattle.page_scopes_text.specs.Texts as texts;
-ghost use Rattle.page_scopes_words.specs.Pens.{body_after, indented_pen};
-ghost use Rattle.page_scopes_words.specs.Words.{at};
+ghost use Rattle.page_scopes_words.specs.Words.{body_after, indented_pen, at};
 
 use crate::kept_texts::give_kept_words;
 use crate::last_words::Front;

@@ -2,7 +2,8 @@
 use Rattle.std.proofs.Common.{◌≡◌, ℕ, zero, suc, ◌≤◌, ◌<◌, List, [], ◌∷◌, ◌++◌, length, drop, refl, ap, arith}
 use Rattle.page_scopes_tree.specs.machine.Nestings.{Standing, as_node, as_leaf, as_nothing, Nesting, standing_of, IsSound}
 use Rattle.page_scopes_tree.specs.declared.nestings.Scope.{Scope}
-use Rattle.page_scopes_tree.specs.OpenScopes.{labels, Edge}
+use Rattle.page_scopes_tree.specs.laws.Views.{labels}
+use Rattle.page_scopes_tree.specs.Ends.{Edge}
 use Rattle.page_scopes_tree.specs.machine.Layouts.{Layout}
 use Rattle.page_scopes_tree.specs.machine.Machines.{ended_items, ended_state, placed_items, placed_state, placed_scopes, count_ended, state_left, step, step_items}
 use Rattle.page_scopes_tree.specs.machine.Asides.{With, act, aside, ends_with, stands_with, standing_with, with_asides, Sides, layout_with, beside, before_leaf}

@@ -4,7 +4,8 @@ use Rattle.std.proofs.Math.Nat.{suc-add}
 use Rattle.std.proofs.lemmas.List.{append-nil}
 use Rattle.page_scopes_tree.specs.machine.Nestings.{Standing, as_node, as_leaf, as_nothing, Nesting, standing_of, IsSound}
 use Rattle.page_scopes_tree.specs.declared.nestings.Scope.{Scope}
-use Rattle.page_scopes_tree.specs.OpenScopes.{labels, Edge}
+use Rattle.page_scopes_tree.specs.laws.Views.{labels}
+use Rattle.page_scopes_tree.specs.Ends.{Edge}
 use Rattle.page_scopes_tree.specs.machine.Layouts.{Layout, settled, edge}
 use Rattle.page_scopes_tree.specs.machine.Machines.{ended_items, ended_state, placed_scopes, count_ended, state_left, step_items, step, run_items, run}
 use Rattle.page_scopes_tree.proofs.RunLemmas.{settled-run, length-labels, left_labels}

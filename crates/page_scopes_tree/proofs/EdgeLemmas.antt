@@ -4,7 +4,8 @@ use Rattle.std.proofs.lemmas.List.{append-nil}
 use Rattle.page_scopes_tree.specs.machine.Nestings.{Standing, as_node, as_leaf, as_nothing, Nesting, left_by, standing_of, mode_of, inside, IsSound}
 use Rattle.page_scopes_tree.specs.machine.Forests.{Ender, by_act, still_open, Forest, none, node, After, Rest, leaf_first, node_of, ended, placed, all_open, tree}
 use Rattle.page_scopes_tree.specs.declared.nestings.Scope.{Scope}
-use Rattle.page_scopes_tree.specs.OpenScopes.{labels, Edge}
+use Rattle.page_scopes_tree.specs.laws.Views.{labels}
+use Rattle.page_scopes_tree.specs.Ends.{Edge}
 use Rattle.page_scopes_tree.specs.machine.Layouts.{Layout, scope_of, after, open_in, open_outer, open_rest, after_outer, after_rest, mode_after, edge}
 use Rattle.page_scopes_tree.specs.machine.Machines.{ended_state, placed_state, placed_scopes, count_ended, state_left, step, run}
 use Rattle.page_scopes_tree.proofs.RunLemmas.{ends_fit, left_labels}

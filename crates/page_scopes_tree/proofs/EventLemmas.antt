@@ -4,8 +4,9 @@ use Rattle.page_scopes_tree.proofs.CutLemmas.{settled-append, edge-append, edge-
 use Rattle.page_scopes_tree.specs.machine.Layouts.{settled, edge}
 use Rattle.page_sets_lines.specs.declared.events.Event.{Event}
 use Rattle.page_scopes_tree.proofs.FitLemmas.{scopes-sound}
-use Rattle.page_scopes_tree.specs.Acts.{does, steps_of}
-use Rattle.page_scopes_tree.specs.Edges.{ScopesEdge, steps_of_all, events_items, events_edge, page_items, page_end_items}
+use Rattle.page_scopes_tree.specs.laws.Views.{does, steps_of}
+use Rattle.page_scopes_tree.specs.Placements.{ScopesEdge}
+use Rattle.page_scopes_tree.specs.laws.Edges.{steps_of_all, events_items, events_edge, page_items, page_end_items}
 use Rattle.page_scopes_tree.specs.machine.Frames.{Tables, framed}
 use Rattle.page_scopes_tree.specs.machine.Nests.{scopes_nesting}
 use Rattle.page_core_base.specs.declared.limits.TheConstants.{SCOPES}

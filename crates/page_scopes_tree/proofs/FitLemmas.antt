@@ -18,7 +18,7 @@ use Rattle.page_sets_lines.specs.declared.openers.LineOpener.{LineOpener}
 use Rattle.page_sets_lines.specs.declared.openers.LineOpener.TheVariants as lines
 use Rattle.page_sets_lines.specs.declared.openers.Closer.{Closer}
 use Rattle.page_sets_lines.specs.declared.openers.Closer.TheVariants as closers
-use Rattle.page_scopes_tree.specs.Acts.{Step, comes, does}
+use Rattle.page_scopes_tree.specs.laws.Views.{Step, comes, does}
 use Rattle.page_scopes_tree.specs.Ends.{inside, up_to, line_scopes, up_to_explicit, up_to_item, up_to_paragraph, place_of_margin, up_to_margin, opener_ends, closer_ends, kind_ends, act_ends}
 use Rattle.page_scopes_tree.proofs.MarginLemmas.{but_outside}
 use Rattle.page_scopes_labels.specs.Labels.{is_line, is_enclosure, is_section, is_paragraph, is_item, is_list, is_explicit, is_level}

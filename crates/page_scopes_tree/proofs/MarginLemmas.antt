@@ -5,7 +5,7 @@ use Rattle.std.proofs.lemmas.Grind.{reverse_onto}
 use Rattle.std.specs.Prelude.{ℤ, pos, int_lt, nat_abs}
 use Rattle.std.specs.Option.{option_map, option_map_or}
 use Rattle.page_scopes_tree.specs.declared.nestings.Scope.{Scope}
-use Rattle.page_scopes_tree.specs.OpenScopes.{labels}
+use Rattle.page_scopes_tree.specs.laws.Views.{labels}
 use Rattle.page_scopes_tree.proofs.RunLemmas.{length-labels}
 use Rattle.page_scopes_tree.specs.Ends.{place_of_margin, up_to_margin}
 use Rattle.page_scopes_labels.specs.Labels.{is_margin}

@@ -4,7 +4,8 @@ use Rattle.std.proofs.lemmas.List.{append-nil, drop-map}
 use Rattle.page_scopes_tree.specs.machine.Nestings.{Standing, as_node, as_leaf, as_nothing, Nesting, standing_of, mode_of, IsSound}
 use Rattle.page_scopes_tree.specs.machine.Forests.{Forest, After, Rest, node_of, ended, placed, all_open, tree}
 use Rattle.page_scopes_tree.specs.declared.nestings.Scope.{Scope}
-use Rattle.page_scopes_tree.specs.OpenScopes.{labels, Edge}
+use Rattle.page_scopes_tree.specs.laws.Views.{labels}
+use Rattle.page_scopes_tree.specs.Ends.{Edge}
 use Rattle.page_scopes_tree.specs.machine.Layouts.{Layout, scope_of, lay_outer, lay_rest, settled}
 use Rattle.page_scopes_tree.specs.machine.Machines.{ended_items, ended_state, placed_items, placed_state, placed_scopes, count_ended, state_left, step, run_items}
 

@@ -5,14 +5,14 @@ use Rattle.std.proofs.lemmas.List.{drop-drop, append-nil, length-reverse}
 use Rattle.page_scopes_tree.proofs.CutLemmas.{ended_items-add, ended_state-add, settled-one, edge-one, step_fits}
 use Rattle.page_scopes_tree.proofs.EdgeLemmas.{edge-run}
 use Rattle.page_scopes_tree.proofs.RunLemmas.{settled-run}
-use Rattle.page_scopes_tree.specs.OpenScopes.{Edge}
+use Rattle.page_scopes_tree.specs.Ends.{Edge}
 use Rattle.page_scopes_tree.specs.machine.Layouts.{Layout, settled, edge}
 use Rattle.page_scopes_tree.specs.machine.Nestings.{Nesting, IsSound}
 use Rattle.page_scopes_tree.specs.machine.Machines.{ended_items, ended_state, step_items, step}
 use Rattle.page_scopes_tree.specs.declared.nestings.Scope.{Scope}
-use Rattle.page_core_base.specs.Pieces.{Item}
+use Rattle.page_core_base.specs.Rows.{Item}
 use Rattle.page_scopes_tree.proofs.FitLemmas.{scopes-sound}
-use Rattle.page_scopes_tree.specs.Acts.{Step}
+use Rattle.page_scopes_tree.specs.laws.Views.{Step}
 use Rattle.page_scopes_tree.specs.machine.Nests.{Fact, scopes_nesting}
 use Rattle.page_scopes_tree.specs.machine.Stacks.{stack_edge}
 use Rattle.page_core_base.specs.declared.limits.TheConstants.{SCOPES}

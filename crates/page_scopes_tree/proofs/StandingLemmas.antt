@@ -2,7 +2,7 @@
 use Rattle.std.proofs.Common.{ℕ, Bool, true, false, List, if◌then◌else◌}
 use Rattle.page_scopes_tree.specs.machine.Nestings.{Standing, as_node, as_leaf, as_nothing}
 use Rattle.page_sets_lines.specs.declared.events.Event.{Event}
-use Rattle.page_scopes_tree.specs.Acts.{does}
+use Rattle.page_scopes_tree.specs.laws.Views.{does}
 use Rattle.page_scopes_tree.specs.machine.Nests.{Fact, standing, refused, standing_by, step_standing}
 use Rattle.page_scopes_tree.specs.Placements.{act_placement, is_passed_over}
 use Rattle.page_scopes_tree.specs.declared.acts.Act.{Act}

@@ -1,16 +1,15 @@
 -- An act that is not passed over is a step: what it ends, and then the act itself. Helpers of proofs.
 use Rattle.std.proofs.Common.{◌≡◌, ℕ, Bool, true, false, List, ◌++◌, drop, refl, sym, ap, subst, ◌∙◌, append_assoc, if◌then◌else◌}
-use Rattle.page_core_base.specs.Latches.{Came}
-use Rattle.page_core_base.specs.Pieces.{Item}
+use Rattle.page_core_base.specs.laws.Views.{Came}
+use Rattle.page_core_base.specs.Rows.{Item}
 use Rattle.page_scopes_tree.proofs.RunLemmas.{left_labels}
-use Rattle.page_scopes_tree.specs.OpenScopes.{Edge, labels}
+use Rattle.page_scopes_tree.specs.Ends.{Edge, act_ends}
+use Rattle.page_scopes_tree.specs.laws.Views.{labels, Step, does}
 use Rattle.page_scopes_tree.specs.machine.Layouts.{Layout}
 use Rattle.page_scopes_tree.specs.machine.Machines.{ended_items, ended_state, placed_items, placed_scopes, placed_state, step_items}
 use Rattle.page_scopes_tree.specs.machine.Nestings.{Standing, as_nothing}
 use Rattle.page_scopes_tree.specs.declared.nestings.Scope.{Scope}
 use Rattle.page_sets_lines.specs.declared.events.Event.{Event}
-use Rattle.page_scopes_tree.specs.Acts.{Step, does}
-use Rattle.page_scopes_tree.specs.Ends.{act_ends}
 use Rattle.page_scopes_tree.specs.machine.Frames.{Tables, framed}
 use Rattle.page_scopes_tree.specs.machine.Nests.{Fact, scopes_nesting, standing_by, step_ends, step_standing}
 use Rattle.page_scopes_tree.specs.machine.Stacks.{TakesStep}

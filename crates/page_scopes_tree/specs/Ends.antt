@@ -1,24 +1,43 @@
--- How many of the open scopes, the innermost first, an event ends. Source: man(7), "MACRO OVERVIEW"; mdoc(7), "MACRO REFERENCE".
-use Rattle.std.specs.Prelude.{ℕ, suc, ◌+◌, ◌-◌, ◌==◌, nat_lt, Bool, not, List, [], ◌∷◌, length, reverse, Option, None, Some, if◌then◌else◌, ℤ, pos, int_lt, nat_abs}
-use Rattle.std.specs.Option.{option_map, option_map_or}
+-- What happens to the open scopes of a page, and how many of them an event ends. Source: man(7), mdoc(7).
 use Rattle.std.specs.List.{prefix_len}
+use Rattle.std.specs.Option.{option_map, option_map_or}
+use Rattle.std.specs.Prelude.{ℕ, false, List, Bool, not, ◌+◌, nat_lt, if◌then◌else◌, length, suc, ◌-◌, ◌==◌, [], ◌∷◌, Option, None, Some, reverse, ℤ, pos, int_lt, nat_abs}
 use Rattle.page_core_numbers.specs.Expressions.{expression_of}
 use Rattle.page_core_numbers.specs.declared.scales.Scale.TheVariants.{Basic}
 use Rattle.page_sets_lines.specs.Blocks.{closed_block}
 use Rattle.page_sets_lines.specs.declared.events.Event.{Event}
 use Rattle.page_sets_lines.specs.declared.events.EventKind.{EventKind}
+use Rattle.page_sets_lines.specs.declared.events.EventKind.TheVariants.{End}
 use Rattle.page_sets_lines.specs.declared.events.EventKind.TheVariants as kinds
 use Rattle.page_sets_lines.specs.declared.leaves.Leaf.TheVariants as leaves
-use Rattle.page_sets_lines.specs.declared.openers.Opener.{Opener}
-use Rattle.page_sets_lines.specs.declared.openers.Opener.TheVariants as openers
 use Rattle.page_sets_lines.specs.declared.openers.Closer.{Closer}
 use Rattle.page_sets_lines.specs.declared.openers.Closer.TheVariants as closers
-use Rattle.page_scopes_labels.specs.Labels.{is_line, is_enclosure, is_section, is_paragraph, is_item, is_list, is_explicit, is_margin, is_level}
+use Rattle.page_sets_lines.specs.declared.openers.Opener.{Opener}
+use Rattle.page_sets_lines.specs.declared.openers.Opener.TheVariants as openers
+use Rattle.page_scopes_labels.specs.Labels.{is_line, is_explicit, is_paragraph, is_level, is_item, is_list, is_margin, is_section, is_enclosure}
+use Rattle.page_scopes_labels.specs.declared.labels.Explicit.{Explicit}
+use Rattle.page_scopes_labels.specs.declared.labels.Explicit.TheVariants.{Syntax, RelativeMargin, Target, Block}
+use Rattle.page_scopes_labels.specs.declared.labels.Label.{Label}
 use Rattle.page_scopes_tree.specs.declared.acts.Act.{Act}
 use Rattle.page_scopes_tree.specs.declared.acts.Act.TheVariants as acts
-use Rattle.page_scopes_labels.specs.declared.labels.Explicit.{Explicit}
-use Rattle.page_scopes_labels.specs.declared.labels.Explicit.TheVariants.{RelativeMargin, Target, Syntax, Block}
-use Rattle.page_scopes_labels.specs.declared.labels.Label.{Label}
+use Rattle.page_scopes_tree.specs.declared.nestings.Scope.{Scope}
+
+-- ---- What happens to the open scopes of a page. Source: man(7).
+
+-- the event of an act; the page's end is at the first column of its line, and opens nothing
+abbrev pub event_of : Act (Event (List ℕ)) → Event (List ℕ)
+event_of (acts.Event event) = event
+event_of (acts.PageEnd line) = record { place = record { line = line; column = 1 }; kind = End false }
+
+-- ---- The open nodes of a page, the innermost first, and what decides the rest. Source: man(7), mdoc(7).
+
+-- what decides the rest: the mode, the open nodes, the innermost first, each with what it keeps, and the state
+pub record Edge (M L S B : Type 0) : Type 0 where
+  pub mode : M
+  pub scopes : List (Scope L B)
+  pub state : S
+
+-- ---- How many of the open scopes, the innermost first, an event ends. Source: man(7), "MACRO OVERVIEW"; mdoc(7), "MACRO REFERENCE".
 
 -- the scopes inside the innermost one of which something holds; all where it holds of none
 abbrev pub inside : (Label → Bool) → List Label → ℕ

@@ -1,7 +1,4 @@
-pub mod Acts
 pub mod Ends
 pub mod Placements
-pub mod Broken
-pub mod OpenScopes
-pub mod Edges
+pub mod laws
 pub mod machine

@@ -1,7 +1,8 @@
 //! What happens to the open scopes of a page: events, and its end (man(7)).
 
 ghost use Rattle.std.specs.Prelude.{◌≡◌};
-ghost use Rattle.page_scopes_tree.specs.Acts.{act_view, event_of};
+ghost use Rattle.page_scopes_tree.specs.laws.Views.{act_view};
+ghost use Rattle.page_scopes_tree.specs.Ends.{event_of};
 
 use page_core_base::Place;
 use page_sets_lines::Event;

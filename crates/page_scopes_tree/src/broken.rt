@@ -1,11 +1,12 @@
 //! Messages of scopes that end otherwise than by their own closer, and of events that are refused (mandoc(1), "DIAGNOSTICS").
 
 ghost use Rattle.std.specs.Prelude.{◌≡◌, [], ◌∷◌};
-ghost use Rattle.page_core_base.specs.Latches.{Came};
-ghost use Rattle.page_scopes_tree.specs.Acts.{act_view, event_of};
-ghost use Rattle.page_scopes_tree.specs.Broken as broken;
-ghost use Rattle.page_scopes_labels.specs.Labels.{end_view};
-ghost use Rattle.page_sets_lines.specs.Events.{closer_view, kind_view, opener_view};
+ghost use Rattle.page_core_base.specs.laws.Views.{Came};
+ghost use Rattle.page_scopes_tree.specs.laws.Views.{act_view};
+ghost use Rattle.page_scopes_tree.specs.Ends.{event_of};
+ghost use Rattle.page_scopes_tree.specs.Placements as broken;
+ghost use Rattle.page_scopes_labels.specs.laws.Views.{end_view};
+ghost use Rattle.page_sets_lines.specs.laws.Events.{closer_view, kind_view, opener_view};
 
 use crate::Act;
 use crate::placements::Obstacle;

@@ -3,10 +3,9 @@
 ghost use Rattle.std.specs.Prelude.{◌≡◌, ◌≤◌, ◌<◌, length, reverse};
 ghost use Rattle.page_core_numbers.specs.Expressions.{expression_of};
 ghost use Rattle.page_core_numbers.specs.declared.scales.Scale.TheVariants.{Basic};
-ghost use Rattle.page_scopes_tree.specs.OpenScopes.{labels};
-ghost use Rattle.page_scopes_tree.specs.Acts.{act_view};
+ghost use Rattle.page_scopes_tree.specs.laws.Views.{labels, act_view};
 ghost use Rattle.page_scopes_tree.specs.Ends as ends;
-ghost use Rattle.page_sets_lines.specs.Events.{closer_view, kind_view, opener_view, text_view};
+ghost use Rattle.page_sets_lines.specs.laws.Events.{closer_view, kind_view, opener_view, text_view};
 
 use crate::numbers::basic_number;
 use crate::runs::{Run, run_len};

@@ -6,11 +6,11 @@
 //!
 //! Events of the set of macros come in; which scopes they end and open, with the messages of nesting, goes to a layout (`Renderer`), which
 //! `page_scopes` is. `page_scopes_labels` says what an open scope is. Then read `specs/Ends.antt` (how many scopes an event ends), then
-//! `Placements.antt` (what it opens) and `Broken.antt` (messages).
+//! `Placements.antt` (what it opens, and its messages).
 //!
 //! Proved: `ScopeStack` (`new`, `copy`, `restart`, `apply`, `finish`, `depth`, `state`, `skips`): events give the layout of their block tree, with
 //! the messages of scopes that are broken, lack their end or are too many, for any tables of a layout; at most 64 scopes are open
-//! (`specs/Edges.antt`, `Ends.antt`, `Placements.antt`, `Broken.antt`). `part_law`, `stack_law`, `cut_law`: the block tree of a list of acts, laid out,
+//! (`specs/Placements.antt`, `Ends.antt`). `part_law`, `stack_law`, `cut_law`: the block tree of a list of acts, laid out,
 //! is what a stack of open scopes gives act by act, and it may be cut anywhere (`specs/machine/Layouts.antt`, `Parts.antt`). `asides_law`: what
 //! is among the acts and is none, as a message, is a leaf where it comes (`specs/machine/Asides.antt`).
 #![tactic(auto)]

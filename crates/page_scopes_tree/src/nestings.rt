@@ -3,7 +3,8 @@
 ghost use Rattle.std.specs.Prelude.{◌≡◌, ℕ, ◌+◌, ◌*◌, ◌≤◌, List, ◌++◌, length};
 ghost use Rattle.page_scopes_tree.specs.machine.Forests.{tree};
 ghost use Rattle.page_scopes_tree.specs.machine.Asides.{act, aside, before_leaf, beside, layout_with, Sides, with_asides};
-ghost use Rattle.page_scopes_tree.specs.OpenScopes.{Edge, labels};
+ghost use Rattle.page_scopes_tree.specs.Ends.{Edge};
+ghost use Rattle.page_scopes_tree.specs.laws.Views.{labels};
 ghost use Rattle.page_scopes_tree.specs.machine.Layouts.{edge, Layout, settled};
 ghost use Rattle.page_scopes_tree.specs.machine.Machines.{count_ended, ended_items, placed_items, run, run_items, state_left, step, step_items};
 ghost use Rattle.page_scopes_tree.specs.machine.Nestings.{IsSound, Nesting, standing_of};

@@ -1,11 +1,11 @@
 //! What becomes of an event itself, once it ended what it ends (man(7)). Open scopes are in a list with the outermost first.
 
 ghost use Rattle.std.specs.Prelude.{◌≡◌, ◌≤◌, length, reverse};
-ghost use Rattle.page_scopes_tree.specs.OpenScopes.{labels};
-ghost use Rattle.page_scopes_tree.specs.Acts.{act_view};
+ghost use Rattle.page_scopes_tree.specs.laws.Views.{labels, act_view};
 ghost use Rattle.page_scopes_tree.specs.machine.Stacks as stacks;
 ghost use Rattle.page_scopes_tree.specs.Placements as placements;
-ghost use Rattle.page_sets_lines.specs.Events.{closer_view, kind_view, opener_view, request_view};
+ghost use Rattle.page_scopes_tree.specs.laws.Views as placements_laws;
+ghost use Rattle.page_sets_lines.specs.laws.Events.{closer_view, kind_view, opener_view, request_view};
 
 use crate::runs::{Run, run_len};
 use crate::{Act, Scope};
@@ -158,7 +158,7 @@ fn in_line_scope<B>(remaining: &[Scope<Label, B>]) -> bool
 // Whether the innermost scope is an enclosure that ends with a line.
 fn in_enclosure<B>(remaining: &[Scope<Label, B>]) -> bool
     requires { length remaining.now ≤ SCOPES }
-    ensures { result ≡ placements.in_enclosure (labels (reverse remaining.now)) }
+    ensures { result ≡ placements_laws.in_enclosure (labels (reverse remaining.now)) }
 {
     match remaining.last() {
         Some(scope) => scope.label.is_enclosure(),

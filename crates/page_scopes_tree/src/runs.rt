@@ -2,7 +2,7 @@
 
 ghost use Rattle.std.specs.Prelude.{◌≡◌, ◌≤◌, length, reverse};
 ghost use Rattle.std.specs.List.{prefix_len};
-ghost use Rattle.page_scopes_tree.specs.OpenScopes.{labels};
+ghost use Rattle.page_scopes_tree.specs.laws.Views.{labels};
 ghost use Rattle.page_scopes_tree.specs.machine.Runs.{run_takes};
 
 use crate::Scope;

@@ -1,9 +1,9 @@
 //! The open scopes of a page (man(7)).
 
 ghost use Rattle.std.specs.Prelude.{◌≡◌, ◌≤◌, [], ◌∷◌, length, false, IfOk, vec_capacity};
-ghost use Rattle.page_core_base.specs.Latches.{Came};
-ghost use Rattle.page_scopes_tree.specs.Edges.{events_edge, events_items, page_end_edge, page_end_items};
-ghost use Rattle.page_sets_lines.specs.Events.{event_view};
+ghost use Rattle.page_core_base.specs.laws.Views.{Came};
+ghost use Rattle.page_scopes_tree.specs.laws.Edges.{events_edge, events_items, page_end_edge, page_end_items};
+ghost use Rattle.page_sets_lines.specs.laws.Events.{event_view};
 
 use crate::stacks::{take_act, take_coming};
 use crate::{Act, Renderer, Scope};
@@ -23,7 +23,7 @@ pub struct ScopeStack<Y: Renderer> {
 
 impl<Y: Renderer> Model for ScopeStack<Y> {
     ghost use Rattle.std.specs.Prelude.{◌≤◌, vec_capacity, vec_len};
-    ghost use Rattle.page_scopes_tree.specs.Edges.{ScopesEdge};
+    ghost use Rattle.page_scopes_tree.specs.Placements.{ScopesEdge};
     ghost use Rattle.page_scopes_tree.specs.machine.Stacks.{stack_edge};
     ghost use Rattle.page_core_base.specs.declared.limits.TheConstants.{SCOPES};
 

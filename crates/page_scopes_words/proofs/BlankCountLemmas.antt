@@ -5,7 +5,7 @@ use Rattle.page_core_numbers.specs.Columns.{blanks_in}
 use Rattle.page_core_numbers.specs.Expressions.{expression_of}
 use Rattle.page_core_numbers.specs.declared.scales.Scale.TheVariants.{Em}
 use Rattle.page_core_numbers.proofs.ColumnLemmas.{blanks-columns}
-use Rattle.page_scopes_words.specs.Tokens.{blank_count}
+use Rattle.page_scopes_words.specs.Words.{blank_count}
 
 blanks-within : (units : ℤ) → blanks_in units ≤ 1000
 blanks-within (pos n) = min-le_right (n / 24) 1000

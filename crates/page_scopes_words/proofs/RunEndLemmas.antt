@@ -11,7 +11,7 @@ use lib.Bits.{bit_or}
 use lib.Count.{count_trailing_zeros}
 use lib.Dec.{ltb}
 use lib.Lanes.{chunk, mask_l, top, zip2}
-use Rattle.page_core_base.specs.Words.{is_printable, is_printable_ascii}
+use Rattle.page_core_base.specs.laws.Views.{is_printable, is_printable_ascii}
 use Rattle.page_scopes_words.specs.machine.RunEnds.{GoesOn, ends_run, ends_run_at}
 
 -- ---- lanes

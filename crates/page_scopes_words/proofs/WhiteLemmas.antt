@@ -1,7 +1,7 @@
 -- White space as cells, byte by byte.
 use Rattle.std.proofs.Common.{◌≡◌, ℕ, ◌+◌, ◌<◌, ◌≤◌, ◌==◌, if◌then◌else◌, List, [], ◌∷◌, ◌++◌, length, drop, get_or, refl}
 use Rattle.std.proofs.lemmas.List.{drop_more, drop_all}
-use Rattle.page_core_base.specs.Pieces.{shown}
+use Rattle.page_core_base.specs.Rows.{shown}
 use Rattle.page_core_base.specs.declared.places.Place.{Place}
 use Rattle.page_core_base.specs.declared.cells.Font.TheVariants.{R}
 use Rattle.page_core_base.specs.declared.pieces.Piece.TheVariants.{Tab, Text}

@@ -1,10 +1,4 @@
 pub mod Fonts
-pub mod Settings
-pub mod Words
-pub mod Sentences
-pub mod Numbers
-pub mod Tokens
-pub mod Pens
-pub mod Names
 pub mod Widths
+pub mod Words
 pub mod machine

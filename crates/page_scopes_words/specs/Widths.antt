@@ -1,18 +1,34 @@
--- The columns that a width or an offset asks for, and its messages. Source: mdoc(7), `Bl` and `Bd`.
-use Rattle.std.specs.Prelude.{ℕ, ◌==◌, Bool, true, false, not, ◌&&◌, List, [], ◌∷◌, length, Option, is_none, unwrap_or, option_map, find, codes, if◌then◌else◌, ℤ, pos}
+-- The columns of what a text prints, and those that a width or an offset asks for. Source: roff(7), "Scaling Widths"; mdoc(7), `Bl`.
 use Rattle.std.specs.List.{list_any}
-use Rattle.std.specs.Str.{bytes_eq}
-use Rattle.page_core_base.specs.Pieces.{Item}
+use Rattle.std.specs.Prelude.{ℕ, length, if◌then◌else◌, Bool, List, sum_by, [], ◌∷◌, codes, ℤ, pos, Option, option_map, find, true, false, ◌==◌, not, ◌&&◌, unwrap_or, is_none}
+use Rattle.std.specs.Str.{is_utf8, bytes_eq}
+use Rattle.page_core_base.specs.Rows.{Item}
 use Rattle.page_core_base.specs.declared.note_kinds.NoteKind.{NoteKind}
 use Rattle.page_core_base.specs.declared.note_kinds.NoteKind.TheVariants.{NotNumeric}
 use Rattle.page_core_base.specs.declared.page_settings.Output.{Output}
 use Rattle.page_core_base.specs.declared.places.Place.{Place}
+use Rattle.page_core_escapes.specs.Tokens.{TextToken, white, plain, quotes, escaped, tokens_of}
+use Rattle.page_core_numbers.specs.Columns.{characters_columns, columns_of, printed_escape}
 use Rattle.page_core_numbers.specs.Expressions.{expression_of, kind_of}
 use Rattle.page_core_numbers.specs.declared.scales.Scale.TheVariants.{Basic}
 use Rattle.page_roff_syntax.specs.Arguments.{is_quoted}
 use Rattle.page_roff_syntax.specs.declared.quotes.Argument.{Argument}
-use Rattle.page_scopes_words.specs.Numbers.{columns_in, number_notes, number_value}
-use Rattle.page_scopes_words.specs.Names.{name_columns}
+use Rattle.page_scopes_words.specs.Words.{columns_in, number_value, number_notes}
+
+-- ---- The columns of what a text prints. Source: man(7), `SY`; mdoc(7), `Bl`; mandoc_char(7).
+
+-- what is no text in UTF-8 has no columns
+abbrev pub token_columns : Output → TextToken → ℕ
+token_columns output (white bytes) = length bytes
+token_columns output (plain bytes) = if is_utf8 bytes then columns_of output bytes else 0
+token_columns output (quotes bytes) = 1
+token_columns output (escaped bytes meaning) = characters_columns (printed_escape output meaning)
+
+-- the columns of what a name prints, which is quoted or not
+abbrev pub name_columns : Output → Bool → List ℕ → ℕ
+name_columns output quoted name = sum_by (token_columns output) (tokens_of quoted name)
+
+-- ---- The columns that a width or an offset asks for, and its messages. Source: mdoc(7), `Bl` and `Bd`.
 
 -- widths that have names
 abbrev pub names : List (List ℕ × ℤ)

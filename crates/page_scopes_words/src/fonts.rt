@@ -1,8 +1,7 @@
 //! The font in use and the former one (roff(7), `ft` and `\f`).
 
 ghost use Rattle.std.specs.Prelude.{◌≡◌};
-ghost use Rattle.page_core_escapes.specs.Escapes.{face_view};
-ghost use Rattle.page_core_escapes.specs.Tokens.{token_view};
+ghost use Rattle.page_core_escapes.specs.laws.Views.{face_view, token_view};
 ghost use Rattle.page_scopes_words.specs.Fonts.{roman_fonts, with_font, face_fonts, fonts_after, token_fonts, token_sets};
 
 use crate::settings::Setting;

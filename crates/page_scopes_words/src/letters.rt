@@ -1,8 +1,7 @@
 //! Letters that were read, each in its font.
 
 ghost use Rattle.std.specs.Prelude.{◌≡◌, ◌≤◌, ◌<◌, ◌+◌, false, true, [], ◌∷◌, ◌++◌, length, take, replicate};
-ghost use Rattle.page_core_base.specs.Latches.{Came};
-ghost use Rattle.page_core_base.specs.Words.{is_printable_ascii};
+ghost use Rattle.page_core_base.specs.laws.Views.{Came, is_printable_ascii};
 ghost use Rattle.page_core_base.specs.declared.cells.Font.TheVariants.{R};
 ghost use Rattle.page_scopes_words.specs.machine.Letters.{GivesLetters, letters_in, put_at};
 
@@ -21,8 +20,7 @@ pub struct Letters {
 
 impl Model for Letters {
     ghost use Rattle.std.specs.Prelude.{◌≡◌, ◌≤◌, true, List, length, take};
-    ghost use Rattle.page_core_base.specs.Rows.{cells_in};
-    ghost use Rattle.page_core_base.specs.Words.{is_printable_ascii};
+    ghost use Rattle.page_core_base.specs.laws.Views.{cells_in, is_printable_ascii};
     ghost use Rattle.page_core_base.specs.declared.cells.Cell.{Cell};
 
     ghost Value = { List Cell };

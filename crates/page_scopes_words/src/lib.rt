@@ -1,17 +1,17 @@
 //! What layers that read texts share: what a token says, prints and does to the font, what is known between two tokens, white space that is
 //! kept, where a sentence ends, values that requests set, and what numbers and widths are worth (roff(7), mdoc(7)).
 //!
-//! `page_scopes_text` reads the words of a text by these, and `page_engine_header` the fields of a title. Read `specs/Words.antt` first, then
-//! `Tokens.antt` and `Pens.antt`. Widths are the columns of what a text prints, and those that an argument of a list or a display asks for
-//! (`specs/Names.antt`, `Widths.antt`). `Letters` and `going_len` are for the fast ways of `page_scopes_text`, and their definitions are
+//! `page_scopes_text` reads the words of a text by these, and `page_engine_header` the fields of a title. Read `specs/Words.antt`
+//! first. Widths are the columns of what a text prints, and those that an argument of a list or a display asks for
+//! (`specs/Widths.antt`). `Letters` and `going_len` are for the fast ways of `page_scopes_text`, and their definitions are
 //! in `specs/machine/`.
 //!
 //! Proved: `report_token`, `give_token`, `token_prints`, `fonts_after`, `give_white_cells`, and what they call: what a token reports and prints, and
-//! the fonts after it (`specs/Words.antt`, `Tokens.antt`, `Fonts.antt`). `Pen`: what is known after a token, a word and white space
-//! (`specs/Pens.antt`). `ends_sentence`: where a sentence ends (`specs/Sentences.antt`). `Setting`: a value that a request sets holds after the
-//! scope in which it was set (`specs/Settings.antt`). `give_number`, `give_columns`, `give_rows`: the value of a number in basic units, columns or
-//! rows, with its messages (`specs/Numbers.antt`). `name_columns`, `give_width`: the columns of a text, and those that an argument of mdoc(7) asks
-//! for: by a name, an expression or a text that is as wide (`specs/Names.antt`, `Widths.antt`).
+//! the fonts after it (`specs/Words.antt`, `Fonts.antt`). `Pen`: what is known after a token, a word and white space
+//! and `ends_sentence`, where a sentence ends (`specs/Words.antt`). `Setting`: a value that a request sets holds after the
+//! scope in which it was set (`specs/Fonts.antt`). `give_number`, `give_columns`, `give_rows`: the value of a number in basic units, columns or
+//! rows, with its messages (`specs/Words.antt`). `name_columns`, `give_width`: the columns of a text, and those that an argument of mdoc(7) asks
+//! for: by a name, an expression or a text that is as wide (`specs/Widths.antt`).
 #![tactic(auto)]
 
 mod fonts;

@@ -1,8 +1,9 @@
 //! The columns of what a text prints (man(7), `SY`; mdoc(7), `Bl`; mandoc_char(7)).
 
 ghost use Rattle.std.specs.Prelude.{◌≡◌, ◌≤◌, ◌*◌, ◌<◌, length};
-ghost use Rattle.page_core_escapes.specs.Tokens.{plain, token_bytes, token_view};
-ghost use Rattle.page_scopes_words.specs.Names as names;
+ghost use Rattle.page_core_escapes.specs.Tokens.{plain, token_bytes};
+ghost use Rattle.page_core_escapes.specs.laws.Views.{token_view};
+ghost use Rattle.page_scopes_words.specs.Widths as names;
 
 use page_core_base::{LINE, Output};
 use page_core_escapes::{Token, Tokens};

@@ -2,9 +2,9 @@
 //! "Scaling Widths").
 
 ghost use Rattle.std.specs.Prelude.{◌≡◌};
-ghost use Rattle.page_core_base.specs.Latches.{Came};
-ghost use Rattle.page_scopes_words.specs.Numbers as numbers;
-ghost use Rattle.page_scopes_words.specs.Numbers.{number_notes, number_value};
+ghost use Rattle.page_core_base.specs.laws.Views.{Came};
+ghost use Rattle.page_scopes_words.specs.Words as numbers;
+ghost use Rattle.page_scopes_words.specs.Words.{number_notes, number_value};
 
 use crate::report;
 use page_core_base::{BLANKS, Limit, NoteKind, PieceOut, Place};

@@ -1,8 +1,9 @@
 //! What is known between two tokens of a text (roff(7), `\f` and `\c`).
 
 ghost use Rattle.std.specs.Prelude.{◌≡◌, ◌<◌, ◌+◌, ◌^◌, [], ◌∷◌, length};
-ghost use Rattle.page_core_escapes.specs.Tokens.{plain, token_bytes, token_view};
-ghost use Rattle.page_scopes_words.specs.Pens.{body_after, gap_after, has_gap_cells, indented_pen, pen_after, white_after, word_begun, word_ended};
+ghost use Rattle.page_core_escapes.specs.Tokens.{plain, token_bytes};
+ghost use Rattle.page_core_escapes.specs.laws.Views.{token_view};
+ghost use Rattle.page_scopes_words.specs.Words.{body_after, gap_after, has_gap_cells, indented_pen, pen_after, white_after, word_begun, word_ended};
 ghost use Rattle.page_scopes_words.specs.machine.Pens.{resting};
 
 use crate::fonts::{Fonts, fonts_after};

@@ -1,7 +1,7 @@
 //! Values that outlive the scope in which a request set them (man(7), roff(7)).
 
 ghost use Rattle.std.specs.Prelude.{◌≡◌};
-ghost use Rattle.page_scopes_words.specs.Settings as settings;
+ghost use Rattle.page_scopes_words.specs.Fonts as settings;
 
 /// A value, and whether it was set inside the innermost scope.
 #[derive(Clone, Copy)]

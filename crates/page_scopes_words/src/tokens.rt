@@ -1,12 +1,11 @@
 //! Tokens of words: their messages, and what they print (roff(7), "ESCAPE SEQUENCES").
 
 ghost use Rattle.std.specs.Prelude.{◌≡◌, ℕ, List, ◌==◌, ◌∷◌, [], ◌≤◌, false, length, take, if◌then◌else◌, option_map};
-ghost use Rattle.page_core_base.specs.Latches.{Came};
-ghost use Rattle.page_core_base.specs.Pieces.{piece_of, shown};
-ghost use Rattle.page_core_escapes.specs.Escapes.{face_view, meaning_view};
-ghost use Rattle.page_core_escapes.specs.Tokens.{escaped, is_space, token_view};
-ghost use Rattle.page_scopes_words.specs.Tokens as tokens;
-ghost use Rattle.page_scopes_words.specs.Words as words;
+ghost use Rattle.page_core_base.specs.laws.Views.{Came, piece_of};
+ghost use Rattle.page_core_base.specs.Rows.{shown};
+ghost use Rattle.page_core_escapes.specs.laws.Views.{face_view, meaning_view, token_view};
+ghost use Rattle.page_core_escapes.specs.Tokens.{escaped, is_space};
+ghost use Rattle.page_scopes_words.specs.Words as tokens;
 ghost use Rattle.page_scopes_words.specs.Words.{says};
 
 use crate::numbers::give_number;
@@ -33,7 +32,7 @@ pub fn report_part<O: PieceOut>(
     place: Place,
     part: &[u8],
 )
-    ensures { Came O.left out.old (says kind place (words.shown_part quoted part.now) ∷ []) out.new }
+    ensures { Came O.left out.old (says kind place (tokens.shown_part quoted part.now) ∷ []) out.new }
 {
     if quoted {
         report(out, kind, place, unpaired_front::<DETAIL>(part).as_slice());
@@ -45,7 +44,7 @@ pub fn report_part<O: PieceOut>(
 /// Reports a name that no font has; `quoted` says whether it is in a quoted argument.
 #[inline(always)]
 pub fn report_font<O: PieceOut>(out: &mut O, quoted: bool, place: Place, name: FontName<'_>)
-    ensures { Came O.left out.old (words.face_notes quoted place (face_view name.entry)) out.new }
+    ensures { Came O.left out.old (tokens.face_notes quoted place (face_view name.entry)) out.new }
 {
     match name {
         FontName::R | FontName::I | FontName::B | FontName::BI | FontName::Former => {}
@@ -64,7 +63,7 @@ pub fn report_escape<O: PieceOut>(
     meaning: Escape<'_>,
 )
     ensures { Came O.left out.old
-        (words.meaning_notes quoted place bytes.now (meaning_view meaning.entry)) out.new }
+        (tokens.meaning_notes quoted place bytes.now (meaning_view meaning.entry)) out.new }
 {
     match meaning {
         Escape::Undefined(_) => report_part(out, quoted, NoteKind::UndefEscape, place, bytes),
@@ -84,7 +83,7 @@ pub fn report_escape<O: PieceOut>(
 
 // Whether there is a quote.
 fn has_quote(bytes: &[u8]) -> bool
-    ensures { result ≡ words.has_quote bytes.now }
+    ensures { result ≡ tokens.has_quote bytes.now }
 {
     bytes.iter().any(|byte| *byte == b'"')
 }
@@ -92,7 +91,7 @@ fn has_quote(bytes: &[u8]) -> bool
 /// Gives the glyph of a name; `quoted` says whether it is in a quoted argument, where a pair of quotes is one quote.
 pub fn give_glyph<O: PieceOut>(out: &mut O, quoted: bool, font: Font, place: Place, name: &[u8])
     ensures { Came O.left out.old
-        (shown (Piece.Glyph (words.glyph_name quoted name.now) font place) ∷ []) out.new }
+        (shown (Piece.Glyph (tokens.glyph_name quoted name.now) font place) ∷ []) out.new }
 {
     if quoted && has_quote(name) {
         let front = unpaired_front::<DETAIL>(name);
@@ -105,7 +104,7 @@ pub fn give_glyph<O: PieceOut>(out: &mut O, quoted: bool, font: Font, place: Pla
 
 // What an escape prints, but for a glyph and the blanks of `\h`.
 fn escape_piece(font: Font, place: Place, meaning: Escape<'_>) -> Option<Piece<&[u8]>>
-    ensures { (bytes : List ℕ) → option_map piece_of result ≡ words.token_piece font place (escaped bytes (meaning_view meaning.entry)) }
+    ensures { (bytes : List ℕ) → option_map piece_of result ≡ tokens.token_piece font place (escaped bytes (meaning_view meaning.entry)) }
 {
     match meaning {
         Escape::Char(c) => Some(Piece::Char { c, font, place }),
@@ -133,7 +132,7 @@ fn undefined_piece<'a>(font: Font, place: Place, c: char) -> Piece<&'a [u8]>
 /// What a token of a word prints, if it does, but for a glyph and the blanks of `\h`.
 #[inline(always)]
 pub fn token_piece<'a>(font: Font, place: Place, token: &Token<'a>) -> Option<Piece<&'a [u8]>>
-    ensures { option_map piece_of result ≡ words.token_piece font place (token_view token.now) }
+    ensures { option_map piece_of result ≡ tokens.token_piece font place (token_view token.now) }
 {
     match *token {
         Token::White(_) => None,
@@ -253,7 +252,7 @@ pub fn token_prints(token: &Token<'_>) -> bool
 /// Whether an escape glues the next line's text.
 #[inline(always)]
 pub fn is_glue(token: &Token<'_>) -> bool
-    ensures { result ≡ words.is_glue (token_view token.now) }
+    ensures { result ≡ tokens.is_glue (token_view token.now) }
 {
     match *token {
         Token::Escaped { meaning, .. } => matches!(meaning, Escape::Glue),

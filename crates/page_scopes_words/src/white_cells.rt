@@ -1,8 +1,7 @@
 //! White space of a row that is kept as it is (roff(7), "nf").
 
 ghost use Rattle.std.specs.Prelude.{◌≡◌, ◌==◌, [], ◌∷◌, if◌then◌else◌};
-ghost use Rattle.page_core_base.specs.Latches.{Came};
-ghost use Rattle.page_core_base.specs.Pieces.{piece_of};
+ghost use Rattle.page_core_base.specs.laws.Views.{Came, piece_of};
 ghost use Rattle.page_core_base.specs.declared.cells.Font.TheVariants.{R};
 ghost use Rattle.page_scopes_words.specs.Words as words;
 

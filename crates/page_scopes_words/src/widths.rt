@@ -2,10 +2,10 @@
 
 ghost use Rattle.std.specs.Prelude.{◌≡◌, ◌≤◌, [], length, if◌then◌else◌};
 ghost use Rattle.std.specs.List.{list_any};
-ghost use Rattle.page_core_base.specs.Latches.{Came};
-ghost use Rattle.page_roff_syntax.specs.Arguments.{argument_view};
+ghost use Rattle.page_core_base.specs.laws.Views.{Came};
+ghost use Rattle.page_roff_syntax.specs.laws.Views.{argument_view};
 ghost use Rattle.page_core_numbers.specs.declared.scales.Scale.TheVariants.{Basic};
-ghost use Rattle.page_scopes_words.specs.Numbers.{number_notes};
+ghost use Rattle.page_scopes_words.specs.Words.{number_notes};
 ghost use Rattle.page_scopes_words.specs.Widths as widths;
 
 use crate::give_number;

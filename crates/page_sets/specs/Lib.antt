@@ -1,5 +1,4 @@
-pub mod ManRows
 pub mod Man
 pub mod Mdoc
-pub mod Either
+pub mod laws
 pub mod machine

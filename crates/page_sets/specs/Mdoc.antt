@@ -1,30 +1,32 @@
--- The events of a line. Source: mdoc(7), "MACRO SYNTAX" and "MACRO REFERENCE".
-use Rattle.std.specs.Prelude.{ℕ, Bool, true, false, ◌&&◌, not, List, [], ◌∷◌, ◌++◌, Option, None, Some, if◌then◌else◌}
-use Rattle.page_core_base.specs.declared.note_kinds.NoteKind.{NoteKind}
-use Rattle.page_core_base.specs.declared.note_kinds.NoteKind.TheVariants.{UnknownMacro, EmptyMacro}
-use Rattle.page_core_base.specs.LinesTaken.{Line}
+-- The events of a line of mdoc(7), and those of either set. Source: mdoc(7), man(7).
+use Rattle.std.specs.Prelude.{ℕ, Bool, false, List, [], ◌∷◌, ◌++◌, None, true, Option, Some, ◌&&◌, not, if◌then◌else◌}
+use Rattle.page_core_base.specs.Texts.{Line}
 use Rattle.page_core_base.specs.declared.cells.Font.{Font}
 use Rattle.page_core_base.specs.declared.cells.Font.TheVariants.{I}
-use Rattle.page_roff_syntax.specs.declared.quotes.Argument.{Argument}
+use Rattle.page_core_base.specs.declared.note_kinds.NoteKind.{NoteKind}
+use Rattle.page_core_base.specs.declared.note_kinds.NoteKind.TheVariants.{EmptyMacro, UnknownMacro}
 use Rattle.page_roff_syntax.specs.Arguments.{has_arguments}
+use Rattle.page_roff_syntax.specs.declared.quotes.Argument.{Argument}
 use Rattle.page_roff_syntax.specs.declared.requests.LayoutRequest.{LayoutRequest}
-use Rattle.page_sets_lines.specs.declared.events.EventKind.TheVariants as kinds
+use Rattle.page_sets_lines.specs.Lines.{word_place, event_at, name_of, name_place, line_end, rest_of, layout_request, is_nameless, plain_events, plain_line}
 use Rattle.page_sets_lines.specs.declared.events.Event.{Event}
+use Rattle.page_sets_lines.specs.declared.events.EventKind.TheVariants as kinds
 use Rattle.page_sets_lines.specs.declared.line_steps.SynopsisStep.TheVariants.{Break}
 use Rattle.page_sets_lines.specs.declared.openers.Closer.TheVariants as closers
 use Rattle.page_sets_lines.specs.declared.plain_lines.PlainLine.{PlainLine}
-use Rattle.page_sets_lines.specs.ControlLines.{name_of, name_place, rest_of, is_nameless}
-use Rattle.page_sets_lines.specs.PlainLines.{event_at, line_end, plain_line, plain_events, layout_request, word_place}
-use Rattle.page_sets_mdoc_lines.specs.declared.macros.Inline.{Inline}
+use Rattle.page_sets_mdoc_lines.specs.Parts.{Call, has_calls, LineParts, parts}
+use Rattle.page_sets_mdoc_lines.specs.Rows.{is_parsed, line_macro}
 use Rattle.page_sets_mdoc_lines.specs.declared.blocks.LineMacro.{LineMacro}
 use Rattle.page_sets_mdoc_lines.specs.declared.blocks.LineMacro.TheVariants as lines
-use Rattle.page_sets_mdoc_lines.specs.Rows.{line_macro, is_parsed}
-use Rattle.page_sets_mdoc_lines.specs.Parts.{Call, LineParts, parts, has_calls}
-use Rattle.page_sets_mdoc_words.specs.Printed.{printed}
-use Rattle.page_sets_mdoc_words.specs.Synopses.{framed, placed_events}
-use Rattle.page_sets_mdoc_words.specs.Sentences.{include_events, sentence_events}
-use Rattle.page_sets_mdoc_blocks.specs.Macros.{has_phrase}
-use Rattle.page_sets_mdoc_blocks.specs.Fronts.{line_arguments, refusal, request_front, has_real_word, given_names, block_front}
+use Rattle.page_sets_mdoc_lines.specs.declared.macros.Inline.{Inline}
+use Rattle.page_sets_mdoc_words.specs.Inlines.{printed}
+use Rattle.page_sets_mdoc_words.specs.Sentences.{placed_events, framed, include_events, sentence_events}
+use Rattle.page_sets_mdoc_blocks.specs.Fronts.{line_arguments, has_real_word, given_names, refusal, has_phrase, block_front, request_front}
+use Rattle.page_sets.specs.Man.{man_indent, man_events}
+use Rattle.page_sets.specs.declared.either.Either.{Either}
+use Rattle.page_sets.specs.declared.either.Either.TheVariants.{Man, Mdoc}
+
+-- ---- The events of a line. Source: mdoc(7), "MACRO SYNTAX" and "MACRO REFERENCE".
 
 -- the columns by which the text of a page is indented
 abbrev pub mdoc_indent : ℕ
@@ -130,3 +132,14 @@ line_events line (Some plain) = plain_events line.number line.text plain
 -- the events of a line
 unfoldable pub mdoc_events : Line → List (Event (List ℕ))
 mdoc_events line = line_events line (plain_line line.form line.text)
+
+-- ---- The set of macros of a page: one of the two, and what holds of each holds of it. Source: man(7), mdoc(7).
+
+abbrev pub either_indent : Either → ℕ
+either_indent Man = man_indent
+either_indent Mdoc = mdoc_indent
+
+-- the events of a line in the set of the page
+abbrev pub either_events : Either → Line → List (Event (List ℕ))
+either_events Man line = man_events line
+either_events Mdoc line = mdoc_events line

@@ -17,7 +17,8 @@ pub enum Either {
 impl MacroSet for Either {
     ghost use Rattle.std.specs.Prelude.{◌≤◌, length, drop};
     ghost use Rattle.page_sets_lines.proofs.NthLemmas.{slices_after};
-    ghost use Rattle.page_sets.specs.Either.{either_indent, either_events, either_slices, either_in_order, either_few};
+    ghost use Rattle.page_sets.specs.Mdoc.{either_indent, either_events};
+    ghost use Rattle.page_sets.specs.laws.Views.{either_slices, either_in_order, either_few};
 
     type Place = usize;
 

@@ -1,10 +1,10 @@
 //! What a macro does, beside its words (man(7), "MACRO REFERENCE").
 
 ghost use Rattle.std.specs.Prelude.{◌≡◌, ◌≤◌, length, drop, option_map, IfSome};
-ghost use Rattle.page_sets_lines.specs.Events.{kind_view, opener_view, closer_view, leaf_view, text_view};
-ghost use Rattle.page_sets_lines.specs.Fits.{CloserFits, IsShortKind, OpenerFits};
+ghost use Rattle.page_sets_lines.specs.laws.Events.{kind_view, opener_view, closer_view, leaf_view, text_view};
+ghost use Rattle.page_sets_lines.specs.laws.Views.{CloserFits, IsShortKind, OpenerFits};
 ghost use Rattle.page_sets_lines.specs.declared.events.EventKind.TheVariants as kinds;
-ghost use Rattle.page_sets_lines.specs.ControlLines.{arguments_after, first_of, second_of, text_of};
+ghost use Rattle.page_sets_lines.specs.Lines.{arguments_after, first_of, second_of, text_of};
 ghost use Rattle.page_sets_lines.specs.declared.openers.Opener.TheVariants as openers;
 ghost use Rattle.page_sets.specs.Man as man;
 

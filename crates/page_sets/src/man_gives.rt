@@ -1,13 +1,11 @@
 //! The events of a line, given one after another (man(7), "MACRO REFERENCE").
 
 ghost use Rattle.std.specs.Prelude.{◌≡◌, ◌≤◌, [], ◌∷◌, length, drop, option_map, IfSome};
-ghost use Rattle.page_core_base.specs.LinesTaken.{line_view};
-ghost use Rattle.page_sets_lines.specs.Events.{kind_view, event_view};
-ghost use Rattle.page_core_base.specs.Latches.{Came};
-ghost use Rattle.page_sets_lines.specs.Fits.{IsShortKind};
-ghost use Rattle.page_sets_lines.specs.ControlLines.{arguments_after};
-ghost use Rattle.page_sets_lines.specs.PlainLines.{event_at, line_end};
-ghost use Rattle.page_roff_syntax.specs.Arguments.{argument_view};
+ghost use Rattle.page_core_base.specs.laws.Views.{line_view, Came};
+ghost use Rattle.page_sets_lines.specs.laws.Events.{kind_view, event_view};
+ghost use Rattle.page_sets_lines.specs.laws.Views.{IsShortKind};
+ghost use Rattle.page_sets_lines.specs.Lines.{arguments_after, event_at, line_end};
+ghost use Rattle.page_roff_syntax.specs.laws.Views.{argument_view};
 ghost use Rattle.page_sets_lines.specs.declared.events.Join.TheVariants.{Apart};
 ghost use Rattle.page_sets.specs.Man as man;
 

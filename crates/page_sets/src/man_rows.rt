@@ -1,7 +1,7 @@
 //! The table of macros: what each needs and what it gives (man(7), "MACRO REFERENCE").
 
 ghost use Rattle.std.specs.Prelude.{◌≡◌};
-ghost use Rattle.page_sets.specs.ManRows as rows;
+ghost use Rattle.page_sets.specs.Man as rows;
 
 use page_core_base::{Font, list_for, row_named};
 use page_roff_syntax::LayoutRequest;

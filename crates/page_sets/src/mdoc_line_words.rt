@@ -1,13 +1,11 @@
 //! The words of a line, macro after macro (mdoc(7), "MACRO SYNTAX").
 
 ghost use Rattle.std.specs.Prelude.{◌≡◌, ◌≤◌, None, Some, true, length};
-ghost use Rattle.page_core_base.specs.Latches.{Came};
-ghost use Rattle.page_sets_lines.specs.ControlLines.{name_end, name_of, name_place};
+ghost use Rattle.page_core_base.specs.laws.Views.{Came};
+ghost use Rattle.page_sets_lines.specs.Lines.{name_end, name_of, name_place};
 ghost use Rattle.page_sets_mdoc_lines.specs.Rows as rows;
-ghost use Rattle.page_sets_mdoc_lines.specs.LineWords.{arguments_after};
-ghost use Rattle.page_sets_mdoc_lines.specs.Rests.{IsRestOf, rest_view};
+ghost use Rattle.page_sets_mdoc_lines.specs.laws.Views.{arguments_after, IsRestOf, rest_view, words_view};
 ghost use Rattle.page_sets_mdoc_lines.specs.machine.Cursors.{IsCursorOf};
-ghost use Rattle.page_sets_mdoc_lines.specs.Words.{words_view};
 ghost use Rattle.page_sets_mdoc_words.specs.Sentences.{sentence_events};
 ghost use Rattle.page_sets_mdoc_blocks.specs.Fronts.{has_real_word, given_names, line_arguments};
 ghost use Rattle.page_sets.specs.Mdoc as mdoc;

@@ -1,10 +1,8 @@
 //! The events of a line, given one after another (mdoc(7), "MACRO SYNTAX").
 
 ghost use Rattle.std.specs.Prelude.{◌≡◌, ◌≤◌, ◌∷◌, [], Some, length};
-ghost use Rattle.page_core_base.specs.LinesTaken.{line_view};
-ghost use Rattle.page_core_base.specs.Latches.{Came};
-ghost use Rattle.page_sets_lines.specs.PlainLines.{layout_request, line_end};
-ghost use Rattle.page_sets_lines.specs.ControlLines.{name_of};
+ghost use Rattle.page_core_base.specs.laws.Views.{line_view, Came};
+ghost use Rattle.page_sets_lines.specs.Lines.{layout_request, line_end, name_of};
 ghost use Rattle.page_sets_mdoc_lines.specs.Rows as rows;
 ghost use Rattle.page_sets.specs.Mdoc as mdoc;
 

@@ -5,8 +5,8 @@ use Rattle.std.proofs.lemmas.List.{drop-drop}
 use Rattle.page_roff_syntax.specs.declared.quotes.Argument.{Argument}
 use Rattle.page_roff_syntax.specs.Arguments.{is_blank, bare_len, quoted_len, begins_quoted, argument_len, first_argument, first_arguments, quoted_argument, bare_argument, arguments}
 use Rattle.page_roff_syntax.proofs.ArgumentLemmas.{bare_within, quoted_within}
-use Rattle.page_sets_lines.specs.Laws.{IsSlice, IsArgument}
-use Rattle.page_sets_lines.specs.ControlLines.{arguments_after}
+use Rattle.page_sets_lines.specs.laws.Sets.{IsSlice, IsArgument}
+use Rattle.page_sets_lines.specs.Lines.{arguments_after}
 
 -- each argument is the slice of the line at its column, and none begins before the one in front of it has ended
 abbrev pub ArgumentsFrom : List ℕ → ℕ → List (Argument (List ℕ)) → Type 0

@@ -2,8 +2,8 @@
 use Rattle.std.proofs.Common.{◌≡◌, ℕ, ◌+◌, ◌≤◌, List, [], ◌∷◌, length}
 use Rattle.page_core_base.specs.declared.limits.TheConstants.{LINE}
 use Rattle.page_roff_syntax.specs.declared.quotes.Argument.{Argument}
-use Rattle.page_sets_lines.specs.ControlLines.{arguments_after, first_of}
-use Rattle.page_sets_lines.specs.Fits.{ArgumentFits, GivenFits}
+use Rattle.page_sets_lines.specs.Lines.{arguments_after, first_of}
+use Rattle.page_sets_lines.specs.laws.Views.{ArgumentFits, GivenFits}
 use Rattle.page_sets_lines.proofs.ArgumentLaws.{ArgumentsFrom, all_after}
 use Rattle.page_sets_lines.proofs.SliceLemmas.{argument_fits}
 

@@ -3,7 +3,7 @@ use Rattle.std.proofs.Common.{◌≡◌, ℕ, zero, suc, ◌+◌, ◌<◌, List,
 use Rattle.std.specs.Borrow.{Bor}
 use Rattle.page_sets_lines.specs.declared.events.Event.{Event}
 use Rattle.page_sets_lines.specs.machine.EventOuts.{nth, found, kept_view}
-use Rattle.page_sets_lines.specs.Laws.{AreSlices}
+use Rattle.page_sets_lines.specs.laws.Sets.{AreSlices}
 
 pub nth_within : (n : ℕ) (events : List (Event (List ℕ))) (event : Event (List ℕ)) → nth n events ≡ Some event → n < length events
 nth_within n [] event is = let no : ⊥ = cc in absurd no

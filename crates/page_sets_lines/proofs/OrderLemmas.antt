@@ -4,8 +4,8 @@ use Rattle.page_roff_syntax.specs.declared.quotes.Argument.{Argument}
 use Rattle.page_sets_lines.specs.declared.events.EventKind.{EventKind}
 use Rattle.page_sets_lines.specs.declared.events.EventKind.TheVariants as kinds
 use Rattle.page_sets_lines.specs.declared.events.Event.{Event}
-use Rattle.page_sets_lines.specs.Laws.{IsArgument, past, BeginsFrom, AreInOrder}
-use Rattle.page_sets_lines.specs.ControlLines.{arguments_after}
+use Rattle.page_sets_lines.specs.laws.Sets.{IsArgument, past, BeginsFrom, AreInOrder}
+use Rattle.page_sets_lines.specs.Lines.{arguments_after}
 use Rattle.page_sets_lines.proofs.ArgumentLaws.{ArgumentsFrom, all_after}
 
 -- an argument of the list, and those after it

@@ -5,7 +5,8 @@ use Rattle.std.specs.List.{list_any}
 use Rattle.std.proofs.lemmas.Bool.{cases_Bool}
 use Rattle.page_roff_syntax.specs.declared.quotes.Argument.{Argument}
 use Rattle.page_roff_syntax.specs.Arguments.{is_blank, first_argument, argument_len, first_arguments, arguments}
-use Rattle.page_sets_lines.specs.ControlLines.{arguments_after, is_quote, open_quote}
+use Rattle.page_sets_lines.specs.Lines.{arguments_after, open_quote}
+use Rattle.page_sets_lines.specs.laws.Views.{is_quote}
 
 after_byte : (b : ℕ) (bs : List ℕ) → list_any is_quote (b ∷ bs) ≡ false → ((b == 34) ≡ false) × (list_any is_quote bs ≡ false)
 after_byte b bs h =

@@ -2,8 +2,8 @@
 use Rattle.std.proofs.Common.{◌≡◌, ℕ, ◌≤◌, List, [], ◌∷◌, length, Option, None, Some, arith}
 use Rattle.page_core_base.specs.declared.limits.TheConstants.{LINE}
 use Rattle.page_roff_syntax.specs.declared.quotes.Argument.{Argument}
-use Rattle.page_sets_lines.specs.Fits.{ArgumentFits, BlockCloserFits, BlockOpenerFits, CloserFits, KindFits, GivenFits, LeafFits, IsShort, OpenerFits, RestIsShort, StepFits}
-use Rattle.page_sets_lines.specs.Laws.{AreSlices, BlockClosesSlices, BlockOpensSlices, ClosesSlices, HasSlices, IsArgument, IsArgumentIfGiven, IsPart, LeavesSlices, OpensSlices, StepsSlices}
+use Rattle.page_sets_lines.specs.laws.Views.{ArgumentFits, BlockCloserFits, BlockOpenerFits, CloserFits, KindFits, GivenFits, LeafFits, IsShort, OpenerFits, RestIsShort, StepFits}
+use Rattle.page_sets_lines.specs.laws.Sets.{AreSlices, BlockClosesSlices, BlockOpensSlices, ClosesSlices, HasSlices, IsArgument, IsArgumentIfGiven, IsPart, LeavesSlices, OpensSlices, StepsSlices}
 use Rattle.page_sets_lines.specs.declared.blocks.BlockCloser.{BlockCloser}
 use Rattle.page_sets_lines.specs.declared.blocks.BlockCloser.TheVariants as block_closers
 use Rattle.page_sets_lines.specs.declared.blocks.BlockOpener.{BlockOpener}

@@ -1,14 +1,24 @@
--- Blocks that one macro begins and another ends, and the names of these. Source: mdoc(7), "MACRO REFERENCE".
-use Rattle.std.specs.Prelude.{ℕ, List, codes}
+-- Blocks that one macro begins and another ends, and what the arguments of `Bl` say. Source: mdoc(7).
+use Rattle.std.specs.Prelude.{ℕ, List, codes, [], ◌∷◌, Option, option_map, find, None, Some, false, true, Bool, not, is_some, if◌then◌else◌}
+use Rattle.std.specs.Str.{bytes_eq}
+use Rattle.page_roff_syntax.specs.declared.quotes.Argument.{Argument}
+use Rattle.page_sets_names.specs.Marks.{quotation_name, quotation_closer_name}
 use Rattle.page_sets_lines.specs.declared.blocks.Block.{Block}
 use Rattle.page_sets_lines.specs.declared.blocks.Block.TheVariants.{Quotation, Custom, Extension, Display, Fonts, Keep, Reference, Function}
 use Rattle.page_sets_lines.specs.declared.blocks.Block.TheVariants as blocks
-use Rattle.page_sets_lines.specs.declared.lists.ListKind.TheVariants as kinds
-use Rattle.page_sets_lines.specs.declared.blocks.BlockOpener.{BlockOpener}
-use Rattle.page_sets_lines.specs.declared.blocks.BlockOpener.TheVariants as openers
 use Rattle.page_sets_lines.specs.declared.blocks.BlockCloser.{BlockCloser}
 use Rattle.page_sets_lines.specs.declared.blocks.BlockCloser.TheVariants as closers
-use Rattle.page_sets_names.specs.Marks.{quotation_name, quotation_closer_name}
+use Rattle.page_sets_lines.specs.declared.blocks.BlockOpener.{BlockOpener}
+use Rattle.page_sets_lines.specs.declared.blocks.BlockOpener.TheVariants as openers
+use Rattle.page_sets_lines.specs.declared.lists.Awaited.{Awaited}
+use Rattle.page_sets_lines.specs.declared.lists.Awaited.TheVariants.{Width, Offset}
+use Rattle.page_sets_lines.specs.declared.lists.ListKind.{ListKind}
+use Rattle.page_sets_lines.specs.declared.lists.ListKind.TheVariants as kinds
+use Rattle.page_sets_lines.specs.declared.lists.ListOptions.{ListOptions}
+use Rattle.page_sets_lines.specs.declared.lists.ListWord.{ListWord}
+use Rattle.page_sets_lines.specs.declared.lists.ListWord.TheVariants as words
+
+-- ---- Blocks that one macro begins and another ends, and the names of these. Source: mdoc(7), "MACRO REFERENCE".
 
 abbrev pub block_name : Block → List ℕ
 block_name (blocks.List kind) = codes "Bl"
@@ -55,3 +65,105 @@ closed_block closers.Fonts = Fonts
 closed_block closers.Keep = Keep
 closed_block closers.Reference = Reference
 closed_block closers.Function = Function
+
+-- ---- What the arguments of `Bl` say. Source: mdoc(7), `Bl`.
+
+-- the types of lists whose items have heads
+abbrev pub headed_rows : List (List ℕ × ListKind)
+headed_rows =
+    (codes "-tag", kinds.Tag)
+    ∷ (codes "-hang", kinds.Hang)
+    ∷ (codes "-ohang", kinds.Ohang)
+    ∷ (codes "-inset", kinds.Inset)
+    ∷ (codes "-diag", kinds.Diag)
+    ∷ []
+
+unfoldable pub headed_kind : List ℕ → Option ListKind
+headed_kind word = option_map (λ row. row.1) (find (λ row. bytes_eq word row.0) headed_rows)
+
+-- the other types
+abbrev pub headless_rows : List (List ℕ × ListKind)
+headless_rows =
+    (codes "-bullet", kinds.Bullet)
+    ∷ (codes "-column", kinds.Column)
+    ∷ (codes "-dash", kinds.Dash)
+    ∷ (codes "-enum", kinds.Enum)
+    ∷ (codes "-hyphen", kinds.Hyphen)
+    ∷ (codes "-item", kinds.Item)
+    ∷ []
+
+unfoldable pub headless_kind : List ℕ → Option ListKind
+headless_kind word = option_map (λ row. row.1) (find (λ row. bytes_eq word row.0) headless_rows)
+
+abbrev pub first_known : Option ListKind → Option ListKind → Option ListKind
+first_known None other = other
+first_known (Some kind) other = Some kind
+
+-- the type of a list by its name
+abbrev pub kind_named : List ℕ → Option ListKind
+kind_named word = first_known (headed_kind word) (headless_kind word)
+
+-- their options
+abbrev pub option_rows : List (List ℕ × ListWord)
+option_rows = (codes "-compact", words.Compact) ∷ (codes "-width", words.Width) ∷ (codes "-offset", words.Offset) ∷ []
+
+unfoldable pub option_named : List ℕ → Option ListWord
+option_named word = option_map (λ row. row.1) (find (λ row. bytes_eq word row.0) option_rows)
+
+abbrev pub kind_or_option : Option ListKind → List ℕ → Option ListWord
+kind_or_option None word = option_named word
+kind_or_option (Some kind) word = Some (words.Kind kind)
+
+-- what an argument says, where it is a type or an option; whether it is quoted is no matter
+abbrev pub list_word : List ℕ → Option ListWord
+list_word word = kind_or_option (kind_named word) word
+
+-- before its first argument
+abbrev pub no_options : ListOptions (List ℕ)
+no_options = record { kind = None; is_compact = false; width = None; offset = None; awaited = None }
+
+-- the first type counts
+abbrev pub first_kind : Option ListKind → ListKind → Option ListKind
+first_kind None other = Some other
+first_kind (Some kind) other = Some kind
+
+-- any other word is no option
+abbrev pub with_word : Option ListWord → ListOptions (List ℕ) → ListOptions (List ℕ)
+with_word None so_far = so_far
+with_word (Some (words.Kind kind)) so_far = record so_far { kind = first_kind so_far.kind kind }
+with_word (Some words.Compact) so_far = record so_far { is_compact = true }
+with_word (Some words.Width) so_far = record so_far { awaited = Some Width }
+with_word (Some words.Offset) so_far = record so_far { awaited = Some Offset }
+
+-- the value of an option is taken as it is, and the last one counts
+abbrev pub with_argument : Option Awaited → ListOptions (List ℕ) → Argument (List ℕ) → ListOptions (List ℕ)
+with_argument None so_far word = with_word (list_word word.text) so_far
+with_argument (Some Width) so_far word = record so_far { width = Some word; awaited = None }
+with_argument (Some Offset) so_far word = record so_far { offset = Some word; awaited = None }
+
+abbrev pub option_read : ListOptions (List ℕ) → Argument (List ℕ) → ListOptions (List ℕ)
+option_read so_far word = with_argument so_far.awaited so_far word
+
+-- after all of them
+abbrev pub options_after : ListOptions (List ℕ) → List (Argument (List ℕ)) → ListOptions (List ℕ)
+options_after so_far [] = so_far
+options_after so_far (word ∷ words) = options_after (option_read so_far word) words
+
+abbrev pub list_options : List (Argument (List ℕ)) → ListOptions (List ℕ)
+list_options words = options_after no_options words
+
+-- ---- the columns of a list (`-column`)
+
+-- an argument is no type, no option and no option's value
+abbrev pub is_free : Option Awaited → List ℕ → Bool
+is_free None word = not (is_some (list_word word))
+is_free (Some option) word = false
+
+abbrev pub is_column : ListOptions (List ℕ) → Argument (List ℕ) → Bool
+is_column so_far word = is_free so_far.awaited word.text
+
+-- those arguments, each of which is a column's width
+abbrev pub columns_after : ListOptions (List ℕ) → List (Argument (List ℕ)) → List (Argument (List ℕ))
+columns_after so_far [] = []
+columns_after so_far (word ∷ words) =
+    if is_column so_far word then word ∷ columns_after (option_read so_far word) words else columns_after (option_read so_far word) words

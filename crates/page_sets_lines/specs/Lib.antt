@@ -1,9 +1,4 @@
 pub mod Blocks
-pub mod Openers
-pub mod Events
-pub mod Lists
-pub mod Laws
-pub mod ControlLines
-pub mod PlainLines
-pub mod Fits
+pub mod Lines
+pub mod laws
 pub mod machine

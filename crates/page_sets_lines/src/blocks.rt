@@ -2,7 +2,7 @@
 
 ghost use Rattle.std.specs.Prelude.{◌≡◌};
 ghost use Rattle.page_sets_lines.specs.Blocks.{block_name, block_closer_name, opened_block, closed_block};
-ghost use Rattle.page_sets_lines.specs.Events.{block_opener_view, block_closer_view};
+ghost use Rattle.page_sets_lines.specs.laws.Events.{block_opener_view, block_closer_view};
 
 use crate::lists::ListKind;
 use page_core_base::Font;

@@ -2,11 +2,12 @@
 
 ghost use Rattle.std.specs.Prelude.{◌≡◌, ◌≤◌, ◌==◌, length, IfSome};
 ghost use Rattle.std.specs.List.{list_any};
-ghost use Rattle.page_core_base.specs.LinesTaken.{line_view};
-ghost use Rattle.page_roff_syntax.specs.Arguments.{argument_view, has_arguments};
-ghost use Rattle.page_sets_lines.specs.Events.{given_view};
-ghost use Rattle.page_sets_lines.specs.Fits.{ArgumentFits, GivenFits};
-ghost use Rattle.page_sets_lines.specs.ControlLines.{before_name, name_end, name_of, name_place, is_nameless, rest_of, arguments_after, first_of, is_quote, open_quote, ReadsAfter};
+ghost use Rattle.page_core_base.specs.laws.Views.{line_view};
+ghost use Rattle.page_roff_syntax.specs.laws.Views.{argument_view};
+ghost use Rattle.page_roff_syntax.specs.Arguments.{has_arguments};
+ghost use Rattle.page_sets_lines.specs.laws.Events.{given_view};
+ghost use Rattle.page_sets_lines.specs.laws.Views.{ArgumentFits, GivenFits, is_quote, ReadsAfter};
+ghost use Rattle.page_sets_lines.specs.Lines.{before_name, name_end, name_of, name_place, is_nameless, rest_of, arguments_after, first_of, open_quote};
 
 use page_core_base::{LINE, Place, Taken};
 use page_roff_syntax::{Argument, Arguments, Quoting, has_arguments, read_argument, white_len};
@@ -52,14 +53,14 @@ pub struct ControlLine<'a> {
 }
 
 impl<'a> Model for ControlLine<'a> {
-    ghost use Rattle.page_core_base.specs.LinesTaken.{Line};
+    ghost use Rattle.page_core_base.specs.Texts.{Line};
 
     ghost Value = { Line };
 
     ghost use Rattle.std.specs.Prelude.{◌≡◌, ◌≤◌, length};
-    ghost use Rattle.page_core_base.specs.LinesTaken.{line_view};
+    ghost use Rattle.page_core_base.specs.laws.Views.{line_view};
     ghost use Rattle.page_core_base.specs.declared.limits.TheConstants.{LINE};
-    ghost use Rattle.page_sets_lines.specs.ControlLines.{before_name, name_end};
+    ghost use Rattle.page_sets_lines.specs.Lines.{before_name, name_end};
 
     ghost view = { λ c. line_view c.line };
 

@@ -1,10 +1,10 @@
 //! What takes the events of a line, one after another.
 
 ghost use Rattle.std.specs.Prelude.{◌≡◌, List, [], ◌∷◌, ℕ, Option};
-ghost use Rattle.page_sets_lines.specs.Events.{event_view};
-ghost use Rattle.page_core_base.specs.Latches.{Came};
+ghost use Rattle.page_sets_lines.specs.laws.Events.{event_view};
+ghost use Rattle.page_core_base.specs.laws.Views.{Came};
 ghost use Rattle.page_sets_lines.specs.machine.EventOuts.{found, nth, kept_view};
-ghost use Rattle.page_sets_lines.specs.Fits.{IsShort};
+ghost use Rattle.page_sets_lines.specs.laws.Views.{IsShort};
 
 use crate::events::Event;
 

@@ -1,9 +1,9 @@
 //! Events: what a macro set makes of a line, for the scopes of a page (man(7), mdoc(7)).
 
 ghost use Rattle.std.specs.Prelude.{◌≡◌};
-ghost use Rattle.page_sets_lines.specs.Events.{event_view, kind_view};
-ghost use Rattle.page_roff_syntax.specs.Arguments.{argument_view};
-ghost use Rattle.page_sets_lines.specs.PlainLines.{event_at, generated_word, line_start, word_event, word_place};
+ghost use Rattle.page_sets_lines.specs.laws.Events.{event_view, kind_view};
+ghost use Rattle.page_roff_syntax.specs.laws.Views.{argument_view};
+ghost use Rattle.page_sets_lines.specs.Lines.{event_at, generated_word, line_start, word_event, word_place};
 
 use crate::leaves::{GeneratedWord, Leaf};
 use crate::openers::{Closer, LineOpener, Opener};

@@ -5,7 +5,7 @@
 //! `src/macro_sets.rt` (what a set must keep to). A control line goes through a set as a `ControlLine`, whose name is found once.
 //!
 //! Proved: `MacroSet`: the events of a line are those of the set's own table; each text is a slice of its line, words are in order, and a line
-//! gives at most two events a byte and two (`specs/Laws.antt`). `MacroSet::give` gives them in this order to an `EventOut`; its default body pulls
+//! gives at most two events a byte and two (`specs/laws/Sets.antt`). `MacroSet::give` gives them in this order to an `EventOut`; its default body pulls
 //! them by `start` and `next`.
 #![tactic(auto)]
 

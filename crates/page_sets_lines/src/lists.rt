@@ -1,10 +1,10 @@
 //! The types of lists, and what the arguments of `Bl` say (mdoc(7), `Bl`).
 
 ghost use Rattle.std.specs.Prelude.{◌≡◌, ◌≤◌, length, true};
-ghost use Rattle.page_roff_syntax.specs.Arguments.{argument_view};
-ghost use Rattle.page_sets_lines.specs.ControlLines.{arguments_after};
-ghost use Rattle.page_sets_lines.specs.Lists as lists;
-ghost use Rattle.page_sets_lines.specs.Lists.{options_view};
+ghost use Rattle.page_roff_syntax.specs.laws.Views.{argument_view};
+ghost use Rattle.page_sets_lines.specs.Lines.{arguments_after};
+ghost use Rattle.page_sets_lines.specs.Blocks as lists;
+ghost use Rattle.page_sets_lines.specs.laws.Views.{options_view};
 
 use page_core_base::LINE;
 use page_roff_syntax::{Argument, Arguments};
@@ -74,7 +74,7 @@ pub struct ListOptions<W> {
 }
 
 // The type by its name of a list whose items have heads.
-#[tactic(auto, unfolding(crate::specs::Lists::headed_kind))]
+#[tactic(auto, unfolding(crate::specs::Blocks::headed_kind))]
 fn headed_kind(word: &[u8]) -> Option<ListKind>
     ensures { result ≡ lists.headed_kind word.now }
 {
@@ -94,7 +94,7 @@ fn headed_kind(word: &[u8]) -> Option<ListKind>
 }
 
 // The type of any other list by its name.
-#[tactic(auto, unfolding(crate::specs::Lists::headless_kind))]
+#[tactic(auto, unfolding(crate::specs::Blocks::headless_kind))]
 fn headless_kind(word: &[u8]) -> Option<ListKind>
     ensures { result ≡ lists.headless_kind word.now }
 {
@@ -126,7 +126,7 @@ fn kind_named(word: &[u8]) -> Option<ListKind>
 }
 
 // What an option says.
-#[tactic(auto, unfolding(crate::specs::Lists::option_named))]
+#[tactic(auto, unfolding(crate::specs::Blocks::option_named))]
 fn option_named(word: &[u8]) -> Option<ListWord>
     ensures { result ≡ lists.option_named word.now }
 {

@@ -2,10 +2,10 @@
 
 ghost use Rattle.std.specs.Prelude.{◌≡◌, ◌≤◌, ◌+◌, ◌*◌, List, ℕ, length};
 ghost use Rattle.page_sets_lines.specs.declared.events.Event.{Event};
-ghost use Rattle.page_core_base.specs.LinesTaken.{Line, line_view};
-ghost use Rattle.page_sets_lines.specs.Events.{TakesNext};
-ghost use Rattle.page_core_base.specs.Latches.{Came};
-ghost use Rattle.page_sets_lines.specs.Laws.{AreSlices, AreInOrder};
+ghost use Rattle.page_core_base.specs.Texts.{Line};
+ghost use Rattle.page_core_base.specs.laws.Views.{line_view, Came};
+ghost use Rattle.page_sets_lines.specs.laws.Events.{TakesNext};
+ghost use Rattle.page_sets_lines.specs.laws.Sets.{AreSlices, AreInOrder};
 
 use crate::event_outs::EventOut;
 use crate::events::Event;

@@ -1,7 +1,7 @@
 //! What opens a scope, and what closes one (man(7), mdoc(7)).
 
 ghost use Rattle.std.specs.Prelude.{◌≡◌};
-ghost use Rattle.page_sets_lines.specs.Openers as names;
+ghost use Rattle.page_sets_lines.specs.laws.Events as names;
 
 use crate::blocks::{BlockCloser, BlockOpener};
 use page_roff_syntax::Argument;

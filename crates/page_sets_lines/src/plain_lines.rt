@@ -2,9 +2,9 @@
 //! them.
 
 ghost use Rattle.std.specs.Prelude.{◌≡◌, ◌≤◌, length};
-ghost use Rattle.page_sets_lines.specs.Events.{kind_view, word_view};
-ghost use Rattle.page_sets_lines.specs.Fits.{KindFits};
-ghost use Rattle.page_sets_lines.specs.PlainLines.{line_word, plain_line, plain_kind, fills};
+ghost use Rattle.page_sets_lines.specs.laws.Events.{kind_view, word_view};
+ghost use Rattle.page_sets_lines.specs.laws.Views.{KindFits};
+ghost use Rattle.page_sets_lines.specs.Lines.{line_word, plain_line, plain_kind, fills};
 
 use crate::events::{EventKind, Join, Role, Word};
 use crate::leaves::Leaf;

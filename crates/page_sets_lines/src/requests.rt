@@ -1,16 +1,15 @@
 //! The requests that change rows (roff(7), "REQUEST REFERENCE"). All sets of macros know them.
 
 ghost use Rattle.std.specs.Prelude.{◌≡◌};
-ghost use Rattle.page_sets_lines.specs.ControlLines.{text_of};
-ghost use Rattle.page_sets_lines.specs.Events.{given_view, request_view, text_view};
-ghost use Rattle.page_sets_lines.specs.PlainLines.{layout_request};
-ghost use Rattle.page_sets_lines.specs.PlainLines as plain;
+ghost use Rattle.page_sets_lines.specs.Lines.{text_of, layout_request};
+ghost use Rattle.page_sets_lines.specs.laws.Events.{given_view, request_view, text_view};
+ghost use Rattle.page_sets_lines.specs.Lines as plain;
 
 use crate::leaves::Request;
 use page_roff_syntax::{Argument, LayoutRequest};
 
 /// The request of this name that changes rows.
-#[tactic(auto, unfolding(crate::specs::PlainLines::layout_request))]
+#[tactic(auto, unfolding(crate::specs::Lines::layout_request))]
 pub fn layout_request(name: &[u8]) -> Option<LayoutRequest>
     ensures { result ≡ layout_request name.now }
 {

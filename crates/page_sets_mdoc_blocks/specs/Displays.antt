@@ -1,15 +1,43 @@
--- What the arguments of `Bd` and `Bf` say. Source: mdoc(7), `Bd` and `Bf`.
-use Rattle.std.specs.Prelude.{ℕ, Bool, true, false, List, [], ◌∷◌, Option, None, Some, if◌then◌else◌, codes}
-use Rattle.std.specs.Borrow.{Bor}
+-- What the arguments of `Bd`, `Bf` and `Bl` open, and what they lack. Source: mdoc(7), `Bd`, `Bf`, `Bl`.
+use Rattle.std.specs.Prelude.{Option, None, Some, ℕ, List, Bool, true, false, [], ◌∷◌, codes, if◌then◌else◌}
 use Rattle.std.specs.Str.{bytes_eq}
 use Rattle.page_core_base.specs.declared.cells.Font.{Font}
 use Rattle.page_core_base.specs.declared.cells.Font.TheVariants.{R, B, I}
+use Rattle.page_core_base.specs.declared.note_kinds.NoteKind.{NoteKind}
+use Rattle.page_core_base.specs.declared.note_kinds.NoteKind.TheVariants.{MissingWidth, NoListType}
 use Rattle.page_roff_syntax.specs.declared.quotes.Argument.{Argument}
 use Rattle.page_sets_lines.specs.declared.blocks.BlockOpener.{BlockOpener}
 use Rattle.page_sets_lines.specs.declared.blocks.BlockOpener.TheVariants as openers
-use Rattle.page_sets_lines.specs.Events.{given_view}
-use Rattle.page_sets_mdoc_lines.specs.Names.{said}
+use Rattle.page_sets_lines.specs.declared.lists.ListKind.{ListKind}
+use Rattle.page_sets_lines.specs.declared.lists.ListKind.TheVariants as kinds
+use Rattle.page_sets_lines.specs.declared.lists.ListOptions.{ListOptions}
+use Rattle.page_sets_mdoc_lines.specs.Rows.{said}
 use Rattle.page_sets_mdoc_blocks.specs.declared.displays.DisplayOptions.{DisplayOptions}
+
+-- ---- The list that `Bl` opens, and what its arguments lack. Source: mdoc(7), `Bl`.
+
+-- without a type it is `-item`
+abbrev pub kind_or_item : Option ListKind → ListKind
+kind_or_item None = kinds.Item
+kind_or_item (Some kind) = kind
+
+-- what is to be read of its arguments when it begins goes with it
+abbrev pub list_opener : ListOptions (List ℕ) → List ℕ → BlockOpener (List ℕ)
+list_opener options rest = openers.List (kind_or_item options.kind) options.is_compact rest
+
+abbrev pub width_note : ListKind → Option (Argument (List ℕ)) → Option NoteKind
+width_note kinds.Tag None = Some MissingWidth
+width_note _ _ = None
+
+abbrev pub kind_note : Option ListKind → Option (Argument (List ℕ)) → Option NoteKind
+kind_note None width = Some NoListType
+kind_note (Some kind) width = width_note kind width
+
+-- a list without a type is told of, and `-tag` without a width
+abbrev pub list_note : ListOptions (List ℕ) → Option NoteKind
+list_note options = kind_note options.kind options.width
+
+-- ---- What the arguments of `Bd` and `Bf` say. Source: mdoc(7), `Bd` and `Bf`.
 
 -- ---- `Bd`
 
@@ -58,14 +86,6 @@ display_opener options = openers.Display (is_kept options.is_literal) options.is
 -- the display that `Bd` opens with these arguments
 abbrev pub display : List (Argument (List ℕ)) → BlockOpener (List ℕ)
 display words = display_opener (options_after no_options words)
-
-abbrev pub options_view : DisplayOptions (Bor (List ℕ)) → DisplayOptions (List ℕ)
-options_view options = record {
-  is_literal = options.is_literal;
-  is_compact = options.is_compact;
-  offset = given_view options.offset;
-  takes_offset = options.takes_offset;
-}
 
 -- ---- `Bf`
 

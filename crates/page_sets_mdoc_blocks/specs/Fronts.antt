@@ -1,41 +1,50 @@
--- What a macro that begins a line does before its words, and the requests that change rows. Source: mdoc(7), "MACRO
--- REFERENCE"; roff(7), "REQUEST REFERENCE".
-use Rattle.std.specs.Prelude.{ℕ, ◌-◌, Bool, true, false, ◌&&◌, List, [], ◌∷◌, ◌++◌, Option, None, Some, unwrap_or, codes, if◌then◌else◌}
-use Rattle.std.specs.Str.{bytes_eq}
+-- What a macro that begins a line does before its words. Source: mdoc(7).
 use Rattle.std.specs.List.{list_any}
-use Rattle.page_core_base.specs.LinesTaken.{Line}
-use Rattle.page_core_base.specs.declared.places.Place.{Place}
+use Rattle.std.specs.Prelude.{Bool, true, false, ℕ, List, [], ◌∷◌, Option, None, Some, ◌++◌, unwrap_or, codes, ◌-◌, ◌&&◌, if◌then◌else◌}
+use Rattle.std.specs.Str.{bytes_eq}
+use Rattle.page_core_base.specs.Texts.{Line}
+use Rattle.page_core_base.specs.declared.cells.Font.{Font}
 use Rattle.page_core_base.specs.declared.note_kinds.NoteKind.{NoteKind}
 use Rattle.page_core_base.specs.declared.note_kinds.NoteKind.TheVariants.{Unterminated, UnknownFont, EmptyMacro}
+use Rattle.page_core_base.specs.declared.places.Place.{Place}
 use Rattle.page_roff_syntax.specs.Arguments.{is_quoted}
 use Rattle.page_roff_syntax.specs.declared.quotes.Argument.{Argument}
 use Rattle.page_roff_syntax.specs.declared.requests.LayoutRequest.{LayoutRequest}
-use Rattle.page_sets_lines.specs.declared.events.EventKind.{EventKind}
-use Rattle.page_sets_lines.specs.declared.events.EventKind.TheVariants as kinds
-use Rattle.page_sets_lines.specs.declared.events.Event.{Event}
-use Rattle.page_sets_lines.specs.declared.leaves.Leaf.TheVariants as leaves
-use Rattle.page_sets_lines.specs.declared.line_steps.LineStep.TheVariants as steps
 use Rattle.page_sets_names.specs.declared.macro_names.HeadingName.{HeadingName}
 use Rattle.page_sets_names.specs.declared.macro_names.HeadingName.TheVariants as headings
+use Rattle.page_sets_lines.specs.Blocks.{list_options}
+use Rattle.page_sets_lines.specs.Lines.{name_place, event_at, name_end, arguments_after, name_of, open_quote, first_of, request, text_of, rest_of, is_unclosed}
+use Rattle.page_sets_lines.specs.declared.blocks.BlockCloser.{BlockCloser}
+use Rattle.page_sets_lines.specs.declared.blocks.BlockCloser.TheVariants as block_closers
+use Rattle.page_sets_lines.specs.declared.blocks.BlockOpener.{BlockOpener}
+use Rattle.page_sets_lines.specs.declared.blocks.BlockOpener.TheVariants as block_openers
+use Rattle.page_sets_lines.specs.declared.events.Event.{Event}
+use Rattle.page_sets_lines.specs.declared.events.EventKind.{EventKind}
+use Rattle.page_sets_lines.specs.declared.events.EventKind.TheVariants as kinds
+use Rattle.page_sets_lines.specs.declared.leaves.Leaf.TheVariants as leaves
+use Rattle.page_sets_lines.specs.declared.line_steps.LineStep.TheVariants as steps
+use Rattle.page_sets_lines.specs.declared.openers.Closer.TheVariants as closers
 use Rattle.page_sets_lines.specs.declared.openers.LineOpener.TheVariants as scopes
 use Rattle.page_sets_lines.specs.declared.openers.Opener.{Opener}
 use Rattle.page_sets_lines.specs.declared.openers.Opener.TheVariants as openers
-use Rattle.page_sets_lines.specs.declared.openers.Closer.TheVariants as closers
-use Rattle.page_sets_lines.specs.declared.blocks.BlockOpener.{BlockOpener}
-use Rattle.page_sets_lines.specs.declared.blocks.BlockCloser.{BlockCloser}
-use Rattle.page_sets_lines.specs.declared.blocks.BlockOpener.TheVariants as block_openers
-use Rattle.page_sets_lines.specs.declared.blocks.BlockCloser.TheVariants as block_closers
-use Rattle.page_sets_lines.specs.ControlLines.{name_end, name_of, name_place, rest_of, arguments_after, first_of, text_of, is_unclosed, open_quote}
-use Rattle.page_sets_lines.specs.PlainLines.{event_at, request}
-use Rattle.page_core_base.specs.declared.cells.Font.{Font}
+use Rattle.page_sets_mdoc_lines.specs.Parts.{is_real}
 use Rattle.page_sets_mdoc_lines.specs.declared.blocks.Block.{Block}
 use Rattle.page_sets_mdoc_lines.specs.declared.blocks.Block.TheVariants as blocks
 use Rattle.page_sets_mdoc_lines.specs.declared.blocks.LineMacro.{LineMacro}
 use Rattle.page_sets_mdoc_lines.specs.declared.blocks.LineMacro.TheVariants as lines
-use Rattle.page_sets_mdoc_lines.specs.LineWords.{is_real}
-use Rattle.page_sets_lines.specs.Lists.{list_options}
-use Rattle.page_sets_mdoc_blocks.specs.Displays.{display, given_font}
-use Rattle.page_sets_mdoc_blocks.specs.Lists.{list_note, list_opener}
+use Rattle.page_sets_mdoc_blocks.specs.Displays.{display, given_font, list_opener, list_note}
+
+-- ---- Which macros begin a line that goes on in words. Source: mdoc(7), "MACRO REFERENCE".
+
+-- the words after it are its title, its description or its row, and it needs one (`Sh Ss Nd D1 Dl`)
+abbrev pub has_phrase : LineMacro → Bool
+has_phrase (lines.Heading name) = true
+has_phrase lines.Description = true
+has_phrase (lines.OneLine name) = true
+has_phrase _ = false
+
+-- ---- What a macro that begins a line does before its words, and the requests that change rows. Source: mdoc(7), "MACRO
+-- REFERENCE"; roff(7), "REQUEST REFERENCE".
 
 -- an event at the macro that begins the line
 abbrev pub at_name : Line → EventKind (List ℕ) → Event (List ℕ)

@@ -1,4 +1,3 @@
-pub mod Macros
 pub mod Displays
-pub mod Lists
 pub mod Fronts
+pub mod laws

@@ -2,10 +2,10 @@
 
 ghost use Rattle.std.specs.Prelude.{◌≡◌, ◌||◌};
 ghost use Rattle.std.specs.Str.{bytes_eq};
-ghost use Rattle.page_roff_syntax.specs.Arguments.{argument_view};
-ghost use Rattle.page_sets_lines.specs.Events.{block_opener_view};
+ghost use Rattle.page_roff_syntax.specs.laws.Views.{argument_view};
+ghost use Rattle.page_sets_lines.specs.laws.Events.{block_opener_view};
 ghost use Rattle.page_sets_mdoc_blocks.specs.Displays as displays;
-ghost use Rattle.page_sets_mdoc_blocks.specs.Displays.{options_view};
+ghost use Rattle.page_sets_mdoc_blocks.specs.laws.Views.{options_view};
 ghost use Rattle.page_sets_mdoc_blocks.specs.Fronts.{line_arguments, first_text};
 
 use crate::line_arguments::first_text;

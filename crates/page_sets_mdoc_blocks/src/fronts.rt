@@ -1,9 +1,9 @@
 //! What a macro that begins a line does before its words, given event after event (mdoc(7), "MACRO REFERENCE").
 
 ghost use Rattle.std.specs.Prelude.{◌≡◌, [], ◌∷◌, ◌++◌, false, unwrap_or};
-ghost use Rattle.page_core_base.specs.Latches.{Came};
-ghost use Rattle.page_sets_lines.specs.Events.{event_view, kind_view, opener_view, block_opener_view, block_closer_view};
-ghost use Rattle.page_sets_lines.specs.Fits.{BlockCloserFits, BlockOpenerFits, IsShortKind, OpenerFits};
+ghost use Rattle.page_core_base.specs.laws.Views.{Came};
+ghost use Rattle.page_sets_lines.specs.laws.Events.{event_view, kind_view, opener_view, block_opener_view, block_closer_view};
+ghost use Rattle.page_sets_lines.specs.laws.Views.{BlockCloserFits, BlockOpenerFits, IsShortKind, OpenerFits};
 ghost use Rattle.page_sets_mdoc_blocks.specs.Fronts as fronts;
 
 use crate::displays::{display_of, first_font};

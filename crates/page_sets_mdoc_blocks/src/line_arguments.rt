@@ -1,8 +1,8 @@
 //! The arguments of the macro that begins a line (mdoc(7), "MACRO SYNTAX").
 
 ghost use Rattle.std.specs.Prelude.{◌≡◌};
-ghost use Rattle.page_sets_lines.specs.Events.{text_view};
-ghost use Rattle.page_sets_lines.specs.ControlLines.{first_of, text_of};
+ghost use Rattle.page_sets_lines.specs.laws.Events.{text_view};
+ghost use Rattle.page_sets_lines.specs.Lines.{first_of, text_of};
 ghost use Rattle.page_sets_mdoc_blocks.specs.Fronts as fronts;
 
 use page_sets_lines::ControlLine;

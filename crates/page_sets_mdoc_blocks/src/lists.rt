@@ -1,11 +1,12 @@
 //! The list that `Bl` opens, and what its arguments lack (mdoc(7), `Bl`).
 
 ghost use Rattle.std.specs.Prelude.{◌≡◌};
-ghost use Rattle.page_sets_lines.specs.ControlLines.{rest_of};
-ghost use Rattle.page_sets_lines.specs.Events.{block_opener_view};
-ghost use Rattle.page_sets_lines.specs.Lists.{list_options, options_view};
+ghost use Rattle.page_sets_lines.specs.Lines.{rest_of};
+ghost use Rattle.page_sets_lines.specs.laws.Events.{block_opener_view};
+ghost use Rattle.page_sets_lines.specs.Blocks.{list_options};
+ghost use Rattle.page_sets_lines.specs.laws.Views.{options_view};
 ghost use Rattle.page_sets_mdoc_blocks.specs.Fronts.{line_arguments};
-ghost use Rattle.page_sets_mdoc_blocks.specs.Lists as lists;
+ghost use Rattle.page_sets_mdoc_blocks.specs.Displays as lists;
 
 use page_core_base::NoteKind;
 use page_sets_lines::{BlockOpener, ControlLine, ListKind, ListOptions, read_list_options};

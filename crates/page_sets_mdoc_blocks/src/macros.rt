@@ -1,7 +1,7 @@
 //! Which macros begin a line that goes on in words (mdoc(7), "MACRO REFERENCE").
 
 ghost use Rattle.std.specs.Prelude.{◌≡◌};
-ghost use Rattle.page_sets_mdoc_blocks.specs.Macros as macros;
+ghost use Rattle.page_sets_mdoc_blocks.specs.Fronts as macros;
 
 use page_sets_mdoc_lines::LineMacro;
 

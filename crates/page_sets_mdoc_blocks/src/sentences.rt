@@ -1,9 +1,9 @@
 //! The option of sentences, and what `Sm` says (mdoc(7), "Ex", "Rv" and "Sm").
 
 ghost use Rattle.std.specs.Prelude.{◌≡◌};
-ghost use Rattle.page_roff_syntax.specs.Arguments.{argument_view};
-ghost use Rattle.page_sets_lines.specs.ControlLines.{is_unclosed};
-ghost use Rattle.page_sets_lines.specs.Events.{text_view};
+ghost use Rattle.page_roff_syntax.specs.laws.Views.{argument_view};
+ghost use Rattle.page_sets_lines.specs.Lines.{is_unclosed};
+ghost use Rattle.page_sets_lines.specs.laws.Events.{text_view};
 ghost use Rattle.page_sets_mdoc_blocks.specs.Fronts as fronts;
 
 use page_roff_syntax::{Argument, Quoting};

@@ -2,7 +2,7 @@
 use Rattle.std.proofs.Common.{◌≡◌, ℕ, ◌+◌, ◌≤◌, List, [], length, drop, refl, arith}
 use Rattle.std.proofs.lemmas.List.{drop_all}
 use Rattle.page_roff_syntax.specs.Arguments.{arguments}
-use Rattle.page_sets_mdoc_lines.specs.LineWords.{arguments_after}
+use Rattle.page_sets_mdoc_lines.specs.laws.Views.{arguments_after}
 use Rattle.page_sets_mdoc_lines.proofs.FewLemmas.{few_arguments_after}
 
 no_arguments : (column : ℕ) (text : List ℕ) → text ≡ [] → arguments column text ≡ []

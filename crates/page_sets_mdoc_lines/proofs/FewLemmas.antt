@@ -3,7 +3,7 @@ use Rattle.std.proofs.Common.{◌≡◌, ℕ, zero, suc, ◌+◌, ◌-◌, ◌*�
 use Rattle.std.proofs.lemmas.Bool.{cases_Bool}
 use Rattle.page_roff_syntax.specs.Arguments.{is_blank, bare_len, quoted_len, argument_len, first_arguments, arguments}
 use Rattle.page_roff_syntax.proofs.ArgumentLemmas.{bare_some, bare_within}
-use Rattle.page_sets_mdoc_lines.specs.LineWords.{arguments_after}
+use Rattle.page_sets_mdoc_lines.specs.laws.Views.{arguments_after}
 
 -- a text is at its end, or a blank parts it from what came before
 abbrev is_parted : List ℕ → Bool

@@ -4,7 +4,7 @@ use Rattle.std.proofs.lemmas.Bool.{and_parts, cond-false, false_from_ne_true}
 use Rattle.std.proofs.lemmas.Slice.Eq.{bytes_eq-Decides}
 use Rattle.std.specs.List.{list_all}
 use Rattle.std.specs.Str.{bytes_eq}
-use Rattle.page_core_base.specs.TableRows.{row_in}
+use Rattle.page_core_base.specs.Messages.{row_in}
 use Rattle.page_sets_mdoc_lines.specs.Rows.{table, row_of}
 use Rattle.page_sets_mdoc_lines.specs.machine.NameLengths.{has_name_len}
 

@@ -4,8 +4,8 @@ use Rattle.std.specs.List.{list_all}
 use Rattle.std.proofs.lemmas.Bool.{cases_Bool}
 use Rattle.page_roff_syntax.specs.declared.quotes.Argument.{Argument}
 use Rattle.page_sets_mdoc_lines.specs.declared.macros.Inline.{Inline}
-use Rattle.page_sets_mdoc_lines.specs.LineWords.{word_call, is_closing}
-use Rattle.page_sets_mdoc_lines.specs.Parts.{LineParts, parts, rest_parts, if_parsed, takes, taken_first, part_first, call_first, tail_alone, as_list, calls_arguments, parts_arguments}
+use Rattle.page_sets_mdoc_lines.specs.Parts.{word_call, is_closing, LineParts, parts, if_parsed, takes, taken_first, part_first, call_first, tail_alone}
+use Rattle.page_sets_mdoc_lines.specs.laws.Views.{rest_parts, as_list, calls_arguments, parts_arguments}
 
 words_by : (word : Argument (List ℕ)) (words : List (Argument (List ℕ))) (p : LineParts) (begun : Inline → LineParts) (call : Option Inline)
     → take (length p.words) words ≡ p.words

@@ -10,10 +10,9 @@ use Rattle.page_roff_syntax.specs.Arguments.{is_quoted}
 use Rattle.page_sets_mdoc_lines.specs.declared.macros.Inline.{Inline}
 use Rattle.page_sets_mdoc_lines.specs.declared.word_spans.WordSpan.{WordSpan}
 use Rattle.page_sets_mdoc_lines.specs.Rows.{row_of, called}
-use Rattle.page_sets_mdoc_lines.specs.Delimiters.{delimiters, delimiter_of}
+use Rattle.page_sets_mdoc_lines.specs.Parts.{delimiters, delimiter_of, word_call, word_delimiter, closes, is_nothing, is_closing, is_real, LineParts, parts, part_first, if_parsed, front_len, has_calls}
 use Rattle.page_sets_mdoc_lines.specs.declared.delimiters.Delimiter.{Delimiter}
-use Rattle.page_sets_mdoc_lines.specs.LineWords.{word_call, word_delimiter, closes, is_nothing, is_closing, is_real}
-use Rattle.page_sets_mdoc_lines.specs.Parts.{LineParts, parts, part_first, if_parsed, is_call, is_something, front_len, has_calls, span_of}
+use Rattle.page_sets_mdoc_lines.specs.laws.Views.{is_call, is_something, span_of}
 
 closing_by : (closing others : Bool) (n : ℕ) → others ≡ (n == 0) → (closing && others) ≡ ((if (n == 0) && closing then 0 else 1 + n) == 0)
 closing_by true true n h = rw (← h) refl

@@ -1,8 +1,4 @@
-pub mod Names
-pub mod Rows
-pub mod Delimiters
-pub mod LineWords
 pub mod Parts
-pub mod Rests
-pub mod Words
+pub mod Rows
+pub mod laws
 pub mod machine

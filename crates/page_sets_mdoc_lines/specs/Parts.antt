@@ -1,11 +1,82 @@
--- A control line parted, before any macro means anything: the macros of the line, and the words of each.
--- Source: mdoc(7), "MACRO SYNTAX".
-use Rattle.std.specs.Prelude.{ℕ, ◌+◌, ◌==◌, Bool, true, false, ◌&&◌, List, [], ◌∷◌, ◌++◌, length, Option, None, Some, if◌then◌else◌}
-use Rattle.std.specs.List.{list_all, list_any}
+-- A control line parted, before any macro means anything: its words, its delimiters, its macros, and the words of each. Source: mdoc(7), "MACRO SYNTAX".
+use Rattle.std.specs.List.{list_all}
+use Rattle.std.specs.Prelude.{ℕ, List, [], ◌∷◌, codes, Option, None, if◌then◌else◌, Bool, true, false, Some, ◌||◌, take, drop, ◌+◌, ◌==◌, ◌&&◌}
+use Rattle.std.specs.Str.{bytes_eq}
+use Rattle.page_roff_syntax.specs.Arguments.{is_quoted}
 use Rattle.page_roff_syntax.specs.declared.quotes.Argument.{Argument}
+use Rattle.page_sets_mdoc_lines.specs.Rows.{said, called}
+use Rattle.page_sets_mdoc_lines.specs.declared.delimiters.Delimiter.{Delimiter}
+use Rattle.page_sets_mdoc_lines.specs.declared.delimiters.Delimiter.TheVariants.{Opening, Middle, Closing}
 use Rattle.page_sets_mdoc_lines.specs.declared.macros.Inline.{Inline}
-use Rattle.page_sets_mdoc_lines.specs.declared.word_spans.WordSpan.{WordSpan}
-use Rattle.page_sets_mdoc_lines.specs.LineWords.{word_call, is_closing, is_real, takes_next}
+use Rattle.page_sets_mdoc_lines.specs.declared.macros.Inline.TheVariants.{Author, Prefix, Opens, Closes}
+use Rattle.page_sets_mdoc_lines.specs.declared.macros.Pair.{Pair}
+use Rattle.page_sets_mdoc_lines.specs.declared.macros.Pair.TheVariants.{Custom}
+
+-- ---- Delimiters. Source: mdoc(7), "Delimiters".
+
+abbrev pub delimiters : List (List ℕ × Delimiter)
+delimiters =
+    (codes "(", Opening)
+    ∷ (codes "[", Opening)
+    ∷ (codes "|", Middle)
+    ∷ (codes ".", Closing)
+    ∷ (codes ",", Closing)
+    ∷ (codes ":", Closing)
+    ∷ (codes ";", Closing)
+    ∷ (codes ")", Closing)
+    ∷ (codes "]", Closing)
+    ∷ (codes "?", Closing)
+    ∷ (codes "!", Closing)
+    ∷ []
+
+-- the delimiter that a word is
+unfoldable pub delimiter_of : List ℕ → Option Delimiter
+delimiter_of word = said delimiters word
+
+-- ---- The words of a control line: which are delimiters, which call macros, which a macro takes as they are.
+-- Source: mdoc(7), "MACRO SYNTAX" and "Delimiters".
+
+-- only a word without quotes is a delimiter, or calls a macro
+unfoldable pub word_delimiter : Argument (List ℕ) → Option Delimiter
+word_delimiter word = if is_quoted word.quoting then None else delimiter_of word.text
+
+unfoldable pub word_call : Argument (List ℕ) → Option Inline
+word_call word = if is_quoted word.quoting then None else called word.text
+
+abbrev pub closes : Option Delimiter → Bool
+closes (Some Closing) = true
+closes _ = false
+
+unfoldable pub is_closing : Argument (List ℕ) → Bool
+is_closing word = closes (word_delimiter word)
+
+abbrev pub is_nothing : {A : Type 0} → Option A → Bool
+is_nothing None = true
+is_nothing (Some what) = false
+
+-- a word that is no delimiter
+unfoldable pub is_real : Argument (List ℕ) → Bool
+is_real word = is_nothing (word_delimiter word)
+
+-- how `An` parts the authors that follow
+abbrev pub is_author_option : List ℕ → Bool
+is_author_option text = bytes_eq text (codes "-split") || bytes_eq text (codes "-nosplit")
+
+-- marks are taken unless they name a macro
+abbrev pub takes_mark : Pair → Argument (List ℕ) → Bool
+takes_mark Custom word = is_nothing (word_call word)
+takes_mark _ word = false
+
+-- whether a macro takes the word after it as it is, whatever it would be otherwise
+unfoldable pub takes_next : Inline → Argument (List ℕ) → Bool
+takes_next Prefix word = true
+takes_next Author word = is_author_option word.text
+takes_next (Opens pair) word = takes_mark pair word
+takes_next (Closes pair) word = takes_mark pair word
+takes_next _ word = false
+
+-- ---- A control line parted, before any macro means anything: the macros of the line, and the words of each.
+-- Source: mdoc(7), "MACRO SYNTAX".
 
 -- a macro that a word of the line calls: that word, the word that the macro takes as it is, and its other words
 pub record Call : Type 0 where
@@ -47,14 +118,6 @@ abbrev pub if_parsed : Bool → Option Inline → Option Inline
 if_parsed true inline = inline
 if_parsed false inline = None
 
-abbrev pub is_something : {A : Type 0} → Option A → Bool
-is_something None = false
-is_something (Some what) = true
-
--- whether a word calls a macro, where words can
-abbrev pub is_call : Bool → Argument (List ℕ) → Bool
-is_call parsed word = is_something (if_parsed parsed (word_call word))
-
 -- only a macro that has just begun takes a word
 abbrev pub takes : Option Inline → Argument (List ℕ) → Bool
 takes None word = false
@@ -68,22 +131,6 @@ parts begun parsed (word ∷ words) =
     else if list_all is_closing (word ∷ words) then tail_alone (word ∷ words)
     else part_first (if_parsed parsed (word_call word)) word (parts None parsed words) (λ inline. parts (Some inline) true words)
 
--- without the words of the macro that begins
-abbrev pub rest_parts : LineParts → LineParts
-rest_parts parts = record { taken = None; words = []; calls = parts.calls; tail = parts.tail }
-
--- all arguments of the parts, in their order
-abbrev pub as_list : Option (Argument (List ℕ)) → List (Argument (List ℕ))
-as_list None = []
-as_list (Some word) = word ∷ []
-
-abbrev pub calls_arguments : List Call → List (Argument (List ℕ))
-calls_arguments [] = []
-calls_arguments (call ∷ calls) = (call.name ∷ (as_list call.taken ++ call.words)) ++ calls_arguments calls
-
-abbrev pub parts_arguments : LineParts → List (Argument (List ℕ))
-parts_arguments parts = as_list parts.taken ++ (parts.words ++ (calls_arguments parts.calls ++ parts.tail))
-
 -- how many arguments there are up to the last that is no closing delimiter
 abbrev pub front_len : (Argument (List ℕ) → Bool) → List (Argument (List ℕ)) → ℕ
 front_len closing [] = 0
@@ -94,11 +141,11 @@ abbrev pub has_calls : List Call → Bool
 has_calls [] = false
 has_calls (call ∷ calls) = true
 
--- what is known of a macro's words before they are read
-abbrev pub span_of : LineParts → WordSpan
-span_of parts = record {
-  words = length parts.words;
-  inside = front_len is_closing parts.words;
-  has_real = list_any is_real parts.words;
-  follows = has_calls parts.calls;
-}
+-- ---- The words of a macro, and what is known of them before they are read.
+
+-- the words without the closing delimiters at their end, and only those
+abbrev pub inside : List (Argument (List ℕ)) → List (Argument (List ℕ))
+inside words = take (front_len is_closing words) words
+
+abbrev pub outside : List (Argument (List ℕ)) → List (Argument (List ℕ))
+outside words = drop (front_len is_closing words) words

@@ -1,26 +1,35 @@
--- The table of mdoc(7): what each macro does, and how it is to the macros among its words. Source: mdoc(7),
--- "MACRO REFERENCE" and "MACRO SYNTAX", of which the summary has the columns "Callable" and "Parsed".
+-- The table of mdoc(7): what each macro does, and how it is to the macros among its words. Source: mdoc(7), "MACRO SYNTAX".
 use Prim.Native.String.{String}
-use Rattle.std.specs.Prelude.{ℕ, Bool, true, false, List, [], ◌∷◌, Option, None, Some, option_map, option_and_then, if◌then◌else◌, codes}
 use Rattle.std.specs.Option.{option_map_or}
+use Rattle.std.specs.Prelude.{ℕ, List, Option, option_map, find, Bool, codes, true, false, [], ◌∷◌, None, Some, option_and_then, if◌then◌else◌}
+use Rattle.std.specs.Str.{bytes_eq}
+use Rattle.page_core_base.specs.Messages.{row_in}
 use Rattle.page_core_base.specs.declared.cells.Font.TheVariants as fonts
-use Rattle.page_core_base.specs.TableRows.{row_in}
 use Rattle.page_sets_names.specs.declared.macro_names.BodyParagraphName.TheVariants as paragraphs
 use Rattle.page_sets_names.specs.declared.macro_names.HeadingName.TheVariants as headings
 use Rattle.page_sets_names.specs.declared.macro_names.OneLineName.TheVariants as one_lines
 use Rattle.page_sets_names.specs.declared.macro_names.Prologue.TheVariants as prologues
 use Rattle.page_sets_names.specs.declared.marks.Marks.TheVariants as marks
 use Rattle.page_sets_names.specs.declared.marks.Quotation.TheVariants as quotations
+use Rattle.page_sets_mdoc_lines.specs.declared.blocks.Block.TheVariants as blocks
+use Rattle.page_sets_mdoc_lines.specs.declared.blocks.LineMacro.{LineMacro}
+use Rattle.page_sets_mdoc_lines.specs.declared.blocks.LineMacro.TheVariants as lines
+use Rattle.page_sets_mdoc_lines.specs.declared.blocks.Sentence.TheVariants as sentences
 use Rattle.page_sets_mdoc_lines.specs.declared.macros.Defaulted.TheVariants as defaults
 use Rattle.page_sets_mdoc_lines.specs.declared.macros.Inline.{Inline}
 use Rattle.page_sets_mdoc_lines.specs.declared.macros.Inline.TheVariants as inlines
 use Rattle.page_sets_mdoc_lines.specs.declared.macros.Pair.TheVariants as pairs
 use Rattle.page_sets_mdoc_lines.specs.declared.macros.System.TheVariants as systems
-use Rattle.page_sets_mdoc_lines.specs.declared.blocks.Block.TheVariants as blocks
-use Rattle.page_sets_mdoc_lines.specs.declared.blocks.Sentence.TheVariants as sentences
-use Rattle.page_sets_mdoc_lines.specs.declared.blocks.LineMacro.{LineMacro}
-use Rattle.page_sets_mdoc_lines.specs.declared.blocks.LineMacro.TheVariants as lines
 use Rattle.page_sets_mdoc_lines.specs.declared.rows.MacroRow.{MacroRow}
+
+-- ---- Rows of a table by the name in each.
+
+-- what the first row of a name says
+abbrev pub said : {A : Type 0} → List (List ℕ × A) → List ℕ → Option A
+said rows name = option_map (λ row. row.1) (find (λ row. bytes_eq name row.0) rows)
+
+-- ---- The table of mdoc(7): what each macro does, and how it is to the macros among its words. Source: mdoc(7),
+-- "MACRO REFERENCE" and "MACRO SYNTAX", of which the summary has the columns "Callable" and "Parsed".
 
 -- a row of the table: a name, what it does where it begins a line, and the columns "Callable" and "Parsed"
 abbrev pub row : String → LineMacro → Bool → Bool → List ℕ × MacroRow

@@ -1,9 +1,9 @@
 //! How far a line has been read (mdoc(7), "MACRO SYNTAX").
 
 ghost use Rattle.std.specs.Prelude.{◌≡◌, ◌≤◌, [], length, MatchBool, IfSome};
-ghost use Rattle.page_roff_syntax.specs.Arguments.{ReadsNext, argument_view};
-ghost use Rattle.page_sets_lines.specs.Fits.{ArgumentFits};
-ghost use Rattle.page_sets_mdoc_lines.specs.LineWords.{arguments_after};
+ghost use Rattle.page_roff_syntax.specs.laws.Views.{ReadsNext, argument_view};
+ghost use Rattle.page_sets_lines.specs.laws.Views.{ArgumentFits};
+ghost use Rattle.page_sets_mdoc_lines.specs.laws.Views.{arguments_after};
 ghost use Rattle.page_sets_mdoc_lines.specs.machine.Cursors.{IsCursorOf};
 
 use page_core_base::LINE;

@@ -1,7 +1,7 @@
 //! Delimiters (mdoc(7), "Delimiters").
 
 ghost use Rattle.std.specs.Prelude.{◌≡◌};
-ghost use Rattle.page_sets_mdoc_lines.specs.Delimiters as delimiters;
+ghost use Rattle.page_sets_mdoc_lines.specs.Parts as delimiters;
 
 /// A word that is set off the others.
 #[derive(Clone, Copy, PartialEq, Eq)]
@@ -15,7 +15,7 @@ pub enum Delimiter {
 }
 
 /// The delimiter that a word is, if it is one.
-#[tactic(auto, unfolding(crate::specs::Delimiters::delimiter_of))]
+#[tactic(auto, unfolding(crate::specs::Parts::delimiter_of))]
 pub fn delimiter_of(word: &[u8]) -> Option<Delimiter>
     ensures { result ≡ delimiters.delimiter_of word.now }
 {

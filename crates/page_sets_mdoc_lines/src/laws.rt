@@ -4,8 +4,8 @@ ghost use Rattle.std.specs.Prelude.{◌≡◌, ℕ, ◌+◌, ◌-◌, ◌*◌, �
 ghost use Rattle.std.specs.List.{list_all};
 ghost use Rattle.page_roff_syntax.specs.declared.quotes.Argument.{Argument};
 ghost use Rattle.page_sets_mdoc_lines.specs.declared.macros.Inline.{Inline};
-ghost use Rattle.page_sets_mdoc_lines.specs.LineWords.{arguments_after};
-ghost use Rattle.page_sets_mdoc_lines.specs.Parts.{parts, rest_parts, parts_arguments, front_len};
+ghost use Rattle.page_sets_mdoc_lines.specs.laws.Views.{arguments_after, rest_parts, parts_arguments};
+ghost use Rattle.page_sets_mdoc_lines.specs.Parts.{parts, front_len};
 
 /// The words of a macro are at the front of what is left of its line, and after them the line goes on with the next
 /// call or with its last delimiters. The parts hold each argument once, in the order of the line.

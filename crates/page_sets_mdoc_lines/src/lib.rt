@@ -6,7 +6,7 @@
 //!
 //! Proved: `row_of`, `called`, `delimiter_of`: what a macro of mdoc(7) does, which names a word can call, and in which lines words
 //! call, by one table (`specs/Rows.antt`), with which the rows of the program are compared; and which words are delimiters
-//! (`Delimiters.antt`). `Cursor`, `Words`, `find_words`, `parts_law`, `front_law`, `few_law`: a line of mdoc(7) is parted into its macros and the words
+//! (`Parts.antt`). `Cursor`, `Words`, `find_words`, `parts_law`, `front_law`, `few_law`: a line of mdoc(7) is parted into its macros and the words
 //! of each by one fold over its arguments (`specs/Parts.antt`): each argument is in one part, in order.
 #![tactic(auto)]
 

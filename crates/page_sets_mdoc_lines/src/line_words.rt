@@ -3,15 +3,15 @@
 
 ghost use Rattle.std.specs.Prelude.{◌≡◌, ℕ, List, false, MatchBool};
 ghost use Rattle.page_roff_syntax.specs.declared.quotes.Argument.{Argument};
-ghost use Rattle.page_roff_syntax.specs.Arguments.{argument_view};
-ghost use Rattle.page_sets_mdoc_lines.specs.LineWords as words;
+ghost use Rattle.page_roff_syntax.specs.laws.Views.{argument_view};
+ghost use Rattle.page_sets_mdoc_lines.specs.Parts as words;
 
 use crate::{Delimiter, Inline, Pair, called, delimiter_of};
 use page_roff_syntax::Argument;
 
 /// The delimiter that a word is, if it is one; a word with quotes is none.
 #[inline(always)]
-#[tactic(auto, unfolding(crate::specs::LineWords::word_delimiter))]
+#[tactic(auto, unfolding(crate::specs::Parts::word_delimiter))]
 pub fn word_delimiter(word: Argument<&[u8]>) -> Option<Delimiter>
     ensures { result ≡ words.word_delimiter (argument_view word.entry) }
 {
@@ -23,7 +23,7 @@ pub fn word_delimiter(word: Argument<&[u8]>) -> Option<Delimiter>
 
 /// What a word calls in a line whose words can; a word with quotes calls nothing.
 #[inline(always)]
-#[tactic(auto, unfolding(crate::specs::LineWords::word_call))]
+#[tactic(auto, unfolding(crate::specs::Parts::word_call))]
 pub fn word_call(name: Argument<&[u8]>) -> Option<Inline>
     ensures { result ≡ words.word_call (argument_view name.entry) }
 {
@@ -35,7 +35,7 @@ pub fn word_call(name: Argument<&[u8]>) -> Option<Inline>
 
 /// Whether a word is a closing delimiter.
 #[inline(always)]
-#[tactic(auto, unfolding(crate::specs::LineWords::is_closing))]
+#[tactic(auto, unfolding(crate::specs::Parts::is_closing))]
 pub fn is_closing(word: Argument<&[u8]>) -> bool
     ensures { result ≡ words.is_closing (argument_view word.entry) }
 {
@@ -44,7 +44,7 @@ pub fn is_closing(word: Argument<&[u8]>) -> bool
 
 /// Whether a word is no delimiter.
 #[inline(always)]
-#[tactic(auto, unfolding(crate::specs::LineWords::is_real))]
+#[tactic(auto, unfolding(crate::specs::Parts::is_real))]
 pub fn is_real(word: Argument<&[u8]>) -> bool
     ensures { result ≡ words.is_real (argument_view word.entry) }
 {
@@ -62,7 +62,7 @@ fn takes_mark(pair: Pair, word: Argument<&[u8]>) -> bool
 }
 
 /// Whether a macro is one of those that may take the word after it as it is. Few are.
-#[tactic(auto, unfolding(crate::specs::LineWords::takes_next))]
+#[tactic(auto, unfolding(crate::specs::Parts::takes_next))]
 pub fn may_take(inline: Inline) -> bool
     ensures { MatchBool result (Unit {0}) ((word : Argument (List ℕ)) → words.takes_next inline word ≡ false) }
 {
@@ -74,7 +74,7 @@ pub fn may_take(inline: Inline) -> bool
 
 /// Whether a macro takes the word after it as it is: `Pf` any word, `Eo` and `Ec` one that names no macro, `An`
 /// how authors are parted.
-#[tactic(auto, unfolding(crate::specs::LineWords::takes_next))]
+#[tactic(auto, unfolding(crate::specs::Parts::takes_next))]
 pub fn takes_next(inline: Inline, word: Argument<&[u8]>) -> bool
     ensures { result ≡ words.takes_next inline (argument_view word.entry) }
 {

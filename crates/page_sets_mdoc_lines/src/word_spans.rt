@@ -1,12 +1,10 @@
 //! The span of a macro's words (mdoc(7), "MACRO SYNTAX").
 
 ghost use Rattle.std.specs.Prelude.{◌≡◌, ◌≤◌, length, drop, None};
-ghost use Rattle.page_roff_syntax.specs.Arguments.{argument_view};
-ghost use Rattle.page_sets_mdoc_lines.specs.LineWords.{arguments_after, word_call};
-ghost use Rattle.page_sets_mdoc_lines.specs.Parts.{parts, span_of, if_parsed, rest_parts};
+ghost use Rattle.page_roff_syntax.specs.laws.Views.{argument_view};
+ghost use Rattle.page_sets_mdoc_lines.specs.laws.Views.{arguments_after, span_of, rest_parts, IsRestOf, rest_view, FirstIs};
+ghost use Rattle.page_sets_mdoc_lines.specs.Parts.{word_call, parts, if_parsed};
 ghost use Rattle.page_sets_mdoc_lines.specs.machine.Cursors.{IsCursorOf};
-ghost use Rattle.page_sets_mdoc_lines.specs.Rests.{IsRestOf, rest_view};
-ghost use Rattle.page_sets_mdoc_lines.specs.Words.{FirstIs};
 
 use crate::cursors::Cursor;
 use crate::line_words::{is_closing, is_real, word_call};

@@ -1,14 +1,12 @@
 //! The words of a macro in its line (mdoc(7), "MACRO SYNTAX").
 
 ghost use Rattle.std.specs.Prelude.{◌≡◌, ◌≤◌, length, IfSome};
-ghost use Rattle.page_roff_syntax.specs.Arguments.{ReadsNext, argument_view};
-ghost use Rattle.page_sets_lines.specs.Events.{given_view};
-ghost use Rattle.page_sets_lines.specs.Fits.{ArgumentFits, GivenFits};
-ghost use Rattle.page_sets_mdoc_lines.specs.LineWords.{arguments_after};
-ghost use Rattle.page_sets_mdoc_lines.specs.Parts.{parts, has_calls, rest_parts};
+ghost use Rattle.page_roff_syntax.specs.laws.Views.{ReadsNext, argument_view};
+ghost use Rattle.page_sets_lines.specs.laws.Events.{given_view};
+ghost use Rattle.page_sets_lines.specs.laws.Views.{ArgumentFits, GivenFits};
+ghost use Rattle.page_sets_mdoc_lines.specs.laws.Views.{arguments_after, rest_parts, IsRestOf, rest_view, words_view, AreKnown, AreIn, IsFirstKnown, TakesWord};
+ghost use Rattle.page_sets_mdoc_lines.specs.Parts.{parts, has_calls};
 ghost use Rattle.page_sets_mdoc_lines.specs.machine.Cursors.{IsCursorOf};
-ghost use Rattle.page_sets_mdoc_lines.specs.Rests.{IsRestOf, rest_view};
-ghost use Rattle.page_sets_mdoc_lines.specs.Words.{words_view, AreKnown, AreIn, IsFirstKnown, TakesWord};
 
 use crate::Inline;
 use crate::cursors::Cursor;

@@ -6,18 +6,17 @@ use Rattle.page_core_base.specs.declared.places.Place.{Place}
 use Rattle.page_roff_syntax.specs.declared.quotes.Argument.{Argument}
 use Rattle.page_sets_lines.specs.declared.events.Event.{Event}
 use Rattle.page_sets_lines.specs.declared.line_steps.SynopsisStep.TheVariants.{Break}
-use Rattle.page_sets_lines.specs.Laws.{HasSlices, IsArgumentIfGiven, IsPart}
+use Rattle.page_sets_lines.specs.laws.Sets.{HasSlices, IsArgumentIfGiven, IsPart}
 use Rattle.page_sets_lines.proofs.LawLemmas.{is_word}
 use Rattle.page_sets_lines.proofs.OrderLemmas.{AreArguments, AreArguments-drop, AreArguments-take}
 use Rattle.page_sets_mdoc_lines.specs.declared.macros.Inline.{Inline}
 use Rattle.page_sets_mdoc_lines.specs.declared.macros.Inline.TheVariants as inlines
 use Rattle.page_sets_mdoc_lines.specs.declared.macros.Pair.{Pair}
 use Rattle.page_sets_mdoc_lines.specs.declared.macros.Pair.TheVariants as pairs
-use Rattle.page_sets_mdoc_lines.specs.LineWords.{is_closing, is_real}
-use Rattle.page_sets_mdoc_lines.specs.Parts.{as_list, front_len}
-use Rattle.page_sets_mdoc_words.specs.Printed.{printed}
-use Rattle.page_sets_mdoc_words.specs.Inlines.{author, closed, closes_custom, default_word, empty_macro, function, inline_events, link, lone, lone_dash, manual_name, missing_quote, opened, opens_custom, prefix, refused, with_words}
-use Rattle.page_sets_mdoc_words.specs.Synopses.{after_words, before_words, framed, placed_events}
+use Rattle.page_sets_mdoc_lines.specs.Parts.{is_closing, is_real, front_len}
+use Rattle.page_sets_mdoc_lines.specs.laws.Views.{as_list}
+use Rattle.page_sets_mdoc_words.specs.Inlines.{printed, author, closed, closes_custom, default_word, empty_macro, function, inline_events, link, lone, lone_dash, manual_name, missing_quote, opened, opens_custom, prefix, refused, with_words}
+use Rattle.page_sets_mdoc_words.specs.Sentences.{after_words, before_words, framed, placed_events}
 use Rattle.page_sets_mdoc_words.proofs.PrintLemmas.{Prints, both, bsd_prints, first_taken, flags_print, framed_prints, function_end_prints, function_opened_prints, function_words_print, link_words_print, lone_prints, missing_quote_prints, more_events, named_prints, next_arguments_print, own_first, parted, printed_prints, reference_prints, word_first, word_passed}
 
 -- ---- a macro with all its words

@@ -9,22 +9,20 @@ use Rattle.page_roff_syntax.specs.declared.quotes.Argument.{Argument}
 use Rattle.page_sets_lines.specs.declared.events.EventKind.{EventKind}
 use Rattle.page_sets_lines.specs.declared.events.EventKind.TheVariants as kinds
 use Rattle.page_sets_lines.specs.declared.events.Event.{Event}
-use Rattle.page_sets_lines.specs.ControlLines.{is_unclosed}
-use Rattle.page_sets_lines.specs.Laws.{IsArgument, HasSlices, AreSlices}
+use Rattle.page_sets_lines.specs.Lines.{is_unclosed}
+use Rattle.page_sets_lines.specs.laws.Sets.{IsArgument, HasSlices, AreSlices}
 use Rattle.page_sets_lines.proofs.LawLemmas.{is_word, nothing_part, AreSlices-append}
 use Rattle.page_sets_lines.proofs.OrderLemmas.{IsTaken, Takes, TakesInOrder, takes_later, TakesInOrder-append, AreArguments}
 use Rattle.page_sets_mdoc_lines.specs.declared.delimiters.Delimiter.{Delimiter}
 use Rattle.page_sets_mdoc_lines.specs.declared.delimiters.Delimiter.TheVariants.{Opening, Middle, Closing}
-use Rattle.page_sets_mdoc_lines.specs.LineWords.{word_delimiter, is_real}
-use Rattle.page_sets_mdoc_words.specs.Printed.{word_or_delimiter, printed_word, printed, is_opening}
-use Rattle.page_sets_mdoc_words.specs.Inlines.{lone, named, flags, section, reference, more_arguments, arguments, function_words, function_end, next_arguments, function_opened, bsd, address, link_words, missing_quote}
+use Rattle.page_sets_mdoc_lines.specs.Parts.{word_delimiter, is_real}
+use Rattle.page_sets_mdoc_words.specs.Inlines.{word_or_delimiter, printed_word, printed, is_opening, lone, named, flags, section, reference, more_arguments, arguments, function_words, function_end, next_arguments, function_opened, bsd, address, link_words, missing_quote}
 use Rattle.page_sets_lines.specs.declared.line_steps.SynopsisStep.{SynopsisStep}
 use Rattle.page_sets_names.specs.declared.generated_texts.GeneratedText.{GeneratedText}
 use Rattle.page_sets_mdoc_lines.specs.declared.blocks.Sentence.{Sentence}
 use Rattle.page_sets_mdoc_words.specs.declared.sentences.NameCount.{NameCount}
 use Rattle.page_sets_mdoc_words.specs.declared.sentences.NameCount.TheVariants as counts
-use Rattle.page_sets_mdoc_words.specs.Synopses.{preceded, followed, framed}
-use Rattle.page_sets_mdoc_words.specs.Sentences.{name_count, has_comma, name_mark, sentence_name, marked, names_events, given_names, sentence_events, file_events, include_events}
+use Rattle.page_sets_mdoc_words.specs.Sentences.{preceded, followed, framed, name_count, has_comma, name_mark, sentence_name, marked, names_events, given_names, sentence_events, file_events, include_events}
 
 -- the texts of events are slices of the line, their words are some of these in their order, and there are few of them
 pub record Prints (line : List ℕ) (more : ℕ) (words : List (Argument (List ℕ))) (events : List (Event (List ℕ))) : Type 0 where

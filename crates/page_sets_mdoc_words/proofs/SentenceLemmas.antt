@@ -8,7 +8,7 @@ use Rattle.page_sets_mdoc_words.specs.declared.sentences.NameCount.TheVariants a
 use Rattle.page_roff_syntax.specs.declared.quotes.Argument.{Argument}
 use Rattle.page_sets_lines.specs.declared.line_steps.LineStep.TheVariants.{ManualName}
 use Rattle.page_sets_mdoc_lines.specs.declared.blocks.Sentence.{Sentence}
-use Rattle.page_sets_mdoc_words.specs.Printed.{step_event}
+use Rattle.page_sets_mdoc_words.specs.Inlines.{step_event}
 use Rattle.page_sets_mdoc_words.specs.Sentences.{given_names, is_zero, joined, marked, name_count, name_mark, names_events}
 
 and_goes_on : (place : Place) (left : NameCount) (events : List (Event (List ℕ))) → joined place left events ≡ joined place left [] ++ events

@@ -3,7 +3,7 @@ use Rattle.std.proofs.Common.{◌≡◌, ℕ, List, [], ◌++◌, Option, None, 
 use Rattle.page_core_base.specs.declared.places.Place.{Place}
 use Rattle.page_sets_lines.specs.declared.events.Event.{Event}
 use Rattle.page_sets_lines.specs.declared.line_steps.SynopsisStep.{SynopsisStep}
-use Rattle.page_sets_mdoc_words.specs.Synopses.{framed, preceded}
+use Rattle.page_sets_mdoc_words.specs.Sentences.{framed, preceded}
 
 framed_after : (place : Place) (after : Option SynopsisStep) (events : List (Event (List ℕ)))
     → framed place None after events ≡ events ++ preceded place after []

@@ -2,17 +2,17 @@
 //! "Xo").
 
 ghost use Rattle.std.specs.Prelude.{◌≤◌, ◌∷◌, None, length};
-ghost use Rattle.page_core_base.specs.Latches.{Came};
-ghost use Rattle.page_sets_lines.specs.Events.{block_closer_view, block_opener_view, given_view};
-ghost use Rattle.page_sets_lines.specs.Fits.{BlockCloserFits, BlockOpenerFits, GivenFits};
-ghost use Rattle.page_sets_lines.specs.PlainLines.{event_at};
+ghost use Rattle.page_core_base.specs.laws.Views.{Came};
+ghost use Rattle.page_sets_lines.specs.laws.Events.{block_closer_view, block_opener_view, given_view};
+ghost use Rattle.page_sets_lines.specs.laws.Views.{BlockCloserFits, BlockOpenerFits, GivenFits};
+ghost use Rattle.page_sets_lines.specs.Lines.{event_at};
 ghost use Rattle.page_sets_lines.specs.declared.events.EventKind.TheVariants as kinds;
 ghost use Rattle.page_sets_lines.specs.declared.openers.Opener.TheVariants as begins;
 ghost use Rattle.page_sets_lines.specs.declared.openers.Closer.TheVariants as ends;
 ghost use Rattle.page_sets_mdoc_lines.specs.machine.Cursors.{IsCursorOf};
-ghost use Rattle.page_sets_mdoc_lines.specs.Words.{AreIn, AreKnown, words_view};
+ghost use Rattle.page_sets_mdoc_lines.specs.laws.Views.{AreIn, AreKnown, words_view};
 ghost use Rattle.page_sets_mdoc_words.specs.Inlines as inlines;
-ghost use Rattle.page_sets_mdoc_words.specs.Printed.{printed};
+ghost use Rattle.page_sets_mdoc_words.specs.Inlines.{printed};
 
 use crate::functions::give_function_opened;
 use crate::plain::{MacroName, give_printed, give_refused};

@@ -1,9 +1,9 @@
 //! Functions and their arguments (mdoc(7), "Fn", "Fa" and "Fo").
 
 ghost use Rattle.std.specs.Prelude.{◌≤◌, ◌++◌, length};
-ghost use Rattle.page_core_base.specs.Latches.{Came};
+ghost use Rattle.page_core_base.specs.laws.Views.{Came};
 ghost use Rattle.page_sets_mdoc_lines.specs.machine.Cursors.{IsCursorOf};
-ghost use Rattle.page_sets_mdoc_lines.specs.Words.{AreIn, words_view};
+ghost use Rattle.page_sets_mdoc_lines.specs.laws.Views.{AreIn, words_view};
 ghost use Rattle.page_sets_mdoc_words.specs.Inlines as inlines;
 
 use crate::plain::give_printed;

@@ -4,7 +4,7 @@
 //! case has its line, and `src/flags.rt`, the shortest of the macros.
 //!
 //! Proved: `give_macro`, `give_printed`, `give_found`, `give_sentence`, `give_include`: what each macro of mdoc(7) makes of its words is its case of
-//! `inline_events` (`specs/Inlines.antt`), with what it does in the SYNOPSIS (`Synopses.antt`); so are the sentences of `Ex` and `Rv`, and the file of
+//! `inline_events` (`specs/Inlines.antt`), with what it does in the SYNOPSIS (`Sentences.antt`); so are the sentences of `Ex` and `Rv`, and the file of
 //! `In` (`Sentences.antt`).
 #![tactic(auto)]
 

@@ -1,13 +1,13 @@
 //! `Lk`: a link with its texts (mdoc(7), "Lk").
 
 ghost use Rattle.std.specs.Prelude.{◌≤◌, ◌++◌, None, length};
-ghost use Rattle.page_core_base.specs.Latches.{Came};
-ghost use Rattle.page_roff_syntax.specs.Arguments.{argument_view};
-ghost use Rattle.page_sets_lines.specs.Fits.{ArgumentFits};
+ghost use Rattle.page_core_base.specs.laws.Views.{Came};
+ghost use Rattle.page_roff_syntax.specs.laws.Views.{argument_view};
+ghost use Rattle.page_sets_lines.specs.laws.Views.{ArgumentFits};
 ghost use Rattle.page_sets_mdoc_lines.specs.machine.Cursors.{IsCursorOf};
-ghost use Rattle.page_sets_mdoc_lines.specs.Words.{AreIn, words_view};
+ghost use Rattle.page_sets_mdoc_lines.specs.laws.Views.{AreIn, words_view};
 ghost use Rattle.page_sets_mdoc_words.specs.Inlines as inlines;
-ghost use Rattle.page_sets_mdoc_words.specs.Printed.{printed};
+ghost use Rattle.page_sets_mdoc_words.specs.Inlines.{printed};
 
 use crate::plain::give_printed;
 use crate::printed::{printed_word, step_event};

@@ -1,19 +1,19 @@
 //! The macros that can be among words, by their rows (mdoc(7), "MACRO REFERENCE").
 
 ghost use Rattle.std.specs.Prelude.{◌≡◌, ◌≤◌, [], ◌∷◌, None, Some, length};
-ghost use Rattle.page_core_base.specs.Latches.{Came};
-ghost use Rattle.page_sets_lines.specs.Events.{event_view, given_view, step_view};
-ghost use Rattle.page_sets_lines.specs.Fits.{GivenFits, IsShort};
-ghost use Rattle.page_sets_lines.specs.PlainLines.{event_at, generated_word};
+ghost use Rattle.page_core_base.specs.laws.Views.{Came};
+ghost use Rattle.page_sets_lines.specs.laws.Events.{event_view, given_view, step_view};
+ghost use Rattle.page_sets_lines.specs.laws.Views.{GivenFits, IsShort};
+ghost use Rattle.page_sets_lines.specs.Lines.{event_at, generated_word};
 ghost use Rattle.page_sets_lines.specs.declared.events.EventKind.TheVariants as kinds;
 ghost use Rattle.page_sets_lines.specs.declared.openers.LineOpener.TheVariants as lines;
 ghost use Rattle.page_sets_names.specs.declared.generated_texts.GeneratedText.TheVariants.{Apostrophe};
 ghost use Rattle.page_sets_lines.specs.declared.events.Join.TheVariants.{Glued};
 ghost use Rattle.page_sets_mdoc_lines.specs.machine.Cursors.{IsCursorOf};
-ghost use Rattle.page_sets_mdoc_lines.specs.Words.{AreIn, AreKnown, IsFirstKnown, words_view};
+ghost use Rattle.page_sets_mdoc_lines.specs.laws.Views.{AreIn, AreKnown, IsFirstKnown, words_view};
 ghost use Rattle.page_sets_mdoc_words.specs.Inlines as inlines;
-ghost use Rattle.page_sets_mdoc_words.specs.Printed.{printed, step_event};
-ghost use Rattle.page_sets_mdoc_words.specs.Synopses as synopses;
+ghost use Rattle.page_sets_mdoc_words.specs.Inlines.{printed, step_event};
+ghost use Rattle.page_sets_mdoc_words.specs.Sentences as synopses;
 
 use crate::enclosures::{give_closed, give_opened};
 use crate::flags::give_flags;

@@ -2,10 +2,10 @@
 
 ghost use Rattle.std.specs.Prelude.{◌≡◌, ◌≤◌, ◌&&◌, length, if◌then◌else◌};
 ghost use Rattle.page_sets_names.specs.declared.generated_texts.GeneratedText.TheVariants.{Flag, JoinedFlag};
-ghost use Rattle.page_core_base.specs.Latches.{Came};
-ghost use Rattle.page_sets_lines.specs.Events.{event_view};
+ghost use Rattle.page_core_base.specs.laws.Views.{Came};
+ghost use Rattle.page_sets_lines.specs.laws.Events.{event_view};
 ghost use Rattle.page_sets_mdoc_lines.specs.machine.Cursors.{IsCursorOf};
-ghost use Rattle.page_sets_mdoc_lines.specs.Words.{words_view};
+ghost use Rattle.page_sets_mdoc_lines.specs.laws.Views.{words_view};
 ghost use Rattle.page_sets_mdoc_words.specs.Inlines as inlines;
 ghost use Rattle.page_sets_mdoc_words.specs.machine.Lone.{lone_event};
 

@@ -1,13 +1,13 @@
 //! Words as they are printed, and macros that lack one (mdoc(7), "MACRO SYNTAX").
 
 ghost use Rattle.std.specs.Prelude.{◌≤◌, ◌∷◌, length};
-ghost use Rattle.page_core_base.specs.Latches.{Came};
-ghost use Rattle.page_roff_syntax.specs.Arguments.{argument_view};
-ghost use Rattle.page_sets_lines.specs.Fits.{ArgumentFits};
+ghost use Rattle.page_core_base.specs.laws.Views.{Came};
+ghost use Rattle.page_roff_syntax.specs.laws.Views.{argument_view};
+ghost use Rattle.page_sets_lines.specs.laws.Views.{ArgumentFits};
 ghost use Rattle.page_sets_mdoc_lines.specs.machine.Cursors.{IsCursorOf};
-ghost use Rattle.page_sets_mdoc_lines.specs.Words.{IsFirstKnown, words_view};
+ghost use Rattle.page_sets_mdoc_lines.specs.laws.Views.{IsFirstKnown, words_view};
 ghost use Rattle.page_sets_mdoc_words.specs.Inlines.{refused};
-ghost use Rattle.page_sets_mdoc_words.specs.Printed as printed;
+ghost use Rattle.page_sets_mdoc_words.specs.Inlines as printed;
 
 use crate::printed::printed_word;
 use page_core_base::{Font, LINE, NoteKind, Place};

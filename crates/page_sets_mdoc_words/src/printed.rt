@@ -1,11 +1,11 @@
 //! Words and delimiters as they are printed (mdoc(7), "MACRO SYNTAX" and "Delimiters").
 
 ghost use Rattle.std.specs.Prelude.{◌≡◌};
-ghost use Rattle.page_roff_syntax.specs.Arguments.{argument_view};
-ghost use Rattle.page_sets_lines.specs.Events.{event_view, step_view};
-ghost use Rattle.page_sets_lines.specs.Fits.{ArgumentFits, IsShort};
-ghost use Rattle.page_sets_lines.specs.PlainLines.{event_at};
-ghost use Rattle.page_sets_mdoc_words.specs.Printed as printed;
+ghost use Rattle.page_roff_syntax.specs.laws.Views.{argument_view};
+ghost use Rattle.page_sets_lines.specs.laws.Events.{event_view, step_view};
+ghost use Rattle.page_sets_lines.specs.laws.Views.{ArgumentFits, IsShort};
+ghost use Rattle.page_sets_lines.specs.Lines.{event_at};
+ghost use Rattle.page_sets_mdoc_words.specs.Inlines as printed;
 
 use page_core_base::{Font, Place};
 use page_roff_syntax::Argument;
@@ -50,7 +50,7 @@ pub fn step_event<'a>(place: Place, step: LineStep<&'a [u8]>) -> Event<&'a [u8]>
 }
 
 /// Whether a word is an opening delimiter.
-#[tactic(auto, unfolding(crate::specs::Printed::is_opening))]
+#[tactic(auto, unfolding(crate::specs::Inlines::is_opening))]
 pub fn is_opening(word: Argument<&[u8]>) -> bool
     ensures { result ≡ printed.is_opening (argument_view word.entry) }
 {

@@ -1,9 +1,9 @@
 //! `Xr`: another manual (mdoc(7), "Xr").
 
 ghost use Rattle.std.specs.Prelude.{◌≤◌, length};
-ghost use Rattle.page_core_base.specs.Latches.{Came};
+ghost use Rattle.page_core_base.specs.laws.Views.{Came};
 ghost use Rattle.page_sets_mdoc_lines.specs.machine.Cursors.{IsCursorOf};
-ghost use Rattle.page_sets_mdoc_lines.specs.Words.{words_view};
+ghost use Rattle.page_sets_mdoc_lines.specs.laws.Views.{words_view};
 ghost use Rattle.page_sets_mdoc_words.specs.Inlines as inlines;
 
 use crate::plain::give_printed;

@@ -2,12 +2,12 @@
 
 ghost use Rattle.std.specs.Prelude.{◌≡◌, ◌≤◌, [], ◌∷◌, false, length, if◌then◌else◌};
 ghost use Rattle.page_sets_lines.specs.declared.line_steps.LineStep.TheVariants.{ManualName};
-ghost use Rattle.page_core_base.specs.Latches.{Came};
-ghost use Rattle.page_roff_syntax.specs.Arguments.{argument_view};
-ghost use Rattle.page_sets_lines.specs.Events.{event_view};
+ghost use Rattle.page_core_base.specs.laws.Views.{Came};
+ghost use Rattle.page_roff_syntax.specs.laws.Views.{argument_view};
+ghost use Rattle.page_sets_lines.specs.laws.Events.{event_view};
 ghost use Rattle.page_sets_mdoc_lines.specs.machine.Cursors.{IsCursorOf};
-ghost use Rattle.page_sets_mdoc_lines.specs.Words.{words_view};
-ghost use Rattle.page_sets_mdoc_words.specs.Printed.{step_event};
+ghost use Rattle.page_sets_mdoc_lines.specs.laws.Views.{words_view};
+ghost use Rattle.page_sets_mdoc_words.specs.Inlines.{step_event};
 ghost use Rattle.page_sets_mdoc_words.specs.Sentences as sentences;
 
 use crate::printed::step_event;

@@ -2,7 +2,7 @@
 //! "Vt").
 
 ghost use Rattle.std.specs.Prelude.{◌≡◌};
-ghost use Rattle.page_sets_mdoc_words.specs.Synopses as synopses;
+ghost use Rattle.page_sets_mdoc_words.specs.Sentences as synopses;
 
 use page_sets_lines::SynopsisStep;
 use page_sets_mdoc_lines::{Inline, Pair};

@@ -1,10 +1,10 @@
 //! Systems and their versions (mdoc(7), "Bsx", "Bx", "Dx", "Fx", "Nx", "Ox" and "Ux").
 
 ghost use Rattle.std.specs.Prelude.{◌≡◌, ◌≤◌, None, length};
-ghost use Rattle.page_core_base.specs.Latches.{Came};
-ghost use Rattle.page_sets_lines.specs.Events.{event_view};
+ghost use Rattle.page_core_base.specs.laws.Views.{Came};
+ghost use Rattle.page_sets_lines.specs.laws.Events.{event_view};
 ghost use Rattle.page_sets_mdoc_lines.specs.machine.Cursors.{IsCursorOf};
-ghost use Rattle.page_sets_mdoc_lines.specs.Words.{words_view};
+ghost use Rattle.page_sets_mdoc_lines.specs.laws.Views.{words_view};
 ghost use Rattle.page_sets_mdoc_words.specs.Inlines as inlines;
 
 use crate::plain::give_printed;

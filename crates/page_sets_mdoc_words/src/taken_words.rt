@@ -2,13 +2,13 @@
 
 ghost use Rattle.std.specs.Prelude.{◌≡◌, ◌≤◌, length, false};
 ghost use Rattle.std.specs.List.{list_any};
-ghost use Rattle.page_core_base.specs.Latches.{Came};
-ghost use Rattle.page_roff_syntax.specs.Arguments.{argument_view};
-ghost use Rattle.page_sets_lines.specs.Events.{given_view};
-ghost use Rattle.page_sets_lines.specs.Fits.{GivenFits};
+ghost use Rattle.page_core_base.specs.laws.Views.{Came};
+ghost use Rattle.page_roff_syntax.specs.laws.Views.{argument_view};
+ghost use Rattle.page_sets_lines.specs.laws.Events.{given_view};
+ghost use Rattle.page_sets_lines.specs.laws.Views.{GivenFits};
 ghost use Rattle.page_sets_mdoc_lines.specs.machine.Cursors.{IsCursorOf};
-ghost use Rattle.page_sets_mdoc_lines.specs.LineWords.{is_real};
-ghost use Rattle.page_sets_mdoc_lines.specs.Words.{words_view};
+ghost use Rattle.page_sets_mdoc_lines.specs.Parts.{is_real};
+ghost use Rattle.page_sets_mdoc_lines.specs.laws.Views.{words_view};
 ghost use Rattle.page_sets_mdoc_words.specs.Inlines as inlines;
 
 use crate::plain::{MacroName, give_printed, give_refused};

@@ -1,3 +1,2 @@
-pub mod GeneratedTexts
 pub mod Marks
-pub mod MacroNames
+pub mod Names

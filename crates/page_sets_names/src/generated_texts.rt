@@ -1,7 +1,7 @@
 //! Texts that macros print themselves (mdoc(7), "MACRO REFERENCE"; man(7)).
 
 ghost use Rattle.std.specs.Prelude.{◌≡◌};
-ghost use Rattle.page_sets_names.specs.GeneratedTexts as texts;
+ghost use Rattle.page_sets_names.specs.Names as texts;
 
 /// A text that a macro prints itself.
 #[derive(Clone, Copy, PartialEq, Eq)]

@@ -1,7 +1,7 @@
 //! Macros that messages and headings know by name (man(7), mdoc(7)).
 
 ghost use Rattle.std.specs.Prelude.{◌≡◌};
-ghost use Rattle.page_sets_names.specs.MacroNames as names;
+ghost use Rattle.page_sets_names.specs.Names as names;
 
 /// A paragraph.
 #[derive(Clone, Copy, PartialEq, Eq)]

@@ -96,7 +96,7 @@ impl NoteSink for Sheet {
 }
 
 impl PieceSink for Sheet {
-    ghost use Rattle.page_core_base.specs.Fails.{IsPieceFault};
+    ghost use Rattle.page_core_base.specs.laws.Views.{IsPieceFault};
 
     ghost took = { λ _ _ _. Unit {0} };
 

@@ -2,7 +2,7 @@
 
 ghost use Rattle.std.specs.Prelude.{◌≡◌};
 ghost use Rattle.std.specs.List.{list_all};
-ghost use Rattle.page_core_base.specs.Rows.{is_ascii};
+ghost use Rattle.page_core_base.specs.laws.Views.{is_ascii};
 
 use crate::notation::repeated;
 use std::alloc::{AllocError, Global};

@@ -60,7 +60,7 @@ impl<N: Notation> NoteSink for ShownBy<N> {
 }
 
 impl<N: Notation> PieceSink for ShownBy<N> {
-    ghost use Rattle.page_core_base.specs.Fails.{IsPieceFault};
+    ghost use Rattle.page_core_base.specs.laws.Views.{IsPieceFault};
 
     ghost took = { λ _ _ _. Unit {0} };
 

@@ -2,7 +2,7 @@
 
 ghost use Rattle.std.specs.Prelude.{◌≡◌};
 ghost use Rattle.std.specs.Bool.{MatchBool};
-ghost use Rattle.page_core_base.specs.Fails.{Rose};
+ghost use Rattle.page_core_base.specs.Messages.{Rose};
 
 use page_core_base::{Cell, Fault, Note, NoteKind, NoteSink, RowSink};
 

@@ -6,8 +6,7 @@ use Rattle.page_core_base.specs.declared.page_settings.Settings.{Settings}
 use Rattle.page_core_base.specs.declared.page_settings.Output.TheVariants.{Ascii}
 use Rattle.page_core_base.specs.declared.page_settings.Language.TheVariants as languages
 use Rattle.page_core_base.specs.declared.page_settings.Encoding.TheVariants as encodings
-use Rattle.page_core_streams.specs.RowBytes.{row_bytes}
-use Rattle.page_core_streams.specs.MessageBytes.{message_bytes}
+use Rattle.page_core_streams.specs.Streams.{row_bytes, message_bytes}
 use Rattle.page_engine.specs.Runs.{whole_page}
 
 -- a run without options but `-W base`

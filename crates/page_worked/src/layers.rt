@@ -1,18 +1,16 @@
 //! Single layers, from the bytes of lines to rows: worked examples, by hand.
 
 ghost use Rattle.std.specs.Prelude.{◌≡◌, List, ℕ, [], ◌∷◌, codes, map, replicate, true, false, pos};
-ghost use Rattle.page_core_base.specs.Laid.{seq};
-ghost use Rattle.page_core_base.specs.Rows.{LaidRow};
-ghost use Rattle.page_core_base.specs.Words.{word_items};
+ghost use Rattle.page_core_base.specs.Rows.{seq, LaidRow};
+ghost use Rattle.page_core_base.specs.laws.Views.{word_items};
 ghost use Rattle.page_core_base.specs.declared.cells.Cell.{Cell};
 ghost use Rattle.page_core_base.specs.declared.cells.Font.TheVariants as fonts;
 ghost use Rattle.page_core_base.specs.declared.page_settings.Encoding.TheVariants as encodings;
-ghost use Rattle.page_core_escapes.specs.Escapes.{escape_of};
-ghost use Rattle.page_core_escapes.specs.Meanings.{face, bold};
+ghost use Rattle.page_core_escapes.specs.Meanings.{escape_of, face, bold};
 ghost use Rattle.page_core_numbers.specs.Expressions.{expression_of};
 ghost use Rattle.page_core_numbers.specs.declared.scales.Scale.TheVariants.{Basic};
 ghost use Rattle.page_engine_index.specs.Matches.{is_match, has_match};
-ghost use Rattle.page_fill.specs.Edges.{start};
+ghost use Rattle.page_fill.specs.Words.{start};
 ghost use Rattle.page_fill.specs.Filling.{filled, row_end};
 ghost use Rattle.page_roff_blocks.specs.Forest.{source_of, ends, empty, line, leaf, block};
 ghost use Rattle.page_roff_blocks.specs.declared.line_parts.Branch.TheVariants.{If};

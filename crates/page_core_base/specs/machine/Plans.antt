@@ -1,9 +1,8 @@
 -- What a latch over a sink knows of a plan: a machine of proofs, which no public clause cites. Trust needs no reading of it.
 use Rattle.std.specs.Prelude.{◌≡◌, ℕ, List, Option, MatchOption}
 use Rattle.std.specs.Borrow.{GName}
-use Rattle.page_core_base.specs.Fails.{Rose}
-use Rattle.page_core_base.specs.Messages.{Message}
-use Rattle.page_core_base.specs.Sinks.{UpTo}
+use Rattle.page_core_base.specs.Messages.{Rose, Message}
+use Rattle.page_core_base.specs.laws.Views.{UpTo}
 use Rattle.page_core_base.specs.declared.faults.Fault.{Fault}
 use Rattle.page_core_base.specs.declared.faults.Fault.TheVariants.{WriteNotes}
 

@@ -1,6 +1,6 @@
 use Rattle.std.proofs.Common.{sym, subst, arith}
 use Rattle.std.specs.Str.{IsCharBoundary}
-use Rattle.page_core_escapes.specs.Escapes.{HasTexts}
+use Rattle.page_core_escapes.specs.laws.Views.{HasTexts}
 use Rattle.page_core_escapes.proofs.EscapeTexts.{escape_cuts, escape_has_texts}
 use Rattle.page_core_escapes.proofs.escape.Goals as goal
 

@@ -1,5 +1,5 @@
 use Rattle.std.proofs.Common.{◌∙◌, sym, ap}
-use Rattle.page_core_escapes.specs.Escapes.{read_escape, escape_of}
+use Rattle.page_core_escapes.specs.Meanings.{read_escape, escape_of}
 use Rattle.page_core_escapes.proofs.Contents.{escape_len-some}
 use Rattle.page_core_escapes.proofs.read_escape.Goals as goal
 

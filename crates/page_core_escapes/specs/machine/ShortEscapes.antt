@@ -1,8 +1,7 @@
 -- Escapes that are known by few bytes, as `\fB`. Source: roff(7), "Escape sequences".
 use Rattle.std.specs.Prelude.{ℕ, ◌≡◌, ◌<◌, ◌≤◌, Bool, slice_index, List, length}
-use Rattle.page_core_escapes.specs.Bytes.{backslash}
-use Rattle.page_core_escapes.specs.Escapes.{escape_of}
-use Rattle.page_core_escapes.specs.Meanings.{Face, Meaning, face}
+use Rattle.page_core_escapes.specs.Lengths.{backslash}
+use Rattle.page_core_escapes.specs.Meanings.{escape_of, Face, Meaning, face}
 
 -- a few bytes at a text's front are an escape, whether a pair of quotes is one character or not
 pub record ShortEscape (text : List ℕ) (meaning : Meaning) (len : ℕ) : Type 0 where

@@ -6,8 +6,7 @@ use Rattle.page_core_escapes.specs.declared.extents.Extent.{Extent}
 use Rattle.page_core_escapes.specs.declared.extents.Extent.TheVariants.{Whole, QuotedFrom}
 use Rattle.page_core_escapes.specs.declared.quoted.Step.{Step}
 use Rattle.page_core_escapes.specs.declared.quoted.Step.TheVariants.{Passes, Opens, Closes}
-use Rattle.page_core_escapes.specs.Bytes.{backslash}
-use Rattle.page_core_escapes.specs.Extents.{written_len, extent_of, name_len}
+use Rattle.page_core_escapes.specs.Lengths.{backslash, written_len, extent_of, name_len}
 use Rattle.page_core_escapes.specs.Meanings.{Face, bare_name, face_of}
 
 -- a byte begins neither an escape nor a delimiter, of which this is the first byte

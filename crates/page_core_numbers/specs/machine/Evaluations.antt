@@ -1,7 +1,8 @@
 -- What is reported of an expression that was evaluated: mandoc(1), "DIAGNOSTICS".
 use Rattle.std.specs.Prelude.{◌≡◌, List, [], ◌∷◌, ◌++◌, replicate, Option, Some, None, MatchOption}
 use Rattle.page_core_base.specs.declared.notes.Note.{Note}
-use Rattle.page_core_base.specs.Messages.{Message, message_of}
+use Rattle.page_core_base.specs.Messages.{Message}
+use Rattle.page_core_base.specs.laws.Views.{message_of}
 use Rattle.page_core_numbers.specs.declared.troubles.Trouble.{Trouble}
 use Rattle.page_core_numbers.specs.declared.troubles.Trouble.TheVariants.{DivZero}
 use Rattle.page_core_numbers.specs.declared.troubles.Troubles.{Troubles}

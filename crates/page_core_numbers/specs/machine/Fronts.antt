@@ -2,8 +2,7 @@
 use Rattle.std.specs.Prelude.{ℕ, ◌≡◌, ◌+◌, ◌*◌, ◌<◌, ◌≤◌, false, List, length, drop, codes}
 use Rattle.std.specs.Str.{IsCharBoundary}
 use Rattle.page_core_base.specs.declared.page_settings.Output.{Output}
-use Rattle.page_core_escapes.specs.Escapes.{escape_of}
-use Rattle.page_core_escapes.specs.Meanings.{glyph}
+use Rattle.page_core_escapes.specs.Meanings.{escape_of, glyph}
 use Rattle.page_core_numbers.specs.Columns.{characters_columns, printed_escape, printed_within, columns_of}
 
 -- `sum` columns of a text have come, and with steps enough those that are left are the ones of `rest`

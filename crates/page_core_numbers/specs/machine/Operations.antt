@@ -1,6 +1,6 @@
 -- Of the code's own steps, which no public clause cites: an expression that was read up to an operation, and parentheses around it.
 use Rattle.std.specs.Prelude.{ℕ, ◌≡◌, ◌<◌, ◌==◌, ◌||◌, Bool, List, length, fold, Option, ℤ}
-use Rattle.page_core_escapes.specs.Bytes.{parenthesis}
+use Rattle.page_core_escapes.specs.Lengths.{parenthesis}
 use Rattle.page_core_numbers.specs.declared.operators.Operator.{Operator}
 use Rattle.page_core_numbers.specs.Expressions.{Read, after_operation, next_operator, operations_at}
 

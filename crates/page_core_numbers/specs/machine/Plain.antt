@@ -1,7 +1,7 @@
 -- Bytes of a finished text that are known to be a column each (roff(7), "Escape sequences").
 use Rattle.std.specs.Prelude.{ℕ, Bool, not, ◌&&◌, ◌==◌, nat_le, List}
 use Rattle.std.specs.List.{list_all}
-use Rattle.page_core_escapes.specs.Bytes.{backslash}
+use Rattle.page_core_escapes.specs.Lengths.{backslash}
 
 -- printable ASCII, and no backslash
 abbrev pub is_plain : ℕ → Bool

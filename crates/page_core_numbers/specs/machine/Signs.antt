@@ -1,9 +1,8 @@
 -- Of the code's own steps, which no public clause cites: what is before an operand, signs and a parenthesis that opens.
 use Rattle.std.specs.Prelude.{ℕ, zero, suc, ◌==◌, List, [], ◌∷◌, if◌then◌else◌, Option, None, Some, ℤ, neg_ℤ}
-use Rattle.page_core_escapes.specs.Bytes.{plus, minus, parenthesis}
+use Rattle.page_core_escapes.specs.Lengths.{plus, minus, parenthesis}
 use Rattle.page_core_numbers.specs.declared.scales.Scale.{Scale}
-use Rattle.page_core_numbers.specs.Numbers.{in_range}
-use Rattle.page_core_numbers.specs.Expressions.{Read, negated_operand, expression_within}
+use Rattle.page_core_numbers.specs.Expressions.{in_range, Read, negated_operand, expression_within}
 
 -- how often the signs at a text's front negate, and what follows them
 abbrev pub minus_count : List ℕ → ℕ

@@ -1,5 +1,5 @@
 use Rattle.std.proofs.Common.{Some, None, option_map, sym, ap, ◌∙◌}
-use Rattle.page_core_tables.specs.Glyphs.{entries, symbol_of}
+use Rattle.page_core_tables.specs.laws.Views.{entries, symbol_of}
 use Rattle.page_core_tables.proofs.Tables.{first_spelling-row}
 use Rattle.page_core_tables.proofs.listed_spelling.Goals as goal
 

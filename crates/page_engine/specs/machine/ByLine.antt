@@ -2,15 +2,16 @@
 -- so trust in a page does not need this file.
 use Rattle.std.specs.Prelude.{ℕ, Some, List, [], ◌∷◌}
 use Rattle.page_core_base.specs.Messages.{Message}
-use Rattle.page_core_base.specs.Laid.{Laid, nothing, seq}
+use Rattle.page_core_base.specs.Rows.{Laid, nothing, seq}
 use Rattle.page_engine_lines.specs.Edges.{footer_items}
 use Rattle.page_engine_lines.specs.machine.Lines.{source_items, source_after, end_items}
 use Rattle.page_fill.specs.machine.ByPiece.{laid_items}
 use Rattle.page_fill.specs.Filling.{row_end}
-use Rattle.page_fill.specs.Edges as fill
+use Rattle.page_fill.specs.laws.Views as fill
 use Rattle.page_fill.specs.declared.edges.Edge.{Edge as FillEdge}
 use Rattle.page_roff_lines.specs.Lines.{Line}
-use Rattle.page_engine.specs.Page.{Edge, last_line, lines_at, moved, of_page}
+use Rattle.page_engine.specs.Edges.{Edge, last_line, lines_at, moved}
+use Rattle.page_engine.specs.Page.{of_page}
 
 -- ---- lines
 

@@ -1,7 +1,8 @@
 -- What is held of a page in an object of its own, as the code has it. Trust needs no reading of it.
 use Rattle.std.specs.Prelude.{◌≡◌}
 use Rattle.page_engine.specs.declared.edges.Edge.TheInside.{Inside}
-use Rattle.page_engine.specs.Edges.{Edge, IsReached, lines_at, roff_part, body_part}
+use Rattle.page_engine.specs.Edges.{Edge, lines_at, roff_part, body_part}
+use Rattle.page_engine.specs.laws.Views.{IsReached}
 
 abbrev pub edge_of : Inside → Edge
 edge_of p = record {

@@ -1,11 +1,12 @@
 -- The layers of a page, and the edge that they are at: steps of the code, of which trust needs no reading.
 use Rattle.std.specs.Prelude.{◌≡◌, Option, None, Some}
-use Rattle.page_roff_source.specs.Edges.{counts_of}
+use Rattle.page_roff_source.specs.Runs.{counts_of}
 use Rattle.page_roff_source.specs.declared.counts.Counts.{Counts}
 use Rattle.page_engine.specs.declared.layers.Layers.{Layers}
 use Rattle.page_engine.specs.declared.pages.Phase.{Phase}
 use Rattle.page_engine.specs.declared.pages.Phase.TheVariants.{Open, Failed, Ended}
-use Rattle.page_engine.specs.Edges.{Edge, IsReached, lines_at, roff_part, body_part}
+use Rattle.page_engine.specs.Edges.{Edge, lines_at, roff_part, body_part}
+use Rattle.page_engine.specs.laws.Views.{IsReached}
 use Rattle.page_fill.specs.declared.edges.Edge.{Edge as FillEdge}
 
 -- the layers are at an edge

@@ -2,14 +2,11 @@
 use Rattle.std.specs.Prelude.{◌≡◌, ℕ, List, Option, Some, Result, MatchResult, refl}
 use Rattle.std.proofs.Common.{◌∙◌}
 use Rattle.std.proofs.lemmas.List.{map-append}
-use Rattle.page_core_base.specs.Messages.{Message}
-use Rattle.page_core_base.specs.Rows.{LaidRow}
+use Rattle.page_core_base.specs.Messages.{Message, IsSinkFault, Rose}
+use Rattle.page_core_base.specs.Rows.{LaidRow, Laid, Gave, Item, noted}
 use Rattle.page_core_base.specs.declared.faults.Fault.{Fault}
 use Rattle.page_core_base.specs.declared.faults.Fault.TheVariants.{Failed, WriteNotes}
-use Rattle.page_core_base.specs.Sinks.{IsSink}
-use Rattle.page_core_base.specs.Fails.{IsPieceFault, IsSinkFault, Rose}
-use Rattle.page_core_base.specs.Laid.{Laid, Gave}
-use Rattle.page_core_base.specs.Pieces.{Item, all_noted, noted}
+use Rattle.page_core_base.specs.laws.Views.{IsSink, IsPieceFault, all_noted}
 use Rattle.page_fill.specs.declared.edges.Edge.{Edge as FillEdge}
 use Rattle.page_fill.specs.machine.ByPiece.{laid_items, laid_items-append}
 

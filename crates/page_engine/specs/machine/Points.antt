@@ -1,12 +1,13 @@
 -- What bytes settle from a point of a page on, as a run reads them: a machine of proofs, which no public clause cites. From the first point it is what
 -- `specs/Runs.antt` says of the bytes alone.
 use Rattle.std.specs.Prelude.{◌≡◌, ◌≤◌, ◌^◌, ℕ, List, [], ◌++◌, ◌⊎◌, length}
-use Rattle.page_core_base.specs.Fails.{IsSinkFault}
+use Rattle.page_core_base.specs.Messages.{IsSinkFault}
 use Rattle.page_core_base.specs.declared.faults.Fault.{Fault}
-use Rattle.page_core_base.specs.Laid.{Laid}
-use Rattle.page_roff_lines.specs.Cutting.{Point, point_after, lines_within, last_line, lines_from}
-use Rattle.page_engine.specs.Page.{Edge, settled, page}
-use Rattle.page_engine.specs.Streams.{Streams, Sinks, AllCame, FrontCame}
+use Rattle.page_core_base.specs.Rows.{Laid}
+use Rattle.page_roff_lines.specs.laws.Cutting.{Point, point_after, lines_within, last_line, lines_from}
+use Rattle.page_engine.specs.Edges.{Edge}
+use Rattle.page_engine.specs.Page.{settled, page}
+use Rattle.page_engine.specs.Runs.{Streams, Sinks, AllCame, FrontCame}
 
 -- from an edge and a point between two bytes: the page of the bytes to come, and what their lines settle
 abbrev pub page_from : Edge → Point → List ℕ → Laid Edge

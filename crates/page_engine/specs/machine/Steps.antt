@@ -1,17 +1,19 @@
 -- The steps of a run, as the code takes them: a machine of proofs, which no public clause cites.
 use Rattle.std.specs.Prelude.{◌≡◌, ◌<◌, ◌≤◌, ℕ, ◌+◌, ◌-◌, ◌^◌, false, List, [], ◌++◌, Result, MatchResult, length, take}
 use Rattle.std.specs.Io.KnownBytes.{IsAtEnd}
-use Rattle.page_core_base.specs.Fails.{Rose}
-use Rattle.page_core_base.specs.Laid.{Laid, nothing}
+use Rattle.page_core_base.specs.Messages.{Rose}
+use Rattle.page_core_base.specs.Rows.{Laid, nothing}
 use Rattle.page_core_base.specs.declared.faults.Fault.{Fault}
 use Rattle.page_core_base.specs.declared.faults.Fault.TheVariants.{Memory, Read, WriteText, WriteNotes, TooLong, Settings, Failed, Ended, BadIndex}
 use Rattle.page_core_base.specs.declared.page_settings.Settings.{Settings as PageSettings}
-use Rattle.page_roff_lines.specs.Cutting.{Point, first_point, point_after, lines_within, last_line, lines_from}
+use Rattle.page_roff_lines.specs.laws.Cutting.{Point, first_point, point_after, lines_within, last_line, lines_from}
 use Rattle.page_engine.specs.declared.runs.Run.{Run}
-use Rattle.page_engine.specs.States.{PageState, IsOpenAt}
-use Rattle.page_engine.specs.Page.{Edge, counts_at, settled, page, start}
-use Rattle.page_core_streams.specs.Sources.{SourceState, HasGiven, IsLean, IsTooLong}
-use Rattle.page_engine.specs.Streams.{Sinks, AllCame, Came, Front}
+use Rattle.page_engine.specs.laws.States.{PageState, IsOpenAt}
+use Rattle.page_engine.specs.Edges.{Edge, start}
+use Rattle.page_engine.specs.laws.Views.{counts_at, Came, Front}
+use Rattle.page_engine.specs.Page.{settled, page}
+use Rattle.page_core_streams.specs.Streams.{SourceState, HasGiven, IsLean, IsTooLong}
+use Rattle.page_engine.specs.Runs.{Sinks, AllCame}
 use Rattle.page_engine.specs.machine.Points.{page_from, settled_from, BrokenFrom}
 
 -- ---- bytes that are taken

@@ -1,7 +1,7 @@
 -- What a latch that ends full rows knows of a plan: a machine of proofs, which no public clause cites.
 use Rattle.std.specs.Prelude.{◌≡◌, ℕ, List, ◌++◌}
 use Rattle.std.specs.Borrow.{GName}
-use Rattle.page_core_base.specs.Pieces.{Item}
+use Rattle.page_core_base.specs.Rows.{Item}
 use Rattle.page_engine_header.specs.Header.{in_rows}
 
 -- what a latch that is lent plans, and what follows the characters there

@@ -1,7 +1,7 @@
 -- The steps of a run, as the code takes them: a machine of proofs, which no public clause cites.
 use Rattle.std.specs.Prelude.{◌≡◌, ◌<◌, ◌≤◌, ℕ, ◌+◌, List, [], ◌∷◌, ◌++◌, if◌then◌else◌, Option, None, Some, option_map, Result, MatchResult, length, take}
 use Rattle.std.specs.Borrow.{Bor}
-use Rattle.page_core_base.specs.Fails.{Rose}
+use Rattle.page_core_base.specs.Messages.{Rose}
 use Rattle.page_core_base.specs.declared.faults.Fault.{Fault}
 use Rattle.page_core_base.specs.declared.faults.Fault.TheVariants.{WriteText, BadIndex}
 use Rattle.page_core_base.specs.Limits.{LINE}

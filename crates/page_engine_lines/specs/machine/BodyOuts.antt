@@ -1,8 +1,9 @@
 -- What a body that takes events knows of a plan: a machine of proofs, which no public clause cites.
 use Rattle.std.specs.Prelude.{◌≡◌, ℕ, List, ◌++◌, Option, MatchOption}
 use Rattle.std.specs.Borrow.{GName}
-use Rattle.page_core_base.specs.Pieces.{Item}
-use Rattle.page_engine_lines.specs.Bodies.{BodyEdge, events_items, events_after}
+use Rattle.page_core_base.specs.Rows.{Item}
+use Rattle.page_engine_lines.specs.Bodies.{BodyEdge}
+use Rattle.page_engine_lines.specs.laws.Views.{events_items, events_after}
 use Rattle.page_sets_lines.specs.declared.events.Event.{Event}
 
 -- what the latch below plans, if something is planned there, what is to come there after the events, and the edge at which they leave the body

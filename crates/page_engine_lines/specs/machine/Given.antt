@@ -1,11 +1,12 @@
 -- A machine: what roff gives of one source line, as pieces and messages, as the code takes it. That all lines together give their block tree is the
 -- law `tree_law`, and trust needs no reading of this. Source: mandoc(1), "DIAGNOSTICS".
 use Rattle.std.specs.Prelude.{ℕ, List, [], ◌∷◌, ◌++◌}
-use Rattle.page_core_base.specs.Pieces.{Item, noted}
+use Rattle.page_core_base.specs.Rows.{Item, noted}
 use Rattle.page_roff_effects.specs.States.{Given, says, takes}
-use Rattle.page_core_base.specs.LinesTaken.{Line}
-use Rattle.page_engine_lines.specs.Bodies.{BodyEdge, decided, events_after, events_items}
-use Rattle.page_sets.specs.Either.{either_events}
+use Rattle.page_core_base.specs.Texts.{Line}
+use Rattle.page_engine_lines.specs.Bodies.{BodyEdge}
+use Rattle.page_engine_lines.specs.laws.Views.{decided, events_after, events_items}
+use Rattle.page_sets.specs.Mdoc.{either_events}
 use Rattle.page_sets_lines.specs.declared.events.Event.{Event}
 
 -- what the macros of a body's set make of a line

@@ -3,18 +3,18 @@
 use Rattle.std.specs.Prelude.{ℕ, Bool, false, List, [], ◌∷◌, ◌++◌, map, if◌then◌else◌}
 use Rattle.std.specs.List.{flat_map}
 use Rattle.page_core_base.specs.Messages.{Message}
-use Rattle.page_core_base.specs.Pieces.{Item, noted}
+use Rattle.page_core_base.specs.Rows.{Item, noted}
 use Rattle.page_core_base.specs.declared.note_kinds.NoteKind.TheVariants.{NoBody}
 use Rattle.page_core_base.specs.declared.places.Place.{Place}
 use Rattle.page_scopes.specs.Bodies.{begins}
-use Rattle.page_scopes.specs.Tables.{layout_tables}
+use Rattle.page_scopes.specs.laws.Views.{layout_tables}
 use Rattle.page_scopes.specs.declared.layouts.Kept.{Kept}
 use Rattle.page_scopes.specs.declared.layouts.LayoutState.{LayoutState}
 use Rattle.page_scopes_tree.specs.machine.Asides.{With, act, aside, with_asides, Beside, Sides, layout_with, beside}
-use Rattle.page_scopes_tree.specs.OpenScopes.{Edge}
+use Rattle.page_scopes_tree.specs.Ends.{Edge}
 use Rattle.page_scopes_tree.specs.machine.Layouts.{Layout, settled, edge}
 use Rattle.page_scopes_tree.specs.machine.Nestings.{Nesting}
-use Rattle.page_scopes_tree.specs.Acts.{Step, comes, does, steps_of}
+use Rattle.page_scopes_tree.specs.laws.Views.{Step, comes, does, steps_of}
 use Rattle.page_scopes_tree.specs.machine.Frames.{framed}
 use Rattle.page_scopes_tree.specs.machine.Nests.{Fact, coming, scopes_nesting}
 use Rattle.page_scopes_tree.specs.declared.acts.Act.TheVariants as acts
@@ -25,8 +25,7 @@ use Rattle.page_sets_lines.specs.declared.events.EventKind.TheVariants.{Leaf}
 use Rattle.page_sets_lines.specs.declared.events.Event.{Event}
 use Rattle.page_sets_lines.specs.declared.leaves.Leaf.TheVariants.{Prologue}
 use Rattle.page_sets_names.specs.declared.macro_names.Prologue.{Prologue as PrologueName}
-use Rattle.page_engine_lines.specs.Bodies.{BodyEdge, HeaderEdge}
-use Rattle.page_engine_lines.specs.Titles.{title_items, title_fields}
+use Rattle.page_engine_lines.specs.Bodies.{BodyEdge, HeaderEdge, title_items, title_fields}
 use Rattle.page_engine_lines.specs.Trees.{header_at}
 use Rattle.page_engine_lines.specs.Trees as page
 

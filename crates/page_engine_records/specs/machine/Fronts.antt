@@ -2,9 +2,9 @@
 -- page is what the contracts of a run say, and trust needs no reading of it. Source: mandoc(1), makewhatis.
 use Rattle.std.specs.Prelude.{Bool, ◌&&◌, if◌then◌else◌, List, [], ◌∷◌, Option}
 use Rattle.page_core_base.specs.declared.page_settings.Settings.{Settings}
-use Rattle.page_engine_lines.specs.Bodies.{has_title}
+use Rattle.page_engine_lines.specs.laws.Views.{has_title, ending_items}
 use Rattle.page_engine_index.specs.declared.records.Record.{Record}
-use Rattle.page_engine_lines.specs.Acts.{lines_items, lines_after, ending_items}
+use Rattle.page_engine_lines.specs.Acts.{lines_items, lines_after}
 use Rattle.page_engine_lines.specs.Edges.{LinesEdge, start_of}
 use Rattle.page_roff_lines.specs.Lines.{Line}
 use Rattle.page_engine_records.specs.machine.NameTexts.{has_ended, kept_of, read, reader_at}

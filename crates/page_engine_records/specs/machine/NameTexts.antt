@@ -2,12 +2,12 @@
 -- and trust needs no reading of it. Source: man(7), SH; mdoc(7), Sh; mandoc(1), makewhatis.
 use Rattle.std.specs.Prelude.{ℕ, Bool, true, false, ◌==◌, nat_lt, if◌then◌else◌, List, [], ◌∷◌, ◌++◌, length, take, codes, Option, Some, None}
 use Rattle.std.specs.Str.{bytes_eq}
-use Rattle.page_core_base.specs.Pieces.{Item, shown, noted}
+use Rattle.page_core_base.specs.Rows.{Item, shown, noted}
 use Rattle.page_core_base.specs.declared.page_settings.Output.TheVariants.{Ascii}
 use Rattle.page_core_base.specs.declared.pieces.Piece.{Piece}
 use Rattle.page_core_base.specs.declared.pieces.Piece.TheVariants.{Text, Glyph, Char, Tab, Blank, Glue, Split, Break, RowEnd, Para, Space, Indent, Literal, Tag, TagEnd, Heading, Column}
-use Rattle.page_core_tables.specs.Printed.{char_printed, glyph_printed}
-use Rattle.page_engine_header.specs.Printing.{characters_of, plain_printed}
+use Rattle.page_core_tables.specs.Glyphs.{char_printed, glyph_printed}
+use Rattle.page_engine_header.specs.Header.{characters_of, plain_printed}
 use Rattle.page_engine_records.specs.NameTexts.{TEXT}
 use Rattle.page_engine_records.specs.declared.name_readers.NameReader.{NameReader}
 use Rattle.page_engine_records.specs.declared.name_readers.Side.{Side}

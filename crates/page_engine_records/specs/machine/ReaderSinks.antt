@@ -1,10 +1,9 @@
 -- A reader of pieces is a sink of pieces, which never fails: a machine of proofs, of which trust needs no reading.
 use Rattle.std.specs.Prelude.{◌≡◌, List, [], ◌∷◌, ◌++◌, refl}
 use Rattle.std.proofs.Common.{◌∙◌, sym, ap, arith}
-use Rattle.page_core_base.specs.Fails.{Rose}
-use Rattle.page_core_base.specs.Messages.{Message}
-use Rattle.page_core_base.specs.Pieces.{Item, all_noted, noted, shown}
-use Rattle.page_core_base.specs.Sinks.{IsSink}
+use Rattle.page_core_base.specs.Messages.{Rose, Message}
+use Rattle.page_core_base.specs.Rows.{Item, noted, shown}
+use Rattle.page_core_base.specs.laws.Views.{all_noted, IsSink}
 use Rattle.page_core_base.specs.declared.faults.Fault.{Fault}
 use Rattle.page_engine_records.specs.machine.NameTexts.{read, read_piece}
 use Rattle.page_engine_records.specs.declared.name_readers.NameReader.{NameReader}

@@ -1,12 +1,12 @@
 -- The steps of a run, as the code takes them: a machine of proofs, which no public clause cites.
 use Rattle.std.specs.Prelude.{◌≡◌, ◌<◌, ◌≤◌, ℕ, ◌+◌, ◌-◌, ◌^◌, false, List, [], None, length, take, Result, MatchResult, if◌then◌else◌}
 use Rattle.std.specs.Io.KnownBytes.{IsAtEnd}
-use Rattle.page_core_base.specs.Fails.{Rose}
+use Rattle.page_core_base.specs.Messages.{Rose}
 use Rattle.page_core_base.specs.declared.faults.Fault.{Fault}
 use Rattle.page_core_base.specs.declared.faults.Fault.TheVariants.{Memory, Read, WriteText, WriteNotes, TooLong, Settings, Failed, Ended, BadIndex}
-use Rattle.page_core_streams.specs.Sources.{SourceState, HasGiven, IsLean, IsTooLong}
+use Rattle.page_core_streams.specs.Streams.{SourceState, HasGiven, IsLean, IsTooLong}
 use Rattle.page_engine_lines.specs.machine.Lines.{end_items}
-use Rattle.page_roff_lines.specs.Cutting.{Point, first_point, last_line, lines_from, lines_within, point_after}
+use Rattle.page_roff_lines.specs.laws.Cutting.{Point, first_point, last_line, lines_from, lines_within, point_after}
 use Rattle.page_core_base.specs.declared.page_settings.Settings.{Settings as PageSettings}
 use Rattle.page_engine_records.specs.machine.Fronts.{Front, after_lines, ended, is_settled, start}
 use Rattle.page_engine_records.specs.machine.NameTexts.{read, reader_at}

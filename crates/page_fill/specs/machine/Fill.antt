@@ -7,12 +7,17 @@ use Rattle.page_core_base.specs.declared.cells.Font.{Font}
 use Rattle.page_core_base.specs.declared.pieces.Piece.{Piece}
 use Rattle.page_core_base.specs.declared.pieces.Piece.TheVariants.{Text, Glyph, Char, Tab, Blank, Glue, Split, Break, RowEnd, Para, Space, Indent, Literal, Tag, TagEnd, Heading, Column}
 use Rattle.page_core_base.specs.declared.places.Place.{Place}
-use Rattle.page_core_base.specs.Laid.{Laid, nothing, seq}
-use Rattle.page_fill_rows.specs.machine.Sheets.{Sheet, over, columns, letter, fixed_blanks, new_word, opens, broken, empty_rows}
-use Rattle.page_fill_rows.specs.Characters.{with_notes, cell_of, characters_of, characters, character, glyph}
+use Rattle.page_core_base.specs.Rows.{Laid, nothing, seq}
+use Rattle.page_fill_rows.specs.OpenRows.{Sheet, over, with_notes, characters_of}
+use Rattle.page_fill_cells.specs.Cells.{columns, cell_of}
+use Rattle.page_fill_rows.specs.machine.Sheets.{letter, fixed_blanks, new_word, opens, broken, empty_rows}
+use Rattle.page_fill_rows.specs.laws.Views.{characters, character, glyph}
 use Rattle.page_fill.specs.declared.edges.OpenTag.{OpenTag}
 use Rattle.page_fill.specs.Filling.{HANG_MAX, TAB_STOP}
-pub use Rattle.page_fill.specs.Edges.{Edge, OpenWord, no_word, begun_word, with_tag, tab_notes, start, blank_rows_at_end, open_cells}
+pub use Rattle.page_fill.specs.declared.edges.Edge.{Edge}
+pub use Rattle.page_fill.specs.declared.edges.OpenWord.{OpenWord}
+pub use Rattle.page_fill.specs.Words.{no_word, begun_word, with_tag, tab_notes, start}
+pub use Rattle.page_fill.specs.laws.Views.{blank_rows_at_end, open_cells}
 
 -- blanks wait before the next word; those that a tag or a column placed stay
 abbrev pub blanks_wait : OpenWord → ℕ → Bool → OpenWord

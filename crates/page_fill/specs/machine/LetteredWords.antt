@@ -4,11 +4,11 @@ use Rattle.std.specs.Prelude.{◌≡◌, ℕ, true, List}
 use Rattle.std.specs.List.{list_all}
 use Rattle.page_core_base.specs.declared.cells.Font.{Font}
 use Rattle.page_core_base.specs.declared.pieces.Piece.{Piece}
-use Rattle.page_core_base.specs.Laid.{Laid, join}
-use Rattle.page_core_base.specs.Rows.{cells_in}
-use Rattle.page_core_base.specs.Words.{is_lettered_word, lettered_cells, lettered_pieces}
-use Rattle.page_fill.specs.LetteredWords.{AreWords, is_in_row}
-use Rattle.page_fill.specs.machine.Fill.{Edge, laid}
+use Rattle.page_core_base.specs.Rows.{Laid, join}
+use Rattle.page_core_base.specs.laws.Views.{cells_in, is_lettered_word, lettered_cells, lettered_pieces}
+use Rattle.page_fill.specs.laws.Views.{AreWords, is_in_row}
+use Rattle.page_fill.specs.declared.edges.Edge.{Edge}
+use Rattle.page_fill.specs.machine.Fill.{laid}
 
 -- the pieces of words, the first of which is after so many blanks, lay this
 abbrev pub LaysWords : Edge → ℕ → List ℕ → List Font → Laid Edge → Type 0

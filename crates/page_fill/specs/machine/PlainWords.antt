@@ -1,7 +1,7 @@
 -- A machine, which no public clause cites: how many words of a text go into the open row, or into the next one, together.
 use Rattle.std.specs.Prelude.{ℕ, ◌+◌, ◌-◌, ◌==◌, nat_le, List, length, take, if◌then◌else◌}
 use Rattle.page_fill_rows.specs.machine.Plain.{next_free_cells, word_end, word_start}
-use Rattle.page_fill_rows.specs.machine.Sheets.{Sheet}
+use Rattle.page_fill_rows.specs.OpenRows.{Sheet}
 
 -- how many bytes of a text, with a blank between two words, are whole words, among the first ones up to a number
 abbrev pub whole_words : List ℕ → ℕ → ℕ

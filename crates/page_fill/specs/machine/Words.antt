@@ -4,11 +4,11 @@
 use Rattle.std.specs.Prelude.{ℕ, ◌+◌, ◌-◌, ◌&&◌, nat_lt, min, Bool, true, List, [], ◌∷◌, ◌++◌, length, replicate}
 use Rattle.page_core_base.specs.declared.cells.Cell.{Cell}
 use Rattle.page_core_base.specs.declared.places.Place.{Place}
-use Rattle.page_core_base.specs.Laid.{Laid}
-use Rattle.page_core_base.specs.Rows.{row_of}
-use Rattle.page_fill_rows.specs.OpenRows.{TAG_COLUMNS, columns, cell_columns, blank}
+use Rattle.page_core_base.specs.Rows.{Laid, row_of}
+use Rattle.page_fill_rows.specs.OpenRows.{TAG_COLUMNS}
+use Rattle.page_fill_cells.specs.Cells.{columns, cell_columns, blank}
 use Rattle.page_fill.specs.Filled.{Word, Frame, Row, row_begun}
-use Rattle.page_fill.specs.PieceWords.{cell_content}
+use Rattle.page_fill.specs.Words.{cell_content}
 
 -- margin and columns pass the width with the cell
 abbrev pub is_wide : Frame → Row → Cell → Bool

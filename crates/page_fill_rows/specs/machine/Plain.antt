@@ -4,11 +4,12 @@
 use Rattle.std.specs.Prelude.{ℕ, ◌+◌, Bool, true, not, ◌&&◌, ◌||◌, ◌==◌, ◌-◌, nat_le, nat_lt, min, List, [], ◌∷◌, ◌++◌, length, replicate, if◌then◌else◌}
 use Rattle.std.specs.List.{prefix_len}
 use Rattle.page_core_base.specs.declared.cells.Cell.{Cell}
-use Rattle.page_core_base.specs.Laid.{Laid}
-pub use Rattle.page_fill_cells.specs.Cells.{is_printable, is_printable_ascii}
-use Rattle.page_fill_rows.specs.machine.Sheets.{Sheet, begins, columns, blank, counted, emptied, gives, opens, over, passes}
+use Rattle.page_core_base.specs.Rows.{Laid}
+pub use Rattle.page_core_base.specs.laws.Views.{is_printable, is_printable_ascii}
+use Rattle.page_fill_rows.specs.OpenRows.{Sheet, over, TAG_COLUMNS}
+use Rattle.page_fill_rows.specs.machine.Sheets.{begins, counted, emptied, gives, opens, passes}
+use Rattle.page_fill_cells.specs.Cells.{columns, blank}
 use Rattle.page_core_base.specs.Limits.{CELLS}
-use Rattle.page_fill_rows.specs.OpenRows.{TAG_COLUMNS}
 
 -- neither the width nor the row's end comes before the end of this count of cells of a column each
 abbrev pub has_room : Sheet → ℕ → Bool

@@ -1,7 +1,7 @@
 -- A machine, which no public clause cites: what an open row keeps to.
 use Rattle.std.specs.Prelude.{◌≡◌, ℕ, ◌*◌, ◌≤◌, List, length}
 use Rattle.page_core_base.specs.declared.cells.Cell.{Cell}
-use Rattle.page_fill_rows.specs.machine.Sheets.{columns}
+use Rattle.page_fill_cells.specs.Cells.{columns}
 use Rattle.page_core_base.specs.Limits.{CELLS}
 use Rattle.page_fill_rows.specs.OpenRows.{TAG_COLUMNS, BLANK_ROWS}
 

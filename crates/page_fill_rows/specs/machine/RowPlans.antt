@@ -1,10 +1,9 @@
 -- What a latch over a sink of rows and a sink of messages knows of a plan: a machine of proofs, which no public clause cites.
 use Rattle.std.specs.Prelude.{◌≡◌, ℕ, List, Option, MatchOption}
 use Rattle.std.specs.Borrow.{GName}
-use Rattle.page_core_base.specs.Fails.{IsSinkFault}
-use Rattle.page_core_base.specs.Sinks.{UpTo}
+use Rattle.page_core_base.specs.Messages.{IsSinkFault, Message}
+use Rattle.page_core_base.specs.laws.Views.{UpTo}
 use Rattle.page_core_base.specs.declared.faults.Fault.{Fault}
-use Rattle.page_core_base.specs.Messages.{Message}
 use Rattle.page_core_base.specs.Rows.{LaidRow}
 
 -- what a sink's trait says of it

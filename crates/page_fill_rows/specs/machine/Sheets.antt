@@ -3,14 +3,14 @@
 use Rattle.std.specs.Prelude.{ℕ, zero, suc, ◌+◌, Bool, true, false, not, ◌&&◌, ◌==◌, nat_lt, min, List, [], ◌∷◌, ◌++◌, length, take, drop, replicate, if◌then◌else◌}
 use Rattle.page_core_base.specs.declared.cells.Cell.{Cell}
 use Rattle.page_core_base.specs.declared.places.Place.{Place}
-use Rattle.page_core_base.specs.Rows.{row_of, is_blank_row}
-use Rattle.page_core_base.specs.Laid.{Laid, nothing, seq}
+use Rattle.page_core_base.specs.Rows.{row_of, is_blank_row, Laid, nothing, seq}
 use Rattle.page_core_base.specs.Limits.{CELLS, name_of}
 use Rattle.page_core_base.specs.Messages.{Message, message_about}
 use Rattle.page_core_base.specs.declared.limits.Limit.TheVariants.{Cells}
 use Rattle.page_core_base.specs.declared.note_kinds.NoteKind.TheVariants.{Limit}
 use Rattle.page_fill_rows.specs.OpenRows.{TAG_COLUMNS}
-pub use Rattle.page_fill_rows.specs.OpenRows.{cell_columns, columns, blank, Sheet, over, more_blank_rows, fresh}
+pub use Rattle.page_fill_cells.specs.Cells.{cell_columns, columns, blank}
+pub use Rattle.page_fill_rows.specs.OpenRows.{Sheet, over, more_blank_rows, fresh}
 
 -- ---- rows
 

@@ -4,8 +4,8 @@ use Rattle.page_roff_heads.specs.declared.conditions.Condition.{Condition}
 use Rattle.page_roff_heads.specs.declared.loops.LoopHead.{LoopHead}
 use Rattle.page_roff_blocks.specs.declared.line_parts.Head.{Head}
 use Rattle.page_roff_syntax.specs.declared.region_heads.RegionHead.{RegionHead}
-use Rattle.page_roff_syntax.specs.OpenRegions.{Opened}
-use Rattle.page_roff_blocks.specs.Loops.{loop_text}
+use Rattle.page_roff_syntax.specs.Regions.{Opened}
+use Rattle.page_roff_blocks.specs.Parts.{loop_text}
 use Rattle.page_roff_blocks.specs.machine.Run.{Meaning}
 use Rattle.page_core_base.specs.Limits.{REREAD}
 use Rattle.page_roff_blocks.specs.machine.Languages.{Kind, page, body, Done, gives, calls, repeats, Language}

@@ -5,7 +5,7 @@ use Rattle.page_roff_heads.specs.declared.conditions.Condition.{Condition}
 use Rattle.page_roff_heads.specs.declared.loops.LoopHead.{LoopHead}
 use Rattle.page_roff_blocks.specs.declared.line_parts.Head.{Head}
 use Rattle.page_roff_syntax.specs.declared.region_heads.RegionHead.{RegionHead}
-use Rattle.page_roff_syntax.specs.OpenRegions.{Opened}
+use Rattle.page_roff_syntax.specs.Regions.{Opened}
 use Rattle.page_roff_blocks.specs.machine.Run.{Meaning, At}
 use Rattle.page_roff_blocks.specs.machine.Languages.{Kind, Done, gives, calls, repeats, Language}
 use Rattle.page_roff_blocks.specs.machine.Machine.{Running}

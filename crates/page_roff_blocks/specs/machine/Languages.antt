@@ -1,7 +1,7 @@
 -- A machine: what a source does with its calls of macros and its loops, by recursion on its forest. Trust needs no reading of it.
 use Rattle.std.specs.Prelude.{ℕ, zero, suc, ◌+◌, Bool, true, false, List, Option, Some, None}
-use Rattle.page_roff_blocks.specs.Levels.{first_place}
-use Rattle.page_roff_syntax.specs.OpenRegions.{Opened}
+use Rattle.page_roff_blocks.specs.Forest.{first_place}
+use Rattle.page_roff_syntax.specs.Regions.{Opened}
 use Rattle.page_roff_blocks.specs.machine.Run.{Meaning, At, run_lines, headed}
 use Rattle.page_core_base.specs.Limits.{CALLS, REREAD}
 

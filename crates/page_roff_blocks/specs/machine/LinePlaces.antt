@@ -3,7 +3,8 @@ use Rattle.std.specs.Prelude.{◌≡◌, ℕ, ◌-◌, ◌≤◌, Bool, true, fa
 use Rattle.page_roff_blocks.specs.declared.line_parts.LinePart.{LinePart}
 use Rattle.page_roff_blocks.specs.declared.line_parts.LinePart.TheVariants.{Leaf, Guard, Block, Loop, End, Region}
 use Rattle.page_roff_blocks.specs.declared.line_places.LinePlace.{LinePlace}
-use Rattle.page_roff_blocks.specs.LineParts.{line_parts_left, ends_first}
+use Rattle.page_roff_blocks.specs.laws.Views.{line_parts_left}
+use Rattle.page_roff_blocks.specs.Parts.{ends_first}
 
 -- after the last part
 abbrev pub line_end : LinePlace

@@ -6,10 +6,10 @@ use Rattle.page_roff_blocks.specs.declared.line_parts.LinePart.{LinePart}
 use Rattle.page_roff_blocks.specs.declared.line_parts.LinePart.TheVariants.{Leaf, Guard, Block, Loop, End, Region}
 use Rattle.page_roff_blocks.specs.declared.levels.Ended.{Ended}
 use Rattle.page_roff_blocks.specs.declared.levels.Ended.TheVariants as endings
-use Rattle.page_roff_blocks.specs.LineParts.{line_parts}
-use Rattle.page_roff_syntax.specs.RegionHeads.{is_ending}
-use Rattle.page_roff_blocks.specs.Levels.{BlockCursor, at_line, after_part, outside, leave, what_ends}
-use Rattle.page_roff_syntax.specs.OpenRegions.{Opened}
+use Rattle.page_roff_blocks.specs.Parts.{line_parts}
+use Rattle.page_roff_syntax.specs.Regions.{is_ending, Opened}
+use Rattle.page_roff_blocks.specs.laws.Views.{BlockCursor, at_line, after_part, leave, what_ends}
+use Rattle.page_roff_blocks.specs.Forest.{outside}
 use Rattle.page_roff_blocks.specs.machine.Run.{Meaning, At, keep_if}
 use Rattle.page_roff_blocks.specs.machine.Steps.{met, step_guard, step_block, step_region, step_parts, begin_line, step_lines}
 use Rattle.page_core_base.specs.Limits.{CALLS}

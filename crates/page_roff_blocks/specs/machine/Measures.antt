@@ -1,7 +1,7 @@
 -- How much work is left of sources that are run, at most: steps of the code. Trust needs no reading of it. Source: mandoc(1), "input stack limit".
 use Rattle.std.specs.Prelude.{◌≡◌, ℕ, suc, ◌+◌, ◌*◌, ◌≤◌, Bool, true, false, List, [], ◌∷◌, length, Option, Some, None}
 use Rattle.page_roff_blocks.specs.declared.line_parts.LinePart.{LinePart}
-use Rattle.page_roff_blocks.specs.Levels.{BlockCursor}
+use Rattle.page_roff_blocks.specs.laws.Views.{BlockCursor}
 use Rattle.page_roff_blocks.specs.machine.Languages.{page}
 use Rattle.page_roff_blocks.specs.machine.Machine.{Frame, Turning, Running}
 use Rattle.page_roff_blocks.specs.machine.Budgets.{Budgeted}

@@ -15,9 +15,9 @@ use Rattle.page_roff_blocks.specs.declared.levels.Way.TheVariants.{Runs, Skips, 
 use Rattle.page_roff_syntax.specs.declared.region_heads.RegionHead.{RegionHead}
 use Rattle.page_roff_blocks.specs.declared.block_cursors.Reached.{Reached}
 use Rattle.page_roff_blocks.specs.declared.block_cursors.Reached.TheVariants.{PassedOver, First, Remainder}
-use Rattle.page_roff_blocks.specs.Forest.{Forest, empty, line, leaf, guard, block, loop, region, Source, ends, shuts, opens, holds, Inside, unended, ended, source_of, inside_of}
-use Rattle.page_roff_blocks.specs.Levels.{Levels, bit_after, way_of, enter, open_loop, skip, leave, what_ends, reached_if, Place}
-use Rattle.page_roff_syntax.specs.OpenRegions.{Opened, opened}
+use Rattle.page_roff_blocks.specs.Forest.{Forest, empty, line, leaf, guard, block, loop, region, Source, ends, shuts, opens, holds, Inside, unended, ended, source_of, inside_of, Levels, bit_after, Place}
+use Rattle.page_roff_blocks.specs.laws.Views.{way_of, enter, open_loop, skip, leave, what_ends, reached_if}
+use Rattle.page_roff_syntax.specs.Regions.{Opened, opened}
 
 -- What the parts of a source do to a state: all that has no part in its forest.
 pub record Meaning (X S : Type 0) : Type 0 where

@@ -1,7 +1,7 @@
 -- A machine: what the lines taken spend, as interpolations, step by step. Trust needs no reading of it. Source: mandoc(1), "input stack limit".
 use Rattle.std.specs.Prelude.{◌≡◌, ℕ, zero, suc, Bool, true, false, List, [], ◌∷◌, Option, Some, None}
 use Rattle.page_roff_blocks.specs.declared.line_parts.LinePart.{LinePart}
-use Rattle.page_roff_syntax.specs.OpenRegions.{Opened}
+use Rattle.page_roff_syntax.specs.Regions.{Opened}
 use Rattle.page_roff_blocks.specs.machine.Languages.{Language}
 use Rattle.page_roff_blocks.specs.machine.Machine.{Frame, Running, next}
 use Rattle.page_roff_blocks.specs.machine.Budgets.{Budgeted}

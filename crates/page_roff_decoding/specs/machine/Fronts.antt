@@ -2,7 +2,7 @@
 use Rattle.std.specs.Prelude.{ℕ, ◌-◌, List, take}
 use Rattle.page_roff_decoding.specs.declared.characters.Front.{Front}
 use Rattle.page_roff_decoding.specs.declared.characters.Front.TheVariants.{Same, Latin1, Bad}
-use Rattle.page_roff_decoding.specs.Characters.{Character, good, bad, latin1_bytes}
+use Rattle.page_roff_decoding.specs.Decoding.{Character, good, bad, latin1_bytes}
 
 abbrev pub as_character : Front → List ℕ → Character
 as_character (Same n) text = good (take n text)

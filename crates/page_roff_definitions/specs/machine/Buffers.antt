@@ -2,9 +2,9 @@
 -- Source: roff(7), "MACRO SYNTAX" and "de".
 use Rattle.std.specs.Prelude.{◌≡◌, ℕ, Bool, true, false, nat_le, List, [], length, Option, Some, None}
 use Rattle.page_core_base.specs.Limits.{ARGS, BODY}
-use Rattle.page_core_base.specs.LinesTaken.{Line}
+use Rattle.page_core_base.specs.Texts.{Line}
 use Rattle.page_core_base.specs.declared.lines_taken.Form.TheVariants.{Text}
-use Rattle.page_roff_definitions.specs.Calls.{Call, with_line}
+use Rattle.page_roff_definitions.specs.Definitions.{Call, with_line}
 
 -- before a line and a call were taken
 abbrev pub no_line : Line

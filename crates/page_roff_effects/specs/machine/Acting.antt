@@ -3,34 +3,32 @@
 use Rattle.std.specs.Prelude.{◌≡◌, ℕ, ◌≤◌, nat_le, Bool, true, List, [], ◌∷◌, length, Option, None, if◌then◌else◌, unwrap_or}
 use Rattle.page_core_base.specs.Limits.{ARGS, BODY, LINE}
 use Rattle.page_core_base.specs.Messages.{Message}
-use Rattle.page_core_base.specs.LinesTaken.{Line, line_view}
+use Rattle.page_core_base.specs.Texts.{Line}
+use Rattle.page_core_base.specs.laws.Views.{line_view, Came}
 use Rattle.page_core_base.specs.declared.lines_taken.Form.{Form}
 use Rattle.page_core_base.specs.declared.lines_taken.Form.TheVariants.{Text, Blank}
 use Rattle.page_core_base.specs.declared.page_settings.Output.{Output}
 use Rattle.page_roff_blocks.specs.declared.line_parts.LinePart.TheVariants.{Leaf}
-use Rattle.page_roff_blocks.specs.LineParts.{line_parts}
-use Rattle.page_roff_blocks.specs.Parts.{keyword_in, keyword_of}
+use Rattle.page_roff_blocks.specs.Parts.{line_parts, keyword_in, keyword_of}
 use Rattle.page_roff_syntax.specs.Arguments.{arguments}
 use Rattle.page_roff_syntax.specs.LineForms.{has_word}
 use Rattle.page_roff_syntax.specs.Requests.{request_of}
-use Rattle.page_core_base.specs.Latches.{Came}
 use Rattle.page_roff_values.specs.Values.{Spot, Laid, expanded}
 use Rattle.page_roff_values.specs.machine.Views.{units_of_bytes}
 use Rattle.page_roff_blocks.specs.machine.Budgets.{Effects}
 use Rattle.page_roff_blocks.specs.machine.Languages.{Kind, arguments_of}
 use Rattle.page_roff_values.specs.Answers.{Answer}
-use Rattle.page_roff_definitions.specs.Arguments.{closings_notes}
-use Rattle.page_roff_definitions.specs.Calls.{Call, packed}
+use Rattle.page_roff_definitions.specs.Definitions.{closings_notes, Call, packed}
 use Rattle.page_roff_effects.specs.declared.at_once.AtOnce.{AtOnce}
 use Rattle.page_roff_effects.specs.declared.at_once.AtOnce.TheVariants as ways
 use Rattle.page_roff_effects.specs.declared.commands.Command.TheVariants.{Pass}
-use Rattle.page_roff_effects.specs.Commands.{called_body, request_command}
+use Rattle.page_roff_effects.specs.Lines.{called_body, request_command}
 use Rattle.page_roff_effects.specs.declared.commands.ProductKind.{ProductKind}
 use Rattle.page_roff_effects.specs.declared.commands.ProductKind.TheVariants as kinds
-use Rattle.page_roff_effects.specs.States.{Memory, first_memory, Product, no_product, line_product, call_product, loop_product, Outcome, Setting, State, surroundings, counted}
-use Rattle.page_roff_effects.specs.Effects.{test_outcome}
+use Rattle.page_roff_effects.specs.States.{Memory, first_memory, Product, no_product, line_product, call_product, loop_product, Outcome, Setting, surroundings, counted, test_outcome}
+use Rattle.page_roff_effects.specs.laws.Views.{State}
 use Rattle.page_roff_effects.specs.machine.Effects.{effects}
-use Rattle.page_roff_effects.specs.Leaves as leaves
+use Rattle.page_roff_effects.specs.Lines as leaves
 use Rattle.page_roff_effects.specs.declared.leaves.ControlLine.{ControlLine}
 
 -- the output, and the arguments of the macro that runs, if one does

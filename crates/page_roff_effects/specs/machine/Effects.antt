@@ -3,15 +3,14 @@
 use Rattle.std.specs.Prelude.{ℕ, Bool, List, ◌++◌}
 use Rattle.page_roff_heads.specs.declared.conditions.Condition.{Condition}
 use Rattle.page_roff_heads.specs.Conditions.{condition_of}
-use Rattle.page_roff_values.specs.Arguments.{arguments_in, lines_in}
+use Rattle.page_roff_values.specs.Values.{arguments_in, lines_in}
 use Rattle.page_roff_values.specs.Answers.{Answer}
 use Rattle.page_roff_blocks.specs.machine.Languages.{Kind, arguments_of, Done, gives, calls, repeats}
 use Rattle.page_roff_blocks.specs.machine.Budgets.{Budgeted, Effects}
-use Rattle.page_roff_effects.specs.Effects.{answer_of, test_outcome, budget_outcome, block_outcome, end_of_block_outcome}
-use Rattle.page_roff_effects.specs.States.{Memory, State, Given, Outcome, Product, no_product, line_product, call_product, loop_product, after, Setting}
-use Rattle.page_roff_effects.specs.Leaves.{leaf_outcome}
-use Rattle.page_roff_effects.specs.LoopLines.{loop_outcome, collect_outcome, close_outcome, condition_in, body_in}
-use Rattle.page_roff_effects.specs.RegionLines.{head_outcome, line_outcome, end_outcome, finish_outcome}
+use Rattle.page_roff_effects.specs.States.{answer_of, test_outcome, budget_outcome, block_outcome, end_of_block_outcome, Memory, Given, Outcome, Product, no_product, line_product, call_product, loop_product, Setting}
+use Rattle.page_roff_effects.specs.laws.Views.{State, after}
+use Rattle.page_roff_effects.specs.Lines.{leaf_outcome}
+use Rattle.page_roff_effects.specs.Regions.{loop_outcome, collect_outcome, close_outcome, condition_in, body_in, head_outcome, line_outcome, end_outcome, finish_outcome}
 
 -- what a part of such a source reads
 abbrev pub setting_of : (List ℕ → ℕ) → Kind → Setting

@@ -2,7 +2,7 @@
 -- needs no reading of it.
 -- Source: roff(7), "LANGUAGE SYNTAX" and "Escape sequences".
 use Rattle.std.specs.Prelude.{◌≡◌, ◌+◌, ◌<◌, ◌≤◌, ℕ, false, List}
-use Rattle.page_core_base.specs.Texts.{key_at}
+use Rattle.page_core_base.specs.laws.Views.{key_at}
 
 -- at none of this many places from one on
 abbrev pub IsFreeFrom : ℕ → ℕ → List ℕ → Type 0

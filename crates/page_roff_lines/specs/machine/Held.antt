@@ -1,6 +1,6 @@
 -- Of the machine of `Open`: the first bytes of a text that grows and shrinks at its end.
 use Rattle.std.specs.Prelude.{ℕ, ◌+◌, ◌-◌, List, [], ◌++◌, length, take}
-use Rattle.page_roff_decoding.specs.Limit.{line_limit}
+use Rattle.page_roff_decoding.specs.Decoding.{line_limit}
 
 -- the first `line_limit` bytes of a text, and how many it has
 pub record Held : Type 0 where

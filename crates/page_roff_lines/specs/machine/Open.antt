@@ -1,14 +1,14 @@
 -- A machine: the open logical line of a page, as it is known after some of the page's bytes, and what the next byte
 -- does to it. That it gives the logical lines of the page is the law `one_by_one_law`.
 use Rattle.std.specs.Prelude.{ℕ, ◌+◌, Bool, true, false, nat_lt, ◌==◌, List, [], ◌∷◌, ◌++◌, if◌then◌else◌}
-use Rattle.page_roff_decoding.specs.Limit.{line_limit}
+use Rattle.page_roff_decoding.specs.Decoding.{line_limit}
 use Rattle.page_roff_lines.specs.declared.Mode.{Mode}
 use Rattle.page_roff_lines.specs.declared.Mode.TheVariants.{Plain, Backslash, Comment, Dropped}
 use Rattle.page_roff_lines.specs.declared.Mark.{Mark}
 use Rattle.page_roff_lines.specs.declared.Mark.TheVariants.{Unread, First, Second, Absent, Present}
-use Rattle.page_roff_lines.specs.Bytes.{newline, carriage_return, backslash, quote, hash}
+use Rattle.page_roff_lines.specs.laws.Views.{newline, carriage_return}
+use Rattle.page_roff_lines.specs.Lines.{backslash, quote, hash, Kept}
 use Rattle.page_roff_lines.specs.machine.Held.{Held, nothing_held, extend, shorten}
-use Rattle.page_roff_lines.specs.Logical.{Kept}
 
 pub record Open : Type 0 where
   -- its bytes so far, with those at the end that the next byte may take away

@@ -2,13 +2,14 @@
 use Rattle.std.specs.Prelude.{◌≡◌, ℕ, ◌+◌, ◌-◌, ◌<◌, ◌≤◌, Bool, true, false, not, ◌&&◌, ◌==◌, List, [], length, slice_index}
 use Rattle.std.specs.List.{list_all}
 use Rattle.memchr.specs.Find.{is_byte, is_byte2}
-use Rattle.page_core_base.specs.Texts.{is_backslash, is_key, key_at}
-use Rattle.page_roff_decoding.specs.Characters.{is_printable}
+use Rattle.page_core_base.specs.laws.Views.{is_backslash, is_key, key_at}
+use Rattle.page_roff_decoding.specs.Decoding.{is_printable}
 use Rattle.page_roff_lines.specs.declared.Mode.{Mode}
 use Rattle.page_roff_lines.specs.declared.Mode.TheVariants.{Plain, Backslash, Comment, Dropped}
 use Rattle.page_roff_lines.specs.declared.Mark.{Mark}
 use Rattle.page_roff_lines.specs.declared.Mark.TheVariants.{Unread, First, Second, Absent, Present}
-use Rattle.page_roff_lines.specs.Bytes.{newline, carriage_return, backslash, quote, hash}
+use Rattle.page_roff_lines.specs.laws.Views.{newline, carriage_return}
+use Rattle.page_roff_lines.specs.Lines.{backslash, quote, hash}
 use Rattle.page_roff_lines.specs.machine.Held.{extend}
 use Rattle.page_roff_lines.specs.machine.Open.{Open, open_after, restart, whole_lines}
 

@@ -1,11 +1,12 @@
 -- A source line that is taken at once, as the code does it. Trust needs no reading of it. Source: roff(7), "LANGUAGE SYNTAX" and "MACRO SYNTAX".
 use Rattle.std.specs.Prelude.{◌≡◌, ◌⊎◌, ℕ, true, false, List, [], None}
-use Rattle.page_core_base.specs.LinesTaken.{Line, line_view}
+use Rattle.page_core_base.specs.Texts.{Line}
+use Rattle.page_core_base.specs.laws.Views.{line_view}
 use Rattle.page_roff_blocks.specs.machine.Counting.{begun}
 use Rattle.page_roff_effects.specs.declared.at_once.AtOnce.{AtOnce}
 use Rattle.page_roff_effects.specs.declared.at_once.AtOnce.TheVariants as ways
 use Rattle.page_roff_effects.specs.machine.Acting.{IsCalled, IsTaken, with_number, measured}
-use Rattle.page_roff_effects.specs.Leaves.{leaf_outcome}
+use Rattle.page_roff_effects.specs.Lines.{leaf_outcome}
 use Rattle.page_roff_effects.specs.States.{numbered}
 use Rattle.page_roff_stack.specs.machine.Changes.{is_page, page_passed}
 use Rattle.page_roff_stack.specs.machine.Stacks.{Stack}

@@ -1,13 +1,13 @@
 -- The machine that runs a source line, as the code makes its steps: what is still to come of the line. Trust needs no reading of it.
 -- Source: roff(7), "LANGUAGE SYNTAX"; mandoc(1), "DIAGNOSTICS".
 use Rattle.std.specs.Prelude.{◌≡◌, ◌≤◌, ℕ, length, Bool, true, false, List, [], ◌∷◌, Option, Some, None}
-use Rattle.page_core_base.specs.LinesTaken.{Line, line_view}
+use Rattle.page_core_base.specs.Texts.{Line}
+use Rattle.page_core_base.specs.laws.Views.{line_view, Came}
 use Rattle.page_core_base.specs.declared.lines_taken.Taken.{Taken}
 use Rattle.page_core_base.specs.Messages.{Message}
 use Rattle.page_core_base.specs.declared.page_settings.Output.{Output}
-use Rattle.page_roff_blocks.specs.Levels.{Place}
+use Rattle.page_roff_blocks.specs.Forest.{Place}
 use Rattle.page_roff_blocks.specs.machine.Run.{At}
-use Rattle.page_core_base.specs.Latches.{Came}
 use Rattle.page_core_base.specs.Limits.{LINE, REREAD}
 use Rattle.page_roff_blocks.specs.machine.Languages.{Language, run_page}
 use Rattle.page_roff_blocks.specs.machine.Machine.{Running, rest_of}
@@ -15,8 +15,9 @@ use Rattle.page_roff_blocks.specs.machine.Budgets.{Budgeted, language}
 use Rattle.page_roff_blocks.specs.machine.Counting.{Budget, budgeted, first_budget, budget_at}
 use Rattle.page_roff_effects.specs.machine.Acting.{Acting, acting_effects}
 use Rattle.page_roff_effects.specs.machine.Acting as acting
-use Rattle.page_roff_effects.specs.RegionLines.{finish_outcome}
-use Rattle.page_roff_effects.specs.States.{Memory, State, Given, takes, numbered}
+use Rattle.page_roff_effects.specs.Regions.{finish_outcome}
+use Rattle.page_roff_effects.specs.States.{Memory, Given, takes, numbered}
+use Rattle.page_roff_effects.specs.laws.Views.{State}
 use Rattle.page_roff_stack.specs.machine.Stacks.{Stack, first_stack, stack_at, running, next_of, is_nothing}
 use Rattle.page_roff_machine.specs.Giving.{notes_before, next_line, after_line}
 

@@ -9,12 +9,12 @@ use Rattle.page_roff_blocks.specs.declared.levels.Way.TheVariants.{Skips}
 use Rattle.page_roff_blocks.specs.declared.block_cursors.Pass.TheVariants as passes
 use Rattle.page_roff_blocks.specs.declared.block_cursors.Reached.{Reached}
 use Rattle.page_roff_blocks.specs.declared.block_cursors.Reached.TheVariants.{PassedOver, First, Remainder}
-use Rattle.page_roff_blocks.specs.Levels.{BlockCursor, way_of, what_ends}
-use Rattle.page_roff_syntax.specs.OpenRegions.{Opened}
+use Rattle.page_roff_blocks.specs.laws.Views.{BlockCursor, way_of, what_ends}
+use Rattle.page_roff_syntax.specs.Regions.{Opened}
 use Rattle.page_roff_blocks.specs.machine.Run.{refuse_if}
 use Rattle.page_roff_blocks.specs.machine.Steps.{collect_if}
-use Rattle.page_roff_values.specs.Arguments.{arguments_in}
-use Rattle.page_core_base.specs.Latches.{Came}
+use Rattle.page_roff_values.specs.Values.{arguments_in}
+use Rattle.page_core_base.specs.laws.Views.{Came}
 use Rattle.page_roff_blocks.specs.machine.Languages.{arguments_of, Kind, page, body, is_some}
 use Rattle.page_roff_blocks.specs.machine.Machine.{Frame, Running, Turning, depth, leaf_next, loop_next, end_next, next}
 use Rattle.page_roff_blocks.specs.machine.Measures.{weight, turns_of}
@@ -22,7 +22,8 @@ use Rattle.page_roff_blocks.specs.machine.Budgets.{Budgeted, meaning, language}
 use Rattle.page_roff_effects.specs.declared.commands.ProductKind.{ProductKind}
 use Rattle.page_roff_effects.specs.declared.commands.ProductKind.TheVariants as kinds
 use Rattle.page_roff_effects.specs.machine.Acting.{with_arguments, IsCallable, IsRepeatable, acting_effects}
-use Rattle.page_roff_effects.specs.States.{State, Given, says, takes}
+use Rattle.page_roff_effects.specs.laws.Views.{State}
+use Rattle.page_roff_effects.specs.States.{Given, says, takes}
 use Rattle.page_roff_stack.specs.declared.next.Next.{Next}
 use Rattle.page_roff_stack.specs.declared.next.Next.TheVariants as things
 use Rattle.page_roff_stack.specs.declared.movements.Movement.{Movement}

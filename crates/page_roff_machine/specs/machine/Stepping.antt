@@ -1,7 +1,7 @@
 -- Steps of the machine, one after another: the code's own form of them. Trust needs no reading of it.
 use Rattle.std.specs.Prelude.{◌≡◌, ◌≤◌, ◌^◌, ◌⊎◌, true, List, [], ◌++◌, map}
 use Rattle.page_core_base.specs.Messages.{Message}
-use Rattle.page_core_base.specs.Latches.{Came}
+use Rattle.page_core_base.specs.laws.Views.{Came}
 use Rattle.page_roff_blocks.specs.machine.Machine.{next}
 use Rattle.page_roff_blocks.specs.machine.Measures.{HasMeasure, IsFirst}
 use Rattle.page_roff_blocks.specs.machine.Budgets.{language}

@@ -10,9 +10,8 @@ use Rattle.std.specs.FinMap.{is_sorted}
 use Rattle.page_core_base.specs.Limits.{DEFS, NAMES}
 use Rattle.page_core_base.specs.declared.limits.Limit.{Limit}
 use Rattle.page_roff_names.specs.declared.changes.OtherSet.{OtherSet}
-use Rattle.page_roff_names.specs.Caps.{EntriesFit, DefinitionsFit}
-use Rattle.page_roff_names.specs.Entries.{Entries, size, name_at, definition_at}
-use Rattle.page_roff_names.specs.Names.{Definitions, by_bytes, look, put, without, first_passed}
+use Rattle.page_roff_names.specs.laws.Views.{EntriesFit, DefinitionsFit, name_at, definition_at}
+use Rattle.page_roff_names.specs.Names.{Entries, size, Definitions, by_bytes, look, put, without, first_passed}
 
 -- the limit that a definition passes, where the entries of its set would be these
 abbrev pub refusal_beside : OtherSet → List ℕ → List ℕ → Entries → Option Limit

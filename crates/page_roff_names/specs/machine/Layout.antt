@@ -3,7 +3,7 @@ use Rattle.std.specs.Prelude.{◌≡◌, ℕ, zero, suc, ◌+◌, ◌≤◌, Lis
 use Rattle.page_core_base.specs.Limits.{DEFS, NAMES}
 use Rattle.page_roff_names.specs.declared.rows.Span.{Span}
 use Rattle.page_roff_names.specs.declared.rows.Meaning.{Meaning}
-use Rattle.page_roff_names.specs.Entries.{Entries, definition}
+use Rattle.page_roff_names.specs.Names.{Entries, definition}
 
 -- the entries, one after another
 abbrev pub flat : Entries → List ℕ

@@ -6,8 +6,9 @@ use Rattle.page_roff_values.specs.Values.{units_of}
 use Rattle.page_roff_blocks.specs.machine.Budgets.{Budgeted, language}
 use Rattle.page_roff_blocks.specs.machine.Languages.{run_page_lines}
 use Rattle.page_roff_effects.specs.machine.Effects.{effects}
-use Rattle.page_roff_effects.specs.States.{State, Given, says, numbered}
-use Rattle.page_roff_source.specs.Edges.{Edge, SourceLine}
+use Rattle.page_roff_effects.specs.laws.Views.{State}
+use Rattle.page_roff_effects.specs.States.{Given, says, numbered}
+use Rattle.page_roff_source.specs.Runs.{Edge, SourceLine}
 
 -- What comes before a line: messages are about its number from now on, and those in front of it are given.
 abbrev pub head_of : SourceLine → Budgeted State → Budgeted State

@@ -3,8 +3,9 @@
 use Rattle.std.specs.Prelude.{◌≡◌, List, [], ◌∷◌, ◌++◌, map}
 use Rattle.page_roff_blocks.specs.machine.Run.{At}
 use Rattle.page_roff_blocks.specs.machine.Budgets.{Budgeted}
-use Rattle.page_roff_effects.specs.States.{State, Given, says}
-use Rattle.page_roff_source.specs.Edges.{Edge, SourceLine}
+use Rattle.page_roff_effects.specs.laws.Views.{State}
+use Rattle.page_roff_effects.specs.States.{Given, says}
+use Rattle.page_roff_source.specs.Runs.{Edge, SourceLine}
 use Rattle.page_roff_source.specs.machine.Taking.{line_given, line_done}
 
 -- what lines give, each after the messages in front of it

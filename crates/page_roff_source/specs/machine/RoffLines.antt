@@ -3,7 +3,7 @@ use Rattle.std.specs.Prelude.{◌≡◌, ℕ, ◌+◌, ◌*◌, ◌≤◌, ◌^�
 use Rattle.page_core_base.specs.Messages.{Message}
 use Rattle.page_core_base.specs.Texts.{IsLine}
 use Rattle.page_core_base.specs.Limits.{LINE, REREAD}
-use Rattle.page_core_base.specs.Latches.{Came}
+use Rattle.page_core_base.specs.laws.Views.{Came}
 use Rattle.page_roff_machine.specs.Giving.{notes_before, next_line}
 use Rattle.page_roff_effects.specs.States.{Given, takes}
 use Rattle.page_roff_machine.specs.machine.Machines.{Machine, output_of, outcome_of, to_come, taken_if}
@@ -11,8 +11,8 @@ use Rattle.page_roff_machine.specs.machine.Machines as machine
 use Rattle.page_roff_source.specs.machine.Texts.{HoldsTexts, AreGiven}
 use Rattle.page_roff_source.specs.declared.roff_lines.Remaining.{Remaining}
 use Rattle.page_roff_source.specs.declared.roff_lines.Remaining.TheVariants as remaining
-use Rattle.page_roff_source.specs.Edges.{Edge}
-use Rattle.page_roff_source.specs.Taken.{given_of, line_taken}
+use Rattle.page_roff_source.specs.Runs.{Edge}
+use Rattle.page_roff_source.specs.laws.Views.{given_of, line_taken}
 use Rattle.page_roff_source.specs.machine.Taking.{LinesState}
 
 -- what is still to be given: nothing, a line that was taken at once, or what the machine runs

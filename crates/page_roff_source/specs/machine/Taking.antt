@@ -1,15 +1,16 @@
 -- A machine: one source line at a time, with a budget of its own. That the lines of a page give what the forest of all of them gives is the law
 -- `forest_law`; trust needs no reading of it. Source: roff(7), "LANGUAGE SYNTAX".
 use Rattle.std.specs.Prelude.{◌≡◌, ℕ, ◌+◌, false, List, [], ◌∷◌, Option, Some, None}
-use Rattle.page_core_base.specs.LinesTaken.{Line}
+use Rattle.page_core_base.specs.Texts.{Line}
 use Rattle.page_roff_blocks.specs.machine.Run.{At}
 use Rattle.page_roff_values.specs.Values.{units_of}
 use Rattle.page_roff_blocks.specs.machine.Budgets.{Budgeted, language}
 use Rattle.page_roff_blocks.specs.machine.Languages.{run_page}
 use Rattle.page_core_base.specs.Limits.{REREAD}
 use Rattle.page_roff_effects.specs.machine.Effects.{effects}
-use Rattle.page_roff_effects.specs.States.{State, Given, numbered, takes}
-use Rattle.page_roff_source.specs.Edges.{Edge, SourceLine}
+use Rattle.page_roff_effects.specs.laws.Views.{State}
+use Rattle.page_roff_effects.specs.States.{Given, numbered, takes}
+use Rattle.page_roff_source.specs.Runs.{Edge, SourceLine}
 
 -- The lines of a page as they run: what decides the rest; the finished line that was given last; and the body with the arguments of each
 -- macro or loop that runs, from the inside out, which say how much is held and decide nothing that comes.

@@ -3,7 +3,7 @@ use Rattle.std.specs.Prelude.{◌≡◌, ℕ, List, [], ◌∷◌, ◌++◌, Opt
 use Rattle.page_core_base.specs.Texts.{IsLine}
 use Rattle.page_roff_names.specs.declared.rows.Meaning.{Meaning}
 use Rattle.page_roff_names.specs.declared.rows.Meaning.TheVariants.{String, Macro, Register}
-use Rattle.page_roff_names.specs.Entries.{Entries}
+use Rattle.page_roff_names.specs.Names.{Entries}
 use Rattle.page_roff_values.specs.machine.Texts.{IsText, AreTexts}
 use Rattle.page_roff_effects.specs.States.{Memory, Given, says, takes}
 

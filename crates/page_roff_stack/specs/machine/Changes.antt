@@ -6,9 +6,10 @@ use Rattle.page_roff_blocks.specs.declared.line_parts.LinePart.{LinePart}
 use Rattle.page_roff_blocks.specs.declared.line_parts.LinePart.TheVariants.{Leaf, Guard, Block, Loop, End, Region}
 use Rattle.page_roff_blocks.specs.declared.block_cursors.Pass.{Pass}
 use Rattle.page_roff_blocks.specs.declared.block_cursors.Pass.TheVariants as passes
-use Rattle.page_roff_blocks.specs.LineParts.{line_parts}
-use Rattle.page_roff_blocks.specs.Levels.{Place, BlockCursor, after_part, at_line, outside, passed}
-use Rattle.page_roff_syntax.specs.OpenRegions.{Opened, opened}
+use Rattle.page_roff_blocks.specs.Parts.{line_parts}
+use Rattle.page_roff_blocks.specs.Forest.{Place, outside}
+use Rattle.page_roff_blocks.specs.laws.Views.{BlockCursor, after_part, at_line, passed}
+use Rattle.page_roff_syntax.specs.Regions.{Opened, opened}
 use Rattle.page_roff_blocks.specs.machine.Languages.{Kind, page, body}
 use Rattle.page_roff_blocks.specs.machine.Machine.{Frame, Turning, turned, at_part}
 use Rattle.page_roff_blocks.specs.machine.Measures.{work_in}

@@ -1,7 +1,7 @@
 -- How the code holds a source: places in its text. Trust needs no reading of it.
 use Rattle.std.specs.Prelude.{◌≡◌, ℕ, ◌+◌, ◌-◌, ◌≤◌, List, [], ◌∷◌, length, take, drop, Option, Some, None}
 use Rattle.page_core_base.specs.Limits.{ARGS, BODY}
-use Rattle.page_roff_values.specs.Arguments.{arguments_in, lines_in}
+use Rattle.page_roff_values.specs.Values.{arguments_in, lines_in}
 use Rattle.page_roff_blocks.specs.machine.Languages.{Kind, page, body}
 use Rattle.page_roff_blocks.specs.machine.Machine.{Turning}
 use Rattle.page_roff_stack.specs.declared.source_kinds.SourceKind.{SourceKind}

@@ -7,7 +7,7 @@ use Rattle.page_roff_blocks.specs.machine.Machine.{Frame}
 use Rattle.page_roff_stack.specs.declared.input_frames.InputFrame.{InputFrame}
 use Rattle.page_roff_stack.specs.machine.Ahead.{IsAfterIn}
 use Rattle.page_roff_stack.specs.machine.Changes.{IsBounded}
-use Rattle.page_roff_values.specs.Arguments.{lines_in}
+use Rattle.page_roff_values.specs.Values.{lines_in}
 use Rattle.page_roff_stack.specs.machine.Held.{span_text, IsSpanIn, kind_in, AreArgumentsIn, AreLinesOf, turning_in, AreTurnsIn}
 
 abbrev pub frame_of : InputFrame → List ℕ → Frame

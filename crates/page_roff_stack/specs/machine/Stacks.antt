@@ -2,14 +2,13 @@
 -- of it. Source: mandoc(1), "input stack limit"; roff(7), "Macros".
 use Rattle.std.specs.Prelude.{◌≡◌, ℕ, zero, suc, Bool, true, false, List, [], ◌∷◌, ◌++◌, drop, Option, Some, None}
 use Rattle.page_roff_blocks.specs.declared.line_parts.LinePart.{LinePart}
-use Rattle.page_roff_blocks.specs.Levels.{Place}
-use Rattle.page_roff_syntax.specs.OpenRegions.{Opened}
+use Rattle.page_roff_blocks.specs.Forest.{Place}
+use Rattle.page_roff_syntax.specs.Regions.{Opened, is_ending}
 use Rattle.page_roff_blocks.specs.machine.LinePlaces.{is_block}
-use Rattle.page_roff_syntax.specs.RegionHeads.{is_ending}
 use Rattle.page_roff_blocks.specs.machine.Run.{Meaning, At}
 use Rattle.page_roff_blocks.specs.machine.Languages.{Kind, body, Language, meaning_at}
 use Rattle.page_roff_blocks.specs.machine.Machine.{Frame, Running, Turning, depth, entered, looped, finish_if, part_next, line_next, region_next}
-use Rattle.page_roff_values.specs.Arguments.{arguments_in, lines_in}
+use Rattle.page_roff_values.specs.Values.{arguments_in, lines_in}
 use Rattle.page_roff_stack.specs.declared.next.Next.{Next}
 use Rattle.page_roff_stack.specs.declared.next.Next.TheVariants.{Part, Line, RegionLine, Turn, SourceEnd, Nothing}
 use Rattle.page_roff_stack.specs.declared.movements.Movement.{Movement}

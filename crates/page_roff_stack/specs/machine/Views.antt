@@ -3,9 +3,10 @@ use Rattle.std.specs.Prelude.{◌≡◌, ◌≤◌, ℕ, List, [], ◌∷◌, le
 use Rattle.std.specs.Borrow.{Bor}
 use Rattle.page_core_base.specs.Limits.{LINE}
 use Rattle.page_roff_blocks.specs.declared.line_parts.LinePart.{LinePart}
-use Rattle.page_roff_blocks.specs.LineParts.{line_part_view, FitsLinePart}
-use Rattle.page_roff_syntax.specs.OpenRegions.{Opened, opened_view}
-use Rattle.page_roff_values.specs.Arguments.{arguments_in}
+use Rattle.page_roff_blocks.specs.laws.Views.{line_part_view, FitsLinePart}
+use Rattle.page_roff_syntax.specs.Regions.{Opened}
+use Rattle.page_roff_syntax.specs.laws.Views.{opened_view}
+use Rattle.page_roff_values.specs.Values.{arguments_in}
 use Rattle.page_roff_stack.specs.declared.next.Next.{Next}
 use Rattle.page_roff_stack.specs.declared.next.Next.TheVariants.{Part, Line, RegionLine, Turn, SourceEnd, Nothing}
 

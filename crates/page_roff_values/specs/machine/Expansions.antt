@@ -1,7 +1,8 @@
 -- How the code holds a line, inside widths too: the code's own form of it. Trust needs no reading of it.
 use Rattle.std.specs.Prelude.{ℕ, ◌+◌, ◌*◌, ◌^◌, ◌≤◌, List, [], length, take, drop}
 use Rattle.std.specs.Vec.{vec_capacity}
-use Rattle.page_core_base.specs.Limits.{LINE, NEST}
+use Rattle.page_core_base.specs.Limits.{LINE}
+use Rattle.page_core_base.specs.laws.Views.{NEST}
 use Rattle.page_roff_values.specs.declared.expansions.Nested.TheInside.{Inside}
 use Rattle.page_roff_values.specs.Values.{Spot}
 

@@ -1,7 +1,7 @@
 -- How the code holds the arguments of a macro: the code's own form of them. Trust needs no reading of it.
 use Rattle.std.specs.Prelude.{◌≡◌, ℕ, ◌+◌, ◌*◌, ◌≤◌, List, length}
 use Rattle.page_core_base.specs.Limits.{ARGS}
-use Rattle.page_roff_values.specs.Arguments.{arguments_in, spaced, spaced_quoted}
+use Rattle.page_roff_values.specs.Values.{arguments_in, spaced, spaced_quoted}
 
 -- the count of the arguments, their bytes, and the texts of all, each with the memory for it
 pub record AreHeld (count : ℕ) (packed spaced_text quoted_text : List ℕ) (packed_room spaced_room quoted_room : ℕ) : Type 0 where

@@ -6,8 +6,7 @@ use Rattle.page_roff_parts.specs.declared.parts.Call.{Call}
 use Rattle.page_roff_parts.specs.declared.parts.Part.{Part}
 use Rattle.page_roff_parts.specs.declared.parts.Part.TheVariants.{Copied, Called}
 use Rattle.page_roff_values.specs.declared.sources.Sources.{Sources}
-use Rattle.page_roff_values.specs.Environments.{Surroundings}
-use Rattle.page_roff_values.specs.Values.{Spot, Laid, nothing, seq, put, call_at, value, finished_len}
+use Rattle.page_roff_values.specs.Values.{Surroundings, Spot, Laid, nothing, seq, put, call_at, value, finished_len}
 use Rattle.page_roff_parts.specs.machine.Views.{part_of}
 
 -- how many interpolations more may be inside the innermost of these texts, where this many may inside the outermost

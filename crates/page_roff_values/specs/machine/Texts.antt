@@ -2,7 +2,7 @@
 use Rattle.std.specs.Prelude.{◌≡◌, ℕ, true, List, [], ◌∷◌, Option, Some, None, IsUtf8}
 use Rattle.page_core_base.specs.Texts.{has_no_control}
 use Rattle.page_roff_names.specs.Names.{string_of}
-use Rattle.page_roff_values.specs.Environments.{Surroundings}
+use Rattle.page_roff_values.specs.Values.{Surroundings}
 
 -- UTF-8 without a control character but the tab
 pub record IsText (text : List ℕ) : Type 0 where

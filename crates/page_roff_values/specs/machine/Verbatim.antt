@@ -1,8 +1,7 @@
 -- A fast way of the code, which no public clause cites: lines that are what they give. Trust needs no reading of it.
 -- Source: roff(7), "Escape sequences".
 use Rattle.std.specs.Prelude.{◌≡◌, ℕ, false, List}
-use Rattle.page_roff_values.specs.Environments.{Surroundings}
-use Rattle.page_roff_values.specs.Values.{nothing, adds, start, expanded}
+use Rattle.page_roff_values.specs.Values.{Surroundings, nothing, adds, start, expanded}
 
 -- a line is what it gives, without a message and without an interpolation, whatever names stand for
 abbrev pub GivesItself : List ℕ → Type 0

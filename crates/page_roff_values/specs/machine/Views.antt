@@ -3,8 +3,7 @@ use Rattle.std.specs.Prelude.{ℕ, List, if◌then◌else◌}
 use Rattle.std.specs.Str.{is_utf8}
 use Rattle.page_core_base.specs.declared.page_settings.Output.{Output}
 use Rattle.page_roff_values.specs.declared.environments.Environment.{Environment}
-use Rattle.page_roff_values.specs.Environments.{Surroundings}
-use Rattle.page_roff_values.specs.Values.{units_of}
+use Rattle.page_roff_values.specs.Values.{Surroundings, units_of}
 
 -- The width of any bytes, in basic units: the code measures what isn't UTF-8, which no line is, as nothing.
 abbrev pub units_of_bytes : Output → List ℕ → ℕ

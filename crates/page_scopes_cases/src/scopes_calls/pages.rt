@@ -1,8 +1,8 @@
 //! A page, whose lines come one by one.
 
 ghost use Rattle.std.specs.Prelude.{◌≤◌, length};
-ghost use Rattle.page_sets_lines.specs.Fits.{KindFits};
-ghost use Rattle.page_sets_lines.specs.Events.{kind_view};
+ghost use Rattle.page_sets_lines.specs.laws.Views.{KindFits};
+ghost use Rattle.page_sets_lines.specs.laws.Events.{kind_view};
 
 use super::shown::{Shown, nothing};
 use super::spelled::{read_spelled, spelled_kind, spelled_list};

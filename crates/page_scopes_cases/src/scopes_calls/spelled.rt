@@ -5,9 +5,9 @@
 //! item, and `label` its head; `Bl` takes its arguments, which are the rest of its line.
 
 ghost use Rattle.std.specs.Prelude.{IfSome};
-ghost use Rattle.page_sets_lines.specs.Fits.{ArgumentFits, KindFits, GivenFits};
-ghost use Rattle.page_roff_syntax.specs.Arguments.{argument_view};
-ghost use Rattle.page_sets_lines.specs.Events.{kind_view, given_view, word_view};
+ghost use Rattle.page_sets_lines.specs.laws.Views.{ArgumentFits, KindFits, GivenFits};
+ghost use Rattle.page_roff_syntax.specs.laws.Views.{argument_view};
+ghost use Rattle.page_sets_lines.specs.laws.Events.{kind_view, given_view, word_view};
 
 use page_core_base::Font;
 use page_roff_syntax::{Argument, Quoting};

@@ -1,17 +1,17 @@
 -- A machine: what is known of the tokens of a manual's name, so that a name that is printed again is not read anew (`ManualName`).
 use Rattle.std.specs.Prelude.{◌≡◌, ℕ, Bool, true, false, ◌==◌, List, [], length, map, replicate, if◌then◌else◌}
-use Rattle.page_core_base.specs.Pieces.{Item, shown}
+use Rattle.page_core_base.specs.Rows.{Item, shown}
 use Rattle.page_core_base.specs.declared.cells.Font.{Font}
 use Rattle.page_core_base.specs.declared.pieces.Piece.TheVariants.{Text}
 use Rattle.page_core_base.specs.declared.places.Place.{Place}
 use Rattle.page_core_escapes.specs.Meanings as meanings
 use Rattle.page_core_escapes.specs.Meanings.{Meaning}
 use Rattle.page_core_escapes.specs.Tokens.{TextToken, escaped, token_bytes, tokens_of}
-use Rattle.page_scopes_phrases.specs.KeptTexts.{prints_cell}
+use Rattle.page_scopes_phrases.specs.Names.{prints_cell}
 use Rattle.page_scopes_phrases.specs.declared.kept_names.Known.{Known}
 use Rattle.page_scopes_phrases.specs.declared.kept_names.Known.TheVariants.{Blanks, Nothing, Unread}
 use Rattle.page_scopes_phrases.specs.declared.kept_names.NamePart.{NamePart}
-use Rattle.page_scopes_words.specs.Tokens.{blank_count}
+use Rattle.page_scopes_words.specs.Words.{blank_count}
 
 -- what an escape prints, and a token, as far as it is known: its blanks, where it is a `\h`, or nothing
 abbrev pub meaning_known : Meaning → Known

@@ -1,16 +1,15 @@
 -- A machine, which no public clause cites: words and blanks of a row that is kept as it is, which are given at once. Source: roff(7), "nf".
 use Rattle.std.specs.Prelude.{◌≡◌, ℕ, true, List, [], ◌∷◌, ◌++◌, map}
 use Rattle.std.specs.List.{list_all}
-use Rattle.page_core_base.specs.Pieces.{shown}
-use Rattle.page_core_base.specs.Words.{font_cells, is_kept, word_letters}
+use Rattle.page_core_base.specs.Rows.{shown}
+use Rattle.page_core_base.specs.laws.Views.{font_cells, is_kept, word_letters}
 use Rattle.page_core_base.specs.declared.cells.Font.TheVariants.{R}
 use Rattle.page_core_base.specs.declared.pieces.Piece.{Piece}
 use Rattle.page_core_escapes.specs.Tokens.{plain}
-use Rattle.page_scopes_words.specs.Pens.{body_after}
+use Rattle.page_scopes_words.specs.Words.{body_after}
 use Rattle.page_scopes_words.specs.declared.pens.Pen.{Pen}
 use Rattle.page_scopes_words.specs.declared.pens.TextStyle.{TextStyle}
-use Rattle.page_scopes_text.specs.Parted.{words_of}
-use Rattle.page_scopes_text.specs.Texts.{others_after, others_items}
+use Rattle.page_scopes_text.specs.Texts.{words_of, others_after, others_items}
 
 -- roman characters are the cells of these pieces
 abbrev pub AreCells : List ℕ → List (Piece (List ℕ)) → Type 0

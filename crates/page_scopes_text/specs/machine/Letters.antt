@@ -2,24 +2,21 @@
 -- Source: roff(7), `\f`.
 use Rattle.std.specs.Prelude.{◌≡◌, ℕ, ◌≤◌, ◌<◌, ◌+◌, Bool, true, false, nat_lt, List, [], ◌∷◌, ◌++◌, length, map, drop}
 use Rattle.std.specs.List.{list_all}
-use Rattle.page_core_base.specs.Pieces.{shown}
-use Rattle.page_core_base.specs.Words.{is_lettered, is_lettered_word, lettered_cells, lettered_pieces, word_letters}
+use Rattle.page_core_base.specs.Rows.{shown}
+use Rattle.page_core_base.specs.laws.Views.{is_lettered, is_lettered_word, lettered_cells, lettered_pieces, word_letters}
 use Rattle.page_core_base.specs.declared.cells.Cell.{Cell}
 use Rattle.page_core_base.specs.declared.cells.Font.{Font}
 use Rattle.page_core_base.specs.declared.cells.Font.TheVariants.{R}
 use Rattle.page_core_base.specs.declared.pieces.Piece.{Piece}
 use Rattle.page_core_base.specs.declared.places.Place.{Place}
-use Rattle.page_core_escapes.specs.Tokens.{TextToken, begins_word, token_at, token_len}
-use Rattle.page_scopes_words.specs.Words.{is_glue}
+use Rattle.page_core_escapes.specs.Tokens.{TextToken, token_at, token_len}
+use Rattle.page_core_escapes.specs.laws.Views.{begins_word}
+use Rattle.page_scopes_words.specs.Words.{is_glue, token_notes, token_prints, pen_through}
 use Rattle.page_scopes_words.specs.machine.Letters.{letters_in}
 use Rattle.page_scopes_words.specs.declared.settings.Setting.{Setting}
 use Rattle.page_scopes_words.specs.declared.fonts.Fonts.{Fonts}
-use Rattle.page_scopes_text.specs.Parted.{Spaced, words_of}
-use Rattle.page_scopes_text.specs.Texts.{others_after, others_items}
-use Rattle.page_scopes_text.specs.Words.{printed_items, tokens_items, word_notes}
+use Rattle.page_scopes_text.specs.Texts.{Spaced, words_of, others_after, others_items, printed_items, tokens_items, word_notes}
 use Rattle.page_scopes_words.specs.Fonts.{fonts_after}
-use Rattle.page_scopes_words.specs.Tokens.{token_notes, token_prints}
-use Rattle.page_scopes_words.specs.Pens.{pen_through}
 use Rattle.page_scopes_words.specs.machine.Pens.{resting}
 use Rattle.page_scopes_words.specs.declared.pens.Pen.{Pen}
 use Rattle.page_scopes_words.specs.declared.pens.TextStyle.{TextStyle}

@@ -1,7 +1,6 @@
 -- Parts of a word that come after another one: a machine, which no public clause cites.
 use Rattle.std.specs.Prelude.{ℕ, List, map}
-use Rattle.page_core_base.specs.Pieces.{Item, shown}
-use Rattle.page_core_base.specs.Words.{later_pieces, parts_of}
+use Rattle.page_core_base.specs.Rows.{Item, shown, later_pieces, parts_of}
 use Rattle.page_core_base.specs.declared.cells.Font.{Font}
 use Rattle.page_core_base.specs.declared.places.Place.{Place}
 

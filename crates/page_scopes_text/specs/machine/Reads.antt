@@ -1,13 +1,12 @@
 -- A machine, which only calls between our crates cite: how the code's own reading of a text goes on from its front. Source: roff(7).
 use Rattle.std.specs.Prelude.{◌≡◌, ℕ, ◌≤◌, ◌<◌, ◌+◌, ◌^◌, Bool, true, false, List, [], ◌∷◌, ◌++◌, length, drop}
-use Rattle.page_core_base.specs.Pieces.{Item}
-use Rattle.page_core_base.specs.Words.{is_word}
-use Rattle.page_core_escapes.specs.Tokens.{begins_word, plain, token_len}
+use Rattle.page_core_base.specs.Rows.{Item}
+use Rattle.page_core_base.specs.laws.Views.{is_word}
+use Rattle.page_core_escapes.specs.laws.Views.{begins_word}
+use Rattle.page_core_escapes.specs.Tokens.{plain, token_len}
 use Rattle.page_core_base.specs.Limits.{LINE}
-use Rattle.page_scopes_text.specs.Parted.{Parted, words_of}
-use Rattle.page_scopes_text.specs.Texts.{others_after, others_items}
-use Rattle.page_scopes_text.specs.Words.{word_items}
-use Rattle.page_scopes_words.specs.Pens.{word_after}
+use Rattle.page_scopes_text.specs.Texts.{Parted, words_of, others_after, others_items, word_items}
+use Rattle.page_scopes_words.specs.Words.{word_after}
 use Rattle.page_scopes_words.specs.declared.pens.Pen.{Pen}
 use Rattle.page_scopes_words.specs.declared.pens.TextStyle.{TextStyle}
 

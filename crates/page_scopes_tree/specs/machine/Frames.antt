@@ -1,12 +1,13 @@
 -- A machine: the frame of a layout: messages of scopes that are broken and of events that are refused, before what the layout itself gives.
 -- Trust needs no reading of it.
 use Rattle.std.specs.Prelude.{ℕ, List, ◌++◌}
-use Rattle.page_core_base.specs.Pieces.{Item}
+use Rattle.page_core_base.specs.Rows.{Item}
 use Rattle.page_core_base.specs.declared.places.Place.{Place}
 use Rattle.page_scopes_tree.specs.machine.Layouts.{Layout}
 use Rattle.page_sets_lines.specs.declared.events.Event.{Event}
-use Rattle.page_scopes_tree.specs.Acts.{Step, comes, does, event_of}
-use Rattle.page_scopes_tree.specs.Broken.{broken_notes, obstacle_notes}
+use Rattle.page_scopes_tree.specs.laws.Views.{Step, comes, does}
+use Rattle.page_scopes_tree.specs.Ends.{event_of}
+use Rattle.page_scopes_tree.specs.Placements.{broken_notes, obstacle_notes}
 use Rattle.page_scopes_tree.specs.machine.Nests.{Fact, coming, standing, refused}
 use Rattle.page_scopes_tree.specs.declared.acts.Act.{Act}
 use Rattle.page_scopes_tree.specs.declared.acts.Act.TheVariants as acts

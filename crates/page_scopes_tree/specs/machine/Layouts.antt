@@ -1,7 +1,8 @@
 -- A machine: laying out a block tree of any language: what it gives, sibling after sibling, and what decides the rest. Trust needs no reading of it.
 use Rattle.std.specs.Prelude.{List, [], ◌∷◌, ◌++◌}
 use Rattle.page_scopes_tree.specs.machine.Nestings.{Nesting, left_by, standing_of, mode_of, inside}
-use Rattle.page_scopes_tree.specs.OpenScopes.{Edge, labels}
+use Rattle.page_scopes_tree.specs.Ends.{Edge}
+use Rattle.page_scopes_tree.specs.laws.Views.{labels}
 use Rattle.page_scopes_tree.specs.declared.nestings.Scope.{Scope}
 use Rattle.page_scopes_tree.specs.machine.Forests.{Ender, by_act, still_open, Forest, none, leaf, node, After, Rest, tree}
 

@@ -1,7 +1,7 @@
 -- A machine: the nesting of scopes: the tables of events as those of the block tree of any language. Trust needs no reading of it.
 use Rattle.std.specs.Prelude.{ℕ, Bool, List, if◌then◌else◌}
 use Rattle.page_scopes_tree.specs.machine.Nestings.{Nesting, Standing, as_node, as_leaf, as_nothing}
-use Rattle.page_scopes_tree.specs.Acts.{Step, comes, does}
+use Rattle.page_scopes_tree.specs.laws.Views.{Step, comes, does}
 use Rattle.page_scopes_tree.specs.Ends.{act_ends}
 use Rattle.page_scopes_tree.specs.Placements.{act_placement, act_skips, is_passed_over}
 use Rattle.page_sets_lines.specs.declared.events.Event.{Event}

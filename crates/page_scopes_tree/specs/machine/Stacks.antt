@@ -1,9 +1,10 @@
 -- The code's own stack, a vector with the outermost scope first, and the acts that end no scope and open none. Source: man(7).
 use Rattle.std.specs.Prelude.{◌≡◌, ℕ, Bool, true, false, not, List, reverse, vec_capacity}
 use Rattle.std.specs.Global.{Vec}
-use Rattle.page_core_base.specs.Latches.{Came}
-use Rattle.page_core_base.specs.Pieces.{Item}
-use Rattle.page_scopes_tree.specs.OpenScopes.{Edge, labels}
+use Rattle.page_core_base.specs.laws.Views.{Came}
+use Rattle.page_core_base.specs.Rows.{Item}
+use Rattle.page_scopes_tree.specs.Ends.{Edge}
+use Rattle.page_scopes_tree.specs.laws.Views.{labels, Step, in_enclosure}
 use Rattle.page_scopes_tree.specs.machine.Machines.{step, step_items}
 use Rattle.page_scopes_tree.specs.machine.Nestings.{Standing}
 use Rattle.page_scopes_tree.specs.declared.nestings.Scope.{Scope}
@@ -12,10 +13,9 @@ use Rattle.page_sets_lines.specs.declared.events.EventKind.TheVariants as kinds
 use Rattle.page_sets_lines.specs.declared.events.Event.{Event}
 use Rattle.page_sets_lines.specs.declared.openers.Closer.{Closer}
 use Rattle.page_sets_lines.specs.declared.openers.Closer.TheVariants as closers
-use Rattle.page_scopes_tree.specs.Acts.{Step}
 use Rattle.page_scopes_tree.specs.machine.Frames.{Tables, framed}
 use Rattle.page_scopes_tree.specs.machine.Nests.{Fact, scopes_nesting, standing_by}
-use Rattle.page_scopes_tree.specs.Placements.{act_placement, in_enclosure, in_line_scope}
+use Rattle.page_scopes_tree.specs.Placements.{act_placement, in_line_scope}
 use Rattle.page_scopes_tree.specs.declared.acts.Act.{Act}
 use Rattle.page_scopes_tree.specs.declared.acts.Act.TheVariants as acts
 use Rattle.page_scopes_labels.specs.declared.labels.Label.{Label}

@@ -2,8 +2,8 @@
 -- Source: roff(7), `\f`.
 use Rattle.std.specs.Prelude.{◌≡◌, ℕ, ◌+◌, Bool, true, List, [], ◌++◌, length, map, take, drop, if◌then◌else◌}
 use Rattle.std.specs.List.{list_all}
-use Rattle.page_core_base.specs.Pieces.{Item, shown}
-use Rattle.page_core_base.specs.Words.{is_lettered_word, lettered_cells, lettered_pieces}
+use Rattle.page_core_base.specs.Rows.{Item, shown}
+use Rattle.page_core_base.specs.laws.Views.{is_lettered_word, lettered_cells, lettered_pieces}
 use Rattle.page_core_base.specs.declared.cells.Cell.{Cell}
 use Rattle.page_core_base.specs.declared.cells.Font.{Font}
 use Rattle.page_core_base.specs.declared.pieces.Piece.{Piece}

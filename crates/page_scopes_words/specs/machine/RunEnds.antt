@@ -1,6 +1,7 @@
 -- Where a run of words of printable ASCII ends, with one blank before each: a fast way of the code, which no definition of a page cites.
 use Rattle.std.specs.Prelude.{◌≡◌, ℕ, suc, ◌≤◌, ◌<◌, ◌==◌, ◌&&◌, ◌||◌, not, Bool, false, List, get_or}
-use Rattle.page_core_base.specs.Words.{hyphen, is_printable}
+use Rattle.page_core_base.specs.Rows.{hyphen}
+use Rattle.page_core_base.specs.laws.Views.{is_printable}
 
 -- whether a run ends at a byte, by the one after it: a hyphen, what is not printable ASCII, a backslash, in a quoted argument a quote, or a blank
 -- before a blank

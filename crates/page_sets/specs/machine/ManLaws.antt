@@ -18,10 +18,9 @@ use Rattle.page_sets_lines.specs.declared.events.EventKind.TheVariants as kinds
 use Rattle.page_sets_lines.specs.declared.events.Event.{Event}
 use Rattle.page_sets_lines.specs.declared.plain_lines.PlainLine.{PlainLine}
 use Rattle.page_roff_syntax.specs.declared.requests.LayoutRequest.{LayoutRequest}
-use Rattle.page_core_base.specs.LinesTaken.{Line}
-use Rattle.page_sets_lines.specs.Laws.{IsPart, IsArgument, IsArgumentIfGiven, OpensSlices, ClosesSlices, LeavesSlices, HasSlices, AreSlices, AreInOrder}
-use Rattle.page_sets_lines.specs.ControlLines.{name_end, name_of, name_place, is_nameless, arguments_after, first_of}
-use Rattle.page_sets_lines.specs.PlainLines.{line_end, plain_line, layout_request}
+use Rattle.page_core_base.specs.Texts.{Line}
+use Rattle.page_sets_lines.specs.laws.Sets.{IsPart, IsArgument, IsArgumentIfGiven, OpensSlices, ClosesSlices, LeavesSlices, HasSlices, AreSlices, AreInOrder}
+use Rattle.page_sets_lines.specs.Lines.{name_end, name_of, name_place, is_nameless, arguments_after, first_of, line_end, plain_line, layout_request}
 use Rattle.page_sets_lines.proofs.ArgumentLaws.{ArgumentsFrom, all_after, earlier, few_after}
 use Rattle.page_sets_lines.proofs.LawLemmas.{nothing_part, rest_part, end_within, name_part, first_slice_after, first_text_after, second_text_after, request_slices, line_slices, AreSlices-append, HasNoWord, order_after, order_before, line_order, named_bytes}
 use Rattle.page_sets.specs.declared.man_rows.Opens.{Opens}
@@ -42,10 +41,9 @@ use Rattle.page_sets.specs.declared.man_rows.Last.{Last}
 use Rattle.page_sets.specs.declared.man_rows.Last.TheVariants as lasts
 use Rattle.page_sets.specs.declared.man_rows.Row.{Row}
 use Rattle.page_sets.specs.declared.man_gives.Quote.{Quote}
-use Rattle.page_core_base.specs.TableRows.{row_in}
+use Rattle.page_core_base.specs.Messages.{row_in}
 use Rattle.page_core_base.specs.declared.places.Place.{Place}
-use Rattle.page_sets.specs.ManRows.{quiet, table, macro_row, request_row, row_of}
-use Rattle.page_sets.specs.Man.{opener, closer, leaf, effect_kind, line_scope, one_word, plain_words, alternating_words, option_words, section_words, reference_words, further_words, words_events, has_words, break_events, quote_at, missing_quote, quote_events, kind_events, scope_events, last_events, macro_events, lone_events, row_events, named_events, control_events, line_events, man_events}
+use Rattle.page_sets.specs.Man.{quiet, table, macro_row, request_row, row_of, opener, closer, leaf, effect_kind, line_scope, one_word, plain_words, alternating_words, option_words, section_words, reference_words, further_words, words_events, has_words, break_events, quote_at, missing_quote, quote_events, kind_events, scope_events, last_events, macro_events, lone_events, row_events, named_events, control_events, line_events, man_events}
 
 -- ---- slices
 

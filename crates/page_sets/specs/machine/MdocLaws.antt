@@ -1,16 +1,15 @@
 -- The macros of mdoc(7) keep the laws of macro sets: proofs, which the set's laws cite. Source: mdoc(7).
 use Rattle.std.proofs.Common.{ℕ, ◌+◌, ◌*◌, ◌≤◌, Bool, true, false, List, [], ◌∷◌, ◌++◌, length, refl, arith, inl, inr, length-append, Option, None, Some, if◌then◌else◌}
 use Rattle.std.proofs.lemmas.Bool.{cases_Bool}
-use Rattle.page_core_base.specs.LinesTaken.{Line}
+use Rattle.page_core_base.specs.Texts.{Line}
 use Rattle.page_core_base.specs.declared.note_kinds.NoteKind.{NoteKind}
 use Rattle.page_core_base.specs.declared.note_kinds.NoteKind.TheVariants.{UnknownMacro, EmptyMacro}
 use Rattle.page_roff_syntax.specs.declared.quotes.Argument.{Argument}
 use Rattle.page_roff_syntax.specs.declared.requests.LayoutRequest.{LayoutRequest}
 use Rattle.page_sets_lines.specs.declared.events.Event.{Event}
 use Rattle.page_sets_lines.specs.declared.plain_lines.PlainLine.{PlainLine}
-use Rattle.page_sets_lines.specs.ControlLines.{name_end, name_of, name_place, is_nameless}
-use Rattle.page_sets_lines.specs.Laws.{AreSlices, AreInOrder}
-use Rattle.page_sets_lines.specs.PlainLines.{line_end, plain_line, layout_request}
+use Rattle.page_sets_lines.specs.Lines.{name_end, name_of, name_place, is_nameless, line_end, plain_line, layout_request}
+use Rattle.page_sets_lines.specs.laws.Sets.{AreSlices, AreInOrder}
 use Rattle.page_sets_lines.proofs.ArgumentLaws.{ArgumentsFrom, all_after, earlier}
 use Rattle.page_sets_lines.proofs.LawLemmas.{name_part, line_slices, AreSlices-append, HasNoWord, order_after, order_before, line_order, named_bytes}
 use Rattle.page_sets_lines.proofs.OrderLemmas.{AreArguments, all_arguments, in_order}

@@ -1,17 +1,17 @@
 -- The words of a line, with the calls among them, are slices of it, in its order, and few: proofs, which the set's laws cite. Source: mdoc(7).
 use Rattle.std.proofs.Common.{◌≡◌, ℕ, ◌+◌, ◌-◌, Bool, List, [], ◌∷◌, ◌++◌, refl, sym, subst, append_assoc, arith, None, Some}
-use Rattle.page_core_base.specs.LinesTaken.{Line}
+use Rattle.page_core_base.specs.Texts.{Line}
 use Rattle.page_roff_syntax.specs.declared.quotes.Argument.{Argument}
 use Rattle.page_sets_lines.specs.declared.events.Event.{Event}
-use Rattle.page_sets_lines.specs.ControlLines.{name_of, name_place}
-use Rattle.page_sets_lines.specs.PlainLines.{word_place}
+use Rattle.page_sets_lines.specs.Lines.{name_of, name_place, word_place}
 use Rattle.page_sets_lines.proofs.LawLemmas.{name_part}
 use Rattle.page_sets_lines.proofs.OrderLemmas.{AreArguments, AreArguments-split}
 use Rattle.page_sets_mdoc_lines.specs.declared.macros.Inline.{Inline}
 use Rattle.page_sets_mdoc_lines.specs.Rows.{is_parsed}
-use Rattle.page_sets_mdoc_lines.specs.Parts.{Call, LineParts, as_list, calls_arguments, has_calls, parts, parts_arguments}
+use Rattle.page_sets_mdoc_lines.specs.Parts.{Call, LineParts, has_calls, parts}
+use Rattle.page_sets_mdoc_lines.specs.laws.Views.{as_list, calls_arguments, parts_arguments}
 use Rattle.page_sets_mdoc_lines.proofs.PartLemmas.{none_taken, whole}
-use Rattle.page_sets_mdoc_words.specs.Printed.{printed}
+use Rattle.page_sets_mdoc_words.specs.Inlines.{printed}
 use Rattle.page_sets_mdoc_words.proofs.MacroPrintLemmas.{begun_prints, called_prints, own_arguments}
 use Rattle.page_sets_mdoc_words.proofs.PrintLemmas.{Prints, both, more_events, no_event, own_first, printed_prints, word_passed}
 use Rattle.page_sets.specs.Mdoc.{call_events, calls_events, tail_events, rest_events, head_events, phrase_events}

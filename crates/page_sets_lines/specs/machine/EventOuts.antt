@@ -1,7 +1,7 @@
 -- What takes events, where it is lent, and where one event of all is kept.
 use Rattle.std.specs.Prelude.{◌≡◌, ℕ, zero, suc, List, [], ◌∷◌, Option, None, Some}
 use Rattle.std.specs.Borrow.{Bor, GName}
-use Rattle.page_sets_lines.specs.Events.{event_view}
+use Rattle.page_sets_lines.specs.laws.Events.{event_view}
 use Rattle.page_sets_lines.specs.declared.events.Event.{Event}
 
 -- ---- what is lent

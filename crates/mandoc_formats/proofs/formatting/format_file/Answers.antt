@@ -1,5 +1,5 @@
 use Rattle.std.proofs.Common.{ℕ, List, [], refl, ◌∙◌, subst, inl, inr}
-use Rattle.page_core_streams.specs.Grows.{Grows-nil}
+use Rattle.page_core_streams.specs.laws.Views.{Grows-nil}
 use Rattle.mandoc_formats.specs.Formats.{File, IsFound}
 use Rattle.mandoc_formats.proofs.Lists.{gave_one, put_out_none}
 use Rattle.mandoc_formats.proofs.formatting.format_file.Goals as goal

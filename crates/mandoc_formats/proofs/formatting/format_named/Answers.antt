@@ -1,5 +1,5 @@
 use Rattle.std.proofs.Common.{[], refl, inl}
-use Rattle.page_core_streams.specs.Grows.{Grows-nil}
+use Rattle.page_core_streams.specs.laws.Views.{Grows-nil}
 use Rattle.mandoc_formats.specs.Formats.{File}
 use Rattle.mandoc_formats.proofs.Lists.{gave_one, put_out_none}
 use Rattle.mandoc_formats.proofs.formatting.format_named.Goals as goal

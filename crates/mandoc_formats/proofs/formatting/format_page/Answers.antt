@@ -1,6 +1,6 @@
 use Rattle.std.proofs.Common.{◌++◌, Result, Ok, Err, false, refl, subst}
 use Rattle.page_core_base.specs.declared.faults.Fault.{Fault}
-use Rattle.page_core_streams.specs.Grows.{Grows-append}
+use Rattle.page_core_streams.specs.laws.Views.{Grows-append}
 use Rattle.page_engine.specs.declared.runs.Outcome.{Outcome}
 use Rattle.mandoc_formats.specs.Formats.{File, IsReported, page_out, page_err}
 use Rattle.mandoc_formats.proofs.Lists.{gave_one, put_out_none}

@@ -1,4 +1,4 @@
-use Rattle.page_core_streams.specs.Grows.{Grows-nil}
+use Rattle.page_core_streams.specs.laws.Views.{Grows-nil}
 use Rattle.mandoc_formats.proofs.Lists.{plain_out}
 use Rattle.mandoc_formats.proofs.formatting.run_into.Goals as goal
 

@@ -1,7 +1,7 @@
 use Rattle.std.proofs.Common.{cond}
 use Rattle.std.specs.Prelude.{encode_utf8}
 use Rattle.std.specs.List.{flat_map}
-use Rattle.page_core_streams.specs.Grows.{Writes}
+use Rattle.page_core_streams.specs.laws.Views.{Writes}
 use Rattle.mandoc_formats.specs.ShownNames.{is_hidden}
 use Rattle.mandoc_formats.proofs.names.put_name.Given as goal
 

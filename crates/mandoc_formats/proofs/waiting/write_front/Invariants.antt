@@ -1,5 +1,5 @@
 use Rattle.std.proofs.Common.{◌≤◌, length, take}
-use Rattle.page_core_streams.specs.Grows.{Grows}
+use Rattle.page_core_streams.specs.Streams.{Grows}
 use Rattle.mandoc_formats.proofs.waiting.write_front.Given as goal
 
 abbrev pub invariant-loop : goal.invariant-loop

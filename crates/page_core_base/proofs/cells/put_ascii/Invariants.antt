@@ -1,5 +1,5 @@
 use Rattle.std.proofs.Common.{◌≡◌, take, vec_capacity, vec_len}
-use Rattle.page_core_base.specs.Rows.{cells_in}
+use Rattle.page_core_base.specs.laws.Views.{cells_in}
 use Rattle.page_core_base.proofs.cells.put_ascii.Given as goal
 
 abbrev pub invariant-loop-i : goal.invariant-loop-i

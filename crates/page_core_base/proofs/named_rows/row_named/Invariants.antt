@@ -1,5 +1,5 @@
 use Rattle.std.proofs.Common.{◌≡◌, drop}
-use Rattle.page_core_base.specs.TableRows.{row_in}
+use Rattle.page_core_base.specs.Messages.{row_in}
 use Rattle.page_core_base.proofs.RowLemmas.{seen}
 use Rattle.page_core_base.proofs.named_rows.row_named.Given as goal
 

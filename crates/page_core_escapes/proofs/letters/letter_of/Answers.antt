@@ -1,5 +1,5 @@
 use Rattle.std.proofs.Common.{rules, tests}
-use Rattle.page_core_escapes.specs.Letters.{letter_of}
+use Rattle.page_core_escapes.specs.Lengths.{letter_of}
 use Rattle.page_core_escapes.proofs.letters.letter_of.Goals as goal
 
 pub returns-in-98 : goal.returns-in-98

@@ -1,4 +1,4 @@
-use Rattle.page_core_escapes.specs.Escapes.{face_view}
+use Rattle.page_core_escapes.specs.laws.Views.{face_view}
 use Rattle.page_core_escapes.proofs.FontLemmas.{short_font}
 use Rattle.page_core_escapes.proofs.tokens.short_font.Goals as goal
 

@@ -1,5 +1,5 @@
 use Rattle.std.proofs.Common.{◌≡◌, ◌≤◌, ◌^◌, min, take}
-use Rattle.page_core_numbers.specs.Numbers.{decimal}
+use Rattle.page_core_numbers.specs.Expressions.{decimal}
 use Rattle.page_core_numbers.proofs.decimals.whole_value.Given as goal
 
 abbrev pub invariant-loop-digit : goal.invariant-loop-digit

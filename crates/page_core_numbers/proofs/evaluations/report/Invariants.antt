@@ -1,5 +1,5 @@
 use Rattle.std.proofs.Common.{◌≡◌, length}
-use Rattle.page_core_base.specs.Sinks.{UpTo}
+use Rattle.page_core_base.specs.laws.Views.{UpTo}
 use Rattle.page_core_numbers.proofs.evaluations.report.Given as goal
 
 abbrev pub invariant-loop-note : goal.invariant-loop-note

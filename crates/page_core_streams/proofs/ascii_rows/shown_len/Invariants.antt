@@ -1,6 +1,7 @@
 use Rattle.std.proofs.Common.{◌≡◌, ◌≤◌, List, length, take}
 use Rattle.page_core_base.specs.declared.cells.Font.{Font}
-use Rattle.page_core_base.specs.Rows.{cells_in, trimmed}
+use Rattle.page_core_base.specs.laws.Views.{cells_in}
+use Rattle.page_core_base.specs.Rows.{trimmed}
 use Rattle.page_core_streams.proofs.ascii_rows.shown_len.Given as goal
 
 abbrev pub invariant-loop-len : goal.invariant-loop-len

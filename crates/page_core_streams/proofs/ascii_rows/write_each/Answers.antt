@@ -1,8 +1,8 @@
 use Rattle.std.proofs.Common.{◌++◌, ◌∙◌, take, get_or, sym, ap, append_assoc, arith}
 use Rattle.std.specs.List.{flat_map}
 use Rattle.page_core_base.specs.declared.cells.Font.TheVariants.{R}
-use Rattle.page_core_base.specs.Rows.{cells_in}
-use Rattle.page_core_streams.specs.RowBytes.{cell_bytes_of}
+use Rattle.page_core_base.specs.laws.Views.{cells_in}
+use Rattle.page_core_streams.specs.Streams.{cell_bytes_of}
 use Rattle.page_core_streams.proofs.AsciiLemmas.{bytes-more}
 use Rattle.page_core_streams.proofs.ascii_rows.write_each.Goals as goal
 

@@ -1,7 +1,7 @@
 use Rattle.std.proofs.Common.{◌≡◌, ◌++◌, ◌+◌, ◌*◌, ◌≤◌, take}
 use Rattle.std.specs.List.{flat_map}
-use Rattle.page_core_base.specs.Rows.{cells_in}
-use Rattle.page_core_streams.specs.RowBytes.{cell_bytes_of}
+use Rattle.page_core_base.specs.laws.Views.{cells_in}
+use Rattle.page_core_streams.specs.Streams.{cell_bytes_of}
 use Rattle.page_core_streams.proofs.ascii_rows.write_each.Given as goal
 
 abbrev pub invariant-loop-i : goal.invariant-loop-i

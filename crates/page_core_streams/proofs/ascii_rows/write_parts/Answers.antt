@@ -1,9 +1,9 @@
 use Rattle.std.proofs.Common.{◌≡◌, true, ◌++◌, ◌+◌, ◌-◌, ◌∙◌, take, drop, sym, ap, append_assoc, arith}
 use Rattle.std.specs.List.{flat_map, list_all}
 use Rattle.std.proofs.lemmas.List.{take_rest}
-use Rattle.page_core_base.specs.Rows.{cells_in}
+use Rattle.page_core_base.specs.laws.Views.{cells_in}
 use Rattle.page_core_streams.specs.machine.PlainCells.{is_roman}
-use Rattle.page_core_streams.specs.RowBytes.{cell_bytes_of}
+use Rattle.page_core_streams.specs.Streams.{cell_bytes_of}
 use Rattle.page_core_streams.proofs.AsciiLemmas.{ascii-front, ascii-back, bytes-parts}
 use Rattle.page_core_streams.proofs.GroupLemmas.{part-more, roman-part}
 use Rattle.page_core_streams.proofs.ascii_rows.write_parts.Goals as goal

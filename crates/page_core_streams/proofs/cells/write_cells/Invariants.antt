@@ -1,6 +1,6 @@
 use Rattle.std.proofs.Common.{◌≡◌, ◌++◌, ◌+◌, ◌*◌, ◌≤◌, take}
 use Rattle.std.specs.List.{flat_map}
-use Rattle.page_core_streams.specs.RowBytes.{cell_bytes_of}
+use Rattle.page_core_streams.specs.Streams.{cell_bytes_of}
 use Rattle.page_core_streams.proofs.cells.write_cells.Given as goal
 
 abbrev pub invariant-loop-cell : goal.invariant-loop-cell

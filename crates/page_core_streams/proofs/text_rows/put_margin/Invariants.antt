@@ -1,5 +1,5 @@
 use Rattle.std.proofs.Common.{◌≡◌, replicate}
-use Rattle.page_core_streams.specs.Grows.{GrowsUpTo}
+use Rattle.page_core_streams.specs.laws.Views.{GrowsUpTo}
 use Rattle.page_core_streams.proofs.text_rows.put_margin.Given as goal
 
 abbrev pub invariant-loop-left : goal.invariant-loop-left

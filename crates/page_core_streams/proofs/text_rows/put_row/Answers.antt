@@ -1,7 +1,7 @@
 use Rattle.std.proofs.Common.{◌≡◌, ◌++◌, ◌+◌, ◌∷◌, [], replicate, take, set, refl, sym, ap, ◌∙◌, append_assoc, arith, rules}
 use Rattle.std.specs.List.{flat_map}
 use Rattle.std.proofs.lemmas.List.{take_more_set}
-use Rattle.page_core_streams.specs.RowBytes.{cell_bytes_of, printed}
+use Rattle.page_core_streams.specs.Streams.{cell_bytes_of, printed}
 use Rattle.page_core_streams.proofs.GrowsLemmas.{GrowsUpTo-start, GrowsUpTo-flow, GrowsUpTo-broken, GrowsUpTo-last}
 use Rattle.page_core_streams.proofs.RowLemmas.{cells_moved, printed_parts}
 use Rattle.page_core_streams.proofs.text_rows.put_row.Goals as goal

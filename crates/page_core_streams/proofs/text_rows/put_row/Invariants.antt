@@ -1,7 +1,7 @@
 use Rattle.std.proofs.Common.{◌≡◌, ◌++◌, ◌≤◌, [], ◌∷◌, take, length}
 use Rattle.std.specs.List.{flat_map}
-use Rattle.page_core_streams.specs.RowBytes.{cell_bytes_of, printed}
-use Rattle.page_core_streams.specs.Grows.{GrowsUpTo}
+use Rattle.page_core_streams.specs.Streams.{cell_bytes_of, printed}
+use Rattle.page_core_streams.specs.laws.Views.{GrowsUpTo}
 use Rattle.page_core_streams.proofs.text_rows.put_row.Given as goal
 
 abbrev pub invariant-loop-rest : goal.invariant-loop-rest

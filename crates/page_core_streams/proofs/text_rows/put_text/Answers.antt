@@ -2,8 +2,8 @@ use Rattle.std.proofs.Common.{◌≡◌, ◌++◌, ◌+◌, ◌-◌, ◌/◌, �
 use Rattle.std.specs.List.{flat_map}
 use Rattle.std.proofs.lemmas.Bool.Decides.{nat_tests}
 use Rattle.std.proofs.lemmas.List.{take-take, take_more_set}
-use Rattle.page_core_base.specs.Rows.{cells_in}
-use Rattle.page_core_streams.specs.RowBytes.{cell_bytes_of, printed}
+use Rattle.page_core_base.specs.laws.Views.{cells_in}
+use Rattle.page_core_streams.specs.Streams.{cell_bytes_of, printed}
 use Rattle.page_core_streams.proofs.GrowsLemmas.{GrowsUpTo-start, GrowsUpTo-flow, GrowsUpTo-broken, GrowsUpTo-last}
 use Rattle.page_core_streams.proofs.AsciiLemmas.{ascii-front, ascii-back, text-front, text-moved, text-printed}
 use Rattle.page_core_streams.proofs.GroupLemmas.{text-done}

@@ -1,8 +1,8 @@
 use Rattle.std.proofs.Common.{◌≡◌, ℕ, ◌++◌, ◌+◌, ◌*◌, ◌≤◌, ◌-◌, [], ◌∷◌, take, drop, length}
 use Rattle.std.specs.List.{flat_map}
-use Rattle.page_core_base.specs.Rows.{cells_in}
-use Rattle.page_core_streams.specs.RowBytes.{cell_bytes_of, printed}
-use Rattle.page_core_streams.specs.Grows.{GrowsUpTo}
+use Rattle.page_core_base.specs.laws.Views.{cells_in}
+use Rattle.page_core_streams.specs.Streams.{cell_bytes_of, printed}
+use Rattle.page_core_streams.specs.laws.Views.{GrowsUpTo}
 use Rattle.page_core_streams.proofs.text_rows.put_text.Given as goal
 
 -- whole groups are left

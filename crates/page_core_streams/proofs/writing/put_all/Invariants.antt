@@ -1,6 +1,6 @@
 use Rattle.std.proofs.Common.{◌≡◌, ◌++◌, drop}
 use Rattle.std.specs.List.{flat_map}
-use Rattle.page_core_streams.specs.Grows.{GrowsUpTo}
+use Rattle.page_core_streams.specs.laws.Views.{GrowsUpTo}
 use Rattle.page_core_streams.proofs.writing.put_all.Given as goal
 
 abbrev pub invariant-loop-text : goal.invariant-loop-text

@@ -1,5 +1,5 @@
 use Rattle.std.proofs.Common.{length, ◌+◌}
-use Rattle.page_core_streams.specs.Grows.{GrowsUpTo}
+use Rattle.page_core_streams.specs.laws.Views.{GrowsUpTo}
 use Rattle.page_core_streams.proofs.writing.write_rest.Given as goal
 
 abbrev pub invariant-loop-rest : goal.invariant-loop-rest

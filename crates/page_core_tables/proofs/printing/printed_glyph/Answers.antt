@@ -1,4 +1,4 @@
-use Rattle.page_core_tables.specs.Glyphs.{symbol_of}
+use Rattle.page_core_tables.specs.laws.Views.{symbol_of}
 use Rattle.page_core_tables.proofs.PrintedLemmas.{by_spelling_of_glyph-short}
 use Rattle.page_core_tables.proofs.printing.printed_glyph.Goals as goal
 

@@ -1,14 +1,12 @@
 use Rattle.std.proofs.Common.{rules, ◌≡◌, ℕ, List, Some, ◌∙◌, subst}
 use Rattle.std.specs.List.{flat_map}
-use Rattle.page_core_streams.specs.Grows.{Grows, GrowsInto}
-use Rattle.page_core_streams.specs.MessageBytes.{message_bytes}
-use Rattle.page_core_streams.specs.Sources.{source_state}
+use Rattle.page_core_streams.specs.Streams.{Grows, GrowsInto, message_bytes}
+use Rattle.page_core_streams.specs.laws.Views.{source_state}
 use Rattle.page_core_streams.specs.declared.text_rows.TextRows.{TextRows}
 use Rattle.page_core_streams.specs.declared.text_notes.TextNotes.{TextNotes}
 use Rattle.page_core_streams.proofs.FailureLemmas.{count_true}
-use Rattle.page_engine.specs.Runs.{RunsIn, RunsOver}
-use Rattle.page_engine.specs.Streams.{Sinks, streams, sinks}
-use Rattle.page_engine.specs.Written.{WritesRows, WritesRowsInto, WritesNotes, WritesNotesInto}
+use Rattle.page_engine.specs.laws.Views.{RunsIn}
+use Rattle.page_engine.specs.Runs.{RunsOver, Sinks, streams, sinks, WritesRows, WritesRowsInto, WritesNotes, WritesNotesInto}
 use Rattle.page_engine.proofs.Causes.{caused_on}
 use Rattle.page_engine.proofs.KnownBytes.{runs_in, passed_on}
 use Rattle.page_engine.proofs.runs.run_bytes.Goals as goal

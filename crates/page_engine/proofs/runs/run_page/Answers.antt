@@ -1,14 +1,10 @@
 use Rattle.std.proofs.Common.{rules, ◌≡◌, ℕ, List, ap, ◌∙◌, subst}
 use Rattle.std.specs.List.{flat_map}
-use Rattle.page_core_streams.specs.Grows.{Grows, GrowsInto}
-use Rattle.page_core_streams.specs.Inputs.{state_of}
-use Rattle.page_core_streams.specs.MessageBytes.{message_bytes}
-use Rattle.page_core_streams.specs.Sources.{SourceState}
+use Rattle.page_core_streams.specs.Streams.{Grows, GrowsInto, message_bytes, SourceState}
+use Rattle.page_core_streams.specs.laws.Views.{state_of}
 use Rattle.page_core_streams.specs.declared.text_rows.TextRows.{TextRows}
 use Rattle.page_core_streams.specs.declared.text_notes.TextNotes.{TextNotes}
-use Rattle.page_engine.specs.Runs.{RunsOver}
-use Rattle.page_engine.specs.Streams.{Sinks, sinks}
-use Rattle.page_engine.specs.Written.{WritesRows, WritesRowsInto, WritesNotes, WritesNotesInto}
+use Rattle.page_engine.specs.Runs.{RunsOver, Sinks, sinks, WritesRows, WritesRowsInto, WritesNotes, WritesNotesInto}
 use Rattle.page_core_streams.proofs.FailureLemmas.{count_true, state_true}
 use Rattle.page_engine.proofs.Causes.{caused_on}
 use Rattle.page_engine.proofs.runs.run_page.Goals as goal

@@ -1,5 +1,5 @@
 use Rattle.std.proofs.Common.{◌≡◌, ◌≤◌, ◌+◌, ◌++◌, length}
-use Rattle.page_engine_header.specs.Fields.{words_text}
+use Rattle.page_engine_header.specs.Header.{words_text}
 use Rattle.page_engine_header.proofs.field_texts.add_words.Given as goal
 
 abbrev pub invariant-loop-argument : goal.invariant-loop-argument

@@ -1,7 +1,7 @@
 use Rattle.std.proofs.Common.{◌≡◌, ◌+◌, length}
 use Rattle.std.specs.List.{sum_by}
 use Rattle.page_core_base.specs.declared.limits.TheConstants.{FIELD}
-use Rattle.page_engine_header.specs.Fields.{said_len}
+use Rattle.page_engine_header.specs.Header.{said_len}
 use Rattle.page_engine_header.proofs.fields.is_long.Given as goal
 
 abbrev pub invariant-loop-argument : goal.invariant-loop-argument

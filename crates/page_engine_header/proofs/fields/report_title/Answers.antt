@@ -1,8 +1,8 @@
 use Rattle.std.proofs.Common.{◌≡◌, append_assoc, sym, ap, arith}
 use Rattle.std.proofs.Math.Seq.{take-nil}
 use Rattle.std.proofs.lemmas.Bool.Decides.{nat_tests}
-use Rattle.page_roff_syntax.specs.Arguments.{argument_view}
-use Rattle.page_engine_header.specs.Fields.{argument_cut, cut_item}
+use Rattle.page_roff_syntax.specs.laws.Views.{argument_view}
+use Rattle.page_engine_header.specs.Header.{argument_cut, cut_item}
 use Rattle.page_engine_header.proofs.FieldLemmas.{cuts_more}
 use Rattle.page_engine_header.proofs.fields.report_title.Goals as goal
 

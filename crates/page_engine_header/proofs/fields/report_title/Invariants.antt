@@ -1,7 +1,7 @@
 use Rattle.std.proofs.Common.{take}
 use Rattle.std.specs.List.{flat_map}
-use Rattle.page_core_base.specs.Latches.{CameUpTo}
-use Rattle.page_engine_header.specs.Fields.{FIELDS, argument_cut}
+use Rattle.page_core_base.specs.laws.Views.{CameUpTo}
+use Rattle.page_engine_header.specs.Header.{FIELDS, argument_cut}
 use Rattle.page_engine_header.proofs.fields.report_title.Given as goal
 
 abbrev pub invariant-loop-left : goal.invariant-loop-left

@@ -1,5 +1,6 @@
 use Rattle.std.proofs.Common.{rules}
-use Rattle.page_engine_header.specs.Header.{part_tokens, row_characters}
+use Rattle.page_engine_header.specs.laws.Views.{part_tokens}
+use Rattle.page_engine_header.specs.Header.{row_characters}
 use Rattle.page_engine_header.proofs.RowLemmas.{rows_came}
 use Rattle.page_engine_header.proofs.headers.give_rows.Goals as goal
 

@@ -1,7 +1,8 @@
 use Rattle.std.proofs.Common.{◌≡◌, ◌≤◌, false, length}
-use Rattle.page_core_base.specs.Latches.{CameUpTo}
+use Rattle.page_core_base.specs.laws.Views.{CameUpTo}
 use Rattle.page_core_escapes.specs.Tokens.{tokens_len, tokens_of}
-use Rattle.page_engine_header.specs.Printing.{tokens_items, fonts_after}
+use Rattle.page_engine_header.specs.Header.{tokens_items}
+use Rattle.page_engine_header.specs.laws.Views.{fonts_after}
 use Rattle.page_engine_header.proofs.printing.give_text.Given as goal
 
 abbrev pub invariant-loop-token : goal.invariant-loop-token

@@ -1,6 +1,6 @@
 use Rattle.std.proofs.Common.{◌≡◌, ◌≤◌, ◌+◌, ◌*◌, false, length}
 use Rattle.page_core_escapes.specs.Tokens.{tokens_len, tokens_of}
-use Rattle.page_engine_header.specs.Printing.{tokens_columns}
+use Rattle.page_engine_header.specs.Header.{tokens_columns}
 use Rattle.page_engine_header.proofs.printing.text_columns.Given as goal
 
 abbrev pub invariant-loop-token : goal.invariant-loop-token

@@ -1,6 +1,6 @@
 use Rattle.std.proofs.Common.{drop}
-use Rattle.page_core_base.specs.Latches.{CameUpTo}
-use Rattle.page_engine_header.specs.Printing.{in_font}
+use Rattle.page_core_base.specs.laws.Views.{CameUpTo}
+use Rattle.page_engine_header.specs.Header.{in_font}
 use Rattle.page_engine_header.proofs.run_outs.give_each.Given as goal
 
 abbrev pub invariant-loop-byte : goal.invariant-loop-byte

@@ -1,6 +1,6 @@
 use Rattle.std.proofs.Common.{rules, ap, ◌∙◌, subst}
-use Rattle.page_core_streams.specs.Inputs.{state_of}
-use Rattle.page_core_streams.specs.Sources.{SourceState}
+use Rattle.page_core_streams.specs.laws.Views.{state_of}
+use Rattle.page_core_streams.specs.Streams.{SourceState}
 use Rattle.page_core_streams.proofs.FailureLemmas.{count_true, state_true}
 use Rattle.page_engine_index.specs.Searches.{RowsTo, SearchesOver, counting}
 use Rattle.page_engine_index.specs.Whatis.{asked}

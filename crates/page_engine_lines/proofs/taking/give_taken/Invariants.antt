@@ -1,6 +1,6 @@
 use Rattle.std.proofs.Common.{◌≡◌, length}
-use Rattle.page_core_base.specs.Latches.{CameUpTo}
-use Rattle.page_roff_source.specs.Taken.{given_of}
+use Rattle.page_core_base.specs.laws.Views.{CameUpTo}
+use Rattle.page_roff_source.specs.laws.Views.{given_of}
 use Rattle.page_engine_lines.specs.machine.Given.{given_items, body_after}
 use Rattle.page_engine_lines.proofs.taking.give_taken.Given as goal
 

@@ -1,7 +1,7 @@
 use Rattle.std.proofs.Common.{◌≡◌, false, ap, ◌∙◌}
 use Rattle.page_core_base.specs.declared.page_settings.Output.TheVariants.{Ascii}
 use Rattle.page_core_escapes.specs.Tokens.{tokens_of}
-use Rattle.page_engine_header.specs.Printing.{tokens_items}
+use Rattle.page_engine_header.specs.Header.{tokens_items}
 use Rattle.page_scopes_words.specs.Fonts.{roman_fonts}
 use Rattle.page_scopes_words.specs.Words.{at}
 use Rattle.page_engine_records.specs.machine.NameTexts.{read}

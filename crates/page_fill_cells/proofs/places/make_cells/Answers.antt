@@ -1,5 +1,5 @@
 use Rattle.std.proofs.Common.{◌≡◌, length, take, ap, ◌∙◌}
-use Rattle.page_core_base.specs.Rows.{cells_in}
+use Rattle.page_core_base.specs.laws.Views.{cells_in}
 use Rattle.page_fill_cells.proofs.PlaceLemmas.{given-back, in-length, put-first}
 use Rattle.page_fill_cells.proofs.places.make_cells.Goals as goal
 

@@ -1,5 +1,5 @@
 use Rattle.std.proofs.Common.{◌≡◌, ◌-◌, ◌+◌, ◌≤◌, take, true}
-use Rattle.page_fill_cells.specs.Cells as cells
+use Rattle.page_core_base.specs.laws.Views as cells
 use Rattle.page_fill_cells.proofs.printable.groups_printable.Given as goal
 
 abbrev pub invariant-loop-at : goal.invariant-loop-at

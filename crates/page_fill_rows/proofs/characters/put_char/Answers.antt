@@ -1,4 +1,4 @@
-use Rattle.page_fill_rows.specs.Characters.{cell_of}
+use Rattle.page_fill_cells.specs.Cells.{cell_of}
 use Rattle.page_fill_rows.proofs.SheetLemmas.{letters-one}
 use Rattle.page_fill_rows.proofs.characters.put_char.Goals as goal
 

@@ -1,7 +1,7 @@
 use Rattle.std.proofs.Common.{◌≡◌, IsUtf8, chars}
 use Rattle.std.specs.Str.Iter.{chars_rest}
-use Rattle.page_core_base.specs.Latches.{CameRowsUpTo}
-use Rattle.page_fill_rows.specs.Characters as shown
+use Rattle.page_core_base.specs.laws.Views.{CameRowsUpTo}
+use Rattle.page_fill_rows.specs.laws.Views as shown
 use Rattle.page_fill_rows.proofs.characters.put_characters.Given as goal
 
 abbrev pub invariant-loop-c : goal.invariant-loop-c

@@ -1,7 +1,7 @@
 use Rattle.std.proofs.Common.{◌≡◌, drop}
-use Rattle.page_core_base.specs.Latches.{CameRowsUpTo}
+use Rattle.page_core_base.specs.laws.Views.{CameRowsUpTo}
 use Rattle.page_fill_rows.specs.machine.Sheets as sheet
-use Rattle.page_fill_rows.specs.Characters as shown
+use Rattle.page_fill_rows.specs.OpenRows as shown
 use Rattle.page_fill_rows.proofs.plain_texts.put_bytes.Given as goal
 
 abbrev pub invariant-loop-byte : goal.invariant-loop-byte

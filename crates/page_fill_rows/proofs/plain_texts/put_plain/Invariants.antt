@@ -1,7 +1,7 @@
 use Rattle.std.proofs.Common.{◌≡◌, length, true}
-use Rattle.page_core_base.specs.Latches.{CameRowsUpTo}
+use Rattle.page_core_base.specs.laws.Views.{CameRowsUpTo}
 use Rattle.page_fill_rows.specs.machine.Sheets as sheet
-use Rattle.page_fill_rows.specs.Characters as shown
+use Rattle.page_fill_rows.specs.OpenRows as shown
 use Rattle.page_fill_rows.specs.machine.Plain as plain
 use Rattle.page_fill_rows.proofs.plain_texts.put_plain.Given as goal
 

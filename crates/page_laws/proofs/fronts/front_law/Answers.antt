@@ -1,6 +1,7 @@
 use Rattle.std.proofs.Common.{ap}
-use Rattle.page_core_base.specs.Laid.{Laid}
-use Rattle.page_engine.specs.Page.{Edge, settled, edge, page}
+use Rattle.page_core_base.specs.Rows.{Laid}
+use Rattle.page_engine.specs.Edges.{Edge}
+use Rattle.page_engine.specs.Page.{settled, edge, page}
 use Rattle.page_laws.proofs.fronts.front_law.Goals as goal
 
 pub returns-clause-settled : goal.returns-clause-settled

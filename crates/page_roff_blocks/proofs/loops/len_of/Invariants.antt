@@ -1,5 +1,5 @@
 use Rattle.std.proofs.Common.{◌≡◌, ◌≤◌, ◌+◌, ◌-◌, length, drop}
-use Rattle.page_roff_blocks.specs.Loops.{left_of}
+use Rattle.page_roff_blocks.specs.Parts.{left_of}
 use Rattle.page_roff_blocks.proofs.loops.len_of.Given as goal
 
 abbrev pub invariant-loop-left : goal.invariant-loop-left

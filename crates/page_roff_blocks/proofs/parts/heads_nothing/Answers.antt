@@ -1,5 +1,5 @@
 use Rattle.std.proofs.Common.{◌∙◌, ap, sym}
-use Rattle.page_roff_syntax.specs.LineForms.{name_view}
+use Rattle.page_roff_syntax.specs.laws.Views.{name_view}
 use Rattle.page_roff_blocks.proofs.LinePartLemmas.{plain_named, plain_nameless}
 use Rattle.page_roff_blocks.proofs.parts.heads_nothing.Goals as goal
 

@@ -1,5 +1,5 @@
 use Rattle.std.proofs.Common.{◌∙◌, ap, sym}
-use Rattle.page_roff_heads.specs.Heads.{block_end_view}
+use Rattle.page_roff_heads.specs.laws.Views.{block_end_view}
 use Rattle.page_roff_blocks.proofs.LinePartLemmas.{one_leaf}
 use Rattle.page_roff_blocks.proofs.parts.is_leaf.Goals as goal
 

@@ -1,6 +1,7 @@
 use Rattle.std.proofs.Common.{◌∙◌, ap, sym}
-use Rattle.page_roff_syntax.specs.LineForms.{form_of, name_view}
-use Rattle.page_roff_blocks.specs.Parts.{named_part}
+use Rattle.page_roff_syntax.specs.LineForms.{form_of}
+use Rattle.page_roff_syntax.specs.laws.Views.{name_view}
+use Rattle.page_roff_blocks.specs.laws.Views.{named_part}
 use Rattle.page_roff_blocks.proofs.LinePartLemmas.{part_named, plain_nameless}
 use Rattle.page_roff_blocks.proofs.parts.written_part.Goals as goal
 

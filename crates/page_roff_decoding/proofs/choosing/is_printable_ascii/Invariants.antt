@@ -1,6 +1,6 @@
 use Rattle.std.proofs.Common.{◌≡◌, take}
 use Rattle.std.specs.List.{list_all}
-use Rattle.page_roff_decoding.specs.Characters.{is_printable}
+use Rattle.page_roff_decoding.specs.Decoding.{is_printable}
 use Rattle.page_roff_decoding.proofs.choosing.is_printable_ascii.Given as goal
 
 -- whether each byte so far is printable

@@ -1,6 +1,6 @@
 use Rattle.std.proofs.Common.{◌+◌, sym, ◌∙◌, arith}
 use Rattle.std.proofs.lemmas.List.{length-drop, drop_all}
-use Rattle.page_roff_decoding.specs.Characters.{characters_after}
+use Rattle.page_roff_decoding.specs.Decoding.{characters_after}
 use Rattle.page_roff_decoding.proofs.FineLemmas.{decode_line-is_line}
 use Rattle.page_roff_decoding.proofs.ScanLemmas.{rest_of}
 use Rattle.page_roff_decoding.proofs.CharacterLemmas.{so_far-more, so_far-stop, so_far-end}

@@ -1,5 +1,5 @@
 use Rattle.std.proofs.Common.{◌≤◌, ◌-◌, length, drop}
-use Rattle.page_roff_decoding.specs.Characters.{characters}
+use Rattle.page_roff_decoding.specs.Decoding.{characters}
 use Rattle.page_roff_decoding.proofs.CharacterLemmas.{FitsSoFar}
 use Rattle.page_roff_decoding.proofs.decoding.decode.Given as goal
 

@@ -1,6 +1,4 @@
-use Rattle.page_roff_decoding.specs.Limit.{line_limit}
-use Rattle.page_roff_decoding.specs.Characters.{characters}
-use Rattle.page_roff_decoding.specs.Decoding.{characters_within}
+use Rattle.page_roff_decoding.specs.Decoding.{line_limit, characters, characters_within}
 use Rattle.page_roff_decoding.proofs.ReportLemmas.{untaken}
 use Rattle.page_roff_decoding.proofs.reporting.report.Goals as goal
 

@@ -1,10 +1,9 @@
 use Rattle.std.proofs.Common.{ℕ, ◌≡◌, ◌+◌, ◌-◌, refl, subst, ◌∙◌, arith}
 use Rattle.std.proofs.lemmas.List.{length-drop}
-use Rattle.page_core_base.specs.Sinks.{UpTo}
+use Rattle.page_core_base.specs.laws.Views.{UpTo}
 use Rattle.page_core_base.proofs.SinkLemmas.{UpTo-start, UpTo-more, UpTo-within, UpTo-all}
-use Rattle.page_roff_decoding.specs.Limit.{line_limit, line_limit_is}
-use Rattle.page_roff_decoding.specs.Characters.{characters}
-use Rattle.page_roff_decoding.specs.Decoding.{characters_within, bad_notes}
+use Rattle.page_roff_decoding.specs.Decoding.{line_limit, characters, characters_within, bad_notes}
+use Rattle.page_roff_decoding.specs.laws.Views.{line_limit_is}
 use Rattle.page_roff_decoding.proofs.ScanLemmas.{rest_of}
 use Rattle.page_roff_decoding.proofs.PlainLemmas.{bad_notes-text}
 use Rattle.page_roff_decoding.proofs.ReportLemmas.{bad_notes-front, bad_notes-stop, bad_notes-end}

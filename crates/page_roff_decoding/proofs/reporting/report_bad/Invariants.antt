@@ -1,8 +1,6 @@
 use Rattle.std.proofs.Common.{◌≡◌, ◌≤◌, ◌-◌, ◌+◌, length, drop}
-use Rattle.page_core_base.specs.Sinks.{UpTo}
-use Rattle.page_roff_decoding.specs.Limit.{line_limit}
-use Rattle.page_roff_decoding.specs.Characters.{characters}
-use Rattle.page_roff_decoding.specs.Decoding.{characters_within, bad_notes}
+use Rattle.page_core_base.specs.laws.Views.{UpTo}
+use Rattle.page_roff_decoding.specs.Decoding.{line_limit, characters, characters_within, bad_notes}
 use Rattle.page_roff_decoding.proofs.reporting.report_bad.Given as goal
 
 -- the sink got the messages about what comes before this place

@@ -1,8 +1,7 @@
 use Rattle.std.proofs.Common.{◌≡◌, ℕ, true, ◌+◌, ◌≤◌, ◌++◌, length}
 use Rattle.std.specs.Vec.{vec_capacity}
 use Rattle.page_core_base.specs.declared.limits.TheConstants.{ARGS, LINE}
-use Rattle.page_roff_definitions.specs.Arguments.{closings_notes}
-use Rattle.page_roff_definitions.specs.Calls.{packed}
+use Rattle.page_roff_definitions.specs.Definitions.{closings_notes, packed}
 use Rattle.page_roff_definitions.proofs.calls.append_arguments.Given as goal
 
 abbrev pub invariant-loop-argument : goal.invariant-loop-argument

@@ -1,6 +1,6 @@
 use Rattle.std.proofs.Common.{ℕ, refl, arith}
 use Rattle.std.proofs.lemmas.Simd.{zip2_splat}
-use Rattle.page_core_base.specs.Texts.{is_backslash}
+use Rattle.page_core_base.specs.laws.Views.{is_backslash}
 use Rattle.page_roff_parts.proofs.VerbatimLemmas.{masked}
 use Rattle.page_roff_effects.proofs.free_lines.backslashes.Goals as goal
 

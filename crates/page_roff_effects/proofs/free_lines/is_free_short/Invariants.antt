@@ -1,5 +1,5 @@
 use Rattle.std.proofs.Common.{◌≡◌, ℕ, ◌+◌, ◌-◌, ◌<◌, false, length}
-use Rattle.page_core_base.specs.Texts.{key_at}
+use Rattle.page_core_base.specs.laws.Views.{key_at}
 use Rattle.page_roff_effects.proofs.free_lines.is_free_short.Given as goal
 
 -- nothing begins before the byte before this place

@@ -2,7 +2,7 @@ use Rattle.std.proofs.Common.{ℕ, refl, arith}
 use Rattle.std.proofs.lemmas.Simd.{zip2_splat, zip2_of_maps}
 use lib.Bits.{bit_or}
 use Rattle.page_roff_parts.proofs.VerbatimLemmas.{masked}
-use Rattle.page_core_base.specs.Texts.{is_key}
+use Rattle.page_core_base.specs.laws.Views.{is_key}
 use Rattle.page_roff_effects.proofs.free_lines.keys.Goals as goal
 
 pub returns : goal.returns

@@ -1,7 +1,7 @@
 use Rattle.std.proofs.Common.{◌≡◌, ℕ, List, ◌+◌, ◌-◌, length, take, ap, arith}
 use Rattle.std.proofs.lemmas.List.{length-take}
 use Rattle.page_roff_syntax.specs.LineForms.{without_comment}
-use Rattle.page_roff_effects.specs.Leaves.{ControlLine}
+use Rattle.page_roff_effects.specs.Lines.{ControlLine}
 use Rattle.page_roff_effects.proofs.ControlLemmas.{uncommented_front, uncommented_short, control_whole}
 use Rattle.page_roff_effects.proofs.leaves.control_line.Goals as goal
 

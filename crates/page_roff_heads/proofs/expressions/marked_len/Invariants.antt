@@ -1,6 +1,6 @@
 use Rattle.std.proofs.Common.{◌≡◌, ◌≤◌, ◌+◌, ◌-◌, length, drop}
 use Rattle.page_roff_syntax.specs.machine.Closed.{AreMarked}
-use Rattle.page_roff_heads.specs.Expressions.{expression_len}
+use Rattle.page_roff_heads.specs.Conditions.{expression_len}
 use Rattle.page_roff_heads.proofs.expressions.marked_len.Given as goal
 
 abbrev pub invariant-loop-step : goal.invariant-loop-step

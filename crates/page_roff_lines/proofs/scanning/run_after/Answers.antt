@@ -1,7 +1,7 @@
 use Rattle.std.proofs.Common.{take, drop, arith}
 use Rattle.std.proofs.lemmas.List.{length-drop}
 use Rattle.std.proofs.Math.Seq.{take-add}
-use Rattle.page_roff_decoding.specs.Characters.{is_printable}
+use Rattle.page_roff_decoding.specs.Decoding.{is_printable}
 use Rattle.page_roff_decoding.proofs.ScanLemmas.{rest_of, all-append}
 use Rattle.page_roff_lines.proofs.ReadLemmas.{pair-more, printable-more, run-front, text-more}
 use Rattle.page_roff_lines.proofs.scanning.run_after.Goals as goal

@@ -1,5 +1,5 @@
 use Rattle.std.proofs.Common.{◌∙◌, subst, sym, ap, arith, length}
-use Rattle.page_roff_names.specs.Entries.{definition, size}
+use Rattle.page_roff_names.specs.Names.{definition, size}
 use Rattle.page_roff_names.specs.machine.Changes.{IsKept}
 use Rattle.page_roff_names.proofs.Laid.{length-remove, size-remove}
 use Rattle.page_roff_names.proofs.Search.{same_name}

@@ -1,6 +1,6 @@
 use Rattle.std.proofs.Common.{◌∙◌, subst, sym, arith, ◌≤◌}
 use Rattle.page_core_base.specs.declared.limits.TheConstants.{DEFS}
-use Rattle.page_roff_names.specs.Entries.{size, definition}
+use Rattle.page_roff_names.specs.Names.{size, definition}
 use Rattle.page_roff_names.proofs.Search.{same_name, put_hit, put_miss}
 use Rattle.page_roff_names.proofs.Kept.{hit_length, miss_length, miss_size}
 use Rattle.page_roff_names.proofs.changes.put_definition.Goals as goal

@@ -1,6 +1,6 @@
 use Rattle.std.proofs.Common.{◌∙◌, sym, ap, arith, length}
 use Rattle.std.specs.List.{insert, remove}
-use Rattle.page_roff_names.specs.Entries.{size, definition}
+use Rattle.page_roff_names.specs.Names.{size, definition}
 use Rattle.page_roff_names.proofs.Laid.{size-insert, with_meaning-hit, empty}
 use Rattle.page_roff_names.proofs.changes.replace.Goals as goal
 

@@ -1,5 +1,5 @@
 use Rattle.std.proofs.Common.{◌∙◌, sym, refl, arith}
-use Rattle.page_roff_names.specs.Entries.{definition}
+use Rattle.page_roff_names.specs.Names.{definition}
 use Rattle.page_roff_names.proofs.Refused.{within}
 use Rattle.page_roff_names.proofs.changes.settle.Goals as goal
 

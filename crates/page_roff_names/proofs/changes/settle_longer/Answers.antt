@@ -1,7 +1,6 @@
 use Rattle.std.proofs.Common.{◌++◌, ◌≤◌, ◌∙◌, subst, sym, arith, length, length-append}
 use Rattle.page_core_base.specs.declared.limits.TheConstants.{DEFS, NAMES}
-use Rattle.page_roff_names.specs.Entries.{definition, size}
-use Rattle.page_roff_names.specs.Names.{put}
+use Rattle.page_roff_names.specs.Names.{definition, size, put}
 use Rattle.page_roff_names.proofs.Refused.{within}
 use Rattle.page_roff_names.proofs.changes.settle_longer.Goals as goal
 

@@ -1,5 +1,5 @@
 use Rattle.std.proofs.Common.{◌≤◌, ◌+◌, ◌*◌, length, sym, subst}
-use Rattle.page_roff_source.specs.Edges.{Edge}
+use Rattle.page_roff_source.specs.Runs.{Edge}
 use Rattle.page_roff_source.proofs.LineLemmas.{one_done}
 use Rattle.page_roff_source.proofs.RoomLemmas.{done_room}
 use Rattle.page_roff_source.proofs.laws.room_law.Goals as goal

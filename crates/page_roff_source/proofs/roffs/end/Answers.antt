@@ -1,5 +1,5 @@
 use Rattle.std.proofs.Common.{rules}
-use Rattle.page_roff_source.specs.Edges.{end_notes}
+use Rattle.page_roff_source.specs.Runs.{end_notes}
 use Rattle.page_roff_source.proofs.NoteLatchLemmas.{latched}
 use Rattle.page_roff_source.proofs.roffs.end.Goals as goal
 

@@ -1,5 +1,6 @@
 use Rattle.std.proofs.Common.{◌≡◌, ◌≤◌, ℕ, Bool, length, take}
-use Rattle.page_roff_syntax.specs.Ends.{IsTest, kept_len}
+use Rattle.page_roff_syntax.specs.laws.Views.{IsTest}
+use Rattle.page_roff_syntax.specs.Delimiters.{kept_len}
 use Rattle.page_roff_syntax.proofs.ends.kept_len.Given as goal
 
 abbrev pub invariant-loop-len : goal.invariant-loop-len

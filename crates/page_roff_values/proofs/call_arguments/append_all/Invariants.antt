@@ -1,6 +1,6 @@
 use Rattle.std.proofs.Common.{◌≡◌, ◌+◌, ◌*◌, ◌<◌, ◌≤◌, ◌++◌, length}
 use Rattle.std.specs.Vec.{vec_len, vec_capacity}
-use Rattle.page_roff_values.specs.Arguments.{arguments_in, spaced, spaced_quoted}
+use Rattle.page_roff_values.specs.Values.{arguments_in, spaced, spaced_quoted}
 use Rattle.page_roff_values.proofs.call_arguments.append_all.Given as goal
 
 abbrev pub invariant-loop-rest : goal.invariant-loop-rest

@@ -1,5 +1,5 @@
 use Rattle.std.proofs.Common.{◌≡◌, length}
-use Rattle.page_roff_values.specs.Arguments.{arguments_in, argument_at}
+use Rattle.page_roff_values.specs.Values.{arguments_in, argument_at}
 use Rattle.page_roff_values.proofs.call_arguments.argument_at.Given as goal
 
 abbrev pub invariant-loop-first : goal.invariant-loop-first

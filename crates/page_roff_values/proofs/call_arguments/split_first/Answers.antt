@@ -1,6 +1,6 @@
 use Rattle.std.proofs.Common.{◌==◌, ◌∷◌, get_or, take, arith, ap, ◌∙◌, sym}
 use Rattle.std.proofs.Math.Seq.{drop-length}
-use Rattle.page_roff_values.specs.Arguments.{arguments_in}
+use Rattle.page_roff_values.specs.Values.{arguments_in}
 use Rattle.page_roff_values.proofs.ArgumentLemmas.{first_of, last_of, none_in, not_true}
 use Rattle.page_roff_values.proofs.call_arguments.split_first.Goals as goal
 

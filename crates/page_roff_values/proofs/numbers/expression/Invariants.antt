@@ -1,6 +1,6 @@
 use Rattle.std.proofs.Common.{◌++◌, List, length}
 use Rattle.page_core_base.specs.Messages.{Message}
-use Rattle.page_roff_values.specs.Numbers.{messages_of}
+use Rattle.page_roff_values.specs.Answers.{messages_of}
 use Rattle.page_roff_values.proofs.numbers.expression.Given as goal
 
 abbrev pub invariant-loop-note : goal.invariant-loop-note

@@ -2,11 +2,11 @@ use Rattle.std.proofs.Common.{◌≡◌, ap, subst, ◌∙◌, rules, w32, FitsS
 use Rattle.std.specs.Prelude.{unwrap_or}
 use Rattle.std.proofs.lemmas.Int.{to_z-of_z}
 use Rattle.page_scopes_blocks.specs.Blocks as blocks
-use Rattle.page_scopes_blocks.specs.ListWidths.{given_columns, given_notes}
-use Rattle.page_scopes_layout.specs.Begins.{display_begun}
-use Rattle.page_scopes_phrases.specs.Formatting.{in_context}
-use Rattle.page_scopes_phrases.specs.Outcomes.{GivesOutcome, after_notes}
-use Rattle.page_sets_lines.specs.Events.{given_view}
+use Rattle.page_scopes_blocks.specs.Lists.{given_columns, given_notes}
+use Rattle.page_scopes_layout.specs.Contexts.{display_begun}
+use Rattle.page_scopes_phrases.specs.Phrases.{in_context, after_notes}
+use Rattle.page_scopes_phrases.specs.laws.Views.{GivesOutcome}
+use Rattle.page_sets_lines.specs.laws.Events.{given_view}
 use Rattle.page_scopes_blocks.proofs.BlockLemmas.{came_after}
 use Rattle.page_scopes_blocks.proofs.blocks.begin_display.Goals as goal
 

@@ -1,7 +1,7 @@
 use Rattle.std.proofs.Common.{ℕ, List, Option, sym, ap, subst}
 use Rattle.page_roff_syntax.specs.declared.quotes.Argument.{Argument}
 use Rattle.page_sets_lines.specs.declared.lists.ListOptions.{ListOptions}
-use Rattle.page_scopes_blocks.specs.ListWidths.{LengthFits}
+use Rattle.page_scopes_blocks.specs.laws.Views.{LengthFits}
 use Rattle.page_scopes_blocks.proofs.ListLemmas.{offset_short, width_short}
 use Rattle.page_scopes_blocks.proofs.open_lists.give_list.Goals as goal
 

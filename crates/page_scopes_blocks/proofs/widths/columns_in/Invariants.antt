@@ -1,8 +1,9 @@
 use Rattle.std.proofs.Common.{◌≡◌, length}
 use Rattle.std.specs.Prelude.{fold}
 use Rattle.page_sets_lines.proofs.OrderLemmas.{AreArguments}
-use Rattle.page_sets_lines.specs.Lists.{columns_after, options_view}
-use Rattle.page_scopes_blocks.specs.ListWidths.{columns_of, one_more}
+use Rattle.page_sets_lines.specs.Blocks.{columns_after}
+use Rattle.page_sets_lines.specs.laws.Views.{options_view}
+use Rattle.page_scopes_blocks.specs.Lists.{columns_of, one_more}
 use Rattle.page_sets_lines.specs.declared.lists.ListKind.TheVariants.{Column}
 use Rattle.page_scopes_blocks.proofs.widths.columns_in.Given as goal
 

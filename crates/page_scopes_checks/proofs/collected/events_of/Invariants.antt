@@ -1,6 +1,6 @@
 use Rattle.std.proofs.Common.{◌≡◌, ◌++◌, length, map}
-use Rattle.page_core_base.specs.LinesTaken.{line_view}
-use Rattle.page_sets_lines.specs.Events.{event_view}
+use Rattle.page_core_base.specs.laws.Views.{line_view}
+use Rattle.page_sets_lines.specs.laws.Events.{event_view}
 use Rattle.page_scopes_checks.proofs.collected.events_of.Given as goal
 
 abbrev pub invariant-loop-event : goal.invariant-loop-event

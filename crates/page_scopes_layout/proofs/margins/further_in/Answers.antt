@@ -1,6 +1,6 @@
 use Rattle.std.proofs.Common.{◌≡◌, ◌∙◌, ap, rules, w32, w64, FitsSigned, pos, ◌+ℤ◌, arith, refl}
 use Rattle.std.proofs.lemmas.Int.{to_z-of_z, ints}
-use Rattle.page_scopes_layout.specs.Margins.{hold}
+use Rattle.page_scopes_layout.specs.Contexts.{hold}
 use Rattle.page_scopes_layout.proofs.MarginLemmas.{sum_of_three}
 use Rattle.page_scopes_layout.proofs.margins.further_in.Goals as goal
 

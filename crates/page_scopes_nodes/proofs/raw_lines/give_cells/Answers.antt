@@ -1,9 +1,9 @@
 use Rattle.std.proofs.Common.{◌+◌, ◌-◌, ◌++◌, ◌∷◌, take, drop, append_assoc, arith}
 use Rattle.std.proofs.lemmas.Bool.{ne_eqb}
 use Rattle.std.proofs.Common.{eq-eqb}
-use Rattle.page_core_base.specs.Pieces.{shown}
+use Rattle.page_core_base.specs.Rows.{shown}
 use Rattle.page_core_base.specs.declared.pieces.Piece.TheVariants as pieces
-use Rattle.page_scopes_nodes.specs.RawLines.{cells_after}
+use Rattle.page_scopes_nodes.specs.Leaves.{cells_after}
 use Rattle.page_scopes_nodes.proofs.RawCells.{plain_step, tab_step}
 use Rattle.page_scopes_nodes.proofs.raw_lines.give_cells.Goals as goal
 use Rattle.page_scopes_nodes.proofs.raw_lines.give_cells.Goals.{then-byte-eq9, else-byte-eq9}

@@ -1,6 +1,6 @@
 use Rattle.std.proofs.Common.{◌≤◌, ◌-◌, [], take, drop}
-use Rattle.page_core_base.specs.Latches.{CameUpTo}
-use Rattle.page_scopes_nodes.specs.RawLines.{cells_after}
+use Rattle.page_core_base.specs.laws.Views.{CameUpTo}
+use Rattle.page_scopes_nodes.specs.Leaves.{cells_after}
 use Rattle.page_scopes_nodes.proofs.raw_lines.give_cells.Given as goal
 
 abbrev pub invariant-loop-index : goal.invariant-loop-index

@@ -1,7 +1,7 @@
 use Rattle.std.proofs.Common.{length}
-use Rattle.page_core_base.specs.Latches.{CameUpTo}
+use Rattle.page_core_base.specs.laws.Views.{CameUpTo}
 use Rattle.page_core_escapes.specs.Tokens.{tokens_of}
-use Rattle.page_scopes_nodes.specs.Targets.{notes_of}
+use Rattle.page_scopes_nodes.specs.Begins.{notes_of}
 use Rattle.page_scopes_nodes.proofs.targets.report_escapes.Given as goal
 
 abbrev pub invariant-loop-token : goal.invariant-loop-token

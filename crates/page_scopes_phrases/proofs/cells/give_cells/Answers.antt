@@ -1,8 +1,8 @@
 use Rattle.std.proofs.Common.{◌<◌, ◌≤◌, ℕ, List, length, sym, ap, subst, arith}
 use Rattle.std.proofs.lemmas.Bool.Decides.{nat_tests}
-use Rattle.page_scopes_phrases.specs.Cells.{cells, span}
-use Rattle.page_sets_lines.specs.Fits.{FitsAt}
-use Rattle.page_scopes_phrases.specs.Phrases.{phrase_view}
+use Rattle.page_scopes_phrases.specs.LineWords.{cells, span}
+use Rattle.page_sets_lines.specs.laws.Views.{FitsAt}
+use Rattle.page_scopes_phrases.specs.laws.Views.{phrase_view}
 use Rattle.page_scopes_phrases.specs.declared.phrases.Phrase.{Phrase}
 use Rattle.page_scopes_phrases.proofs.CellLemmas.{CellsLeft, cells-end, cells-go-on, is_before, is_not_before, others-fit, others-shorter}
 use Rattle.page_scopes_phrases.proofs.cells.give_cells.Goals as goal

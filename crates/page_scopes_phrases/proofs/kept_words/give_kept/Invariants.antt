@@ -1,7 +1,7 @@
 use Rattle.std.proofs.Common.{◌≡◌, false, length}
-use Rattle.page_core_base.specs.Latches.{CameUpTo}
+use Rattle.page_core_base.specs.laws.Views.{CameUpTo}
 use Rattle.page_core_escapes.specs.Tokens.{tokens_of}
-use Rattle.page_scopes_phrases.specs.KeptTexts.{fonts_through, parts_items}
+use Rattle.page_scopes_phrases.specs.Names.{fonts_through, parts_items}
 use Rattle.page_scopes_phrases.proofs.kept_words.give_kept.Given as goal
 
 abbrev pub invariant-loop-token : goal.invariant-loop-token

@@ -1,12 +1,12 @@
 use Rattle.std.proofs.Common.{◌≡◌, ◌+◌, ◌++◌, drop, false, get_or, append-nil, append_assoc, ap, sym, ◌∙◌, arith}
 use Rattle.std.proofs.lemmas.List.{drop-drop, length-drop, take_rest}
 use Rattle.page_core_escapes.specs.Tokens.{token_at, tokens_of}
-use Rattle.page_scopes_phrases.specs.KeptTexts.{parts_items, part_items}
+use Rattle.page_scopes_phrases.specs.Names.{parts_items, part_items}
 use Rattle.page_scopes_phrases.specs.declared.kept_names.Known.TheVariants.{Blanks, Nothing}
 use Rattle.page_scopes_phrases.specs.declared.kept_names.NamePart.{NamePart}
 use Rattle.page_scopes_phrases.specs.machine.NameParts.{blank_texts, token_known}
 use Rattle.page_scopes_words.specs.Fonts.{fonts_after}
-use Rattle.page_scopes_words.specs.Tokens.{blank_text}
+use Rattle.page_scopes_words.specs.Words.{blank_text}
 use Rattle.page_scopes_phrases.proofs.NameLemmas.{next-part, no-part, regroup, token-blank, token-quiet}
 use Rattle.page_scopes_phrases.proofs.kept_words.give_known_parts.Goals as goal
 use Rattle.page_scopes_phrases.proofs.kept_words.give_known_parts.Goals.{in-Blanks, in-Nothing, in-Unread}

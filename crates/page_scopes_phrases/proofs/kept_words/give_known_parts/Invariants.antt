@@ -1,7 +1,7 @@
 use Rattle.std.proofs.Common.{◌≡◌, ◌≤◌, ◌++◌, false, drop, length}
-use Rattle.page_core_base.specs.Latches.{CameUpTo}
+use Rattle.page_core_base.specs.laws.Views.{CameUpTo}
 use Rattle.page_core_escapes.specs.Tokens.{tokens_of}
-use Rattle.page_scopes_phrases.specs.KeptTexts.{parts_items}
+use Rattle.page_scopes_phrases.specs.Names.{parts_items}
 use Rattle.page_scopes_phrases.specs.machine.NameParts as names
 use Rattle.page_scopes_phrases.proofs.kept_words.give_known_parts.Given as goal
 

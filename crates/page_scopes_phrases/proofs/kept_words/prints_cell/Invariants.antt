@@ -1,6 +1,6 @@
 use Rattle.std.proofs.Common.{◌≡◌, false, length}
 use Rattle.page_core_escapes.specs.Tokens.{tokens_of}
-use Rattle.page_scopes_phrases.specs.KeptTexts.{prints_cell}
+use Rattle.page_scopes_phrases.specs.Names.{prints_cell}
 use Rattle.page_scopes_phrases.proofs.kept_words.prints_cell.Given as goal
 
 abbrev pub invariant-loop-token : goal.invariant-loop-token

@@ -1,9 +1,10 @@
 use Rattle.std.proofs.Common.{◌≡◌, ◌<◌, ◌+◌, true, length, drop, ap, sym, ◌∙◌, arith, length-drop}
 use Rattle.std.proofs.lemmas.List.{take_rest}
-use Rattle.page_core_escapes.specs.Tokens.{begins_word, token_at, token_bytes, tokens_len}
+use Rattle.page_core_escapes.specs.laws.Views.{begins_word}
+use Rattle.page_core_escapes.specs.Tokens.{token_at, token_bytes, tokens_len}
 use Rattle.page_core_escapes.proofs.TokenLemmas.{word_some}
 use Rattle.page_scopes_text.proofs.PartedLemmas.{no_word, others_same, words_more}
-use Rattle.page_scopes_text.specs.Parted.{Parted, words_of}
+use Rattle.page_scopes_text.specs.Texts.{Parted, words_of}
 use Rattle.page_scopes_text.proofs.last_words.after_word.Goals as goal
 
 pub loop-rest-smaller : goal.loop-rest-smaller

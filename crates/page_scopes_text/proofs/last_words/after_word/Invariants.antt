@@ -1,7 +1,7 @@
 use Rattle.std.proofs.Common.{◌≡◌, ◌≤◌, ◌+◌, length}
 use Rattle.page_core_base.specs.declared.limits.TheConstants.{LINE}
 use Rattle.page_core_escapes.specs.Tokens.{tokens_len}
-use Rattle.page_scopes_text.specs.Parted.{words_of}
+use Rattle.page_scopes_text.specs.Texts.{words_of}
 use Rattle.page_scopes_text.proofs.last_words.after_word.Given as goal
 
 abbrev pub invariant-loop-rest : goal.invariant-loop-rest

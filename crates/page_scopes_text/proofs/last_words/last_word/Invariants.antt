@@ -1,7 +1,6 @@
 use Rattle.std.proofs.Common.{◌≡◌, ◌≤◌, ◌+◌, ◌-◌, false, length}
-use Rattle.page_core_escapes.specs.Tokens.{begins_word}
-use Rattle.page_scopes_text.specs.Parted.{words_of}
-use Rattle.page_scopes_text.specs.Texts.{last_of, last_word}
+use Rattle.page_core_escapes.specs.laws.Views.{begins_word}
+use Rattle.page_scopes_text.specs.Texts.{words_of, last_of, last_word}
 use Rattle.page_scopes_text.proofs.last_words.last_word.Given as goal
 
 abbrev pub invariant-loop-rest : goal.invariant-loop-rest

@@ -1,5 +1,5 @@
 use Rattle.std.proofs.Common.{length}
-use Rattle.page_core_base.specs.Latches.{CameUpTo}
+use Rattle.page_core_base.specs.laws.Views.{CameUpTo}
 use Rattle.page_scopes_text.specs.machine.Parts.{later_items}
 use Rattle.page_scopes_text.proofs.parts.give_later.Given as goal
 

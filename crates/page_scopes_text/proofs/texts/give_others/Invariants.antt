@@ -1,8 +1,7 @@
 use Rattle.std.proofs.Common.{◌≡◌, ◌≤◌, ◌+◌, false, length}
-use Rattle.page_core_base.specs.Latches.{CameUpTo}
-use Rattle.page_core_escapes.specs.Tokens.{begins_word}
-use Rattle.page_scopes_text.specs.Parted.{words_of}
-use Rattle.page_scopes_text.specs.Texts.{others_items, others_after}
+use Rattle.page_core_base.specs.laws.Views.{CameUpTo}
+use Rattle.page_core_escapes.specs.laws.Views.{begins_word}
+use Rattle.page_scopes_text.specs.Texts.{words_of, others_items, others_after}
 use Rattle.page_scopes_text.proofs.texts.give_others.Given as goal
 
 abbrev pub invariant-loop-rest : goal.invariant-loop-rest

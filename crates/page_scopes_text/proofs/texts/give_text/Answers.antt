@@ -1,8 +1,7 @@
 use Rattle.std.proofs.Common.{◌≤◌, length, sym, ◌∙◌, arith}
 use Rattle.std.proofs.lemmas.Bool.Decides.{nat_tests}
 use Rattle.page_scopes_text.proofs.TextLemmas.{after_text_none, after_text_word, text_none, text_word}
-use Rattle.page_scopes_text.specs.Parted.{words_of}
-use Rattle.page_scopes_text.specs.Texts.{last_word}
+use Rattle.page_scopes_text.specs.Texts.{words_of, last_word}
 use Rattle.page_scopes_text.proofs.texts.give_text.Goals as goal
 
 pub returns-then-begins_word-clause-came : goal.returns-then-begins_word-clause-came

@@ -1,8 +1,7 @@
 use Rattle.std.proofs.Common.{◌≡◌, ◌≤◌, ◌+◌, length}
-use Rattle.page_core_base.specs.Latches.{CameUpTo}
-use Rattle.page_scopes_text.specs.Parted.{words_of}
-use Rattle.page_scopes_text.specs.Words.{tokens_items}
-use Rattle.page_scopes_words.specs.Pens.{pen_through}
+use Rattle.page_core_base.specs.laws.Views.{CameUpTo}
+use Rattle.page_scopes_text.specs.Texts.{words_of, tokens_items}
+use Rattle.page_scopes_words.specs.Words.{pen_through}
 use Rattle.page_scopes_text.proofs.words.give_tokens.Given as goal
 
 abbrev pub invariant-loop-place : goal.invariant-loop-place

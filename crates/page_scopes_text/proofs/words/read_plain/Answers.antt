@@ -1,6 +1,6 @@
 use Rattle.std.proofs.Common.{◌≡◌, ◌<◌, false, length, drop, take, sym, ◌∙◌, arith}
 use Rattle.std.proofs.lemmas.Bool.Decides.{nat_tests}
-use Rattle.page_core_escapes.specs.Tokens.{begins_word}
+use Rattle.page_core_escapes.specs.laws.Views.{begins_word}
 use Rattle.page_scopes_text.proofs.PartedLemmas.{reads_front}
 use Rattle.page_scopes_text.proofs.words.read_plain.Goals as goal
 

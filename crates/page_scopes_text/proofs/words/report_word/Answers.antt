@@ -1,12 +1,12 @@
 use Rattle.std.proofs.Common.{◌≡◌, ◌<◌, ℕ, true, false, Bool, List, ◌++◌, [], length, drop, ap, sym, ◌∙◌, append_assoc, arith, length-drop}
 use Rattle.std.proofs.lemmas.List.{take_rest}
 use Rattle.page_core_base.specs.declared.places.Place.{Place}
-use Rattle.page_core_escapes.specs.Tokens.{begins_word, token_at, token_bytes, token_len}
+use Rattle.page_core_escapes.specs.laws.Views.{begins_word}
+use Rattle.page_core_escapes.specs.Tokens.{token_at, token_bytes, token_len}
 use Rattle.page_core_escapes.proofs.TokenLemmas.{word_some}
 use Rattle.page_scopes_text.proofs.PartedLemmas.{words_more, no_word}
-use Rattle.page_scopes_text.specs.Parted.{Parted, words_of}
-use Rattle.page_scopes_text.specs.Words.{word_notes}
-use Rattle.page_scopes_words.specs.Tokens.{token_notes}
+use Rattle.page_scopes_text.specs.Texts.{Parted, words_of, word_notes}
+use Rattle.page_scopes_words.specs.Words.{token_notes}
 use Rattle.page_scopes_text.proofs.words.report_word.Goals as goal
 
 notes_more : (quoted : Bool) (place : Place) (text : List ℕ) (n : ℕ) → begins_word text ≡ true → 0 < n → n ≡ token_len quoted text

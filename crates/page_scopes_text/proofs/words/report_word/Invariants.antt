@@ -1,8 +1,7 @@
 use Rattle.std.proofs.Common.{◌≤◌, length}
-use Rattle.page_core_base.specs.Latches.{CameUpTo}
+use Rattle.page_core_base.specs.laws.Views.{CameUpTo}
 use Rattle.page_core_base.specs.declared.limits.TheConstants.{LINE}
-use Rattle.page_scopes_text.specs.Parted.{words_of}
-use Rattle.page_scopes_text.specs.Words.{word_notes}
+use Rattle.page_scopes_text.specs.Texts.{words_of, word_notes}
 use Rattle.page_scopes_text.proofs.words.report_word.Given as goal
 
 abbrev pub invariant-loop-rest : goal.invariant-loop-rest

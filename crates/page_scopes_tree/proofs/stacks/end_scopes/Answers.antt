@@ -1,5 +1,5 @@
 use Rattle.std.proofs.Common.{◌≡◌, ◌-◌, arith, ◌∙◌, sym, reverse, refl, append_assoc}
-use Rattle.page_scopes_tree.specs.Acts.{act_view, does}
+use Rattle.page_scopes_tree.specs.laws.Views.{act_view, does}
 use Rattle.page_scopes_tree.specs.machine.Frames.{framed}
 use Rattle.page_scopes_tree.proofs.StackLemmas.{items_more, state_more, drop_more}
 use Rattle.page_scopes_tree.proofs.stacks.end_scopes.Goals as goal

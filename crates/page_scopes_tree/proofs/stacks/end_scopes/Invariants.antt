@@ -1,7 +1,7 @@
 use Rattle.std.proofs.Common.{◌≡◌, ◌+◌, ◌-◌, drop, reverse, vec_capacity, vec_len}
-use Rattle.page_core_base.specs.Latches.{CameUpTo}
+use Rattle.page_core_base.specs.laws.Views.{CameUpTo}
 use Rattle.page_scopes_tree.specs.machine.Machines.{ended_items, ended_state}
-use Rattle.page_scopes_tree.specs.Acts.{act_view, does}
+use Rattle.page_scopes_tree.specs.laws.Views.{act_view, does}
 use Rattle.page_scopes_tree.specs.machine.Frames.{framed}
 use Rattle.page_scopes_tree.proofs.stacks.end_scopes.Given as goal
 

@@ -1,11 +1,11 @@
 use Rattle.std.proofs.Common.{◌≡◌, arith, reverse}
-use Rattle.page_scopes_tree.specs.OpenScopes.{labels}
+use Rattle.page_scopes_tree.specs.laws.Views.{labels}
 use Rattle.page_scopes_tree.proofs.FitLemmas.{act-room}
 use Rattle.page_scopes_tree.proofs.MarginLemmas.{length-inner_labels}
 use Rattle.page_scopes_tree.specs.Placements.{act_placement}
 use Rattle.page_scopes_tree.specs.declared.acts.Act.TheVariants.{Event}
 use Rattle.page_scopes_tree.specs.declared.placements.Placement.TheVariants.{Node}
-use Rattle.page_sets_lines.specs.Events.{event_view}
+use Rattle.page_sets_lines.specs.laws.Events.{event_view}
 use Rattle.page_scopes_tree.proofs.stacks.place_event.Goals as goal
 
 pub open_scope-requires-clause-room : goal.open_scope-requires-clause-room

@@ -1,7 +1,7 @@
 use Rattle.std.proofs.Common.{◌≡◌, ◌≤◌, ◌+◌, ◌*◌, length}
 use Rattle.std.specs.Prelude.{sum_by}
 use Rattle.page_core_escapes.specs.Tokens.{tokens_len}
-use Rattle.page_scopes_words.specs.Names as names
+use Rattle.page_scopes_words.specs.Widths as names
 use Rattle.page_scopes_words.proofs.names.name_columns.Given as goal
 
 abbrev pub invariant-loop-token : goal.invariant-loop-token

@@ -5,7 +5,7 @@ use Rattle.std.proofs.lemmas.Str.{is_utf8-from_IsUtf8, IsUtf8-from_is_utf8}
 use Rattle.page_core_base.specs.declared.page_settings.Output.{Output}
 use Rattle.page_core_escapes.specs.Tokens.{plain}
 use Rattle.page_core_numbers.specs.Columns.{columns_of}
-use Rattle.page_scopes_words.specs.Names as names
+use Rattle.page_scopes_words.specs.Widths as names
 use Rattle.page_scopes_words.proofs.names.plain_columns.Goals as goal
 
 columns_of_text : (output : Output) (text : List ℕ) → IsUtf8 text → names.token_columns output (plain text) ≡ columns_of output text

@@ -1,7 +1,7 @@
 use Rattle.std.proofs.Common.{length, map}
-use Rattle.page_core_base.specs.Latches.{CameUpTo}
-use Rattle.page_core_base.specs.Pieces.{noted}
-use Rattle.page_scopes_words.specs.Numbers.{number_notes}
+use Rattle.page_core_base.specs.laws.Views.{CameUpTo}
+use Rattle.page_core_base.specs.Rows.{noted}
+use Rattle.page_scopes_words.specs.Words.{number_notes}
 use Rattle.page_scopes_words.proofs.numbers.give_number.Given as goal
 
 abbrev pub invariant-loop-note : goal.invariant-loop-note

@@ -1,6 +1,6 @@
 use Rattle.std.proofs.Common.{◌-◌}
-use Rattle.page_core_base.specs.Latches.{CameUpTo}
-use Rattle.page_scopes_words.specs.Tokens.{blank_cells}
+use Rattle.page_core_base.specs.laws.Views.{CameUpTo}
+use Rattle.page_scopes_words.specs.Words.{blank_cells}
 use Rattle.page_scopes_words.proofs.tokens.give_blank_cells.Given as goal
 
 abbrev pub invariant-loop-i : goal.invariant-loop-i

@@ -1,5 +1,5 @@
 use Rattle.std.proofs.Common.{drop}
-use Rattle.page_core_base.specs.Latches.{CameUpTo}
+use Rattle.page_core_base.specs.laws.Views.{CameUpTo}
 use Rattle.page_scopes_words.specs.Words.{white_cells}
 use Rattle.page_scopes_words.proofs.white_cells.give_white_cells.Given as goal
 

@@ -1,7 +1,7 @@
 use Rattle.std.proofs.Common.{◌≤◌, length}
 use Rattle.page_sets_lines.specs.declared.events.Join.TheVariants.{Apart}
-use Rattle.page_sets_lines.specs.ControlLines.{arguments_after}
-use Rattle.page_core_base.specs.Latches.{CameUpTo}
+use Rattle.page_sets_lines.specs.Lines.{arguments_after}
+use Rattle.page_core_base.specs.laws.Views.{CameUpTo}
 use Rattle.page_sets.specs.Man.{alternating_words}
 use Rattle.page_sets.proofs.man_gives.give_alternating.Given as goal
 

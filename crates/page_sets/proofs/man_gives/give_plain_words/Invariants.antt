@@ -1,6 +1,6 @@
 use Rattle.std.proofs.Common.{◌≤◌, length}
-use Rattle.page_sets_lines.specs.ControlLines.{arguments_after}
-use Rattle.page_core_base.specs.Latches.{CameUpTo}
+use Rattle.page_sets_lines.specs.Lines.{arguments_after}
+use Rattle.page_core_base.specs.laws.Views.{CameUpTo}
 use Rattle.page_sets.specs.Man.{plain_words}
 use Rattle.page_sets.proofs.man_gives.give_plain_words.Given as goal
 

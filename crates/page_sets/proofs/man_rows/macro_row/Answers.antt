@@ -1,8 +1,8 @@
 use Rattle.std.proofs.Common.{◌≡◌, refl, ap, map, ◌∙◌}
 use Rattle.page_core_base.proofs.RowLemmas.{joined, row_of_rows, seen}
-use Rattle.page_core_base.specs.TableRows.{row_in}
+use Rattle.page_core_base.specs.Messages.{row_in}
 use Rattle.page_sets.specs.declared.man_rows.TheConstants.{MACROS}
-use Rattle.page_sets.specs.ManRows.{table, macro_row}
+use Rattle.page_sets.specs.Man.{table, macro_row}
 use Rattle.page_sets.proofs.man_rows.macro_row.Goals as goal
 
 -- the rows of the program, list after list, are those of the table

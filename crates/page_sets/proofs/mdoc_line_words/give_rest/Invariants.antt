@@ -1,6 +1,6 @@
 use Rattle.std.proofs.Common.{length}
-use Rattle.page_core_base.specs.Latches.{CameUpTo}
-use Rattle.page_sets_mdoc_lines.specs.Rests.{IsRestOf, rest_view}
+use Rattle.page_core_base.specs.laws.Views.{CameUpTo}
+use Rattle.page_sets_mdoc_lines.specs.laws.Views.{IsRestOf, rest_view}
 use Rattle.page_sets.specs.Mdoc.{rest_events}
 use Rattle.page_sets.proofs.mdoc_line_words.give_rest.Given as goal
 

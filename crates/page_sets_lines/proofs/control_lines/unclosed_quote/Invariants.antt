@@ -1,5 +1,5 @@
 use Rattle.std.proofs.Common.{◌≡◌, length}
-use Rattle.page_sets_lines.specs.ControlLines.{arguments_after, open_quote}
+use Rattle.page_sets_lines.specs.Lines.{arguments_after, open_quote}
 use Rattle.page_sets_lines.proofs.control_lines.unclosed_quote.Given as goal
 
 abbrev pub invariant-loop-argument : goal.invariant-loop-argument

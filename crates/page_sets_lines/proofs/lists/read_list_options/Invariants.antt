@@ -1,6 +1,7 @@
 use Rattle.std.proofs.Common.{◌≡◌, length}
-use Rattle.page_sets_lines.specs.ControlLines.{arguments_after}
-use Rattle.page_sets_lines.specs.Lists.{no_options, options_after, options_view}
+use Rattle.page_sets_lines.specs.Lines.{arguments_after}
+use Rattle.page_sets_lines.specs.Blocks.{no_options, options_after}
+use Rattle.page_sets_lines.specs.laws.Views.{options_view}
 use Rattle.page_sets_lines.proofs.lists.read_list_options.Given as goal
 
 abbrev pub invariant-loop-word : goal.invariant-loop-word

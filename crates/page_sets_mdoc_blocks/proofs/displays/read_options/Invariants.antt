@@ -1,5 +1,6 @@
 use Rattle.std.proofs.Common.{◌≡◌, length}
-use Rattle.page_sets_mdoc_blocks.specs.Displays.{no_options, options_after, options_view}
+use Rattle.page_sets_mdoc_blocks.specs.Displays.{no_options, options_after}
+use Rattle.page_sets_mdoc_blocks.specs.laws.Views.{options_view}
 use Rattle.page_sets_mdoc_blocks.specs.Fronts.{line_arguments}
 use Rattle.page_sets_mdoc_blocks.proofs.displays.read_options.Given as goal
 

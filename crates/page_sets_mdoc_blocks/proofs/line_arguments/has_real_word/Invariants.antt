@@ -1,6 +1,6 @@
 use Rattle.std.proofs.Common.{◌≡◌, length}
 use Rattle.std.specs.List.{list_any}
-use Rattle.page_sets_mdoc_lines.specs.LineWords.{is_real}
+use Rattle.page_sets_mdoc_lines.specs.Parts.{is_real}
 use Rattle.page_sets_mdoc_blocks.specs.Fronts.{has_real_word}
 use Rattle.page_sets_mdoc_blocks.proofs.line_arguments.has_real_word.Given as goal
 

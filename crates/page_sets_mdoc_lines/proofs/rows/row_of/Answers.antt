@@ -1,6 +1,6 @@
 use Rattle.std.proofs.Common.{◌≡◌, refl, ap, map, ◌∙◌}
 use Rattle.page_core_base.proofs.RowLemmas.{joined, row_of_rows, seen}
-use Rattle.page_core_base.specs.TableRows.{row_in}
+use Rattle.page_core_base.specs.Messages.{row_in}
 use Rattle.page_sets_mdoc_lines.specs.declared.rows.TheConstants.{MACROS}
 use Rattle.page_sets_mdoc_lines.specs.Rows.{table, row_of}
 use Rattle.page_sets_mdoc_lines.proofs.rows.row_of.Goals as goal

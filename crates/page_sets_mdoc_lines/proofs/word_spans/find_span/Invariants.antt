@@ -1,8 +1,7 @@
 use Rattle.std.proofs.Common.{◌≡◌, ◌+◌, ◌≤◌, length, drop, false, None}
 use Rattle.page_sets_mdoc_lines.specs.machine.Cursors.{IsCursorOf}
-use Rattle.page_sets_mdoc_lines.specs.LineWords.{arguments_after, is_closing, is_real}
-use Rattle.page_sets_mdoc_lines.specs.Parts.{parts, span_of, is_call}
-use Rattle.page_sets_mdoc_lines.specs.Words.{FirstIs}
+use Rattle.page_sets_mdoc_lines.specs.laws.Views.{arguments_after, span_of, is_call, FirstIs}
+use Rattle.page_sets_mdoc_lines.specs.Parts.{is_closing, is_real, parts}
 use Rattle.page_sets_mdoc_lines.proofs.WordSpanLemmas.{passed}
 use Rattle.page_sets_mdoc_lines.proofs.word_spans.find_span.Given as goal
 

@@ -1,7 +1,7 @@
 use Rattle.std.proofs.Common.{sym, ap, ◌∙◌, None}
-use Rattle.page_sets_lines.specs.Events.{given_view}
-use Rattle.page_sets_mdoc_lines.specs.LineWords.{arguments_after}
-use Rattle.page_sets_mdoc_lines.specs.Parts.{LineParts, parts, rest_parts}
+use Rattle.page_sets_lines.specs.laws.Events.{given_view}
+use Rattle.page_sets_mdoc_lines.specs.laws.Views.{arguments_after, rest_parts}
+use Rattle.page_sets_mdoc_lines.specs.Parts.{LineParts, parts}
 use Rattle.page_sets_mdoc_lines.proofs.WordLemmas.{are_known, onto_rest, onto_taken, onto_words}
 use Rattle.page_sets_mdoc_lines.proofs.words.find_words.Goals as goal
 

@@ -1,7 +1,7 @@
 use Rattle.std.proofs.Common.{length, if◌then◌else◌}
-use Rattle.page_core_base.specs.Latches.{CameUpTo}
+use Rattle.page_core_base.specs.laws.Views.{CameUpTo}
 use Rattle.page_sets_mdoc_lines.specs.machine.Cursors.{IsCursorOf}
-use Rattle.page_sets_mdoc_lines.specs.Words.{words_view}
+use Rattle.page_sets_mdoc_lines.specs.laws.Views.{words_view}
 use Rattle.page_sets_mdoc_words.specs.Inlines.{arguments, more_arguments}
 use Rattle.page_sets_mdoc_words.proofs.functions.give_arguments.Given as goal
 

@@ -1,10 +1,10 @@
 use Rattle.std.proofs.Common.{◌∷◌, length, IfSome}
-use Rattle.page_core_base.specs.Latches.{CameUpTo}
-use Rattle.page_roff_syntax.specs.Arguments.{argument_view}
-use Rattle.page_sets_lines.specs.Fits.{ArgumentFits}
+use Rattle.page_core_base.specs.laws.Views.{CameUpTo}
+use Rattle.page_roff_syntax.specs.laws.Views.{argument_view}
+use Rattle.page_sets_lines.specs.laws.Views.{ArgumentFits}
 use Rattle.page_sets_mdoc_lines.specs.machine.Cursors.{IsCursorOf}
-use Rattle.page_sets_mdoc_lines.specs.Words.{words_view}
-use Rattle.page_sets_mdoc_words.specs.Printed.{printed}
+use Rattle.page_sets_mdoc_lines.specs.laws.Views.{words_view}
+use Rattle.page_sets_mdoc_words.specs.Inlines.{printed}
 use Rattle.page_sets_mdoc_words.proofs.ReadLemmas.{read_onto}
 use Rattle.page_sets_mdoc_words.proofs.plain.give_read.Given as goal
 

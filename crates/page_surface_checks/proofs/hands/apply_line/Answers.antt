@@ -1,6 +1,6 @@
-use Rattle.page_core_base.specs.LinesTaken.{line_view}
+use Rattle.page_core_base.specs.laws.Views.{line_view}
 use Rattle.page_sets_lines.proofs.SliceLemmas.{first_fits}
-use Rattle.page_sets_lines.specs.Events.{event_view}
+use Rattle.page_sets_lines.specs.laws.Events.{event_view}
 use Rattle.page_surface_checks.proofs.hands.apply_line.Goals as goal
 
 -- the first of the events that are left fits, since all texts of a line's events are slices of it

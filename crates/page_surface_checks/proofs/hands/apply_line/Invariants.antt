@@ -1,5 +1,5 @@
 use Rattle.std.proofs.Common.{length}
-use Rattle.page_core_base.specs.LinesTaken.{line_view}
+use Rattle.page_core_base.specs.laws.Views.{line_view}
 use Rattle.page_surface_checks.proofs.hands.apply_line.Given as goal
 
 -- the place is one of the line, and each event takes one from those that are left

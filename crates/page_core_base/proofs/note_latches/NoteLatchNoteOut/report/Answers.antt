@@ -1,5 +1,5 @@
 use Rattle.std.proofs.Common.{[], ◌∷◌}
-use Rattle.page_core_base.specs.Messages.{message_of}
+use Rattle.page_core_base.specs.laws.Views.{message_of}
 use Rattle.page_core_base.proofs.LatchLemmas.{left_given, note_items, noted_by}
 use Rattle.page_core_base.proofs.note_latches.NoteLatchNoteOut.report.Goals as goal
 

@@ -1,6 +1,6 @@
 use Rattle.std.proofs.Common.{◌≡◌, ℕ, replicate, ◌-◌}
-use Rattle.page_core_base.specs.Pieces.{shown}
-use Rattle.page_core_base.specs.Sinks.{UpTo}
+use Rattle.page_core_base.specs.Rows.{shown}
+use Rattle.page_core_base.specs.laws.Views.{UpTo}
 use Rattle.page_core_base.specs.declared.pieces.Piece.TheVariants.{Text}
 use Rattle.page_core_base.proofs.pieces.PieceSink.take_blanks.Given as goal
 

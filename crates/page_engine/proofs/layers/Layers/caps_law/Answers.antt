@@ -1,6 +1,6 @@
-use Rattle.page_roff_source.specs.Caps.{RoffFits}
-use Rattle.page_engine_lines.specs.Caps.{BodyFits}
-use Rattle.page_fill.specs.Caps.{FillFits}
+use Rattle.page_roff_source.specs.laws.Views.{RoffFits}
+use Rattle.page_engine_lines.specs.laws.Views.{BodyFits}
+use Rattle.page_fill.specs.laws.Views.{FillFits}
 use Rattle.page_engine.specs.Edges.{lines_at}
 use Rattle.page_engine.proofs.layers.Layers.caps_law.Goals as goal
 

@@ -1,11 +1,10 @@
 use Rattle.std.proofs.Common.{rules, refl, ap, sym, ◌∙◌}
-use Rattle.page_core_base.specs.Laid.{Gets}
-use Rattle.page_core_base.specs.Fails.{FailsBySink}
+use Rattle.page_core_base.specs.laws.Views.{Gets, FailsBySink}
 use Rattle.page_engine_lines.specs.machine.Lines.{source_items}
 use Rattle.page_fill.specs.machine.ByPiece.{laid_items}
 use Rattle.page_engine.specs.machine.ByLine.{settled_text, passed}
 use Rattle.page_engine.specs.Edges.{lines_at}
-use Rattle.page_engine.specs.Shown.{is_silent}
+use Rattle.page_engine.specs.Page.{is_silent}
 use Rattle.page_engine.proofs.Fixed.{items_fixed}
 use Rattle.page_engine.proofs.LayerEdges.{output_kept, text_lines}
 use Rattle.page_engine.proofs.Feeds.{passes_gets, passes_edge, passes_faults}

@@ -3,9 +3,8 @@ use Rattle.page_engine_lines.specs.Edges.{footer_items}
 use Rattle.page_engine_lines.specs.machine.Lines.{end_items}
 use Rattle.page_fill.specs.machine.ByPiece.{laid_items}
 use Rattle.page_fill.specs.Filling.{row_end}
-use Rattle.page_fill.specs.Edges as fill
-use Rattle.page_engine.specs.Levels.{filter-sink}
-use Rattle.page_engine.specs.Shown.{shown-sink}
+use Rattle.page_fill.specs.laws.Views as fill
+use Rattle.page_engine.specs.laws.Views.{filter-sink, shown-sink}
 use Rattle.page_engine.specs.machine.ByLine.{footer_laid}
 use Rattle.page_engine.specs.Edges.{last_line, lines_at}
 use Rattle.page_engine.proofs.Items.{ends_after, ends_join, broken_join, broken_after}

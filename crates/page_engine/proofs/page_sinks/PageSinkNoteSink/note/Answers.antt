@@ -1,6 +1,5 @@
-use Rattle.page_core_base.specs.Messages.{message_of}
-use Rattle.page_engine.specs.Shown.{ShownGave, ShownWithin, shown-sink, shown-whole}
-use Rattle.page_engine.specs.Levels.{FilterGave, FilterWithin}
+use Rattle.page_core_base.specs.laws.Views.{message_of}
+use Rattle.page_engine.specs.laws.Views.{ShownGave, ShownWithin, shown-sink, shown-whole, FilterGave, FilterWithin}
 use Rattle.page_engine.proofs.Items.{note_passes}
 use Rattle.page_engine.proofs.page_sinks.PageSinkNoteSink.note.Goals as goal
 

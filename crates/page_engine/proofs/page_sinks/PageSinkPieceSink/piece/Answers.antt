@@ -1,4 +1,5 @@
-use Rattle.page_core_base.specs.Pieces.{piece_of, shown}
+use Rattle.page_core_base.specs.laws.Views.{piece_of}
+use Rattle.page_core_base.specs.Rows.{shown}
 use Rattle.page_engine.proofs.Items.{items_pass, laid_items_one}
 use Rattle.page_engine.proofs.page_sinks.PageSinkPieceSink.piece.Goals as goal
 

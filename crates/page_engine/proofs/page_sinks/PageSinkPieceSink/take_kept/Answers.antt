@@ -1,5 +1,4 @@
-use Rattle.page_engine.specs.Levels.{filter-sink}
-use Rattle.page_engine.specs.Shown.{shown-sink}
+use Rattle.page_engine.specs.laws.Views.{filter-sink, shown-sink}
 use Rattle.page_engine.proofs.Items.{kept_pass}
 use Rattle.page_engine.proofs.page_sinks.PageSinkPieceSink.take_kept.Goals as goal
 

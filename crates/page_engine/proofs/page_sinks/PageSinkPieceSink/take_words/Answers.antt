@@ -1,8 +1,7 @@
 use Rattle.std.proofs.Common.{◌≡◌, length, arith}
 use Rattle.std.proofs.lemmas.Bool.Decides.{nat_tests}
 use Rattle.std.proofs.lemmas.Result.{err_from_is_err_and}
-use Rattle.page_engine.specs.Levels.{filter-sink}
-use Rattle.page_engine.specs.Shown.{shown-sink}
+use Rattle.page_engine.specs.laws.Views.{filter-sink, shown-sink}
 use Rattle.page_engine.proofs.Items.{no_words_pass, nothing_passes, words_broke, words_took}
 use Rattle.page_engine.proofs.page_sinks.PageSinkPieceSink.take_words.Goals as goal
 

@@ -1,4 +1,4 @@
-use Rattle.page_engine.specs.Page.{start}
+use Rattle.page_engine.specs.Edges.{start}
 use Rattle.page_engine.proofs.Phases.{within_is}
 use Rattle.page_engine.proofs.WholeLines.{start_reached}
 use Rattle.page_engine.proofs.pages.Page.new.Goals as goal

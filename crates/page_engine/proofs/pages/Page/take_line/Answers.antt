@@ -1,6 +1,6 @@
 use Rattle.std.proofs.Common.{refl, ap, ◌∙◌}
-use Rattle.page_roff_lines.specs.Cutting.{line_of}
-use Rattle.page_roff_source.specs.Edges.{counts_of}
+use Rattle.page_roff_lines.specs.laws.Cutting.{line_of}
+use Rattle.page_roff_source.specs.Runs.{counts_of}
 use Rattle.page_engine.specs.machine.ByLine.{settled_line}
 use Rattle.page_engine_lines.specs.Edges.{LinesEdge}
 use Rattle.page_engine.proofs.Phases.{edge_at, open_layers, open_kept, within_is, failed_at, no_cause}

@@ -1,6 +1,6 @@
 use Rattle.std.proofs.Common.{◌≡◌, arith}
-use Rattle.page_core_base.specs.Messages.{message_of}
-use Rattle.page_core_base.specs.Pieces.{noted}
+use Rattle.page_core_base.specs.laws.Views.{message_of}
+use Rattle.page_core_base.specs.Rows.{noted}
 use Rattle.page_engine_header.proofs.RowLemmas.{row_more, row_full}
 use Rattle.page_engine_header.proofs.full_rows.FullRowsPieceOut.report.Goals as goal
 

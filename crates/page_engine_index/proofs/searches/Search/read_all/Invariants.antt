@@ -1,5 +1,5 @@
 use Rattle.std.proofs.Common.{◌≡◌, ◌≤◌, ℕ, List, length}
-use Rattle.page_core_streams.specs.Chunks.{AreRead}
+use Rattle.page_core_streams.specs.laws.Views.{AreRead}
 use Rattle.page_engine_index.specs.Searches.{rows_to}
 use Rattle.page_engine_index.specs.machine.Steps.{Here}
 use Rattle.page_engine_index.specs.Whatis.{asked_of}

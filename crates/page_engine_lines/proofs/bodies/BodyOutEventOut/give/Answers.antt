@@ -1,4 +1,4 @@
-use Rattle.page_sets_lines.specs.Events.{event_view}
+use Rattle.page_sets_lines.specs.laws.Events.{event_view}
 use Rattle.page_engine_lines.proofs.BodyOutLemmas.{left_more}
 use Rattle.page_engine_lines.proofs.bodies.BodyOutEventOut.give.Goals as goal
 

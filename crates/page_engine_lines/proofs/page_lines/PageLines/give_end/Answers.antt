@@ -1,5 +1,5 @@
-use Rattle.page_roff_source.specs.Edges.{end_notes}
-use Rattle.page_engine_lines.specs.Bodies as bodies
+use Rattle.page_roff_source.specs.Runs.{end_notes}
+use Rattle.page_engine_lines.specs.laws.Views as bodies
 use Rattle.page_engine_lines.specs.machine.Lines.{end_items}
 use Rattle.page_engine_lines.proofs.Parts.{items_after_notes}
 use Rattle.page_engine_lines.proofs.page_lines.PageLines.give_end.Goals as goal

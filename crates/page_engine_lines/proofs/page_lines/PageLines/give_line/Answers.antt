@@ -1,6 +1,6 @@
 use Rattle.std.proofs.Common.{◌≡◌, sym, ap₂, ◌∙◌}
-use Rattle.page_core_base.specs.LinesTaken.{line_view}
-use Rattle.page_roff_source.specs.Edges.{Edge}
+use Rattle.page_core_base.specs.laws.Views.{line_view}
+use Rattle.page_roff_source.specs.Runs.{Edge}
 use Rattle.page_roff_source.specs.machine.Taking.{line_given}
 use Rattle.page_engine_lines.specs.Bodies.{BodyEdge}
 use Rattle.page_engine_lines.specs.Edges.{LinesEdge}

@@ -1,4 +1,4 @@
-use Rattle.page_roff_lines.specs.Cutting.{line_of}
+use Rattle.page_roff_lines.specs.laws.Cutting.{line_of}
 use Rattle.page_engine_records.specs.machine.Steps.{front_of}
 use Rattle.page_engine_records.proofs.FrontLemmas.{line_taken}
 use Rattle.page_engine_records.proofs.fronts.PageFront.read_line.Goals as goal

@@ -1,5 +1,5 @@
 use Rattle.std.proofs.Common.{◌≡◌, ℕ, List}
-use Rattle.page_core_streams.specs.Chunks.{AreRead}
+use Rattle.page_core_streams.specs.laws.Views.{AreRead}
 use Rattle.page_engine_records.specs.machine.Steps.{Through}
 use Rattle.page_engine_records.proofs.runs.RecordRun.read_all.Given as goal
 

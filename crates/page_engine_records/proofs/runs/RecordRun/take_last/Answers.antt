@@ -1,5 +1,5 @@
 use Rattle.std.proofs.Common.{ap, ◌∙◌, sym, arith}
-use Rattle.page_roff_lines.specs.Cutting.{Point, last_line, line_at, line_of}
+use Rattle.page_roff_lines.specs.laws.Cutting.{Point, last_line, line_at, line_of}
 use Rattle.page_engine_records.specs.machine.Steps.{front_of}
 use Rattle.page_engine_records.proofs.FrontLemmas.{ended_stays, no_line, one_line}
 use Rattle.page_engine_records.proofs.runs.RecordRun.take_last.Goals as goal

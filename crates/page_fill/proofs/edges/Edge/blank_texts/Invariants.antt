@@ -1,5 +1,5 @@
 use Rattle.std.proofs.Common.{◌≡◌, ℕ, replicate}
-use Rattle.page_core_base.specs.Latches.{CameRowsUpTo}
+use Rattle.page_core_base.specs.laws.Views.{CameRowsUpTo}
 use Rattle.page_core_base.specs.declared.pieces.Piece.TheVariants.{Text}
 use Rattle.page_fill.specs.machine.Fill as fill
 use Rattle.page_fill.proofs.edges.Edge.blank_texts.Given as goal

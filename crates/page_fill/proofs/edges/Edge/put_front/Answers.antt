@@ -1,13 +1,14 @@
 use Rattle.std.proofs.Common.{◌≡◌, ◌<◌, ◌≤◌, ◌+◌, ◌++◌, ◌-◌, length, replicate, take, length-append, refl, sym, ap, ◌∙◌, arith}
 use Rattle.std.proofs.lemmas.Bool.Decides.{nat_tests}
 use Rattle.std.proofs.lemmas.List.{length-replicate, length-take-le}
-use Rattle.page_core_base.specs.Laid.{Laid, nothing}
-use Rattle.page_core_base.specs.Rows.{cells_in}
+use Rattle.page_core_base.specs.Rows.{Laid, nothing}
+use Rattle.page_core_base.specs.laws.Views.{cells_in}
 use Rattle.page_fill_cells.proofs.PlaceLemmas.{in-length}
 use Rattle.page_fill_rows.proofs.PlainLemmas.{parts-plain}
 use Rattle.page_fill_rows.specs.machine.Plain.{free_cells, word_start, words_taken, wraps_words}
-use Rattle.page_fill_rows.specs.machine.Sheets.{Sheet, blank, over}
-use Rattle.page_fill.specs.machine.Fill.{Edge}
+use Rattle.page_fill_rows.specs.OpenRows.{Sheet, over}
+use Rattle.page_fill_cells.specs.Cells.{blank}
+use Rattle.page_fill.specs.declared.edges.Edge.{Edge}
 use Rattle.page_fill.specs.machine.PlainWords.{whole_words}
 use Rattle.page_fill.proofs.LetteredPieces.{begun_on}
 use Rattle.page_fill.proofs.LetteredWordLemmas.{front-fits, front-wraps}

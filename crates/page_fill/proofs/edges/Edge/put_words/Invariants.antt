@@ -1,10 +1,9 @@
 use Rattle.std.proofs.Common.{◌≡◌, ◌≤◌, ◌+◌, ◌-◌, drop, length, true}
-use Rattle.page_core_base.specs.Laid.{Laid}
-use Rattle.page_core_base.specs.Latches.{LaysOut}
+use Rattle.page_core_base.specs.Rows.{Laid}
+use Rattle.page_core_base.specs.laws.Views.{LaysOut, is_printable_ascii}
 use Rattle.page_core_base.specs.declared.limits.TheConstants.{CELLS}
-use Rattle.page_fill_cells.specs.Cells.{is_printable_ascii}
-use Rattle.page_fill.specs.Caps.{is_sound}
-use Rattle.page_fill.specs.machine.Fill.{Edge}
+use Rattle.page_fill.specs.laws.Views.{is_sound}
+use Rattle.page_fill.specs.declared.edges.Edge.{Edge}
 use Rattle.page_fill.specs.machine.LetteredWords.{LaysUpTo}
 use Rattle.page_fill.proofs.edges.Edge.put_words.Given as goal
 

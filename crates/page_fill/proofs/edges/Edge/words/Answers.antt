@@ -1,8 +1,8 @@
 use Rattle.std.proofs.Common.{◌≡◌, true, ap, ◌∙◌, arith, rules}
-use Rattle.page_core_base.specs.Laid.{Laid}
+use Rattle.page_core_base.specs.Rows.{Laid}
 use Rattle.page_fill_rows.proofs.RowLatchLemmas.{latched}
-use Rattle.page_fill.specs.LetteredWords.{is_in_row}
-use Rattle.page_fill.specs.machine.Fill.{Edge}
+use Rattle.page_fill.specs.laws.Views.{is_in_row}
+use Rattle.page_fill.specs.declared.edges.Edge.{Edge}
 use Rattle.page_fill_rows.specs.machine.RowPlans.{seen}
 use Rattle.page_fill.proofs.edges.Edge.words.Goals as goal
 

@@ -1,5 +1,5 @@
 use Rattle.std.proofs.Common.{◌∙◌}
-use Rattle.page_core_base.specs.Pieces.{piece_of}
+use Rattle.page_core_base.specs.laws.Views.{piece_of}
 use Rattle.page_fill.proofs.FillerLaw.{piece-at, piece-kept, edge-at}
 use Rattle.page_fill.proofs.fillers.FillerWith.piece.Goals as goal
 

@@ -1,5 +1,5 @@
 use Rattle.std.proofs.Common.{◌∙◌}
-use Rattle.page_core_base.specs.Words.{lettered_pieces}
+use Rattle.page_core_base.specs.laws.Views.{lettered_pieces}
 use Rattle.page_fill.proofs.FillerLaw.{pieces-at, pieces-edge}
 use Rattle.page_fill.proofs.fillers.FillerWith.words.Goals as goal
 

@@ -1,5 +1,5 @@
 use Rattle.std.proofs.Common.{◌≡◌, length, take, sym, ap, ◌∙◌, arith}
-use Rattle.page_core_base.specs.Rows.{cells_in}
+use Rattle.page_core_base.specs.laws.Views.{cells_in}
 use Rattle.page_fill_cells.proofs.PlaceLemmas.{front-columns, in-length}
 use Rattle.page_fill_cells.specs.Cells.{columns}
 use Rattle.page_fill_cells.proofs.places.Places.columns.Goals as goal

@@ -1,6 +1,6 @@
 use Rattle.std.proofs.Common.{◌≡◌, length, take, sym, ap, ◌∙◌, arith}
 use Rattle.std.proofs.lemmas.List.{length-take-le}
-use Rattle.page_core_base.specs.Rows.{cells_in}
+use Rattle.page_core_base.specs.laws.Views.{cells_in}
 use Rattle.page_fill_cells.proofs.PlaceLemmas.{in-length, in-take, put-first}
 use Rattle.page_fill_cells.proofs.places.Places.copy_cells.Goals as goal
 

@@ -1,7 +1,8 @@
 use Rattle.std.proofs.Common.{◌≡◌, ◌≤◌, ◌≤◌, length, take, sym, ap, ◌∙◌, arith}
 use Rattle.std.proofs.lemmas.List.{length-take-le}
 use Rattle.std.specs.Vec.{vec_capacity}
-use Rattle.page_core_base.specs.Rows.{AreAscii, cells_in, is_blank_row, row_of}
+use Rattle.page_core_base.specs.laws.Views.{AreAscii, cells_in}
+use Rattle.page_core_base.specs.Rows.{is_blank_row, row_of}
 use Rattle.page_fill_cells.proofs.PlaceLemmas.{in-length, in-take, printable-ascii}
 use Rattle.page_fill_cells.proofs.places.Places.give.Goals as goal
 

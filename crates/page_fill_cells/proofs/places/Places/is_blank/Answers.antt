@@ -1,7 +1,8 @@
 use Rattle.std.proofs.Common.{◌≡◌, length, take, sym, ap, ◌∙◌, arith}
 use Rattle.std.proofs.lemmas.List.{length-take-le}
 use Rattle.std.specs.List.{list_all}
-use Rattle.page_core_base.specs.Rows.{cells_in, is_blank_row, row_of}
+use Rattle.page_core_base.specs.laws.Views.{cells_in}
+use Rattle.page_core_base.specs.Rows.{is_blank_row, row_of}
 use Rattle.page_fill_cells.specs.machine.BlankRuns.{is_blank_byte}
 use Rattle.page_fill_cells.proofs.PlaceLemmas.{front-blank, in-length}
 use Rattle.page_fill_cells.proofs.places.Places.is_blank.Goals as goal

@@ -1,9 +1,8 @@
 use Rattle.std.proofs.Common.{◌≡◌, ◌-◌, ◌++◌, length, take, drop, if◌then◌else◌, sym, ap, ◌∙◌, arith, length-drop}
 use Rattle.std.proofs.lemmas.List.{length-take-le}
 use Rattle.page_core_base.specs.declared.limits.TheConstants.{CELLS}
-use Rattle.page_core_base.specs.Rows.{cells_in}
+use Rattle.page_core_base.specs.laws.Views.{cells_in, is_printable, is_printable_ascii}
 use Rattle.page_fill_cells.specs.machine.Places.{put_at}
-use Rattle.page_fill_cells.specs.Cells.{is_printable, is_printable_ascii}
 use Rattle.page_fill_cells.proofs.PlaceLemmas.{given-back, in-length, in-moved, moved-passes, put-length}
 use Rattle.page_fill_cells.proofs.places.Places.move_to_front.Goals as goal
 

@@ -2,7 +2,7 @@ use Rattle.std.proofs.Common.{◌≡◌, ℕ, length, replicate, refl, sym, ap, 
 use Rattle.std.proofs.lemmas.List.{length-replicate}
 use Rattle.page_core_base.specs.declared.cells.Font.{Font}
 use Rattle.page_core_base.specs.declared.cells.Font.TheVariants.{R}
-use Rattle.page_fill_cells.specs.Cells.{is_printable, is_printable_ascii}
+use Rattle.page_core_base.specs.laws.Views.{is_printable, is_printable_ascii}
 use Rattle.page_fill_cells.proofs.PlaceLemmas.{in-length, same-passes}
 use Rattle.page_fill_cells.proofs.places.Places.new.Goals as goal
 

@@ -1,8 +1,7 @@
 use Rattle.std.proofs.Common.{◌≡◌, ◌+◌, ◌<◌, [], ◌∷◌, ◌++◌, length, take, drop, set, if◌then◌else◌, sym, ap, ◌∙◌, arith, length-set}
 use Rattle.std.proofs.lemmas.List.{length-take-le, take_more_set}
 use Rattle.page_core_base.specs.declared.limits.TheConstants.{CELLS}
-use Rattle.page_core_base.specs.Rows.{cells_in}
-use Rattle.page_fill_cells.specs.Cells.{is_printable, is_printable_ascii}
+use Rattle.page_core_base.specs.laws.Views.{cells_in, is_printable, is_printable_ascii}
 use Rattle.page_fill_cells.proofs.PlaceLemmas.{given-back, in-length, in-set, in-take, set-passes}
 use Rattle.page_fill_cells.proofs.places.Places.put.Goals as goal
 

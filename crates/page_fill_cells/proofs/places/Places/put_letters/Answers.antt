@@ -1,9 +1,8 @@
 use Rattle.std.proofs.Common.{◌≡◌, ℕ, List, ◌++◌, length, take, drop, if◌then◌else◌, refl, sym, ap, ◌∙◌, arith}
 use Rattle.page_core_base.specs.declared.cells.Font.{Font}
 use Rattle.page_core_base.specs.declared.limits.TheConstants.{CELLS}
-use Rattle.page_core_base.specs.Rows.{cells_in}
+use Rattle.page_core_base.specs.laws.Views.{cells_in, is_printable, is_printable_ascii}
 use Rattle.page_fill_cells.specs.machine.Places.{put_at}
-use Rattle.page_fill_cells.specs.Cells.{is_printable, is_printable_ascii}
 use Rattle.page_fill_cells.proofs.PlaceLemmas.{given-back, in-length, in-put-letters, put-length, put-passes}
 use Rattle.page_fill_cells.proofs.places.Places.put_letters.Goals as goal
 

@@ -1,7 +1,8 @@
 use Rattle.std.proofs.Common.{◌≡◌, ◌+◌, ◌-◌, ◌≤◌, ◌++◌, [], length, length-append, min, true, arith, ap, ◌∙◌}
-use Rattle.page_core_base.specs.Rows.{cells_in}
+use Rattle.page_core_base.specs.laws.Views.{cells_in}
 use Rattle.page_fill_rows.specs.declared.TheConstants.{TAG_COLUMNS}
-use Rattle.page_fill_rows.specs.machine.Sheets.{Sheet, columns}
+use Rattle.page_fill_rows.specs.OpenRows.{Sheet}
+use Rattle.page_fill_cells.specs.Cells.{columns}
 use Rattle.page_core_base.specs.declared.limits.TheConstants.{CELLS}
 use Rattle.page_fill_cells.proofs.PlaceLemmas.{in-length}
 use Rattle.page_fill_rows.proofs.PlainLemmas.{in-plain, sound-cells}

@@ -1,5 +1,5 @@
 use Rattle.std.proofs.Common.{append_assoc, ap, arith, refl, sym, ◌∙◌, ◌≡◌, [], replicate}
-use Rattle.page_fill_rows.specs.Characters.{cell_of}
+use Rattle.page_fill_cells.specs.Cells.{cell_of}
 use Rattle.page_fill_rows.specs.machine.Sheets.{letters}
 use Rattle.page_fill_rows.proofs.PutBlankLemmas.{blanks-parted}
 use Rattle.page_fill_rows.proofs.SheetLemmas.{cells-more}

@@ -1,6 +1,6 @@
 use Rattle.std.proofs.Common.{◌≡◌, replicate}
-use Rattle.page_core_base.specs.Latches.{CameRowsUpTo}
-use Rattle.page_fill_rows.specs.Characters as shown
+use Rattle.page_core_base.specs.laws.Views.{CameRowsUpTo}
+use Rattle.page_fill_rows.specs.OpenRows as shown
 use Rattle.page_fill_rows.specs.machine.Sheets as sheet
 use Rattle.page_fill_rows.proofs.open_rows.OpenRow.put_blanks.Given as goal
 

@@ -1,5 +1,5 @@
 use Rattle.std.proofs.Common.{◌≡◌, ◌-◌}
-use Rattle.page_core_base.specs.Latches.{CameRowsUpTo}
+use Rattle.page_core_base.specs.laws.Views.{CameRowsUpTo}
 use Rattle.page_fill_rows.specs.machine.Sheets as sheet
 use Rattle.page_fill_rows.proofs.open_rows.OpenRow.put_spaces.Given as goal
 

@@ -1,5 +1,5 @@
 use Rattle.std.proofs.Common.{sym, ap, ◌∙◌}
-use Rattle.page_roff_lines.specs.Cutting.{Point, end_point, line_at}
+use Rattle.page_roff_lines.specs.laws.Cutting.{Point, end_point, line_at}
 use Rattle.page_roff_lines.proofs.PointLemmas.{open_point, free_point, end_point-is}
 use Rattle.page_roff_lines.proofs.LineAgreement.{ended-of_page}
 use Rattle.page_roff_lines.proofs.cutter.Cutter.end.Goals as goal

@@ -1,8 +1,9 @@
 use Rattle.std.proofs.Common.{◌≡◌, ◌≤◌, length, sym, ap, ◌∙◌, arith}
-use Rattle.page_roff_decoding.specs.Limit.{line_limit, line_limit_is}
+use Rattle.page_roff_decoding.specs.Decoding.{line_limit}
+use Rattle.page_roff_decoding.specs.laws.Views.{line_limit_is}
 use Rattle.page_roff_lines.specs.machine.Open.{kept_of}
 use Rattle.page_roff_lines.specs.Lines.{decode_line}
-use Rattle.page_roff_lines.specs.Cutting.{Cutting, line_of}
+use Rattle.page_roff_lines.specs.laws.Cutting.{Cutting, line_of}
 use Rattle.page_roff_lines.proofs.PlainLines.{decode_line-plain}
 use Rattle.page_roff_lines.proofs.cutter.Cutter.is_free.Goals as goal
 

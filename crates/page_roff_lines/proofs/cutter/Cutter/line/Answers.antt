@@ -1,6 +1,6 @@
 use Rattle.std.proofs.Common.{refl, ap, ◌∙◌}
 use Rattle.page_roff_lines.specs.Lines.{decode_line}
-use Rattle.page_roff_lines.specs.Cutting.{Point}
+use Rattle.page_roff_lines.specs.laws.Cutting.{Point}
 use Rattle.page_roff_lines.proofs.cutter.Cutter.line.Goals as goal
 
 pub returns : goal.returns

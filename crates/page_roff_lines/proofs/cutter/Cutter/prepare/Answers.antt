@@ -1,14 +1,13 @@
 use Rattle.std.proofs.Common.{◌≡◌, ◌≤◌, true, ◌++◌, length, refl, sym, ap, ◌∙◌, arith}
 use Rattle.std.specs.Prelude.{◌||◌, nat_lt}
 use Rattle.std.specs.List.{list_all}
-use Rattle.page_roff_decoding.specs.Limit.{line_limit, line_limit_is}
-use Rattle.page_roff_decoding.specs.Characters.{is_printable, characters, all_bytes}
-use Rattle.page_roff_decoding.specs.Decoding.{choice_of, characters_within, bad_notes, limit_notes}
+use Rattle.page_roff_decoding.specs.Decoding.{line_limit, is_printable, characters, all_bytes, choice_of, characters_within, bad_notes, limit_notes}
+use Rattle.page_roff_decoding.specs.laws.Views.{line_limit_is}
 use Rattle.page_roff_decoding.proofs.FineLemmas.{plain-is_line}
 use Rattle.page_roff_decoding.proofs.PlainLemmas.{choice_of-plain}
 use Rattle.page_roff_lines.specs.machine.Open.{Open, kept_of}
 use Rattle.page_roff_lines.specs.Lines.{Line, decode_line}
-use Rattle.page_roff_lines.specs.Cutting.{Point, line_of}
+use Rattle.page_roff_lines.specs.laws.Cutting.{Point, line_of}
 use Rattle.page_roff_lines.proofs.PointLemmas.{waiting_point}
 use Rattle.page_roff_lines.proofs.PlainLines.{decode_line-plain}
 use Rattle.page_roff_lines.proofs.cutter.Cutter.prepare.Goals as goal

@@ -1,7 +1,7 @@
 use Rattle.std.proofs.Common.{◌≡◌, ◌++◌, ◌-◌, take, length, min, ap, refl, sym, ◌∙◌, arith}
 use Rattle.std.proofs.lemmas.List.{take_min, length-take-le}
-use Rattle.page_roff_decoding.specs.Characters.{is_printable}
-use Rattle.page_roff_decoding.specs.Limit.{line_limit, line_limit_is}
+use Rattle.page_roff_decoding.specs.Decoding.{is_printable, line_limit}
+use Rattle.page_roff_decoding.specs.laws.Views.{line_limit_is}
 use Rattle.page_roff_decoding.proofs.ScanLemmas.{all-append, all-take}
 use Rattle.page_roff_lines.specs.machine.Held.{extend}
 use Rattle.page_roff_lines.proofs.HeldLemmas.{take-append-room, if_ok}

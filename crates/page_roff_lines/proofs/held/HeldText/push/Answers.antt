@@ -1,5 +1,6 @@
 use Rattle.std.proofs.Common.{◌≡◌, ◌∷◌, [], ◌++◌, take, refl, sym, ◌∙◌, arith}
-use Rattle.page_roff_decoding.specs.Limit.{line_limit, line_limit_is}
+use Rattle.page_roff_decoding.specs.Decoding.{line_limit}
+use Rattle.page_roff_decoding.specs.laws.Views.{line_limit_is}
 use Rattle.page_roff_lines.specs.machine.Held.{extend}
 use Rattle.page_roff_lines.proofs.HeldLemmas.{take-append-one, take-append-full}
 use Rattle.page_roff_lines.proofs.held.HeldText.push.Goals as goal

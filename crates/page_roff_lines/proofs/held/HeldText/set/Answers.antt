@@ -1,6 +1,5 @@
 use Rattle.std.proofs.Common.{◌≡◌, take, ap, ◌∙◌}
-use Rattle.page_roff_decoding.specs.Limit.{line_limit}
-use Rattle.page_roff_decoding.specs.Characters.{is_printable}
+use Rattle.page_roff_decoding.specs.Decoding.{line_limit, is_printable}
 use Rattle.page_roff_decoding.proofs.ScanLemmas.{all-take}
 use Rattle.page_roff_lines.specs.machine.Held.{Held, extend}
 use Rattle.page_roff_lines.proofs.FreeLines.{less-free}

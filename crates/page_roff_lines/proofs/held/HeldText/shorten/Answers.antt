@@ -1,5 +1,5 @@
 use Rattle.std.proofs.Common.{arith}
-use Rattle.page_roff_decoding.specs.Characters.{is_printable}
+use Rattle.page_roff_decoding.specs.Decoding.{is_printable}
 use Rattle.page_roff_decoding.proofs.ScanLemmas.{all-take}
 use Rattle.page_roff_lines.proofs.held.HeldText.shorten.Goals as goal
 

@@ -1,5 +1,5 @@
 use Rattle.page_roff_machine.proofs.DoingLemmas.{answer_met, answer_passed}
-use Rattle.page_roff_blocks.specs.LineParts.{branch_view}
+use Rattle.page_roff_blocks.specs.laws.Views.{branch_view}
 use Rattle.page_roff_machine.proofs.budgeted_actions.BudgetedActions.answer.Goals as goal
 
 pub returns-then-meet : goal.returns-then-meet

@@ -1,6 +1,6 @@
 use Rattle.std.proofs.Common.{refl}
 use Rattle.page_roff_machine.proofs.DoingLemmas.{finished, not_begun}
-use Rattle.page_roff_syntax.specs.OpenRegions.{opened_view}
+use Rattle.page_roff_syntax.specs.laws.Views.{opened_view}
 use Rattle.page_roff_machine.proofs.budgeted_actions.BudgetedActions.finish.Goals as goal
 
 pub returns-then-has_begun : goal.returns-then-has_begun

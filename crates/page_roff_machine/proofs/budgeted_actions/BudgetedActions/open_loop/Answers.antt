@@ -1,6 +1,6 @@
 use Rattle.std.proofs.Common.{refl}
 use Rattle.page_roff_machine.proofs.DoingLemmas.{loop_met, loop_passed}
-use Rattle.page_roff_blocks.specs.LineParts.{loop_head_view}
+use Rattle.page_roff_blocks.specs.laws.Views.{loop_head_view}
 use Rattle.page_roff_machine.proofs.budgeted_actions.BudgetedActions.open_loop.Goals as goal
 
 pub returns-then-meet : goal.returns-then-meet

@@ -1,6 +1,6 @@
 use Rattle.std.proofs.Common.{refl}
 use Rattle.page_roff_machine.proofs.DoingLemmas.{region_met}
-use Rattle.page_roff_syntax.specs.RegionHeads.{region_view}
+use Rattle.page_roff_syntax.specs.laws.Views.{region_view}
 use Rattle.page_roff_machine.proofs.budgeted_actions.BudgetedActions.open_region.Goals as goal
 
 pub returns : goal.returns

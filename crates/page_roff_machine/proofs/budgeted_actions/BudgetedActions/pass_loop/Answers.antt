@@ -1,5 +1,5 @@
 use Rattle.page_roff_machine.proofs.DoingLemmas.{loop_whole, loop_not_met}
-use Rattle.page_roff_blocks.specs.LineParts.{loop_head_view}
+use Rattle.page_roff_blocks.specs.laws.Views.{loop_head_view}
 use Rattle.page_roff_machine.proofs.budgeted_actions.BudgetedActions.pass_loop.Goals as goal
 
 pub returns-then-open_loop-clause-done : goal.returns-then-open_loop-clause-done

@@ -1,6 +1,6 @@
 use Rattle.std.proofs.Common.{refl}
 use Rattle.page_roff_machine.proofs.DoingLemmas.{value_if, value_if_else, value_else}
-use Rattle.page_roff_heads.specs.Conditions.{condition_view}
+use Rattle.page_roff_heads.specs.laws.Views.{condition_view}
 use Rattle.page_roff_machine.proofs.budgeted_actions.BudgetedActions.value.Goals as goal
 
 pub returns-in-Else : goal.returns-in-Else

@@ -1,5 +1,5 @@
 use Rattle.std.proofs.Common.{ap, ◌∙◌}
-use Rattle.page_core_base.specs.LinesTaken.{line_view}
+use Rattle.page_core_base.specs.laws.Views.{line_view}
 use Rattle.page_roff_effects.specs.machine.Acting.{with_number}
 use Rattle.page_roff_machine.proofs.AtOnceLemmas.{takes_line, taken_sound, calls_line, called_sound, kept_begins, kept_sound}
 use Rattle.page_roff_machine.proofs.machines.Machine.begin.Goals as goal

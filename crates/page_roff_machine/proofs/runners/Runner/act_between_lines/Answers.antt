@@ -1,7 +1,7 @@
 use Rattle.std.proofs.Common.{ap, ◌∙◌}
-use Rattle.page_roff_blocks.specs.Levels.{Levels}
+use Rattle.page_roff_blocks.specs.Forest.{Levels}
 use Rattle.page_roff_machine.proofs.ActLemmas.{room, region_line_there, region_passed, decides_region_line, decides_region_end, decides_source_end, decides_turn, decides_last_turn}
-use Rattle.page_roff_syntax.specs.OpenRegions.{opened_view}
+use Rattle.page_roff_syntax.specs.laws.Views.{opened_view}
 use Rattle.page_roff_machine.proofs.runners.Runner.act_between_lines.Goals as goal
 
 pub end_region-requires : goal.end_region-requires

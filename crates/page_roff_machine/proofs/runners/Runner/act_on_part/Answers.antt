@@ -1,9 +1,9 @@
 use Rattle.std.proofs.Common.{ap, ◌∙◌}
-use Rattle.page_roff_blocks.specs.LineParts.{head_view, loop_head_view}
-use Rattle.page_roff_blocks.specs.Levels.{Levels}
+use Rattle.page_roff_blocks.specs.laws.Views.{head_view, loop_head_view}
+use Rattle.page_roff_blocks.specs.Forest.{Levels}
 use Rattle.page_roff_blocks.specs.declared.line_parts.LinePart.TheVariants.{Leaf, Guard, Block, Loop, End, Region}
 use Rattle.page_roff_blocks.specs.declared.line_parts.Opening.TheVariants as openings
-use Rattle.page_roff_syntax.specs.RegionHeads.{region_view}
+use Rattle.page_roff_syntax.specs.laws.Views.{region_view}
 use Rattle.page_roff_stack.specs.machine.Stacks.{next_of}
 use Rattle.page_roff_machine.proofs.ActLemmas.{is_the_part, decides_leaf, decides_guard, decides_block, decides_loop, decides_open_loop, decides_region, decides_block_end}
 use Rattle.page_roff_machine.proofs.runners.Runner.act_on_part.Goals as goal

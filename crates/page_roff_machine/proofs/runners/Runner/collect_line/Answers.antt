@@ -1,5 +1,5 @@
 use Rattle.std.proofs.Common.{ap, sym, ◌∙◌}
-use Rattle.page_roff_blocks.specs.Levels.{Levels}
+use Rattle.page_roff_blocks.specs.Forest.{Levels}
 use Rattle.page_roff_machine.proofs.ActLemmas.{collects_here, collects_nothing}
 use Rattle.page_roff_machine.proofs.runners.Runner.collect_line.Goals as goal
 

@@ -1,5 +1,6 @@
 use Rattle.std.proofs.Common.{ap, sym, ◌∙◌}
-use Rattle.page_roff_blocks.specs.Levels.{Levels, what_ends}
+use Rattle.page_roff_blocks.specs.Forest.{Levels}
+use Rattle.page_roff_blocks.specs.laws.Views.{what_ends}
 use Rattle.page_roff_machine.proofs.GoLemmas.{leaves_block, leaves_none, leaves_setting, leaves_loop}
 use Rattle.page_roff_machine.proofs.runners.Runner.leave_block.Goals as goal
 

@@ -1,7 +1,6 @@
 use Rattle.std.proofs.Common.{◌++◌, ◌∙◌}
 use Rattle.page_roff_names.specs.declared.rows.Meaning.TheVariants.{String}
-use Rattle.page_roff_names.specs.Entries.{definition}
-use Rattle.page_roff_names.specs.Names.{string_of}
+use Rattle.page_roff_names.specs.Names.{definition, string_of}
 use Rattle.page_roff_names.proofs.Kept.{texts_kept, store_texts, settled_kept, appended}
 use Rattle.page_roff_names.proofs.names.Names.append_string.Goals as goal
 

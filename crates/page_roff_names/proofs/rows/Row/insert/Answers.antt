@@ -1,7 +1,7 @@
 use Rattle.std.proofs.Common.{◌∙◌, ap, arith, length}
 use Rattle.std.specs.List.{insert}
 use Rattle.page_roff_names.specs.machine.Layout.{relaid}
-use Rattle.page_roff_names.specs.Entries.{definition}
+use Rattle.page_roff_names.specs.Names.{definition}
 use Rattle.page_roff_names.specs.declared.rows.Span.{Span}
 use Rattle.page_roff_names.proofs.Laid.{Lies, lies, opened, closed, seen, relaid-insert, text_inserted, length-insert, size-insert, size_take_le}
 use Rattle.page_roff_names.proofs.rows.Row.insert.Goals as goal

@@ -1,6 +1,6 @@
 use Rattle.std.proofs.Common.{ap, ◌∙◌, arith}
 use Rattle.page_roff_stack.specs.machine.Stacks.{Stack}
-use Rattle.page_roff_source.specs.Parts.{edge_at}
+use Rattle.page_roff_source.specs.laws.Views.{edge_at}
 use Rattle.page_roff_source.proofs.RoffLineLemmas.{held_part, resumed_at, resumed_invariant}
 use Rattle.page_roff_source.proofs.roff_lines.RoffLines.at.Goals as goal
 

@@ -1,5 +1,5 @@
 use Rattle.std.proofs.Common.{[], ap, ◌∙◌}
-use Rattle.page_core_base.specs.LinesTaken.{line_view}
+use Rattle.page_core_base.specs.laws.Views.{line_view}
 use Rattle.page_roff_source.specs.machine.Taking.{LinesState, run_begun}
 use Rattle.page_roff_source.proofs.RoffLineLemmas.{none_in, few_in, begin_room, begin_edge, begin_invariant, keep_edge, keep_invariant}
 use Rattle.page_roff_source.proofs.roff_lines.RoffLines.source.Goals as goal

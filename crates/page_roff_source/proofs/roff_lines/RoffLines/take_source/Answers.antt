@@ -1,8 +1,8 @@
 use Rattle.std.proofs.Common.{[], ◌+◌, ap, subst, ◌∙◌, option_map}
-use Rattle.page_core_base.specs.LinesTaken.{line_view}
+use Rattle.page_core_base.specs.laws.Views.{line_view}
 use Rattle.page_roff_source.specs.machine.RoffLines.{edge_of}
 use Rattle.page_roff_source.specs.machine.Taking.{LinesState, TakesSource, run_begun}
-use Rattle.page_roff_source.specs.Edges.{SourceLine}
+use Rattle.page_roff_source.specs.Runs.{SourceLine}
 use Rattle.page_roff_source.proofs.RoffLineLemmas.{none_in, few_in, begin_room, begin_edge, begin_invariant, none_begins, none_takes, lend_takes, lend_text, lend_invariant}
 use Rattle.page_roff_source.proofs.roff_lines.RoffLines.take_source.Goals as goal
 

@@ -1,5 +1,5 @@
 use Rattle.std.proofs.Common.{ap, refl}
-use Rattle.page_roff_source.specs.Fuses.{RoffState}
+use Rattle.page_roff_source.specs.laws.Views.{RoffState}
 use Rattle.page_roff_source.proofs.LineLemmas.{begun_edge}
 use Rattle.page_roff_source.proofs.roffs.Roff.source.Goals as goal
 

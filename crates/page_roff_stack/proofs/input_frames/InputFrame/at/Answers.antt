@@ -1,5 +1,5 @@
 use Rattle.std.proofs.Common.{◌<◌, ◌^◌, [], None, refl, ap, ◌∙◌, arith}
-use Rattle.page_roff_blocks.specs.Levels.{BlockCursor, at_line}
+use Rattle.page_roff_blocks.specs.laws.Views.{BlockCursor, at_line}
 use Rattle.page_roff_stack.specs.declared.input_frames.InputFrame.{InputFrame}
 use Rattle.page_roff_stack.specs.declared.source_kinds.SourceKind.TheVariants as sources
 use Rattle.page_roff_stack.proofs.NewLemmas.{span, frame, place_set}

@@ -1,5 +1,5 @@
 use Rattle.std.proofs.Common.{◌<◌, ◌^◌, [], None, refl, ap, ◌∙◌, arith}
-use Rattle.page_roff_blocks.specs.Levels.{BlockCursor, after_part}
+use Rattle.page_roff_blocks.specs.laws.Views.{BlockCursor, after_part}
 use Rattle.page_roff_blocks.specs.machine.Languages.{page}
 use Rattle.page_roff_stack.specs.declared.input_frames.InputFrame.{InputFrame}
 use Rattle.page_roff_stack.proofs.NewLemmas.{span, frame, page_none, place_set}

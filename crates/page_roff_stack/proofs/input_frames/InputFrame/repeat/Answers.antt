@@ -1,7 +1,7 @@
 use Rattle.std.proofs.Common.{◌≡◌, ◌++◌, drop, [], length, false, Some, None, refl, ap, ◌∙◌, append_assoc, arith}
 use Rattle.page_roff_blocks.specs.machine.Languages.{body, TURNS}
-use Rattle.page_roff_syntax.specs.RegionHeads.{text_view}
-use Rattle.page_roff_values.specs.Arguments.{lines_in}
+use Rattle.page_roff_syntax.specs.laws.Views.{text_view}
+use Rattle.page_roff_values.specs.Values.{lines_in}
 use Rattle.page_roff_stack.specs.declared.input_frames.InputFrame.{InputFrame}
 use Rattle.page_roff_stack.specs.declared.source_kinds.SourceKind.TheVariants as sources
 use Rattle.page_roff_stack.specs.machine.Held.{turning_in}

@@ -1,5 +1,5 @@
 use Rattle.std.proofs.Common.{◌≡◌, ◌<◌, ◌^◌, ◌++◌, [], ◌∷◌, None, length, refl, ap, sym, ◌∙◌, arith, append-nil, length-append}
-use Rattle.page_roff_blocks.specs.Levels.{at_line}
+use Rattle.page_roff_blocks.specs.laws.Views.{at_line}
 use Rattle.page_roff_blocks.specs.machine.Languages.{page}
 use Rattle.page_roff_stack.specs.declared.input_frames.InputFrame.{InputFrame}
 use Rattle.page_roff_stack.proofs.NewLemmas.{span, frame, IsNew, new_of, page_set, page_none}

@@ -1,7 +1,7 @@
 use Rattle.std.proofs.Common.{◌≡◌, ◌++◌, ap, ◌∙◌, arith, length-append}
 use Rattle.page_roff_blocks.specs.machine.Languages.{is_some}
 use Rattle.page_roff_blocks.specs.machine.Machine.{depth, entered}
-use Rattle.page_roff_values.specs.Arguments.{arguments_in, lines_in}
+use Rattle.page_roff_values.specs.Values.{arguments_in, lines_in}
 use Rattle.page_roff_stack.specs.declared.input_stacks.Caller.{Caller}
 use Rattle.page_roff_stack.specs.declared.input_stacks.InputStack.TheInside.{Inside}
 use Rattle.page_roff_stack.specs.machine.InputFrames.{frame_of}

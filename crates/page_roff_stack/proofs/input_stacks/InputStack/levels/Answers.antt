@@ -1,5 +1,5 @@
 use Rattle.std.proofs.Common.{ap, arith}
-use Rattle.page_roff_blocks.specs.Levels.{Levels}
+use Rattle.page_roff_blocks.specs.Forest.{Levels}
 use Rattle.page_roff_stack.proofs.input_stacks.InputStack.levels.Goals as goal
 
 pub returns-clause-room : goal.returns-clause-room

@@ -1,5 +1,5 @@
 use Rattle.std.proofs.Common.{◌≡◌, List, ℕ, Option, Some, None, ap, sym, ◌∙◌, vec_len}
-use Rattle.page_roff_syntax.specs.OpenRegions.{opened_view}
+use Rattle.page_roff_syntax.specs.laws.Views.{opened_view}
 use Rattle.page_roff_stack.specs.machine.InputStacks.{stack_of}
 use Rattle.page_roff_stack.specs.machine.Stacks.{turn_in, turn_or_end, next_around}
 use Rattle.page_roff_stack.proofs.InputStackLemmas.{some_around}

@@ -1,8 +1,8 @@
 use Rattle.std.proofs.Common.{◌≡◌, ◌++◌, drop, ap, ◌∙◌, arith, length-append}
-use Rattle.page_roff_syntax.specs.RegionHeads.{text_view}
+use Rattle.page_roff_syntax.specs.laws.Views.{text_view}
 use Rattle.page_roff_blocks.specs.machine.Languages.{body, is_some}
 use Rattle.page_roff_blocks.specs.machine.Machine.{depth, looped}
-use Rattle.page_roff_values.specs.Arguments.{lines_in}
+use Rattle.page_roff_values.specs.Values.{lines_in}
 use Rattle.page_roff_stack.specs.declared.input_stacks.Caller.{Caller}
 use Rattle.page_roff_stack.specs.declared.input_stacks.InputStack.TheInside.{Inside}
 use Rattle.page_roff_stack.specs.machine.InputFrames.{frame_of}

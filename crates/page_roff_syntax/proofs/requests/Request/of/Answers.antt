@@ -1,6 +1,6 @@
 use Rattle.std.proofs.Common.{◌≡◌, refl, ap, map, ◌∙◌}
 use Rattle.page_core_base.proofs.RowLemmas.{joined, row_of_rows, seen}
-use Rattle.page_core_base.specs.TableRows.{row_in}
+use Rattle.page_core_base.specs.Messages.{row_in}
 use Rattle.page_roff_syntax.specs.declared.requests.TheConstants.{REQUESTS}
 use Rattle.page_roff_syntax.specs.Requests.{table, request_of}
 use Rattle.page_roff_syntax.proofs.requests.Request.of.Goals as goal

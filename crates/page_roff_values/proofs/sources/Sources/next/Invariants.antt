@@ -1,7 +1,6 @@
 use Rattle.std.proofs.Common.{◌≡◌, ℕ, ◌≤◌, false}
-use Rattle.page_roff_values.specs.Environments.{Surroundings}
+use Rattle.page_roff_values.specs.Values.{Surroundings, Spot}
 use Rattle.page_roff_values.specs.machine.Rest.{texts_of, size, rest}
-use Rattle.page_roff_values.specs.Values.{Spot}
 use Rattle.page_roff_values.proofs.sources.Sources.next.Given as goal
 
 abbrev pub invariant-loop-self : goal.invariant-loop-self

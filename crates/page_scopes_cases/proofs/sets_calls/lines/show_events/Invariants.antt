@@ -1,5 +1,5 @@
 use Rattle.std.proofs.Common.{length}
-use Rattle.page_core_base.specs.LinesTaken.{line_view}
+use Rattle.page_core_base.specs.laws.Views.{line_view}
 use Rattle.page_scopes_cases.proofs.sets_calls.lines.show_events.Given as goal
 
 abbrev pub invariant-loop-event : goal.invariant-loop-event

@@ -1,4 +1,4 @@
-use Rattle.page_core_base.specs.LinesTaken.{line_view}
+use Rattle.page_core_base.specs.laws.Views.{line_view}
 use Rattle.page_scopes_checks.specs.MarkedLaws.{control_fits}
 use Rattle.page_scopes_checks.proofs.marked.MarkedMacroSet.start.Goals as goal
 

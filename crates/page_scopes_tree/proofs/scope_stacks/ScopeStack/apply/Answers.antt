@@ -1,8 +1,8 @@
 use Rattle.std.proofs.Common.{◌≤◌, ◌∙◌, sym, append_assoc, arith, vec_capacity}
-use Rattle.page_sets_lines.specs.Events.{event_view}
+use Rattle.page_sets_lines.specs.laws.Events.{event_view}
 use Rattle.page_scopes_tree.proofs.FitLemmas.{scopes-sound}
 use Rattle.page_scopes_tree.proofs.StackLemmas.{items_by_two, edge_by_two, scopes_fit}
-use Rattle.page_scopes_tree.specs.Acts.{comes, does}
+use Rattle.page_scopes_tree.specs.laws.Views.{comes, does}
 use Rattle.page_scopes_tree.specs.machine.Frames.{framed}
 use Rattle.page_scopes_tree.specs.machine.Nests.{scopes_nesting}
 use Rattle.page_scopes_tree.specs.machine.Stacks.{stack_edge}

@@ -1,7 +1,7 @@
 use Rattle.std.proofs.Common.{◌∙◌, sym}
 use Rattle.page_scopes_tree.proofs.FitLemmas.{scopes-sound}
 use Rattle.page_scopes_tree.proofs.StackLemmas.{items_by_one, edge_by_one}
-use Rattle.page_scopes_tree.specs.Acts.{does}
+use Rattle.page_scopes_tree.specs.laws.Views.{does}
 use Rattle.page_scopes_tree.specs.machine.Frames.{framed}
 use Rattle.page_scopes_tree.specs.machine.Nests.{scopes_nesting}
 use Rattle.page_scopes_tree.specs.machine.Stacks.{stack_edge}

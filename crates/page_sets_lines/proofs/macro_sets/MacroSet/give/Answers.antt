@@ -1,5 +1,5 @@
-use Rattle.page_core_base.specs.LinesTaken.{line_view}
-use Rattle.page_sets_lines.specs.Events.{event_view}
+use Rattle.page_core_base.specs.laws.Views.{line_view}
+use Rattle.page_sets_lines.specs.laws.Events.{event_view}
 use Rattle.page_sets_lines.proofs.SliceLemmas.{first_short}
 use Rattle.page_sets_lines.proofs.macro_sets.MacroSet.give.Goals as goal
 

@@ -1,6 +1,5 @@
 use Rattle.std.proofs.Common.{length}
-use Rattle.page_core_base.specs.LinesTaken.{line_view}
-use Rattle.page_core_base.specs.Latches.{CameUpTo}
+use Rattle.page_core_base.specs.laws.Views.{line_view, CameUpTo}
 use Rattle.page_sets_lines.proofs.macro_sets.MacroSet.give.Given as goal
 
 abbrev pub invariant-loop-event : goal.invariant-loop-event

@@ -1,0 +1,2 @@
+-- What is proved and said of the definitions. Trust needs no reading of it.
+pub mod Views

@@ -1,0 +1,73 @@
+-- What contracts of the code say by the definitions, and what is proved of these.
+use Rattle.std.specs.Borrow.{Bor}
+use Rattle.std.specs.Prelude.{ℕ, zero, suc, List, [], ◌∷◌, ◌≡◌, MatchOption, Option, MatchResult, ◌≤◌, length, ◌+◌}
+use Rattle.std.specs.declared.option.Option.TheVariants.{Some, None}
+use Rattle.std.specs.declared.result.Result.{Result}
+use Rattle.std.specs.declared.result.Result.TheVariants.{Ok}
+use Rattle.page_core_base.specs.Limits.{BODY, NAME, DEFS, NAMES}
+use Rattle.page_core_base.specs.declared.limits.Limit.{Limit}
+use Rattle.page_roff_names.specs.Names.{Entries, Definition, definition, Definitions, refusal, with_text, look, without_text, size}
+use Rattle.page_roff_names.specs.declared.rows.Meaning.{Meaning}
+use Rattle.page_roff_names.specs.declared.rows.Meaning.TheVariants.{String}
+
+abbrev pub name_at : Entries → ℕ → List ℕ
+name_at [] i = []
+name_at (e ∷ es) zero = e.0
+name_at (e ∷ es) (suc i) = name_at es i
+
+abbrev pub definition_at : Entries → ℕ → Definition
+definition_at [] i = definition String []
+definition_at (e ∷ es) zero = e.1
+definition_at (e ∷ es) (suc i) = definition_at es i
+
+abbrev pub value_at : Entries → ℕ → List ℕ
+value_at es i = (definition_at es i).value
+
+abbrev pub meaning_at : Entries → ℕ → Meaning
+meaning_at es i = (definition_at es i).meaning
+
+-- the i-th entry with another meaning
+abbrev pub with_meaning : Entries → ℕ → Meaning → Entries
+with_meaning [] i meaning = []
+with_meaning (e ∷ es) zero meaning = (e.0, definition meaning e.1.value) ∷ es
+with_meaning (e ∷ es) (suc i) meaning = e ∷ with_meaning es i meaning
+
+-- what is lent is this
+abbrev pub Lends : Option (Bor (List ℕ)) → Option (List ℕ) → Type 0
+Lends lent wanted = MatchOption lent (wanted ≡ None) (λ value. wanted ≡ Some value.now)
+
+-- all is as wanted, or else a limit is named and all is as it was
+abbrev pub Defines :
+    List ℕ → List ℕ → Definitions → Definitions → Result (Unit {0}) Limit → Definitions → Type 0
+Defines name value wanted old result new = MatchResult result
+    (λ _. (refusal name value wanted ≡ None) × (new ≡ wanted))
+    (λ limit. (refusal name value wanted ≡ Some limit) × (new ≡ old))
+
+-- a string or a macro with this value is defined, or a limit is named
+abbrev pub DefinesText :
+    Meaning → List ℕ → List ℕ → Definitions → Result (Unit {0}) Limit → Definitions → Type 0
+DefinesText meaning name value old result new =
+    Defines name value (with_text name (definition meaning value) old) old result new
+
+-- roff(7), "rn": a name without a definition is passed over
+abbrev pub Renames : List ℕ → List ℕ → Definitions → Result (Unit {0}) Limit → Definitions → Type 0
+Renames old_name name old result new = MatchOption (look old_name old.texts)
+    ((result ≡ Ok tt) × (new ≡ old))
+    (λ d. Defines name d.value (with_text name d (without_text old_name old)) old result new)
+
+-- the bytes of a name, and of its string or body
+pub record EntryFits (e : List ℕ × Definition) : Type 0 where
+  pub name : length e.0 ≤ NAME
+  pub value : length e.1.value ≤ BODY
+
+-- those of each name
+abbrev pub EntriesFit : Entries → Type 0
+EntriesFit [] = Unit {0}
+EntriesFit (e ∷ es) = EntryFits e × EntriesFit es
+
+-- these; how many names there are; and the bytes of all names, strings and bodies
+pub record DefinitionsFit (d : Definitions) : Type 0 where
+  pub texts : EntriesFit d.texts
+  pub registers : EntriesFit d.registers
+  pub names : length d.texts + length d.registers ≤ NAMES
+  pub bytes : size d.texts + size d.registers ≤ DEFS

@@ -1,0 +1,4 @@
+-- What is proved and said of the definitions. Trust needs no reading of it.
+pub mod Events
+pub mod Sets
+pub mod Views
