@@ -114,7 +114,7 @@ text_of kind = (row_of_kind kind).text
 abbrev pub Rose : ℕ → ℕ → Type 0
 Rose old new = old < 2 ^ 64 - 1 → old < new
 
--- the same of a call over a sink of rows and a sink of notes
+-- the fault of a call over a sink of rows and a sink of notes: the count of the one that failed rose
 abbrev pub IsSinkFault : Fault → ℕ → ℕ → ℕ → ℕ → Type 0
 IsSinkFault WriteText rows rows' notes notes' = Rose rows rows'
 IsSinkFault WriteNotes rows rows' notes notes' = Rose notes notes'

@@ -103,6 +103,6 @@ abbrev pub RisesIf : (counts : Bool) → ℕ → ℕ → Type 0
 RisesIf true old new = Rose old new
 RisesIf false old new = ⊤
 
--- the same of a call that answers a result
+-- the count of a call that answers a result rose where it failed, and only there
 abbrev pub ErrsBy : {T E : Type 0} → (counts : Bool) → Result T E → ℕ → ℕ → Type 0
 ErrsBy counts result old new = MatchResult result (λ _. new ≡ old) (λ _. RisesIf counts old new)

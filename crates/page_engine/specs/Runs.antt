@@ -36,7 +36,7 @@ abbrev pub FrontCame : {R N E : Type 0} → Streams R N → R → R → N → N 
 FrontCame streams rows_before rows_after notes_before notes_after laid =
     Gave streams.row_within streams.note_within rows_before rows_after notes_before notes_after laid
 
--- the same of sinks that count their failures
+-- streams whose sinks count their failures
 pub record Sinks (R N : Type 0) : Type 1 where
   pub to : Streams R N
   pub rows_failed : R → ℕ
@@ -60,7 +60,7 @@ WritesRows contents w rows w' = Grows (contents w) (contents w') (flat_map row_b
 abbrev pub WritesRowsInto : {W : Type 0} → (W → Option (List ℕ)) → W → List LaidRow → W → Type 0
 WritesRowsInto contents w rows w' = GrowsInto (contents w) (contents w') (flat_map row_bytes rows)
 
--- the same of messages about a file
+-- a writer got those of these messages about a file; of a front of them
 abbrev pub WritesNotes : {V : Type 0} → (V → Option (List ℕ)) → List ℕ → V → List Message → V → Type 0
 WritesNotes contents file v messages v' =
     Grows (contents v) (contents v') (flat_map (message_bytes file) messages)

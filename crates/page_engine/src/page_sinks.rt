@@ -85,7 +85,7 @@ impl<R: RowSink, N: NoteSink> PieceSink for PageSink<'_, '_, '_, R, N> {
 
     ghost causes = { λ s t fault xs broke. broke.0 };
 
-    // The filler's own `piece` is put in its place, so that a piece of a known kind costs no copy and no match.
+    // The filler's own `piece` is inlined, so that a piece of a known kind costs no copy and no match.
     #[inline(always)]
     #[tactic(auto, unfolding(page_fill::specs::machine::ByPiece::laid_items))]
     fn piece(&mut self, piece: Piece<&[u8]>) -> Result<(), Fault> {

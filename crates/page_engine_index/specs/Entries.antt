@@ -93,6 +93,6 @@ index_from (Some version) number (line ∷ lines) =
 abbrev pub index : List ℕ → Index
 index bytes = index_from None 1 (lines bytes)
 
--- the same of the lines alone that a line feed ends
+-- an index by the lines alone that a line feed ends
 abbrev pub whole_index : List ℕ → Index
 whole_index bytes = index_from None 1 (whole_lines bytes)

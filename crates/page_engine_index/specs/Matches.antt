@@ -31,7 +31,7 @@ pub record IsMatch (word name : List ℕ) : Type 0 where
   pub left : ends_word false before ≡ false
   pub right : begins_word after ≡ false
 
--- ---- the same as a test, place by place
+-- ---- whether a word matches, place by place
 
 -- at the front of a text, after a byte that is one of a word or not
 abbrev pub matches_here : List ℕ → Bool → List ℕ → Bool

@@ -13,7 +13,7 @@ pub record Rows (L : Type 0) : Type 1 where
   pub gave : L → List (List ℕ) → L → Type 0
   pub within : L → List (List ℕ) → L → Type 0
 
--- the same of a sink that counts its failures
+-- rows that come to a sink that counts its failures
 pub record RowsTo (L : Type 0) : Type 1 where
   pub to : Rows L
   pub failed : L → ℕ

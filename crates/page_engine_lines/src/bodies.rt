@@ -245,7 +245,7 @@ impl Body {
         self.give_event(out, &event);
     }
 
-    // The same as a call, for lines without a word, which are few.
+    // `give_plain_event` as a call, for lines without a word, which are few.
     #[inline(never)]
     fn give_wordless<O: PieceOut>(&mut self, out: &mut O, line: Taken<'_>, plain: PlainLine)
         requires { length line.text.now ≤ LINE }
@@ -255,7 +255,7 @@ impl Body {
         self.give_plain_event(out, line, plain);
     }
 
-    // The same, without a call where the line is text with a word, as most lines are.
+    // `give_plain_event`, without a call where the line is text with a word, as most lines are.
     #[inline(always)]
     fn give_generated<O: PieceOut>(&mut self, out: &mut O, line: Taken<'_>, plain: PlainLine)
         requires { length line.text.now ≤ LINE }

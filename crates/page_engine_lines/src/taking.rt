@@ -62,7 +62,7 @@ pub(crate) fn give_finished<L: PieceOut>(body: &mut Body, line: Taken<'_>, out: 
     }
 }
 
-// The same, without a way of its own for lines that are no control lines: for those that roff made of a source line.
+// `give_finished`, without a way of its own for lines that are no control lines: for those that roff made of a source line.
 #[inline(always)]
 fn give_made<L: PieceOut>(body: &mut Body, made: Taken<'_>, out: &mut ItemOut<L>)
     requires { length made.text.now ≤ LINE }

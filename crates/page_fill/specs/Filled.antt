@@ -99,7 +99,7 @@ pub data Outcome : Type 0 where
   too_wide : Row → Outcome
   too_many : List Message → Row → Place → List CellOrNote → Outcome
 
--- the same after a message, which comes before the others. Where the columns pass the width none is reported yet: the next row has all of the word's
+-- an outcome after a message, which comes before the others. Where the columns pass the width none is reported yet: the next row has all of the word's
 abbrev pub after_note : Message → Outcome → Outcome
 after_note m (fits notes row) = fits (m ∷ notes) row
 after_note m (too_wide row) = too_wide row

@@ -7,7 +7,7 @@ pub record IsFront {A : Type 0} (front all : List A) : Type 0 where
   pub rest : List A
   pub parts : all ≡ front ++ rest
 
--- the same of rows and of messages
+-- rows and messages that others begin with
 pub record IsLaidFront {E : Type 0} (front all : Laid E) : Type 0 where
   pub rows : IsFront front.rows all.rows
   pub notes : IsFront front.notes all.notes

@@ -37,7 +37,7 @@ pub record IsInLine (line : Line) (event : Event (List ℕ)) : Type 0 where
   pub begins : 1 ≤ event.place.column
   pub ends : event.place.column ≤ last_column (prints_text event.kind) line.text
 
--- the same of each event
+-- each event is so
 abbrev pub AreAll : (Event (List ℕ) → Type 0) → List (Event (List ℕ)) → Type 0
 AreAll IsSo [] = Unit {0}
 AreAll IsSo (event ∷ events) = IsSo event × AreAll IsSo events

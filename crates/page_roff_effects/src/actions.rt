@@ -99,7 +99,7 @@ impl Actions {
         })
     }
 
-    /// Between two lines of a page of an output, with what is remembered of it. All memory is reserved here.
+    /// The actions between two lines of a page, for an output, with what is remembered of it. All memory is reserved here.
     pub fn at(alloc: Global, output: Output, remembered: &Remembered) -> Result<Actions, AllocError>
         ensures { IfOk result (acting.Remembers output remembered.now) }
     {
@@ -232,7 +232,7 @@ impl Actions {
         false
     }
 
-    /// The same in copy mode or not, where a line without a backslash is what it gives.
+    /// `expand_or_keep` in copy mode or not, where a line without a backslash is what it gives.
     pub(crate) fn expand_unless_plain<O: NoteOut>(
         &mut self,
         copy: bool,

@@ -69,7 +69,7 @@ impl Model for RoffLines {
 impl RoffLines {
     ghost use Rattle.page_roff_source.specs.contracts.roff_lines.RoffLines.{the_row};
 
-    /// Before the first line of a page of an output.
+    /// Roff before the first line of a page, for an output.
     pub fn new(alloc: Global, output: Output) -> Result<RoffLines, AllocError>
         ensures edge { IfOk result (λ l. l.edge ≡ first_edge output) }
         ensures running { IfOk result (λ l. l.running ≡ []) }
@@ -81,7 +81,7 @@ impl RoffLines {
         })
     }
 
-    /// Between two lines of a page of an output. All memory is reserved here.
+    /// Roff between two lines of a page, for an output. All memory is reserved here.
     pub fn at(alloc: Global, output: Output, part: &RoffPart) -> Result<RoffLines, AllocError>
         ensures edge { IfOk result (λ l. l.edge ≡ edge_at output part.now) }
         ensures running { IfOk result (λ l. l.running ≡ []) }
@@ -109,7 +109,7 @@ impl RoffLines {
         })
     }
 
-    /// A source line begins, of a number; there are at most 2^31 of them in a page. What it gives is asked for by
+    /// Begins the source line of a number; a page has at most 2^31 of them. What it gives is asked for by
     /// [`RoffLines::take_into`], up to its end, before another one.
     pub fn source(&mut self, line: &[u8], number: u32)
         requires idle { self.old.edge.to_come ≡ None }

@@ -139,7 +139,7 @@ impl Roff {
         }
     }
 
-    /// A source line begins, of a number; there are at most 2^31 of them in a page. What it gives is asked for by [`Roff::take`], up to
+    /// Begins the source line of a number; a page has at most 2^31 of them. What it gives is asked for by [`Roff::take`], up to
     /// its end, before another one.
     pub fn source(&mut self, line: &[u8], number: u32)
         requires idle { IfSome self.old.edge (λ e. e.to_come ≡ None) }

@@ -129,7 +129,7 @@ pub(crate) fn give_coming<O: PieceOut>(
     ensures begun { has_begun.new ≡ bodies.begun_after (kind_view kind.now) has_begun.old }
 {
     if begins(kind, *has_begun) {
-        // (a copy, so that the event that comes stays in registers; so below)
+        // (a copy keeps the event in registers; so do those below)
         let begun_by = *kind;
         give_front(out, place, &begun_by, context);
         *has_begun = true;

@@ -60,7 +60,7 @@ tag_ended before s = record {
 unfoldable pub tag : TagPlace → ℕ → Word (List ℕ) → Formatting → Outcome
 tag place line word s = followed_by (tag_begun place s) (λ t. followed_by (line_word line word t) (tag_ended s.context))
 
--- the same of the words of a phrase
+-- `tag` of the words of a phrase
 unfoldable pub phrase_tag : TagPlace → ℕ → Phrase (List ℕ) → Formatting → Outcome
 phrase_tag place line phrase s = followed_by (tag_begun place s) (λ t. followed_by (phrase_outcome line phrase t) (tag_ended s.context))
 

@@ -30,7 +30,7 @@ pub fn give_kind<O: PieceOut>(
     match kind {
         EventKind::Word(word) => {
             keep_name(out, place.line, word.role, word.arg, name);
-            // (a copy, so that the event stays in registers; so below)
+            // (a copy keeps the event in registers; so do those below)
             let word = *word;
             give_line_word(out, place.line, &word, state);
         }

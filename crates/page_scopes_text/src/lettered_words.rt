@@ -148,7 +148,7 @@ fn read_other<'a>(
     Some(&text[token.len()..])
 }
 
-// The same, where most escapes ask for a font.
+// `read_other`, where most escapes ask for a font.
 #[inline(always)]
 fn read_letter_token<'a>(
     quoted: bool,
@@ -217,7 +217,7 @@ fn run_len(style: TextStyle, text: &[u8], most: usize) -> usize
     blank_before(text, len)
 }
 
-// Whether a text that begins with a word may begin with roman words that print themselves: else no look is taken for them.
+// Whether a text that begins with a word may begin with roman words that print themselves: only then are these looked for.
 #[inline(always)]
 fn may_run(fonts: Setting<Fonts>, text: &[u8]) -> bool
     requires { begins_word text.now ≡ true }
@@ -301,7 +301,7 @@ fn read_blank_letters<'a>(
     Some(rest)
 }
 
-// The same, or takes nothing.
+// `read_blank_letters`, or takes nothing.
 #[inline(always)]
 fn read_word<'a>(
     style: TextStyle,

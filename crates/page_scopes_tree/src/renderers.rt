@@ -24,7 +24,7 @@ pub trait Renderer: Drop {
     // the events that the layout takes
     ghost Takes: { Event (List ℕ) → Type 0 };
 
-    /// The same, of what a scope keeps.
+    /// A copy of what a scope keeps.
     fn copy_kept(kept: &Self::Kept) -> Self::Kept
         ensures { result ≡ kept.now };
 

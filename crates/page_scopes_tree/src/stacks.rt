@@ -159,7 +159,7 @@ fn place_act<Y: Renderer, O: PieceOut>(
     }
 }
 
-// An act ends what it ends, and then opens a scope or is a leaf.
+// Takes an act: ends the scopes that it ends, and then opens a scope or gives a leaf.
 #[inline(never)]
 fn take_nesting<Y: Renderer, O: PieceOut>(
     scopes: &mut Vec<Scope<Label, Y::Kept>>,
@@ -222,7 +222,7 @@ fn take_idle<Y: Renderer, O: PieceOut>(
         (record { mode = skips; scopes = reverse scopes.now; state = state.now }) out.now }
 {}
 
-// The same with an event of its own, so that the event that is asked about stays in registers.
+// `take_nesting` with an event of its own, so that the event that is asked about stays in registers.
 #[inline(always)]
 fn take_nested<Y: Renderer, O: PieceOut>(
     scopes: &mut Vec<Scope<Label, Y::Kept>>,
@@ -248,7 +248,7 @@ fn take_nested<Y: Renderer, O: PieceOut>(
     }
 }
 
-/// An act ends what it ends, and then opens a scope or is a leaf.
+/// Takes an act: ends the scopes that it ends, and then opens a scope or gives a leaf.
 #[inline(always)]
 pub(crate) fn take_act<Y: Renderer, O: PieceOut>(
     scopes: &mut Vec<Scope<Label, Y::Kept>>,
@@ -274,7 +274,7 @@ pub(crate) fn take_act<Y: Renderer, O: PieceOut>(
     }
 }
 
-/// An event comes.
+/// Takes an event.
 #[inline(always)]
 pub(crate) fn take_coming<Y: Renderer, O: PieceOut>(
     scopes: &[Scope<Label, Y::Kept>],

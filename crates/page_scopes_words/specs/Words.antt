@@ -146,7 +146,7 @@ token_notes quoted place _ = []
 abbrev pub blank_cells : ℕ → Font → Place → List Item
 blank_cells count font place = replicate count (shown (Text (32 ∷ []) font place))
 
--- the same in one text, where there are any
+-- `blank_cells` in one text, where there are any
 abbrev pub blank_text : ℕ → Font → Place → List Item
 blank_text count font place = if count == 0 then [] else shown (Text (replicate count 32) font place) ∷ []
 

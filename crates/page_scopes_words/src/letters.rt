@@ -42,7 +42,7 @@ fn fill_fonts(fonts: &mut [Font], start: usize, font: Font, count: usize)
     fonts[start..start + count].fill(font);
 }
 
-// The same, or more of it, where there is room. Few are put as a whole group, for which the compiler needs no loop: those after the count mean
+// `fill_fonts`, or more of it, where there is room. Few are put as a whole group, for which the compiler needs no loop: those after the count mean
 // nothing.
 #[inline(always)]
 fn put_fonts(fonts: &mut [Font], start: usize, font: Font, count: usize)

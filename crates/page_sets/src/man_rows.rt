@@ -68,7 +68,7 @@ pub(crate) enum Quotes {
     Printed,
     /// Of all but this many at the front.
     After(usize),
-    /// The same, of a macro that begins the body of a page.
+    /// `After`, of a macro that begins the body of a page.
     BodyAfter(usize),
 }
 

@@ -44,7 +44,7 @@ pub enum GeneratedText {
     Dash,
     /// `-`, where it stands for a flag.
     Flag,
-    /// The same, glued to what a macro after it in its line prints.
+    /// `Flag`, glued to what a macro after it in its line prints.
     JoinedFlag,
     /// `file ...`
     Files,

@@ -45,7 +45,7 @@ pub fn scarce_difference<S: Scarce>(alloc: Global, call: &mut S) -> Option<&'sta
     way
 }
 
-// The same, where nothing is taken yet.
+// `scarce_difference`, where nothing is taken yet.
 fn refused_difference<S: Scarce>(
     alloc: Global,
     memory: &mut Scarcity,

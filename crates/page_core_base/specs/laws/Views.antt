@@ -41,7 +41,7 @@ FailsAs fault r old new = MatchResult r (λ _. new ≡ old) (λ e. (e ≡ fault)
 abbrev pub FailsBySink : Result (Unit {0}) Fault → ℕ → ℕ → ℕ → ℕ → Type 0
 FailsBySink r rows rows' notes notes' = MatchResult r (λ _. (rows' ≡ rows) × (notes' ≡ notes)) (λ e. IsSinkFault e rows rows' notes notes')
 
--- the same of a call over a sink of pieces, which counts the rows that failed beside its messages; where it is over, nothing failed
+-- `IsSinkFault` of a call over a sink of pieces, which counts the rows that failed beside its messages; where it is over, nothing failed
 abbrev pub IsPieceFault : Fault → ℕ → ℕ → ℕ → ℕ → Type 0
 IsPieceFault WriteText rows rows' notes notes' = Rose rows rows'
 IsPieceFault WriteNotes rows rows' notes notes' = Rose notes notes'
@@ -220,7 +220,7 @@ line_view taken = record { form = taken.form; text = taken.text.now; number = ta
 abbrev pub Came : {P S I : Type 0} → (P → S → List I → Type 0) → S → List I → S → Type 0
 Came {P} {S} {I} left s items t = (plan : P) (rest : List I) → left plan s (items ++ rest) → left plan t rest
 
--- the same of a part of a call: what was to come, and what still is
+-- `Came` of a part of a call: what was to come, and what still is
 abbrev pub CameUpTo : {P S I : Type 0} → (P → S → List I → Type 0) → S → List I → List I → S → Type 0
 CameUpTo {P} {S} {I} left s all next t = (plan : P) (rest : List I) → left plan s (all ++ rest) → left plan t (next ++ rest)
 
@@ -235,12 +235,12 @@ abbrev pub CameRows : {P S : Type 0} → (P → S → List LaidRow → List Mess
 CameRows {P} left s rows notes t =
     (plan : P) (more : List LaidRow) (said : List Message) → left plan s (rows ++ more) (notes ++ said) → left plan t more said
 
--- the same of a part of a call
+-- `CameRows` of a part of a call
 abbrev pub CameRowsUpTo : {P S E : Type 0} → (P → S → List LaidRow → List Message → Type 0) → S → Laid E → Laid E → S → Type 0
 CameRowsUpTo {P} left s all next t =
     (plan : P) (more : List LaidRow) (said : List Message) → left plan s (all.rows ++ more) (all.notes ++ said) → left plan t (next.rows ++ more) (next.notes ++ said)
 
--- the same of what is laid, which leads to an edge
+-- `CameRows` of what is laid, which leads to an edge
 abbrev pub LaysOut : {P S E : Type 0} → (P → S → List LaidRow → List Message → Type 0) → S → Laid E → S → E → Type 0
 LaysOut left s given t edge = CameRows left s given.rows given.notes t × (edge ≡ given.edge)
 

@@ -14,7 +14,7 @@ use Rattle.page_core_streams.specs.declared.message_bytes.ShownPlace.{ShownPlace
 use Rattle.page_core_streams.specs.declared.sources.Reading.{Reading}
 use Rattle.page_core_streams.specs.declared.sources.Reading.TheVariants.{End, Bytes, Failure}
 
--- the same of a place as it is shown
+-- the bytes of a message (`parts_bytes`) about a place as it is shown
 abbrev pub shown_bytes : ShownPlace → List ℕ → List ℕ → List ℕ → List ℕ
 shown_bytes place level text detail = parts_bytes place.file.now place.line.now place.column.now level text detail
 
@@ -128,7 +128,7 @@ abbrev pub count_of : (counts : Bool) → (below own : ℕ) → ℕ
 count_of true below own = below
 count_of false below own = own
 
--- the same of a call that answers what it found
+-- `FailsBy` of a call that answers what it found
 abbrev pub StopsBy : {T : Type 0} → (counts : Bool) → Option T → ℕ → ℕ → Type 0
 StopsBy counts result old new = MatchOption result (RisesIf counts old new) (λ _. new ≡ old)
 
@@ -184,7 +184,7 @@ ReadsBytes End s t buffer = Consumes s t [] × IsAtEnd t
 ReadsBytes (Bytes count) s t buffer = Consumes s t (take count buffer) × (count ≤ length buffer)
 ReadsBytes Failure s t buffer = Consumes s t []
 
--- the same with its counts, where it counts
+-- `ReadsBytes` with its counts, where it counts
 abbrev pub HasReadIf : (counts : Bool) → Reading → SourceState → SourceState → List ℕ → Type 0
 HasReadIf true r s t buffer = HasRead r s t buffer
 HasReadIf false r s t buffer = ReadsBytes r s.remaining t.remaining buffer

@@ -87,7 +87,7 @@ Takes res k r r' n n' e l after = MatchResult res
     (λ _. Came k r r' n n' l × IsOpenAt after l.edge)
     (λ fault. Front k r r' n n' l fault × IsFailedAt after e)
 
--- the same of the end of a page
+-- `Takes` of the end of a page
 abbrev pub Ends : {R N : Type 0} → Result (Unit {0}) Fault → Sinks R N → R → R → N → N → Edge → Laid Edge
     → PageState → Type 0
 Ends res k r r' n n' e l after = MatchResult res

@@ -12,7 +12,7 @@ use Rattle.page_fill_rows.specs.OpenRows.{TAG_COLUMNS, BLANK_ROWS}
 use Rattle.page_fill.specs.declared.edges.Edge.{Edge}
 use Rattle.page_fill.specs.declared.edges.OpenWord.{OpenWord}
 
--- the same on a page of this width, of an output
+-- the edge, on a page of this width, of an output
 abbrev pub under : ℕ → Output → Edge → Edge
 under width output e = record e { sheet = record e.sheet { width = width }; output = output }
 

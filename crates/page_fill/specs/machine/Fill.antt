@@ -45,7 +45,7 @@ reports_tab e = e.word.has_tab && not e.sheet.literal
 abbrev pub stands : Edge → Bool
 stands e = e.sheet.literal || (e.word.is_placed && length e.sheet.cells == 0)
 
--- the same with another sheet
+-- an edge with another sheet
 abbrev pub on_sheet : Edge → Sheet → Edge
 on_sheet e s = record e { sheet = s }
 

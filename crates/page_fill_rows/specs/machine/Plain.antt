@@ -21,7 +21,7 @@ has_room s count =
 abbrev pub room : Sheet → ℕ
 room s = if s.literal || s.gap == 0 then CELLS - length s.cells else min (CELLS - length s.cells) (s.width - s.margin - columns s.cells)
 
--- the same of a row that has a cell
+-- `has_room` of a row that has a cell
 abbrev pub has_part_room : Sheet → ℕ → Bool
 has_part_room s count = not (length s.cells == 0) && has_room s count
 

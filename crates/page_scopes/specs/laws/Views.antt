@@ -37,7 +37,7 @@ layout_tables = record {
   end_state = λ label before place s. leaves s (ended label before.context before.target place s.formatting);
 }
 
--- the same, of a page that is laid out so
+-- an edge, of a page that is laid out so
 abbrev pub under : PageLayout → PageEdge → PageEdge
 under page edge = record edge { state = record edge.state { page = page } }
 

@@ -20,7 +20,7 @@ events_items tables d events = settled scopes_nesting (framed tables) d (steps_o
 abbrev pub events_edge : {S B : Type 0} → Tables S B → ScopesEdge S B → List (Event (List ℕ)) → ScopesEdge S B
 events_edge tables d events = edge scopes_nesting (framed tables) d (steps_of_all events)
 
--- the same of the page's end on a line
+-- `events_items` and `events_edge` of the page's end on a line
 abbrev pub page_end_items : {S B : Type 0} → Tables S B → ScopesEdge S B → ℕ → List Item
 page_end_items tables d line = settled scopes_nesting (framed tables) d (does (acts.PageEnd line) ∷ [])
 

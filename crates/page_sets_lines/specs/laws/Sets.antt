@@ -33,7 +33,7 @@ pub record IsArgument (line : List ℕ) (argument : Argument (List ℕ)) : Type 
   pub column : 1 ≤ argument.column
   pub slice : IsSlice line (argument.column - 1) argument.text
 
--- the same of what may be missing
+-- `IsPart` of what may be missing
 abbrev pub IsPartIfGiven : List ℕ → Option (List ℕ) → Type 0
 IsPartIfGiven line None = Unit {0}
 IsPartIfGiven line (Some text) = IsPart line text
