@@ -11,6 +11,8 @@ from rooms import TOP, lines
 BOUND = "lines of .rt and .antt, at most"
 # What begins a line of a contract, or of what only contracts use; it goes on in the lines that are further right than this one.
 CONTRACT = re.compile(r"\s*(?:requires|ensures|ghost|prove!|#\[tactic)\b")
+# What of specs/ is no definition to be read, by its folder.
+APART = {"laws": "laws", "machines": "machine"}
 TESTS = re.compile(r"_(?:checks|cases|streams)$|^page_(?:worked|outline|preview)")
 
 
@@ -30,7 +32,7 @@ def contracts_in(text):
 
 def sizes():
     """The number of lines of each kind."""
-    found = collections.Counter({kind: 0 for kind in ("code", "contracts", "definitions", "machines", "proofs", "tests")})
+    found = collections.Counter({kind: 0 for kind in ("code", "contracts", "definitions", "laws", "machines", "proofs", "tests")})
     for crate in lines():
         for path in glob.glob(f"{TOP}/crates/{crate}/*/**/*", recursive=True):
             if not path.endswith((".rt", ".antt")) or f"/{crate}/out/" in path:
@@ -45,7 +47,7 @@ def sizes():
             elif "/proofs/" in path:
                 found["proofs"] += len(text)
             else:
-                found["machines" if "/specs/machine" in path else "definitions"] += len(text)
+                found[next((kind for kind, folder in APART.items() if f"/specs/{folder}" in path), "definitions")] += len(text)
     return found
 
 
