@@ -14,7 +14,7 @@ use Rattle.page_sets_lines.specs.declared.leaves.Leaf.TheVariants.{Prologue}
 use Rattle.page_sets_lines.specs.declared.plain_lines.PlainLine.{PlainLine}
 use Rattle.page_scopes_words.specs.Words.{at, says}
 use Rattle.page_scopes.specs.Bodies.{PageEdge}
-use Rattle.page_scopes.specs.laws.Views as scopes_laws
+use Rattle.page_scopes.specs.laws.Views as scopes
 use Rattle.page_scopes.specs.laws.Views.{ScopesFit}
 use Rattle.page_engine_header.specs.Header.{header_items}
 use Rattle.page_engine_header.specs.declared.fields.Fields.{Fields}
