@@ -8,9 +8,10 @@ use Rattle.std.proofs.lemmas.Grind.{flat_map-append}
 use Rattle.page_core_base.specs.declared.page_settings.Settings.{Settings as PageSettings}
 use Rattle.page_core_base.specs.declared.page_settings.Output.{Output}
 use Rattle.page_core_base.specs.declared.page_settings.Output.TheVariants as output
-use Rattle.page_core_streams.specs.Streams.{Grows}
+use Rattle.mandoc_formats.specs.declared.faults.Done.{Done}
+use Rattle.page_core_streams.specs.Streams.{Grows, GrowsInto}
 use Rattle.page_core_streams.specs.laws.Views.{Grows-nil, Grows-append}
-use Rattle.mandoc_formats.specs.Formats.{File, Page, Formatted, IsFile, FormatsAll, page_out, page_err, Gave, Come, out_of, err_of, worst_of, IsPutOut}
+use Rattle.mandoc_formats.specs.Formats.{File, Page, Formatted, IsFile, FormatsAll, page_out, page_err, Gave, Come, Did, out_of, err_of, worst_of, IsPutOut}
 
 -- what came of one file
 pub gave_one : (a b c d : Option (List ℕ)) (file : File) → Grows a b file.out → Grows c d file.err → Gave a b c d (file ∷ [])
@@ -166,7 +167,10 @@ module _ {X : Type 0} (is : List ℕ → File → Type 0) (f : X → List ℕ) (
   ended_last i a b c d worst h l =
       (h.files, went_all is (map f xs) h.files (subst (λ (ys : List X). Went is (map f ys) h.files) (take_all i xs l) h.went), h.gave, h.worst_is)
 
--- ---- whether something waits to be put out
+-- ---- what is known below the status of a failure
+
+pub none_below : (status : ℕ) (put_out : Type 0) → status ≡ 6 → status < 6 → put_out
+none_below status put_out e l = absurd (omega (arith, e, l))
 
 -- rows and messages where the messages are not wanted alone
 pub plain_out : (page : Page) (kind : Output) → (kind ≡ output.Lint → ⊥) → (page_out kind page ≡ page.rows) × (page_err kind page ≡ page.notes)
@@ -177,8 +181,12 @@ plain_out page output.Lint n = absurd (n refl)
 pub put_out_last : (worst worst' status : ℕ) (a b : List ℕ) → worst' ≡ ord_max nat_cmp worst status → IsPutOut status a b → IsPutOut worst' a b
 put_out_last worst worst' status a b m h l = let e = m ∙ worse worst status in h (omega (arith, e, l))
 
-pub put_out_none : (status : ℕ) (a b : List ℕ) → status ≡ 6 → IsPutOut status a b
-put_out_none status a b e l = absurd (omega (arith, e, l))
+-- a line about a file came, or a front of it
+pub reported : (is : File → Type 0) (done : Done) (a c d : Option (List ℕ)) (text : List ℕ) (put_out : Type 0) (line : GrowsInto c d text)
+    → is (record { out = []; err = line.done; status = done.status; stops = done.stops }) → done.status ≡ 6 → Did is done a a c d put_out
+reported is done a c d text put_out line it failed =
+    let file : File = record { out = []; err = line.done; status = done.status; stops = done.stops } in
+    (file, it, gave_one a a c d file (Grows-nil a) line.grows, refl, refl, none_below done.status put_out failed)
 
 pub past_first : {X : Type 0} (xs : List X) (i : ℕ) → (length xs == 0) ≡ false → length xs ≤ i → 0 < i
 past_first [] i t h = grind arith

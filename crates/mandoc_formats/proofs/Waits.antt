@@ -1,9 +1,12 @@
 -- Bytes that wait for a writer.
-use Rattle.std.proofs.Common.{◌≡◌, ℕ, Bool, true, false, List, [], ◌++◌, Option, Some, None, sym, ap, ◌∙◌, take, drop, length, ◌≤◌, ◌+◌, take-append-drop, append_assoc, append-nil, arith}
+use Rattle.std.proofs.Common.{◌≡◌, ℕ, Bool, true, false, List, [], ◌∷◌, ◌++◌, Option, Some, None, sym, ap, ◌∙◌, take, drop, length, ◌≤◌, ◌+◌, take-append-drop, append_assoc, append-nil, arith}
 use Rattle.std.proofs.lemmas.List.{take-take, drop-take}
 use Rattle.std.specs.Io.KnownBytes.{Keeps, append_known}
+use Rattle.std.specs.Prelude.{codes, decimal}
+use Rattle.page_core_base.specs.declared.faults.Fault.TheVariants as fault
 use Rattle.page_core_streams.specs.Streams.{Grows, GrowsInto}
 use Rattle.page_core_streams.specs.laws.Views.{Writes, Grows-append}
+use Rattle.mandoc_formats.specs.Formats.{fault_line}
 
 pub take_plus : (n m : ℕ) (xs : List ℕ) → n + m ≤ length xs → take n xs ++ take m (drop n xs) ≡ take (n + m) xs
 take_plus n m xs h =
@@ -35,3 +38,17 @@ writes_on false a b c xs ys g w = record {
 
 pub ended_before : (a b : Option (List ℕ)) (xs ys : List ℕ) → GrowsInto a b xs → GrowsInto a b (xs ++ ys)
 ended_before a b xs ys h = record { done = h.done; rest = h.rest ++ ys; parts = ap (λ l. l ++ ys) h.parts ∙ append_assoc h.done h.rest ys; grows = h.grows }
+
+pub written_into : (r : Bool) (a b : Option (List ℕ)) (xs : List ℕ) → Writes r a b xs → GrowsInto a b xs
+written_into true a b xs w = record { done = xs; rest = []; parts = sym (append-nil xs); grows = w }
+written_into false a b xs w = w
+
+-- ---- lines about files
+
+-- of a file below a directory
+pub unnamed_line : (dir name : List ℕ) → fault_line (dir ++ name) fault.Memory ≡ (codes "mandoc: " ++ dir) ++ (name ++ codes ": out of memory\n")
+unnamed_line dir name = ap (λ l. codes "mandoc: " ++ l) (append_assoc dir name (codes ": out of memory\n"))
+
+-- of a line of an index
+pub bad_line : (name : List ℕ) (line : ℕ) → fault_line name (fault.BadIndex line) ≡ codes "mandoc: " ++ (name ++ (codes ": line " ++ (decimal line ++ codes ": bad index\n")))
+bad_line name line = ap (λ l. codes "mandoc: " ++ (name ++ (codes ": line " ++ l))) (append_assoc (decimal line) (codes ": bad index") (10 ∷ []))

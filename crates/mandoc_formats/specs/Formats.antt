@@ -1,5 +1,5 @@
 -- What the pages of a command come to. Source: mandoc(1), DESCRIPTION, DIAGNOSTICS, EXIT STATUS.
-use Rattle.std.specs.Prelude.{◌≡◌, ℕ, ◌<◌, Bool, true, false, List, [], ◌∷◌, ◌++◌, ⊤, max, codes, encode_utf8, Option, Some, None, Result, Err, IsOk, MatchResult, ◌⊎◌, if◌then◌else◌}
+use Rattle.std.specs.Prelude.{◌≡◌, ℕ, ◌<◌, Bool, true, false, List, [], ◌∷◌, ◌++◌, ⊤, max, codes, decimal, encode_utf8, Option, Some, None, Result, Err, IsOk, MatchResult, ◌⊎◌, if◌then◌else◌}
 use Rattle.std.specs.Str.{chars}
 use Rattle.std.specs.List.{flat_map}
 use Rattle.std.specs.Io.KnownBytes.{Consumes}
@@ -15,6 +15,7 @@ use Rattle.page_engine.specs.declared.runs.Outcome.{Outcome}
 use Rattle.page_engine.specs.Runs.{WritesRows, WritesRowsInto, WritesNotes, WritesNotesInto, streams, Runs}
 use Rattle.mandoc_command.specs.Status.{status}
 use Rattle.mandoc_formats.specs.ShownNames.{is_hidden}
+use Rattle.mandoc_formats.specs.declared.faults.Done.{Done}
 
 -- ---- lines about files
 
@@ -30,6 +31,7 @@ fault_text fault.TooLong = codes "input too large"
 fault_text (fault.Settings setting.Width) = codes "bad width"
 fault_text (fault.Settings setting.Indent) = codes "bad indent"
 fault_text (fault.Settings setting.Os) = codes "bad operating system"
+fault_text (fault.BadIndex line) = codes "line " ++ (decimal line ++ codes ": bad index")
 fault_text _ = codes "failed before"
 
 abbrev pub fault_line : List ℕ → Fault → List ℕ
@@ -117,13 +119,12 @@ pub record Unnamed (name : List ℕ) (file : File) : Type 0 where
   pub status : file.status ≡ 6
   pub goes_on : file.stops ≡ false
 
--- what was found under the name: none that can be opened, or a file with its bytes
-abbrev pub IsFound : (finds : List ℕ → Option (Option (List ℕ)) → Type 0) → PageSettings → (name shown : List ℕ) → File → Type 0
-IsFound finds settings name shown file = (finds name None × Unopened shown file)
-    ⊎ ((bytes : Option (List ℕ)) × finds name (Some bytes) × Formatted settings shown bytes file)
+-- what was found under a name: none that can be opened, or a file with its bytes, of which this came
+abbrev pub IsFound : (finds : List ℕ → Option (Option (List ℕ)) → Type 0) → (is : Option (List ℕ) → File → Type 0) → (name shown : List ℕ) → File → Type 0
+IsFound finds is name shown file = (finds name None × Unopened shown file) ⊎ ((bytes : Option (List ℕ)) × finds name (Some bytes) × is bytes file)
 
 abbrev pub IsFile : (finds : List ℕ → Option (Option (List ℕ)) → Type 0) → PageSettings → (name : List ℕ) → File → Type 0
-IsFile finds settings name file = Unnamed (shown name) file ⊎ IsFound finds settings name (shown name) file
+IsFile finds settings name file = Unnamed (shown name) file ⊎ IsFound finds (Formatted settings (shown name)) name (shown name) file
 
 -- ---- the files of a command
 
@@ -158,3 +159,8 @@ pub record Gave (out_before out_after err_before err_after : Option (List ℕ)) 
 -- a status below that of a failure: nothing waits to be put out
 abbrev pub IsPutOut : ℕ → (out_waits err_waits : List ℕ) → Type 0
 IsPutOut status out_waits err_waits = status < 6 → (out_waits ≡ []) × (err_waits ≡ [])
+
+-- what one file came to, and what is known below that status
+abbrev pub Did : (is : File → Type 0) → Done → (out_before out_after err_before err_after : Option (List ℕ)) → (put_out : Type 0) → Type 0
+Did is done out_before out_after err_before err_after put_out = (file : File) × is file × Gave out_before out_after err_before err_after (file ∷ [])
+    × (done.status ≡ file.status) × (done.stops ≡ file.stops) × (done.status < 6 → put_out)

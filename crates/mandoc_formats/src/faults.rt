@@ -8,32 +8,72 @@ ghost use Rattle.mandoc_formats.specs.Formats.{fault_text, stops_after, fault_li
 
 use crate::names::put_name;
 use crate::waiting::Buffered;
+use itoa::Buffer;
 use page_core_base::{Fault, SettingFault};
 
 /// The status at a failure of the system (mandoc(1), EXIT STATUS).
-const SYSTEM_FAILURE: u8 = 6;
+pub const SYSTEM_FAILURE: u8 = 6;
 
-/// What a page left: its status, and whether nothing further can be written.
+/// What a page or an index left: its status, and whether nothing further can be written.
 #[derive(Clone, Copy)]
 pub struct Done {
     pub status: u8,
     pub stops: bool,
 }
 
-// What is said of a fault.
-fn fault_text(fault: Fault) -> &'static str
-    ensures { result.now ≡ fault_text fault }
+impl Done {
+    ghost use Rattle.std.specs.Prelude.{◌≡◌, false};
+
+    /// What is left where no fault ends it.
+    pub fn with(status: u8) -> Done
+        ensures status { result.status ≡ status }
+        ensures goes_on { result.stops ≡ false }
+    {
+        Done {
+            status,
+            stops: false,
+        }
+    }
+}
+
+// Writes the line about a fault at a file; else a front of it was written.
+fn put_fault<V: Buffered>(err: &mut V, shown: &str, fault: Fault) -> bool
+    ensures { GrowsInto (V.contents err.old) (V.contents err.new) (fault_line shown.now fault) }
 {
     match fault {
-        Fault::Memory => "out of memory",
-        Fault::Read => "cannot read",
-        Fault::WriteText | Fault::WriteNotes => "cannot write",
-        Fault::TooLong => "input too large",
-        Fault::Settings(SettingFault::Width) => "bad width",
-        Fault::Settings(SettingFault::Indent) => "bad indent",
-        Fault::Settings(SettingFault::Os) => "bad operating system",
-        Fault::Failed | Fault::Ended | Fault::BadIndex(_) => "failed before",
+        Fault::Memory => put_line(err, shown, "out of memory"),
+        Fault::Read => put_line(err, shown, "cannot read"),
+        Fault::WriteText | Fault::WriteNotes => put_line(err, shown, "cannot write"),
+        Fault::TooLong => put_line(err, shown, "input too large"),
+        Fault::Settings(setting) => put_line(err, shown, setting_text(setting)),
+        Fault::BadIndex(line) => put_bad_line(err, shown, line),
+        Fault::Failed | Fault::Ended => put_line(err, shown, "failed before"),
     }
+}
+
+// What is said of settings that are refused.
+fn setting_text(setting: SettingFault) -> &'static str
+    ensures { result.now ≡ fault_text (Fault.Settings setting) }
+{
+    match setting {
+        SettingFault::Width => "bad width",
+        SettingFault::Indent => "bad indent",
+        SettingFault::Os => "bad operating system",
+    }
+}
+
+// Writes the line about a bad line of an index; else a front of it was written.
+fn put_bad_line<V: Buffered>(err: &mut V, shown: &str, line: u32) -> bool
+    ensures { GrowsInto (V.contents err.old) (V.contents err.new) (fault_line shown.now (Fault.BadIndex line)) }
+{
+    let mut digits = Buffer::new();
+    err.put_through(&[
+        b"mandoc: ",
+        shown.as_bytes(),
+        b": line ",
+        digits.format(line).as_bytes(),
+        b": bad index\n",
+    ])
 }
 
 /// Reports a file that can't be opened. It is passed over, and the next one goes on, also where that line can't be printed.
@@ -43,10 +83,7 @@ pub(crate) fn report_unopened<V: Buffered>(err: &mut V, shown: &str) -> Done
     ensures goes_on { result.stops ≡ false }
 {
     put_line(err, shown, "cannot open");
-    Done {
-        status: SYSTEM_FAILURE,
-        stops: false,
-    }
+    Done::with(SYSTEM_FAILURE)
 }
 
 /// Reports a fault at a file. After one of writing nothing further can be written.
@@ -55,33 +92,29 @@ pub(crate) fn report_fault<V: Buffered>(err: &mut V, shown: &str, fault: Fault) 
     ensures status { result.status ≡ 6 }
     ensures stops { result.stops ≡ stops_after fault }
 {
-    put_line(err, shown, fault_text(fault));
+    put_fault(err, shown, fault);
     Done {
         status: SYSTEM_FAILURE,
         stops: matches!(fault, Fault::WriteText | Fault::WriteNotes),
     }
 }
 
-/// Reports a file for whose name as it is shown there is no memory.
-pub(crate) fn report_unnamed<V: Buffered>(err: &mut V, name: &str) -> Done
-    ensures line { GrowsInto (V.contents err.old) (V.contents err.new) (fault_line (shown name.now) Memory) }
+/// Reports a file for whose name there is no memory: that of one below `dir`, or `dir` itself.
+pub(crate) fn report_unnamed<V: Buffered>(err: &mut V, dir: &str, name: &str) -> Done
+    ensures line { GrowsInto (V.contents err.old) (V.contents err.new) (fault_line (shown dir.now ++ name.now) Memory) }
     ensures status { result.status ≡ 6 }
     ensures goes_on { result.stops ≡ false }
 {
-    put_unnamed(err, name);
-    Done {
-        status: SYSTEM_FAILURE,
-        stops: false,
-    }
+    put_unnamed(err, dir, name);
+    Done::with(SYSTEM_FAILURE)
 }
 
 // Writes the line about that file.
-#[tactic(auto, using(crate::proofs::Waits::writes_on, crate::proofs::Waits::ended_before))]
-fn put_unnamed<V: Buffered>(err: &mut V, name: &str) -> bool
-    ensures { Writes result (V.contents err.old) (V.contents err.new) (fault_line (shown name.now) Memory) }
+fn put_unnamed<V: Buffered>(err: &mut V, dir: &str, name: &str) -> bool
+    ensures { Writes result (V.contents err.old) (V.contents err.new) (fault_line (shown dir.now ++ name.now) Memory) }
 {
-    if put_front(err, name) {
-        return err.put_through(&[b": out of memory\n"]);
+    if put_front(err, dir) {
+        return err.put_through(&[name.as_bytes(), b": out of memory\n"]);
     }
     false
 }

@@ -1,9 +1,9 @@
 //! The pages of a command line, each from its bytes to its rows, its messages and its status (mandoc(1), DESCRIPTION).
 
-ghost use Rattle.std.specs.Prelude.{◌≡◌, ℕ, List, [], ◌∷◌, IfOk};
+ghost use Rattle.std.specs.Prelude.{◌≡◌, ℕ, List, [], IfOk};
 ghost use Rattle.std.specs.Io.KnownBytes.{Consumes};
 ghost use Rattle.page_core_streams.specs.Streams.{Grows};
-ghost use Rattle.mandoc_formats.specs.Formats.{File, Page, IsPage, IsReported, page_out, page_err, Formatted, IsFile, IsFound, FormatsAll, Gave, IsPutOut, worst_of};
+ghost use Rattle.mandoc_formats.specs.Formats.{Did, File, Page, IsPage, IsReported, page_out, page_err, Formatted, IsFile, IsFound, FormatsAll, Gave, IsPutOut, worst_of};
 
 use crate::faults::{Done, report_fault, report_unnamed, report_unopened};
 use crate::finding::Finds;
@@ -60,13 +60,12 @@ fn format_file<R: Finds, W: Buffered, V: Buffered>(
     name: &str,
     settings: &Settings,
 ) -> Done
-    ensures { (file : File) × IsFile (R.finds rt.now) settings.now name.now file
-        × Gave (W.contents out.old) (W.contents out.new) (V.contents err.old) (V.contents err.new) (file ∷ [])
-        × (result.status ≡ file.status) × (result.stops ≡ file.stops) × IsPutOut result.status (W.waits out.new) (V.waits err.new) }
+    ensures { Did (IsFile (R.finds rt.now) settings.now name.now) result
+        (W.contents out.old) (W.contents out.new) (V.contents err.old) (V.contents err.new) ((W.waits out.new ≡ []) × (V.waits err.new ≡ [])) }
 {
     match shown_name(alloc, name) {
         Ok(shown) => format_named(rt, alloc, out, err, name, shown.as_str(), settings),
-        Err(_) => report_unnamed(err, name),
+        Err(_) => report_unnamed(err, name, ""),
     }
 }
 
@@ -80,9 +79,8 @@ fn format_named<R: Finds, W: Buffered, V: Buffered>(
     shown: &str,
     settings: &Settings,
 ) -> Done
-    ensures { (file : File) × IsFound (R.finds rt.now) settings.now name.now shown.now file
-        × Gave (W.contents out.old) (W.contents out.new) (V.contents err.old) (V.contents err.new) (file ∷ [])
-        × (result.status ≡ file.status) × (result.stops ≡ file.stops) × IsPutOut result.status (W.waits out.new) (V.waits err.new) }
+    ensures { Did (IsFound (R.finds rt.now) (Formatted settings.now shown.now) name.now shown.now) result
+        (W.contents out.old) (W.contents out.new) (V.contents err.old) (V.contents err.new) ((W.waits out.new ≡ []) × (V.waits err.new ≡ [])) }
 {
     match rt.find(name) {
         Some(mut file) => format_page(alloc, &mut file, out, err, shown, settings),
@@ -99,15 +97,11 @@ fn format_page<I: Read, W: Buffered, V: Buffered>(
     name: &str,
     settings: &Settings,
 ) -> Done
-    ensures { (file : File) × Formatted settings.now name.now (I.remaining input.old) file
-        × Gave (W.contents out.old) (W.contents out.new) (V.contents err.old) (V.contents err.new) (file ∷ [])
-        × (result.status ≡ file.status) × (result.stops ≡ file.stops) × IsPutOut result.status (W.waits out.new) (V.waits err.new) }
+    ensures { Did (Formatted settings.now name.now (I.remaining input.old)) result
+        (W.contents out.old) (W.contents out.new) (V.contents err.old) (V.contents err.new) ((W.waits out.new ≡ []) × (V.waits err.new ≡ [])) }
 {
     match run_waiting(alloc, input, out, err, name, settings) {
-        Ok(outcome) => Done {
-            status: status_of(outcome.worst),
-            stops: false,
-        },
+        Ok(outcome) => Done::with(status_of(outcome.worst)),
         Err(fault) => report_fault(err, name, fault),
     }
 }

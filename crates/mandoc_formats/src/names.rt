@@ -43,15 +43,15 @@ fn put_char<V: Target>(err: &mut V, c: char) -> bool
     err.put(c.encode_utf8(&mut bytes).as_bytes())
 }
 
-// A character as messages have it.
-fn shown_char(c: char) -> char
+/// A character as messages have it: one that is hidden is a `?`.
+pub fn shown_char(c: char) -> char
     ensures { result ≡ (if is_hidden c then 63 else c) }
 {
     if is_hidden(c) { HIDDEN } else { c }
 }
 
-/// Whether a character is hidden: a control character, one that turns the direction of text or ends a line, or a tag character.
-pub fn is_hidden(c: char) -> bool
+// Whether a character is hidden: a control character, one that turns the direction of text or ends a line, or a tag character.
+fn is_hidden(c: char) -> bool
     ensures { result ≡ is_hidden c }
 {
     c.is_control()

@@ -1,11 +1,10 @@
 //! What a command line asks for, done (mandoc(1), makewhatis(8), whatis(1)).
 
-use crate::faults::SYSTEM_FAILURE;
 use crate::indexing::make_indexes;
-use crate::searching::search;
+use crate::regular_files::RegularFiles;
 use crate::unfinished::LockedFiles;
 use mandoc_command::{Command, Refusal};
-use mandoc_formats::{Waiting, format_all};
+use mandoc_formats::{SYSTEM_FAILURE, Waiting, format_all, search};
 use std::alloc::Global;
 use std::io::{Read, Write};
 
@@ -27,7 +26,10 @@ pub fn run_command<R: LockedFiles, I: Read, W: Write, V: Write>(
             format_all(rt, alloc, format, input, &mut rows, &mut notes)
         }
         Command::Makewhatis(asked) => make_indexes(rt, alloc, asked, out, err),
-        Command::Whatis(asked) => search(rt, alloc, asked, out, err),
+        Command::Whatis(asked) => {
+            let (mut rows, mut notes) = (Waiting::new(out), Waiting::new(err));
+            search(&RegularFiles::new(rt), alloc, asked, &mut rows, &mut notes)
+        }
     }
 }
 

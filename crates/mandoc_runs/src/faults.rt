@@ -1,29 +1,10 @@
 //! What is reported of files that fail, and how a run goes on after that (mandoc(1), DIAGNOSTICS and EXIT STATUS).
 
 use crate::shown_names::shown;
+use mandoc_formats::{Done, SYSTEM_FAILURE};
 use page_core_base::Fault;
 use std::fmt::Display;
 use std::io::Write;
-
-/// The status at a failure of the system (mandoc(1), EXIT STATUS).
-pub const SYSTEM_FAILURE: u8 = 6;
-
-/// What a page or an index left: its status, and whether nothing further can be written.
-#[derive(Clone, Copy)]
-pub struct Done {
-    pub status: u8,
-    pub stops: bool,
-}
-
-impl Done {
-    /// What is left where no fault ends it.
-    pub fn with(status: u8) -> Done {
-        Done {
-            status,
-            stops: false,
-        }
-    }
-}
 
 /// Reports a file that can't be opened, or a folder that can't be listed. Where it is passed over, the next one goes on, also where that line
 /// can't be printed.

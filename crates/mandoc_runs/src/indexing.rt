@@ -1,9 +1,10 @@
 //! Indexes made of the pages of directories (makewhatis(8)).
 
-use crate::faults::{Done, report_fault, report_index_fault, report_unopened};
+use crate::faults::{report_fault, report_index_fault, report_unopened};
 use crate::page_records::{Form, Pages};
 use crate::unfinished::{LockedFiles, create_locked, is_name_of, keep_mode, remove_own};
 use mandoc_command::Makewhatis;
+use mandoc_formats::Done;
 use page_core_base::Fault;
 use std::alloc::Global;
 use std::fs::{self, Files};

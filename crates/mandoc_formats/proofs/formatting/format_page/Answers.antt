@@ -3,7 +3,7 @@ use Rattle.page_core_base.specs.declared.faults.Fault.{Fault}
 use Rattle.page_core_streams.specs.laws.Views.{Grows-append}
 use Rattle.page_engine.specs.declared.runs.Outcome.{Outcome}
 use Rattle.mandoc_formats.specs.Formats.{File, IsReported, page_out, page_err}
-use Rattle.mandoc_formats.proofs.Lists.{gave_one, put_out_none}
+use Rattle.mandoc_formats.proofs.Lists.{gave_one, none_below}
 use Rattle.mandoc_formats.proofs.formatting.format_page.Goals as goal
 
 pub returns-in-Ok : goal.returns-in-Ok
@@ -23,8 +23,8 @@ returns-in-Ok g c =
         told = (refl, c.status_of.ensures, refl);
       },
       gave_one _ _ _ _ file r.4 r.5,
-      refl,
-      refl,
+      c.with.ensures.status,
+      c.with.ensures.goes_on,
       λ p. empty,
     )
 
@@ -48,5 +48,5 @@ returns-in-Err g c =
       gave_one _ _ _ _ file r.4 (Grows-append _ _ _ _ line.done r.5 line.grows),
       refl,
       refl,
-      put_out_none _ _ _ f.ensures.status,
+      none_below _ _ f.ensures.status,
     )
