@@ -1,5 +1,5 @@
 -- What a search gave to a writer, as a list.
-use Rattle.std.proofs.Common.{◌≡◌, Bool, true, false, map, sym, subst, ℕ, List, [], Option, Some, Result, Ok, Err, refl, take, ◌^◌, ◌-◌}
+use Rattle.std.proofs.Common.{◌≡◌, false, map, sym, subst, ℕ, List, [], Option, Some, Result, Ok, Err, refl, take, ◌^◌, ◌-◌}
 use Rattle.std.specs.Prelude.{option_map, if◌then◌else◌}
 use Rattle.std.specs.Borrow.{Bor}
 use Rattle.std.specs.List.{flat_map}

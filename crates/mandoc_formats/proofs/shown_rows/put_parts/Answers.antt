@@ -1,8 +1,6 @@
-use Rattle.std.proofs.Common.{ℕ, [], List, ◌++◌, length, ap, sym, ◌∙◌, append-nil, subst}
+use Rattle.std.proofs.Common.{ℕ, List, ◌++◌, ap, sym, ◌∙◌, append-nil, subst}
 use Rattle.page_core_streams.specs.Streams.{Grows}
 use Rattle.page_core_streams.proofs.GrowsLemmas.{GrowsUpTo-more, GrowsUpTo-broken}
-use Rattle.mandoc_formats.specs.Formats.{shown}
-use Rattle.mandoc_formats.specs.Searches.{shown_parts}
 use Rattle.mandoc_formats.proofs.ShownLemmas.{parts_more, parts_none}
 use Rattle.mandoc_formats.proofs.shown_rows.put_parts.Goals as goal
 
