@@ -13,7 +13,7 @@ BOUND = "lines of .rt and .antt, at most"
 CONTRACT = re.compile(r"\s*(?:requires|ensures|ghost|prove!|#\[tactic)\b")
 # What of specs/ is no definition to be read, by its folder.
 APART = {"laws": "laws", "machines": "machine"}
-TESTS = re.compile(r"_(?:checks|cases|streams)$|^page_(?:worked|outline|preview)")
+TESTS = re.compile(r"_(?:checks|cases)$|^page_(?:test_streams|worked|outline|preview)")
 
 
 def contracts_in(text):

@@ -169,7 +169,7 @@ fn print_rows<I: Read, W: Target>(
     give_rows(alloc, index, asked, out)
 }
 
-// The same, by what came to the writer.
+// `print_rows`, by what came to the writer.
 fn give_rows<I: Read, W: Target>(
     alloc: Global,
     index: &mut I,
