@@ -46,9 +46,9 @@ pub record Search : Type 0 where
 abbrev pub IsOf : Asked → Search → Type 0
 IsOf asked search = Searches search.end (prints asked.show Some) [] search.rows asked search.bytes search.left
 
--- what is told of it: how it ended, or that its rows could not be put out
-abbrev pub IsTold : Result ℕ Fault → Result ℕ Fault → Type 0
-IsTold end result = (end ≡ result) ⊎ (IsOk end × (result ≡ Err WriteText))
+-- what is answered of it: how it ended, or that its rows could not be put out
+abbrev pub IsAnswered : Result ℕ Fault → Result ℕ Fault → Type 0
+IsAnswered end result = (end ≡ result) ⊎ (IsOk end × (result ≡ Err WriteText))
 
 -- an index was searched, and its fault reported; no row was found, or some were
 pub record Searched (asked : Asked) (name : List ℕ) (before : Option (List ℕ)) (file : File) : Type 0 where
@@ -56,7 +56,7 @@ pub record Searched (asked : Asked) (name : List ℕ) (before : Option (List ℕ
   pub is : IsOf asked search
   pub read : Consumes before search.left search.bytes
   pub result : Result ℕ Fault
-  pub ended : IsTold search.end result
+  pub ended : IsAnswered search.end result
   pub out : file.out ≡ search.rows
   pub told : MatchResult result
       (λ count. (file.err ≡ []) × (file.status ≡ (if count == 0 then 1 else 0)))

@@ -7,7 +7,7 @@ ghost use Rattle.page_engine_index.specs.Searches.{Searches};
 ghost use Rattle.page_engine_index.specs.Whatis.{asked};
 ghost use Rattle.mandoc_command.specs.Line.{searches_of};
 ghost use Rattle.mandoc_formats.specs.Formats.{Did, File, Gave, IsFound, shown};
-ghost use Rattle.mandoc_formats.specs.Searches.{IsOf, IsSearch, IsTold, Search, Searched, SearchesFor, asked_by, index_in, prints};
+ghost use Rattle.mandoc_formats.specs.Searches.{IsOf, IsSearch, IsAnswered, Search, Searched, SearchesFor, asked_by, index_in, prints};
 
 use crate::faults::{Done, report_fault, report_unnamed, report_unopened};
 use crate::finding::Finds;
@@ -142,7 +142,7 @@ fn print_waiting<I: Read, W: Buffered>(
 ) -> Result<u64, Fault>
     ensures ran { (search : Search) × IsOf (asked_by (searches_of asked.now)) search
         × Consumes (I.remaining index.old) search.left search.bytes
-        × IsTold search.end result × Grows (W.contents out.old) (W.contents out.new) search.rows }
+        × IsAnswered search.end result × Grows (W.contents out.old) (W.contents out.new) search.rows }
     ensures empty { IfOk result (λ _. W.waits out.new ≡ []) }
 {
     let found = print_rows(alloc, index, asked, out);

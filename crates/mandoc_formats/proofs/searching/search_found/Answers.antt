@@ -2,7 +2,7 @@ use Rattle.std.proofs.Common.{ℕ, [], Result, Ok, Err, false, refl, subst}
 use Rattle.page_core_base.specs.declared.faults.Fault.{Fault}
 use Rattle.page_core_streams.specs.laws.Views.{Grows-nil}
 use Rattle.mandoc_formats.specs.Formats.{File}
-use Rattle.mandoc_formats.specs.Searches.{IsTold}
+use Rattle.mandoc_formats.specs.Searches.{IsAnswered}
 use Rattle.mandoc_formats.proofs.Lists.{gave_one, none_below}
 use Rattle.mandoc_formats.proofs.searching.search_found.Goals as goal
 
@@ -17,7 +17,7 @@ returns-in-Ok g c =
         is = r.1;
         read = r.2;
         result = Ok c.in-Ok.count;
-        ended = subst (λ (x : Result ℕ Fault). IsTold r.0.end x) c.in-Ok.is r.3;
+        ended = subst (λ (x : Result ℕ Fault). IsAnswered r.0.end x) c.in-Ok.is r.3;
         out = refl;
         told = (refl, c.status_by.ensures);
       },
@@ -39,7 +39,7 @@ returns-in-Err g c =
         is = r.1;
         read = r.2;
         result = Err c.in-Err.fault;
-        ended = subst (λ (x : Result ℕ Fault). IsTold r.0.end x) c.in-Err.is r.3;
+        ended = subst (λ (x : Result ℕ Fault). IsAnswered r.0.end x) c.in-Err.is r.3;
         out = refl;
         told = ((line.rest, line.parts), f.ensures.status);
       },
