@@ -1,5 +1,5 @@
 -- What a run gave to writers, as lists.
-use Rattle.std.proofs.Common.{◌≡◌, ℕ, List, [], Option, Some, Result, Ok, Err, refl, take, ◌^◌, ◌-◌}
+use Rattle.std.proofs.Common.{ℕ, List, [], Option, Some, Result, Ok, Err, refl, take, ◌^◌, ◌-◌}
 use Rattle.std.specs.List.{flat_map}
 use Rattle.page_core_base.specs.Rows.{Laid, nothing}
 use Rattle.page_core_base.specs.declared.faults.Fault.{Fault}
@@ -26,12 +26,6 @@ pub record AsLists {R N : Type 0} (c : R → Option (List ℕ)) (d : N → Optio
   pub runs : Runs result (lists name) [] rows [] notes settings bytes after
 
 module _ {R N : Type 0} (c : R → Option (List ℕ)) (d : N → Option (List ℕ)) (name : List ℕ) (r r' : R) (n n' : N) where
-  rows_in : Laid Edge → List ℕ
-  rows_in laid = flat_map row_bytes laid.rows
-
-  notes_in : Laid Edge → List ℕ
-  notes_in laid = flat_map (message_bytes name) laid.notes
-
   all_lists : (laid : Laid Edge) → AllCame (lists name) [] (flat_map row_bytes laid.rows) [] (flat_map (message_bytes name) laid.notes) laid
   all_lists laid = record { rows = refl; notes = refl }
 

@@ -1,12 +1,10 @@
 -- Names of files as they are shown.
-use Rattle.std.specs.Borrow.{Bor}
-use Rattle.std.specs.List.{flat_map}
 use Rattle.std.specs.Str.{chars}
-use Rattle.std.proofs.Common.{◌≡◌, ℕ, zero, suc, List, [], ◌∷◌, ◌++◌, length, take, drop, ◌<◌, ◌≤◌, ◌-◌, sym, ap, ◌∙◌, refl, append_assoc, arith, length-append, append-nil, slice_index_or}
+use Rattle.std.proofs.Common.{◌≡◌, ℕ, zero, suc, List, [], ◌∷◌, ◌++◌, length, take, drop, ◌<◌, ◌≤◌, sym, ap, ◌∙◌, refl, append_assoc, arith}
 use Rattle.std.specs.Str.Lossy.{utf8_valid_len, utf8_invalid_len}
 use Rattle.std.proofs.lemmas.List.{drop_at, take_at}
 use Rattle.mandoc_formats.specs.Formats.{shown}
-use Rattle.mandoc_formats.specs.Searches.{shown_parts, shown_row}
+use Rattle.mandoc_formats.specs.Searches.{shown_parts}
 
 -- a text and what is no text come off the front
 pub parts_more : (most : ℕ) (bytes text other rest : List ℕ) → bytes ≡ text ++ (other ++ rest) → length text ≡ utf8_valid_len bytes
@@ -45,19 +43,3 @@ parts_none (suc fewer) [] none =
     ∙ ((λ i. shown_nil i ++ (nil_take m i ++ shown_parts fewer (nil_drop m i))) ∙ parts_none fewer [] refl)
 
 -- ---- a row
-
--- a name and the byte that ends it
-row_parts : (name end : List ℕ) → length end ≡ 1 → shown_row (name ++ end) ≡ shown_parts (length name) name ++ end
-row_parts name end one =
-    let long : length name ≡ length (name ++ end) - 1 = omega (arith, one, length-append name end) in
-    let n = length (name ++ end) - 1 in
-    let back = sym long in
-    (λ i. shown_parts (back i) (take_at name end n long i) ++ drop_at name end n long i)
-
-pub row_of_parts : (parts : List (Bor (List ℕ))) (d : Bor (List ℕ)) → length parts ≡ 2 → length (slice_index_or parts 1 d).now ≡ 1
-    → shown_row (flat_map (λ part. part.now) parts)
-    ≡ shown_parts (length (slice_index_or parts 0 d).now) (slice_index_or parts 0 d).now ++ (slice_index_or parts 1 d).now
-row_of_parts [] d two one = absurd (omega (arith, two))
-row_of_parts (x ∷ []) d two one = absurd (omega (arith, two))
-row_of_parts (x ∷ y ∷ []) d two one = ap (λ l. shown_row (x.now ++ l)) (append-nil y.now) ∙ row_parts x.now y.now one
-row_of_parts (x ∷ y ∷ z ∷ rest) d two one = absurd (omega (arith, two))

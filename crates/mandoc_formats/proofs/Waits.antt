@@ -1,7 +1,7 @@
 -- Bytes that wait for a writer.
 use Rattle.std.proofs.Common.{◌≡◌, ℕ, Bool, true, false, List, [], ◌∷◌, ◌++◌, Option, Some, None, sym, ap, ◌∙◌, take, drop, length, ◌≤◌, ◌+◌, take-append-drop, append_assoc, append-nil, arith}
 use Rattle.std.proofs.lemmas.List.{take-take, drop-take}
-use Rattle.std.specs.Io.KnownBytes.{Keeps, append_known}
+use Rattle.std.specs.Io.KnownBytes.{Keeps}
 use Rattle.std.specs.Prelude.{codes, decimal}
 use Rattle.page_core_base.specs.declared.faults.Fault.TheVariants as fault
 use Rattle.page_core_streams.specs.Streams.{Grows, GrowsInto}
@@ -18,12 +18,6 @@ keeps_grown None b c xs g k = tt
 keeps_grown (Some us) None c xs g k = absurd g
 keeps_grown (Some us) (Some vs) None xs g k = absurd k
 keeps_grown (Some us) (Some vs) (Some ws) xs g k = k ∙ g
-
-pub held_sent : (a b : Option (List ℕ)) (rest : List ℕ) (n : ℕ) → Grows a b (take n rest) → Grows (append_known a rest) (append_known b (drop n rest)) []
-held_sent None b rest n g = tt
-held_sent (Some xs) None rest n g = absurd g
-held_sent (Some xs) (Some ys) rest n g =
-    ap (λ l. l ++ drop n rest) g ∙ (append_assoc xs (take n rest) (drop n rest) ∙ (ap (λ l. xs ++ l) (take-append-drop n rest) ∙ sym (append-nil (xs ++ rest))))
 
 -- ---- several writes
 

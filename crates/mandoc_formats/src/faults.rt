@@ -1,6 +1,6 @@
 //! What is reported of files that fail, and how a run goes on after that (mandoc(1), DIAGNOSTICS and EXIT STATUS).
 
-ghost use Rattle.std.specs.Prelude.{◌≡◌, ◌++◌, true, false, codes};
+ghost use Rattle.std.specs.Prelude.{◌≡◌, ◌++◌, false, codes};
 ghost use Rattle.page_core_streams.specs.Streams.{GrowsInto};
 ghost use Rattle.page_core_streams.specs.laws.Views.{Writes};
 ghost use Rattle.page_core_base.specs.declared.faults.Fault.TheVariants.{Memory};

@@ -1,6 +1,6 @@
 //! The pages of a command line, each from its bytes to its rows, its messages and its status (mandoc(1), DESCRIPTION).
 
-ghost use Rattle.std.specs.Prelude.{◌≡◌, ℕ, List, [], IfOk};
+ghost use Rattle.std.specs.Prelude.{◌≡◌, List, [], IfOk};
 ghost use Rattle.std.specs.Io.KnownBytes.{Consumes};
 ghost use Rattle.page_core_streams.specs.Streams.{Grows};
 ghost use Rattle.mandoc_formats.specs.Formats.{Did, File, Page, IsPage, IsReported, page_out, page_err, Formatted, IsFile, IsFound, FormatsAll, Gave, IsPutOut, worst_of};

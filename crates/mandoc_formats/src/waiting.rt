@@ -3,8 +3,8 @@
 ghost use Rattle.std.specs.Prelude.{◌≡◌, ◌≤◌, ℕ, List, [], length, take, drop, true};
 ghost use Rattle.std.specs.Io.KnownBytes.{append_known};
 ghost use Rattle.std.specs.List.{flat_map};
-ghost use Rattle.page_core_streams.specs.laws.Views.{FailsBy, Writes};
-ghost use Rattle.page_core_streams.specs.Streams.{Grows, GrowsInto};
+ghost use Rattle.page_core_streams.specs.laws.Views.{Writes};
+ghost use Rattle.page_core_streams.specs.Streams.{Grows};
 
 use arrayvec::ArrayVec;
 use page_core_streams::{Target, put_all};

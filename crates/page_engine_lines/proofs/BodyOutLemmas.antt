@@ -1,12 +1,12 @@
 -- How a body takes events for a latch.
-use Rattle.std.proofs.Common.{◌≡◌, ℕ, List, [], ◌∷◌, ◌++◌, refl, sym, ◌∙◌, append_assoc, append-nil, Option, None, Some, MatchOption}
+use Rattle.std.proofs.Common.{ℕ, List, ◌∷◌, ◌++◌, sym, ◌∙◌, append_assoc, Option, None, Some, MatchOption}
 use Rattle.std.specs.Borrow.{GName}
 use Rattle.page_core_base.specs.laws.Views.{Came}
 use Rattle.page_core_base.specs.Rows.{Item}
 use Rattle.page_engine_lines.specs.Bodies.{BodyEdge}
-use Rattle.page_engine_lines.specs.laws.Views.{GivesEvent, GivesEvents, event_after, event_items, events_after, events_items}
+use Rattle.page_engine_lines.specs.laws.Views.{GivesEvent, event_after, event_items, events_items}
 use Rattle.page_engine_lines.specs.machine.BodyOuts.{LeftEvents, PlannedEvents}
-use Rattle.page_engine_lines.proofs.EventLemmas.{after_more, after_none, items_more, items_none}
+use Rattle.page_engine_lines.proofs.EventLemmas.{after_more, items_more}
 use Rattle.page_sets_lines.specs.declared.events.Event.{Event}
 
 came_if : {P O : Type 0} (left : P → O → List Item → Type 0) (plan : Option P) (s t : O) (front next rest : List Item) → Came left s front t

@@ -1,9 +1,6 @@
 -- The block tree of a body gives what its events give one after another: helpers of proofs.
 use Rattle.std.proofs.Common.{◌≡◌, ℕ, Bool, true, false, not, ◌&&◌, ◌⊎◌, inl, inr, List, [], ◌∷◌, ◌++◌, drop, map, refl, sym, ◌∙◌, ap, append_assoc, append-nil, if◌then◌else◌}
-use Rattle.std.specs.List.{flat_map}
-use Rattle.page_core_base.specs.Messages.{Message}
-use Rattle.page_core_base.specs.Rows.{Item, noted}
-use Rattle.page_core_base.specs.declared.places.Place.{Place}
+use Rattle.page_core_base.specs.Rows.{Item}
 use Rattle.page_scopes.specs.Bodies.{begins}
 use Rattle.page_scopes.specs.Bodies as scopes
 use Rattle.page_scopes.specs.laws.Views as scopes_laws
@@ -13,21 +10,20 @@ use Rattle.page_scopes.specs.declared.layouts.LayoutState.{LayoutState}
 use Rattle.page_scopes_tree.specs.machine.Asides.{With, act, aside, Beside, beside, before_leaf}
 use Rattle.page_scopes_tree.specs.Ends.{Edge}
 use Rattle.page_scopes_tree.specs.laws.Views.{labels, Step, comes, does, steps_of}
-use Rattle.page_scopes_tree.specs.machine.Layouts.{edge}
-use Rattle.page_scopes_tree.specs.machine.Machines.{run, run_items, step, step_items, placed_items, ended_items, count_ended, state_left}
-use Rattle.page_scopes_tree.specs.machine.Nestings.{Standing, IsSound, standing_of}
+use Rattle.page_scopes_tree.specs.machine.Machines.{step, step_items, placed_items, ended_items, count_ended, state_left}
+use Rattle.page_scopes_tree.specs.machine.Nestings.{IsSound, standing_of}
 use Rattle.page_scopes_tree.proofs.AsideLemmas.{sound_with, act_items, act_step}
 use Rattle.page_scopes_tree.proofs.CutLemmas.{settled-append, edge-append}
 use Rattle.page_scopes_tree.proofs.RunLemmas.{settled-run}
 use Rattle.page_scopes_tree.proofs.EdgeLemmas.{edge-run}
 use Rattle.page_scopes_tree.specs.machine.Frames.{framed}
-use Rattle.page_scopes_tree.specs.machine.Nests.{Fact, scopes_nesting, step_standing}
+use Rattle.page_scopes_tree.specs.machine.Nests.{scopes_nesting, step_standing}
 use Rattle.page_core_base.specs.declared.limits.TheConstants.{SCOPES}
 use Rattle.page_scopes_tree.specs.declared.acts.Act.{Act}
 use Rattle.page_scopes_tree.specs.declared.acts.Act.TheVariants as acts
 use Rattle.page_scopes_labels.specs.declared.labels.Label.{Label}
 use Rattle.page_scopes_tree.proofs.FitLemmas.{scopes-sound}
-use Rattle.page_scopes_tree.proofs.StandingLemmas.{OfDone, done-standing}
+use Rattle.page_scopes_tree.proofs.StandingLemmas.{done-standing}
 use Rattle.page_sets_lines.specs.declared.events.EventKind.{EventKind}
 use Rattle.page_sets_lines.specs.declared.events.EventKind.TheVariants as kinds
 use Rattle.page_sets_lines.specs.declared.events.Event.{Event}
@@ -35,9 +31,9 @@ use Rattle.page_sets_lines.specs.declared.leaves.Leaf.{Leaf}
 use Rattle.page_sets_lines.specs.declared.leaves.Leaf.TheVariants as leaves
 use Rattle.page_sets_names.specs.declared.macro_names.Prologue.{Prologue}
 use Rattle.page_engine_lines.specs.Bodies.{BodyEdge, HeaderEdge}
-use Rattle.page_engine_lines.specs.laws.Views.{begin_items, scope_items, with_scopes, with_title, kind_items, kind_after, event_items, event_after, events_items, events_after, end_items}
+use Rattle.page_engine_lines.specs.laws.Views.{begin_items, scope_items, with_scopes, kind_items, kind_after, event_items, event_after, events_items, events_after, end_items}
 use Rattle.page_engine_lines.specs.Trees.{header_at}
-use Rattle.page_engine_lines.specs.machine.Trees.{Aside, reports, titles, closes, kind_steps, events_steps, page_end_steps, body_sides, body_nesting, body_layout, opened, body_of, tree_items, tree_after}
+use Rattle.page_engine_lines.specs.machine.Trees.{Aside, titles, closes, kind_steps, events_steps, page_end_steps, body_sides, body_nesting, body_layout, opened, body_of, tree_items, tree_after}
 
 sound : IsSound body_nesting SCOPES
 sound = sound_with scopes_nesting SCOPES scopes-sound

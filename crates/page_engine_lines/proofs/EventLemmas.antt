@@ -1,5 +1,5 @@
 -- The events of a line, one after another.
-use Rattle.std.proofs.Common.{◌≡◌, ℕ, ◌≤◌, List, [], ◌∷◌, ◌++◌, length, ap, append-nil, arith, refl}
+use Rattle.std.proofs.Common.{◌≡◌, ℕ, List, [], ◌∷◌, ◌++◌, ap, append-nil, refl}
 use Rattle.page_engine_lines.specs.Bodies.{BodyEdge}
 use Rattle.page_engine_lines.specs.laws.Views.{event_after, event_items, events_after, events_items}
 use Rattle.page_sets_lines.specs.declared.events.Event.{Event}

@@ -1,12 +1,11 @@
 -- What the block tree of a page gives is what that of the machine gives: helpers of proofs.
-use Rattle.std.proofs.Common.{◌≡◌, ℕ, zero, suc, Bool, true, false, List, [], ◌∷◌, ◌++◌, map, refl, sym, ap, ◌∙◌, append_assoc, append-nil}
-use Rattle.page_core_base.specs.Rows.{Item}
+use Rattle.std.proofs.Common.{◌≡◌, Bool, List, [], ◌∷◌, ◌++◌, map, refl, sym, ap, ◌∙◌, append_assoc, append-nil}
 use Rattle.page_engine_lines.specs.Bodies.{BodyEdge, HeaderEdge}
 use Rattle.page_engine_lines.specs.Trees as new
-use Rattle.page_engine_lines.specs.Trees.{PageAct, PageEvent, Step, Forest, After, Rest, State, Laid, tree, step_gave, begin_gave, end_gave, scope_of, lay, lay_outer, tree_of, laid_by}
+use Rattle.page_engine_lines.specs.Trees.{PageAct, Step, Forest, After, Rest, State, Laid, tree, step_gave, begin_gave, end_gave, scope_of, lay, lay_outer, tree_of, laid_by}
 use Rattle.page_engine_lines.specs.machine.Trees.{as_act, body_layout, body_nesting}
 use Rattle.page_engine_lines.specs.machine.Trees as trees
-use Rattle.page_engine_lines.proofs.TreeSameLemmas.{A, F, OldForest, OldRest, leaf_old, opens_old, forest_old, after_old, afters_old, rest_old, AllStay, Proper, tree_law, mode_law, tree_proper}
+use Rattle.page_engine_lines.proofs.TreeSameLemmas.{A, OldRest, leaf_old, forest_old, afters_old, rest_old, AllStay, Proper, tree_law, mode_law, tree_proper}
 use Rattle.page_scopes.specs.declared.layouts.Kept.{Kept}
 use Rattle.page_scopes.specs.declared.layouts.LayoutState.{LayoutState}
 use Rattle.page_scopes_labels.specs.declared.labels.Label.{Label}

@@ -1,5 +1,5 @@
 -- The block tree of a page is that of the machine: helpers of proofs.
-use Rattle.std.proofs.Common.{◌≡◌, ℕ, zero, suc, Bool, true, false, not, ◌&&◌, ◌||◌, if◌then◌else◌, List, [], ◌∷◌, ◌++◌, drop, map, refl, sym, ap, ◌∙◌, append_assoc, append-nil, arith}
+use Rattle.std.proofs.Common.{◌≡◌, ℕ, zero, suc, Bool, true, false, ◌||◌, if◌then◌else◌, List, [], ◌∷◌, drop, map, refl, sym, ap, ◌∙◌, arith}
 use Rattle.page_core_base.specs.declared.places.Place.{Place}
 use Rattle.page_sets_lines.specs.declared.events.Event.{Event}
 use Rattle.page_sets_lines.specs.declared.events.EventKind.{EventKind}
@@ -10,10 +10,9 @@ use Rattle.page_scopes_tree.specs.laws.Views as oldsteps
 use Rattle.page_scopes_tree.specs.machine.Asides.{With, act, aside, stands_with}
 use Rattle.page_scopes_tree.specs.machine.Forests as old
 use Rattle.page_scopes_tree.specs.machine.Layouts as lays
-use Rattle.page_scopes_tree.specs.machine.Nestings.{Standing, standing_of, left_by, mode_of, as_nothing, inside}
+use Rattle.page_scopes_tree.specs.machine.Nestings.{as_nothing, inside}
 use Rattle.page_scopes_tree.specs.machine.Nests.{Fact, coming, standing, refused, standing_by}
-use Rattle.page_scopes_tree.specs.Placements.{act_placement, act_skips, closer_skips, is_passed_over, opener_placement, line_placement, opener_skips}
-use Rattle.page_scopes_tree.specs.declared.acts.Act.{Act}
+use Rattle.page_scopes_tree.specs.Placements.{act_placement, act_skips, closer_skips, is_passed_over}
 use Rattle.page_scopes_tree.specs.declared.acts.Act.TheVariants as acts
 use Rattle.page_scopes_tree.specs.declared.placements.Placement.{Placement}
 use Rattle.page_scopes_tree.specs.declared.placements.Placement.TheVariants as placements

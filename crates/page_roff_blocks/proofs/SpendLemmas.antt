@@ -572,9 +572,3 @@ line_spends spent most e p r q u x t =
     let k = leads_due spent most e p (most * r.state.taken) (spent r.state.rest + unspent most r) r q u (omega arith) x in
     let j = rw t at k.1 in
     omega (arith, j, unspent_most r.top.region r.top.parts r.top.cursor.begun r.state.gave_up most)
-
--- around each moment that comes later, too, each source is past a part
-pub leads_met : {R : Type 0} (spent : R → ℕ) (most : ℕ) (e : Effects R) → Spends spent most e → (r q : Running (Budgeted R)) → AreMet r.under → Leads (language e) r q
-    → AreMet q.under
-leads_met spent most e p r q u x =
-    (leads_due spent most e p (most * r.state.taken) (spent r.state.rest + unspent most r) r q u (omega arith) x).0

@@ -4,7 +4,7 @@ ghost use Rattle.std.specs.Prelude.{◌≡◌, ◌≤◌, ◌+◌, true, [], ◌
 ghost use Rattle.page_core_base.specs.declared.limits.TheConstants.{LINE};
 ghost use Rattle.page_roff_syntax.specs.LineForms.{form_of};
 ghost use Rattle.page_roff_syntax.specs.laws.Views.{name_of, text_view};
-ghost use Rattle.page_roff_heads.specs.Heads.{conditional_of, guarded_of, loop_of};
+ghost use Rattle.page_roff_heads.specs.Heads.{conditional_of, guarded_of};
 ghost use Rattle.page_roff_heads.specs.laws.Views.{guarded_view, FitsGuarded, loop_view, FitsLoop, remainder_view};
 ghost use Rattle.page_roff_blocks.specs.declared.line_parts.LinePart.TheVariants.{Leaf};
 ghost use Rattle.page_roff_blocks.specs.declared.line_parts.Branch.TheVariants.{If, IfElse};

@@ -1,5 +1,5 @@
 //! The characters of a line's bytes (mandoc(1), -K).
-ghost use Rattle.std.specs.Prelude.{◌≡◌, ◌+◌, ◌<◌, ◌≤◌, length, slice_index, IsTrue};
+ghost use Rattle.std.specs.Prelude.{◌≡◌, ◌<◌, ◌≤◌, length, slice_index, IsTrue};
 ghost use Rattle.page_roff_decoding.specs.Decoding.{sequence_length, is_second, is_later, is_printable, character, later_length};
 ghost use Rattle.page_roff_decoding.specs.machine.Fronts.{as_character, later_of, width_of, size_of};
 

@@ -1,6 +1,6 @@
 //! Laws of what the parts of a source do.
 
-ghost use Rattle.std.specs.Prelude.{◌≡◌, ℕ, List};
+ghost use Rattle.std.specs.Prelude.{ℕ, List};
 ghost use Rattle.page_core_base.specs.declared.limits.TheConstants.{EXPAND};
 ghost use Rattle.page_roff_blocks.specs.machine.Budgets.{language};
 ghost use Rattle.page_roff_blocks.specs.machine.Fronts.{IsFront};

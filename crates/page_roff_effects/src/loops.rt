@@ -1,10 +1,9 @@
 //! Heads and lines of loops (roff(7), "while").
 
-ghost use Rattle.std.specs.Prelude.{◌≡◌, length, Some};
+ghost use Rattle.std.specs.Prelude.{Some};
 ghost use Rattle.page_roff_blocks.specs.laws.Views.{loop_head_view};
 ghost use Rattle.page_roff_effects.specs.machine.Acting.{Does, Gives, IfRepeated, IsRepeatable};
 ghost use Rattle.page_roff_effects.specs.Regions as loops;
-ghost use Rattle.page_roff_effects.specs.States.{with_body};
 
 use crate::actions::{Actions, report_at};
 use crate::commands::ProductKind;

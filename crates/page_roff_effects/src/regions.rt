@@ -5,14 +5,14 @@ ghost use Rattle.page_core_base.specs.Messages.{message_about};
 ghost use Rattle.page_core_base.specs.declared.note_kinds.NoteKind.TheVariants as kinds;
 ghost use Rattle.page_core_base.specs.Limits.{name_of};
 ghost use Rattle.page_core_base.specs.declared.limits.Limit.TheVariants as limits;
-ghost use Rattle.page_core_base.specs.declared.limits.TheConstants.{BODY, LINE};
+ghost use Rattle.page_core_base.specs.declared.limits.TheConstants.{LINE};
 ghost use Rattle.page_roff_syntax.specs.Regions.{within_limit, macro_name};
 ghost use Rattle.page_roff_syntax.specs.laws.Views.{opened_view, region_view, text_view};
 ghost use Rattle.page_roff_definitions.specs.laws.Views as defining;
 ghost use Rattle.page_core_base.specs.laws.Views.{Came};
 ghost use Rattle.page_roff_effects.specs.machine.Acting.{measured, Does, Gives};
 ghost use Rattle.page_roff_effects.specs.Regions as regions;
-ghost use Rattle.page_roff_effects.specs.States.{Memory, reports, with_body};
+ghost use Rattle.page_roff_effects.specs.States.{reports, with_body};
 
 use crate::actions::{Actions, report_at};
 use crate::commands::{ProductKind, body_or_nothing};

@@ -249,13 +249,6 @@ new_invariant output m n = record {
   given = tt;
 }
 
--- the machine has nothing to do where nothing is left of a line
-pub done_idle : (m : Machine) (source : ℕ) (left : Remaining) → IsAtEdge m source left → (edge_of m source left).to_come ≡ None → machine.is_idle m ≡ true
-done_idle m source remaining.Nothing p none = p.idle
-done_idle m source remaining.Line p none = absurd (cc)
-done_idle m source remaining.End p none = absurd (cc)
-done_idle m source remaining.Run p none = absurd (cc)
-
 pub begin_room : (m : Machine) (source : ℕ) (left : Remaining) → IsAtEdge m source left → (edge_of m source left).to_come ≡ None
     → (m.budget.taken ≤ 2 ^ 62) × (m.stack.top.cursor.levels.skipped < 2 ^ 62)
 begin_room m source remaining.Nothing p none = room_to_begin m source p

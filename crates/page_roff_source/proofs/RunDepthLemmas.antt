@@ -1,26 +1,24 @@
 -- What macros and loops do by `Runs` is what they do by the machine's `Languages` and `Budgets`: helpers of proofs.
-use Rattle.std.proofs.Common.{◌≡◌, ℕ, zero, suc, ◌+◌, Bool, true, false, not, ◌&&◌, nat_lt, if◌then◌else◌, List, [], ◌∷◌, ◌++◌, map, Option, Some, None, refl, sym, ap, ◌∙◌, arith}
+use Rattle.std.proofs.Common.{◌≡◌, ℕ, zero, suc, Bool, true, false, not, ◌&&◌, nat_lt, if◌then◌else◌, List, Option, Some, None, refl, ap, ◌∙◌, arith}
 use Rattle.std.proofs.lemmas.Bool.Decides.{nat_tests}
 use Rattle.page_core_base.specs.Limits.{CALLS}
 use Rattle.page_roff_heads.specs.Conditions.{condition_of}
-use Rattle.page_roff_heads.specs.declared.conditions.Condition.{Condition}
 use Rattle.page_roff_blocks.specs.Forest.{first_place}
 use Rattle.page_roff_blocks.specs.Parts.{loop_text}
 use Rattle.page_roff_blocks.specs.machine.Run as old
 use Rattle.page_roff_blocks.specs.machine.Run.{Meaning, headed}
 use Rattle.page_roff_blocks.specs.machine.Languages as langs
-use Rattle.page_roff_blocks.specs.machine.Languages.{Kind, page, body, inner, arguments_of, is_some, Done, state_of, Language, TURNS, run_if, finish_at}
+use Rattle.page_roff_blocks.specs.machine.Languages.{Kind, page, body, inner, arguments_of, is_some, state_of, Language, TURNS, run_if, finish_at}
 use Rattle.page_roff_blocks.specs.machine.Budgets as budgets
-use Rattle.page_roff_blocks.specs.machine.Budgets.{Budgeted, Effects, language, with_rest, charge, charge_by, done_with, closed_with, turn_by, unopened_by, collect_some}
-use Rattle.page_roff_syntax.specs.Regions.{Opened}
+use Rattle.page_roff_blocks.specs.machine.Budgets.{Effects, language, with_rest, charge, charge_by, done_with, closed_with, turn_by, unopened_by, collect_some}
 use Rattle.page_roff_values.specs.Values.{arguments_in, lines_in}
 use Rattle.page_roff_effects.specs.machine.Effects as effs
 use Rattle.page_roff_effects.specs.States.{end_of_block_outcome, Memory, Outcome, Product, no_product, line_product, call_product, loop_product}
 use Rattle.page_roff_effects.specs.machine.Effects.{effects, done_after, setting_of, tested_after}
-use Rattle.page_roff_effects.specs.Regions.{close_outcome, repeats_text, repeats_if, condition_in, body_in, finish_outcome, line_outcome, end_outcome}
+use Rattle.page_roff_effects.specs.Regions.{close_outcome, repeats_text, condition_in, body_in, finish_outcome, line_outcome, end_outcome}
 use Rattle.page_roff_effects.specs.States as states
 use Rattle.page_roff_effects.specs.laws.Views as states_laws
-use Rattle.page_roff_source.specs.Runs.{SourceLine, State, after, spend, reread, page_line, body_line, Around, At, gather_some, test, run_lines, run_product, runs_at}
+use Rattle.page_roff_source.specs.Runs.{SourceLine, State, after, spend, reread, page_line, body_line, Around, At, gather_some, test, run_product, runs_at}
 use Rattle.page_roff_source.specs.machine.Given.{head_of}
 use Rattle.page_roff_source.specs.Runs as runs
 use Rattle.page_roff_source.proofs.RunLemmas.{Old, new, met, at, meets_new, Alike, lines_law}

@@ -1,7 +1,6 @@
 -- What a source does by `Runs` is what it does by the parts of the machine's `Run`: helpers of proofs.
-use Rattle.std.proofs.Common.{◌≡◌, ℕ, zero, suc, Bool, true, false, not, ◌&&◌, nat_lt, if◌then◌else◌, List, [], ◌∷◌, ◌++◌, length, map, Option, Some, None, refl, sym, ap, ◌∙◌}
-use Rattle.page_core_base.specs.Limits.{CALLS, CONDS, REREAD}
-use Rattle.page_roff_heads.specs.Conditions.{condition_of}
+use Rattle.std.proofs.Common.{◌≡◌, ℕ, zero, suc, Bool, true, false, not, ◌&&◌, nat_lt, if◌then◌else◌, List, [], ◌∷◌, length, Option, Some, None, refl, ap, ◌∙◌}
+use Rattle.page_core_base.specs.Limits.{CONDS}
 use Rattle.page_roff_heads.specs.declared.conditions.Condition.{Condition}
 use Rattle.page_roff_heads.specs.declared.loops.LoopHead.{LoopHead}
 use Rattle.page_roff_blocks.specs.declared.line_parts.Branch.{Branch}
@@ -9,9 +8,7 @@ use Rattle.page_roff_blocks.specs.declared.line_parts.Branch.TheVariants.{If, If
 use Rattle.page_roff_blocks.specs.declared.line_parts.Head.{Head}
 use Rattle.page_roff_blocks.specs.declared.line_parts.Opening.{Opening}
 use Rattle.page_roff_blocks.specs.declared.line_parts.Opening.TheVariants as openings
-use Rattle.page_roff_blocks.specs.declared.levels.Way.{Way}
-use Rattle.page_roff_blocks.specs.declared.levels.Way.TheVariants.{Runs, Skips, Exceeds}
-use Rattle.page_roff_blocks.specs.Forest.{Forest, empty, line, leaf, guard, block, loop, region, Source, ends, shuts, opens, holds, Inside, unended, ended, source_of, inside_of, Levels, Place, first_place, bit_after}
+use Rattle.page_roff_blocks.specs.Forest.{Forest, empty, line, leaf, guard, block, loop, region, Source, ends, shuts, opens, holds, Inside, unended, ended, source_of, inside_of, Levels, bit_after}
 use Rattle.page_roff_blocks.specs.laws.Views as levels
 use Rattle.page_roff_blocks.specs.Parts.{loop_text}
 use Rattle.page_roff_blocks.specs.machine.Run as old
@@ -19,11 +16,11 @@ use Rattle.page_roff_blocks.specs.machine.Run.{Meaning, Flow}
 use Rattle.page_roff_blocks.specs.machine.Budgets.{Budgeted}
 use Rattle.page_roff_syntax.specs.declared.region_heads.RegionHead.{RegionHead}
 use Rattle.page_roff_syntax.specs.Regions.{Opened, opened}
-use Rattle.page_roff_effects.specs.States.{answer_of, test_outcome, budget_outcome, block_outcome, end_of_block_outcome}
+use Rattle.page_roff_effects.specs.States.{block_outcome, end_of_block_outcome}
 use Rattle.page_roff_effects.specs.Lines.{leaf_outcome}
-use Rattle.page_roff_effects.specs.Regions.{loop_outcome, collect_outcome, close_outcome, head_outcome, line_outcome, end_outcome, finish_outcome}
+use Rattle.page_roff_effects.specs.Regions.{loop_outcome, head_outcome, line_outcome, end_outcome}
 use Rattle.page_roff_effects.specs.laws.Views as states
-use Rattle.page_roff_source.specs.Runs.{State, after, spend, reread, page_line, body_line, Around, Mode, runs, passes, gathers, mode_by, mode, are_run, Spot, fresh, past, At, meet, gather_some, gather_line, test, value, skip, with_bit, enter_if, enter_run, enter, does, close_loop, leave_level, leave_by, leave, leaf_after, loop_after, guard_after, line_after, region_line, region_lines, region_end, open_region, region_after, run, run_source, run_inside, run_from, run_lines}
+use Rattle.page_roff_source.specs.Runs.{State, after, reread, Around, mode_by, mode, are_run, Spot, fresh, past, At, meet, gather_some, gather_line, test, value, skip, with_bit, enter_if, enter_run, enter, does, close_loop, leave_level, leave_by, leave, leaf_after, loop_after, guard_after, line_after, region_line, region_lines, region_end, open_region, region_after, run, run_source, run_inside, run_from, run_lines}
 
 -- ---- the same states
 

@@ -227,14 +227,6 @@ reads_word style text white after word rest n s = record {
 
 -- ---- more of them
 
-pub reads_none : (style : TextStyle) (text : List ℕ) → ReadsKept style text text
-reads_none style text = record {
-  front = [];
-  whole = refl;
-  gives = λ line last pen is. ([], (refl, refl), refl);
-  after = λ pen is. refl;
-}
-
 pub reads_more : (style : TextStyle) (text middle rest : List ℕ) → ReadsKept style text middle → ReadsKept style middle rest → ReadsKept style text rest
 reads_more style text middle rest a b = record {
   front = a.front ++ b.front;

@@ -54,14 +54,6 @@ char_lettered bytes c h = record {
   items = λ quoted font place. (Char c font place ∷ [], refl, rw h refl, refl);
 }
 
-pub nothing_lettered : (bytes : List ℕ) → Lettered (escaped bytes meanings.nothing) []
-nothing_lettered bytes = record {
-  notes = λ quoted place. refl;
-  glues = refl;
-  prints = refl;
-  items = λ quoted font place. ([], refl, refl, refl);
-}
-
 -- a font that there is has no message
 known_notes : (quoted : Bool) (place : Place) (font : Face) → is_known font ≡ true → face_notes quoted place font ≡ []
 known_notes quoted place meanings.roman h = refl

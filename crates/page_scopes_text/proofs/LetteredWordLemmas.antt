@@ -1,6 +1,5 @@
 -- Words of letters, word by word.
-use Rattle.std.proofs.Common.{◌≡◌, ℕ, suc, ◌+◌, ◌-◌, ◌<◌, ◌&&◌, nat_lt, Bool, true, false, List, [], ◌∷◌, ◌++◌, length, map, take, drop, get_or, inl, inr, refl, ap, ap₂, sym, ◌∙◌, append-nil, append_assoc, length-append, arith}
-use Rattle.std.proofs.Math.Seq.{take-append_seam}
+use Rattle.std.proofs.Common.{◌≡◌, ℕ, suc, ◌+◌, ◌-◌, ◌<◌, ◌&&◌, nat_lt, Bool, true, false, List, [], ◌∷◌, ◌++◌, length, map, drop, get_or, inl, inr, refl, ap, ap₂, sym, ◌∙◌, append-nil, append_assoc, length-append, arith}
 use Rattle.std.proofs.lemmas.Bool.{cases_lt}
 use Rattle.std.proofs.lemmas.List.{map-append}
 use Rattle.std.proofs.lemmas.List.Folds.{list_all-append}
@@ -22,7 +21,7 @@ use Rattle.page_scopes_text.specs.Texts.{Spaced, words_of, others_after, others_
 use Rattle.page_scopes_text.specs.laws.Views.{spaced_front}
 use Rattle.page_scopes_words.specs.machine.Pens.{resting}
 use Rattle.page_scopes_words.specs.machine.Letters.{letters_in}
-use Rattle.page_scopes_text.specs.machine.Letters.{AddsAfterBlank, AddsWord, AddsWords, Grows, PrintsFirst, ReadsAfterBlank, ReadsLetters, ReadsWords, inside}
+use Rattle.page_scopes_text.specs.machine.Letters.{AddsAfterBlank, AddsWord, AddsWords, PrintsFirst, ReadsAfterBlank, ReadsLetters, ReadsWords, inside}
 use Rattle.page_scopes_words.specs.declared.pens.Pen.{Pen}
 use Rattle.page_scopes_words.specs.declared.pens.TextStyle.{TextStyle}
 
@@ -220,12 +219,3 @@ blank_adds style fonts next text rest before between after some blank e adds =
       adds.1 ∙ ap (λ (c : List Cell). c ++ cells) e ∙ append_assoc before (record { c = 32; font = R } ∷ []) cells,
       rw (blank_text text some blank) adds.2.words,
     )
-
-pub grown_cut : (before after : List Cell) → Grows before after → take (length before) after ≡ before
-grown_cut before after g = rw g.1 (take-append_seam before g.0)
-
-pub no_growth : (before after : List Cell) → after ≡ before → Grows before after
-no_growth before after e = ([], e ∙ sym (append-nil before))
-
-pub growth_more : (before between after : List Cell) → Grows before between → Grows between after → Grows before after
-growth_more before between after x y = (x.0 ++ y.0, y.1 ∙ ap (λ (c : List Cell). c ++ y.0) x.1 ∙ append_assoc before x.0 y.0)

@@ -1,17 +1,14 @@
 //! Words of letters at a text's front, after blanks: they are given at once (roff(7), "LANGUAGE SYNTAX").
 
-ghost use Rattle.std.specs.Prelude.{◌≡◌, ℕ, ◌≤◌, ◌<◌, ◌+◌, ◌==◌, ◌∷◌, not, false, true, [], length, IfSome, MatchOption};
+ghost use Rattle.std.specs.Prelude.{◌≡◌, ℕ, ◌≤◌, ◌<◌, ◌==◌, not, false, true, [], length, IfSome, MatchOption};
 ghost use Rattle.std.specs.List.{list_all};
 ghost use Rattle.page_core_base.specs.laws.Views.{Came, CameUpTo};
 ghost use Rattle.page_core_escapes.specs.laws.Views.{begins_word};
 ghost use Rattle.page_scopes_text.specs.Texts.{words_of};
 ghost use Rattle.page_scopes_text.specs.Texts as texts;
-ghost use Rattle.page_scopes_text.specs.machine.Letters.{AddsWords};
 ghost use Rattle.page_scopes_text.specs.machine.LetteredTexts.{GivesFront, GoesOn, is_in_font};
 ghost use Rattle.page_scopes_text.specs.machine.Reads.{Fits, Within, first_after, first_items};
-ghost use Rattle.page_scopes_words.specs.machine.Letters.{letters_in};
 ghost use Rattle.page_scopes_words.specs.machine.RunEnds.{GoesOn as RunGoesOn};
-ghost use Rattle.page_core_base.specs.declared.cells.Font.TheVariants.{R};
 
 use crate::lettered_words::{read_after_blank, read_words};
 use page_core_base::{Font, LINE, PieceOut};

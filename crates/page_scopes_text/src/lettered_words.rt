@@ -1,6 +1,6 @@
 //! Words of letters in their fonts, as `\fBword\fR` is: they are read once, and given at once (roff(7), `\f`).
 
-ghost use Rattle.std.specs.Prelude.{◌≡◌, ◌≤◌, ◌<◌, ◌+◌, ◌^◌, ◌==◌, ◌&&◌, not, ℕ, List, false, true, [], ◌∷◌, ◌++◌, length, take, drop, IfSome, MatchOption};
+ghost use Rattle.std.specs.Prelude.{◌≡◌, ◌≤◌, ◌<◌, ◌+◌, ◌==◌, ◌&&◌, not, ℕ, List, false, true, [], ◌∷◌, ◌++◌, length, take, drop, IfSome, MatchOption};
 ghost use Rattle.std.specs.List.{list_all};
 ghost use Rattle.page_core_base.specs.Rows.{hyphen, parts_of};
 ghost use Rattle.page_core_base.specs.laws.Views.{is_printable, is_printable_ascii, is_word};

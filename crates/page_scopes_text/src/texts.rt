@@ -1,6 +1,6 @@
 //! Texts: words, and the white space between them (roff(7), "LANGUAGE SYNTAX").
 
-ghost use Rattle.std.specs.Prelude.{◌≡◌, ℕ, ◌≤◌, ◌<◌, ◌+◌, ◌==◌, ◌^◌, true, false, if◌then◌else◌, length};
+ghost use Rattle.std.specs.Prelude.{◌≡◌, ℕ, ◌≤◌, ◌<◌, ◌==◌, true, false, if◌then◌else◌, length};
 ghost use Rattle.page_core_base.specs.laws.Views.{Came, CameUpTo};
 ghost use Rattle.page_core_escapes.specs.Tokens.{begins_white};
 ghost use Rattle.page_core_escapes.specs.laws.Views.{begins_word};

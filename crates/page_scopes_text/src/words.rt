@@ -1,9 +1,8 @@
 //! Words: their messages, the blanks before them, and what they print (roff(7); mandoc(1), "DIAGNOSTICS").
 
-ghost use Rattle.std.specs.Prelude.{◌≡◌, ◌≤◌, ◌<◌, ◌+◌, ◌^◌, false, [], ◌∷◌, ◌++◌, IfSome, length};
+ghost use Rattle.std.specs.Prelude.{◌≡◌, ◌≤◌, ◌<◌, ◌+◌, ◌^◌, [], ◌∷◌, ◌++◌, IfSome, length};
 ghost use Rattle.page_core_base.specs.laws.Views.{Came};
 ghost use Rattle.page_core_escapes.specs.Tokens.{plain};
-ghost use Rattle.page_core_escapes.specs.laws.Views.{token_view};
 ghost use Rattle.page_scopes_text.specs.Texts.{words_of};
 ghost use Rattle.page_scopes_text.specs.machine.Reads.{Fits, ReadsPlain, ReadsWord};
 ghost use Rattle.page_scopes_text.specs.Texts as words;

@@ -1,8 +1,6 @@
 //! How many of the open scopes an event ends (man(7)). Open scopes are in a list with the outermost first.
 
 ghost use Rattle.std.specs.Prelude.{◌≡◌, ◌≤◌, ◌<◌, length, reverse};
-ghost use Rattle.page_core_numbers.specs.Expressions.{expression_of};
-ghost use Rattle.page_core_numbers.specs.declared.scales.Scale.TheVariants.{Basic};
 ghost use Rattle.page_scopes_tree.specs.laws.Views.{labels, act_view};
 ghost use Rattle.page_scopes_tree.specs.Ends as ends;
 ghost use Rattle.page_sets_lines.specs.laws.Events.{closer_view, kind_view, opener_view, text_view};

@@ -1,8 +1,7 @@
 //! A stack of open scopes: each act ends the innermost of them, and opens one more or is a leaf (man(7)).
 
-ghost use Rattle.std.specs.Prelude.{◌≡◌, ◌≤◌, ◌<◌, ◌+◌, Bool, true, List, [], ◌∷◌, length, drop, reverse, vec_capacity, vec_len};
+ghost use Rattle.std.specs.Prelude.{◌≡◌, ◌≤◌, ◌<◌, ◌+◌, true, ◌∷◌, length, drop, reverse, vec_capacity, vec_len};
 ghost use Rattle.page_core_base.specs.laws.Views.{Came};
-ghost use Rattle.page_scopes_tree.specs.Ends.{Edge};
 ghost use Rattle.page_scopes_tree.specs.laws.Views.{labels, TakesAct, act_view, comes, does};
 ghost use Rattle.page_scopes_tree.specs.machine.Machines.{ended_items, ended_state, placed_items, placed_scopes, placed_state, step, step_items};
 ghost use Rattle.page_scopes_tree.specs.machine.Frames.{framed};

@@ -2,7 +2,7 @@
 
 ghost use Rattle.std.specs.Prelude.{◌≡◌};
 ghost use Rattle.page_core_escapes.specs.laws.Views.{face_view, token_view};
-ghost use Rattle.page_scopes_words.specs.Fonts.{roman_fonts, with_font, face_fonts, fonts_after, token_fonts, token_sets};
+ghost use Rattle.page_scopes_words.specs.Fonts.{with_font, face_fonts, fonts_after, token_fonts, token_sets};
 
 use crate::settings::Setting;
 use page_core_base::Font;

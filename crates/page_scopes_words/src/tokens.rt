@@ -1,6 +1,6 @@
 //! Tokens of words: their messages, and what they print (roff(7), "ESCAPE SEQUENCES").
 
-ghost use Rattle.std.specs.Prelude.{◌≡◌, ℕ, List, ◌==◌, ◌∷◌, [], ◌≤◌, false, length, take, if◌then◌else◌, option_map};
+ghost use Rattle.std.specs.Prelude.{◌≡◌, ℕ, List, ◌==◌, ◌∷◌, [], ◌≤◌, false, if◌then◌else◌, option_map};
 ghost use Rattle.page_core_base.specs.laws.Views.{Came, piece_of};
 ghost use Rattle.page_core_base.specs.Rows.{shown};
 ghost use Rattle.page_core_escapes.specs.laws.Views.{face_view, meaning_view, token_view};

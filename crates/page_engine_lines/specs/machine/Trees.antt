@@ -1,6 +1,6 @@
 -- A machine: the block tree of a body by that of any language (`page_scopes_tree`), with its messages, the macros of its prologue and its late header as
 -- asides among the acts of its events. That it gives what the definitions say is the law `machine_law`; trust needs no reading of it.
-use Rattle.std.specs.Prelude.{ℕ, Bool, false, List, [], ◌∷◌, ◌++◌, map, if◌then◌else◌}
+use Rattle.std.specs.Prelude.{ℕ, Bool, List, [], ◌∷◌, ◌++◌, map, if◌then◌else◌}
 use Rattle.std.specs.List.{flat_map}
 use Rattle.page_core_base.specs.Messages.{Message}
 use Rattle.page_core_base.specs.Rows.{Item, noted}

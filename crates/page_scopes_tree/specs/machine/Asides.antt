@@ -1,8 +1,7 @@
 -- A machine: asides: what is among a page's acts and is not of its language, as a message. Each is a leaf where it comes, under
 -- every mode, and neither ends nor opens anything. Trust needs no reading of it.
-use Rattle.std.specs.Prelude.{ℕ, List, [], ◌∷◌, ◌++◌}
+use Rattle.std.specs.Prelude.{ℕ, List, [], ◌++◌}
 use Rattle.page_scopes_tree.specs.machine.Nestings.{Standing, as_node, as_leaf, as_nothing, Nesting}
-use Rattle.page_scopes_tree.specs.declared.nestings.Scope.{Scope}
 use Rattle.page_scopes_tree.specs.Ends.{Edge}
 use Rattle.page_scopes_tree.specs.machine.Layouts.{Layout}
 
