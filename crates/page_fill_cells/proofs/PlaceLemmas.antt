@@ -1,5 +1,5 @@
 -- Places of a row of which some are put anew, and characters with a font each.
-use Rattle.std.proofs.Common.{◌≡◌, ℕ, zero, suc, ◌+◌, ◌-◌, ◌<◌, ◌≤◌, ◌==◌, Bool, true, ◌&&◌, List, [], ◌∷◌, ◌++◌, length, take, drop, set, get_or, replicate, if◌then◌else◌, false, append_assoc, length-append, length-drop, refl, sym, ap, ◌∙◌, arith}
+use Rattle.std.proofs.Common.{◌≡◌, ℕ, zero, suc, ◌+◌, ◌-◌, ◌<◌, ◌≤◌, ◌==◌, Bool, true, ◌&&◌, List, [], ◌∷◌, ◌++◌, length, take, drop, set, get_or, replicate, append_assoc, length-append, length-drop, refl, sym, ap, ◌∙◌, arith}
 use Rattle.std.specs.List.{list_all}
 use Rattle.std.proofs.lemmas.Bool.Decides.{nat_tests}
 use Rattle.std.proofs.lemmas.List.{drop-take, drop_more, get_or-append_right, get_or-drop, length-map, length-replicate, length-take-le, map-append, replicate-append-replicate, set_at, take-append-drop, take-append-le, take_at, take_more}
@@ -148,9 +148,13 @@ in-append [] more (f ∷ fonts) others same = absurd (omega (arith, same))
 in-append (b ∷ bytes) more [] others same = absurd (omega (arith, same))
 in-append (b ∷ bytes) more (f ∷ fonts) others same = ap (λ cells. record { c = b; font = f } ∷ cells) (in-append bytes more fonts others (omega (arith, same)))
 
-in-font : (bytes : List ℕ) (font : Font) → cells_in bytes (replicate (length bytes) font) ≡ cells_of font bytes
+pub in-font : (bytes : List ℕ) (font : Font) → cells_in bytes (replicate (length bytes) font) ≡ cells_of font bytes
 in-font [] font = refl
 in-font (b ∷ bytes) font = ap (λ cells. cell_of font b ∷ cells) (in-font bytes font)
+
+pub in-blanks : (count : ℕ) (font : Font) → cells_in (replicate {A = ℕ} count 32) (replicate count font) ≡ replicate count (cell_of font 32)
+in-blanks zero font = refl
+in-blanks (suc count) font = ap (λ cells. cell_of font 32 ∷ cells) (in-blanks count font)
 
 pub in-put-letters : (bytes text : List ℕ) (fonts own : List Font) (start : ℕ) → length fonts ≡ length bytes → length own ≡ length text → start + length text ≤ length bytes
     → cells_in (put_at bytes start text) (put_at fonts start own) ≡ put_at (cells_in bytes fonts) start (cells_in text own)
@@ -166,40 +170,13 @@ in-put-letters bytes text fonts own start same len room =
     (in-append text (drop end bytes) own (drop end fonts) len
     ∙ ap (λ c. cells_in text own ++ c) (sym (in-drop end bytes fonts same) ∙ ap (λ n. drop (start + n) (cells_in bytes fonts)) (sym cells)))))
 
-pub in-put : (bytes text : List ℕ) (fonts : List Font) (start : ℕ) (font : Font) → length fonts ≡ length bytes → start + length text ≤ length bytes
-    → cells_in (put_at bytes start text) (put_at fonts start (replicate (length text) font)) ≡ put_at (cells_in bytes fonts) start (cells_of font text)
-in-put bytes text fonts start font same room =
-    in-put-letters bytes text fonts (replicate (length text) font) start same (length-replicate (length text) font) room
-    ∙ ap (put_at (cells_in bytes fonts) start) (in-font text font)
-
-pub in-set : (bytes : List ℕ) (fonts : List Font) (i b : ℕ) (font : Font) → length fonts ≡ length bytes
-    → cells_in (set bytes i b) (set fonts i font) ≡ set (cells_in bytes fonts) i (cell_of font b)
-in-set [] [] i b font same = refl
-in-set [] (f ∷ fonts) i b font same = absurd (omega (arith, same))
-in-set (c ∷ bytes) [] i b font same = absurd (omega (arith, same))
-in-set (c ∷ bytes) (f ∷ fonts) zero b font same = refl
-in-set (c ∷ bytes) (f ∷ fonts) (suc i) b font same = ap (λ cells. cell_of f c ∷ cells) (in-set bytes fonts i b font (omega (arith, same)))
-
--- those of both parts, moved to the front
-pub in-moved : (bytes : List ℕ) (fonts : List Font) (start n : ℕ) → length fonts ≡ length bytes → start + n ≤ length bytes
-    → cells_in (put_at bytes 0 (take n (drop start bytes))) (put_at fonts 0 (take n (drop start fonts))) ≡ put_at (cells_in bytes fonts) 0 (take n (drop start (cells_in bytes fonts)))
-in-moved bytes fonts start n same room =
-    let cells = cells_in bytes fonts in
-    let all = in-length bytes fonts same in
-    let b : length (take n (drop start bytes)) ≡ n = length-take-le n (drop start bytes) (let l = length-drop start bytes in omega (arith, l, room)) in
-    let f : length (take n (drop start fonts)) ≡ n = length-take-le n (drop start fonts) (let l = length-drop start fonts in omega (arith, l, room, same)) in
-    let c : length (take n (drop start cells)) ≡ n = length-take-le n (drop start cells) (let l = length-drop start cells in omega (arith, l, room, all)) in
-    let part : cells_in (take n (drop start bytes)) (take n (drop start fonts)) ≡ take n (drop start cells) =
-    sym (ap (take n) (in-drop start bytes fonts same) ∙ in-take n (drop start bytes) (drop start fonts)) in
-    ap (λ k. cells_in (take n (drop start bytes) ++ drop (0 + k) bytes) (put_at fonts 0 (take n (drop start fonts)))) b
-    ∙ (ap (λ k. cells_in (take n (drop start bytes) ++ drop (0 + n) bytes) (take n (drop start fonts) ++ drop (0 + k) fonts)) f
-    ∙ (in-append (take n (drop start bytes)) (drop (0 + n) bytes) (take n (drop start fonts)) (drop (0 + n) fonts) (f ∙ sym b)
-    ∙ (ap (λ l. l ++ cells_in (drop (0 + n) bytes) (drop (0 + n) fonts)) part
-    ∙ ap (λ l. take n (drop start cells) ++ l) (sym (in-drop (0 + n) bytes fonts same) ∙ ap (λ k. drop (0 + k) cells) (sym c)))))
+pub in-part : (bytes : List ℕ) (fonts : List Font) (start n : ℕ) → length fonts ≡ length bytes
+    → cells_in (take n (drop start bytes)) (take n (drop start fonts)) ≡ take n (drop start (cells_in bytes fonts))
+in-part bytes fonts start n same = sym (ap (take n) (in-drop start bytes fonts same) ∙ in-take n (drop start bytes) (drop start fonts))
 
 -- ---- bytes that pass a test
 
-part-passes : (p : ℕ → Bool) (n : ℕ) (bytes : List ℕ) → list_all p bytes ≡ true → (list_all p (take n bytes) ≡ true) × (list_all p (drop n bytes) ≡ true)
+pub part-passes : (p : ℕ → Bool) (n : ℕ) (bytes : List ℕ) → list_all p bytes ≡ true → (list_all p (take n bytes) ≡ true) × (list_all p (drop n bytes) ≡ true)
 part-passes p n bytes pass =
     let both = ap (list_all p) (sym (take-append-drop n bytes)) ∙ list_all-append p (take n bytes) (drop n bytes) in
     let all : (list_all p (take n bytes) && list_all p (drop n bytes)) ≡ true = sym both ∙ pass in
@@ -212,16 +189,8 @@ put-passes p bytes text start pass all =
     list_all-append p (take start bytes) (text ++ drop (start + length text) bytes)
     ∙ rw front (list_all-append p text (drop (start + length text) bytes) ∙ rw (all, back) refl)
 
-pub set-passes : (p : ℕ → Bool) (bytes : List ℕ) (i b : ℕ) → list_all p bytes ≡ true → p b ≡ true → list_all p (set bytes i b) ≡ true
-set-passes p [] i b pass one = refl
-set-passes p (c ∷ bytes) zero b pass one = rw one (grind (arith, pass))
-set-passes p (c ∷ bytes) (suc i) b pass one =
-    let first : p c ≡ true = grind (arith, pass) in
-    let rest : list_all p bytes ≡ true = grind (arith, pass) in
-    rw first (set-passes p bytes i b rest one)
-
-pub moved-passes : (p : ℕ → Bool) (bytes : List ℕ) (start n : ℕ) → list_all p bytes ≡ true → list_all p (put_at bytes 0 (take n (drop start bytes))) ≡ true
-moved-passes p bytes start n pass = put-passes p bytes (take n (drop start bytes)) 0 pass (part-passes p n (drop start bytes) (part-passes p start bytes pass).1).0
+pub moved-passes : (bytes : List ℕ) (start n : ℕ) → is_printable_ascii bytes ≡ true → is_printable_ascii (take n (drop start bytes)) ≡ true
+moved-passes bytes start n pass = (part-passes is_printable n (drop start bytes) (part-passes is_printable start bytes pass).1).0
 
 pub same-passes : (p : ℕ → Bool) (n b : ℕ) → p b ≡ true → list_all p (replicate n b) ≡ true
 same-passes p zero b one = refl
@@ -251,16 +220,61 @@ in-blank [] fonts same = refl
 in-blank (b ∷ bytes) [] same = absurd (omega (arith, same))
 in-blank (b ∷ bytes) (f ∷ fonts) same = before-blank (cell_of f b) (trimmed (cells_in bytes fonts)) ∙ ap (λ rest. (b == 32) && rest) (in-blank bytes fonts (omega (arith, same)))
 
--- ---- the places of a row, of either kind
-
-pub all-places : (has : Bool) (cells : List Cell) (bytes : List ℕ) (fonts : List Font) → length bytes ≡ CELLS → length fonts ≡ CELLS → (has ≡ true → length cells ≡ CELLS)
-    → length (if has then cells else cells_in bytes fonts) ≡ CELLS
-all-places true cells bytes fonts b f c = c refl
-all-places false cells bytes fonts b f c = in-length bytes fonts (f ∙ sym b) ∙ b
+-- ---- the places of characters, which are put anew as slices of vectors
 
 -- what a slice of a vector gave back
 pub given-back : {A : Type 0} (new old : List A) (n : ℕ) → length new ≡ n → take n (new ++ drop (length new) old) ≡ new
 given-back new old n len = take_at new (drop (length new) old) n len
+
+pub part-length : {A : Type 0} (l : List A) (start end : ℕ) → (start ≤ end) × (end ≤ length l) → length (take (end - start) (drop start l)) ≡ end - start
+part-length l start end within = length-take-le (end - start) (drop start l) (let n = length-drop start l in omega (arith, n, within))
+
+pub set-put : {A : Type 0} (l : List A) (i : ℕ) (x : A) → i < length l → set l i x ≡ put_at l i (x ∷ [])
+set-put l i x within =
+    ap (λ k. set k i x) (sym (take-append-drop i l) ∙ ap (λ rest. take i l ++ rest) (drop_more l i x within))
+    ∙ set_at (take i l) (get_or l i x) (drop (i + 1) l) x i (length-take-le i l (omega (arith, within)))
+
+put-back : {A : Type 0} (old got new added : List A) (start n : ℕ) → got ≡ old → length got ≡ n → new ≡ put_at got start added → start + length added ≤ length old
+    → take n (new ++ drop (length new) old) ≡ put_at old start added
+put-back old got new added start n is len put room =
+    let size : length new ≡ n = ap length put ∙ (put-length got added start (omega (arith, ap length is, room)) ∙ len) in
+    given-back new old n size ∙ (put ∙ ap (λ l. put_at l start added) is)
+
+abbrev pub AreHeld : List ℕ → List Font → Type 0
+AreHeld bytes fonts = (length bytes ≡ CELLS) × (length fonts ≡ CELLS) × (is_printable_ascii bytes ≡ true)
+
+pub all-held : (bytes : List ℕ) (fonts : List Font) (self : List Cell) → AreHeld bytes fonts → cells_in bytes fonts ≡ self → length bytes ≡ length self
+all-held bytes fonts self held view = sym (in-length bytes fonts (held.1 ∙ sym held.0)) ∙ ap length view
+
+-- the slices are as long as the places
+pub slices : (bytes b : List ℕ) (fonts f : List Font) (self : List Cell) → AreHeld bytes fonts → cells_in bytes fonts ≡ self → b ≡ bytes → f ≡ fonts
+    → (length b ≡ length self) × (length f ≡ length b)
+slices bytes b fonts f self held view is own = (ap length is ∙ all-held bytes fonts self held view, ap length own ∙ (held.1 ∙ (sym held.0 ∙ sym (ap length is))))
+
+-- what the vectors then have, and the cells of that
+pub record ArePut (bytes : List ℕ) (fonts : List Font) (self : List Cell) (start : ℕ) (text : List ℕ) (own : List Font) : Type 0 where
+  pub held : AreHeld bytes fonts
+  pub value : cells_in bytes fonts ≡ put_at self start (cells_in text own)
+  pub len : length (cells_in bytes fonts) ≡ length self
+
+pub are-put : (bytes b b' : List ℕ) (fonts f f' : List Font) (self : List Cell) (start m n : ℕ) (text : List ℕ) (own : List Font)
+    → AreHeld bytes fonts → cells_in bytes fonts ≡ self → b ≡ bytes → length b ≡ m → b' ≡ put_at b start text → f ≡ fonts → length f ≡ n → f' ≡ put_at f start own
+    → is_printable_ascii text ≡ true → length own ≡ length text → start + length text ≤ length self
+    → ArePut (take m (b' ++ drop (length b') bytes)) (take n (f' ++ drop (length f') fonts)) self start text own
+are-put bytes b b' fonts f f' self start m n text own held view is len put same size set plain fit within =
+    let all = all-held bytes fonts self held view in
+    let room : start + length text ≤ length bytes = omega (arith, all, within) in
+    let others : start + length own ≤ length fonts = omega (arith, room, fit, held.0, held.1) in
+    let x = put-back bytes b b' text start m is len put room in
+    let y = put-back fonts f f' own start n same size set others in
+    let p : length (put_at bytes start text) ≡ CELLS = put-length bytes text start room ∙ held.0 in
+    let q : length (put_at fonts start own) ≡ CELLS = put-length fonts own start others ∙ held.1 in
+    let value = in-put-letters bytes text fonts own start (held.1 ∙ sym held.0) fit room ∙ ap (λ l. put_at l start (cells_in text own)) view in
+    rw (x, y) (record {
+      held = (p, q, put-passes is_printable bytes text start held.2 plain);
+      value = value;
+      len = in-length (put_at bytes start text) (put_at fonts start own) (q ∙ sym p) ∙ (p ∙ (sym held.0 ∙ all));
+    })
 
 pub front-columns : (bytes : List ℕ) (fonts : List Font) (n : ℕ) → length fonts ≡ length bytes → n ≤ length bytes → is_printable_ascii bytes ≡ true
     → columns (take n (cells_in bytes fonts)) ≡ n

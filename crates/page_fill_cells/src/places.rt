@@ -7,20 +7,17 @@ ghost use Rattle.page_fill_cells.specs.Cells as cells;
 ghost use Rattle.page_core_base.specs.laws.Views as cells_laws;
 ghost use Rattle.page_fill_cells.specs.machine.Places.{put_at};
 
-use crate::ascii_places::{put_blank_text, put_byte, put_letters, put_text};
-use crate::blank_runs::is_blank_text;
+use crate::ascii_places::AsciiPlaces;
 use crate::cell_places::{move_to_front, put_blanks, put_cells, put_cells_in};
 use crate::cell_widths::{BLANK, columns, is_blank};
 use page_core_base::{CELLS, Cell, Font, RowOut};
 use std::alloc::{AllocError, Global};
 use std::marker::Model;
 
-/// The places of a row's cells, [`CELLS`] of them. Printable characters of ASCII and their fonts are apart, so that a text is copied as it is; a row
-/// has cells from the first other character on.
+/// The places of a row's cells, [`CELLS`] of them. Printable characters of ASCII are kept as such; a row has cells from the first other character on.
 #[derive(Drop)]
 pub(crate) struct Places {
-    bytes: Vec<u8>,
-    fonts: Vec<Font>,
+    ascii: AsciiPlaces,
     // The cells of a row that has them; else there is room for them, for a sink that looks at cells.
     cells: Vec<Cell>,
     has_cells: bool,
@@ -28,17 +25,14 @@ pub(crate) struct Places {
 
 impl Model for Places {
     ghost use Rattle.std.specs.Prelude.{◌≡◌, ◌≤◌, List, length, true, if◌then◌else◌, vec_capacity};
-    ghost use Rattle.page_core_base.specs.laws.Views.{cells_in, is_printable_ascii};
     ghost use Rattle.page_core_base.specs.declared.cells.Cell.{Cell};
     ghost use Rattle.page_core_base.specs.declared.limits.TheConstants.{CELLS};
 
     ghost Value = { List Cell };
 
-    ghost view = { λ p. if p.has_cells then p.cells.items else cells_in p.bytes.items p.fonts.items };
+    ghost view = { λ p. if p.has_cells then p.cells.items else p.ascii };
 
-    ghost invariant = { λ p. (length p.bytes.items ≡ CELLS) × (length p.fonts.items ≡ CELLS)
-        × (is_printable_ascii p.bytes.items ≡ true) × (CELLS ≤ vec_capacity p.cells)
-        × (p.has_cells ≡ true → length p.cells.items ≡ CELLS) };
+    ghost invariant = { λ p. (length p.ascii ≡ CELLS) × (CELLS ≤ vec_capacity p.cells) × (p.has_cells ≡ true → length p.cells.items ≡ CELLS) };
 }
 
 // Whether a cell is a printable character of ASCII.
@@ -48,12 +42,12 @@ fn is_ascii_cell(cell: Cell) -> bool
     ' ' <= cell.c && cell.c <= '~'
 }
 
-// Makes the cells of bytes in the first places of all those of a row.
+// Makes the cells of the first characters in the first of all places of a row.
 #[inline(never)]
-fn make_cells(places: &mut Vec<Cell>, bytes: &[u8], fonts: &[Font])
+fn make_cells(places: &mut Vec<Cell>, ascii: &AsciiPlaces, len: usize)
     requires room { CELLS ≤ vec_capacity places.old }
-    requires sizes { (length fonts.now ≡ length bytes.now) × (length bytes.now ≤ CELLS) }
-    ensures cells { take (length bytes.now) places.new.items ≡ cells_in bytes.now fonts.now }
+    requires within { (len ≤ length ascii.now) × (len ≤ CELLS) }
+    ensures cells { take len places.new.items ≡ take len ascii.now }
     ensures all { length places.new.items ≡ CELLS }
     ensures room { vec_capacity places.new ≡ vec_capacity places.old }
 {
@@ -61,7 +55,7 @@ fn make_cells(places: &mut Vec<Cell>, bytes: &[u8], fonts: &[Font])
     while places.len() < CELLS {
         places.push_reserved(BLANK);
     }
-    put_cells_in(places, 0, bytes, fonts);
+    ascii.copy_cells(len, places);
 }
 
 impl Places {
@@ -69,13 +63,8 @@ impl Places {
     pub(crate) fn new(alloc: Global) -> Result<Places, AllocError>
         ensures { IfOk result (λ p. length p ≡ CELLS) }
     {
-        let mut bytes = Vec::with_capacity(alloc, CELLS)?;
-        bytes.resize(CELLS, b' ')?;
-        let mut fonts = Vec::with_capacity(alloc, CELLS)?;
-        fonts.resize(CELLS, Font::R)?;
         Ok(Places {
-            bytes,
-            fonts,
+            ascii: AsciiPlaces::new(alloc)?,
             cells: Vec::with_capacity(alloc, CELLS)?,
             has_cells: false,
         })
@@ -90,8 +79,7 @@ impl Places {
             cells.extend_from_slice(&self.cells)?;
         }
         Ok(Places {
-            bytes: Vec::from_slice(alloc, &self.bytes)?,
-            fonts: Vec::from_slice(alloc, &self.fonts)?,
+            ascii: self.ascii.copy(alloc)?,
             cells,
             has_cells: self.has_cells,
         })
@@ -119,16 +107,10 @@ impl Places {
             return true;
         }
         if is_ascii_cell(cell) {
-            put_byte(
-                &mut self.bytes,
-                &mut self.fonts,
-                place,
-                cell.c as u8,
-                cell.font,
-            );
+            self.ascii.put(place, cell.c as u8, cell.font);
             return true;
         }
-        make_cells(&mut self.cells, &self.bytes[..place], &self.fonts[..place]);
+        make_cells(&mut self.cells, &self.ascii, place);
         self.cells[place] = cell;
         self.has_cells = true;
         false
@@ -143,7 +125,7 @@ impl Places {
         if self.has_cells {
             put_cells(&mut self.cells, start, bytes, font);
         } else {
-            put_text(&mut self.bytes, &mut self.fonts, start, bytes, font);
+            self.ascii.put_text(start, bytes, font);
         }
     }
 
@@ -157,7 +139,7 @@ impl Places {
         if self.has_cells {
             put_cells_in(&mut self.cells, start, bytes, fonts);
         } else {
-            put_letters(&mut self.bytes, &mut self.fonts, start, bytes, fonts);
+            self.ascii.put_letters(start, bytes, fonts);
         }
     }
 
@@ -169,7 +151,7 @@ impl Places {
         if self.has_cells {
             put_blanks(&mut self.cells, start, count, font);
         } else {
-            put_blank_text(&mut self.bytes, &mut self.fonts, start, count, font);
+            self.ascii.put_blanks(start, count, font);
         }
     }
 
@@ -181,8 +163,7 @@ impl Places {
         if self.has_cells {
             move_to_front(&mut self.cells, start, end);
         } else {
-            move_to_front(&mut self.bytes, start, end);
-            move_to_front(&mut self.fonts, start, end);
+            self.ascii.move_to_front(start, end);
         }
     }
 
@@ -194,7 +175,7 @@ impl Places {
         if self.has_cells {
             is_blank(&self.cells[..end])
         } else {
-            is_blank_text(&self.bytes[..end])
+            self.ascii.is_blank(end)
         }
     }
 
@@ -207,7 +188,7 @@ impl Places {
         if self.has_cells {
             columns(&self.cells[..end])
         } else {
-            end as u32
+            self.ascii.columns(end)
         }
     }
 
@@ -219,7 +200,7 @@ impl Places {
         if self.has_cells {
             places[..end].copy_from_slice(&self.cells[..end]);
         } else {
-            put_cells_in(places, 0, &self.bytes[..end], &self.fonts[..end]);
+            self.ascii.copy_cells(end, places);
         }
     }
 
@@ -231,13 +212,7 @@ impl Places {
         ensures same { self.new ≡ self.old }
     {
         if !self.has_cells {
-            out.give_ascii(
-                margin,
-                &self.bytes[..end],
-                &self.fonts[..end],
-                is_blank,
-                &mut self.cells,
-            );
+            self.ascii.give(end, margin, is_blank, &mut self.cells, out);
         } else if is_blank {
             out.give_blank(margin, &self.cells[..end]);
         } else {
