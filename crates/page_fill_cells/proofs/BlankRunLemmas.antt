@@ -1,15 +1,17 @@
 -- Places of a row that are known to have blanks.
-use Rattle.std.proofs.Common.{◌≡◌, ℕ, zero, suc, ◌+◌, ◌-◌, ◌<◌, ◌≤◌, max, true, List, [], ◌∷◌, ◌++◌, length, take, drop, get_or, replicate, append_assoc, append-nil, add-one, refl, sym, ap, ◌∙◌, arith}
+use Rattle.std.proofs.Common.{◌≡◌, ℕ, zero, suc, ◌+◌, ◌-◌, ◌<◌, ◌≤◌, max, true, List, [], ◌∷◌, ◌++◌, length, take, drop, get_or, replicate, append_assoc, append-nil, add-one, refl, sym, ap, inl, inr, ◌∙◌, arith}
 use Rattle.std.specs.List.{list_all}
 use Rattle.std.proofs.Math.Nat.{le-max_left, le-max_right}
-use Rattle.std.proofs.lemmas.Bool.Decides.{nat_tests}
-use Rattle.std.proofs.lemmas.List.{get_or-drop, get_or-take, get_or-append_right, get_or-replicate, length-take-le, replicate-append-replicate, take-take, take_more}
+use Rattle.std.proofs.lemmas.Bool.Decides.{leb_tells, nat_tests}
+use Rattle.std.proofs.lemmas.List.{drop_at, get_or_append_left, get_or-take, get_or-append_right, get_or-replicate, length-replicate, length-take-le, replicate-append-replicate, take-take, take_more}
 use Rattle.page_core_base.specs.declared.cells.Cell.{Cell}
 use Rattle.page_core_base.specs.declared.cells.Font.{Font}
 use Rattle.page_core_base.specs.Rows.{is_blank_row, row_of}
 use Rattle.page_fill_cells.specs.Cells.{cell_of, cells_of}
 use Rattle.page_fill_cells.specs.machine.BlankRuns.{HasRun, is_blank_byte}
 use Rattle.page_core_base.specs.laws.Views.{is_printable_ascii}
+use Rattle.page_fill_cells.specs.machine.Places.{put_at}
+use Rattle.page_fill_cells.proofs.PlaceLemmas.{put-after}
 use Rattle.page_fill_cells.proofs.BlankLemmas.{blank-append, blanks-blank, part-blank}
 
 -- ---- bytes that are blanks
@@ -98,17 +100,31 @@ put-run old new start count font put within = record {
       ∙ get_or-replicate count (k - start) cell cell behind));
 }
 
--- blanks came to the front
-pub moved-run : (old new : List Cell) (first last start end : ℕ) (font : Font) → HasRun old first last font → first ≤ start → end ≤ last
-    → take (end - start) new ≡ drop start (take end old) → HasRun new 0 (end - start) font
-moved-run old new first last start end font run from to moved = record {
+-- blanks were put in all places before those that are known
+pub front-run : (old : List Cell) (first last : ℕ) (font : Font) → HasRun old first last font → HasRun (put_at old 0 (replicate first (cell_of font 32))) 0 last font
+front-run old first last font run = record {
   at = λ k h g.
       let cell = cell_of font 32 in
-      sym (get_or-take (end - start) new k cell g)
-      ∙ (ap (λ cells. get_or cells k cell) moved
-      ∙ (get_or-drop start (take end old) k cell
-      ∙ (get_or-take end old (start + k) cell (omega (arith, g)) ∙ run.at (start + k) (omega (arith, from)) (omega (arith, g, to)))));
+      let blanks = replicate first cell in
+      let n : length blanks ≡ first = length-replicate first cell in
+      elim (leb_tells first k) [
+        | inl from ↦ put-after old blanks 0 k cell (omega arith) (omega (arith, n, from.1)) ∙ run.at k from.1 g
+        | inr before ↦ get_or_append_left blanks (drop (0 + length blanks) old) cell k (omega (arith, n, before.1)) ∙ get_or-replicate first k cell cell before.1
+      ];
 }
+
+-- the first cells of a row were taken away, and blanks that are known are where the others come
+pub kept-run : (old new : List Cell) (first last start len : ℕ) (font : Font) → HasRun old first last font → HasRun new 0 last font
+    → first ≤ start → start ≤ len → len ≤ last → len ≤ length old → len ≤ length new → take (len - start) new ≡ drop start (take len old)
+kept-run old new first last start len font run front from within to room fits =
+    let count = len - start in
+    let cell = cell_of font 32 in
+    let whole : start + count ≡ len = omega (arith, within) in
+    let none : 0 + count ≡ count = omega arith in
+    let row = ap (λ k. take k old) (sym whole) ∙ run-cells old first last start count font run from (omega (arith, whole, to)) (omega (arith, whole, room)) in
+    let rest = ap (drop start) row ∙ drop_at (take start old) (replicate count cell) start (length-take-le start old (omega (arith, within, room))) in
+    ap (λ k. take k new) (sym none)
+    ∙ (same-cells new 0 count cell (λ k h g. front.at k h (omega (arith, g, whole, to))) (omega (arith, whole, fits)) ∙ sym rest)
 
 -- ---- a row of blanks
 

@@ -1,6 +1,6 @@
 //! Places of a row that are known to have blanks, so that blanks that come again cost nothing.
 
-ghost use Rattle.std.specs.Prelude.{◌≡◌, ◌<◌, ◌≤◌, ◌-◌, List, length, set, take, drop, true, max};
+ghost use Rattle.std.specs.Prelude.{◌≡◌, ◌<◌, ◌≤◌, List, length, set, take, true, max};
 ghost use Rattle.std.specs.List.{list_all};
 ghost use Rattle.page_core_base.specs.declared.cells.Cell.{Cell};
 ghost use Rattle.page_fill_cells.specs.machine.BlankRuns.{HasRun, is_blank_byte};
@@ -91,23 +91,6 @@ impl BlankRun {
             start: self.start.max(1),
             ..self
         }
-    }
-
-    /// What is known where the places from a start up to an end came to the front.
-    pub(crate) fn moved(self, start: usize, end: usize) -> BlankRun
-        requires { start ≤ end }
-        ensures { (old new : List Cell) → HasRun old self.start self.end self.font
-            → take (end - start) new ≡ drop start (take end old)
-            → HasRun new result.start result.end result.font }
-    {
-        if self.start <= start && end <= self.end {
-            return BlankRun {
-                start: 0,
-                end: end - start,
-                font: self.font,
-            };
-        }
-        NO_RUN
     }
 
     /// The places before an end are put anew.

@@ -144,10 +144,13 @@ impl RowCells {
         requires { length self.old < CELLS }
         ensures { self.new ≡ self.old ++ cell ∷ [] }
     {
-        let _stays = self.places.put(self.len, cell);
+        let stays = self.places.put(self.len, cell);
         self.len += 1;
-        // (a word of letters that come one by one costs the least if nothing is known after it)
-        self.run.end = 0;
+        if stays {
+            self.run.cut(self.len);
+        } else {
+            self.run = NO_RUN;
+        }
         self.blanks = 0;
     }
 
@@ -165,15 +168,22 @@ impl RowCells {
         self.blanks = usize::from(cell.c == ' ');
     }
 
-    // Takes the cells before a start away.
+    // Takes the cells before a start away. Blanks that are known stay where they are, and the places before them get blanks too.
     fn keep_from(&mut self, start: usize)
         requires { start ≤ length self.old }
         ensures { self.new ≡ drop start self.old }
     {
-        self.places.move_to_front(start, self.len);
-        self.run = self.run.moved(start, self.len);
+        let end = self.len;
+        self.len = end - start;
         self.blanks = 0;
-        self.len -= start;
+        if self.run.start <= start && end <= self.run.end {
+            self.places
+                .put_blanks(0, self.run.start, self.run.font);
+            self.run.start = 0;
+            return;
+        }
+        self.places.move_to_front(start, end);
+        self.run = NO_RUN;
     }
 
     /// Takes the cells before a start away, and appends a cell. Where all of these are blanks, they stay known as such.

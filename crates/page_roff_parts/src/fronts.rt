@@ -1,6 +1,7 @@
 //! The bytes at a text's front that are copied (roff(7), "Escape sequences").
 
 ghost use Rattle.std.specs.Prelude.{◌≡◌, ◌<◌, ◌≤◌, Bool, length, get_or, take, drop, None, IsTrue};
+ghost use Rattle.memchr.specs.Find.{IsFirstByte, is_byte};
 ghost use Rattle.page_roff_parts.specs.machine.Brackets.{IsKnown};
 ghost use Rattle.page_roff_parts.specs.machine.Fronts.{IsFront};
 ghost use Rattle.page_roff_parts.specs.laws.Views.{begins_escape};
@@ -68,6 +69,17 @@ fn is_whole(text: &[u8], copy: bool, fits: usize) -> bool
     LONG <= text.len() && text.len() <= fits && is_verbatim(text, copy)
 }
 
+// Where a text's first backslash is: mostly at its front, after a pair that a pair follows.
+#[inline(always)]
+fn backslash_place(text: &[u8]) -> Option<usize>
+    ensures { IsFirstByte (is_byte 92) text.now result }
+{
+    match text {
+        [b'\\', ..] => Some(0),
+        _ => memchr(b'\\', text),
+    }
+}
+
 /// How many bytes at a text's front are copied as they are, up to this many: runs without a backslash and pairs that are no interpolation.
 #[inline(always)]
 pub(crate) fn front_len(text: &[u8], copy: bool, is_unclosed: bool, fits: usize) -> usize
@@ -80,7 +92,7 @@ pub(crate) fn front_len(text: &[u8], copy: bool, is_unclosed: bool, fits: usize)
         return text.len();
     }
     let mut at = 0;
-    while let Some(place) = memchr(b'\\', after(text, at)) {
+    while let Some(place) = backslash_place(after(text, at)) {
         let end = at + place;
         if fits < end {
             return at;

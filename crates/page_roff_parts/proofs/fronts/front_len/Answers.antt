@@ -10,7 +10,7 @@ pair_len-len-requires-clause-known c =
 pub returns-then-len-eq0-clause-front : goal.returns-then-len-eq0-clause-front
 returns-then-len-eq0-clause-front c =
     let i = c.loop-place.invariant in
-    let found = rw (c.in-Some.is, c.after.ensures) at c.memchr.ensures in
+    let found = rw (c.in-Some.is, c.after.ensures) at c.backslash_place.ensures in
     front_then c.args.copy c.loop-place.at c.in-Some.place c.args.text.now i.1 i.0 (front_run c.args.copy _ c.in-Some.place found)
 
 pub loop-place-preserved : goal.loop-place-preserved
@@ -20,7 +20,7 @@ loop-place-preserved c =
     let at = c.loop-place.at in
     let place = c.in-Some.place in
     let len = c.pair_len-len.result in
-    let found = rw (c.in-Some.is, c.after.ensures) at c.memchr.ensures in
+    let found = rw (c.in-Some.is, c.after.ensures) at c.backslash_place.ensures in
     let pair = rw c.after-in-Some.ensures at c.pair_len-len.ensures in
     let some : 0 < len = omega (arith, c.if-len-eq0.false) in
     let long = length-drop (at + place) text in (
@@ -34,4 +34,4 @@ loop-place-preserved c =
 pub returns-clause-front : goal.returns-clause-front
 returns-clause-front c =
     let i = c.loop-place.invariant in
-    front_end c.args.copy c.args.text.now c.loop-place.at c.memchr.result i.1 (rw c.after.ensures at c.memchr.ensures) (search rules) i.0
+    front_end c.args.copy c.args.text.now c.loop-place.at c.backslash_place.result i.1 (rw c.after.ensures at c.backslash_place.ensures) (search rules) i.0
