@@ -177,8 +177,7 @@ impl RowCells {
         self.len = end - start;
         self.blanks = 0;
         if self.run.start <= start && end <= self.run.end {
-            self.places
-                .put_blanks(0, self.run.start, self.run.font);
+            self.places.put_blanks(0, self.run.start, self.run.font);
             self.run.start = 0;
             return;
         }

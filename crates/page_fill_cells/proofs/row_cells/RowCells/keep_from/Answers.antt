@@ -44,7 +44,7 @@ returns-then-end-self c =
     let size = ap length c.put_blanks.ensures ∙ put-length row.places blanks 0 (omega (arith, n, len, from, first, within)) in
     let front : HasRun c.put_blanks.new.self 0 row.run.end row.run.font = rw c.put_blanks.ensures (front-run row.places row.run.start row.run.end row.run.font held.2) in
     kept-run row.places c.put_blanks.new.self row.run.start row.run.end c.args.start row.len row.run.font held.2 front first (omega (arith, len, from)) c.if-end-self.true within
-        (omega (arith, size, within))
+    (omega (arith, size, within))
     ∙ ap (drop c.args.start) c.self.view_is
 
 pub invariant_of-self-2 : goal.invariant_of-self-2
