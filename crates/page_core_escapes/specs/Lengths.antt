@@ -129,19 +129,15 @@ begins_size (b ∷ bs) = is_among b (codes "(['") || is_digit b
 
 -- two digits where the first is 1 to 3
 abbrev pub has_two_digits : List ℕ → Bool
-has_two_digits [] = false
-has_two_digits (b ∷ []) = false
 has_two_digits (b ∷ d ∷ ds) = nat_le 0x31 b && nat_le b 0x33 && is_digit d
+has_two_digits _ = false
 
 -- ---- shapes
 
 -- `s` without a size is another character
 abbrev pub shape_before : (rest : List ℕ) → Shape → Shape
 shape_before rest Size = if begins_size (after_sign rest) then Size else Alone
-shape_before rest Alone = Alone
-shape_before rest Glyph = Glyph
-shape_before rest Name = Name
-shape_before rest Quoted = Quoted
+shape_before rest shape = shape
 
 -- the shape of an escape with this letter and what follows it
 abbrev pub shape_of : ℕ → List ℕ → Shape

@@ -112,11 +112,7 @@ argument_of pairs Name text = bare_name (drop 1 text)
 argument_of pairs Size text = drop 1 text
 argument_of pairs Quoted text = bare_quoted pairs (drop 1 text)
 
--- another character: there is no such escape
-abbrev pub another_character : List ℕ → Meaning
-another_character text = undefined (first_char text)
-
--- what an escape means by its kind, its argument and its text from its letter on
+-- what an escape means by its kind, its argument and its text from its letter on; with another character there is no such escape
 abbrev pub meaning_by : Kind → (argument text : List ℕ) → Meaning
 meaning_by means.Glyph argument text = glyph argument
 meaning_by means.CodePoint argument text = bracketed argument
@@ -125,11 +121,11 @@ meaning_by means.Tab argument text = tab
 meaning_by means.Blank argument text = blank
 meaning_by means.Blanks argument text = blanks argument
 meaning_by means.Nothing argument text = nothing
-meaning_by means.Size [] text = another_character text
+meaning_by means.Size [] text = undefined (first_char text)
 meaning_by means.Size (b ∷ bs) text = nothing
 meaning_by means.Glue argument text = glue
 meaning_by means.Font argument text = face (face_of argument)
-meaning_by means.Undefined argument text = another_character text
+meaning_by means.Undefined argument text = undefined (first_char text)
 meaning_by means.Unsupported argument text = unsupported
 
 -- what an escape with a letter means, by its text from the letter on

@@ -24,9 +24,7 @@ token_bytes (escaped bytes meaning) = bytes
 
 abbrev pub is_space : TextToken → Bool
 is_space (white bytes) = true
-is_space (plain bytes) = false
-is_space (quotes bytes) = false
-is_space (escaped bytes meaning) = false
+is_space _ = false
 
 -- a blank or a tab
 abbrev pub is_white : ℕ → Bool

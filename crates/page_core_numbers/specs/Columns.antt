@@ -30,12 +30,8 @@ printed_escape output (escapes.character c) = (char_printed output c).characters
 printed_escape output escapes.tab = codes " "
 printed_escape output escapes.blank = codes " "
 printed_escape output (escapes.blanks expression) = replicate (blanks_in (expression_of Em expression).value) blank
-printed_escape output escapes.nothing = []
-printed_escape output escapes.glue = []
-printed_escape output (escapes.face name) = []
 printed_escape output (escapes.undefined c) = (char_printed output c).characters
-printed_escape output escapes.unsupported = []
-printed_escape output escapes.bad = []
+printed_escape output _ = []
 
 -- ---- texts
 

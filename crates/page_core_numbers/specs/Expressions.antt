@@ -14,6 +14,8 @@ use Rattle.page_core_numbers.specs.declared.scales.Scale.{Scale}
 use Rattle.page_core_numbers.specs.declared.scales.Scale.TheVariants.{Basic, En, Em, Vertical, Pica, Inch, Point, Centimeter}
 use Rattle.page_core_numbers.specs.declared.troubles.Trouble.{Trouble}
 use Rattle.page_core_numbers.specs.declared.troubles.Trouble.TheVariants.{NotNumeric, Parentheses, DivZero}
+use Rattle.std.specs.Option.{option_map_or}
+use Rattle.std.specs.Ordering.{int_eq}
 
 -- ---- A number at a text's front: roff(7), "Scaling Widths".
 
@@ -29,14 +31,9 @@ numerator Point = 10
 numerator Centimeter = 24000
 
 abbrev pub denominator : Scale → ℕ
-denominator Basic = 1
-denominator En = 1
-denominator Em = 1
-denominator Vertical = 1
-denominator Pica = 1
-denominator Inch = 1
 denominator Point = 3
 denominator Centimeter = 254
+denominator _ = 1
 
 -- the unit that a letter names
 abbrev pub scale_named : ℕ → Option Scale
@@ -150,12 +147,6 @@ abbrev pub is_zero : ℤ → Bool
 is_zero (pos n) = n == 0
 is_zero (negsuc n) = false
 
-abbrev pub is_equal : ℤ → ℤ → Bool
-is_equal (pos a) (pos b) = a == b
-is_equal (pos a) (negsuc b) = false
-is_equal (negsuc a) (pos b) = false
-is_equal (negsuc a) (negsuc b) = a == b
-
 -- Division is cut towards 0, and the remainder has the sign of the dividend; by 0 both give 0. A comparison gives 1 or 0, and `&`
 -- and `:` ask whether both or one of the two are above 0.
 unfoldable pub result_of : Operator → ℤ → ℤ → ℤ
@@ -168,7 +159,7 @@ result_of Less a b = truth (int_lt a b)
 result_of Greater a b = truth (int_lt b a)
 result_of AtMost a b = truth (int_le a b)
 result_of AtLeast a b = truth (int_le b a)
-result_of Equal a b = truth (is_equal a b)
+result_of Equal a b = truth (int_eq a b)
 result_of And a b = truth (is_positive a && is_positive b)
 result_of Or a b = truth (is_positive a || is_positive b)
 
@@ -176,16 +167,7 @@ result_of Or a b = truth (is_positive a || is_positive b)
 abbrev pub divides_by_zero : Operator → ℤ → Bool
 divides_by_zero Divide b = is_zero b
 divides_by_zero Remainder b = is_zero b
-divides_by_zero Add b = false
-divides_by_zero Subtract b = false
-divides_by_zero Multiply b = false
-divides_by_zero Less b = false
-divides_by_zero Greater b = false
-divides_by_zero AtMost b = false
-divides_by_zero AtLeast b = false
-divides_by_zero Equal b = false
-divides_by_zero And b = false
-divides_by_zero Or b = false
+divides_by_zero _ b = false
 
 -- ---- An expression at a text's front: roff(7), "Numerical expressions". Operands and operators follow one another, and each operation is
 -- done as it comes.
@@ -244,18 +226,10 @@ abbrev pub first : Read (Option ℤ) → Read ℤ
 first operand = record { value = unwrap_or operand.value (pos 0); troubles = operand.troubles; ends = operand.ends; rest = operand.rest }
 
 -- an operation on the value so far; without an operand that stays
-abbrev pub value_after : ℤ → Operator → Option ℤ → ℤ
-value_after value operator None = value
-value_after value operator (Some operand) = result_of operator value operand
-
-abbrev pub troubles_of : Operator → Option ℤ → List Trouble
-troubles_of operator None = []
-troubles_of operator (Some operand) = if divides_by_zero operator operand then DivZero ∷ [] else []
-
 abbrev pub after_operation : Read ℤ → Operator → Read (Option ℤ) → Read ℤ
 after_operation so_far operator operand = record {
-  value = value_after so_far.value operator operand.value;
-  troubles = so_far.troubles ++ (operand.troubles ++ troubles_of operator operand.value);
+  value = option_map_or (result_of operator so_far.value) operand.value so_far.value;
+  troubles = so_far.troubles ++ (operand.troubles ++ (if option_map_or (divides_by_zero operator) operand.value false then DivZero ∷ [] else []));
   ends = operand.ends;
   rest = operand.rest;
 }
@@ -296,9 +270,8 @@ kind_of DivZero = kinds.DivZero
 kind_of Parentheses = kinds.Limit
 
 abbrev pub detail_of : Trouble → List ℕ
-detail_of NotNumeric = []
-detail_of DivZero = []
 detail_of Parentheses = name_of Parens
+detail_of _ = []
 
 abbrev pub message_at : (line column : ℕ) → Trouble → Message
 message_at line column trouble = record { kind = kind_of trouble; line = line; column = column; detail = detail_of trouble }
