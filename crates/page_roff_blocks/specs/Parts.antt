@@ -4,7 +4,7 @@ use Rattle.page_roff_syntax.specs.LineForms.{form_of}
 use Rattle.page_roff_syntax.specs.Regions.{region_head}
 use Rattle.page_roff_syntax.specs.Requests.{request_of}
 use Rattle.page_roff_syntax.specs.declared.line_forms.LineForm.{LineForm}
-use Rattle.page_roff_syntax.specs.declared.line_forms.LineForm.TheVariants.{Comment, BlankLine, Text, Control}
+use Rattle.page_roff_syntax.specs.declared.line_forms.LineForm.TheVariants.{Control}
 use Rattle.page_roff_syntax.specs.declared.requests.Request.{Request}
 use Rattle.page_roff_syntax.specs.declared.requests.Request.TheVariants as requests
 use Rattle.page_roff_heads.specs.Heads.{block_end_of, conditional_of, guarded_of, loop_of}
@@ -12,7 +12,6 @@ use Rattle.page_roff_heads.specs.declared.conditions.Condition.{Condition}
 use Rattle.page_roff_heads.specs.declared.heads.BlockEnd.{BlockEnd}
 use Rattle.page_roff_heads.specs.declared.heads.Conditional.{Conditional}
 use Rattle.page_roff_heads.specs.declared.heads.Guarded.{Guarded}
-use Rattle.page_roff_heads.specs.declared.loops.LoopHead.{LoopHead}
 use Rattle.page_roff_heads.specs.declared.loops.LoopRead.{LoopRead}
 use Rattle.page_roff_heads.specs.declared.texts.Placed.{Placed}
 use Rattle.page_roff_blocks.specs.declared.line_parts.Branch.{Branch}
@@ -30,16 +29,12 @@ use Rattle.page_roff_blocks.specs.declared.parts.Part.{Part}
 
 -- what a control line of a name heads
 abbrev pub keyword_in : Option Request → Keyword
-keyword_in None = keywords.Other
 keyword_in (Some requests.If) = keywords.If
 keyword_in (Some requests.IfElse) = keywords.IfElse
 keyword_in (Some requests.Else) = keywords.Else
 keyword_in (Some requests.While) = keywords.While
 keyword_in (Some (requests.Region kind)) = keywords.Region kind
-keyword_in (Some (requests.Definition request)) = keywords.Other
-keyword_in (Some (requests.Layout request)) = keywords.Other
-keyword_in (Some requests.Ignored) = keywords.Other
-keyword_in (Some requests.Unsupported) = keywords.Other
+keyword_in _ = keywords.Other
 
 abbrev pub keyword_of : List ℕ → Keyword
 keyword_of name = keyword_in (request_of name)
@@ -66,18 +61,15 @@ else_part column guarded = head_part (record { column = column; branch = Else })
 
 -- The head of a loop. With a block, all that follows it on its line is its body as yet, and a remainder too. Without
 -- one, nothing follows the loop on its line.
-abbrev pub loop_head : List ℕ → Option (List ℕ) → LoopHead (List ℕ)
-loop_head condition body = record { condition = condition; body = body }
-
 abbrev pub loop_part_if : Bool → LoopRead (List ℕ) → Part (List ℕ)
 loop_part_if true read =
     record {
-      line_part = Block (openings.Loop (loop_head read.condition (Some read.first)));
+      line_part = Block (openings.Loop (record { condition = read.condition; body = Some read.first }));
       is_end = false;
       rest = rest_text read.guarded.remainder;
     }
 loop_part_if false read =
-    record { line_part = Loop (loop_head read.condition (rest_text read.guarded.remainder)); is_end = false; rest = None }
+    record { line_part = Loop (record { condition = read.condition; body = rest_text read.guarded.remainder }); is_end = false; rest = None }
 
 abbrev pub loop_part : LoopRead (List ℕ) → Part (List ℕ)
 loop_part read = loop_part_if read.guarded.opens_block read
@@ -109,10 +101,8 @@ keyword_part (keywords.Region kind) line column rest rest_column =
 keyword_part keywords.Other line column rest rest_column = plain_part line
 
 abbrev pub form_part : List ℕ → LineForm (List ℕ) → Part (List ℕ)
-form_part line Comment = plain_part line
-form_part line BlankLine = plain_part line
-form_part line (Text text) = plain_part line
 form_part line (Control name column rest rest_column) = keyword_part (keyword_of name) line column rest rest_column
+form_part line _ = plain_part line
 
 -- the first part of a line
 unfoldable pub written_part : List ℕ → Part (List ℕ)
@@ -129,20 +119,14 @@ blocks_left true (suc blocks) = Some blocks
 -- those after a part, which the end of a block may follow
 abbrev pub blocks_after : LinePart (List ℕ) → Bool → ℕ → Option ℕ
 blocks_after (Leaf text) is_end blocks = blocks_left is_end blocks
-blocks_after (Guard head) is_end blocks = Some blocks
 blocks_after (Block opening) is_end blocks = Some (suc blocks)
-blocks_after (Loop head) is_end blocks = Some blocks
 blocks_after End is_end blocks = blocks_left true blocks
-blocks_after (Region head) is_end blocks = Some blocks
+blocks_after _ is_end blocks = Some blocks
 
 -- the bytes of a part before the end of a block
 abbrev pub before_end : LinePart (List ℕ) → ℕ
 before_end (Leaf text) = length text
-before_end (Guard head) = 0
-before_end (Block opening) = 0
-before_end (Loop head) = 0
-before_end End = 0
-before_end (Region head) = 0
+before_end _ = 0
 
 -- What is left of a line from the \} on that ends the loop, if one does: at most n remainders deep, where this
 -- many blocks are open in the loop.
@@ -203,12 +187,8 @@ whole_opening (openings.Conditional head) = openings.Conditional head
 whole_opening (openings.Loop head) = openings.Loop (record { condition = head.condition; body = loop_body head.body })
 
 abbrev pub whole_line_part : LinePart (List ℕ) → LinePart (List ℕ)
-whole_line_part (Leaf text) = Leaf text
-whole_line_part (Guard head) = Guard head
 whole_line_part (Block opening) = Block (whole_opening opening)
-whole_line_part (Loop head) = Loop head
-whole_line_part End = End
-whole_line_part (Region head) = Region head
+whole_line_part line_part = line_part
 
 abbrev pub whole_part : Part (List ℕ) → Part (List ℕ)
 whole_part part = record { line_part = whole_line_part part.line_part; is_end = part.is_end; rest = part.rest }

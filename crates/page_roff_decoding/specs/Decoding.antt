@@ -7,7 +7,7 @@ use Rattle.page_core_base.specs.Messages.{Message}
 use Rattle.page_core_base.specs.declared.limits.Limit.TheVariants.{Line as LineLimit}
 use Rattle.page_core_base.specs.declared.note_kinds.NoteKind.TheVariants.{BadChar, Limit}
 use Rattle.page_core_base.specs.declared.page_settings.Encoding.{Encoding}
-use Rattle.page_core_base.specs.declared.page_settings.Encoding.TheVariants.{Auto, Ascii, Latin1, Utf8}
+use Rattle.page_core_base.specs.declared.page_settings.Encoding.TheVariants.{Auto, Latin1, Utf8}
 
 -- ---- The limit of a line.
 
@@ -20,10 +20,6 @@ line_limit = LINE
 -- the tab
 abbrev pub tab : ℕ
 tab = 9
-
--- `?`
-abbrev pub question_mark : ℕ
-question_mark = 63
 
 -- the byte may be a later one of a UTF-8 sequence
 abbrev pub is_later : ℕ → Bool
@@ -67,8 +63,7 @@ unfoldable pub high_character : Encoding → ℕ → List ℕ → Character
 high_character Utf8 b text =
     if sequence_length text == 0 then bad b else good (take (sequence_length text) text)
 high_character Latin1 b text = if nat_lt b 160 then bad b else good (latin1_bytes b)
-high_character Ascii b text = bad b
-high_character Auto b text = bad b
+high_character _ b text = bad b
 
 -- the character at the front of these bytes, of which the first is b
 unfoldable pub character : Encoding → ℕ → List ℕ → Character
@@ -78,9 +73,7 @@ character e b text =
 -- how many bytes after the first belong to it, where the first is above 0x7F, and where it is b
 unfoldable pub high_later_length : Encoding → List ℕ → ℕ
 high_later_length Utf8 text = sequence_length text - 1
-high_later_length Latin1 text = 0
-high_later_length Ascii text = 0
-high_later_length Auto text = 0
+high_later_length _ text = 0
 
 unfoldable pub later_length : Encoding → ℕ → List ℕ → ℕ
 later_length e b text = if nat_lt b 128 then 0 else high_later_length e text
@@ -97,7 +90,7 @@ characters e text = characters_after e 0 text
 -- the bytes that a character has in the decoded line: a byte that is none becomes a question mark
 abbrev pub bytes_of : Character → List ℕ
 bytes_of (good bytes) = bytes
-bytes_of (bad b) = question_mark ∷ []
+bytes_of (bad b) = codes "?"
 
 abbrev pub all_bytes : List Character → List ℕ
 all_bytes [] = []

@@ -11,7 +11,7 @@ use Rattle.page_core_numbers.specs.Expressions.{in_range}
 use Rattle.page_roff_syntax.specs.Arguments.{is_blank, argument_value, argument_name, arguments}
 use Rattle.page_roff_syntax.specs.declared.quotes.Argument.{Argument}
 use Rattle.page_roff_syntax.specs.declared.quotes.Quoting.{Quoting}
-use Rattle.page_roff_syntax.specs.declared.quotes.Quoting.TheVariants.{Bare, Closed, Unclosed}
+use Rattle.page_roff_syntax.specs.declared.quotes.Quoting.TheVariants.{Closed, Unclosed}
 use Rattle.page_roff_syntax.specs.declared.requests.DefinitionRequest.{DefinitionRequest}
 use Rattle.page_roff_syntax.specs.declared.requests.DefinitionRequest.TheVariants.{DefineString, AppendString, SetRegister, Remove, Rename, RemoveRegisters}
 use Rattle.page_roff_names.specs.Names.{Definitions, refusal, definition, with_text, string_of, Definition, without_text, look, without_register, number_of, with_register}
@@ -20,14 +20,10 @@ use Rattle.page_roff_values.specs.Answers.{value_of, messages_of}
 
 -- ---- The arguments of requests for definitions. Source: roff(7), "Macro syntax" and "ds".
 
-abbrev pub at : ℕ → ℕ → Place
-at line column = record { line = line; column = column }
-
 -- one without its last quote is reported at its first one
 abbrev pub closing_at : ℕ → ℕ → Quoting → List Message
-closing_at line column Bare = []
-closing_at line column Closed = []
-closing_at line column Unclosed = message_about Unterminated (at line (column - 1)) [] ∷ []
+closing_at line column Unclosed = message_about Unterminated (record { line = line; column = column - 1 }) [] ∷ []
+closing_at line column _ = []
 
 abbrev pub closing_notes : ℕ → Argument (List ℕ) → List Message
 closing_notes line argument = closing_at line argument.column argument.quoting
@@ -42,9 +38,8 @@ first_text (argument ∷ arguments) = argument.text
 
 -- the last quote of an argument
 abbrev pub closing_len : Quoting → ℕ
-closing_len Bare = 0
 closing_len Closed = 1
-closing_len Unclosed = 0
+closing_len _ = 0
 
 -- how many bytes of a text, of which the first is at a column, an argument and what is before it take
 abbrev pub end_of : ℕ → Argument (List ℕ) → ℕ
@@ -144,16 +139,12 @@ next_number name value old =
 abbrev pub sets_register : List ℕ → ℤ → Place → Definitions → Outcome
 sets_register name number place old = settles name [] (with_register name number old) place old
 
--- a name that begins with a full stop is not set, but its value is read
-abbrev pub sets_number : List ℕ → List ℕ → Place → Definitions → Outcome
-sets_number name value place old =
-    if is_read_only name then outcome old [] else sets_register name (next_number name value old) place old
-
 abbrev pub says_first : List Message → Outcome → Outcome
 says_first notes after = outcome after.definitions (notes ++ after.notes)
 
 abbrev pub reads_number : List ℕ → List ℕ → Place → Definitions → Outcome
-reads_number name value place old = says_first (messages_of place value) (sets_number name value place old)
+reads_number name value place old =
+    says_first (messages_of place value) (if is_read_only name then outcome old [] else sets_register name (next_number name value old) place old)
 
 -- ---- the requests
 
@@ -161,10 +152,7 @@ reads_number name value place old = says_first (messages_of place value) (sets_n
 abbrev pub is_in_copy_mode : DefinitionRequest → Bool
 is_in_copy_mode DefineString = true
 is_in_copy_mode AppendString = true
-is_in_copy_mode SetRegister = false
-is_in_copy_mode Remove = false
-is_in_copy_mode Rename = false
-is_in_copy_mode RemoveRegisters = false
+is_in_copy_mode _ = false
 
 -- ---- requests, by their arguments; a request without its name defines nothing, and an empty name is none
 
@@ -178,10 +166,9 @@ nr (name ∷ values) place old = if_named name.text (reads_number (argument_name
 
 -- nothing has an empty name, so none is given another
 abbrev pub rn : List (Argument (List ℕ)) → Place → Definitions → Outcome
-rn [] place old = outcome old []
-rn (old_name ∷ []) place old = outcome old []
 rn (old_name ∷ name ∷ more) place old =
     if_named name.text (renames (argument_name old_name) (argument_name name) place old) old
+rn _ place old = outcome old []
 
 abbrev pub ds : ℕ → List ℕ → List (Argument (List ℕ)) → Place → Definitions → Outcome
 ds column rest [] place old = outcome old []

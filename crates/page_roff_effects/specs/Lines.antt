@@ -17,7 +17,7 @@ use Rattle.page_roff_syntax.specs.declared.requests.Request.TheVariants as reque
 use Rattle.page_roff_names.specs.Names.{Definitions, body_of}
 use Rattle.page_roff_values.specs.Values.{Laid, expanded}
 use Rattle.page_roff_definitions.specs.Definitions.{is_in_copy_mode, Outcome, packed, closings_notes, outcome_of}
-use Rattle.page_roff_effects.specs.States.{Memory, call_product, nothing, after_notes, at, reports, with_definitions, reports_at, gives_line, counted, Setting, surroundings}
+use Rattle.page_roff_effects.specs.States.{Memory, call_product, nothing, after_notes, at, reports, reports_at, gives_line, counted, Setting, surroundings}
 use Rattle.page_roff_effects.specs.States as states
 use Rattle.page_roff_effects.specs.declared.commands.Command.{Command}
 use Rattle.page_roff_effects.specs.declared.commands.Command.TheVariants.{Define, Ignore, Refuse, Pass, Call}
@@ -35,16 +35,10 @@ called_body name d = within_limit (body_of name d)
 -- What is left to the set of macros are the requests that change rows, macros of the language, and unknown ones.
 -- The head of a conditional, a loop or a region is a part of a line by itself.
 abbrev pub request_command : Option Request → Command
-request_command None = Pass
-request_command (Some requests.If) = Pass
-request_command (Some requests.IfElse) = Pass
-request_command (Some requests.Else) = Pass
-request_command (Some requests.While) = Pass
-request_command (Some (requests.Region kind)) = Pass
 request_command (Some (requests.Definition request)) = Define request
-request_command (Some (requests.Layout request)) = Pass
 request_command (Some requests.Ignored) = Ignore
 request_command (Some requests.Unsupported) = Refuse
+request_command _ = Pass
 
 -- a macro of the page comes before a request
 abbrev pub command_or : List ℕ → Option (List ℕ) → Command
@@ -56,11 +50,8 @@ command_of name d = command_or name (called_body name d)
 
 -- whether the rest of the line is expanded in copy mode
 abbrev pub copies : Command → Bool
-copies Call = false
 copies (Define request) = is_in_copy_mode request
-copies Ignore = false
-copies Refuse = false
-copies Pass = false
+copies _ = false
 
 -- ---- What lines do that head nothing: text, requests, calls of macros. Source: roff(7), "LANGUAGE SYNTAX" and "MACRO SYNTAX".
 
@@ -80,16 +71,13 @@ abbrev pub call_if : Bool → List ℕ → List ℕ → Memory → states.Outcom
 call_if true body bytes m = record { notes = []; product = call_product (record { body = body; packed = bytes }); memory = m }
 call_if false body bytes m = nothing m
 
--- The call of a macro, whose name is in a column. One beyond a limit is skipped, with a message for each limit.
-abbrev pub calls_with : Bool → ℕ → List ℕ → List ℕ → Memory → states.Outcome
-calls_with may_call column body bytes m =
-    let fits = nat_le (length bytes) ARGS in
-    after_notes (depth_notes may_call (at m column) ++ size_notes fits (at m column)) (call_if (may_call && fits) body bytes m)
-
--- arguments without their last quote are reported first
+-- The call of a macro, whose name is in a column. Arguments without their last quote are reported first. One beyond a limit is skipped, with a message
+-- for each limit.
 abbrev pub calls : Bool → ℕ → List ℕ → List (Argument (List ℕ)) → Memory → states.Outcome
 calls may_call column body args m =
-    after_notes (closings_notes m.number args) (calls_with may_call column body (packed args) m)
+    let fits = nat_le (length (packed args)) ARGS in
+    after_notes (closings_notes m.number args) (
+    after_notes (depth_notes may_call (at m column) ++ size_notes fits (at m column)) (call_if (may_call && fits) body (packed args) m))
 
 -- ---- control lines
 
@@ -109,7 +97,7 @@ rest_column line = line.name_end + 1
 
 -- a request for definitions
 abbrev pub defines : Outcome → Memory → states.Outcome
-defines o m = reports o.notes (with_definitions o.definitions m)
+defines o m = reports o.notes (record m { definitions = o.definitions })
 
 -- what a command does with the finished line
 abbrev pub does : Bool → Command → ControlLine → List ℕ → Memory → states.Outcome

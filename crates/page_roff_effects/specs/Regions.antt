@@ -9,7 +9,7 @@ use Rattle.page_core_base.specs.declared.places.Place.{Place}
 use Rattle.page_roff_syntax.specs.Regions.{has_long_name, within_limit, macro_name, Opened, region_name}
 use Rattle.page_roff_syntax.specs.declared.region_heads.RegionHead.{RegionHead}
 use Rattle.page_roff_syntax.specs.declared.regions.RegionKind.{RegionKind}
-use Rattle.page_roff_syntax.specs.declared.regions.RegionKind.TheVariants.{Define, Append, Ignore, Table, Equation, Picture}
+use Rattle.page_roff_syntax.specs.declared.regions.RegionKind.TheVariants.{Define, Append, Ignore, Table}
 use Rattle.page_roff_names.specs.Names.{Definitions, definition, with_text}
 use Rattle.page_roff_names.specs.declared.rows.Meaning.TheVariants.{Macro}
 use Rattle.page_roff_heads.specs.declared.loops.LoopHead.{LoopHead}
@@ -17,7 +17,7 @@ use Rattle.page_roff_values.specs.Values.{lines_in, expanded}
 use Rattle.page_roff_definitions.specs.Definitions.{with_line, settles}
 use Rattle.page_roff_definitions.specs.Definitions as defining
 use Rattle.page_roff_effects.specs.Lines.{called_body, after_expansion, defines}
-use Rattle.page_roff_effects.specs.States.{Memory, Outcome, nothing, after_notes, reports_at, gives_loop, with_body, reports, Setting, surroundings, gives_line, at, note_at}
+use Rattle.page_roff_effects.specs.States.{Memory, Outcome, nothing, after_notes, reports_at, with_body, reports, Setting, surroundings, gives_line, at, note_at}
 
 -- ---- What the heads and the lines of regions do. Source: roff(7), "de", "am", "ig"; mandoc(1), "unsupported".
 
@@ -27,10 +27,7 @@ use Rattle.page_roff_effects.specs.States.{Memory, Outcome, nothing, after_notes
 abbrev pub first_body : RegionKind → List ℕ → Definitions → Option (List ℕ)
 first_body Define name d = Some []
 first_body Append name d = Some (unwrap_or (called_body name d) [])
-first_body Ignore name d = None
-first_body Table name d = None
-first_body Equation name d = None
-first_body Picture name d = None
+first_body _ name d = None
 
 -- without a name there is no body
 abbrev pub body_begun : RegionKind → Option (List ℕ) → Definitions → Option (List ℕ)
@@ -48,9 +45,7 @@ abbrev pub table_notes : RegionKind → ℕ → ℕ → List Message
 table_notes Define column number = []
 table_notes Append column number = []
 table_notes Ignore column number = []
-table_notes Table column number = message_about kinds.Table (record { line = number; column = column }) [] ∷ []
-table_notes Equation column number = message_about kinds.Table (record { line = number; column = column }) [] ∷ []
-table_notes Picture column number = message_about kinds.Table (record { line = number; column = column }) [] ∷ []
+table_notes _ column number = message_about kinds.Table (record { line = number; column = column }) [] ∷ []
 
 -- a head that is run, or passed over: then the body is left alone, which may be the text of a loop around it
 unfoldable pub head_outcome : RegionHead (List ℕ) → Bool → Memory → Outcome
@@ -82,9 +77,7 @@ abbrev pub kind_outcome : Setting → RegionKind → List ℕ → Memory → Out
 kind_outcome setting Define line m = body_outcome setting line m
 kind_outcome setting Append line m = body_outcome setting line m
 kind_outcome setting Ignore line m = nothing m
-kind_outcome setting Table line m = gives_line forms.Raw line 0 m
-kind_outcome setting Equation line m = gives_line forms.Raw line 0 m
-kind_outcome setting Picture line m = gives_line forms.Raw line 0 m
+kind_outcome setting _ line m = gives_line forms.Raw line 0 m
 
 -- a line of a region that is run, or passed over
 unfoldable pub line_outcome : Setting → Opened → Bool → List ℕ → Memory → Outcome
@@ -98,9 +91,8 @@ defines_macro name body place d = settles name body (with_text name (definition 
 
 -- a macro is defined, unless that passes a limit; without a name or a body nothing is
 abbrev pub macro_definition : Option (List ℕ) → Option (List ℕ) → Place → Definitions → defining.Outcome
-macro_definition None body place d = defining.outcome d []
-macro_definition (Some name) None place d = defining.outcome d []
 macro_definition (Some name) (Some body) place d = defines_macro name body place d
+macro_definition _ _ place d = defining.outcome d []
 
 -- a region that was run drops its body, one that was passed over had none
 abbrev pub body_freed : Bool → Memory → Memory
@@ -151,7 +143,7 @@ collect_outcome false line m = nothing m
 
 -- a loop beyond the limit of running macros and loops is skipped
 abbrev pub repeats_if : Bool → List ℕ → Memory → Outcome
-repeats_if true text m = gives_loop text m
+repeats_if true text m = record { notes = []; product = loop_product text; memory = m }
 repeats_if false text m = reports_at kinds.Loop 1 (name_of limits.Calls) m
 
 -- one that passed the limit of bodies has none, and is not run

@@ -30,8 +30,7 @@ first_memory = record { definitions = definitions [] []; body = None; number = 0
 
 -- messages are about the line of this number from now on
 abbrev pub numbered : ℕ → Memory → Memory
-numbered number m =
-    record { definitions = m.definitions; body = m.body; number = number; expansions = m.expansions }
+numbered number m = record m { number = number }
 
 -- what comes of a part besides messages
 pub data Product : Type 0 where
@@ -55,10 +54,8 @@ pub data Given : Type 0 where
   takes : Line → Given
 
 abbrev pub lines_of : Product → List Given
-lines_of no_product = []
 lines_of (line_product line) = takes line ∷ []
-lines_of (call_product call) = []
-lines_of (loop_product text) = []
+lines_of _ = []
 
 -- ---- outcomes
 
@@ -77,10 +74,6 @@ gives_line form text name_end m =
       memory = m;
     }
 
--- a loop begins, of which this was collected
-abbrev pub gives_loop : List ℕ → Memory → Outcome
-gives_loop text m = record { notes = []; product = loop_product text; memory = m }
-
 -- these messages come first
 abbrev pub after_notes : List Message → Outcome → Outcome
 after_notes notes o = record { notes = notes ++ o.notes; product = o.product; memory = o.memory }
@@ -96,12 +89,8 @@ note_at kind column detail m = message_about kind (at m column) detail ∷ []
 abbrev pub reports_at : NoteKind → ℕ → List ℕ → Memory → Outcome
 reports_at kind column detail m = reports (note_at kind column detail m) m
 
-abbrev pub with_definitions : Definitions → Memory → Memory
-with_definitions definitions m =
-    record { definitions = definitions; body = m.body; number = m.number; expansions = m.expansions }
-
 abbrev pub with_body : Option (List ℕ) → Memory → Memory
-with_body body m = record { definitions = m.definitions; body = body; number = m.number; expansions = m.expansions }
+with_body body m = record m { body = body }
 
 -- a count stays at the greatest number of 64 bits, which no page reaches
 abbrev pub sum_of_counts : ℕ → ℕ → ℕ
@@ -109,13 +98,7 @@ sum_of_counts a b = a + min b (2 ^ 64 - 1 - a)
 
 -- a count of interpolations more were made
 abbrev pub counted : ℕ → Memory → Memory
-counted count m =
-    record {
-      definitions = m.definitions;
-      body = m.body;
-      number = m.number;
-      expansions = sum_of_counts m.expansions count;
-    }
+counted count m = record m { expansions = sum_of_counts m.expansions count }
 
 -- ---- what interpolations read
 

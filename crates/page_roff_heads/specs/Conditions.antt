@@ -26,9 +26,8 @@ after_blanks text = drop (blank_len text) text
 
 -- a text begins with the pair of a backslash (92) and this byte
 abbrev pub begins_pair : ℕ → List ℕ → Bool
-begins_pair key [] = false
-begins_pair key (byte ∷ []) = false
 begins_pair key (byte ∷ next ∷ bytes) = byte == 92 && next == key
+begins_pair key _ = false
 
 -- it is a line of its own: neither empty nor a comment
 abbrev pub is_some_line : List ℕ → Bool

@@ -4,7 +4,7 @@ use Rattle.std.specs.Prelude.{ℕ, List, [], ◌∷◌, Bool, true, false, ◌==
 use Rattle.std.specs.Str.Lines.{lines as physical_lines}
 use Rattle.page_core_base.specs.Messages.{Message}
 use Rattle.page_core_base.specs.declared.page_settings.Encoding.{Encoding}
-use Rattle.page_core_base.specs.declared.page_settings.Encoding.TheVariants.{Auto, Ascii, Latin1, Utf8}
+use Rattle.page_core_base.specs.declared.page_settings.Encoding.TheVariants.{Auto, Utf8}
 use Rattle.page_roff_decoding.specs.Decoding.{line_limit, Character, line_characters, characters, all_bytes, bad_notes, limit_notes, choice_of}
 
 -- ---- The bytes that cutting looks at.
@@ -20,10 +20,6 @@ quote = 34
 -- `#`
 abbrev pub hash : ℕ
 hash = 35
-
--- the byte order mark in UTF-8
-abbrev pub byte_order_mark : List ℕ
-byte_order_mark = 0xEF ∷ 0xBB ∷ 0xBF ∷ []
 
 -- ---- How a physical line is read: a backslash and its next byte are a pair.
 -- Source: roff(7), "Comments" and "Escape sequences".
@@ -71,12 +67,9 @@ logical_lines number (p ∷ ps) =
     if (read p).joins then join_texts number (read p).text (logical_lines (number + 1) ps)
     else record { number = number; text = (read p).text } ∷ logical_lines (number + 1) ps
 
--- whether the page begins with a byte order mark, and the page without it
+-- whether the page begins with the byte order mark in UTF-8
 abbrev pub has_mark : List ℕ → Bool
-has_mark bytes = starts_with nat_eq bytes byte_order_mark
-
-abbrev pub without_mark : List ℕ → List ℕ
-without_mark bytes = if has_mark bytes then drop 3 bytes else bytes
+has_mark bytes = starts_with nat_eq bytes (0xEF ∷ 0xBB ∷ 0xBF ∷ [])
 
 -- what is kept of a logical line, and whether that is less than all of it
 pub record Kept : Type 0 where
@@ -87,9 +80,9 @@ pub record Kept : Type 0 where
 abbrev pub keep : Logical → Kept
 keep l = record { number = l.number; text = take line_limit l.text; cut = nat_lt line_limit (length l.text) }
 
--- what is kept of each logical line of a page
+-- what is kept of each logical line of a page, which is read without its mark
 abbrev pub kept_lines : List ℕ → List Kept
-kept_lines bytes = map keep (logical_lines 1 (physical_lines (without_mark bytes)))
+kept_lines bytes = map keep (logical_lines 1 (physical_lines (if has_mark bytes then drop 3 bytes else bytes)))
 
 -- ---- The decoded lines of a page. Source: mandoc(1), -K.
 
@@ -104,23 +97,18 @@ pub record Line : Type 0 where
 abbrev pub kept_characters : Encoding → Kept → List Character
 kept_characters e k = line_characters e k.text
 
--- more came than stays, of the line's bytes or of its characters
-abbrev pub passes_limit : Encoding → Kept → Bool
-passes_limit e k = k.cut || nat_lt (length (kept_characters e k)) (length (characters e k.text))
-
+-- it is cut where more came than stays, of its bytes or of its characters
 unfoldable pub decode_line : Encoding → Kept → Line
 decode_line e k = record {
   number = k.number;
   text = all_bytes (kept_characters e k);
-  notes = limit_notes (passes_limit e k) k.number ++ bad_notes k.number 1 (kept_characters e k);
+  notes = limit_notes (k.cut || nat_lt (length (kept_characters e k)) (length (characters e k.text))) k.number ++ bad_notes k.number 1 (kept_characters e k);
 }
 
 -- the encoding that is known, or else this one
 abbrev pub or_else : Encoding → Encoding → Encoding
 or_else Auto e = e
-or_else Ascii e = Ascii
-or_else Latin1 e = Latin1
-or_else Utf8 e = Utf8
+or_else known e = known
 
 -- what the first byte above 0x7F of these lines decides
 abbrev pub choice_of_lines : List Kept → Encoding

@@ -3,7 +3,7 @@ use Rattle.std.specs.Cmp.Lexicographic.{slice_cmp}
 use Rattle.std.specs.FinMap.{find as find_entry, put as put_entry}
 use Rattle.std.specs.FinMap.Entries.{where_key}
 use Rattle.std.specs.Ordering.{nat_cmp, eq_by_cmp}
-use Rattle.std.specs.Prelude.{ℕ, List, ◌+◌, [], ◌∷◌, length, codes, Option, option_map, find, not, ℤ, nat_lt, cond}
+use Rattle.std.specs.Prelude.{ℕ, List, ◌+◌, [], ◌∷◌, length, codes, Option, option_map, find, not, ℤ, nat_lt, cond, option_and_then}
 use Rattle.std.specs.Str.{bytes_eq}
 use Rattle.std.specs.declared.cmp.Ordering.{Ordering}
 use Rattle.std.specs.declared.option.Option.TheVariants.{Some, None}
@@ -72,18 +72,15 @@ definitions the_texts the_registers = record { texts = the_texts; registers = th
 
 abbrev pub string_in : Meaning → List ℕ → Option (List ℕ)
 string_in String value = Some value
-string_in Macro value = None
-string_in (Register n) value = None
+string_in _ value = None
 
 abbrev pub body_in : Meaning → List ℕ → Option (List ℕ)
-body_in String value = None
 body_in Macro value = Some value
-body_in (Register n) value = None
+body_in _ value = None
 
 abbrev pub number_in : Meaning → Option ℤ
-number_in String = None
-number_in Macro = None
 number_in (Register n) = Some n
+number_in _ = None
 
 abbrev pub string_or : Option (List ℕ) → Option Definition → Option (List ℕ)
 string_or otherwise None = otherwise
@@ -92,10 +89,6 @@ string_or otherwise (Some d) = string_in d.meaning d.value
 abbrev pub body_or_none : Option Definition → Option (List ℕ)
 body_or_none None = None
 body_or_none (Some d) = body_in d.meaning d.value
-
-abbrev pub number_or_none : Option Definition → Option ℤ
-number_or_none None = None
-number_or_none (Some d) = number_in d.meaning
 
 -- the string of a name; a predefined one is there while no definition hides it
 abbrev pub string_of : List ℕ → Definitions → Option (List ℕ)
@@ -107,7 +100,7 @@ body_of name d = body_or_none (look name d.texts)
 
 -- the number in a register
 abbrev pub number_of : List ℕ → Definitions → Option ℤ
-number_of name d = number_or_none (look name d.registers)
+number_of name d = option_and_then (λ found. number_in found.meaning) (look name d.registers)
 
 abbrev pub with_text : List ℕ → Definition → Definitions → Definitions
 with_text name the_definition d = record { texts = put name the_definition d.texts; registers = d.registers }

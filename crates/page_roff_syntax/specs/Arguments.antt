@@ -37,8 +37,7 @@ quoting_of inner = if nat_lt (quoted_len inner) (length inner) then Closed else 
 -- whether it is quoted
 abbrev pub is_quoted : Quoting → Bool
 is_quoted Bare = false
-is_quoted Closed = true
-is_quoted Unclosed = true
+is_quoted _ = true
 
 -- the column is that of the text, which may follow a quote
 abbrev pub quoted_argument : ℕ → List ℕ → Argument (List ℕ)

@@ -5,11 +5,12 @@ use Rattle.page_core_base.specs.Limits.{NAME}
 use Rattle.page_roff_syntax.specs.Arguments.{arguments, argument_name}
 use Rattle.page_roff_syntax.specs.LineForms.{form_of}
 use Rattle.page_roff_syntax.specs.declared.line_forms.LineForm.{LineForm}
-use Rattle.page_roff_syntax.specs.declared.line_forms.LineForm.TheVariants.{Comment, BlankLine, Text, Control}
+use Rattle.page_roff_syntax.specs.declared.line_forms.LineForm.TheVariants.{Control}
 use Rattle.page_roff_syntax.specs.declared.quotes.Argument.{Argument}
 use Rattle.page_roff_syntax.specs.declared.region_heads.RegionHead.{RegionHead}
 use Rattle.page_roff_syntax.specs.declared.regions.RegionKind.{RegionKind}
 use Rattle.page_roff_syntax.specs.declared.regions.RegionKind.TheVariants.{Define, Append, Ignore, Table, Equation, Picture}
+use Rattle.std.specs.Option.{option_or}
 
 -- ---- Regions: the names that begin and end them. Source: roff(7), "de", "am", "ig", "TS", "EQ", "PS".
 
@@ -23,23 +24,17 @@ region_name Picture = codes "PS"
 
 -- the name that ends it, where its head may not choose one
 abbrev pub fixed_ending : RegionKind → Option (List ℕ)
-fixed_ending Define = None
-fixed_ending Append = None
-fixed_ending Ignore = None
 fixed_ending Table = Some (codes "TE")
 fixed_ending Equation = Some (codes "EN")
 fixed_ending Picture = Some (codes "PE")
+fixed_ending _ = None
 
 -- ---- Regions: their heads, and the lines that end them. Source: roff(7), "de", "am", "ig", "TS", "EQ", "PS".
 
--- an argument without a byte is no name
-abbrev pub as_named : Argument (List ℕ) → Option (Argument (List ℕ))
-as_named a = if length a.text == 0 then None else Some a
-
--- the first argument, if it is a name
+-- the first argument, if it is a name: one without a byte is none
 abbrev pub first_named : List (Argument (List ℕ)) → Option (Argument (List ℕ))
 first_named [] = None
-first_named (a ∷ more) = as_named a
+first_named (a ∷ more) = if length a.text == 0 then None else Some a
 
 abbrev pub second_named : List (Argument (List ℕ)) → Option (Argument (List ℕ))
 second_named [] = None
@@ -49,10 +44,7 @@ second_named (a ∷ more) = first_named more
 abbrev pub name_in : RegionKind → List (Argument (List ℕ)) → Option (Argument (List ℕ))
 name_in Define args = first_named args
 name_in Append args = first_named args
-name_in Ignore args = None
-name_in Table args = None
-name_in Equation args = None
-name_in Picture args = None
+name_in _ args = None
 
 -- the end name is the argument after it, or the first one of `ig`; that of a table, an equation or a
 -- picture is fixed
@@ -60,17 +52,12 @@ abbrev pub ending_in : RegionKind → List (Argument (List ℕ)) → Option (Arg
 ending_in Define args = second_named args
 ending_in Append args = second_named args
 ending_in Ignore args = first_named args
-ending_in Table args = None
-ending_in Equation args = None
-ending_in Picture args = None
-
-abbrev pub head_with : RegionKind → ℕ → List (Argument (List ℕ)) → RegionHead (List ℕ)
-head_with kind column args =
-    record { kind = kind; column = column; name = name_in kind args; ending = ending_in kind args }
+ending_in _ args = None
 
 -- the head of a region: the column of its name, and its rest, of which the first byte is at a column
 unfoldable pub region_head : RegionKind → ℕ → ℕ → List ℕ → RegionHead (List ℕ)
-region_head kind column rest_column rest = head_with kind column (arguments rest_column rest)
+region_head kind column rest_column rest =
+    let args = arguments rest_column rest in record { kind = kind; column = column; name = name_in kind args; ending = ending_in kind args }
 
 -- ---- what its names are
 
@@ -86,13 +73,9 @@ abbrev pub ending_of : Option (List ℕ) → List ℕ
 ending_of None = codes "."
 ending_of (Some name) = if nat_le (length name) NAME then name else codes "."
 
-abbrev pub end_name_or : Option (List ℕ) → Option (List ℕ) → List ℕ
-end_name_or None asked = ending_of asked
-end_name_or (Some name) asked = ending_of (Some name)
-
 -- the name of its end line
 abbrev pub end_name : RegionHead (List ℕ) → List ℕ
-end_name head = end_name_or (fixed_ending head.kind) (asked_ending head)
+end_name head = ending_of (option_or (fixed_ending head.kind) (asked_ending head))
 
 abbrev pub is_too_long : Option (List ℕ) → Bool
 is_too_long None = false
@@ -104,10 +87,8 @@ has_long_name head = is_too_long (macro_name head) || is_too_long (asked_ending 
 
 -- a control line of this name
 abbrev pub is_called : List ℕ → LineForm (List ℕ) → Bool
-is_called ending Comment = false
-is_called ending BlankLine = false
-is_called ending (Text text) = false
 is_called ending (Control name column rest rest_column) = bytes_eq name ending
+is_called ending _ = false
 
 -- whether a line ends a region of that end name
 unfoldable pub is_ending : List ℕ → List ℕ → Bool

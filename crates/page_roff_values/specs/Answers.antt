@@ -44,10 +44,6 @@ turned is_turned holds = if is_turned then not holds else holds
 abbrev pub is_defined : List ℕ → Definitions → Bool
 is_defined name d = is_some (string_of name d) || is_some (body_of name d) || is_some (request_of name)
 
--- one that a register has, a read-only one too
-abbrev pub is_register : List ℕ → Surroundings → Bool
-is_register name env = is_some (register_found name env)
-
 -- a text is expanded after what is finished of its line, of which this many bytes are before the text
 abbrev pub expands : Surroundings → ℕ → List ℕ → Spot → Laid
 expands env count text s = value env NEST text (after_bytes count s)
@@ -86,7 +82,7 @@ test_answer env place is_turned (Always holds) s = answers (turned is_turned hol
 test_answer env place is_turned (Unknown letter) s =
     answers (turned is_turned false) (message_about BadCondition place letter ∷ []) s
 test_answer env place is_turned (IsDefined name) s = answers (turned is_turned (is_defined name env.definitions)) [] s
-test_answer env place is_turned (IsRegister name) s = answers (turned is_turned (is_register name env)) [] s
+test_answer env place is_turned (IsRegister name) s = answers (turned is_turned (is_some (register_found name env))) [] s
 test_answer env place is_turned (Expression text) s =
     after (expands env (bytes_before text) text.text s) (number_answer is_turned place)
 test_answer env place is_turned (Texts first second) s =

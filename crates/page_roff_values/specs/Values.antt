@@ -15,6 +15,7 @@ use Rattle.page_roff_parts.specs.declared.parts.Call.{Call}
 use Rattle.page_roff_parts.specs.declared.parts.Call.TheVariants.{String, Register, Argument, Width}
 use Rattle.page_roff_parts.specs.declared.parts.Part.{Part}
 use Rattle.page_roff_parts.specs.declared.parts.Part.TheVariants.{Copied, Called}
+use Rattle.std.specs.Option.{option_or}
 
 -- ---- The arguments of the macro that runs: roff(7), "Macro syntax", and the escape `\$`.
 
@@ -66,11 +67,8 @@ argument_named name arguments =
 -- the value of an escape `\$` as it is written; another character has none, and outside a macro none has one
 abbrev pub argument_of : List ℕ → Option (List (List ℕ)) → Option (List ℕ)
 argument_of escape None = None
-argument_of [] (Some arguments) = None
-argument_of (a ∷ []) (Some arguments) = None
-argument_of (a ∷ b ∷ []) (Some arguments) = None
 argument_of (a ∷ b ∷ name ∷ []) (Some arguments) = argument_named name arguments
-argument_of (a ∷ b ∷ name ∷ c ∷ more) (Some arguments) = None
+argument_of _ (Some arguments) = None
 
 -- ---- What interpolations read: roff(7), "Escape sequences", and the read-only number registers.
 
@@ -94,13 +92,9 @@ read_only name arguments =
     else (if bytes_eq name (codes ".H") then Some (pos 24)
     else (if bytes_eq name (codes ".V") then Some (pos 40) else None)))
 
-abbrev pub or_else : Option ℤ → Option ℤ → Option ℤ
-or_else (Some n) otherwise = Some n
-or_else None otherwise = otherwise
-
 -- the number in a register, if there is such a register
 abbrev pub register_found : List ℕ → Surroundings → Option ℤ
-register_found name env = or_else (read_only name env.arguments) (number_of name env.definitions)
+register_found name env = option_or (read_only name env.arguments) (number_of name env.definitions)
 
 -- a register that there is not has 0
 abbrev pub register_of : List ℕ → Surroundings → ℤ

@@ -130,10 +130,6 @@ row_of name = option_or (macro_row name) (request_row name)
 
 -- ---- The events of a line. Source: man(7).
 
--- the columns by which the text of a page is indented
-abbrev pub man_indent : ℕ
-man_indent = 7
-
 -- ---- what a macro does
 
 -- what it opens (`SH SS PP LP P TP IP HP RS UR MT SY`)
@@ -174,28 +170,17 @@ effect_kind (effects.Sets change) rest arguments = Some (kinds.Leaf (leaf change
 abbrev pub opens_line_scope : Opens → Option LineOpener
 opens_line_scope opens.Section = Some (Heading SH)
 opens_line_scope opens.Subsection = Some (Heading SS)
-opens_line_scope (opens.Paragraph name) = None
 opens_line_scope opens.Tagged = Some (Tag TP)
-opens_line_scope opens.Indented = None
-opens_line_scope opens.Hanging = None
-opens_line_scope opens.RelativeMargin = None
-opens_line_scope (opens.Target link) = None
-opens_line_scope opens.Syntax = None
+opens_line_scope _ = None
 
 abbrev pub sets_line_scope : Sets → Option LineOpener
-sets_line_scope (sets.Request name) = None
-sets_line_scope sets.Title = None
-sets_line_scope (sets.Example begins) = None
-sets_line_scope sets.Distance = None
 sets_line_scope sets.FurtherTag = Some (Tag TQ)
-sets_line_scope (sets.FontBegins font) = None
-sets_line_scope (sets.Mark text) = None
+sets_line_scope _ = None
 
 abbrev pub line_scope : Effect → Option LineOpener
-line_scope effects.Nothing = None
 line_scope (effects.Opens scope) = opens_line_scope scope
-line_scope (effects.Closes scope) = None
 line_scope (effects.Sets change) = sets_line_scope change
+line_scope _ = None
 
 -- ---- its words
 
@@ -255,11 +240,7 @@ words_events place words.Further arguments = further_words place.line arguments
 
 abbrev pub has_words : Words → Bool
 has_words words.Nothing = false
-has_words words.Plain = true
-has_words (words.Alternating font other) = true
-has_words words.Option = true
-has_words words.Reference = true
-has_words words.Further = true
+has_words _ = true
 
 -- ---- the events of a line
 

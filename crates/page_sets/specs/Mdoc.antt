@@ -22,15 +22,11 @@ use Rattle.page_sets_mdoc_lines.specs.declared.macros.Inline.{Inline}
 use Rattle.page_sets_mdoc_words.specs.Inlines.{printed}
 use Rattle.page_sets_mdoc_words.specs.Sentences.{placed_events, framed, include_events, sentence_events}
 use Rattle.page_sets_mdoc_blocks.specs.Fronts.{line_arguments, has_real_word, given_names, refusal, has_phrase, block_front, request_front}
-use Rattle.page_sets.specs.Man.{man_indent, man_events}
+use Rattle.page_sets.specs.Man.{man_events}
 use Rattle.page_sets.specs.declared.either.Either.{Either}
 use Rattle.page_sets.specs.declared.either.Either.TheVariants.{Man, Mdoc}
 
 -- ---- The events of a line. Source: mdoc(7), "MACRO SYNTAX" and "MACRO REFERENCE".
-
--- the columns by which the text of a page is indented
-abbrev pub mdoc_indent : ℕ
-mdoc_indent = 5
 
 -- ---- the words of a line, with the macros among them
 
@@ -65,13 +61,9 @@ abbrev pub line_parts : Option Inline → Line → LineParts
 line_parts begun line = parts begun (is_parsed (name_of line)) (line_arguments line)
 
 -- a field of a reference (`%A` and so on) is italic, or in the font around it; so is one without a word of its own
-abbrev pub own_font : Font → Option Font
-own_font I = Some I
-own_font _ = None
-
 abbrev pub field_font : Bool → Font → Option Font
-field_font true font = own_font font
-field_font false font = None
+field_font true I = Some I
+field_font _ _ = None
 
 -- the file of `In` is on a row of its own in the SYNOPSIS; one without a word is refused, and its words stay
 abbrev pub include_words : Bool → Line → List (Event (List ℕ))
@@ -88,12 +80,7 @@ words_events (lines.OneLine name) line = phrase_events line.number (line_parts N
 words_events (lines.Field font) line = printed line.number (field_font (has_real_word line) font) (line_arguments line)
 words_events (lines.Sentence sentence) line = sentence_events (name_place line) sentence (given_names (line_arguments line))
 words_events lines.Include line = include_words (has_real_word line) line
-words_events (lines.Prologue name) line = []
-words_events (lines.Paragraph name) line = []
-words_events (lines.Begins block) line = []
-words_events (lines.Ends block) line = []
-words_events lines.Spacing line = []
-words_events lines.Target line = []
+words_events _ line = []
 
 -- ---- a line
 
@@ -135,9 +122,10 @@ mdoc_events line = line_events line (plain_line line.form line.text)
 
 -- ---- The set of macros of a page: one of the two, and what holds of each holds of it. Source: man(7), mdoc(7).
 
+-- the columns by which the text of a page is indented
 abbrev pub either_indent : Either → ℕ
-either_indent Man = man_indent
-either_indent Mdoc = mdoc_indent
+either_indent Man = 7
+either_indent Mdoc = 5
 
 -- the events of a line in the set of the page
 abbrev pub either_events : Either → Line → List (Event (List ℕ))

@@ -13,13 +13,13 @@ pub struct Man;
 
 impl MacroSet for Man {
     ghost use Rattle.std.specs.Prelude.{◌≤◌, length, drop};
-    ghost use Rattle.page_sets.specs.Man.{man_indent, man_events};
+    ghost use Rattle.page_sets.specs.Man.{man_events};
     ghost use Rattle.page_sets.specs.machine.ManLaws.{man_slices, man_in_order, man_few};
     ghost use Rattle.page_sets_lines.proofs.NthLemmas.{slices_after};
 
     type Place = usize;
 
-    ghost page_indent = { λ set. man_indent };
+    ghost page_indent = { λ set. 7 };
 
     ghost table = { λ set line. man_events line };
 

@@ -13,13 +13,13 @@ pub struct Mdoc;
 
 impl MacroSet for Mdoc {
     ghost use Rattle.std.specs.Prelude.{◌≤◌, length, drop};
-    ghost use Rattle.page_sets.specs.Mdoc.{mdoc_indent, mdoc_events};
+    ghost use Rattle.page_sets.specs.Mdoc.{mdoc_events};
     ghost use Rattle.page_sets.specs.machine.MdocLaws.{mdoc_slices, mdoc_in_order, mdoc_few};
     ghost use Rattle.page_sets_lines.proofs.NthLemmas.{slices_after};
 
     type Place = usize;
 
-    ghost page_indent = { λ set. mdoc_indent };
+    ghost page_indent = { λ set. 5 };
 
     ghost table = { λ set line. mdoc_events line };
 

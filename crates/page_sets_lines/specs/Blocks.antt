@@ -17,6 +17,7 @@ use Rattle.page_sets_lines.specs.declared.lists.ListKind.TheVariants as kinds
 use Rattle.page_sets_lines.specs.declared.lists.ListOptions.{ListOptions}
 use Rattle.page_sets_lines.specs.declared.lists.ListWord.{ListWord}
 use Rattle.page_sets_lines.specs.declared.lists.ListWord.TheVariants as words
+use Rattle.std.specs.Option.{option_or}
 
 -- ---- Blocks that one macro begins and another ends, and the names of these. Source: mdoc(7), "MACRO REFERENCE".
 
@@ -95,13 +96,9 @@ headless_rows =
 unfoldable pub headless_kind : List ℕ → Option ListKind
 headless_kind word = option_map (λ row. row.1) (find (λ row. bytes_eq word row.0) headless_rows)
 
-abbrev pub first_known : Option ListKind → Option ListKind → Option ListKind
-first_known None other = other
-first_known (Some kind) other = Some kind
-
 -- the type of a list by its name
 abbrev pub kind_named : List ℕ → Option ListKind
-kind_named word = first_known (headed_kind word) (headless_kind word)
+kind_named word = option_or (headed_kind word) (headless_kind word)
 
 -- their options
 abbrev pub option_rows : List (List ℕ × ListWord)
@@ -110,27 +107,18 @@ option_rows = (codes "-compact", words.Compact) ∷ (codes "-width", words.Width
 unfoldable pub option_named : List ℕ → Option ListWord
 option_named word = option_map (λ row. row.1) (find (λ row. bytes_eq word row.0) option_rows)
 
-abbrev pub kind_or_option : Option ListKind → List ℕ → Option ListWord
-kind_or_option None word = option_named word
-kind_or_option (Some kind) word = Some (words.Kind kind)
-
 -- what an argument says, where it is a type or an option; whether it is quoted is no matter
 abbrev pub list_word : List ℕ → Option ListWord
-list_word word = kind_or_option (kind_named word) word
+list_word word = option_or (option_map words.Kind (kind_named word)) (option_named word)
 
 -- before its first argument
 abbrev pub no_options : ListOptions (List ℕ)
 no_options = record { kind = None; is_compact = false; width = None; offset = None; awaited = None }
 
--- the first type counts
-abbrev pub first_kind : Option ListKind → ListKind → Option ListKind
-first_kind None other = Some other
-first_kind (Some kind) other = Some kind
-
--- any other word is no option
+-- the first type counts; any other word is no option
 abbrev pub with_word : Option ListWord → ListOptions (List ℕ) → ListOptions (List ℕ)
 with_word None so_far = so_far
-with_word (Some (words.Kind kind)) so_far = record so_far { kind = first_kind so_far.kind kind }
+with_word (Some (words.Kind kind)) so_far = record so_far { kind = option_or so_far.kind (Some kind) }
 with_word (Some words.Compact) so_far = record so_far { is_compact = true }
 with_word (Some words.Width) so_far = record so_far { awaited = Some Width }
 with_word (Some words.Offset) so_far = record so_far { awaited = Some Offset }

@@ -11,7 +11,7 @@ use Rattle.page_roff_syntax.specs.LineForms.{is_white, has_word}
 use Rattle.page_roff_syntax.specs.Requests.{request_of}
 use Rattle.page_roff_syntax.specs.declared.quotes.Argument.{Argument}
 use Rattle.page_roff_syntax.specs.declared.quotes.Quoting.{Quoting}
-use Rattle.page_roff_syntax.specs.declared.quotes.Quoting.TheVariants.{Bare, Closed, Unclosed}
+use Rattle.page_roff_syntax.specs.declared.quotes.Quoting.TheVariants.{Bare, Unclosed}
 use Rattle.page_roff_syntax.specs.declared.requests.LayoutRequest.{LayoutRequest}
 use Rattle.page_roff_syntax.specs.declared.requests.LayoutRequest.TheVariants as layout
 use Rattle.page_roff_syntax.specs.declared.requests.Request as roff
@@ -75,9 +75,8 @@ text_of None = None
 text_of (Some argument) = Some argument.text
 
 abbrev pub is_unclosed : Quoting → Bool
-is_unclosed Bare = false
-is_unclosed Closed = false
 is_unclosed Unclosed = true
+is_unclosed _ = false
 
 -- the column of the quote that the last argument lacks at its end, unless it is one of this many at the front
 abbrev pub open_quote : ℕ → List (Argument (List ℕ)) → Option ℕ
@@ -138,9 +137,7 @@ plain_kind lines.Raw text = kinds.Raw text
 -- text with a word fills line scopes
 abbrev pub fills : PlainLine → Bool
 fills lines.Words = true
-fills lines.Wordless = false
-fills lines.Blank = false
-fills lines.Raw = false
+fills _ = false
 
 abbrev pub line_end : ℕ → Bool → Event (List ℕ)
 line_end number filled = event_at (line_start number) (kinds.End filled)
@@ -151,16 +148,8 @@ plain_events number text line = event_at (line_start number) (plain_kind line te
 
 -- the requests that change rows
 abbrev pub layout_in : Option roff.Request → Option LayoutRequest
-layout_in None = None
-layout_in (Some names.If) = None
-layout_in (Some names.IfElse) = None
-layout_in (Some names.Else) = None
-layout_in (Some names.While) = None
-layout_in (Some (names.Region kind)) = None
-layout_in (Some (names.Definition request)) = None
 layout_in (Some (names.Layout request)) = Some request
-layout_in (Some names.Ignored) = None
-layout_in (Some names.Unsupported) = None
+layout_in _ = None
 
 unfoldable pub layout_request : List ℕ → Option LayoutRequest
 layout_request name = layout_in (request_of name)

@@ -1,5 +1,5 @@
 -- What the arguments of `Bd`, `Bf` and `Bl` open, and what they lack. Source: mdoc(7), `Bd`, `Bf`, `Bl`.
-use Rattle.std.specs.Prelude.{Option, None, Some, ℕ, List, Bool, true, false, [], ◌∷◌, codes, if◌then◌else◌}
+use Rattle.std.specs.Prelude.{Option, None, Some, ℕ, List, Bool, true, false, [], ◌∷◌, codes, if◌then◌else◌, unwrap_or}
 use Rattle.std.specs.Str.{bytes_eq}
 use Rattle.page_core_base.specs.declared.cells.Font.{Font}
 use Rattle.page_core_base.specs.declared.cells.Font.TheVariants.{R, B, I}
@@ -16,22 +16,14 @@ use Rattle.page_sets_mdoc_blocks.specs.declared.displays.DisplayOptions.{Display
 
 -- ---- The list that `Bl` opens, and what its arguments lack. Source: mdoc(7), `Bl`.
 
--- without a type it is `-item`
-abbrev pub kind_or_item : Option ListKind → ListKind
-kind_or_item None = kinds.Item
-kind_or_item (Some kind) = kind
-
--- what is to be read of its arguments when it begins goes with it
+-- without a type it is `-item`; what is to be read of its arguments when it begins goes with it
 abbrev pub list_opener : ListOptions (List ℕ) → List ℕ → BlockOpener (List ℕ)
-list_opener options rest = openers.List (kind_or_item options.kind) options.is_compact rest
-
-abbrev pub width_note : ListKind → Option (Argument (List ℕ)) → Option NoteKind
-width_note kinds.Tag None = Some MissingWidth
-width_note _ _ = None
+list_opener options rest = openers.List (unwrap_or options.kind kinds.Item) options.is_compact rest
 
 abbrev pub kind_note : Option ListKind → Option (Argument (List ℕ)) → Option NoteKind
 kind_note None width = Some NoListType
-kind_note (Some kind) width = width_note kind width
+kind_note (Some kinds.Tag) None = Some MissingWidth
+kind_note _ _ = None
 
 -- a list without a type is told of, and `-tag` without a width
 abbrev pub list_note : ListOptions (List ℕ) → Option NoteKind
@@ -75,17 +67,10 @@ abbrev pub options_after : DisplayOptions (List ℕ) → List (Argument (List �
 options_after so_far [] = so_far
 options_after so_far (word ∷ words) = options_after (option_read so_far word) words
 
--- without a type rows are filled
-abbrev pub is_kept : Option Bool → Bool
-is_kept None = false
-is_kept (Some is_literal) = is_literal
-
-abbrev pub display_opener : DisplayOptions (List ℕ) → BlockOpener (List ℕ)
-display_opener options = openers.Display (is_kept options.is_literal) options.is_compact options.offset
-
--- the display that `Bd` opens with these arguments
+-- the display that `Bd` opens with these arguments; without a type its rows are filled
 abbrev pub display : List (Argument (List ℕ)) → BlockOpener (List ℕ)
-display words = display_opener (options_after no_options words)
+display words =
+    let options = options_after no_options words in openers.Display (unwrap_or options.is_literal false) options.is_compact options.offset
 
 -- ---- `Bf`
 

@@ -1,9 +1,8 @@
 -- What a macro that begins a line does before its words. Source: mdoc(7).
 use Rattle.std.specs.List.{list_any}
-use Rattle.std.specs.Prelude.{Bool, true, false, ℕ, List, [], ◌∷◌, Option, None, Some, ◌++◌, unwrap_or, codes, ◌-◌, ◌&&◌, if◌then◌else◌}
+use Rattle.std.specs.Prelude.{Bool, true, false, ℕ, List, [], ◌∷◌, Option, None, Some, ◌++◌, unwrap_or, codes, ◌-◌, ◌&&◌, if◌then◌else◌, is_some}
 use Rattle.std.specs.Str.{bytes_eq}
 use Rattle.page_core_base.specs.Texts.{Line}
-use Rattle.page_core_base.specs.declared.cells.Font.{Font}
 use Rattle.page_core_base.specs.declared.note_kinds.NoteKind.{NoteKind}
 use Rattle.page_core_base.specs.declared.note_kinds.NoteKind.TheVariants.{Unterminated, UnknownFont, EmptyMacro}
 use Rattle.page_core_base.specs.declared.places.Place.{Place}
@@ -125,13 +124,9 @@ note_events line None = []
 note_events line (Some kind) = at_name line (kinds.Note kind (note_detail kind line) (note_is_quoted kind line) true) ∷ []
 
 -- a font that is not known is told of
-abbrev pub note_unless_known : Option Font → Option NoteKind
-note_unless_known None = Some UnknownFont
-note_unless_known (Some font) = None
-
 abbrev pub block_note : Block → Line → Option NoteKind
 block_note blocks.List line = list_note (list_options (line_arguments line))
-block_note blocks.Fonts line = note_unless_known (given_font (first_text line))
+block_note blocks.Fonts line = if is_some (given_font (first_text line)) then None else Some UnknownFont
 block_note _ line = None
 
 abbrev pub begin_front : Block → Line → List (Event (List ℕ))

@@ -92,9 +92,6 @@ pub record LineParts : Type 0 where
   pub calls : List Call
   pub tail : List (Argument (List ℕ))
 
-abbrev pub no_parts : LineParts
-no_parts = record { taken = None; words = []; calls = []; tail = [] }
-
 abbrev pub tail_alone : List (Argument (List ℕ)) → LineParts
 tail_alone tail = record { taken = None; words = []; calls = []; tail = tail }
 
@@ -125,7 +122,7 @@ takes (Some inline) word = takes_next inline word
 
 -- the parts of what is left of a line, after the macro that has just begun, if one has; its words may call or not
 abbrev pub parts : Option Inline → Bool → List (Argument (List ℕ)) → LineParts
-parts begun parsed [] = no_parts
+parts begun parsed [] = tail_alone []
 parts begun parsed (word ∷ words) =
     if takes begun word then taken_first word (parts None parsed words)
     else if list_all is_closing (word ∷ words) then tail_alone (word ∷ words)

@@ -154,15 +154,12 @@ arguments place [] = []
 arguments place (word ∷ words) =
     printed_word place.line (Some I) word ∷ (if is_real word then more_arguments place words else arguments place words)
 
-abbrev pub arguments_begin : Place → Event (List ℕ)
-arguments_begin place = generated_word place owns.OpenParenthesis None Glued Glued
-
 -- the name of the function, and then its arguments
 abbrev pub function_words : Place → List (Argument (List ℕ)) → List (Event (List ℕ))
 function_words place [] = []
 function_words place (word ∷ words) =
     printed_word place.line (Some B) word
-    ∷ (if is_real word then arguments_begin place ∷ arguments place words else function_words place words)
+    ∷ (if is_real word then generated_word place owns.OpenParenthesis None Glued Glued ∷ arguments place words else function_words place words)
 
 -- the closing delimiters at the end come after the parentheses, and after what ends the function in the SYNOPSIS
 abbrev pub function_end : Place → List (Argument (List ℕ)) → List (Event (List ℕ))
@@ -180,14 +177,11 @@ next_arguments place (word ∷ words) =
     if is_real word then step_event place steps.NextArgument ∷ printed_word place.line (Some I) word ∷ next_arguments place words
     else printed_word place.line None word ∷ next_arguments place words
 
-abbrev pub opens_function : Place → Argument (List ℕ) → Event (List ℕ)
-opens_function place name = event_at place (kinds.Open (begins.Block (openers.Function name)))
-
 -- the first word that is no delimiter is the name of a function that goes on over lines
 abbrev pub function_opened : Place → List (Argument (List ℕ)) → List (Event (List ℕ))
 function_opened place [] = []
 function_opened place (word ∷ words) =
-    if is_real word then opens_function place word ∷ printed place.line None words
+    if is_real word then event_at place (kinds.Open (begins.Block (openers.Function word))) ∷ printed place.line None words
     else printed_word place.line None word ∷ function_opened place words
 
 -- ---- `Bsx Dx Fx Nx Ox Ux Bx`
@@ -246,12 +240,9 @@ abbrev pub author : Place → List ℕ → Option (Argument (List ℕ)) → List
 author place name None words = with_words place name words (printed place.line (Some R) words)
 author place name (Some option) words = missing_quote place.line option ++ printed place.line (Some R) words
 
-abbrev pub prefix_word : ℕ → Argument (List ℕ) → Event (List ℕ)
-prefix_word number word = word_event number roles.Argument None Apart Glued word
-
 abbrev pub prefix : Place → List ℕ → Option (Argument (List ℕ)) → List (Argument (List ℕ)) → List (Event (List ℕ))
 prefix place name None words = refused place name words
-prefix place name (Some word) words = prefix_word place.line word ∷ printed place.line None words
+prefix place name (Some word) words = word_event place.line roles.Argument None Apart Glued word ∷ printed place.line None words
 
 -- ---- enclosures
 

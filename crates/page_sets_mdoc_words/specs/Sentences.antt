@@ -125,12 +125,9 @@ end_join _ = Apart
 abbrev pub end_word : Place → (all : NameCount) → GeneratedText → Event (List ℕ)
 end_word place all text = generated_word place text None (end_join all) Apart
 
-abbrev pub mark_word : Place → GeneratedText → Event (List ℕ)
-mark_word place text = generated_word place text None Glued Parted
-
 abbrev pub marked : Place → Option GeneratedText → List (Event (List ℕ)) → List (Event (List ℕ))
 marked place None events = events
-marked place (Some text) events = mark_word place text ∷ events
+marked place (Some text) events = generated_word place text None Glued Parted ∷ events
 
 -- before the last of several names
 abbrev pub joined : Place → NameCount → List (Event (List ℕ)) → List (Event (List ℕ))

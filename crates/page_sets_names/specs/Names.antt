@@ -128,13 +128,11 @@ generated_role text = (row_of text).role
 
 abbrev pub is_word : Role → Bool
 is_word Mark = false
-is_word Word = true
-is_word Sentence = true
+is_word _ = true
 
 abbrev pub ends_sentence : Role → Bool
-ends_sentence Mark = false
-ends_sentence Word = false
 ends_sentence Sentence = true
+ends_sentence _ = false
 
 abbrev pub generated_is_word : GeneratedText → Bool
 generated_is_word text = is_word (generated_role text)
