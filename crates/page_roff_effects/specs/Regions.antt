@@ -17,7 +17,7 @@ use Rattle.page_roff_values.specs.Values.{lines_in, expanded}
 use Rattle.page_roff_definitions.specs.Definitions.{with_line, settles}
 use Rattle.page_roff_definitions.specs.Definitions as defining
 use Rattle.page_roff_effects.specs.Lines.{called_body, after_expansion, defines}
-use Rattle.page_roff_effects.specs.States.{Memory, Outcome, nothing, after_notes, reports_at, with_body, reports, Setting, surroundings, gives_line, at, note_at}
+use Rattle.page_roff_effects.specs.States.{Memory, Outcome, nothing, after_notes, reports_at, with_body, reports, Setting, surroundings, gives_line, at, note_at, loop_product}
 
 -- ---- What the heads and the lines of regions do. Source: roff(7), "de", "am", "ig"; mandoc(1), "unsupported".
 
