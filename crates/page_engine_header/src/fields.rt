@@ -141,7 +141,7 @@ fn report_cut<O: PieceOut>(out: &mut O, place: Place, len: usize)
 
 // Reports the arguments of `TH` that are cut as fields.
 fn report_title<O: PieceOut>(out: &mut O, place: Place, arguments: Arguments<'_>)
-    ensures { Came O.left out.old (flat_map (argument_cut place) (take fields.FIELDS arguments.entry)) out.new }
+    ensures { Came O.left out.old (flat_map (argument_cut place) (take 5 arguments.entry)) out.new }
 {
     let mut arguments = arguments;
     let mut left = FIELDS;

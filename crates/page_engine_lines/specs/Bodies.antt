@@ -40,14 +40,10 @@ title_fields has_begun name os rest fields =
 
 -- ---- The language of a page: the set of macros that its lines are of. Source: mandoc(1), -m; man(7), TH; mdoc(7), Dd.
 
--- a macro is of man(7), but `Dd` is of mdoc(7)
-abbrev pub macro_language : List ℕ → Either
-macro_language name = if bytes_eq name (codes "Dd") then Mdoc else Man
-
 -- a control line without a name, or of a request that changes rows, is of both
 abbrev pub control_language : Line → Option Either
 control_language line =
-    if is_nameless line || is_some (layout_request (name_of line)) then None else Some (macro_language (name_of line))
+    if is_nameless line || is_some (layout_request (name_of line)) then None else Some (if bytes_eq (name_of line) (codes "Dd") then Mdoc else Man)
 
 -- text with a word, and a line as it is written, are of man(7)
 abbrev pub form_language : Line → Option PlainLine → Option Either

@@ -6,7 +6,7 @@ use Rattle.page_core_base.specs.declared.note_kinds.NoteKind.{NoteKind}
 use Rattle.page_core_base.specs.declared.note_kinds.NoteKind.TheVariants.{UnknownMacro, EmptyMacro}
 use Rattle.page_roff_syntax.specs.declared.quotes.Argument.{Argument}
 use Rattle.page_roff_syntax.specs.declared.requests.LayoutRequest.{LayoutRequest}
-use Rattle.page_sets_lines.specs.Lines.{name_end, name_of, name_place, is_nameless, is_unclosed, layout_request, plain_line, word_place}
+use Rattle.page_sets_lines.specs.Lines.{name_end, name_of, name_place, is_nameless, is_unclosed, layout_request, plain_line, word_place, rest_of}
 use Rattle.page_sets_lines.specs.declared.events.Event.{Event}
 use Rattle.page_sets_lines.specs.declared.events.EventKind.{EventKind}
 use Rattle.page_sets_lines.specs.declared.line_steps.SynopsisStep.TheVariants.{Break}
@@ -15,16 +15,17 @@ use Rattle.page_sets_mdoc_lines.specs.declared.blocks.LineMacro.{LineMacro}
 use Rattle.page_sets_mdoc_lines.specs.declared.blocks.LineMacro.TheVariants as lines
 use Rattle.page_sets_mdoc_lines.specs.declared.macros.Inline.{Inline}
 use Rattle.page_sets_mdoc_lines.specs.Parts.{Call, LineParts, has_calls, if_parsed, part_first, parts, tail_alone, takes, closes, is_closing, word_call, word_delimiter, delimiter_of}
-use Rattle.page_roff_syntax.specs.Arguments.{is_quoted}
+use Rattle.page_roff_syntax.specs.Arguments.{is_quoted, has_arguments}
 use Rattle.page_roff_syntax.specs.declared.quotes.Quoting.{Quoting}
 use Rattle.page_roff_syntax.specs.declared.quotes.Quoting.TheVariants.{Bare, Closed, Unclosed}
 use Rattle.std.specs.List.{list_all}
 use Rattle.page_sets_mdoc_lines.specs.Rows.{called, line_macro, is_parsed, row_of}
-use Rattle.page_sets_mdoc_blocks.specs.Fronts.{block_front, block_note, field_front, given_names, has_real_word, include_front, is_standard, kind_at_name, line_arguments, missing_quote, note_events, option_quote, quote_events, spacing_kind, spacing_of, first_text}
-use Rattle.page_sets.specs.Mdoc.{calls_events, control_events, field_font, head_events, include_words, lacks_words, line_events, line_parts, macro_events, mdoc_events, named_events, phrase_events, refused_events, request_events, rest_events, tail_events, words_events}
+use Rattle.page_sets_mdoc_blocks.specs.Fronts.{block_front, block_note, field_front, given_names, has_real_word, include_front, is_standard, kind_at_name, line_arguments, missing_quote, note_events, option_quote, quote_events, spacing_kind, spacing_of, first_text, has_phrase}
+use Rattle.page_sets.specs.Mdoc.{calls_events, control_events, field_font, head_events, include_words, line_events, line_parts, macro_events, mdoc_events, named_events, phrase_events, refused_events, request_events, rest_events, tail_events, words_events}
 use Rattle.page_laws.specs.Places.{IsInLine, AreAll}
 use Rattle.page_laws.proofs.PlaceLemmas.{AreAll-append, either_at, AnyAt, Sits, SitsIfGiven, AllSit, IsAtIfGiven, open_at, all_sit, start_in, name_in}
 use Rattle.page_laws.proofs.MdocWordPlaceLemmas.{printed_at, framed_at, placed_at, include_at, sentence_at}
+use Rattle.std.specs.Prelude.{◌&&◌, not}
 
 -- ---- words that call, and delimiters, have bytes
 
@@ -241,7 +242,7 @@ refused_at kind line p = (p _, (start_in line _, tt))
 
 macro_at : (begins : LineMacro) (line : Line) → AnyAt (IsInLine line) (name_place line) → AreAll (IsInLine line) (macro_events begins line)
 macro_at begins line p =
-    either_at (IsInLine line) (lacks_words begins line) _ _ (refused_at EmptyMacro line p)
+    either_at (IsInLine line) (has_phrase begins && not (has_arguments (rest_of line))) _ _ (refused_at EmptyMacro line p)
     (AreAll-append (IsInLine line) _ _ (front_at begins line p) (AreAll-append (IsInLine line) _ _ (words_at begins line p) (start_in line _, tt)))
 
 request_at : (request : Option LayoutRequest) (line : Line) → AnyAt (IsInLine line) (name_place line) → AreAll (IsInLine line) (request_events request line)

@@ -56,9 +56,6 @@ head_part head guarded =
 abbrev pub conditional_part : (Condition (List ℕ) → Branch (List ℕ)) → ℕ → Conditional (List ℕ) → Part (List ℕ)
 conditional_part branch column read = head_part (record { column = column; branch = branch read.condition }) read.guarded
 
-abbrev pub else_part : ℕ → Guarded (List ℕ) → Part (List ℕ)
-else_part column guarded = head_part (record { column = column; branch = Else }) guarded
-
 -- The head of a loop. With a block, all that follows it on its line is its body as yet, and a remainder too. Without
 -- one, nothing follows the loop on its line.
 abbrev pub loop_part_if : Bool → LoopRead (List ℕ) → Part (List ℕ)
@@ -94,7 +91,7 @@ raw_rest line column = drop (column - 1) line
 abbrev pub keyword_part : Keyword → List ℕ → ℕ → List ℕ → ℕ → Part (List ℕ)
 keyword_part keywords.If line column rest rest_column = conditional_part If column (conditional_of rest_column (raw_rest line rest_column))
 keyword_part keywords.IfElse line column rest rest_column = conditional_part IfElse column (conditional_of rest_column (raw_rest line rest_column))
-keyword_part keywords.Else line column rest rest_column = else_part column (guarded_of rest_column (raw_rest line rest_column))
+keyword_part keywords.Else line column rest rest_column = head_part (record { column = column; branch = Else }) (guarded_of rest_column (raw_rest line rest_column))
 keyword_part keywords.While line column rest rest_column = loop_part (loop_of rest_column (raw_rest line rest_column))
 keyword_part (keywords.Region kind) line column rest rest_column =
     record { line_part = Region (region_head kind column rest_column rest); is_end = false; rest = None }

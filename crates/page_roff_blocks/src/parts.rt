@@ -7,9 +7,9 @@ ghost use Rattle.page_roff_syntax.specs.laws.Views.{name_of, text_view};
 ghost use Rattle.page_roff_heads.specs.Heads.{conditional_of, guarded_of};
 ghost use Rattle.page_roff_heads.specs.laws.Views.{guarded_view, FitsGuarded, loop_view, FitsLoop, remainder_view};
 ghost use Rattle.page_roff_blocks.specs.declared.line_parts.LinePart.TheVariants.{Leaf};
-ghost use Rattle.page_roff_blocks.specs.declared.line_parts.Branch.TheVariants.{If, IfElse};
+ghost use Rattle.page_roff_blocks.specs.declared.line_parts.Branch.TheVariants.{If, IfElse, Else};
 ghost use Rattle.page_roff_blocks.specs.laws.Views.{head_view, part_view, IsWithin, FitsBranch, FitsRest, FitsPart, columns_of, named_part};
-ghost use Rattle.page_roff_blocks.specs.Parts.{line_parts, keyword_of, rest_text, head_part, conditional_part, else_part, loop_part, end_part, plain_part, written_part};
+ghost use Rattle.page_roff_blocks.specs.Parts.{line_parts, keyword_of, rest_text, head_part, conditional_part, loop_part, end_part, plain_part, written_part};
 ghost use Rattle.page_roff_blocks.specs.declared.parts.Keyword.TheVariants as keywords;
 
 use crate::line_parts::{Branch, Head, LinePart, Opening};
@@ -241,7 +241,7 @@ fn if_else_part(raw_rest: &[u8], column: u32, rest_column: u32) -> Part<&[u8]>
 fn else_part(raw_rest: &[u8], column: u32, rest_column: u32) -> Part<&[u8]>
     requires short { length raw_rest.now ≤ LINE }
     requires room { rest_column + length raw_rest.now ≤ LINE + 1 }
-    ensures value { part_view result ≡ else_part column (guarded_of rest_column raw_rest.now) }
+    ensures value { part_view result ≡ head_part (record { column = column; branch = Else }) (guarded_of rest_column raw_rest.now) }
     ensures fits { FitsPart (part_view result) }
 {
     let branch = Branch::Else;

@@ -129,12 +129,8 @@ bad_notes number column [] = []
 bad_notes number column (c ∷ cs) =
     notes_of number column c ++ bad_notes number (column + length (bytes_of c)) cs
 
--- the message about a line that has more than its limit
-abbrev pub limit_note : ℕ → Message
-limit_note number = record { kind = Limit; line = number; column = 1; detail = name_of LineLimit }
-
 abbrev pub limit_notes : Bool → ℕ → List Message
-limit_notes cut number = if cut then limit_note number ∷ [] else []
+limit_notes cut number = if cut then record { kind = Limit; line = number; column = 1; detail = name_of LineLimit } ∷ [] else []
 
 -- what the first byte above 0x7F of a text decides; none decides nothing
 unfoldable pub choice_of : List ℕ → Encoding

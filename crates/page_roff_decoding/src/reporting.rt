@@ -3,7 +3,10 @@ ghost use Rattle.std.specs.Prelude.{◌≡◌, ℕ, ◌+◌, ◌<◌, List, ◌+
 ghost use Rattle.std.specs.Char.{digit_char};
 ghost use Rattle.page_core_base.specs.laws.Views.{Gives, FailsAs, message_of};
 ghost use Rattle.page_roff_decoding.specs.machine.Fronts.{as_character};
-ghost use Rattle.page_roff_decoding.specs.Decoding.{bad_character as spec_bad_character, limit_note as spec_limit_note, notes_of, bad_notes, limit_notes, line_characters};
+ghost use Rattle.page_roff_decoding.specs.Decoding.{bad_character as spec_bad_character, notes_of, bad_notes, limit_notes, line_characters};
+ghost use Rattle.page_core_base.specs.declared.note_kinds.NoteKind.TheVariants.{Limit as spec_Limit};
+ghost use Rattle.page_core_base.specs.Limits.{name_of};
+ghost use Rattle.page_core_base.specs.declared.limits.Limit.TheVariants.{Line as LineLimit};
 
 use crate::characters::Front;
 use crate::texts::text_within;
@@ -35,7 +38,7 @@ fn bad_character(number: u32, column: u32, byte: u8) -> Note
 
 // The message about a line that has more than its limit.
 fn limit_note(number: u32) -> Note
-    ensures { message_of result ≡ spec_limit_note number }
+    ensures { message_of result ≡ record { kind = spec_Limit; line = number; column = 1; detail = name_of LineLimit } }
 {
     let place = Place {
         line: number,

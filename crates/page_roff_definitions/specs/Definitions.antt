@@ -84,13 +84,10 @@ pub record Outcome : Type 0 where
 abbrev pub outcome : Definitions → List Message → Outcome
 outcome definitions notes = record { definitions = definitions; notes = notes }
 
-abbrev pub limit_notes : Place → Limit → List Message
-limit_notes place limit = message_about kinds.Limit place (name_of limit) ∷ []
-
 -- a definition that passes a limit is reported, and all stays
 abbrev pub settled : Option Limit → Definitions → Place → Definitions → Outcome
 settled None wanted place old = outcome wanted []
-settled (Some limit) wanted place old = outcome old (limit_notes place limit)
+settled (Some limit) wanted place old = outcome old (message_about kinds.Limit place (name_of limit) ∷ [])
 
 abbrev pub settles : List ℕ → List ℕ → Definitions → Place → Definitions → Outcome
 settles name value wanted place old = settled (refusal name value wanted) wanted place old
@@ -99,9 +96,6 @@ settles name value wanted place old = settled (refusal name value wanted) wanted
 
 abbrev pub defines_string : List ℕ → List ℕ → Place → Definitions → Outcome
 defines_string name value place old = settles name value (with_text name (definition String value) old) place old
-
-abbrev pub appends_string : List ℕ → List ℕ → Place → Definitions → Outcome
-appends_string name more place old = defines_string name (unwrap_or (string_of name old) [] ++ more) place old
 
 -- a name without a definition is passed over
 abbrev pub renames_found : Option Definition → List ℕ → List ℕ → Place → Definitions → Outcome
@@ -178,7 +172,7 @@ ds column rest (name ∷ more) place old =
 abbrev pub as_request : ℕ → List ℕ → List (Argument (List ℕ)) → Place → Definitions → Outcome
 as_request column rest [] place old = outcome old []
 as_request column rest (name ∷ more) place old =
-    if_named name.text (appends_string (argument_name name) (value_after column rest name) place old) old
+    if_named name.text (defines_string (argument_name name) (unwrap_or (string_of (argument_name name) old) [] ++ value_after column rest name) place old) old
 
 -- arguments without their last quote are reported first, but not of strings
 abbrev pub does : DefinitionRequest → ℕ → List ℕ → List (Argument (List ℕ)) → Place → Definitions → Outcome

@@ -1,9 +1,13 @@
 //! The requests that define strings and number registers, and take definitions away (roff(7)).
 
-ghost use Rattle.std.specs.Prelude.{◌≡◌, ◌≤◌, ◌+◌, length};
+ghost use Rattle.std.specs.Prelude.{◌≡◌, ◌≤◌, ◌+◌, length, [], ◌∷◌, ◌++◌, unwrap_or};
 ghost use Rattle.page_core_base.specs.declared.limits.TheConstants.{LINE};
 ghost use Rattle.page_roff_syntax.specs.Arguments.{arguments};
+ghost use Rattle.page_core_base.specs.Limits.{name_of};
+ghost use Rattle.page_core_base.specs.Messages.{message_about};
+ghost use Rattle.page_core_base.specs.declared.note_kinds.NoteKind.TheVariants as kinds;
 ghost use Rattle.page_core_base.specs.laws.Views.{Came};
+ghost use Rattle.page_roff_names.specs.Names.{string_of};
 ghost use Rattle.page_roff_definitions.specs.Definitions.{first_text};
 ghost use Rattle.page_roff_definitions.specs.Definitions as defining;
 ghost use Rattle.page_roff_definitions.specs.laws.Views.{Does, FitsRequest};
@@ -36,7 +40,7 @@ pub struct RequestLine<'a> {
 
 // Reports a limit that a definition would pass.
 fn report_limit<O: NoteOut>(limit: Limit, place: Place, out: &mut O)
-    ensures { Came O.left out.old (defining.limit_notes place limit) out.new }
+    ensures { Came O.left out.old (message_about kinds.Limit place (name_of limit) ∷ []) out.new }
 {
     out.report(&Note::about(NoteKind::Limit, place, limit.name().as_bytes()));
 }
@@ -60,7 +64,7 @@ fn define_string<O: NoteOut>(
 // Appends to a string.
 fn append_string<O: NoteOut>(name: &[u8], more: &[u8], place: Place, names: &mut Names, out: &mut O)
     ensures { Does O.left out.old out.new names.new
-        (defining.appends_string name.now more.now place names.old) }
+        (defining.defines_string name.now (unwrap_or (string_of name.now names.old) [] ++ more.now) place names.old) }
 {
     if let Err(limit) = names.append_string(name, more) {
         report_limit(limit, place, out);

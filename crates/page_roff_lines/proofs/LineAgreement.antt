@@ -1,6 +1,6 @@
 -- The decoded lines of a page are those that its bytes give one by one.
 use Rattle.std.proofs.Common.{◌≡◌, ℕ, Bool, true, false, cond, List, [], ◌∷◌, ◌++◌, map, take, refl, sym, ap, ◌∙◌, append_assoc, inl, inr}
-use Rattle.std.specs.Prelude.{◌==◌, nat_lt, nat_eq}
+use Rattle.std.specs.Prelude.{◌==◌, nat_lt, nat_eq, if◌then◌else◌}
 use lib.Pointwise.{pointwise}
 use borrow.Author.Tests.{ne_eqb}
 use Rattle.std.proofs.lemmas.Bool.Decides.{eqb_tells}
@@ -12,7 +12,7 @@ use Rattle.page_roff_lines.specs.declared.Mode.TheVariants.{Plain, Backslash, Co
 use Rattle.page_roff_lines.specs.declared.Mark.{Mark}
 use Rattle.page_roff_lines.specs.declared.Mark.TheVariants.{Unread, First, Second, Absent, Present}
 use Rattle.page_roff_lines.specs.laws.Views.{newline}
-use Rattle.page_roff_lines.specs.Lines.{hash, Kept, kept_lines, has_mark, Line, decode_line, or_else, choice_of_lines, page_encoding, lines}
+use Rattle.page_roff_lines.specs.Lines.{hash, Kept, kept_lines, has_mark, Line, decode_line, or_else, choice_of_lines, lines}
 use Rattle.page_roff_lines.specs.machine.Open.{Open, first_open, restart, close, count_byte, put, put_plain, put_pair, put_in, put_byte, ends_mark, mark_after, is_marked, next_open, end_open, end_in, kept_of, if_whole, whole_lines, open_after, lines_from as raw_lines_from}
 use Rattle.page_roff_lines.specs.machine.Run.{is_settled}
 use Rattle.page_roff_lines.specs.laws.Cutting.{Point, first_point, encoding_after, point_at, next_point, end_point, line_at, lines_within, point_after, lines_from, IsAfter, IsFed}
@@ -65,7 +65,7 @@ first_decides k ks rest Auto h =
     head ∙ ap (λ ls. decode_line e k ∷ ls) rest
 
 -- the encoding of the page is that of each line, as far as the line depends on it
-decode_all-page : (e : Encoding) (m : Bool) (ks : List Kept) → decode_all e m ks ≡ map (decode_line (page_encoding e m ks)) ks
+decode_all-page : (e : Encoding) (m : Bool) (ks : List Kept) → decode_all e m ks ≡ map (decode_line (or_else e (if m then Utf8 else choice_of_lines ks))) ks
 decode_all-page Ascii m ks = known Ascii m ks (λ c. refl)
 decode_all-page Latin1 m ks = known Latin1 m ks (λ c. refl)
 decode_all-page Utf8 m ks = known Utf8 m ks (λ c. refl)

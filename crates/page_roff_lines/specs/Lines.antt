@@ -115,14 +115,9 @@ abbrev pub choice_of_lines : List Kept → Encoding
 choice_of_lines [] = Auto
 choice_of_lines (k ∷ ks) = or_else (choice_of k.text) (choice_of_lines ks)
 
--- the encoding of a page: the one that is set, or that of its byte order mark,
--- or what its first byte above 0x7F decides
-abbrev pub page_encoding : Encoding → Bool → List Kept → Encoding
-page_encoding set marked ks = or_else set (if marked then Utf8 else choice_of_lines ks)
-
 -- the lines of a page
 abbrev pub lines : Encoding → List ℕ → List Line
-lines set bytes = map (decode_line (page_encoding set (has_mark bytes) (kept_lines bytes))) (kept_lines bytes)
+lines set bytes = map (decode_line (or_else set (if (has_mark bytes) then Utf8 else choice_of_lines (kept_lines bytes)))) (kept_lines bytes)
 
 -- ---- The lines of a page that are whole: what some of its bytes have given for good, whatever follows them.
 

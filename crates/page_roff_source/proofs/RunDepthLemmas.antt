@@ -18,7 +18,7 @@ use Rattle.page_roff_effects.specs.machine.Effects.{effects, done_after, setting
 use Rattle.page_roff_effects.specs.Regions.{close_outcome, repeats_text, condition_in, body_in, finish_outcome, line_outcome, end_outcome}
 use Rattle.page_roff_effects.specs.States as states
 use Rattle.page_roff_effects.specs.laws.Views as states_laws
-use Rattle.page_roff_source.specs.Runs.{SourceLine, State, after, spend, reread, page_line, body_line, Around, At, gather_some, test, run_product, runs_at}
+use Rattle.page_roff_source.specs.Runs.{SourceLine, State, after, spend, reread, page_line, Around, At, gather_some, test, run_product, runs_at}
 use Rattle.page_roff_source.specs.machine.Given.{head_of}
 use Rattle.page_roff_source.specs.Runs as runs
 use Rattle.page_roff_source.proofs.RunLemmas.{Old, new, met, at, meets_new, Alike, lines_law}
@@ -100,7 +100,7 @@ module _ (units : List ℕ → ℕ) where
   unopened_body args true b = refl
   unopened_body args false b = refl
 
-  body_alike : (depth : ℕ) (args : Option (List (List ℕ))) → DoesSo depth (body args) → Alike (λ t. t) body_line (around depth args) (inside depth (body args))
+  body_alike : (depth : ℕ) (args : Option (List (List ℕ))) → DoesSo depth (body args) → Alike (λ t. t) (λ text. reread) (around depth args) (inside depth (body args))
   unfolding langs.meaning_by language budgets.meaning budgets.begin_line budgets.test budgets.read_line budgets.end_line test after with_rest effects tested_after
   body_alike depth args so = record {
     begins = λ x b. reread_law b;
@@ -127,7 +127,7 @@ module _ (units : List ℕ → ℕ) where
       → runs.run_body (around depth args) lines (new b) ≡ new (langs.run_body lang (inside depth (body args)) lines b)
   unfolding runs.run_body langs.run_body finish_at language with_rest effects after
   body_law depth args so lines b =
-      ap ended_at (lines_law (λ t. t) body_line (around depth args) (inside depth (body args)) (body_alike depth args so) lines
+      ap ended_at (lines_law (λ t. t) (λ text. reread) (around depth args) (inside depth (body args)) (body_alike depth args so) lines
       (record { place = first_place; state = b }))
 
   module _ (depth : ℕ) (args : Option (List (List ℕ))) (so : DoesSo depth (body args)) (condition : List ℕ) (lines : List (List ℕ)) where

@@ -94,9 +94,6 @@ abbrev pub given_suffix : ℕ → Option (Argument (List ℕ)) → Formatting �
 given_suffix line None s = nothing s
 given_suffix line (Some argument) s = line_word line (argument_word None Glued argument) s
 
-abbrev pub suffix : ℕ → Closer (List ℕ) → Formatting → Outcome
-suffix line closer s = given_suffix line (closer_suffix closer) s
-
 -- before the body requests, blank lines and lines without a word give nothing
 abbrev pub is_early : Leaf (List ℕ) → (has_begun : Bool) → Bool
 is_early leaves.BlankLine has_begun = not has_begun
@@ -105,7 +102,7 @@ is_early (leaves.Request request) has_begun = not has_begun
 is_early _ has_begun = false
 
 abbrev pub kind_stands : Place → EventKind (List ℕ) → Option KeptText → (has_begun : Bool) → Formatting → Outcome
-kind_stands place (kinds.Close closer) name has_begun s = suffix place.line closer s
+kind_stands place (kinds.Close closer) name has_begun s = given_suffix place.line (closer_suffix closer) s
 kind_stands place (kinds.Leaf leaf) name has_begun s =
     if is_early leaf has_begun then nothing s else kind_outcome place (kinds.Leaf leaf) name s
 kind_stands place kind name has_begun s = kind_outcome place kind name s

@@ -152,7 +152,7 @@ fn closer_suffix<'a>(closer: &Closer<&'a [u8]>) -> Option<Argument<&'a [u8]>>
 #[inline(never)]
 fn give_suffix<O: PieceOut>(out: &mut O, line: u32, closer: &Closer<&[u8]>, state: &mut Formatting)
     requires { CloserFits (closer_view closer.now) }
-    ensures { GivesOutcome O.left out.old (bodies.suffix line (closer_view closer.now) state.old) out.new state.new }
+    ensures { GivesOutcome O.left out.old (bodies.given_suffix line (bodies.closer_suffix (closer_view closer.now)) state.old) out.new state.new }
 {
     if let Some(suffix) = closer_suffix(closer) {
         let word = argument_word(None, Join::Glued, suffix);

@@ -26,10 +26,10 @@ use Rattle.page_scopes_labels.specs.declared.labels.Explicit.TheVariants.{Block}
 use Rattle.page_scopes_labels.specs.declared.labels.Label.{Label}
 use Rattle.page_scopes_labels.specs.declared.labels.Label.TheVariants as labels
 use Rattle.page_scopes_words.specs.Widths.{name_columns}
-use Rattle.page_scopes_layout.specs.Contexts.{display_begun, font_if_given, function_begun, reference_begun, entered_context, MARGIN}
+use Rattle.page_scopes_layout.specs.Contexts.{display_begun, font_if_given, entered_context, MARGIN}
 use Rattle.page_scopes_layout.specs.Lists.{margin_items}
 use Rattle.page_scopes_layout.specs.declared.contexts.SeriesSoFar.{SeriesSoFar}
-use Rattle.page_scopes_layout.specs.declared.contexts.SeriesSoFar.TheVariants.{Begun}
+use Rattle.page_scopes_layout.specs.declared.contexts.SeriesSoFar.TheVariants.{Begun, Empty}
 use Rattle.page_scopes_phrases.specs.LineWords.{generated_word, own_word, argument_word, line_word}
 use Rattle.page_scopes_phrases.specs.Names.{function_end}
 use Rattle.page_scopes_phrases.specs.Phrases.{Outcome, own_phrase, phrase_outcome, nothing, followed_by, row_ended, after_notes, in_context, counting}
@@ -41,14 +41,10 @@ use Rattle.page_scopes_blocks.specs.Lists.{given_columns, given_notes}
 
 -- ---- where a scope begins
 
--- a dash is before a description (`Nd`)
-abbrev pub dash : Place → Formatting → Outcome
-dash place s = phrase_outcome place.line (own_phrase place (codes "\\(en") None Apart Apart) s
-
 -- `Aq Bq Brq Dq Op Pq Ql Qq Sq`, and `Nd`; the words of an enclosure are glued to its marks
 abbrev pub line_words : Place → LineOpener → Formatting → Outcome
 line_words place (lines.Enclosure marks) s = generated_word place (own_word (opening marks) Apart Glued) s
-line_words place lines.Description s = dash place s
+line_words place lines.Description s = phrase_outcome place.line (own_phrase place (codes "\\(en") None Apart Apart) s
 line_words place _ s = nothing s
 
 -- `Ao Bo Bro Do Oo Po Qo So`, and `Eo`, of which the mark is a word; no other block has one
@@ -96,12 +92,12 @@ display output place is_literal is_compact offset s =
 
 -- ---- all of them
 
--- `Bd`; `Bf`, whose words are in its font; `Rs`; `Fo`; the others print their marks
+-- `Bd`; `Bf`, whose words are in its font; `Rs`, which has no field yet; `Fo`, which has no argument yet; the others print their marks
 abbrev pub block_front : Output → Place → BlockOpener (List ℕ) → Formatting → Outcome
 block_front output place (openers.Display is_literal is_compact offset) s = display output place is_literal is_compact offset s
 block_front output place (openers.Fonts font) s = nothing (in_context (font_if_given font s.context) s)
-block_front output place openers.Reference s = nothing (in_context (reference_begun s.context) s)
-block_front output place (openers.Function name) s = function_name place name (in_context (function_begun s.context) s)
+block_front output place openers.Reference s = nothing (in_context (record s.context { fields = Empty }) s)
+block_front output place (openers.Function name) s = function_name place name (in_context (record s.context { arguments = Empty }) s)
 block_front output place opener s = block_words place opener s
 
 -- nothing is set in it yet
@@ -110,13 +106,9 @@ block_opened output place opener s = block_front output place opener (in_context
 
 -- ---- The columns of the words of `Nm` that begin a row of the SYNOPSIS: later rows are as many further in. Source: mdoc(7), `Nm`.
 
--- a word more, and the blank after it; they are held to as many as a margin
-abbrev pub columns_after : ℕ → ℕ → ℕ
-columns_after so_far columns = min (so_far + columns + 1) MARGIN
-
--- the words of a name are counted
+-- the words of a name are counted, each with the blank after it; their columns are held to as many as a margin
 abbrev pub counted : Option ℕ → Option ℕ → Formatting → Formatting
-counted (Some so_far) (Some columns) s = counting (Some (columns_after so_far columns)) s
+counted (Some so_far) (Some columns) s = counting (Some (min (so_far + columns + 1) MARGIN)) s
 counted _ _ s = s
 
 abbrev pub word_columns : Output → Role → Word (List ℕ) → Option ℕ

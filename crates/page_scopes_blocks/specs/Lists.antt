@@ -76,12 +76,10 @@ mark_of kinds.Hyphen number = Some (codes "-")
 mark_of kinds.Enum number = Some (decimal number ++ codes ".")
 mark_of _ number = None
 
-abbrev pub mark_place : OpenList → TagPlace
-mark_place list = record { margin = list.head; hang = hold (pos list.hang) }
-
 -- a mark is a tag of its item's text; in other lists the text is at its margin
 abbrev pub given_mark : Place → OpenList → Option (List ℕ) → Formatting → Outcome
-given_mark place list (Some mark) s = phrase_tag (mark_place list) place.line (own_phrase place mark None Apart Apart) s
+given_mark place list (Some mark) s =
+    phrase_tag (record { margin = list.head; hang = hold (pos list.hang) }) place.line (own_phrase place mark None Apart Apart) s
 given_mark place list None s = record { items = margin_items s.context; state = s }
 
 abbrev pub mark : Place → Option OpenList → Formatting → Outcome

@@ -8,7 +8,7 @@ ghost use Rattle.page_scopes_labels.specs.declared.labels.Label.TheVariants as l
 ghost use Rattle.page_scopes_phrases.specs.LineWords.{argument_word, own_word};
 ghost use Rattle.page_sets_lines.specs.laws.Views.{ArgumentFits, BlockOpenerFits, FitsAt, GivenFits};
 ghost use Rattle.page_scopes_phrases.specs.laws.Views.{GivesOutcome, phrase_view};
-ghost use Rattle.page_scopes_phrases.specs.Phrases.{own_phrase};
+ghost use Rattle.page_scopes_phrases.specs.Phrases.{own_phrase, phrase_outcome};
 ghost use Rattle.page_sets_lines.specs.laws.Events.{block_opener_view, given_view, word_view};
 ghost use Rattle.page_sets_lines.specs.declared.blocks.BlockOpener.TheVariants.{Custom};
 ghost use Rattle.page_sets_lines.specs.declared.events.Join.TheVariants.{Apart, Glued};
@@ -61,7 +61,7 @@ fn dash_phrase(place: Place) -> Phrase<&'static [u8]>
 
 // Gives the dash of `Nd`.
 fn give_dash<O: PieceOut>(out: &mut O, place: Place, state: &mut Formatting)
-    ensures { GivesOutcome O.left out.old (words.dash place state.old) out.new state.new }
+    ensures { GivesOutcome O.left out.old (phrase_outcome place.line (own_phrase place (codes "\\(en") None Apart Apart) state.old) out.new state.new }
 {
     give_phrase(out, place.line, &dash_phrase(place), state);
 }

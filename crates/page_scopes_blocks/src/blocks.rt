@@ -6,11 +6,11 @@ ghost use Rattle.page_roff_syntax.specs.laws.Views.{argument_view};
 ghost use Rattle.page_scopes_blocks.specs.Blocks.{function_name};
 ghost use Rattle.page_scopes_blocks.specs.Blocks as blocks;
 ghost use Rattle.page_scopes_blocks.specs.Lists.{given_columns, given_notes};
-ghost use Rattle.page_scopes_layout.specs.Contexts.{function_begun};
 ghost use Rattle.page_sets_lines.specs.laws.Views.{ArgumentFits, BlockOpenerFits, GivenFits};
 ghost use Rattle.page_scopes_phrases.specs.Phrases.{in_context};
 ghost use Rattle.page_scopes_phrases.specs.laws.Views.{GivesOutcome};
 ghost use Rattle.page_sets_lines.specs.laws.Events.{block_opener_view, given_view};
+ghost use Rattle.page_scopes_layout.specs.declared.contexts.SeriesSoFar.TheVariants.{Empty};
 
 use crate::block_words::{give_block_words, give_function_name};
 use page_core_base::{Output, Piece, PieceOut, Place};
@@ -78,7 +78,7 @@ fn begin_function<O: PieceOut>(
     state: &mut Formatting,
 )
     requires { ArgumentFits (argument_view name) }
-    ensures { GivesOutcome O.left out.old (function_name place (argument_view name.entry) (in_context (function_begun state.old.context) state.old))
+    ensures { GivesOutcome O.left out.old (function_name place (argument_view name.entry) (in_context (record state.old.context { arguments = Empty }) state.old))
         out.new state.new }
 {
     state.context = state.context.function_begun();

@@ -1,11 +1,12 @@
 //! Items of lists: their marks and numbers (mdoc(7), `Bl` and `It`).
 
-ghost use Rattle.std.specs.Prelude.{◌≡◌, ◌≤◌, ◌++◌, length, codes, decimal, None};
+ghost use Rattle.std.specs.Prelude.{◌≡◌, ◌≤◌, ◌++◌, length, codes, decimal, None, pos};
 ghost use Rattle.page_sets_lines.specs.laws.Views.{FitsAt};
 ghost use Rattle.page_scopes_phrases.specs.laws.Views.{GivesOutcome, phrase_view};
 ghost use Rattle.page_scopes_phrases.specs.Phrases.{own_phrase};
 ghost use Rattle.page_scopes_blocks.specs.Lists as items;
 ghost use Rattle.page_sets_lines.specs.declared.events.Join.TheVariants.{Apart};
+ghost use Rattle.page_scopes_layout.specs.Contexts.{hold as spec_hold};
 
 use crate::tags::{TagPlace, give_phrase_tag};
 use arrayvec::ArrayVec;
@@ -41,7 +42,7 @@ fn mark_phrase<'a>(place: Place, mark: &'a [u8]) -> Phrase<&'a [u8]>
 
 // Where the mark of the open item is.
 fn mark_place(list: &OpenList) -> TagPlace
-    ensures { result ≡ items.mark_place list.now }
+    ensures { result ≡ record { margin = list.now.head; hang = spec_hold (pos list.now.hang) } }
 {
     TagPlace {
         margin: list.head,

@@ -1,6 +1,6 @@
 //! The columns of the words of `Nm` that begin a row of the SYNOPSIS: later rows are as many further in (mdoc(7), `Nm`).
 
-ghost use Rattle.std.specs.Prelude.{◌≡◌, ◌≤◌, ◌*◌, Some};
+ghost use Rattle.std.specs.Prelude.{◌≡◌, ◌≤◌, ◌*◌, Some, min, ◌+◌};
 ghost use Rattle.page_core_base.specs.declared.limits.TheConstants.{LINE};
 ghost use Rattle.page_roff_syntax.specs.Arguments.{is_quoted};
 ghost use Rattle.page_scopes_blocks.specs.Blocks as hangs;
@@ -10,6 +10,7 @@ ghost use Rattle.page_sets_lines.specs.laws.Events.{kind_view, word_view};
 ghost use Rattle.page_sets_lines.specs.declared.events.EventKind.TheVariants as kinds;
 ghost use Rattle.page_sets_lines.specs.declared.leaves.Leaf.TheVariants as leaves;
 ghost use Rattle.page_sets_lines.specs.declared.line_steps.LineStep.TheVariants as steps;
+ghost use Rattle.page_scopes_layout.specs.Contexts.{MARGIN as spec_MARGIN};
 
 use page_core_base::Output;
 use page_scopes_layout::MARGIN;
@@ -20,7 +21,7 @@ use page_sets_lines::{EventKind, Leaf, LineStep, Role, Word};
 // The columns with those of a word more, and the blank after it.
 fn columns_after(so_far: u16, columns: u32) -> u16
     requires { columns ≤ 1000 * LINE }
-    ensures { result ≡ hangs.columns_after so_far columns }
+    ensures { result ≡ min (so_far + columns + 1) spec_MARGIN }
 {
     (u32::from(so_far) + columns + 1).min(MARGIN) as u16
 }

@@ -1,7 +1,7 @@
 -- What an open scope is, and what is known of it by that alone: one row for each. Source: man(7), "MACRO OVERVIEW"; mdoc(7), "MACRO REFERENCE".
 use Rattle.std.specs.Prelude.{ℕ, false, List, true, codes, Bool}
 use Rattle.std.specs.Str.{bytes_eq}
-use Rattle.page_sets_names.specs.Marks.{marks_name}
+use Rattle.page_sets_names.specs.Marks.{row_of_marks}
 use Rattle.page_sets_names.specs.Names.{font_macro_name, heading_name, link_closer_name, link_name, one_line_name, tag_name}
 use Rattle.page_sets_lines.specs.Blocks.{block_closer_name, block_name}
 use Rattle.page_sets_lines.specs.declared.blocks.Block.TheVariants as blocks
@@ -42,7 +42,7 @@ label_row (labels.Line Head) = plain_row (codes "It") Line
 label_row (labels.Line (Heading name)) = guard_row (heading_name name)
 label_row (labels.Line (Tag name)) = plain_row (tag_name name) Line
 label_row (labels.Line (FontWords name)) = guard_row (font_macro_name name)
-label_row (labels.Line (Enclosure marks)) = plain_row (marks_name marks) Line
+label_row (labels.Line (Enclosure marks)) = plain_row ((row_of_marks marks).name) Line
 label_row (labels.Line Description) = plain_row (codes "Nd") Line
 label_row (labels.Line (OneLine name)) = plain_row (one_line_name name) Line
 

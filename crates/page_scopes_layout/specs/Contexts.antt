@@ -38,16 +38,13 @@ further_in margin hang more = hold (pos margin +ℤ hang +ℤ more)
 abbrev pub rest_margin : Context → ℕ
 rest_margin c = further_in c.margin c.hang c.shift.value
 
-abbrev pub first_margin : Context → ℕ → ℕ
-first_margin c first = hold (pos first +ℤ c.shift.value)
-
 abbrev pub same_margins : ℕ → Margins
 same_margins column = record { first = column; rest = column }
 
 -- before its first row has begun a paragraph may have a margin of its own for it
 abbrev pub part_margins : PagePart → Option ℕ → Bool → Context → Margins
 part_margins (parts.Heading column) first has_row c = same_margins column
-part_margins _ (Some first) false c = record { first = first_margin c first; rest = rest_margin c }
+part_margins _ (Some first) false c = record { first = hold (pos first +ℤ c.shift.value); rest = rest_margin c }
 part_margins _ first has_row c = same_margins (rest_margin c)
 
 abbrev pub margins : Context → Margins
@@ -205,18 +202,6 @@ display_begun is_literal offset c = record (flat c) {
 abbrev pub font_if_given : Option Font → Context → Context
 font_if_given None c = c
 font_if_given (Some font) c = font_begun font c
-
--- a reference (`Rs`) has no field yet
-abbrev pub reference_begun : Context → Context
-reference_begun c = record c { fields = Empty }
-
--- a function (`Fo`) has no argument yet
-abbrev pub function_begun : Context → Context
-function_begun c = record c { arguments = Empty }
-
--- the name of the manual (`Nm`) begins a row of the SYNOPSIS at the margin
-abbrev pub name_begun : Context → Context
-name_begun c = first_at_margin (flat c)
 
 -- its words have ended: later rows are further in by their columns
 abbrev pub name_ended : ℕ → Context → Context

@@ -2,6 +2,7 @@
 
 ghost use Rattle.std.specs.Prelude.{◌≡◌};
 ghost use Rattle.page_scopes_layout.specs.Contexts as begins;
+ghost use Rattle.page_scopes_layout.specs.declared.contexts.SeriesSoFar.TheVariants.{Empty};
 
 use crate::margins::further_in;
 use crate::{Context, PREVAILING, PagePart, PageSection, SeriesSoFar, hold};
@@ -214,7 +215,7 @@ impl Context {
 
     /// A reference to a work (`Rs`) begins.
     pub fn reference_begun(self) -> Context
-        ensures { result ≡ begins.reference_begun self }
+        ensures { result ≡ record self { fields = Empty } }
     {
         Context {
             fields: SeriesSoFar::Empty,
@@ -224,7 +225,7 @@ impl Context {
 
     /// A function (`Fo`) begins.
     pub fn function_begun(self) -> Context
-        ensures { result ≡ begins.function_begun self }
+        ensures { result ≡ record self { arguments = Empty } }
     {
         Context {
             arguments: SeriesSoFar::Empty,
@@ -234,7 +235,7 @@ impl Context {
 
     /// The name of the manual (`Nm`) begins a row of the SYNOPSIS, at the margin.
     pub fn name_begun(self) -> Context
-        ensures { result ≡ begins.name_begun self }
+        ensures { result ≡ begins.first_at_margin (begins.flat self) }
     {
         self.flat().first_at_margin()
     }

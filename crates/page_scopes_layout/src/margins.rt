@@ -1,6 +1,6 @@
 //! The margins of rows (man(7)).
 
-ghost use Rattle.std.specs.Prelude.{◌≡◌};
+ghost use Rattle.std.specs.Prelude.{◌≡◌, pos, ◌+ℤ◌};
 ghost use Rattle.page_scopes_layout.specs.Contexts as margins;
 
 use crate::{Context, MARGIN, PagePart};
@@ -41,7 +41,7 @@ fn rest_margin(context: &Context) -> u32
 
 // The margin of a first row that has one of its own.
 fn first_margin(context: &Context, first: u32) -> u32
-    ensures { result ≡ margins.first_margin context.now first }
+    ensures { result ≡ margins.hold (pos first +ℤ context.now.shift.value) }
 {
     hold(i64::from(first) + i64::from(context.shift.value))
 }

@@ -60,11 +60,8 @@ ended label before target place s = followed_by (last_word place label target s)
 -- ---- The end of a line: what it gives. Source: roff(7), `nf`, `\c`.
 
 -- where rows are kept, a line with words of the page's text is a row, unless it ends in `\c`
-abbrev pub ends_row : Formatting → Bool
-ends_row s = s.context.is_literal.value && (not s.line.is_cut && s.line.has_row_words)
-
 abbrev pub line_end : Formatting → Outcome
 line_end s = record {
-  items = if ends_row s then shown pieces.RowEnd ∷ [] else [];
+  items = if s.context.is_literal.value && (not s.line.is_cut && s.line.has_row_words) then shown pieces.RowEnd ∷ [] else [];
   state = line_ended s;
 }

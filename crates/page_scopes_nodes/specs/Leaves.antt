@@ -29,7 +29,7 @@ use Rattle.page_scopes_words.specs.Fonts.{set_to, face_fonts}
 use Rattle.page_scopes_words.specs.Words.{rows_value, rows_notes, columns_value, columns_notes, face_notes, says, white_cells, has_tab, shown_part}
 use Rattle.page_scopes_words.specs.declared.fonts.Fonts.{Fonts}
 use Rattle.page_scopes_words.specs.declared.settings.Setting.{Setting}
-use Rattle.page_scopes_layout.specs.Contexts.{flat, name_ended, name_begun, font_begun}
+use Rattle.page_scopes_layout.specs.Contexts.{flat, name_ended, font_begun, first_at_margin}
 use Rattle.page_scopes_layout.specs.Headings.{heading_broken, in_synopsis}
 use Rattle.page_scopes_layout.specs.Lists.{margin_items}
 use Rattle.page_scopes_layout.specs.declared.contexts.Context.{Context}
@@ -90,9 +90,6 @@ given_shift (Some text) shift = if has_sign text then in_range (shift +ℤ colum
 abbrev pub given_shift_notes : Place → Option (List ℕ) → List Item
 given_shift_notes place columns = unwrap_or (option_map (columns_notes place) columns) []
 
-abbrev pub shifted : Option (List ℕ) → Context → Context
-shifted columns c = record c { shift = set_to (given_shift columns c.shift.value) }
-
 -- ---- `ft`: fonts; without a name the former one; a name that no font has changes nothing
 
 abbrev pub fonts_named : Face → Setting Fonts → Setting Fonts
@@ -123,14 +120,12 @@ request place (requests.Space rows) s = record {
   state = row_ended (with_content s);
 }
 request place (requests.Font name) s = record { items = font_notes place name; state = in_context (with_font_named name s.context) s }
-request place (requests.Shift columns) s = after_notes (given_shift_notes place columns) (at_margins (in_context (shifted columns s.context) s))
+request place (requests.Shift columns) s =
+    after_notes (given_shift_notes place columns)
+    (at_margins (in_context (record s.context { shift = set_to (given_shift columns s.context.shift.value) }) s))
 request place (requests.Literal on) s = literal on s
 
 -- ---- What macros of mdoc(7) change in their line, or print there. Source: mdoc(7), "MACRO REFERENCE".
-
--- `Ns`: the next word is glued to the one before, unless blanks part them
-abbrev pub glued : Formatting → Formatting
-glued s = record s { gap = joined_gap Glued (s.line.ends_blank && not s.context.is_literal.value) s.gap }
 
 -- `Pp`, `Lp`: fonts and the shift stay as they are; skipped where there is nothing before them since the heading
 abbrev pub body_paragraph : Place → BodyParagraphName → Formatting → Outcome
@@ -156,11 +151,11 @@ name_hung (Some columns) s = record {
   state = counting None (in_context (name_ended columns s.context) s);
 }
 
--- for `In` a word comes before its file
+-- for `In` a word comes before its file; the name of the manual (`Nm`) begins a row at the margin
 abbrev pub synopsis_step : Place → SynopsisStep → Formatting → Outcome
 synopsis_step place Break s = row_break s
 synopsis_step place Include s = generated_word place (own_word owns.Include Apart Apart) s
-synopsis_step place NameBegins s = changed (counting (Some 0)) (at_margins (in_context (name_begun s.context) s))
+synopsis_step place NameBegins s = changed (counting (Some 0)) (at_margins (in_context (first_at_margin (flat s.context)) s))
 synopsis_step place NameEnds s = name_hung s.line.name_columns s
 
 -- ---- `Sm`
@@ -171,10 +166,10 @@ spaced on s = nothing (record s { context = record s.context { has_spacing = set
 
 -- ---- all of them
 
--- the address of `Lk` is a word
+-- `Ns`: the next word is glued to the one before, unless blanks part them; the address of `Lk` is a word
 abbrev pub step_outcome : Place → LineStep (List ℕ) → Option KeptText → Formatting → Outcome
 step_outcome place steps.NextColumn name s = column_step place s.context.list s
-step_outcome place steps.Glue name s = nothing (glued s)
+step_outcome place steps.Glue name s = nothing (record s { gap = joined_gap Glued (s.line.ends_blank && not s.context.is_literal.value) s.gap })
 step_outcome place (steps.BodyParagraph paragraph) name s = body_paragraph place paragraph s
 step_outcome place (steps.Uri uri) name s = line_word place.line (argument_word None Apart uri) s
 step_outcome place steps.ManualName name s = manual_name place name s
@@ -196,14 +191,13 @@ blank_line place s = record {
 }
 
 -- blanks and tabs are a row, where rows are kept; in columns each tab begins the next one
-abbrev pub white_row : Place → List ℕ → Formatting → Outcome
-white_row place text s = record {
-  items = white_cells place text;
-  state = record s { context = record s.context { has_row = s.context.has_row || nat_lt 0 (length text) }; line = record s.line { has_row_words = true } };
-}
-
 abbrev pub kept_line : Place → List ℕ → Formatting → Outcome
-kept_line place text s = if in_columns s.context && has_tab text then white_columns text s else white_row place text s
+kept_line place text s =
+    if in_columns s.context && has_tab text then white_columns text s
+    else record {
+      items = white_cells place text;
+      state = record s { context = record s.context { has_row = s.context.has_row || nat_lt 0 (length text) }; line = record s.line { has_row_words = true } };
+    }
 
 -- else they end the row; a line of nothing does nothing
 abbrev pub wordless_line : (literal : Bool) → Place → List ℕ → Formatting → Outcome
@@ -224,11 +218,7 @@ fonts (Some font) s = nothing (record s { context = font_begun font s.context; l
 fonts None s =
     nothing (record s { context = record s.context { fonts = unwrap_or s.line.fonts_before s.context.fonts }; line = record s.line { fonts_before = None } })
 
--- `TQ`: a further tag is in front of text that hangs by the prevailing indent
-abbrev pub further_tag : Formatting → Outcome
-further_tag s = at_margins (in_context (record s.context { hang = s.context.prevailing; first = None }) s)
-
--- ---- one row for each leaf; the name is that of the manual
+-- ---- one row for each leaf; the name is that of the manual; a further tag (`TQ`) is in front of text that hangs by the prevailing indent
 
 unfoldable pub leaf_outcome : Place → Leaf (List ℕ) → Option KeptText → Formatting → Outcome
 leaf_outcome place leaves.BlankLine name s = blank_line place s
@@ -239,7 +229,7 @@ leaf_outcome place (leaves.Generated word) name s = generated_word place word s
 leaf_outcome place (leaves.Example begins) name s = literal begins s
 leaf_outcome place (leaves.Distance rows) name s = distance place rows s
 leaf_outcome place (leaves.Fonts font) name s = fonts font s
-leaf_outcome place leaves.FurtherTag name s = further_tag s
+leaf_outcome place leaves.FurtherTag name s = at_margins (in_context (record s.context { hang = s.context.prevailing; first = None }) s)
 leaf_outcome place (leaves.Step step) name s = step_outcome place step name s
 
 -- ---- What an event gives that opens and closes nothing, and what it leaves. Source: man(7), mdoc(7); mandoc(1), "DIAGNOSTICS".

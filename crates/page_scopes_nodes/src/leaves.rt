@@ -1,6 +1,6 @@
 //! What opens and closes nothing (man(7), mdoc(7); roff(7)).
 
-ghost use Rattle.std.specs.Prelude.{◌≡◌};
+ghost use Rattle.std.specs.Prelude.{◌≡◌, None};
 ghost use Rattle.page_core_base.specs.laws.Views.{Came};
 ghost use Rattle.page_sets_lines.specs.laws.Views.{LeafFits};
 ghost use Rattle.page_scopes_nodes.specs.Leaves as leaves;
@@ -8,6 +8,7 @@ ghost use Rattle.page_scopes_nodes.specs.Leaves.{given_rows, given_rows_notes};
 ghost use Rattle.page_scopes_phrases.specs.laws.Views.{GivesOutcome};
 ghost use Rattle.page_scopes_words.specs.Fonts.{set_to};
 ghost use Rattle.page_sets_lines.specs.laws.Events.{leaf_view, text_view};
+ghost use Rattle.page_scopes_phrases.specs.Phrases.{at_margins, in_context};
 
 use crate::margins::give_row_margins;
 use crate::requests::{give_given_rows, give_literal, give_request};
@@ -87,7 +88,7 @@ fn set_fonts(font: Option<Font>, state: &mut Formatting)
 
 // A further tag comes: `TQ`.
 fn give_further_tag<O: PieceOut>(out: &mut O, state: &mut Formatting)
-    ensures { GivesOutcome O.left out.old (leaves.further_tag state.old) out.new state.new }
+    ensures { GivesOutcome O.left out.old (at_margins (in_context (record state.old.context { hang = state.old.context.prevailing; first = None }) state.old)) out.new state.new }
 {
     state.context.hang = state.context.prevailing;
     state.context.first = None;

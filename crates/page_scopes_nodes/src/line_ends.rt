@@ -1,6 +1,6 @@
 //! The end of a line (roff(7), `nf`, `\c`).
 
-ghost use Rattle.std.specs.Prelude.{◌≡◌};
+ghost use Rattle.std.specs.Prelude.{◌≡◌, ◌&&◌, not};
 ghost use Rattle.page_scopes_nodes.specs.Ends as ends;
 ghost use Rattle.page_scopes_phrases.specs.laws.Views.{GivesOutcome};
 
@@ -9,7 +9,7 @@ use page_scopes_phrases::Formatting;
 
 // Whether a line is a row that ends with it.
 fn ends_row(state: &Formatting) -> bool
-    ensures { result ≡ ends.ends_row state.now }
+    ensures { result ≡ state.now.context.is_literal.value && (not state.now.line.is_cut && state.now.line.has_row_words) }
 {
     state.context.is_literal.value && (!state.line.is_cut && state.line.has_row_words)
 }

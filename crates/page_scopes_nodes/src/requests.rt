@@ -3,14 +3,16 @@
 ghost use Rattle.std.specs.Prelude.{◌≡◌, ◌∷◌, ◌++◌, [], Some};
 ghost use Rattle.page_core_base.specs.laws.Views.{Came};
 ghost use Rattle.page_core_base.specs.Rows.{shown};
-ghost use Rattle.page_core_base.specs.declared.pieces.Piece.TheVariants.{Space};
+ghost use Rattle.page_core_base.specs.declared.pieces.Piece.TheVariants.{Space, Break};
 ghost use Rattle.page_core_escapes.specs.laws.Views.{face_view};
 ghost use Rattle.page_roff_syntax.specs.laws.Views.{argument_view};
 ghost use Rattle.page_scopes_phrases.specs.laws.Views.{GivesOutcome};
-ghost use Rattle.page_scopes_phrases.specs.Phrases.{row_margin_items, in_context, row_ended, with_content};
+ghost use Rattle.page_scopes_phrases.specs.Phrases.{in_context, row_ended, with_content};
 ghost use Rattle.page_scopes_nodes.specs.Leaves as requests;
 ghost use Rattle.page_scopes_words.specs.Words.{columns_notes};
 ghost use Rattle.page_sets_lines.specs.laws.Events.{given_view, request_view, text_view};
+ghost use Rattle.page_scopes_layout.specs.Lists.{margin_items};
+ghost use Rattle.page_scopes_words.specs.Fonts.{set_to};
 
 use crate::margins::give_row_margins;
 use page_core_base::{Piece, PieceOut, Place};
@@ -86,7 +88,7 @@ fn give_given_shift<O: PieceOut>(
 // Sets the shift of margins, with the messages of its number.
 fn set_shift<O: PieceOut>(out: &mut O, place: Place, columns: Option<&[u8]>, context: &mut Context)
     ensures came { Came O.left out.old (requests.given_shift_notes place (text_view columns.entry)) out.new }
-    ensures context { context.new ≡ requests.shifted (text_view columns.entry) context.old }
+    ensures context { context.new ≡ record context.old { shift = set_to (requests.given_shift (text_view columns.entry) context.old.shift.value) } }
 {
     let shift = give_given_shift(out, place, columns, context.shift.value);
     context.shift = Setting::set_to(shift);
@@ -100,8 +102,11 @@ fn give_shift<O: PieceOut>(
     state: &mut Formatting,
 )
     ensures came { Came O.left out.old
-        (requests.given_shift_notes place (text_view columns.entry) ++ row_margin_items (requests.shifted (text_view columns.entry) state.old.context)) out.new }
-    ensures state { state.new ≡ row_ended (in_context (requests.shifted (text_view columns.entry) state.old.context) state.old) }
+        (requests.given_shift_notes place (text_view columns.entry)
+        ++ shown Break ∷ margin_items (record state.old.context { shift = set_to (requests.given_shift (text_view columns.entry) state.old.context.shift.value) }))
+        out.new }
+    ensures state { state.new ≡ row_ended (in_context
+        (record state.old.context { shift = set_to (requests.given_shift (text_view columns.entry) state.old.context.shift.value) }) state.old) }
 {
     set_shift(out, place, columns, &mut state.context);
     give_row_margins(out, &state.context);

@@ -1,12 +1,12 @@
 //! What macros of mdoc(7) change in their line, or print there (mdoc(7), "MACRO REFERENCE").
 
-ghost use Rattle.std.specs.Prelude.{◌≡◌, not, unwrap_or, if◌then◌else◌};
+ghost use Rattle.std.specs.Prelude.{◌≡◌, not, unwrap_or, if◌then◌else◌, ◌&&◌};
 ghost use Rattle.page_sets_lines.specs.laws.Views.{StepFits};
 ghost use Rattle.page_scopes_layout.specs.Headings.{in_synopsis};
 ghost use Rattle.page_scopes_layout.specs.declared.contexts.SeriesSoFar.TheVariants.{Begun};
 ghost use Rattle.page_scopes_phrases.specs.LineWords.{own_word};
 ghost use Rattle.page_scopes_phrases.specs.laws.Views.{GivesOutcome};
-ghost use Rattle.page_scopes_phrases.specs.Phrases.{nothing};
+ghost use Rattle.page_scopes_phrases.specs.Phrases.{nothing, joined_gap as spec_joined_gap};
 ghost use Rattle.page_scopes_nodes.specs.Leaves as steps;
 ghost use Rattle.page_sets_lines.specs.laws.Events.{step_view};
 ghost use Rattle.page_sets_lines.specs.declared.events.Join.TheVariants.{Apart, Glued};
@@ -26,7 +26,7 @@ use page_sets_lines::{
 
 // The next word is glued to the one before: `Ns`.
 fn glue(state: &mut Formatting)
-    ensures { state.new ≡ steps.glued state.old }
+    ensures { state.new ≡ record state.old { gap = spec_joined_gap Glued (state.old.line.ends_blank && not state.old.context.is_literal.value) state.old.gap } }
 {
     let parts = blanks_part(state.line.ends_blank, &state.context);
     state.gap = joined_gap(Join::Glued, parts, state.gap);

@@ -8,13 +8,14 @@ use Rattle.page_core_base.specs.laws.Views.{CameUpTo}
 use Rattle.page_core_base.specs.Rows.{Item}
 use Rattle.page_core_escapes.specs.Tokens.{begins_white, is_space, is_white, token_at, token_len, tokens_of}
 use Rattle.page_core_escapes.proofs.TokenLemmas.{tokens_more, tokens_none}
-use Rattle.page_scopes_phrases.specs.LineWords.{after_tab, before_blanks, before_tab, cell, cells_within, first_part, has_tab, other_cells, other_cells_text, span, span_of, tab_in, white_byte, white_columns, with_more}
+use Rattle.page_scopes_phrases.specs.LineWords.{after_tab, before_blanks, before_tab, cell, cells_within, first_part, has_tab, other_cells, other_cells_text, span, span_of, tab_in, white_columns, with_more, tab_step}
 use Rattle.page_sets_lines.specs.laws.Views.{FitsAt}
 use Rattle.page_scopes_phrases.specs.laws.Views.{GivesOutcome}
-use Rattle.page_scopes_phrases.specs.Phrases.{Outcome, followed_by}
+use Rattle.page_scopes_phrases.specs.Phrases.{Outcome, followed_by, nothing}
 use Rattle.page_scopes_phrases.specs.declared.cells.CellSpan.{CellSpan}
 use Rattle.page_scopes_phrases.specs.declared.phrases.Phrase.{Phrase}
 use Rattle.page_scopes_phrases.specs.declared.formatting.Formatting.{Formatting}
+use Rattle.std.specs.Prelude.{◌==◌, if◌then◌else◌}
 
 pub is_before : (m n : ℕ) → m < n → nat_lt m n ≡ true
 is_before m n h = grind (arith, nat_tests, h)
@@ -210,10 +211,10 @@ pub record OutcomeLeft {P O : Type 0} (left : P → O → List Item → Type 0) 
   pub state : all.state ≡ next.state
 
 pub white-goes-on : {P O : Type 0} (left : P → O → List Item → Type 0) (start : O) (all : Outcome) (byte : ℕ) (bytes : List ℕ) (s t : Formatting)
-    (out next : O) → OutcomeLeft left start all (white_columns (byte ∷ bytes) s) out → GivesOutcome left out (white_byte byte s) next t
+    (out next : O) → OutcomeLeft left start all (white_columns (byte ∷ bytes) s) out → GivesOutcome left out (if byte == 9 then tab_step s else nothing s) next t
     → OutcomeLeft left start all (white_columns bytes t) next
 white-goes-on left start all byte bytes s t out next before given =
-    let first = white_byte byte s in
+    let first = (if byte == 9 then tab_step s else nothing s) in
     let others = white_columns bytes first.state in
     rw given.state (record {
       came = λ plan rest x.

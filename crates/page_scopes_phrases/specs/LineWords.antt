@@ -38,14 +38,13 @@ abbrev pub in_columns : Context → Bool
 in_columns c = unwrap_or (option_map has_columns c.list) false
 
 -- what is before the next word there takes the place of a blank
-abbrev pub column_of : OpenList → Formatting → Outcome
-column_of list s = record {
-  items = shown (pieces.Column (next_cell list).column) ∷ [];
-  state = record s { context = record s.context { list = Some (next_cell list) }; gap = 0; line = record s.line { ends_blank = false } };
-}
-
 abbrev pub next_column : Option OpenList → Formatting → Outcome
-next_column (Some list) s = if has_columns list then column_of list s else nothing s
+next_column (Some list) s =
+    if has_columns list then record {
+      items = shown (pieces.Column (next_cell list).column) ∷ [];
+      state = record s { context = record s.context { list = Some (next_cell list) }; gap = 0; line = record s.line { ends_blank = false } };
+    }
+    else nothing s
 next_column None s = nothing s
 
 -- `Ta`: it is reported where no list is open, and does nothing in a list without columns
@@ -136,13 +135,9 @@ text_outcome line p s = if in_columns s.context && not (length p.text == 0) then
 
 -- ---- white space without a word
 
--- each of its tabs begins the next column, and its blanks are nothing
-abbrev pub white_byte : ℕ → Formatting → Outcome
-white_byte byte s = if byte == 9 then tab_step s else nothing s
-
 abbrev pub white_columns : List ℕ → Formatting → Outcome
 white_columns [] s = nothing s
-white_columns (byte ∷ bytes) s = followed_by (white_byte byte s) (white_columns bytes)
+white_columns (byte ∷ bytes) s = followed_by (if byte == 9 then tab_step s else nothing s) (white_columns bytes)
 
 -- ---- Words of a line, and words that a macro prints itself. Source: man(7), mdoc(7); roff(7), "Macro syntax".
 
@@ -185,10 +180,6 @@ argument_word font before argument = record { arg = argument; role = roles.Argum
 abbrev pub own_word : GeneratedText → (before after : Join) → GeneratedWord
 own_word text before after = record { text = text; font = None; before = before; after = after }
 
-abbrev pub generated_phrase : Place → (spacing : Bool) → GeneratedWord → Phrase (List ℕ)
-generated_phrase place spacing word =
-    own_phrase place (generated_text (generated_spaced spacing word.text)) word.font word.before word.after
-
 -- a mark of a macro ends no sentence, and leaves one that has ended; after a word none has ended, but after those of `Ex` and `Rv` one has. A dash may be glued to what comes after it in its line
 abbrev pub after_generated : GeneratedText → Formatting → Formatting
 after_generated own s = record s {
@@ -200,4 +191,5 @@ after_generated own s = record s {
 
 unfoldable pub generated_word : Place → GeneratedWord → Formatting → Outcome
 generated_word place word s =
-    changed (after_generated word.text) (phrase_outcome place.line (generated_phrase place s.context.has_spacing.value word) s)
+    changed (after_generated word.text)
+    (phrase_outcome place.line (own_phrase place (generated_text (generated_spaced s.context.has_spacing.value word.text)) word.font word.before word.after) s)

@@ -86,13 +86,9 @@ nothing s = record { items = []; state = s }
 abbrev pub row_break : Formatting → Outcome
 row_break s = record { items = shown Break ∷ []; state = row_ended s }
 
--- the row ends, and other margins hold
-abbrev pub row_margin_items : Context → List Item
-row_margin_items c = shown Break ∷ margin_items c
-
 -- and rows go on in their context
 abbrev pub at_margins : Formatting → Outcome
-at_margins s = record { items = row_margin_items s.context; state = row_ended s }
+at_margins s = record { items = shown Break ∷ margin_items s.context; state = row_ended s }
 
 -- messages come first, or other items
 abbrev pub after_notes : List Item → Outcome → Outcome
@@ -159,9 +155,6 @@ phrase_pen p s = record {
 
 -- ---- after its words
 
-abbrev pub phrase_end : Phrase (List ℕ) → Formatting → Pen
-phrase_end p s = text_after (phrase_style p s.context) (phrase_pen p s) (words_of p.is_quoted p.text)
-
 -- a font of its own leaves the fonts as they were; in the words of a font macro escapes set them, but not for good
 abbrev pub kept_fonts : Option Font → Bool → Setting Fonts → Setting Fonts → Setting Fonts
 kept_fonts (Some font) is_guarded before now = before
@@ -204,5 +197,6 @@ state_after p pen s = record s {
 abbrev pub phrase_outcome : ℕ → Phrase (List ℕ) → Formatting → Outcome
 phrase_outcome line p s = record {
   items = text_items (phrase_style p s.context) line s.line.last_word (phrase_pen p s) (words_of p.is_quoted p.text);
-  state = state_after p (phrase_end p s) (record s { heading = heading_further s.context.part p.is_quoted (phrase_pen p s).gap p.text s.heading });
+  state = state_after p (text_after (phrase_style p s.context) (phrase_pen p s) (words_of p.is_quoted p.text))
+      (record s { heading = heading_further s.context.part p.is_quoted (phrase_pen p s).gap p.text s.heading });
 }

@@ -6,6 +6,7 @@ ghost use Rattle.page_core_escapes.specs.laws.Views.{token_view};
 ghost use Rattle.page_scopes_phrases.specs.LineWords as cells;
 ghost use Rattle.page_sets_lines.specs.laws.Views.{FitsAt};
 ghost use Rattle.page_scopes_phrases.specs.laws.Views.{GivesOutcome, phrase_view};
+ghost use Rattle.page_scopes_phrases.specs.Phrases.{nothing};
 
 use crate::phrases::is_text;
 use crate::{Formatting, Phrase, give_phrase};
@@ -256,7 +257,7 @@ pub(crate) fn give_cells<O: PieceOut>(
 
 // Gives a byte of white space in columns: a tab begins the next one.
 fn give_white_byte<O: PieceOut>(out: &mut O, byte: u8, state: &mut Formatting)
-    ensures { GivesOutcome O.left out.old (cells.white_byte byte state.old) out.new state.new }
+    ensures { GivesOutcome O.left out.old (if byte == 9 then cells.tab_step state.old else nothing state.old) out.new state.new }
 {
     if byte == b'\t' {
         give_tab(out, state);

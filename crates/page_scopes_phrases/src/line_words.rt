@@ -7,6 +7,8 @@ ghost use Rattle.page_scopes_phrases.specs.LineWords.{text_outcome};
 ghost use Rattle.page_scopes_phrases.specs.LineWords as lines;
 ghost use Rattle.page_scopes_phrases.specs.laws.Views.{GivesOutcome, phrase_view};
 ghost use Rattle.page_sets_lines.specs.laws.Events.{word_view};
+ghost use Rattle.page_scopes_phrases.specs.Phrases.{own_phrase};
+ghost use Rattle.page_sets_names.specs.Names.{generated_text, generated_spaced};
 
 use crate::cells::{give_cells, in_columns};
 use crate::{Formatting, Phrase, give_phrase};
@@ -103,7 +105,7 @@ pub fn give_line_word<O: PieceOut>(
 
 // A word of a macro's own as a phrase.
 fn generated_phrase(place: Place, has_spacing: bool, word: GeneratedWord) -> Phrase<&'static [u8]>
-    ensures seen { phrase_view result ≡ lines.generated_phrase place has_spacing word }
+    ensures seen { phrase_view result ≡ own_phrase place (generated_text (generated_spaced has_spacing word.text)) word.font word.before word.after }
     ensures fits { FitsAt result.column result.text.now }
 {
     let text = word.text.spaced(has_spacing).text().as_bytes();

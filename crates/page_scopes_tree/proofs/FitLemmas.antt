@@ -19,7 +19,7 @@ use Rattle.page_sets_lines.specs.declared.openers.LineOpener.TheVariants as line
 use Rattle.page_sets_lines.specs.declared.openers.Closer.{Closer}
 use Rattle.page_sets_lines.specs.declared.openers.Closer.TheVariants as closers
 use Rattle.page_scopes_tree.specs.laws.Views.{Step, comes, does}
-use Rattle.page_scopes_tree.specs.Ends.{inside, up_to, line_scopes, up_to_explicit, up_to_item, up_to_paragraph, place_of_margin, up_to_margin, opener_ends, closer_ends, kind_ends, act_ends}
+use Rattle.page_scopes_tree.specs.Ends.{inside, up_to, line_scopes, up_to_explicit, up_to_paragraph, place_of_margin, up_to_margin, opener_ends, closer_ends, kind_ends, act_ends}
 use Rattle.page_scopes_tree.proofs.MarginLemmas.{but_outside}
 use Rattle.page_scopes_labels.specs.Labels.{is_line, is_enclosure, is_section, is_paragraph, is_item, is_list, is_explicit, is_level}
 use Rattle.page_scopes_tree.specs.machine.Nests.{standing_by, step_ends, step_standing, scopes_nesting}
@@ -42,7 +42,7 @@ up_to-fits found end most h = grind (arith, nat_tests, h)
 explicit-fits : (explicit : Explicit) (nodes : List Label) → up_to_explicit explicit nodes ≤ length nodes
 explicit-fits explicit nodes = up_to-fits (inside (is_explicit explicit) nodes) (length nodes) (length nodes) (omega arith)
 
-item-fits : (nodes : List Label) → up_to_item nodes ≤ length nodes
+item-fits : (nodes : List Label) → (up_to (inside is_item nodes) (inside is_list nodes)) ≤ length nodes
 item-fits nodes = up_to-fits (inside is_item nodes) (inside is_list nodes) (length nodes) (prefix_len-le-length (λ label. not (is_list label)) nodes)
 
 paragraph-fits : (nodes : List Label) → up_to_paragraph nodes ≤ length nodes

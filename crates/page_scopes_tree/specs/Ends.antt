@@ -59,10 +59,6 @@ up_to_explicit explicit nodes = up_to (inside (is_explicit explicit) nodes) (len
 abbrev pub up_to_paragraph : List Label → ℕ
 up_to_paragraph nodes = up_to (inside is_paragraph nodes) (inside is_level nodes)
 
--- up to the open item (`It`) of the innermost list
-abbrev pub up_to_item : List Label → ℕ
-up_to_item nodes = up_to (inside is_item nodes) (inside is_list nodes)
-
 -- where the relative margin of a number is, counted from the outermost scope on
 abbrev pub place_of_margin : ℕ → List Label → Option ℕ
 place_of_margin k [] = None
@@ -77,7 +73,7 @@ up_to_margin number nodes =
     else option_map_or (λ outside. length nodes - outside) (place_of_margin (nat_abs number) (reverse nodes)) 0
 
 abbrev pub opener_ends : Opener (List ℕ) → List Label → ℕ
-opener_ends openers.Item nodes = up_to_item nodes
+opener_ends openers.Item nodes = up_to (inside is_item nodes) (inside is_list nodes)
 opener_ends openers.Section nodes = length nodes
 opener_ends openers.Subsection nodes = inside is_section nodes
 opener_ends (openers.Paragraph name) nodes = up_to_paragraph nodes

@@ -4,6 +4,7 @@ ghost use Rattle.std.specs.Prelude.{◌≡◌, ◌≤◌, ◌<◌, length, rever
 ghost use Rattle.page_scopes_tree.specs.laws.Views.{labels, act_view};
 ghost use Rattle.page_scopes_tree.specs.Ends as ends;
 ghost use Rattle.page_sets_lines.specs.laws.Events.{closer_view, kind_view, opener_view, text_view};
+ghost use Rattle.page_scopes_labels.specs.Labels.{is_item, is_list};
 
 use crate::numbers::basic_number;
 use crate::runs::{Run, run_len};
@@ -34,7 +35,7 @@ fn up_to_paragraph<B>(scopes: &[Scope<Label, B>]) -> usize
 // Up to the open item (`It`) of the innermost list.
 fn up_to_item<B>(scopes: &[Scope<Label, B>]) -> usize
     requires { length scopes.now ≤ SCOPES }
-    ensures { result ≡ ends.up_to_item (labels (reverse scopes.now)) }
+    ensures { result ≡ ends.up_to (ends.inside is_item (labels (reverse scopes.now))) (ends.inside is_list (labels (reverse scopes.now))) }
 {
     up_to(
         run_len(Run::InsideItem, scopes),

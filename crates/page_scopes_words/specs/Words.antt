@@ -57,13 +57,10 @@ meaning_notes quoted place bytes _ = []
 
 -- ---- what a token of a word prints
 
-abbrev pub has_quote : List ℕ → Bool
-has_quote bytes = list_any (λ byte. byte == 34) bytes
-
 -- the name of a glyph: in a quoted argument a pair of quotes is one quote. No glyph has a quote in its name: of such a name there is as much
 -- as a message shows
 abbrev pub glyph_name : (quoted : Bool) → List ℕ → List ℕ
-glyph_name quoted name = if quoted && has_quote name then take 64 (unpaired name) else name
+glyph_name quoted name = if quoted && list_any (λ byte. byte == 34) name then take 64 (unpaired name) else name
 
 -- an undefined escape is its character; that of a tab is a tab. A glyph, and the blanks of `\h`, are below
 abbrev pub token_piece : Font → Place → TextToken → Option (Piece (List ℕ))
@@ -123,12 +120,10 @@ rows_in (negsuc units) = 0
 abbrev pub rows_value : List ℕ → ℕ
 rows_value text = min (rows_in (number_value Vertical text)) BLANKS
 
--- and that is reported
-abbrev pub blanks_notes : Place → ℕ → List Item
-blanks_notes place rows = if nat_lt BLANKS rows then says Limit place (name_of limits.Blanks) ∷ [] else []
-
 abbrev pub rows_notes : Place → List ℕ → List Item
-rows_notes place text = number_notes Vertical place text ++ blanks_notes place (rows_in (number_value Vertical text))
+rows_notes place text =
+    number_notes Vertical place text
+    ++ (if nat_lt BLANKS (rows_in (number_value Vertical text)) then says Limit place (name_of limits.Blanks) ∷ [] else [])
 
 -- ---- What a token of a word reports and prints, with its numbers. Source: roff(7), "ESCAPE SEQUENCES"; mandoc(1), "DIAGNOSTICS".
 

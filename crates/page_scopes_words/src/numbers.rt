@@ -1,10 +1,13 @@
 //! The value of an expression in basic units, in columns and in rows, with its messages (roff(7), "Numerical expressions",
 //! "Scaling Widths").
 
-ghost use Rattle.std.specs.Prelude.{◌≡◌};
+ghost use Rattle.std.specs.Prelude.{◌≡◌, nat_lt, ◌∷◌, if◌then◌else◌};
 ghost use Rattle.page_core_base.specs.laws.Views.{Came};
 ghost use Rattle.page_scopes_words.specs.Words as numbers;
 ghost use Rattle.page_scopes_words.specs.Words.{number_notes, number_value};
+ghost use Rattle.page_core_base.specs.Limits.{BLANKS as spec_BLANKS, name_of};
+ghost use Rattle.page_core_base.specs.declared.note_kinds.NoteKind.TheVariants.{Limit as spec_Limit};
+ghost use Rattle.page_core_base.specs.declared.limits.Limit.TheVariants as limits;
 
 use crate::report;
 use page_core_base::{BLANKS, Limit, NoteKind, PieceOut, Place};
@@ -56,7 +59,7 @@ fn rows_in(units: i32) -> u32
 
 // Reports a count of rows that is cut.
 fn report_rows<O: PieceOut>(out: &mut O, place: Place, rows: u32)
-    ensures { Came O.left out.old (numbers.blanks_notes place rows) out.new }
+    ensures { Came O.left out.old (if nat_lt spec_BLANKS rows then numbers.says spec_Limit place (name_of limits.Blanks) ∷ [] else []) out.new }
 {
     if rows > BLANKS {
         report(out, NoteKind::Limit, place, Limit::Blanks.name().as_bytes());

@@ -7,6 +7,7 @@ ghost use Rattle.page_core_escapes.specs.laws.Views.{face_view, meaning_view, to
 ghost use Rattle.page_core_escapes.specs.Tokens.{escaped, is_space};
 ghost use Rattle.page_scopes_words.specs.Words as tokens;
 ghost use Rattle.page_scopes_words.specs.Words.{says};
+ghost use Rattle.std.specs.List.{list_any};
 
 use crate::numbers::give_number;
 use page_core_base::{
@@ -83,7 +84,7 @@ pub fn report_escape<O: PieceOut>(
 
 // Whether there is a quote.
 fn has_quote(bytes: &[u8]) -> bool
-    ensures { result ≡ tokens.has_quote bytes.now }
+    ensures { result ≡ list_any (λ byte. byte == 34) bytes.now }
 {
     bytes.iter().any(|byte| *byte == b'"')
 }

@@ -258,12 +258,9 @@ missing_quote Printed arguments = None
 missing_quote (After printed) arguments = quote_at false (open_quote printed arguments)
 missing_quote (BodyAfter printed) arguments = quote_at true (open_quote printed arguments)
 
-abbrev pub quote_kind : Quote → EventKind (List ℕ)
-quote_kind quote = kinds.Note Unterminated [] false quote.begins_body
-
 abbrev pub quote_events : ℕ → Option Quote → List (Event (List ℕ))
 quote_events number None = []
-quote_events number (Some quote) = event_at (record { line = number; column = quote.column }) (quote_kind quote) ∷ []
+quote_events number (Some quote) = event_at (record { line = number; column = quote.column }) (kinds.Note Unterminated [] false quote.begins_body) ∷ []
 
 abbrev pub kind_events : Place → Option (EventKind (List ℕ)) → List (Event (List ℕ))
 kind_events place None = []

@@ -88,14 +88,10 @@ words_events _ line = []
 abbrev pub refused_events : NoteKind → Line → List (Event (List ℕ))
 refused_events kind line = refusal kind line ∷ line_end line.number true ∷ []
 
--- a macro needs words, and has none
-abbrev pub lacks_words : LineMacro → Line → Bool
-lacks_words begins line = has_phrase begins && not (has_arguments (rest_of line))
-
--- a macro that begins the line
+-- a macro that begins the line; it may need words, and have none
 abbrev pub macro_events : LineMacro → Line → List (Event (List ℕ))
 macro_events begins line =
-    if lacks_words begins line then refused_events EmptyMacro line
+    if has_phrase begins && not (has_arguments (rest_of line)) then refused_events EmptyMacro line
     else block_front begins line ++ (words_events begins line ++ (line_end line.number true ∷ []))
 
 abbrev pub request_events : Option LayoutRequest → Line → List (Event (List ℕ))

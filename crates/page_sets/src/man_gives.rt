@@ -1,6 +1,6 @@
 //! The events of a line, given one after another (man(7), "MACRO REFERENCE").
 
-ghost use Rattle.std.specs.Prelude.{◌≡◌, ◌≤◌, [], ◌∷◌, length, drop, option_map, IfSome};
+ghost use Rattle.std.specs.Prelude.{◌≡◌, ◌≤◌, [], ◌∷◌, length, drop, option_map, IfSome, false};
 ghost use Rattle.page_core_base.specs.laws.Views.{line_view, Came};
 ghost use Rattle.page_sets_lines.specs.laws.Events.{kind_view, event_view};
 ghost use Rattle.page_sets_lines.specs.laws.Views.{IsShortKind};
@@ -8,6 +8,8 @@ ghost use Rattle.page_sets_lines.specs.Lines.{arguments_after, event_at, line_en
 ghost use Rattle.page_roff_syntax.specs.laws.Views.{argument_view};
 ghost use Rattle.page_sets_lines.specs.declared.events.Join.TheVariants.{Apart};
 ghost use Rattle.page_sets.specs.Man as man;
+ghost use Rattle.page_sets_lines.specs.declared.events.EventKind.TheVariants as kinds;
+ghost use Rattle.page_core_base.specs.declared.note_kinds.NoteKind.TheVariants.{Unterminated};
 
 use crate::man_effects::{effect_kind, line_scope};
 use crate::man_rows::{Alone, Last, Quotes, Row, Words, row_of};
@@ -28,7 +30,7 @@ pub(crate) struct Quote {
 
 // The message about a missing closing quote.
 fn quote_kind<'a>(quote: Quote) -> EventKind<&'a [u8]>
-    ensures { kind_view result ≡ man.quote_kind quote }
+    ensures { kind_view result ≡ kinds.Note Unterminated [] false quote.begins_body }
 {
     let detail: &[u8] = &[];
     EventKind::Note {

@@ -1,10 +1,12 @@
 //! The events of a line, given one after another (mdoc(7), "MACRO SYNTAX").
 
-ghost use Rattle.std.specs.Prelude.{◌≡◌, ◌≤◌, ◌∷◌, [], Some, length};
+ghost use Rattle.std.specs.Prelude.{◌≡◌, ◌≤◌, ◌∷◌, [], Some, length, ◌&&◌, not};
 ghost use Rattle.page_core_base.specs.laws.Views.{line_view, Came};
-ghost use Rattle.page_sets_lines.specs.Lines.{layout_request, line_end, name_of};
+ghost use Rattle.page_sets_lines.specs.Lines.{layout_request, line_end, name_of, rest_of};
 ghost use Rattle.page_sets_mdoc_lines.specs.Rows as rows;
 ghost use Rattle.page_sets.specs.Mdoc as mdoc;
+ghost use Rattle.page_sets_mdoc_blocks.specs.Fronts.{has_phrase as spec_has_phrase};
+ghost use Rattle.page_roff_syntax.specs.Arguments.{has_arguments};
 
 use crate::mdoc_line_words::give_words;
 use page_core_base::{LINE, NoteKind, Taken};
@@ -32,7 +34,7 @@ fn give_refused<'a, O: EventTaker<'a>>(out: &mut O, kind: NoteKind, line: &Contr
 
 // Whether a macro needs words, and has none.
 fn lacks_words(begins: LineMacro, line: &ControlLine<'_>) -> bool
-    ensures { result ≡ mdoc.lacks_words begins line.now }
+    ensures { result ≡ spec_has_phrase begins && not (has_arguments (rest_of line.now)) }
 {
     has_phrase(begins) && !line.has_arguments()
 }

@@ -2,7 +2,7 @@
 use Rattle.std.specs.Prelude.{ℕ, List, codes, [], ◌∷◌, Option, option_map, find, None, Some, false, true, Bool, not, is_some, if◌then◌else◌}
 use Rattle.std.specs.Str.{bytes_eq}
 use Rattle.page_roff_syntax.specs.declared.quotes.Argument.{Argument}
-use Rattle.page_sets_names.specs.Marks.{quotation_name, quotation_closer_name}
+use Rattle.page_sets_names.specs.Marks.{row_of_quotation}
 use Rattle.page_sets_lines.specs.declared.blocks.Block.{Block}
 use Rattle.page_sets_lines.specs.declared.blocks.Block.TheVariants.{Quotation, Custom, Extension, Display, Fonts, Keep, Reference, Function}
 use Rattle.page_sets_lines.specs.declared.blocks.Block.TheVariants as blocks
@@ -23,7 +23,7 @@ use Rattle.std.specs.Option.{option_or}
 
 abbrev pub block_name : Block → List ℕ
 block_name (blocks.List kind) = codes "Bl"
-block_name (Quotation quotation) = quotation_name quotation
+block_name (Quotation quotation) = (row_of_quotation quotation).opener
 block_name Custom = codes "Eo"
 block_name Extension = codes "Xo"
 block_name Display = codes "Bd"
@@ -34,7 +34,7 @@ block_name Function = codes "Fo"
 
 abbrev pub block_closer_name : Block → List ℕ
 block_closer_name (blocks.List kind) = codes "El"
-block_closer_name (Quotation quotation) = quotation_closer_name quotation
+block_closer_name (Quotation quotation) = (row_of_quotation quotation).closer
 block_closer_name Custom = codes "Ec"
 block_closer_name Extension = codes "Xc"
 block_closer_name Display = codes "Ed"

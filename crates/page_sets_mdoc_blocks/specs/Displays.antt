@@ -16,10 +16,6 @@ use Rattle.page_sets_mdoc_blocks.specs.declared.displays.DisplayOptions.{Display
 
 -- ---- The list that `Bl` opens, and what its arguments lack. Source: mdoc(7), `Bl`.
 
--- without a type it is `-item`; what is to be read of its arguments when it begins goes with it
-abbrev pub list_opener : ListOptions (List ℕ) → List ℕ → BlockOpener (List ℕ)
-list_opener options rest = openers.List (unwrap_or options.kind kinds.Item) options.is_compact rest
-
 abbrev pub kind_note : Option ListKind → Option (Argument (List ℕ)) → Option NoteKind
 kind_note None width = Some NoListType
 kind_note (Some kinds.Tag) None = Some MissingWidth

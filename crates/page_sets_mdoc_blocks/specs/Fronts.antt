@@ -31,7 +31,8 @@ use Rattle.page_sets_mdoc_lines.specs.declared.blocks.Block.{Block}
 use Rattle.page_sets_mdoc_lines.specs.declared.blocks.Block.TheVariants as blocks
 use Rattle.page_sets_mdoc_lines.specs.declared.blocks.LineMacro.{LineMacro}
 use Rattle.page_sets_mdoc_lines.specs.declared.blocks.LineMacro.TheVariants as lines
-use Rattle.page_sets_mdoc_blocks.specs.Displays.{display, given_font, list_opener, list_note}
+use Rattle.page_sets_mdoc_blocks.specs.Displays.{display, given_font, list_note}
+use Rattle.page_sets_lines.specs.declared.lists.ListKind.TheVariants as list_kinds
 
 -- ---- Which macros begin a line that goes on in words. Source: mdoc(7), "MACRO REFERENCE".
 
@@ -57,12 +58,10 @@ abbrev pub refusal : NoteKind → Line → Event (List ℕ)
 refusal kind line = at_name line (kinds.Note kind (name_of line) false false)
 
 -- the quote of an argument that lacks its last one; its message may begin the body of the page
-abbrev pub quote_event : Place → Bool → Event (List ℕ)
-quote_event place begins_body = event_at place (kinds.Note Unterminated [] false begins_body)
-
 abbrev pub quote_events : ℕ → Bool → Option ℕ → List (Event (List ℕ))
 quote_events number begins_body None = []
-quote_events number begins_body (Some column) = quote_event (record { line = number; column = column }) begins_body ∷ []
+quote_events number begins_body (Some column) =
+    event_at (record { line = number; column = column }) (kinds.Note Unterminated [] false begins_body) ∷ []
 
 -- a macro that prints none of its arguments tells of a quote that lacks its last one
 abbrev pub missing_quote : Bool → Line → List (Event (List ℕ))
@@ -88,7 +87,8 @@ first_text line = text_of (first_of (line_arguments line))
 
 -- what it opens and closes
 abbrev pub opener_of : Block → Line → BlockOpener (List ℕ)
-opener_of blocks.List line = list_opener (list_options (line_arguments line)) (rest_of line)
+opener_of blocks.List line =
+    let options = list_options (line_arguments line) in block_openers.List (unwrap_or options.kind list_kinds.Item) options.is_compact (rest_of line)
 opener_of blocks.Display line = display (line_arguments line)
 opener_of blocks.Fonts line = block_openers.Fonts (given_font (first_text line))
 opener_of blocks.Keep line = block_openers.Keep

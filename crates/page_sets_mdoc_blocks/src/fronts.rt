@@ -5,6 +5,9 @@ ghost use Rattle.page_core_base.specs.laws.Views.{Came};
 ghost use Rattle.page_sets_lines.specs.laws.Events.{event_view, kind_view, opener_view, block_opener_view, block_closer_view};
 ghost use Rattle.page_sets_lines.specs.laws.Views.{BlockCloserFits, BlockOpenerFits, IsShortKind, OpenerFits};
 ghost use Rattle.page_sets_mdoc_blocks.specs.Fronts as fronts;
+ghost use Rattle.page_sets_lines.specs.Lines.{event_at as spec_event_at};
+ghost use Rattle.page_sets_lines.specs.declared.events.EventKind.TheVariants as kinds;
+ghost use Rattle.page_core_base.specs.declared.note_kinds.NoteKind.TheVariants.{Unterminated};
 
 use crate::displays::{display_of, first_font};
 use crate::line_arguments::{first_text, has_real_word, is_first_quoted};
@@ -27,7 +30,7 @@ fn at_name<'a>(line: &ControlLine<'_>, kind: EventKind<&'a [u8]>) -> Event<&'a [
 
 // The message about a quote.
 fn quote_event<'a>(place: Place, begins_body: bool) -> Event<&'a [u8]>
-    ensures { event_view result ≡ fronts.quote_event place begins_body }
+    ensures { event_view result ≡ spec_event_at place (kinds.Note Unterminated [] false begins_body) }
 {
     let detail: &[u8] = &[];
     event_at(

@@ -58,10 +58,6 @@ is_nothing (Some what) = false
 unfoldable pub is_real : Argument (List ℕ) → Bool
 is_real word = is_nothing (word_delimiter word)
 
--- how `An` parts the authors that follow
-abbrev pub is_author_option : List ℕ → Bool
-is_author_option text = bytes_eq text (codes "-split") || bytes_eq text (codes "-nosplit")
-
 -- marks are taken unless they name a macro
 abbrev pub takes_mark : Pair → Argument (List ℕ) → Bool
 takes_mark Custom word = is_nothing (word_call word)
@@ -70,7 +66,7 @@ takes_mark _ word = false
 -- whether a macro takes the word after it as it is, whatever it would be otherwise
 unfoldable pub takes_next : Inline → Argument (List ℕ) → Bool
 takes_next Prefix word = true
-takes_next Author word = is_author_option word.text
+takes_next Author word = bytes_eq word.text (codes "-split") || bytes_eq word.text (codes "-nosplit")
 takes_next (Opens pair) word = takes_mark pair word
 takes_next (Closes pair) word = takes_mark pair word
 takes_next _ word = false

@@ -15,9 +15,15 @@ use Rattle.page_sets_mdoc_lines.specs.declared.macros.Pair.{Pair}
 use Rattle.page_sets_mdoc_lines.specs.declared.macros.Pair.TheVariants as pairs
 use Rattle.page_sets_mdoc_lines.specs.Parts.{is_closing, is_real, front_len}
 use Rattle.page_sets_mdoc_lines.specs.laws.Views.{as_list}
-use Rattle.page_sets_mdoc_words.specs.Inlines.{printed, author, closed, closes_custom, default_word, empty_macro, function, inline_events, link, lone, lone_dash, manual_name, missing_quote, opened, opens_custom, prefix, refused, with_words}
+use Rattle.page_sets_mdoc_words.specs.Inlines.{printed, author, closed, default_word, empty_macro, function, inline_events, link, lone, lone_dash, manual_name, missing_quote, opened, prefix, refused, with_words}
 use Rattle.page_sets_mdoc_words.specs.Sentences.{after_words, before_words, framed, placed_events}
 use Rattle.page_sets_mdoc_words.proofs.PrintLemmas.{Prints, both, bsd_prints, first_taken, flags_print, framed_prints, function_end_prints, function_opened_prints, function_words_print, link_words_print, lone_prints, missing_quote_prints, more_events, named_prints, next_arguments_print, own_first, parted, printed_prints, reference_prints, word_first, word_passed}
+use Rattle.page_sets_lines.specs.Lines.{event_at}
+use Rattle.page_sets_lines.specs.declared.events.EventKind.TheVariants as kinds
+use Rattle.page_sets_lines.specs.declared.openers.Closer.TheVariants as ends
+use Rattle.page_sets_lines.specs.declared.blocks.BlockCloser.TheVariants as closers
+use Rattle.page_sets_lines.specs.declared.openers.Opener.TheVariants as begins
+use Rattle.page_sets_lines.specs.declared.blocks.BlockOpener.TheVariants as openers
 
 -- ---- a macro with all its words
 
@@ -101,7 +107,7 @@ mark_slice line (Some word) words h = h.0
 opened_prints : (line : List ℕ) (place : Place) (name : List ℕ) (pair : Pair) (taken : Option (Argument (List ℕ))) (words : List (Argument (List ℕ)))
     → IsPart line name → IsArgumentIfGiven line taken → AreArguments line words → Prints line 2 words (opened place name pair taken words)
 opened_prints line place name (pairs.Quotation quotation) taken words n m h = first_prints line place.line _ words refl tt h
-opened_prints line place name pairs.Custom taken words n m h = first_prints line place.line (opens_custom place taken) words refl m h
+opened_prints line place name pairs.Custom taken words n m h = first_prints line place.line (event_at place (kinds.Open (begins.Block (openers.Custom taken)))) words refl m h
 opened_prints line place name pairs.Extension taken words n m h = first_prints line place.line _ words refl tt h
 opened_prints line place name pairs.Function taken words n m h =
     with_words_print line 0 place name words _ (omega arith) n h (function_opened_prints line place words h)
@@ -109,7 +115,7 @@ opened_prints line place name pairs.Function taken words n m h =
 closed_prints : (line : List ℕ) (place : Place) (pair : Pair) (taken : Option (Argument (List ℕ))) (words : List (Argument (List ℕ)))
     → IsArgumentIfGiven line taken → AreArguments line words → Prints line 2 words (closed place pair taken words)
 closed_prints line place (pairs.Quotation quotation) taken words m h = first_prints line place.line _ words refl tt h
-closed_prints line place pairs.Custom taken words m h = first_prints line place.line (closes_custom place taken) words refl m h
+closed_prints line place pairs.Custom taken words m h = first_prints line place.line (event_at place (kinds.Close (ends.Block (closers.Custom taken)))) words refl m h
 closed_prints line place pairs.Extension taken words m h = first_prints line place.line _ words refl tt h
 closed_prints line place pairs.Function taken words m h = first_prints line place.line _ words refl tt h
 

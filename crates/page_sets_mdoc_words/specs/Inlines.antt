@@ -35,10 +35,6 @@ use Rattle.page_sets_mdoc_lines.specs.declared.macros.System.TheVariants as syst
 
 -- ---- Words and delimiters as they are printed. Source: mdoc(7), "MACRO SYNTAX" and "Delimiters".
 
--- a word that is no delimiter, between blanks
-abbrev pub real_word : ℕ → Option Font → Argument (List ℕ) → Event (List ℕ)
-real_word number font word = word_event number roles.Argument font Apart Apart word
-
 -- delimiters are roman; there is no blank after an opening one, and none before a closing one
 abbrev pub delimiter_word : ℕ → Delimiter → Argument (List ℕ) → Event (List ℕ)
 delimiter_word number Opening word = word_event number roles.Delimiter (Some R) Apart Glued word
@@ -46,7 +42,7 @@ delimiter_word number Middle word = word_event number roles.Delimiter (Some R) A
 delimiter_word number Closing word = word_event number roles.Delimiter (Some R) Glued Apart word
 
 abbrev pub word_or_delimiter : ℕ → Option Font → Option Delimiter → Argument (List ℕ) → Event (List ℕ)
-word_or_delimiter number font None word = real_word number font word
+word_or_delimiter number font None word = word_event number roles.Argument font Apart Apart word
 word_or_delimiter number font (Some delimiter) word = delimiter_word number delimiter word
 
 -- a word in a font, or a delimiter in its place
@@ -194,9 +190,6 @@ system_text systems.NetBsd = owns.NetBsd
 system_text systems.OpenBsd = owns.OpenBsd
 system_text systems.Unix = owns.Unix
 
-abbrev pub system_word : Place → System → Event (List ℕ)
-system_word place system = generated_word place (system_text system) None Apart Apart
-
 -- a version is before its name
 abbrev pub bsd : Place → List (Argument (List ℕ)) → List (Event (List ℕ))
 bsd place [] = generated_word place owns.Bsd None Apart Apart ∷ []
@@ -246,16 +239,10 @@ prefix place name (Some word) words = word_event place.line roles.Argument None 
 
 -- ---- enclosures
 
-abbrev pub opens_custom : Place → Option (Argument (List ℕ)) → Event (List ℕ)
-opens_custom place mark = event_at place (kinds.Open (begins.Block (openers.Custom mark)))
-
-abbrev pub closes_custom : Place → Option (Argument (List ℕ)) → Event (List ℕ)
-closes_custom place mark = event_at place (kinds.Close (ends.Block (closers.Custom mark)))
-
 abbrev pub opened : Place → List ℕ → Pair → Option (Argument (List ℕ)) → List (Argument (List ℕ)) → List (Event (List ℕ))
 opened place name (pairs.Quotation quotation) taken words =
     event_at place (kinds.Open (begins.Block (openers.Quotation quotation))) ∷ printed place.line None words
-opened place name pairs.Custom taken words = opens_custom place taken ∷ printed place.line None words
+opened place name pairs.Custom taken words = event_at place (kinds.Open (begins.Block (openers.Custom taken))) ∷ printed place.line None words
 opened place name pairs.Extension taken words =
     event_at place (kinds.Open (begins.Block openers.Extension)) ∷ printed place.line None words
 opened place name pairs.Function taken words = with_words place name words (function_opened place words)
@@ -263,7 +250,7 @@ opened place name pairs.Function taken words = with_words place name words (func
 abbrev pub closed : Place → Pair → Option (Argument (List ℕ)) → List (Argument (List ℕ)) → List (Event (List ℕ))
 closed place (pairs.Quotation quotation) taken words =
     event_at place (kinds.Close (ends.Block (closers.Quotation quotation))) ∷ printed place.line None words
-closed place pairs.Custom taken words = closes_custom place taken ∷ printed place.line None words
+closed place pairs.Custom taken words = event_at place (kinds.Close (ends.Block (closers.Custom taken))) ∷ printed place.line None words
 closed place pairs.Extension taken words =
     event_at place (kinds.Close (ends.Block closers.Extension)) ∷ printed place.line None words
 closed place pairs.Function taken words =
@@ -286,7 +273,7 @@ inline_events place name inlines.Flag taken words follows =
     if list_any is_real words then flags place.line words else lone place.line (lone_dash place follows) words
 inline_events place name inlines.Reference taken words follows = with_words place name words (reference place.line words)
 inline_events place name inlines.Function taken words follows = with_words place name words (function place words)
-inline_events place name (inlines.System system) taken words follows = system_word place system ∷ printed place.line None words
+inline_events place name (inlines.System system) taken words follows = generated_word place (system_text system) None Apart Apart ∷ printed place.line None words
 inline_events place name inlines.Bsd taken words follows = bsd place words
 inline_events place name inlines.Link taken words follows = with_words place name words (link place words)
 inline_events place name inlines.NoSpace taken words follows = step_event place steps.Glue ∷ printed place.line None words

@@ -122,9 +122,6 @@ abbrev pub end_join : (all : NameCount) → Join
 end_join counts.Zero = Parted
 end_join _ = Apart
 
-abbrev pub end_word : Place → (all : NameCount) → GeneratedText → Event (List ℕ)
-end_word place all text = generated_word place text None (end_join all) Apart
-
 abbrev pub marked : Place → Option GeneratedText → List (Event (List ℕ)) → List (Event (List ℕ))
 marked place None events = events
 marked place (Some text) events = generated_word place text None Glued Parted ∷ events
@@ -136,7 +133,7 @@ joined place _ events = events
 
 -- the names that are left of this many, in bold, and the rest of the sentence
 abbrev pub names_events : Place → Sentence → NameCount → List (Argument (List ℕ)) → List (Event (List ℕ))
-names_events place sentence all [] = end_word place all (sentence_end sentence (is_plural all)) ∷ []
+names_events place sentence all [] = generated_word place (sentence_end sentence (is_plural all)) None (end_join all) Apart ∷ []
 names_events place sentence all (name ∷ names) =
     sentence_name place.line name
     ∷ marked place (name_mark sentence (has_comma all (name_count names)))

@@ -4,8 +4,10 @@ ghost use Rattle.std.specs.Prelude.{◌≡◌};
 ghost use Rattle.page_roff_syntax.specs.laws.Views.{argument_view};
 ghost use Rattle.page_sets_lines.specs.laws.Events.{event_view, step_view};
 ghost use Rattle.page_sets_lines.specs.laws.Views.{ArgumentFits, IsShort};
-ghost use Rattle.page_sets_lines.specs.Lines.{event_at};
+ghost use Rattle.page_sets_lines.specs.Lines.{event_at, word_event as spec_word_event};
 ghost use Rattle.page_sets_mdoc_words.specs.Inlines as printed;
+ghost use Rattle.page_sets_lines.specs.declared.events.Role.TheVariants as roles;
+ghost use Rattle.page_sets_lines.specs.declared.events.Join.TheVariants.{Apart};
 
 use page_core_base::{Font, Place};
 use page_roff_syntax::Argument;
@@ -14,7 +16,7 @@ use page_sets_mdoc_lines::{Delimiter, word_delimiter};
 
 // A word that is no delimiter, between blanks.
 fn real_word(number: u32, font: Option<Font>, word: Argument<&[u8]>) -> Event<&[u8]>
-    ensures { event_view result ≡ printed.real_word number font (argument_view word.entry) }
+    ensures { event_view result ≡ spec_word_event number roles.Argument font Apart Apart (argument_view word.entry) }
 {
     word_event(number, Role::Argument, font, Join::Apart, Join::Apart, word)
 }

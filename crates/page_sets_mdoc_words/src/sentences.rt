@@ -1,6 +1,6 @@
 //! The sentences of `Ex` and `Rv` (mdoc(7), "Ex" and "Rv").
 
-ghost use Rattle.std.specs.Prelude.{◌≡◌, ◌≤◌, [], ◌∷◌, false, length, if◌then◌else◌};
+ghost use Rattle.std.specs.Prelude.{◌≡◌, ◌≤◌, [], ◌∷◌, false, length, if◌then◌else◌, None};
 ghost use Rattle.page_sets_lines.specs.declared.line_steps.LineStep.TheVariants.{ManualName};
 ghost use Rattle.page_core_base.specs.laws.Views.{Came};
 ghost use Rattle.page_roff_syntax.specs.laws.Views.{argument_view};
@@ -9,6 +9,8 @@ ghost use Rattle.page_sets_mdoc_lines.specs.machine.Cursors.{IsCursorOf};
 ghost use Rattle.page_sets_mdoc_lines.specs.laws.Views.{words_view};
 ghost use Rattle.page_sets_mdoc_words.specs.Inlines.{step_event};
 ghost use Rattle.page_sets_mdoc_words.specs.Sentences as sentences;
+ghost use Rattle.page_sets_lines.specs.Lines.{generated_word as spec_generated_word};
+ghost use Rattle.page_sets_lines.specs.declared.events.Join.TheVariants.{Apart};
 
 use crate::printed::step_event;
 use page_core_base::{Font, LINE, Place};
@@ -119,7 +121,7 @@ fn end_join(all: NameCount) -> Join
 
 // The rest of the sentence as a word.
 fn end_word<'a>(place: Place, all: NameCount, text: GeneratedText) -> Event<&'a [u8]>
-    ensures { event_view result ≡ sentences.end_word place all text }
+    ensures { event_view result ≡ spec_generated_word place text None (sentences.end_join all) Apart }
 {
     generated_word(place, text, None, end_join(all), Join::Apart)
 }

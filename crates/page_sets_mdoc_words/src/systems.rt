@@ -6,6 +6,8 @@ ghost use Rattle.page_sets_lines.specs.laws.Events.{event_view};
 ghost use Rattle.page_sets_mdoc_lines.specs.machine.Cursors.{IsCursorOf};
 ghost use Rattle.page_sets_mdoc_lines.specs.laws.Views.{words_view};
 ghost use Rattle.page_sets_mdoc_words.specs.Inlines as inlines;
+ghost use Rattle.page_sets_lines.specs.Lines.{generated_word as spec_generated_word};
+ghost use Rattle.page_sets_lines.specs.declared.events.Join.TheVariants.{Apart};
 
 use crate::plain::give_printed;
 use crate::printed::{is_opening, printed_word};
@@ -29,7 +31,7 @@ fn system_text(system: System) -> GeneratedText
 
 /// The name of a system.
 pub(crate) fn system_word<'a>(place: Place, system: System) -> Event<&'a [u8]>
-    ensures { event_view result ≡ inlines.system_word place system }
+    ensures { event_view result ≡ spec_generated_word place (inlines.system_text system) None Apart Apart }
 {
     generated_word(place, system_text(system), None, Join::Apart, Join::Apart)
 }

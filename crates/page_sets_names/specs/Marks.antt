@@ -33,9 +33,6 @@ opening these = (row_of_marks these).opening
 abbrev pub closing : Marks → GeneratedText
 closing these = (row_of_marks these).closing
 
-abbrev pub marks_name : Marks → List ℕ
-marks_name these = (row_of_marks these).name
-
 -- the marks of an enclosure, the macro that begins it, and the one that ends it
 pub record QuotationRow : Type 0 where
   pub marks : Marks
@@ -59,8 +56,3 @@ row_of_quotation So = quotation_row Single "So" "Sc"
 abbrev pub quotation_marks : Quotation → Marks
 quotation_marks this = (row_of_quotation this).marks
 
-abbrev pub quotation_name : Quotation → List ℕ
-quotation_name this = (row_of_quotation this).opener
-
-abbrev pub quotation_closer_name : Quotation → List ℕ
-quotation_closer_name this = (row_of_quotation this).closer

@@ -123,9 +123,6 @@ row_of FunctionsReturn = row "functions return the value 0 if successful; otherw
 abbrev pub generated_text : GeneratedText → List ℕ
 generated_text text = (row_of text).text
 
-abbrev pub generated_role : GeneratedText → Role
-generated_role text = (row_of text).role
-
 abbrev pub is_word : Role → Bool
 is_word Mark = false
 is_word _ = true
@@ -135,7 +132,7 @@ ends_sentence Sentence = true
 ends_sentence _ = false
 
 abbrev pub generated_is_word : GeneratedText → Bool
-generated_is_word text = is_word (generated_role text)
+generated_is_word text = is_word ((row_of text).role)
 
 -- a dash alone (`Fl`) is glued to what comes after it in its line
 abbrev pub generated_joins_next : GeneratedText → Bool
@@ -149,4 +146,4 @@ generated_spaced spacing text = text
 
 -- of these only the sentences of `Ex` and `Rv` end one
 abbrev pub generated_ends_sentence : GeneratedText → Bool
-generated_ends_sentence text = ends_sentence (generated_role text)
+generated_ends_sentence text = ends_sentence ((row_of text).role)

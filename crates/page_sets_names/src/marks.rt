@@ -62,7 +62,7 @@ impl Marks {
 
     /// The name of the first macro that has these marks.
     pub fn name(self) -> &'static str
-        ensures { result.now ≡ marks.marks_name self }
+        ensures { result.now ≡ (marks.row_of_marks self).name }
     {
         MARKS[self as usize].2
     }
@@ -78,14 +78,14 @@ impl Quotation {
 
     /// The name of the macro that opens it.
     pub fn name(self) -> &'static str
-        ensures { result.now ≡ marks.quotation_name self }
+        ensures { result.now ≡ (marks.row_of_quotation self).opener }
     {
         QUOTATIONS[self as usize].1
     }
 
     /// The name of the macro that closes it.
     pub fn closer_name(self) -> &'static str
-        ensures { result.now ≡ marks.quotation_closer_name self }
+        ensures { result.now ≡ (marks.row_of_quotation self).closer }
     {
         QUOTATIONS[self as usize].2
     }

@@ -8,7 +8,7 @@ use Rattle.page_roff_syntax.specs.declared.quotes.Argument.{Argument}
 use Rattle.page_roff_syntax.specs.declared.requests.LayoutRequest.{LayoutRequest}
 use Rattle.page_sets_lines.specs.declared.events.Event.{Event}
 use Rattle.page_sets_lines.specs.declared.plain_lines.PlainLine.{PlainLine}
-use Rattle.page_sets_lines.specs.Lines.{name_end, name_of, name_place, is_nameless, line_end, plain_line, layout_request}
+use Rattle.page_sets_lines.specs.Lines.{name_end, name_of, name_place, is_nameless, line_end, plain_line, layout_request, rest_of}
 use Rattle.page_sets_lines.specs.laws.Sets.{AreSlices, AreInOrder}
 use Rattle.page_sets_lines.proofs.ArgumentLaws.{ArgumentsFrom, all_after, earlier}
 use Rattle.page_sets_lines.proofs.LawLemmas.{name_part, line_slices, AreSlices-append, HasNoWord, order_after, order_before, line_order, named_bytes}
@@ -18,13 +18,15 @@ use Rattle.page_sets_mdoc_lines.specs.declared.blocks.LineMacro.TheVariants as l
 use Rattle.page_sets_mdoc_lines.specs.Rows.{line_macro, is_parsed}
 use Rattle.page_sets_mdoc_lines.proofs.FewLemmas.{few_arguments_after}
 use Rattle.page_sets_mdoc_words.proofs.PrintLemmas.{Prints, no_event, more_events, word_passed, printed_prints, include_prints, sentence_prints, framed_prints}
-use Rattle.page_sets_mdoc_blocks.specs.Fronts.{line_arguments, request_front, has_real_word, is_standard, given_names, block_front}
+use Rattle.page_sets_mdoc_blocks.specs.Fronts.{line_arguments, request_front, has_real_word, is_standard, given_names, block_front, has_phrase}
 use Rattle.page_sets_mdoc_blocks.proofs.FrontLemmas.{request_front_slices, block_slices, request_no_word, block_no_word, request_few, words_more, block_few}
 use Rattle.page_sets_mdoc_words.specs.Sentences.{sentence_events}
 use Rattle.page_sets_mdoc_lines.specs.declared.blocks.Sentence.{Sentence}
 use Rattle.page_sets_lines.specs.declared.line_steps.SynopsisStep.TheVariants.{Break}
-use Rattle.page_sets.specs.Mdoc.{field_font, include_words, words_events, refused_events, lacks_words, macro_events, request_events, named_events, control_events, line_events, mdoc_events}
+use Rattle.page_sets.specs.Mdoc.{field_font, include_words, words_events, refused_events, macro_events, request_events, named_events, control_events, line_events, mdoc_events}
 use Rattle.page_sets.specs.machine.RestLaws.{head_prints, phrase_prints}
+use Rattle.std.specs.Prelude.{◌&&◌, not}
+use Rattle.page_roff_syntax.specs.Arguments.{has_arguments}
 
 -- ---- the words of a line
 
@@ -98,7 +100,7 @@ either_keeps line false events others h k = k
 
 macro_keeps : (begins : LineMacro) (line : Line) → Keeps line (macro_events begins line)
 macro_keeps begins line =
-    either_keeps line (lacks_words begins line) _ _ (refused_keeps line EmptyMacro)
+    either_keeps line (has_phrase begins && not (has_arguments (rest_of line))) _ _ (refused_keeps line EmptyMacro)
     (with_words line (words_more begins) (block_front begins line) (words_events begins line) (block_slices begins line) (block_no_word begins line) (block_few begins line) (words_print begins line))
 
 request_keeps : (request : Option LayoutRequest) (line : Line) → Keeps line (request_events request line)

@@ -3,7 +3,7 @@ use Rattle.std.specs.Borrow.{Bor}
 use Rattle.std.specs.Prelude.{ℕ, List, Option, None, Some, ◌≡◌, [], ◌∷◌, MatchOption, codes}
 use Rattle.page_roff_syntax.specs.laws.Views.{argument_view}
 use Rattle.page_roff_syntax.specs.declared.quotes.Argument.{Argument}
-use Rattle.page_sets_names.specs.Marks.{marks_name}
+use Rattle.page_sets_names.specs.Marks.{row_of_marks}
 use Rattle.page_sets_names.specs.Names.{font_macro_name, heading_name, one_line_name, tag_name}
 use Rattle.page_sets_lines.specs.declared.blocks.BlockCloser.{BlockCloser}
 use Rattle.page_sets_lines.specs.declared.blocks.BlockCloser.TheVariants as block_closers
@@ -142,6 +142,6 @@ line_opener_name Head = codes "It"
 line_opener_name (Heading heading) = heading_name heading
 line_opener_name (Tag tag) = tag_name tag
 line_opener_name (FontWords font_macro) = font_macro_name font_macro
-line_opener_name (Enclosure marks) = marks_name marks
+line_opener_name (Enclosure marks) = (row_of_marks marks).name
 line_opener_name Description = codes "Nd"
 line_opener_name (OneLine name) = one_line_name name
