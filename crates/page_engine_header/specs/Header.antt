@@ -178,7 +178,7 @@ cut_item place len = if nat_lt FIELD len then says Limit place (codes "FIELD") �
 abbrev pub argument_cut : Place → Argument (List ℕ) → List Item
 argument_cut place argument = cut_item place (said_len argument)
 
--- of TH each field, of Dt the title, the section and the volume with the architecture in brackets, of the others all words
+-- of TH its five fields, of Dt the title, the section and the volume with the architecture in brackets, of the others all words
 abbrev pub cut_items : Prologue → Place → List (Argument (List ℕ)) → List Item
 cut_items TH place arguments = flat_map (argument_cut place) (take 5 arguments)
 cut_items Dt place (title ∷ section ∷ arch ∷ others) =

@@ -40,7 +40,7 @@ title_fields has_begun name os rest fields =
 
 -- ---- The language of a page: the set of macros that its lines are of. Source: mandoc(1), -m; man(7), TH; mdoc(7), Dd.
 
--- a control line without a name, or of a request that changes rows, is of both
+-- a control line without a name, or of a request that changes rows, is of both; one of a macro is of man(7), but `Dd` is of mdoc(7)
 abbrev pub control_language : Line → Option Either
 control_language line =
     if is_nameless line || is_some (layout_request (name_of line)) then None else Some (if bytes_eq (name_of line) (codes "Dd") then Mdoc else Man)

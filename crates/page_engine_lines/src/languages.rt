@@ -12,7 +12,7 @@ use page_sets_lines::{ControlLine, PlainLine, layout_request};
 
 // The language of a macro's name.
 fn macro_language(name: &[u8]) -> Either
-    ensures { result ≡ if bytes_eq name.now (codes "Dd") then Mdoc else Man }
+    ensures { result ≡ (if bytes_eq name.now (codes "Dd") then Mdoc else Man) }
 {
     match name {
         b"Dd" => Either::Mdoc,

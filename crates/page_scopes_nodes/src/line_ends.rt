@@ -9,7 +9,7 @@ use page_scopes_phrases::Formatting;
 
 // Whether a line is a row that ends with it.
 fn ends_row(state: &Formatting) -> bool
-    ensures { result ≡ state.now.context.is_literal.value && (not state.now.line.is_cut && state.now.line.has_row_words) }
+    ensures { result ≡ (state.now.context.is_literal.value && (not state.now.line.is_cut && state.now.line.has_row_words)) }
 {
     state.context.is_literal.value && (!state.line.is_cut && state.line.has_row_words)
 }

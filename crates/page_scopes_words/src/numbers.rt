@@ -1,7 +1,7 @@
 //! The value of an expression in basic units, in columns and in rows, with its messages (roff(7), "Numerical expressions",
 //! "Scaling Widths").
 
-ghost use Rattle.std.specs.Prelude.{◌≡◌, nat_lt, ◌∷◌, if◌then◌else◌};
+ghost use Rattle.std.specs.Prelude.{◌≡◌, [], nat_lt, ◌∷◌, if◌then◌else◌};
 ghost use Rattle.page_core_base.specs.laws.Views.{Came};
 ghost use Rattle.page_scopes_words.specs.Words as numbers;
 ghost use Rattle.page_scopes_words.specs.Words.{number_notes, number_value};

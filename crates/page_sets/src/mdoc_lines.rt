@@ -34,7 +34,7 @@ fn give_refused<'a, O: EventTaker<'a>>(out: &mut O, kind: NoteKind, line: &Contr
 
 // Whether a macro needs words, and has none.
 fn lacks_words(begins: LineMacro, line: &ControlLine<'_>) -> bool
-    ensures { result ≡ spec_has_phrase begins && not (has_arguments (rest_of line.now)) }
+    ensures { result ≡ (spec_has_phrase begins && not (has_arguments (rest_of line.now))) }
 {
     has_phrase(begins) && !line.has_arguments()
 }
