@@ -69,13 +69,14 @@ fn is_whole(text: &[u8], copy: bool, fits: usize) -> bool
     LONG <= text.len() && text.len() <= fits && is_verbatim(text, copy)
 }
 
-// Where a text's first backslash is: mostly at its front, after a pair that a pair follows.
+// Where a text's first backslash is. Behind a pair it is often the next byte or the one after that.
 #[inline(always)]
 fn backslash_place(text: &[u8]) -> Option<usize>
     ensures { IsFirstByte (is_byte 92) text.now result }
 {
     match text {
         [b'\\', ..] => Some(0),
+        [_, b'\\', ..] => Some(1),
         _ => memchr(b'\\', text),
     }
 }

@@ -1,5 +1,6 @@
 -- The name of the manual, token by token.
-use Rattle.std.proofs.Common.{◌≡◌, ℕ, ◌+◌, ◌<◌, ◌≤◌, Bool, false, ◌||◌, List, [], ◌∷◌, ◌++◌, append_assoc, length, map, drop, get_or, add-one, inl, inr, refl, sym, ap, ◌∙◌, arith}
+use Rattle.std.proofs.Common.{◌≡◌, ℕ, zero, suc, ◌+◌, ◌<◌, ◌≤◌, Bool, true, false, ◌||◌, ◌&&◌, if◌then◌else◌, List, [], ◌∷◌, ◌++◌, append_assoc, length, map, take, drop, get_or, add-one, inl, inr, refl, sym, ap, ◌∙◌, arith}
+use Rattle.std.specs.List.{prefix_len}
 use Rattle.std.proofs.lemmas.Bool.{cases_Bool}
 use Rattle.std.proofs.lemmas.List.{drop_all}
 use Rattle.std.proofs.Math.Seq.{drop-cons}
@@ -7,8 +8,8 @@ use Rattle.page_core_base.specs.declared.cells.Font.{Font}
 use Rattle.page_core_base.specs.declared.places.Place.{Place}
 use Rattle.page_core_base.specs.Rows.{Item}
 use Rattle.page_core_escapes.specs.Meanings as meanings
-use Rattle.page_core_escapes.specs.Meanings.{Meaning}
-use Rattle.page_core_escapes.specs.Tokens.{TextToken, white, plain, quotes, escaped, token_at, token_len, tokens_len, tokens_of}
+use Rattle.page_core_escapes.specs.Meanings.{Meaning, escape_of}
+use Rattle.page_core_escapes.specs.Tokens.{TextToken, white, plain, quotes, escaped, begins_escape, begins_quote, begins_white, is_white, prints_itself, token_at, token_bytes, token_len, tokens_len, tokens_of}
 use Rattle.page_core_escapes.specs.laws.Views.{begins_word}
 use Rattle.page_core_escapes.proofs.TokenLemmas.{len_within, tokens_more, tokens_none}
 use Rattle.page_scopes_words.specs.declared.fonts.Fonts.{Fonts}
@@ -18,7 +19,7 @@ use Rattle.page_scopes_words.specs.Words.{blank_count, blank_text}
 use Rattle.page_scopes_words.proofs.BlankCountLemmas.{count-within}
 use Rattle.page_scopes_text.proofs.PartedLemmas.{white_front, white_some, word_some}
 use Rattle.page_scopes_phrases.specs.Names.{part_items}
-use Rattle.page_scopes_phrases.specs.declared.kept_names.Known.TheVariants.{Blanks, Nothing}
+use Rattle.page_scopes_phrases.specs.declared.kept_names.Known.TheVariants.{Blanks, Nothing, White, Plain}
 use Rattle.page_scopes_phrases.specs.declared.kept_names.NamePart.{NamePart}
 use Rattle.page_scopes_phrases.specs.machine.NameParts.{meaning_known, part_of, parts_of, token_known}
 
@@ -69,6 +70,54 @@ token-quiet (white bytes) is = cc
 token-quiet (plain bytes) is = cc
 token-quiet (quotes bytes) is = cc
 token-quiet (escaped bytes meaning) is = escape-quiet bytes meaning is
+
+-- ---- a token that prints as it is written
+
+meaning-other : (meaning : Meaning) → (meaning_known meaning ≡ White → ⊥) × (meaning_known meaning ≡ Plain → ⊥)
+meaning-other (meanings.blanks expression) = ((λ is. cc), (λ is. cc))
+meaning-other _ = ((λ is. cc), (λ is. cc))
+
+token-white : (token : TextToken) → token_known token ≡ White → token ≡ white (token_bytes token)
+token-white (white bytes) is = refl
+token-white (plain bytes) is = cc
+token-white (quotes bytes) is = cc
+token-white (escaped bytes meaning) is = absurd ((meaning-other meaning).0 is)
+
+token-plain : (token : TextToken) → token_known token ≡ Plain → token ≡ plain (token_bytes token)
+token-plain (white bytes) is = cc
+token-plain (plain bytes) is = refl
+token-plain (quotes bytes) is = cc
+token-plain (escaped bytes meaning) is = absurd ((meaning-other meaning).1 is)
+
+take-own : (n : ℕ) (text : List ℕ) → take n text ≡ take (length (take n text)) text
+take-own zero text = refl
+take-own (suc n) [] = refl
+take-own (suc n) (b ∷ text) = ap (λ bytes. b ∷ bytes) (take-own n text)
+
+either-own : (b : Bool) (s t : TextToken) (text : List ℕ) → token_bytes s ≡ take (length (token_bytes s)) text → token_bytes t ≡ take (length (token_bytes t)) text
+    → token_bytes (if b then s else t) ≡ take (length (token_bytes (if b then s else t))) text
+either-own true s t text h k = h
+either-own false s t text h k = k
+
+-- its bytes are a front of the text
+token-own : (text : List ℕ) → token_bytes (token_at false text) ≡ take (token_len false text) text
+unfolding token_at
+token-own text =
+    either-own (begins_white text) _ _ text (take-own (prefix_len is_white text) text)
+    (either-own (begins_escape text) _ _ text (take-own (escape_of false text).1 text)
+    (either-own (false && begins_quote text) (quotes (take 2 text)) (plain (take (prefix_len (prints_itself false) text) text)) text (take-own 2 text)
+    (take-own (prefix_len (prints_itself false) text) text)))
+
+own-front : (text : List ℕ) (part : NamePart) → part ≡ part_of (token_at false text) → take part.len text ≡ token_bytes (token_at false text)
+own-front text part known = ap (λ (p : NamePart). take p.len text) known ∙ sym (token-own text)
+
+pub white-front : (text : List ℕ) (part : NamePart) → part ≡ part_of (token_at false text) → part.known ≡ White → white (take part.len text) ≡ token_at false text
+white-front text part known is =
+    ap white (own-front text part known) ∙ sym (token-white (token_at false text) (ap (λ (p : NamePart). p.known) (sym known) ∙ is))
+
+pub plain-front : (text : List ℕ) (part : NamePart) → part ≡ part_of (token_at false text) → part.known ≡ Plain → plain (take part.len text) ≡ token_at false text
+plain-front text part known is =
+    ap plain (own-front text part known) ∙ sym (token-plain (token_at false text) (ap (λ (p : NamePart). p.known) (sym known) ∙ is))
 
 -- ---- items that wait, those of a token, and the others
 

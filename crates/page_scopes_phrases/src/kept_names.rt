@@ -1,7 +1,7 @@
 //! The name of the manual as it is kept, with what is known of its tokens: it may be printed many times (mdoc(7), `Nm`).
 ghost use Rattle.std.specs.Prelude.{◌≡◌, ◌≤◌, length, false};
 ghost use Rattle.page_core_escapes.specs.Tokens.{token_bytes, tokens_of};
-ghost use Rattle.page_core_escapes.specs.laws.Views.{token_view};
+ghost use Rattle.page_core_escapes.specs.laws.Views.{meaning_view, token_view};
 ghost use Rattle.page_scopes_phrases.specs.Names as kept;
 ghost use Rattle.page_scopes_phrases.specs.machine.NameParts as names;
 
@@ -20,6 +20,10 @@ pub(crate) enum Known {
     Blanks(u16),
     /// Nothing, and the fonts stay as they are.
     Nothing,
+    /// White space.
+    White,
+    /// Characters that print themselves.
+    Plain,
     /// It is read when it is printed.
     #[default]
     Unread,
@@ -53,17 +57,26 @@ impl Model for ManualName {
     ghost invariant = { λ m. IsRead m.kept.text m.parts.items m.prints_filled m.prints_literal };
 }
 
-// What a token prints, where it is known by its meaning.
-fn token_known(token: &Token<'_>) -> Known
-    ensures { result ≡ names.token_known (token_view token.now) }
+// What an escape prints, where that is known.
+fn meaning_known(meaning: Escape<'_>) -> Known
+    ensures { result ≡ names.meaning_known (meaning_view meaning.entry) }
 {
-    let Token::Escaped { meaning, .. } = *token else {
-        return Known::Unread;
-    };
     match meaning {
         Escape::Blanks(expression) => Known::Blanks(blank_count(expression) as u16),
         Escape::Nothing | Escape::Glue | Escape::Unsupported | Escape::Bad => Known::Nothing,
         _ => Known::Unread,
+    }
+}
+
+// What a token prints, where that is known.
+fn token_known(token: &Token<'_>) -> Known
+    ensures { result ≡ names.token_known (token_view token.now) }
+{
+    match *token {
+        Token::White(_) => Known::White,
+        Token::Plain(_) => Known::Plain,
+        Token::Quotes(_) => Known::Unread,
+        Token::Escaped { meaning, .. } => meaning_known(meaning),
     }
 }
 

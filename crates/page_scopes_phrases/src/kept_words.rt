@@ -4,7 +4,7 @@ ghost use Rattle.page_core_base.specs.laws.Views.{Came, CameUpTo};
 ghost use Rattle.page_core_base.specs.Rows.{shown};
 ghost use Rattle.page_core_base.specs.declared.pieces.Piece.TheVariants.{Blank};
 ghost use Rattle.page_core_escapes.specs.laws.Views.{token_view};
-ghost use Rattle.page_core_escapes.specs.Tokens.{tokens_of};
+ghost use Rattle.page_core_escapes.specs.Tokens.{token_at, tokens_of};
 ghost use Rattle.page_core_base.specs.declared.limits.TheConstants.{FIELD};
 ghost use Rattle.page_roff_syntax.specs.laws.Views.{argument_view};
 ghost use Rattle.page_scopes_phrases.specs.Names as kept;
@@ -63,6 +63,7 @@ fn give_white<O: PieceOut>(out: &mut O, is_literal: bool, gap: u32, place: Place
 }
 
 // Gives a token of a kept text.
+#[inline(always)]
 fn give_part<O: PieceOut>(
     out: &mut O,
     is_literal: bool,
@@ -169,6 +170,21 @@ impl BlankTexts {
     }
 }
 
+// The token at a text's front, of which this is known: what prints as it is written is not read anew.
+#[inline(always)]
+fn token_of(part: NamePart, text: &[u8]) -> Token<'_>
+    requires known { part ≡ names.part_of (token_at false text.now) }
+    requires within { part.len ≤ length text.now }
+    requires line { length text.now ≤ LINE }
+    ensures { token_view result ≡ token_at false text.now }
+{
+    match part.known {
+        Known::White => Token::White(&text[..part.len as usize]),
+        Known::Plain => Token::Plain(&text[..part.len as usize]),
+        _ => read_token(false, text),
+    }
+}
+
 // Gives what a text prints without its messages, all at one place, where parts say what is known of its tokens.
 fn give_known_parts<O: PieceOut>(
     out: &mut O,
@@ -192,10 +208,10 @@ fn give_known_parts<O: PieceOut>(
         match part.known {
             Known::Blanks(count) => blanks = blanks.with(out, count, fonts.value.font, place),
             Known::Nothing => {}
-            Known::Unread => {
+            Known::White | Known::Plain | Known::Unread => {
                 blanks.give(out, fonts.value.font, place);
                 blanks = NO_BLANKS;
-                let token = read_token(false, &text[at..]);
+                let token = token_of(*part, &text[at..]);
                 give_part(out, is_literal, gap, place, fonts.value.font, &token);
                 fonts = fonts_after(&token, fonts);
             }

@@ -6,14 +6,14 @@ use Rattle.page_core_base.specs.declared.pieces.Piece.TheVariants.{Text}
 use Rattle.page_core_base.specs.declared.places.Place.{Place}
 use Rattle.page_core_escapes.specs.Meanings as meanings
 use Rattle.page_core_escapes.specs.Meanings.{Meaning}
-use Rattle.page_core_escapes.specs.Tokens.{TextToken, escaped, token_bytes, tokens_of}
+use Rattle.page_core_escapes.specs.Tokens.{TextToken, white, plain, quotes, escaped, token_bytes, tokens_of}
 use Rattle.page_scopes_phrases.specs.Names.{prints_cell}
 use Rattle.page_scopes_phrases.specs.declared.kept_names.Known.{Known}
-use Rattle.page_scopes_phrases.specs.declared.kept_names.Known.TheVariants.{Blanks, Nothing, Unread}
+use Rattle.page_scopes_phrases.specs.declared.kept_names.Known.TheVariants.{Blanks, Nothing, White, Plain, Unread}
 use Rattle.page_scopes_phrases.specs.declared.kept_names.NamePart.{NamePart}
 use Rattle.page_scopes_words.specs.Words.{blank_count}
 
--- what an escape prints, and a token, as far as it is known: its blanks, where it is a `\h`, or nothing
+-- what an escape prints, and a token, as far as it is known: its blanks, where it is a `\h`, or nothing, or what prints as it is written
 abbrev pub meaning_known : Meaning → Known
 meaning_known (meanings.blanks expression) = Blanks (blank_count expression)
 meaning_known meanings.nothing = Nothing
@@ -23,8 +23,10 @@ meaning_known meanings.bad = Nothing
 meaning_known _ = Unread
 
 abbrev pub token_known : TextToken → Known
+token_known (white bytes) = White
+token_known (plain bytes) = Plain
+token_known (quotes bytes) = Unread
 token_known (escaped bytes meaning) = meaning_known meaning
-token_known _ = Unread
 
 abbrev pub part_of : TextToken → NamePart
 part_of token = record { len = length (token_bytes token); known = token_known token }

@@ -9,10 +9,19 @@ use Rattle.page_scopes_words.specs.Fonts.{fonts_after}
 use Rattle.page_scopes_words.specs.Words.{blank_text}
 use Rattle.page_scopes_phrases.proofs.NameLemmas.{next-part, no-part, regroup, token-blank, token-quiet}
 use Rattle.page_scopes_phrases.proofs.kept_words.give_known_parts.Goals as goal
-use Rattle.page_scopes_phrases.proofs.kept_words.give_known_parts.Goals.{in-Blanks, in-Nothing, in-Unread}
+use Rattle.page_scopes_phrases.proofs.kept_words.give_known_parts.Goals.{in-Blanks, in-Nothing, in-White}
 
 no_blank : NamePart
 no_blank = record { len = 0; known = Blanks 0 }
+
+pub token_of-token-requires : goal.token_of-token-requires
+unfolding no_blank
+token_of-token-requires g c =
+    let l = c.loop-part in
+    let text = c.args.text.now in
+    let first = next-part (drop l.at text) c.args.parts.now l.part-index no_blank c.loop-part-test.true l.invariant.known in
+    let len = length-drop l.at text in
+    rw (take_rest text l.at) (record { known = first.known; within = first.within; line = omega (arith, len, c.requires.within) })
 
 pub loop-part-preserved : goal.loop-part-preserved
 unfolding no_blank
@@ -44,13 +53,13 @@ loop-part-preserved g c =
             let came : g.O.PieceOut.left plan l.out ((waiting ++ items) ++ rest) =
             rw (first.tokens, q.items c.args.is_literal l.gap c.args.place l.fonts.value.font, q.fonts l.fonts) at (i.came plan rest h) in
             rw (w.out-is, w.fonts-is, w.blanks-is) came
-        | in-Unread w ↦ λ plan rest h.
+        | in-White w ↦ λ plan rest h.
             let text = part_items c.args.is_literal l.gap c.args.place l.fonts.value.font token in
             let items = parts_items c.args.is_literal 1 c.args.place (fonts_after token l.fonts) others in
             let came : g.O.PieceOut.left plan l.out ((waiting ++ (text ++ items)) ++ rest) = rw first.tokens at (i.came plan rest h) in
             let regrouped : g.O.PieceOut.left plan l.out (waiting ++ (text ++ (items ++ rest))) = rw (regroup waiting text items rest, append_assoc) at came in
             let given = w.give.ensures plan (text ++ (items ++ rest)) regrouped in
-            let read = rw (take_rest c.args.text.now l.at) at w.read_token-token.ensures.value in
+            let read = rw (take_rest c.args.text.now l.at) at w.token_of-token.ensures in
             rw (w.out-is, w.fonts-is, w.blanks-is, w.fonts_after-fonts.ensures, read)
             (w.give_part.ensures plan (items ++ rest) (rw read given))
       ];
@@ -61,12 +70,12 @@ loop-part-preserved g c =
             let known : token_known token ≡ Blanks w.in-Blanks.count = ap (λ (p : NamePart). p.known) (sym first.known) ∙ w.in-Blanks.is in
             rw (w.blanks-is, w.with-blanks.ensures.count) (token-blank token w.in-Blanks.count known).within
         | in-Nothing w ↦ rw w.blanks-is i.count
-        | in-Unread w ↦ rw w.blanks-is (omega arith)
+        | in-White w ↦ rw w.blanks-is (omega arith)
       ];
       times = elim c.match-part.branch [
         | in-Blanks w ↦ let more = w.with-blanks.ensures.times in rw w.blanks-is (omega (arith, more, i.times))
         | in-Nothing w ↦ rw w.blanks-is (omega (arith, i.times))
-        | in-Unread w ↦ rw w.blanks-is (omega arith)
+        | in-White w ↦ rw w.blanks-is (omega arith)
       ];
     })
 
