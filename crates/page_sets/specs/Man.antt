@@ -167,19 +167,11 @@ effect_kind (effects.Closes scope) rest arguments = Some (kinds.Close (closer sc
 effect_kind (effects.Sets change) rest arguments = Some (kinds.Leaf (leaf change rest arguments))
 
 -- the line scope that it opens
-abbrev pub opens_line_scope : Opens → Option LineOpener
-opens_line_scope opens.Section = Some (Heading SH)
-opens_line_scope opens.Subsection = Some (Heading SS)
-opens_line_scope opens.Tagged = Some (Tag TP)
-opens_line_scope _ = None
-
-abbrev pub sets_line_scope : Sets → Option LineOpener
-sets_line_scope sets.FurtherTag = Some (Tag TQ)
-sets_line_scope _ = None
-
 abbrev pub line_scope : Effect → Option LineOpener
-line_scope (effects.Opens scope) = opens_line_scope scope
-line_scope (effects.Sets change) = sets_line_scope change
+line_scope (effects.Opens opens.Section) = Some (Heading SH)
+line_scope (effects.Opens opens.Subsection) = Some (Heading SS)
+line_scope (effects.Opens opens.Tagged) = Some (Tag TP)
+line_scope (effects.Sets sets.FurtherTag) = Some (Tag TQ)
 line_scope _ = None
 
 -- ---- its words

@@ -27,7 +27,8 @@ use Rattle.page_sets_mdoc_lines.specs.declared.blocks.LineMacro.{LineMacro}
 use Rattle.page_sets_mdoc_lines.specs.declared.blocks.LineMacro.TheVariants as lines
 use Rattle.page_sets_mdoc_blocks.specs.Fronts.{at_name, line_arguments, quote_events, missing_quote, request_front, heading_opener, first_text, opener_of, closer_of, kind_at_name, note_detail, note_events, block_note, begin_front, end_front, has_real_word, field_front, option_quote, include_front, spacing_of, spacing_kind, spacing_front, block_front}
 use Rattle.page_sets_mdoc_blocks.specs.declared.displays.DisplayOptions.{DisplayOptions}
-use Rattle.page_sets_mdoc_blocks.specs.Displays.{display_type, first_type, no_options, option_read, options_after}
+use Rattle.page_sets_mdoc_blocks.specs.Displays.{display_type, no_options, option_read, options_after}
+use Rattle.std.specs.Option.{option_or}
 
 -- ---- slices
 
@@ -77,7 +78,7 @@ read_slices : (line : List ℕ) (so_far : DisplayOptions (List ℕ)) (word : Arg
     → IsArgumentIfGiven line (option_read so_far word).offset
 read_slices line so_far word h k =
     option_slices line so_far.takes_offset (bytes_eq word.text (codes "-offset")) (bytes_eq word.text (codes "-compact")) so_far word
-    (first_type so_far.is_literal (display_type word.text)) h k
+    (option_or so_far.is_literal (display_type word.text)) h k
 
 options_slices : (line : List ℕ) (so_far : DisplayOptions (List ℕ)) (words : List (Argument (List ℕ))) → IsArgumentIfGiven line so_far.offset
     → AreArguments line words → IsArgumentIfGiven line (options_after so_far words).offset

@@ -1,5 +1,5 @@
 -- What the arguments of `Bd`, `Bf` and `Bl` open, and what they lack. Source: mdoc(7), `Bd`, `Bf`, `Bl`.
-use Rattle.std.specs.Prelude.{Option, None, Some, ℕ, List, Bool, true, false, [], ◌∷◌, codes, if◌then◌else◌, unwrap_or}
+use Rattle.std.specs.Prelude.{Option, None, Some, ℕ, List, Bool, true, false, [], ◌∷◌, codes, if◌then◌else◌, unwrap_or, option_and_then}
 use Rattle.std.specs.Str.{bytes_eq}
 use Rattle.page_core_base.specs.declared.cells.Font.{Font}
 use Rattle.page_core_base.specs.declared.cells.Font.TheVariants.{R, B, I}
@@ -13,6 +13,7 @@ use Rattle.page_sets_lines.specs.declared.lists.ListKind.TheVariants as kinds
 use Rattle.page_sets_lines.specs.declared.lists.ListOptions.{ListOptions}
 use Rattle.page_sets_mdoc_lines.specs.Rows.{said}
 use Rattle.page_sets_mdoc_blocks.specs.declared.displays.DisplayOptions.{DisplayOptions}
+use Rattle.std.specs.Option.{option_or}
 
 -- ---- The list that `Bl` opens, and what its arguments lack. Source: mdoc(7), `Bl`.
 
@@ -42,10 +43,6 @@ display_types =
 unfoldable pub display_type : List ℕ → Option Bool
 display_type word = said display_types word
 
-abbrev pub first_type : Option Bool → Option Bool → Option Bool
-first_type None other = other
-first_type (Some kind) other = Some kind
-
 -- before its first argument
 abbrev pub no_options : DisplayOptions (List ℕ)
 no_options = record { is_literal = None; is_compact = false; offset = None; takes_offset = false }
@@ -56,7 +53,7 @@ option_read so_far word =
     if so_far.takes_offset then record so_far { offset = Some word; takes_offset = false }
     else if bytes_eq word.text (codes "-offset") then record so_far { takes_offset = true }
     else if bytes_eq word.text (codes "-compact") then record so_far { is_compact = true }
-    else record so_far { is_literal = first_type so_far.is_literal (display_type word.text) }
+    else record so_far { is_literal = option_or so_far.is_literal (display_type word.text) }
 
 -- after all of them
 abbrev pub options_after : DisplayOptions (List ℕ) → List (Argument (List ℕ)) → DisplayOptions (List ℕ)
@@ -86,5 +83,4 @@ font_named word = said font_rows word
 
 -- that of an argument that may be missing
 abbrev pub given_font : Option (List ℕ) → Option Font
-given_font None = None
-given_font (Some word) = font_named word
+given_font word = option_and_then font_named word

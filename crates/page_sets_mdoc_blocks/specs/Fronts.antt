@@ -5,7 +5,6 @@ use Rattle.std.specs.Str.{bytes_eq}
 use Rattle.page_core_base.specs.Texts.{Line}
 use Rattle.page_core_base.specs.declared.note_kinds.NoteKind.{NoteKind}
 use Rattle.page_core_base.specs.declared.note_kinds.NoteKind.TheVariants.{Unterminated, UnknownFont, EmptyMacro}
-use Rattle.page_core_base.specs.declared.places.Place.{Place}
 use Rattle.page_roff_syntax.specs.Arguments.{is_quoted}
 use Rattle.page_roff_syntax.specs.declared.quotes.Argument.{Argument}
 use Rattle.page_roff_syntax.specs.declared.requests.LayoutRequest.{LayoutRequest}
@@ -33,6 +32,7 @@ use Rattle.page_sets_mdoc_lines.specs.declared.blocks.LineMacro.{LineMacro}
 use Rattle.page_sets_mdoc_lines.specs.declared.blocks.LineMacro.TheVariants as lines
 use Rattle.page_sets_mdoc_blocks.specs.Displays.{display, given_font, list_note}
 use Rattle.page_sets_lines.specs.declared.lists.ListKind.TheVariants as list_kinds
+use Rattle.std.specs.Option.{option_map_or}
 
 -- ---- Which macros begin a line that goes on in words. Source: mdoc(7), "MACRO REFERENCE".
 
@@ -111,12 +111,8 @@ note_detail UnknownFont line = unwrap_or (first_text line) []
 note_detail _ line = []
 
 -- whether that argument is quoted
-abbrev pub given_is_quoted : Option (Argument (List ℕ)) → Bool
-given_is_quoted None = false
-given_is_quoted (Some argument) = is_quoted argument.quoting
-
 abbrev pub note_is_quoted : NoteKind → Line → Bool
-note_is_quoted UnknownFont line = given_is_quoted (first_of (line_arguments line))
+note_is_quoted UnknownFont line = option_map_or (λ argument. is_quoted argument.quoting) (first_of (line_arguments line)) false
 note_is_quoted _ line = false
 
 abbrev pub note_events : Line → Option NoteKind → List (Event (List ℕ))

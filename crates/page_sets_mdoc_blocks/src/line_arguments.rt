@@ -1,6 +1,8 @@
 //! The arguments of the macro that begins a line (mdoc(7), "MACRO SYNTAX").
 
-ghost use Rattle.std.specs.Prelude.{◌≡◌};
+ghost use Rattle.std.specs.Option.{option_map_or};
+ghost use Rattle.std.specs.Prelude.{◌≡◌, false};
+ghost use Rattle.page_roff_syntax.specs.Arguments.{is_quoted};
 ghost use Rattle.page_sets_lines.specs.laws.Events.{text_view};
 ghost use Rattle.page_sets_lines.specs.Lines.{first_of, text_of};
 ghost use Rattle.page_sets_mdoc_blocks.specs.Fronts as fronts;
@@ -20,7 +22,7 @@ pub(crate) fn first_text<'a>(line: &ControlLine<'a>) -> Option<&'a [u8]>
 
 /// Whether the first argument of a line is quoted.
 pub(crate) fn is_first_quoted(line: &ControlLine<'_>) -> bool
-    ensures { result ≡ fronts.given_is_quoted (first_of (fronts.line_arguments line.now)) }
+    ensures { result ≡ option_map_or (λ argument. is_quoted argument.quoting) (first_of (fronts.line_arguments line.now)) false }
 {
     match line.first_argument() {
         Some(argument) => argument.is_quoted(),

@@ -10,9 +10,10 @@ use Rattle.page_roff_syntax.specs.Arguments.{is_quoted}
 use Rattle.page_sets_mdoc_lines.specs.declared.macros.Inline.{Inline}
 use Rattle.page_sets_mdoc_lines.specs.declared.word_spans.WordSpan.{WordSpan}
 use Rattle.page_sets_mdoc_lines.specs.Rows.{row_of, called}
-use Rattle.page_sets_mdoc_lines.specs.Parts.{delimiters, delimiter_of, word_call, word_delimiter, closes, is_nothing, is_closing, is_real, LineParts, parts, part_first, if_parsed, front_len, has_calls}
+use Rattle.page_sets_mdoc_lines.specs.Parts.{delimiters, delimiter_of, word_call, word_delimiter, closes, is_closing, is_real, LineParts, parts, part_first, if_parsed, front_len, has_calls}
 use Rattle.page_sets_mdoc_lines.specs.declared.delimiters.Delimiter.{Delimiter}
 use Rattle.page_sets_mdoc_lines.specs.laws.Views.{is_call, is_something, span_of}
+use Rattle.std.specs.Prelude.{is_none}
 
 closing_by : (closing others : Bool) (n : ℕ) → others ≡ (n == 0) → (closing && others) ≡ ((if (n == 0) && closing then 0 else 1 + n) == 0)
 closing_by true true n h = rw (← h) refl
@@ -333,18 +334,18 @@ not_found p (row ∷ rows) name all other =
       | inr differs ↦ cond-false _ _ _ differs ∙ not_found p rows name parts.1 other
     ]
 
-none_of : {A : Type 0} (o : Option A) → is_nothing o ≡ true → o ≡ None
+none_of : {A : Type 0} (o : Option A) → is_none o ≡ true → o ≡ None
 none_of None h = refl
 none_of (Some what) h = cc
 
-no_delimiter : (name : List ℕ) → is_nothing (called name) ≡ false → delimiter_of name ≡ None
+no_delimiter : (name : List ℕ) → is_none (called name) ≡ false → delimiter_of name ≡ None
 unfolding delimiter_of row_of
-no_delimiter name calls = ap (option_map (λ row. row.1)) (not_found (λ n. is_nothing (called n)) delimiters name refl calls)
+no_delimiter name calls = ap (option_map (λ row. row.1)) (not_found (λ n. is_none (called n)) delimiters name refl calls)
 
 -- a delimiter that closes is no name of a macro
 no_name : (name : List ℕ) → closes (delimiter_of name) ≡ true → called name ≡ None
 no_name name h =
-    elim (cases_Bool (is_nothing (called name))) [
+    elim (cases_Bool (is_none (called name))) [
       | inl nothing ↦ none_of (called name) nothing
       | inr calls ↦ absurd (both_ways _ (ap closes (no_delimiter name calls)) h)
     ]
@@ -359,7 +360,7 @@ unfolding is_closing word_delimiter word_call
 closing_calls true word h = ap is_something (no_call_by (is_quoted word.quoting) word.text h)
 closing_calls false word h = refl
 
-real_by : (delimiter : Option Delimiter) → closes delimiter ≡ true → is_nothing delimiter ≡ false
+real_by : (delimiter : Option Delimiter) → closes delimiter ≡ true → is_none delimiter ≡ false
 real_by None h = sym h
 real_by (Some delimiter) h = refl
 

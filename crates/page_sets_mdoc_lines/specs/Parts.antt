@@ -1,6 +1,6 @@
 -- A control line parted, before any macro means anything: its words, its delimiters, its macros, and the words of each. Source: mdoc(7), "MACRO SYNTAX".
 use Rattle.std.specs.List.{list_all}
-use Rattle.std.specs.Prelude.{ℕ, List, [], ◌∷◌, codes, Option, None, if◌then◌else◌, Bool, true, false, Some, ◌||◌, take, drop, ◌+◌, ◌==◌, ◌&&◌}
+use Rattle.std.specs.Prelude.{ℕ, List, [], ◌∷◌, codes, Option, None, if◌then◌else◌, Bool, true, false, Some, ◌||◌, take, drop, ◌+◌, ◌==◌, ◌&&◌, is_none}
 use Rattle.std.specs.Str.{bytes_eq}
 use Rattle.page_roff_syntax.specs.Arguments.{is_quoted}
 use Rattle.page_roff_syntax.specs.declared.quotes.Argument.{Argument}
@@ -50,17 +50,13 @@ closes _ = false
 unfoldable pub is_closing : Argument (List ℕ) → Bool
 is_closing word = closes (word_delimiter word)
 
-abbrev pub is_nothing : {A : Type 0} → Option A → Bool
-is_nothing None = true
-is_nothing (Some what) = false
-
 -- a word that is no delimiter
 unfoldable pub is_real : Argument (List ℕ) → Bool
-is_real word = is_nothing (word_delimiter word)
+is_real word = is_none (word_delimiter word)
 
 -- marks are taken unless they name a macro
 abbrev pub takes_mark : Pair → Argument (List ℕ) → Bool
-takes_mark Custom word = is_nothing (word_call word)
+takes_mark Custom word = is_none (word_call word)
 takes_mark _ word = false
 
 -- whether a macro takes the word after it as it is, whatever it would be otherwise
