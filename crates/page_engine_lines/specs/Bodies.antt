@@ -48,10 +48,9 @@ control_language line =
 -- text with a word, and a line as it is written, are of man(7)
 abbrev pub form_language : Line → Option PlainLine → Option Either
 form_language line None = control_language line
-form_language line (Some lines.Wordless) = None
-form_language line (Some lines.Blank) = None
 form_language line (Some lines.Words) = Some Man
 form_language line (Some lines.Raw) = Some Man
+form_language line _ = None
 
 -- the language that a line decides, if it decides one
 unfoldable pub language_of : Line → Option Either
@@ -107,27 +106,23 @@ chosen_if b (Some set) = chosen b set
 
 -- ---- the start
 
--- a page is read as man(7) until its language is decided
-abbrev pub asked_set : Language → Either
-asked_set languages.Auto = sets.Man
-asked_set languages.Man = sets.Man
-asked_set languages.Mdoc = sets.Mdoc
-
-abbrev pub is_asked : Language → Bool
-is_asked languages.Auto = false
-is_asked languages.Man = true
-is_asked languages.Mdoc = true
+-- the set of macros that the settings ask for, if they do; else a page is read as man(7) until its language is decided
+abbrev pub asked_set : Language → Option Either
+asked_set languages.Auto = None
+asked_set languages.Man = Some sets.Man
+asked_set languages.Mdoc = Some sets.Mdoc
 
 -- before a page's first line
 abbrev pub start_of : Settings → BodyEdge
 start_of s =
-    let indent = indent_of s.indent (asked_set s.language) in
+    let set = unwrap_or (asked_set s.language) sets.Man in
+    let indent = indent_of s.indent set in
     record {
       header = record {
         measure = record { width = s.width; indent = indent; output = s.output };
         indent = s.indent;
-        set = asked_set s.language;
-        is_decided = is_asked s.language;
+        set = set;
+        is_decided = is_some (asked_set s.language);
         os = s.os.bytes;
         fields = no_fields s.os.bytes;
       };

@@ -16,7 +16,7 @@ use Rattle.page_scopes_layout.specs.declared.contexts.PagePart.{PagePart}
 use Rattle.page_scopes_layout.specs.declared.contexts.PagePart.TheVariants as parts
 use Rattle.page_scopes_layout.specs.declared.contexts.PagePart.TheVariants.{Text}
 use Rattle.page_scopes_layout.specs.declared.contexts.PageSection.TheVariants.{Other}
-use Rattle.page_scopes_layout.specs.declared.contexts.SeriesSoFar.TheVariants.{Outside, Empty}
+use Rattle.page_scopes_layout.specs.declared.contexts.SeriesSoFar.TheVariants.{Outside}
 use Rattle.page_scopes_layout.specs.declared.lists.OpenList.{OpenList}
 use Rattle.page_scopes_layout.specs.declared.margins.Margins.{Margins}
 
@@ -145,19 +145,12 @@ subsection_begun page_indent c = record (flat (reset c)) {
   is_literal = set_to false;
 }
 
--- which section begins is known once its heading ends; a subsection stays in its section
-abbrev pub section_begun : ℕ → Context → Context
-section_begun page_indent c = record (subsection_begun page_indent c) { section = Other }
-
 -- a heading (of `SH`, `SS`, `Sh`, `Ss`) is at its column, bold
 abbrev pub heading_begun : ℕ → Context → Context
 heading_begun column c = record c {
   part = parts.Heading column;
   fonts = record { value = record { font = B; former = R }; is_set = c.fonts.is_set };
 }
-
-abbrev pub paragraph_begun : Context → Context
-paragraph_begun c = record (flat (reset c)) { prevailing = PREVAILING }
 
 -- the text is the prevailing indent further in (`TP`, `IP`), and an indent that is given prevails from here on
 abbrev pub indented_begun : Option ℤ → Context → Context
@@ -166,12 +159,6 @@ indented_begun columns c = record (flat (reset c)) { prevailing = unwrap_or colu
 -- the first row is at the margin
 abbrev pub first_at_margin : Context → Context
 first_at_margin c = record c { first = Some c.margin; has_row = false }
-
-abbrev pub hanging_begun : Option ℤ → Context → Context
-hanging_begun columns c = first_at_margin (indented_begun columns c)
-
-abbrev pub tag_begun : Context → Context
-tag_begun c = record (first_at_margin c) { part = parts.Tag }
 
 -- a font macro's words (`B`, `I`, `SM`, `SB`) are in its font; what `\fP` goes back to is the font before them
 abbrev pub font_begun : Font → Context → Context
@@ -207,6 +194,3 @@ font_if_given (Some font) c = font_begun font c
 abbrev pub name_ended : ℕ → Context → Context
 name_ended columns c = record c { hang = pos columns }
 
--- a row that is alone (`D1`, `Dl`) is 6 columns further in than the text
-abbrev pub one_line_begun : Context → Context
-one_line_begun c = record (flat c) { margin = hold (pos c.margin +ℤ (c.hang +ℤ pos 6)) }

@@ -52,16 +52,9 @@ is_column _ = false
 abbrev pub has_columns : OpenList → Bool
 has_columns list = is_column list.kind
 
--- items are close together where the list is compact, and where they are rows of cells all but the first
-abbrev pub is_close : OpenList → Bool
-is_close list = list.is_compact || (has_columns list && nat_lt 1 list.items)
-
 -- a count is held to 2^32 - 1
 abbrev pub one_more : ℕ → ℕ
 one_more count = min (count + 1) (2 ^ 32 - 1)
-
-abbrev pub next_item : OpenList → ℕ → OpenList
-next_item list head = record list { head = head; items = one_more list.items; cells = 0; column = 0 }
 
 -- the columns between two columns of a list
 abbrev pub COLUMN_GAP : ℕ
@@ -94,7 +87,7 @@ abbrev pub item_begun : Option OpenList → Context → Context
 item_begun (Some list) c = record c {
   margin = item_margin list c;
   first = item_first c.first c.has_row (item_margin list c);
-  list = Some (next_item list c.margin);
+  list = Some (record list { head = c.margin; items = one_more list.items; cells = 0; column = 0 });
 }
 item_begun None c = c
 
@@ -126,9 +119,10 @@ margin_items c = shown (pieces.Indent (margins c).first (margins c).rest) ∷ []
 
 -- ---- items of lists (`Bl`)
 
--- a blank row before an item, or where the list is close only the end of the row
+-- a blank row before an item; only the end of the row where the list is compact, and where its items are rows of cells before all but the first
 abbrev pub item_begin_items : Option OpenList → Context → List Item
-item_begin_items (Some list) c = if is_close list then shown pieces.Break ∷ [] else shown (pieces.Para c.distance.value) ∷ []
+item_begin_items (Some list) c =
+    if list.is_compact || (has_columns list && nat_lt 1 list.items) then shown pieces.Break ∷ [] else shown (pieces.Para c.distance.value) ∷ []
 item_begin_items None c = []
 
 -- a head that is a tag is at its margin, with the list's hang

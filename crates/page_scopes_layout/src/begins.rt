@@ -1,8 +1,10 @@
 //! The context in which a scope begins (man(7), mdoc(7)).
 
-ghost use Rattle.std.specs.Prelude.{◌≡◌};
+ghost use Rattle.std.specs.Prelude.{◌≡◌, pos, ◌+ℤ◌};
 ghost use Rattle.page_scopes_layout.specs.Contexts as begins;
 ghost use Rattle.page_scopes_layout.specs.declared.contexts.SeriesSoFar.TheVariants.{Empty};
+ghost use Rattle.page_scopes_layout.specs.declared.contexts.PagePart.TheVariants as parts;
+ghost use Rattle.page_scopes_layout.specs.declared.contexts.PageSection.TheVariants.{Other};
 
 use crate::margins::further_in;
 use crate::{Context, PREVAILING, PagePart, PageSection, SeriesSoFar, hold};
@@ -55,7 +57,7 @@ impl Context {
     /// A section (`SH`, `Sh`) begins, at the page's indent in columns.
     #[inline(always)]
     pub fn section_begun(self, page_indent: u32) -> Context
-        ensures { result ≡ begins.section_begun page_indent self }
+        ensures { result ≡ record (begins.subsection_begun page_indent self) { section = Other } }
     {
         Context {
             section: PageSection::Other,
@@ -98,7 +100,7 @@ impl Context {
     /// A plain paragraph (`PP`, `LP`, `P`) begins.
     #[inline(always)]
     pub fn paragraph_begun(self) -> Context
-        ensures { result ≡ begins.paragraph_begun self }
+        ensures { result ≡ record (begins.flat (begins.reset self)) { prevailing = begins.PREVAILING } }
     {
         Context {
             prevailing: PREVAILING,
@@ -135,7 +137,7 @@ impl Context {
     /// An indented paragraph whose first row is at the margin begins (`HP`).
     #[inline(always)]
     pub fn hanging_begun(self, columns: Option<i32>) -> Context
-        ensures { result ≡ begins.hanging_begun columns self }
+        ensures { result ≡ begins.first_at_margin (begins.indented_begun columns self) }
     {
         self.indented_begun(columns).first_at_margin()
     }
@@ -143,7 +145,7 @@ impl Context {
     /// A tag (of `TP`, `TQ`) begins.
     #[inline(always)]
     pub fn tag_begun(self) -> Context
-        ensures { result ≡ begins.tag_begun self }
+        ensures { result ≡ record (begins.first_at_margin self) { part = parts.Tag } }
     {
         Context {
             part: PagePart::Tag,
@@ -253,7 +255,7 @@ impl Context {
     /// A row that is alone (`D1`, `Dl`) begins, 6 columns further in.
     #[inline(always)]
     pub fn one_line_begun(self) -> Context
-        ensures { result ≡ begins.one_line_begun self }
+        ensures { result ≡ record (begins.flat self) { margin = begins.hold (pos self.margin +ℤ (self.hang +ℤ pos 6)) } }
     {
         let further = i64::from(self.hang) + ONE_LINE;
         Context {

@@ -1,6 +1,6 @@
 //! Lists: what is known of an open one, and the contexts of its items (mdoc(7), `Bl`).
 
-ghost use Rattle.std.specs.Prelude.{◌≡◌, ◌≤◌};
+ghost use Rattle.std.specs.Prelude.{◌≡◌, ◌≤◌, ◌||◌, ◌&&◌, nat_lt};
 ghost use Rattle.page_core_base.specs.declared.limits.TheConstants.{COLUMNS};
 
 use crate::margins::further_in;
@@ -90,14 +90,14 @@ impl OpenList {
 
     /// Whether the row ends before its next item, and no blank row is written.
     pub fn is_close(&self) -> bool
-        ensures { result ≡ lists.is_close self.now }
+        ensures { result ≡ (self.now.is_compact || (lists.has_columns self.now && nat_lt 1 self.now.items)) }
     {
         self.is_compact || self.has_columns() && self.items > 1
     }
 
     // Its next item begins, with its head at a margin.
     fn next_item(self, head: u32) -> OpenList
-        ensures { result ≡ lists.next_item self head }
+        ensures { result ≡ record self { head = head; items = lists.one_more self.items; cells = 0; column = 0 } }
     {
         OpenList {
             head,

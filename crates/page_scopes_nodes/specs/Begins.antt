@@ -1,5 +1,5 @@
 -- What a scope begins with, of any event that opens one, and what it keeps. Source: man(7), mdoc(7).
-use Rattle.std.specs.Prelude.{Bool, List, [], ◌∷◌, ◌++◌, ℕ, false, true, codes, Option, option_map, unwrap_or, if◌then◌else◌, None, Some, ◌+◌, pos}
+use Rattle.std.specs.Prelude.{Bool, List, [], ◌∷◌, ◌++◌, ℕ, false, true, codes, Option, option_map, unwrap_or, if◌then◌else◌, None, Some, ◌+◌, pos, ◌+ℤ◌}
 use Rattle.page_core_base.specs.Rows.{Item, shown}
 use Rattle.page_core_base.specs.declared.cells.Font.{Font}
 use Rattle.page_core_base.specs.declared.cells.Font.TheVariants.{B}
@@ -33,7 +33,7 @@ use Rattle.page_scopes_words.specs.Widths.{name_columns}
 use Rattle.page_scopes_words.specs.Words.{token_notes, at, columns_notes, says, columns_value}
 use Rattle.page_scopes_words.specs.declared.fonts.Fonts.{Fonts}
 use Rattle.page_scopes_words.specs.declared.settings.Setting.{Setting}
-use Rattle.page_scopes_layout.specs.Contexts.{entered_context, paragraph_begun, indented_begun, hold, hanging_begun, margin_begun, syntax_begun, text_margin, section_begun, subsection_begun, font_begun, heading_begun, one_line_begun, tag_begun}
+use Rattle.page_scopes_layout.specs.Contexts.{entered_context, indented_begun, hold, margin_begun, syntax_begun, text_margin, subsection_begun, font_begun, heading_begun, first_at_margin, flat, reset, PREVAILING}
 use Rattle.page_scopes_layout.specs.Headings.{heading_broken, no_heading}
 use Rattle.page_scopes_layout.specs.Lists.{begin_items, head_begun, line_begin_items}
 use Rattle.page_scopes_layout.specs.declared.contexts.Context.{Context}
@@ -45,6 +45,8 @@ use Rattle.page_scopes_phrases.specs.declared.kept_texts.KeptText.{KeptText}
 use Rattle.page_scopes_blocks.specs.Blocks.{block_opened, line_words}
 use Rattle.page_scopes_blocks.specs.Lists.{tag, list_opened, item_opened}
 use Rattle.page_scopes_nodes.specs.declared.page_layouts.PageLayout.{PageLayout}
+use Rattle.page_scopes_layout.specs.declared.contexts.PagePart.TheVariants as parts
+use Rattle.page_scopes_layout.specs.declared.contexts.PageSection.TheVariants.{Other}
 
 -- ---- The target of a link: its messages where the link begins, and the target in angles where it ends. Source: man(7), `UR`, `MT`.
 
@@ -94,7 +96,7 @@ begun label front s = record { items = begin_items label front; state = row_ende
 -- `PP`, `LP`, `P`: skipped where there is nothing before them since the heading
 abbrev pub plain : Place → ParagraphName → Formatting → Outcome
 plain place name s =
-    if s.has_content then begun labels.Paragraph (paragraph_begun (entered_context s.context)) s
+    if s.has_content then begun labels.Paragraph (record (flat (reset (entered_context s.context))) { prevailing = PREVAILING }) s
     else record { items = says SkipPara place (paragraph_name name) ∷ []; state = in_context (entered_context s.context) s }
 
 -- `TP`, `IP`: the text is a number of columns, or the prevailing indent, further in
@@ -109,7 +111,8 @@ given_tag line (Some argument) s =
 
 -- `HP`: the rows after the first are further in
 abbrev pub hanging : Place → Option (List ℕ) → Formatting → Outcome
-hanging place hang s = after_notes (given_notes place hang) (begun labels.Paragraph (hanging_begun (option_map columns_value hang) (entered_context s.context)) s)
+hanging place hang s =
+    after_notes (given_notes place hang) (begun labels.Paragraph (first_at_margin (indented_begun (option_map columns_value hang) (entered_context s.context))) s)
 
 -- `RS`: all is further in
 abbrev pub margin : Place → Option (List ℕ) → Formatting → Outcome
@@ -131,11 +134,12 @@ abbrev pub block : PageLayout → Place → BlockOpener (List ℕ) → Formattin
 block page place (block_openers.List kind is_compact options) s = list_opened page.output place kind is_compact options s
 block page place opener s = block_opened page.output place opener s
 
--- ---- all of them: `SH`, `SS`, `Sh` and `Ss` are at the page's indent, and a link (`UR`, `MT`) gives the messages of its target
+-- ---- all of them: `SH`, `SS`, `Sh` and `Ss` are at the page's indent, and a link (`UR`, `MT`) gives the messages of its target. Which section begins is known
+-- once its heading ends; a subsection stays in its section
 
 unfoldable pub opened : PageLayout → Place → Opener (List ℕ) → Formatting → Outcome
 opened page place openers.Item s = item_opened place s
-opened page place openers.Section s = begun labels.Section (section_begun page.indent (entered_context s.context)) s
+opened page place openers.Section s = begun labels.Section (record (subsection_begun page.indent (entered_context s.context)) { section = Other }) s
 opened page place openers.Subsection s = begun labels.Section (subsection_begun page.indent (entered_context s.context)) s
 opened page place (openers.Paragraph name) s = plain place name s
 opened page place (openers.Tagged hang) s = indented place hang s
@@ -163,12 +167,13 @@ font_of fonts.SB = faces.B
 font_of fonts.I = faces.I
 font_of fonts.SM = faces.R
 
+-- a row that is alone (`D1`, `Dl`) is 6 columns further in than the text
 abbrev pub line_context : LineOpener → Context → Context
 line_context lines.Head c = head_begun c.list c
 line_context (lines.Heading name) c = heading_begun (heading_column name) c
-line_context (lines.Tag name) c = tag_begun c
+line_context (lines.Tag name) c = record (first_at_margin c) { part = parts.Tag }
 line_context (lines.FontWords font_macro) c = font_begun (font_of font_macro) c
-line_context (lines.OneLine name) c = one_line_begun c
+line_context (lines.OneLine name) c = record (flat c) { margin = hold (pos c.margin +ℤ (c.hang +ℤ pos 6)) }
 line_context _ c = c
 
 abbrev pub line_state : LineOpener → Formatting → Formatting

@@ -1,5 +1,5 @@
 -- What a scope and a line end with. Source: man(7), mdoc(7).
-use Rattle.std.specs.Prelude.{Option, None, Some, false, if◌then◌else◌, Bool, not, ◌&&◌, [], ◌∷◌}
+use Rattle.std.specs.Prelude.{Option, None, Some, false, if◌then◌else◌, not, ◌&&◌, [], ◌∷◌}
 use Rattle.page_core_base.specs.Rows.{shown}
 use Rattle.page_core_base.specs.declared.pieces.Piece.TheVariants as pieces
 use Rattle.page_core_base.specs.declared.places.Place.{Place}

@@ -87,9 +87,6 @@ abbrev pub given_shift : Option (List ℕ) → ℤ → ℤ
 given_shift None shift = pos 0
 given_shift (Some text) shift = if has_sign text then in_range (shift +ℤ columns_value text) else columns_value text
 
-abbrev pub given_shift_notes : Place → Option (List ℕ) → List Item
-given_shift_notes place columns = unwrap_or (option_map (columns_notes place) columns) []
-
 -- ---- `ft`: fonts; without a name the former one; a name that no font has changes nothing
 
 abbrev pub fonts_named : Face → Setting Fonts → Setting Fonts
@@ -121,7 +118,7 @@ request place (requests.Space rows) s = record {
 }
 request place (requests.Font name) s = record { items = font_notes place name; state = in_context (with_font_named name s.context) s }
 request place (requests.Shift columns) s =
-    after_notes (given_shift_notes place columns)
+    after_notes (unwrap_or (option_map (columns_notes place) columns) [])
     (at_margins (in_context (record s.context { shift = set_to (given_shift columns s.context.shift.value) }) s))
 request place (requests.Literal on) s = literal on s
 

@@ -7,13 +7,14 @@ ghost use Rattle.page_roff_syntax.specs.laws.Views.{argument_view};
 ghost use Rattle.page_sets_lines.specs.laws.Views.{ArgumentFits, BlockOpenerFits, GivenFits, OpenerFits};
 ghost use Rattle.page_scopes_blocks.specs.Lists as tags;
 ghost use Rattle.page_scopes_labels.specs.declared.labels.Label.TheVariants.{Section};
-ghost use Rattle.page_scopes_layout.specs.Contexts.{entered_context, section_begun, subsection_begun};
+ghost use Rattle.page_scopes_layout.specs.Contexts.{entered_context, subsection_begun};
 ghost use Rattle.page_scopes_phrases.specs.LineWords.{argument_word};
 ghost use Rattle.page_scopes_phrases.specs.laws.Views.{GivesOutcome};
 ghost use Rattle.page_scopes_words.specs.Words.{columns_value};
 ghost use Rattle.page_sets_lines.specs.declared.events.Join.TheVariants.{Apart};
 ghost use Rattle.page_scopes_nodes.specs.Begins as openers;
 ghost use Rattle.page_sets_lines.specs.laws.Events.{block_opener_view, given_view, opener_view, text_view};
+ghost use Rattle.page_scopes_layout.specs.declared.contexts.PageSection.TheVariants.{Other};
 
 use crate::PageLayout;
 use crate::targets::report_target;
@@ -49,7 +50,8 @@ fn begin<O: PieceOut>(out: &mut O, label: Label, front: Context, state: &mut For
 
 // `SH` and `Sh`.
 fn begin_section<O: PieceOut>(out: &mut O, page: &PageLayout, state: &mut Formatting)
-    ensures { GivesOutcome O.left out.old (openers.begun Section (section_begun page.now.indent (entered_context state.old.context)) state.old)
+    ensures { GivesOutcome O.left out.old (openers.begun Section
+        (record (subsection_begun page.now.indent (entered_context state.old.context)) { section = Other }) state.old)
         out.new state.new }
 {
     let front = state.context.entered().section_begun(page.indent);

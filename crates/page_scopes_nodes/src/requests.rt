@@ -1,6 +1,6 @@
 //! Requests that change rows (roff(7), "REQUEST REFERENCE").
 
-ghost use Rattle.std.specs.Prelude.{◌≡◌, ◌∷◌, ◌++◌, [], Some};
+ghost use Rattle.std.specs.Prelude.{◌≡◌, ◌∷◌, ◌++◌, [], Some, unwrap_or, option_map};
 ghost use Rattle.page_core_base.specs.laws.Views.{Came};
 ghost use Rattle.page_core_base.specs.Rows.{shown};
 ghost use Rattle.page_core_base.specs.declared.pieces.Piece.TheVariants.{Space, Break};
@@ -77,7 +77,7 @@ fn give_given_shift<O: PieceOut>(
     shift: i32,
 ) -> i32
     ensures value { result ≡ requests.given_shift (text_view columns.entry) shift }
-    ensures came { Came O.left out.old (requests.given_shift_notes place (text_view columns.entry)) out.new }
+    ensures came { Came O.left out.old (unwrap_or (option_map (columns_notes place) (text_view columns.entry)) []) out.new }
 {
     match columns {
         None => 0,
@@ -87,7 +87,7 @@ fn give_given_shift<O: PieceOut>(
 
 // Sets the shift of margins, with the messages of its number.
 fn set_shift<O: PieceOut>(out: &mut O, place: Place, columns: Option<&[u8]>, context: &mut Context)
-    ensures came { Came O.left out.old (requests.given_shift_notes place (text_view columns.entry)) out.new }
+    ensures came { Came O.left out.old (unwrap_or (option_map (columns_notes place) (text_view columns.entry)) []) out.new }
     ensures context { context.new ≡ record context.old { shift = set_to (requests.given_shift (text_view columns.entry) context.old.shift.value) } }
 {
     let shift = give_given_shift(out, place, columns, context.shift.value);

@@ -1,5 +1,5 @@
 -- Blocks that one macro begins and another ends, and what the arguments of `Bl` say. Source: mdoc(7).
-use Rattle.std.specs.Prelude.{ℕ, List, codes, [], ◌∷◌, Option, option_map, find, None, Some, false, true, Bool, not, is_some, if◌then◌else◌}
+use Rattle.std.specs.Prelude.{ℕ, List, codes, [], ◌∷◌, Option, option_map, find, None, Some, false, true, Bool, if◌then◌else◌, is_none, ◌&&◌}
 use Rattle.std.specs.Str.{bytes_eq}
 use Rattle.page_roff_syntax.specs.declared.quotes.Argument.{Argument}
 use Rattle.page_sets_names.specs.Marks.{row_of_quotation}
@@ -143,12 +143,8 @@ list_options words = options_after no_options words
 -- ---- the columns of a list (`-column`)
 
 -- an argument is no type, no option and no option's value
-abbrev pub is_free : Option Awaited → List ℕ → Bool
-is_free None word = not (is_some (list_word word))
-is_free (Some option) word = false
-
 abbrev pub is_column : ListOptions (List ℕ) → Argument (List ℕ) → Bool
-is_column so_far word = is_free so_far.awaited word.text
+is_column so_far word = is_none so_far.awaited && is_none (list_word word.text)
 
 -- those arguments, each of which is a column's width
 abbrev pub columns_after : ListOptions (List ℕ) → List (Argument (List ℕ)) → List (Argument (List ℕ))
