@@ -203,9 +203,6 @@ name_tokens title section =
 abbrev pub second_start : (width first second : ℕ) → ℕ
 second_start width first second = max (first + 1) ((width - second) / 2)
 
-abbrev pub third_start : (width first second third : ℕ) → ℕ
-third_start width first second third = max (second_start width first second + second + 1) (width - third)
-
 -- each part begins in roman
 abbrev pub part_items : Measure → Place → List TextToken → List Item
 part_items m place part = tokens_items m.output place roman_fonts part
@@ -217,7 +214,7 @@ blanks place count = in_font R place (replicate count 32)
 unfoldable pub row_characters : Measure → Place → (first second third : List TextToken) → List Item
 row_characters m place first second third =
     let start = second_start m.width (tokens_columns m.output first) (tokens_columns m.output second) in
-    let last = third_start m.width (tokens_columns m.output first) (tokens_columns m.output second) (tokens_columns m.output third) in
+    let last = max (start + tokens_columns m.output second + 1) (m.width - tokens_columns m.output third) in
     part_items m place first ++ (blanks place (start - tokens_columns m.output first)
     ++ (part_items m place second ++ (blanks place (last - (start + tokens_columns m.output second)) ++ part_items m place third)))
 

@@ -1,9 +1,9 @@
 //! The header and the footer of a page (man(7), `TH`; mdoc(7), `Dd`, `Dt`, `Os`; mandoc(1), "ASCII Output").
 
-ghost use Rattle.std.specs.Prelude.{◌≡◌, ◌≤◌, ◌<◌, ◌-◌, ◌^◌};
+ghost use Rattle.std.specs.Prelude.{◌≡◌, ◌≤◌, ◌<◌, ◌+◌, ◌-◌, ◌^◌, max};
 ghost use Rattle.page_core_base.specs.declared.limits.TheConstants.{CELLS};
 ghost use Rattle.page_core_base.specs.laws.Views.{Came};
-ghost use Rattle.page_engine_header.specs.Header.{second_start, third_start, in_rows, row_characters, row_items, if_empty, missing_items, header_items, header_row, footer_row};
+ghost use Rattle.page_engine_header.specs.Header.{second_start, in_rows, row_characters, row_items, if_empty, missing_items, header_items, header_row, footer_row};
 ghost use Rattle.page_engine_header.specs.laws.Views.{part_tokens, IsShort};
 
 use crate::fields::volume_of;
@@ -35,7 +35,7 @@ fn second_start(width: u32, first: u32, second: u32) -> u32
 fn third_start(width: u32, first: u32, second: u32, third: u32) -> u32
     requires first { first ≤ 512002 }
     requires second { second ≤ 512002 }
-    ensures { result ≡ third_start width first second third }
+    ensures { result ≡ max (second_start width first second + second + 1) (width - third) }
 {
     let start = second_start(width, first, second);
     (start + second + 1).max(width.saturating_sub(third))

@@ -13,17 +13,18 @@ use Rattle.page_engine_lines.specs.Bodies.{BodyEdge}
 use Rattle.page_engine_lines.specs.machine.Given.{given_items, line_items, line_after, body_after}
 use Rattle.page_sets_lines.specs.declared.plain_lines.PlainLine.{PlainLine}
 use Rattle.page_sets_lines.specs.Lines.{plain_events, plain_line}
-use Rattle.page_sets.specs.Mdoc.{either_events, line_events as mdoc_line_events, mdoc_events}
+use Rattle.page_sets.specs.Mdoc.{either_events, control_events as mdoc_control_events, mdoc_events}
 use Rattle.page_sets.specs.declared.either.Either.{Either}
 use Rattle.page_sets.specs.declared.either.Either.TheVariants as sets
-use Rattle.page_sets.specs.Man.{line_events as man_line_events, man_events}
+use Rattle.page_sets.specs.Man.{control_events as man_control_events, man_events}
+use Rattle.std.specs.Option.{option_map_or}
 
 -- a line that is no control line has the events that all sets of macros give of it
 pub plain_gives : (set : Either) (line : Line) (plain : PlainLine) → plain_line line.form line.text ≡ Some plain
     → either_events set line ≡ plain_events line.number line.text plain
 unfolding man_events mdoc_events
-plain_gives sets.Man line plain h = ap (man_line_events line) h
-plain_gives sets.Mdoc line plain h = ap (mdoc_line_events line) h
+plain_gives sets.Man line plain h = ap (λ found. option_map_or (plain_events line.number line.text) found (man_control_events line)) h
+plain_gives sets.Mdoc line plain h = ap (λ found. option_map_or (plain_events line.number line.text) found (mdoc_control_events line)) h
 
 one_before : {A B : Type 0} (x : A) (o : Option B) (all front : List A) (rest : B → List A)
     → MatchOption o (all ≡ front) (λ b. all ≡ front ++ rest b) → MatchOption o (x ∷ all ≡ x ∷ front) (λ b. x ∷ all ≡ x ∷ (front ++ rest b))

@@ -1,6 +1,7 @@
 -- The events of man(7) are in their line: helpers of proofs.
 use Rattle.std.proofs.Common.{◌≡◌, refl, ℕ, Bool, true, false, List, [], ◌∷◌, inl, inr, Option, None, Some, option_map}
-use Rattle.std.specs.Option.{option_or}
+use Rattle.page_sets_lines.specs.declared.events.EventKind.TheVariants as kinds
+use Rattle.std.specs.Option.{option_or, option_map_or}
 use Rattle.std.specs.Str.{bytes_eq}
 use Rattle.std.proofs.lemmas.Bool.{cases_Bool}
 use Rattle.page_core_base.specs.Texts.{Line}
@@ -16,8 +17,8 @@ use Rattle.page_sets_lines.specs.declared.events.Join.TheVariants.{Apart, Glued}
 use Rattle.page_sets_lines.specs.declared.events.EventKind.{EventKind}
 use Rattle.page_sets_lines.specs.declared.events.Event.{Event}
 use Rattle.page_sets_lines.specs.declared.plain_lines.PlainLine.{PlainLine}
-use Rattle.page_sets_lines.specs.Lines.{name_end, name_of, name_place, is_nameless, arguments_after, open_quote, rest_of, layout_request, line_start, plain_line}
-use Rattle.page_sets.specs.Man.{table, macro_row, request_row, row_of, effect_kind, line_scope, one_word, plain_words, alternating_words, option_words, section_words, reference_words, further_words, words_events, break_events, quote_at, missing_quote, quote_events, kind_events, scope_events, last_events, macro_events, lone_events, named_events, control_events, line_events, man_events}
+use Rattle.page_sets_lines.specs.Lines.{name_end, name_of, name_place, is_nameless, arguments_after, open_quote, rest_of, layout_request, line_start, plain_line, plain_events}
+use Rattle.page_sets.specs.Man.{table, macro_row, request_row, row_of, effect_kind, line_scope, one_word, plain_words, alternating_words, option_words, section_words, reference_words, further_words, words_events, break_events, quote_at, missing_quote, quote_events, kind_events, last_events, macro_events, lone_events, named_events, control_events, man_events}
 use Rattle.page_laws.specs.Places.{IsInLine, AreAll}
 use Rattle.page_laws.proofs.PlaceLemmas.{AreAll-append, either_at, AnyAt, AllSit, IsAtIfGiven, open_at, all_sit, start_in, name_in}
 
@@ -31,7 +32,7 @@ kind_at : (IsSo : Event (List ℕ) → Type 0) (place : Place) (kind : Option (E
 kind_at IsSo place None p = tt
 kind_at IsSo place (Some kind) p = (p _, tt)
 
-scope_at : (IsSo : Event (List ℕ) → Type 0) (place : Place) (scope : Option LineOpener) → AnyAt IsSo place → AreAll IsSo (scope_events place scope)
+scope_at : (IsSo : Event (List ℕ) → Type 0) (place : Place) (scope : Option LineOpener) → AnyAt IsSo place → AreAll IsSo (kind_events place (option_map kinds.LineScope scope))
 scope_at IsSo place None p = tt
 scope_at IsSo place (Some opener) p = (p _, tt)
 
@@ -157,7 +158,7 @@ control_at line =
       | inr t ↦ rw t (named_at line t)
     ]
 
-form_at : (line : Line) (plain : Option PlainLine) → AreAll (IsInLine line) (line_events line plain)
+form_at : (line : Line) (plain : Option PlainLine) → AreAll (IsInLine line) (option_map_or (plain_events line.number line.text) plain (control_events line))
 form_at line None = control_at line
 form_at line (Some plain) = (start_in line _, (start_in line _, tt))
 

@@ -6,7 +6,7 @@ use Rattle.page_core_base.specs.declared.note_kinds.NoteKind.{NoteKind}
 use Rattle.page_core_base.specs.declared.note_kinds.NoteKind.TheVariants.{UnknownMacro, EmptyMacro}
 use Rattle.page_roff_syntax.specs.declared.quotes.Argument.{Argument}
 use Rattle.page_roff_syntax.specs.declared.requests.LayoutRequest.{LayoutRequest}
-use Rattle.page_sets_lines.specs.Lines.{name_end, name_of, name_place, is_nameless, is_unclosed, layout_request, plain_line, word_place, rest_of}
+use Rattle.page_sets_lines.specs.Lines.{name_end, name_of, name_place, is_nameless, is_unclosed, layout_request, plain_line, word_place, rest_of, plain_events}
 use Rattle.page_sets_lines.specs.declared.events.Event.{Event}
 use Rattle.page_sets_lines.specs.declared.events.EventKind.{EventKind}
 use Rattle.page_sets_lines.specs.declared.line_steps.SynopsisStep.TheVariants.{Break}
@@ -21,11 +21,12 @@ use Rattle.page_roff_syntax.specs.declared.quotes.Quoting.TheVariants.{Bare, Clo
 use Rattle.std.specs.List.{list_all}
 use Rattle.page_sets_mdoc_lines.specs.Rows.{called, line_macro, is_parsed, row_of}
 use Rattle.page_sets_mdoc_blocks.specs.Fronts.{block_front, block_note, field_front, given_names, has_real_word, include_front, is_standard, kind_at_name, line_arguments, missing_quote, note_events, option_quote, quote_events, spacing_kind, spacing_of, first_text, has_phrase}
-use Rattle.page_sets.specs.Mdoc.{calls_events, control_events, field_font, head_events, include_words, line_events, line_parts, macro_events, mdoc_events, named_events, phrase_events, refused_events, request_events, rest_events, tail_events, words_events}
+use Rattle.page_sets.specs.Mdoc.{calls_events, control_events, field_font, head_events, include_words, line_parts, macro_events, mdoc_events, named_events, phrase_events, refused_events, request_events, rest_events, tail_events, words_events}
 use Rattle.page_laws.specs.Places.{IsInLine, AreAll}
 use Rattle.page_laws.proofs.PlaceLemmas.{AreAll-append, either_at, AnyAt, Sits, SitsIfGiven, AllSit, IsAtIfGiven, open_at, all_sit, start_in, name_in}
 use Rattle.page_laws.proofs.MdocWordPlaceLemmas.{printed_at, framed_at, placed_at, include_at, sentence_at}
 use Rattle.std.specs.Prelude.{◌&&◌, not}
+use Rattle.std.specs.Option.{option_map_or}
 
 -- ---- words that call, and delimiters, have bytes
 
@@ -261,7 +262,7 @@ control_at line =
       | inr t ↦ rw t (named_at (line_macro (name_of line)) line (name_in line t))
     ]
 
-form_at : (line : Line) (plain : Option PlainLine) → AreAll (IsInLine line) (line_events line plain)
+form_at : (line : Line) (plain : Option PlainLine) → AreAll (IsInLine line) (option_map_or (plain_events line.number line.text) plain (control_events line))
 form_at line None = control_at line
 form_at line (Some plain) = (start_in line _, (start_in line _, tt))
 

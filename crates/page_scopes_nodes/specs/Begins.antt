@@ -181,14 +181,11 @@ line_state (lines.Heading name) s = record s { gap = 1; heading = no_heading }
 line_state (lines.OneLine name) s = row_ended s
 line_state _ s = s
 
-abbrev pub line_front : LineOpener → Formatting → Outcome
-line_front opener s =
-    let front = line_context opener (entered_context s.context) in
-    record { items = line_begin_items opener front; state = line_state opener (in_context front s) }
-
--- then what it prints itself
+-- its pieces, and then what it prints itself
 abbrev pub line_opened : Place → LineOpener → Formatting → Outcome
-line_opened place opener s = followed_by (line_front opener s) (line_words place opener)
+line_opened place opener s =
+    let front = line_context opener (entered_context s.context) in
+    followed_by (record { items = line_begin_items opener front; state = line_state opener (in_context front s) }) (line_words place opener)
 
 -- ---- an event that opens a scope
 

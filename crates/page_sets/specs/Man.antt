@@ -1,6 +1,6 @@
 -- The events of a line of man(7), and the table of its macros. Source: man(7).
 use Prim.Native.String.{String}
-use Rattle.std.specs.Option.{option_or}
+use Rattle.std.specs.Option.{option_or, option_map_or}
 use Rattle.std.specs.Prelude.{ℕ, Bool, List, codes, true, false, [], ◌∷◌, Option, option_map, Some, None, ◌&&◌, ◌++◌, if◌then◌else◌}
 use Rattle.page_core_base.specs.Messages.{row_in}
 use Rattle.page_core_base.specs.Texts.{Line}
@@ -36,7 +36,6 @@ use Rattle.page_sets_lines.specs.declared.openers.LineOpener.TheVariants as scop
 use Rattle.page_sets_lines.specs.declared.openers.LineOpener.TheVariants.{Heading, Tag}
 use Rattle.page_sets_lines.specs.declared.openers.Opener.{Opener}
 use Rattle.page_sets_lines.specs.declared.openers.Opener.TheVariants as openers
-use Rattle.page_sets_lines.specs.declared.plain_lines.PlainLine.{PlainLine}
 use Rattle.page_sets.specs.declared.man_gives.Quote.{Quote}
 use Rattle.page_sets.specs.declared.man_rows.Alone.{Alone}
 use Rattle.page_sets.specs.declared.man_rows.Alone.TheVariants.{Same, Empty, Scope}
@@ -258,10 +257,6 @@ abbrev pub kind_events : Place → Option (EventKind (List ℕ)) → List (Event
 kind_events place None = []
 kind_events place (Some kind) = event_at place kind ∷ []
 
-abbrev pub scope_events : Place → Option LineOpener → List (Event (List ℕ))
-scope_events place None = []
-scope_events place (Some opener) = event_at place (kinds.LineScope opener) ∷ []
-
 abbrev pub last_events : Place → Last → List (Event (List ℕ))
 last_events place lasts.Nothing = []
 last_events place lasts.FontEnds = event_at place (kinds.Leaf (leaves.Fonts None)) ∷ []
@@ -274,7 +269,7 @@ macro_events place row rest arguments =
     break_events place row.breaks
     ++ (quote_events place.line (missing_quote row.quotes arguments)
     ++ (kind_events place (effect_kind row.effect rest arguments)
-    ++ (scope_events place (line_scope row.effect)
+    ++ (kind_events place (option_map kinds.LineScope (line_scope row.effect))
     ++ (words_events place row.words arguments
     ++ (last_events place row.last ++ line_end place.line (has_words row.words && has_arguments rest) ∷ [])))))
 
@@ -305,10 +300,6 @@ abbrev pub control_events : Line → List (Event (List ℕ))
 control_events line =
     if is_nameless line then line_end line.number false ∷ [] else named_events line (row_of (name_of line))
 
-abbrev pub line_events : Line → Option PlainLine → List (Event (List ℕ))
-line_events line None = control_events line
-line_events line (Some plain) = plain_events line.number line.text plain
-
 -- the events of a line
 unfoldable pub man_events : Line → List (Event (List ℕ))
-man_events line = line_events line (plain_line line.form line.text)
+man_events line = option_map_or (plain_events line.number line.text) (plain_line line.form line.text) (control_events line)

@@ -13,7 +13,6 @@ use Rattle.page_sets_lines.specs.declared.events.Event.{Event}
 use Rattle.page_sets_lines.specs.declared.events.EventKind.TheVariants as kinds
 use Rattle.page_sets_lines.specs.declared.line_steps.SynopsisStep.TheVariants.{Break}
 use Rattle.page_sets_lines.specs.declared.openers.Closer.TheVariants as closers
-use Rattle.page_sets_lines.specs.declared.plain_lines.PlainLine.{PlainLine}
 use Rattle.page_sets_mdoc_lines.specs.Parts.{Call, has_calls, LineParts, parts}
 use Rattle.page_sets_mdoc_lines.specs.Rows.{is_parsed, line_macro}
 use Rattle.page_sets_mdoc_lines.specs.declared.blocks.LineMacro.{LineMacro}
@@ -25,6 +24,7 @@ use Rattle.page_sets_mdoc_blocks.specs.Fronts.{line_arguments, has_real_word, gi
 use Rattle.page_sets.specs.Man.{man_events}
 use Rattle.page_sets.specs.declared.either.Either.{Either}
 use Rattle.page_sets.specs.declared.either.Either.TheVariants.{Man, Mdoc}
+use Rattle.std.specs.Option.{option_map_or}
 
 -- ---- The events of a line. Source: mdoc(7), "MACRO SYNTAX" and "MACRO REFERENCE".
 
@@ -108,13 +108,9 @@ abbrev pub control_events : Line → List (Event (List ℕ))
 control_events line =
     if is_nameless line then line_end line.number true ∷ [] else named_events (line_macro (name_of line)) line
 
-abbrev pub line_events : Line → Option PlainLine → List (Event (List ℕ))
-line_events line None = control_events line
-line_events line (Some plain) = plain_events line.number line.text plain
-
 -- the events of a line
 unfoldable pub mdoc_events : Line → List (Event (List ℕ))
-mdoc_events line = line_events line (plain_line line.form line.text)
+mdoc_events line = option_map_or (plain_events line.number line.text) (plain_line line.form line.text) (control_events line)
 
 -- ---- The set of macros of a page: one of the two, and what holds of each holds of it. Source: man(7), mdoc(7).
 

@@ -273,7 +273,7 @@ fn give_kind<'a, O: EventTaker<'a>>(out: &mut O, place: Place, kind: Option<Even
 
 // The line scope that a macro opens, if it opens one.
 fn give_scope<'a, O: EventTaker<'a>>(out: &mut O, place: Place, scope: Option<LineOpener>)
-    ensures { Came O.left out.old (man.scope_events place scope) out.new }
+    ensures { Came O.left out.old (man.kind_events place (option_map kinds.LineScope scope)) out.new }
 {
     if let Some(opener) = scope {
         out.give(event_at(place, EventKind::LineScope(opener)));

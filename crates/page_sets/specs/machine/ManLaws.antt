@@ -1,7 +1,7 @@
 -- The macros of man(7) keep the laws of macro sets: proofs, which the set's laws cite. Source: man(7).
 use Rattle.std.proofs.Common.{◌≡◌, ℕ, ◌+◌, ◌*◌, ◌≤◌, Bool, true, false, ◌&&◌, nat_le, List, [], ◌∷◌, ◌++◌, length, drop, refl, arith, inl, inr, length-append, Option, None, Some, option_map}
 use Rattle.std.specs.List.{list_all}
-use Rattle.std.specs.Option.{option_or}
+use Rattle.std.specs.Option.{option_or, option_map_or}
 use Rattle.std.specs.Str.{bytes_eq}
 use Rattle.std.proofs.lemmas.Bool.{cases_Bool}
 use Rattle.std.proofs.lemmas.Bool.Decides.{nat_tests}
@@ -20,7 +20,7 @@ use Rattle.page_sets_lines.specs.declared.plain_lines.PlainLine.{PlainLine}
 use Rattle.page_roff_syntax.specs.declared.requests.LayoutRequest.{LayoutRequest}
 use Rattle.page_core_base.specs.Texts.{Line}
 use Rattle.page_sets_lines.specs.laws.Sets.{IsPart, IsArgument, IsArgumentIfGiven, OpensSlices, ClosesSlices, LeavesSlices, HasSlices, AreSlices, AreInOrder}
-use Rattle.page_sets_lines.specs.Lines.{name_end, name_of, name_place, is_nameless, arguments_after, first_of, line_end, plain_line, layout_request}
+use Rattle.page_sets_lines.specs.Lines.{name_end, name_of, name_place, is_nameless, arguments_after, first_of, line_end, plain_line, layout_request, plain_events}
 use Rattle.page_sets_lines.proofs.ArgumentLaws.{ArgumentsFrom, all_after, earlier, few_after}
 use Rattle.page_sets_lines.proofs.LawLemmas.{nothing_part, rest_part, end_within, name_part, first_slice_after, first_text_after, second_text_after, request_slices, line_slices, AreSlices-append, HasNoWord, order_after, order_before, line_order, named_bytes}
 use Rattle.page_sets.specs.declared.man_rows.Opens.{Opens}
@@ -43,7 +43,7 @@ use Rattle.page_sets.specs.declared.man_rows.Row.{Row}
 use Rattle.page_sets.specs.declared.man_gives.Quote.{Quote}
 use Rattle.page_core_base.specs.Messages.{row_in}
 use Rattle.page_core_base.specs.declared.places.Place.{Place}
-use Rattle.page_sets.specs.Man.{quiet, table, macro_row, request_row, row_of, opener, closer, leaf, effect_kind, line_scope, one_word, plain_words, alternating_words, option_words, section_words, reference_words, further_words, words_events, has_words, break_events, quote_at, missing_quote, quote_events, kind_events, scope_events, last_events, macro_events, lone_events, row_events, named_events, control_events, line_events, man_events}
+use Rattle.page_sets.specs.Man.{quiet, table, macro_row, request_row, row_of, opener, closer, leaf, effect_kind, line_scope, one_word, plain_words, alternating_words, option_words, section_words, reference_words, further_words, words_events, has_words, break_events, quote_at, missing_quote, quote_events, kind_events, last_events, macro_events, lone_events, row_events, named_events, control_events, man_events}
 
 -- ---- slices
 
@@ -55,7 +55,7 @@ quote_slices : (line : List ℕ) (number : ℕ) (quote : Option Quote) → AreSl
 quote_slices line number None = tt
 quote_slices line number (Some quote) = (nothing_part line, tt)
 
-scope_slices : (line : List ℕ) (place : Place) (scope : Option LineOpener) → AreSlices line (scope_events place scope)
+scope_slices : (line : List ℕ) (place : Place) (scope : Option LineOpener) → AreSlices line (kind_events place (option_map kinds.LineScope scope))
 scope_slices line place None = tt
 scope_slices line place (Some opener) = (tt, tt)
 
@@ -197,7 +197,7 @@ control_slices line =
       | inr t ↦ rw t (named_slices line (row_of (name_of line)))
     ]
 
-form_slices : (line : Line) (plain : Option PlainLine) → AreSlices line.text (line_events line plain)
+form_slices : (line : Line) (plain : Option PlainLine) → AreSlices line.text (option_map_or (plain_events line.number line.text) plain (control_events line))
 form_slices line None = control_slices line
 form_slices line (Some plain) = (line_slices plain line.text, (tt, tt))
 
@@ -215,7 +215,7 @@ quote_no_word : (number : ℕ) (quote : Option Quote) → HasNoWord (quote_event
 quote_no_word number None = tt
 quote_no_word number (Some quote) = (refl, tt)
 
-scope_no_word : (place : Place) (scope : Option LineOpener) → HasNoWord (scope_events place scope)
+scope_no_word : (place : Place) (scope : Option LineOpener) → HasNoWord (kind_events place (option_map kinds.LineScope scope))
 scope_no_word place None = tt
 scope_no_word place (Some opener) = (refl, tt)
 
@@ -314,7 +314,7 @@ control_order line =
       | inr t ↦ rw t (named_order line (row_of (name_of line)))
     ]
 
-form_order : (line : Line) (plain : Option PlainLine) → AreInOrder 0 (line_events line plain)
+form_order : (line : Line) (plain : Option PlainLine) → AreInOrder 0 (option_map_or (plain_events line.number line.text) plain (control_events line))
 form_order line None = control_order line
 form_order line (Some plain) = (line_order plain line.text, (tt, tt))
 
@@ -389,7 +389,7 @@ few_effect place (effects.Opens scope) rest arguments = few_kind place _
 few_effect place (effects.Closes scope) rest arguments = omega arith
 few_effect place (effects.Sets change) rest arguments = omega arith
 
-few_scope : (place : Place) (scope : Option LineOpener) → length (scope_events place scope) ≤ scope_weight scope
+few_scope : (place : Place) (scope : Option LineOpener) → length (kind_events place (option_map kinds.LineScope scope)) ≤ scope_weight scope
 unfolding scope_weight
 few_scope place None = omega arith
 few_scope place (Some opener) = omega arith
@@ -527,7 +527,7 @@ few_control line =
       | inr t ↦ rw t (few_named line (row_of (name_of line)) t refl)
     ]
 
-few_form : (line : Line) (plain : Option PlainLine) → length (line_events line plain) ≤ 2 * length line.text + 2
+few_form : (line : Line) (plain : Option PlainLine) → length (option_map_or (plain_events line.number line.text) plain (control_events line)) ≤ 2 * length line.text + 2
 few_form line None = few_control line
 few_form line (Some plain) = omega arith
 

@@ -8,7 +8,7 @@ use Rattle.page_roff_syntax.specs.declared.quotes.Argument.{Argument}
 use Rattle.page_roff_syntax.specs.declared.requests.LayoutRequest.{LayoutRequest}
 use Rattle.page_sets_lines.specs.declared.events.Event.{Event}
 use Rattle.page_sets_lines.specs.declared.plain_lines.PlainLine.{PlainLine}
-use Rattle.page_sets_lines.specs.Lines.{name_end, name_of, name_place, is_nameless, line_end, plain_line, layout_request, rest_of}
+use Rattle.page_sets_lines.specs.Lines.{name_end, name_of, name_place, is_nameless, line_end, plain_line, layout_request, rest_of, plain_events}
 use Rattle.page_sets_lines.specs.laws.Sets.{AreSlices, AreInOrder}
 use Rattle.page_sets_lines.proofs.ArgumentLaws.{ArgumentsFrom, all_after, earlier}
 use Rattle.page_sets_lines.proofs.LawLemmas.{name_part, line_slices, AreSlices-append, HasNoWord, order_after, order_before, line_order, named_bytes}
@@ -23,10 +23,11 @@ use Rattle.page_sets_mdoc_blocks.proofs.FrontLemmas.{request_front_slices, block
 use Rattle.page_sets_mdoc_words.specs.Sentences.{sentence_events}
 use Rattle.page_sets_mdoc_lines.specs.declared.blocks.Sentence.{Sentence}
 use Rattle.page_sets_lines.specs.declared.line_steps.SynopsisStep.TheVariants.{Break}
-use Rattle.page_sets.specs.Mdoc.{field_font, include_words, words_events, refused_events, macro_events, request_events, named_events, control_events, line_events, mdoc_events}
+use Rattle.page_sets.specs.Mdoc.{field_font, include_words, words_events, refused_events, macro_events, request_events, named_events, control_events, mdoc_events}
 use Rattle.page_sets.specs.machine.RestLaws.{head_prints, phrase_prints}
 use Rattle.std.specs.Prelude.{◌&&◌, not}
 use Rattle.page_roff_syntax.specs.Arguments.{has_arguments}
+use Rattle.std.specs.Option.{option_map_or}
 
 -- ---- the words of a line
 
@@ -122,7 +123,7 @@ control_keeps line = either_keeps line (is_nameless line) _ _ (nameless_keeps li
 
 -- ---- the laws
 
-form_slices : (line : Line) (plain : Option PlainLine) → AreSlices line.text (line_events line plain)
+form_slices : (line : Line) (plain : Option PlainLine) → AreSlices line.text (option_map_or (plain_events line.number line.text) plain (control_events line))
 form_slices line None = (control_keeps line).slices
 form_slices line (Some plain) = (line_slices plain line.text, (tt, tt))
 
@@ -130,7 +131,7 @@ pub mdoc_slices : (line : Line) → AreSlices line.text (mdoc_events line)
 unfolding mdoc_events
 mdoc_slices line = form_slices line (plain_line line.form line.text)
 
-form_order : (line : Line) (plain : Option PlainLine) → AreInOrder 0 (line_events line plain)
+form_order : (line : Line) (plain : Option PlainLine) → AreInOrder 0 (option_map_or (plain_events line.number line.text) plain (control_events line))
 form_order line None = (control_keeps line).order
 form_order line (Some plain) = (line_order plain line.text, (tt, tt))
 
@@ -149,7 +150,7 @@ control_few line =
           omega (arith, b.0, b.1, n, f)
     ]
 
-form_few : (line : Line) (plain : Option PlainLine) → length (line_events line plain) ≤ 2 * length line.text + 2
+form_few : (line : Line) (plain : Option PlainLine) → length (option_map_or (plain_events line.number line.text) plain (control_events line)) ≤ 2 * length line.text + 2
 form_few line None = control_few line
 form_few line (Some plain) = omega arith
 
