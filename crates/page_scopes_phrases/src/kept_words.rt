@@ -49,6 +49,7 @@ pub fn give_kept_gap<O: PieceOut>(out: &mut O, state: &Formatting, place: Place)
 }
 
 // Gives white space in a kept text, as cells or as this many blanks.
+#[inline(always)]
 fn give_white<O: PieceOut>(out: &mut O, is_literal: bool, gap: u32, place: Place, white: &[u8])
     ensures { Came O.left out.old (if is_literal then words.white_cells place white.now else shown (Blank gap (words.has_tab white.now)) ∷ []) out.new }
 {
