@@ -11,7 +11,7 @@ use Rattle.page_fill_cells.specs.Cells.{cell_of, cells_of}
 use Rattle.page_fill_cells.specs.machine.BlankRuns.{HasRun, is_blank_byte}
 use Rattle.page_core_base.specs.laws.Views.{is_printable_ascii}
 use Rattle.page_fill_cells.specs.machine.Places.{put_at}
-use Rattle.page_fill_cells.proofs.PlaceLemmas.{put-after}
+use Rattle.page_fill_cells.proofs.PlaceLemmas.{put-after, put-length}
 use Rattle.page_fill_cells.proofs.BlankLemmas.{blank-append, blanks-blank, part-blank}
 
 -- ---- bytes that are blanks
@@ -113,18 +113,27 @@ front-run old first last font run = record {
       ];
 }
 
--- the first cells of a row were taken away, and blanks that are known are where the others come
-pub kept-run : (old new : List Cell) (first last start len : ℕ) (font : Font) → HasRun old first last font → HasRun new 0 last font
-    → first ≤ start → start ≤ len → len ≤ last → len ≤ length old → len ≤ length new → take (len - start) new ≡ drop start (take len old)
-kept-run old new first last start len font run front from within to room fits =
+-- the first cells of a row are taken away where the others are blanks that are known: the places before those get blanks too
+pub record Kept (old new : List Cell) (last start len : ℕ) (font : Font) : Type 0 where
+  pub size : length new ≡ length old
+  pub run : HasRun new 0 last font
+  pub rest : take (len - start) new ≡ drop start (take len old)
+
+pub kept-run : (old : List Cell) (first last start len : ℕ) (font : Font) → HasRun old first last font → first ≤ start → start ≤ length (take len old)
+    → len ≤ last → len ≤ length old → Kept old (put_at old 0 (replicate first (cell_of font 32))) last start len font
+kept-run old first last start len font run from within to room =
     let count = len - start in
     let cell = cell_of font 32 in
-    let whole : start + count ≡ len = omega (arith, within) in
+    let new = put_at old 0 (replicate first cell) in
+    let front = front-run old first last font run in
+    let short = length-take-le len old room in
+    let whole : start + count ≡ len = omega (arith, within, short) in
     let none : 0 + count ≡ count = omega arith in
+    let size : length new ≡ length old = put-length old (replicate first cell) 0 (omega (arith, length-replicate first cell, from, within, short, room)) in
     let row = ap (λ k. take k old) (sym whole) ∙ run-cells old first last start count font run from (omega (arith, whole, to)) (omega (arith, whole, room)) in
-    let rest = ap (drop start) row ∙ drop_at (take start old) (replicate count cell) start (length-take-le start old (omega (arith, within, room))) in
-    ap (λ k. take k new) (sym none)
-    ∙ (same-cells new 0 count cell (λ k h g. front.at k h (omega (arith, g, whole, to))) (omega (arith, whole, fits)) ∙ sym rest)
+    let rest = ap (drop start) row ∙ drop_at (take start old) (replicate count cell) start (length-take-le start old (omega (arith, whole, room))) in
+    let blanks = same-cells new 0 count cell (λ k h g. front.at k h (omega (arith, g, whole, to))) (omega (arith, whole, size, room)) in
+    record { size = size; run = front; rest = ap (λ k. take k new) (sym none) ∙ (blanks ∙ sym rest) }
 
 -- ---- a row of blanks
 

@@ -77,17 +77,11 @@ meaning-other : (meaning : Meaning) → (meaning_known meaning ≡ White → ⊥
 meaning-other (meanings.blanks expression) = ((λ is. cc), (λ is. cc))
 meaning-other _ = ((λ is. cc), (λ is. cc))
 
-token-white : (token : TextToken) → token_known token ≡ White → token ≡ white (token_bytes token)
-token-white (white bytes) is = refl
-token-white (plain bytes) is = cc
-token-white (quotes bytes) is = cc
-token-white (escaped bytes meaning) is = absurd ((meaning-other meaning).0 is)
-
-token-plain : (token : TextToken) → token_known token ≡ Plain → token ≡ plain (token_bytes token)
-token-plain (white bytes) is = cc
-token-plain (plain bytes) is = refl
-token-plain (quotes bytes) is = cc
-token-plain (escaped bytes meaning) is = absurd ((meaning-other meaning).1 is)
+token-written : (token : TextToken) → (token_known token ≡ White → white (token_bytes token) ≡ token) × (token_known token ≡ Plain → plain (token_bytes token) ≡ token)
+token-written (white bytes) = ((λ is. refl), (λ is. cc))
+token-written (plain bytes) = ((λ is. cc), (λ is. refl))
+token-written (quotes bytes) = ((λ is. cc), (λ is. cc))
+token-written (escaped bytes meaning) = ((λ is. absurd ((meaning-other meaning).0 is)), (λ is. absurd ((meaning-other meaning).1 is)))
 
 take-own : (n : ℕ) (text : List ℕ) → take n text ≡ take (length (take n text)) text
 take-own zero text = refl
@@ -108,16 +102,13 @@ token-own text =
     (either-own (false && begins_quote text) (quotes (take 2 text)) (plain (take (prefix_len (prints_itself false) text) text)) text (take-own 2 text)
     (take-own (prefix_len (prints_itself false) text) text)))
 
-own-front : (text : List ℕ) (part : NamePart) → part ≡ part_of (token_at false text) → take part.len text ≡ token_bytes (token_at false text)
-own-front text part known = ap (λ (p : NamePart). take p.len text) known ∙ sym (token-own text)
-
-pub white-front : (text : List ℕ) (part : NamePart) → part ≡ part_of (token_at false text) → part.known ≡ White → white (take part.len text) ≡ token_at false text
-white-front text part known is =
-    ap white (own-front text part known) ∙ sym (token-white (token_at false text) (ap (λ (p : NamePart). p.known) (sym known) ∙ is))
-
-pub plain-front : (text : List ℕ) (part : NamePart) → part ≡ part_of (token_at false text) → part.known ≡ Plain → plain (take part.len text) ≡ token_at false text
-plain-front text part known is =
-    ap plain (own-front text part known) ∙ sym (token-plain (token_at false text) (ap (λ (p : NamePart). p.known) (sym known) ∙ is))
+pub front-written : (text : List ℕ) (part : NamePart) → part ≡ part_of (token_at false text)
+    → (part.known ≡ White → white (take part.len text) ≡ token_at false text) × (part.known ≡ Plain → plain (take part.len text) ≡ token_at false text)
+front-written text part known =
+    let token = token_at false text in
+    let own : take part.len text ≡ token_bytes token = ap (λ (p : NamePart). take p.len text) known ∙ sym (token-own text) in
+    let same : token_known token ≡ part.known = ap (λ (p : NamePart). p.known) (sym known) in
+    ((λ is. ap white own ∙ (token-written token).0 (same ∙ is)), (λ is. ap plain own ∙ (token-written token).1 (same ∙ is)))
 
 -- ---- items that wait, those of a token, and the others
 

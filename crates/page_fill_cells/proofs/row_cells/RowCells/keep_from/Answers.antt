@@ -3,7 +3,7 @@ use Rattle.std.proofs.lemmas.List.{length-take-le, length-drop, length-replicate
 use Rattle.page_core_base.specs.declared.limits.TheConstants.{CELLS}
 use Rattle.page_fill_cells.specs.Cells.{cell_of}
 use Rattle.page_fill_cells.specs.machine.BlankRuns.{HasRun}
-use Rattle.page_fill_cells.proofs.BlankRunLemmas.{front-run, kept-run}
+use Rattle.page_fill_cells.proofs.BlankRunLemmas.{kept-run}
 use Rattle.page_fill_cells.proofs.PlaceLemmas.{moved-front, put-length}
 use Rattle.page_fill_cells.proofs.row_cells.RowCells.keep_from.Goals as goal
 
@@ -19,33 +19,17 @@ pub invariant_of-self : goal.invariant_of-self
 invariant_of-self c =
     let row = c.self.inside in
     let held = c.self.invariant in
-    let blanks = replicate row.run.start (cell_of row.run.font 32) in
-    let n : length blanks ≡ row.run.start = length-replicate row.run.start (cell_of row.run.font 32) in
-    let within : row.len ≤ length row.places = omega (arith, held.0, held.1) in
-    let len = length-take-le row.len row.places within in
     let from : c.args.start ≤ length (take row.len row.places) = rw (← c.self.view_is) at c.requires in
-    let first : row.run.start ≤ c.args.start = c.if-self-start.true in (
-      ap length c.put_blanks.ensures ∙ (put-length row.places blanks 0 (omega (arith, n, len, from, first, within)) ∙ held.0),
-      omega (arith, held.1),
-      rw c.put_blanks.ensures (front-run row.places row.run.start row.run.end row.run.font held.2),
-      refl,
-    )
+    let kept = kept-run row.places row.run.start row.run.end c.args.start row.len row.run.font held.2 c.if-self-start.true from c.if-end-self.true (omega (arith, held.0, held.1)) in
+    rw c.put_blanks.ensures (kept.size ∙ held.0, omega (arith, held.1), kept.run, refl)
 
 pub returns-then-end-self : goal.returns-then-end-self
 returns-then-end-self c =
     let row = c.self.inside in
     let held = c.self.invariant in
-    let blanks = replicate row.run.start (cell_of row.run.font 32) in
-    let n : length blanks ≡ row.run.start = length-replicate row.run.start (cell_of row.run.font 32) in
-    let within : row.len ≤ length row.places = omega (arith, held.0, held.1) in
-    let len = length-take-le row.len row.places within in
     let from : c.args.start ≤ length (take row.len row.places) = rw (← c.self.view_is) at c.requires in
-    let first : row.run.start ≤ c.args.start = c.if-self-start.true in
-    let size = ap length c.put_blanks.ensures ∙ put-length row.places blanks 0 (omega (arith, n, len, from, first, within)) in
-    let front : HasRun c.put_blanks.new.self 0 row.run.end row.run.font = rw c.put_blanks.ensures (front-run row.places row.run.start row.run.end row.run.font held.2) in
-    kept-run row.places c.put_blanks.new.self row.run.start row.run.end c.args.start row.len row.run.font held.2 front first (omega (arith, len, from)) c.if-end-self.true within
-    (omega (arith, size, within))
-    ∙ ap (drop c.args.start) c.self.view_is
+    let kept = kept-run row.places row.run.start row.run.end c.args.start row.len row.run.font held.2 c.if-self-start.true from c.if-end-self.true (omega (arith, held.0, held.1)) in
+    rw c.put_blanks.ensures kept.rest ∙ ap (drop c.args.start) c.self.view_is
 
 pub invariant_of-self-2 : goal.invariant_of-self-2
 invariant_of-self-2 c =
