@@ -72,13 +72,10 @@ said room argument = text_front room (argument_value argument)
 abbrev pub said_len : Argument (List ℕ) → ℕ
 said_len argument = length (argument_value argument)
 
--- an argument as a field: at most FIELD bytes
-abbrev pub field : Argument (List ℕ) → List ℕ
-field argument = said FIELD argument
-
+-- the first argument as a field: at most FIELD bytes
 abbrev pub first_field : List (Argument (List ℕ)) → List ℕ
 first_field [] = []
-first_field (argument ∷ arguments) = field argument
+first_field (argument ∷ arguments) = said FIELD argument
 
 abbrev pub nth_field : ℕ → List (Argument (List ℕ)) → List ℕ
 nth_field n arguments = first_field (drop n arguments)
@@ -182,7 +179,7 @@ argument_cut place argument = cut_item place (said_len argument)
 abbrev pub cut_items : Prologue → Place → List (Argument (List ℕ)) → List Item
 cut_items TH place arguments = flat_map (argument_cut place) (take 5 arguments)
 cut_items Dt place (title ∷ section ∷ arch ∷ others) =
-    argument_cut place title ++ (argument_cut place section ++ cut_item place (length (volume_of (field section)) + 3 + said_len arch))
+    argument_cut place title ++ (argument_cut place section ++ cut_item place (length (volume_of (said FIELD section)) + 3 + said_len arch))
 cut_items Dt place arguments = flat_map (argument_cut place) arguments
 cut_items Dd place arguments = cut_item place (joined_len arguments)
 cut_items Os place arguments = cut_item place (joined_len arguments)

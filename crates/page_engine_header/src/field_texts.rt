@@ -5,6 +5,7 @@ ghost use Rattle.page_core_base.specs.declared.limits.TheConstants.{FIELD};
 ghost use Rattle.page_roff_syntax.specs.laws.Views.{argument_view};
 ghost use Rattle.page_engine_header.specs.Header as fields;
 ghost use Rattle.page_engine_header.specs.Header.{first_field, or_else, said, said_len};
+ghost use Rattle.page_core_base.specs.Limits.{FIELD as spec_FIELD};
 
 use arrayvec::ArrayVec;
 use page_core_base::FIELD;
@@ -84,7 +85,7 @@ impl Field {
 
     /// A field of what an argument says, of which the first 256 bytes are kept, up to a character's end.
     pub(crate) fn of(argument: Argument<&[u8]>) -> Field
-        ensures { result ≡ fields.field (argument_view argument.entry) }
+        ensures { result ≡ said spec_FIELD (argument_view argument.entry) }
     {
         let mut kept = ArrayVec::new();
         add_argument(&mut kept, FIELD, argument);

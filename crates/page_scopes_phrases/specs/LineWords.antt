@@ -79,9 +79,6 @@ span_of quoted text = record { end = before_blanks (tokens_of quoted text); tab 
 
 -- ---- the texts of cells
 
-abbrev pub first_cell : CellSpan → Phrase (List ℕ) → Phrase (List ℕ)
-first_cell span p = record p { text = take span.end p.text; after = Apart }
-
 -- after a tab, which is one byte or the two of an escape
 abbrev pub after_tab : List ℕ → List ℕ
 after_tab [] = []
@@ -111,7 +108,7 @@ tab_step s = next_column s.context.list (record s { line = record s.line { has_r
 
 -- the first cell, and the next column
 abbrev pub first_part : CellSpan → ℕ → Phrase (List ℕ) → Formatting → Outcome
-first_part span line p s = followed_by (cell line (first_cell span p) s) tab_step
+first_part span line p s = followed_by (cell line (record p { text = take span.end p.text; after = Apart }) s) tab_step
 
 abbrev pub span : Phrase (List ℕ) → CellSpan
 span p = span_of p.is_quoted p.text

@@ -1,5 +1,5 @@
 //! Texts in the columns of a list (mdoc(7), `Bl -column`, `Ta`).
-ghost use Rattle.std.specs.Prelude.{◌≡◌, ◌≤◌, ◌<◌, ◌==◌, if◌then◌else◌, Bool, length, position, IfSome};
+ghost use Rattle.std.specs.Prelude.{◌≡◌, ◌≤◌, ◌<◌, ◌==◌, if◌then◌else◌, Bool, length, position, IfSome, take};
 ghost use Rattle.std.specs.List.{prefix_len};
 ghost use Rattle.page_core_escapes.specs.Tokens.{is_space, token_bytes};
 ghost use Rattle.page_core_escapes.specs.laws.Views.{token_view};
@@ -7,6 +7,7 @@ ghost use Rattle.page_scopes_phrases.specs.LineWords as cells;
 ghost use Rattle.page_sets_lines.specs.laws.Views.{FitsAt};
 ghost use Rattle.page_scopes_phrases.specs.laws.Views.{GivesOutcome, phrase_view};
 ghost use Rattle.page_scopes_phrases.specs.Phrases.{nothing};
+ghost use Rattle.page_sets_lines.specs.declared.events.Join.TheVariants.{Apart};
 
 use crate::phrases::is_text;
 use crate::{Formatting, Phrase, give_phrase};
@@ -175,7 +176,7 @@ fn without_blanks(text: &[u8]) -> &[u8]
 // The text of the first cell.
 fn first_cell<'a>(span: CellSpan, phrase: &Phrase<&'a [u8]>) -> Phrase<&'a [u8]>
     requires { span.end ≤ length phrase.now.text.now }
-    ensures { phrase_view result ≡ cells.first_cell span (phrase_view phrase.now) }
+    ensures { phrase_view result ≡ record (phrase_view phrase.now) { text = take span.end (phrase_view phrase.now).text; after = Apart } }
 {
     Phrase {
         text: &phrase.text[..span.end],
