@@ -1,6 +1,7 @@
 -- The events of man(7) are in their line: helpers of proofs.
-use Rattle.std.proofs.Common.{◌≡◌, refl, ℕ, Bool, true, false, List, [], ◌∷◌, inl, inr, Option, None, Some, option_map}
+use Rattle.std.proofs.Common.{◌≡◌, refl, ℕ, Bool, true, false, List, [], ◌∷◌, inl, inr, Option, None, Some, option_map, drop, if◌then◌else◌}
 use Rattle.page_sets_lines.specs.declared.events.EventKind.TheVariants as kinds
+use Rattle.page_sets_lines.specs.declared.openers.Closer.TheVariants as closers
 use Rattle.std.specs.Option.{option_or, option_map_or}
 use Rattle.std.specs.Str.{bytes_eq}
 use Rattle.std.proofs.lemmas.Bool.{cases_Bool}
@@ -17,14 +18,14 @@ use Rattle.page_sets_lines.specs.declared.events.Join.TheVariants.{Apart, Glued}
 use Rattle.page_sets_lines.specs.declared.events.EventKind.{EventKind}
 use Rattle.page_sets_lines.specs.declared.events.Event.{Event}
 use Rattle.page_sets_lines.specs.declared.plain_lines.PlainLine.{PlainLine}
-use Rattle.page_sets_lines.specs.Lines.{name_end, name_of, name_place, is_nameless, arguments_after, open_quote, rest_of, layout_request, line_start, plain_line, plain_events}
-use Rattle.page_sets.specs.Man.{table, macro_row, request_row, row_of, effect_kind, line_scope, one_word, plain_words, alternating_words, option_words, section_words, reference_words, further_words, words_events, break_events, quote_at, missing_quote, quote_events, kind_events, last_events, macro_events, lone_events, named_events, control_events, man_events}
+use Rattle.page_sets_lines.specs.Lines.{name_end, name_of, name_place, is_nameless, arguments_after, open_quote, rest_of, layout_request, line_start, plain_line, plain_events, event_at}
+use Rattle.page_sets.specs.Man.{table, macro_row, request_row, row_of, effect_kind, line_scope, one_word, plain_words, alternating_words, option_words, section_words, reference_words, words_events, quote_at, missing_quote, quote_events, kind_events, last_events, macro_events, lone_events, named_events, control_events, man_events}
 use Rattle.page_laws.specs.Places.{IsInLine, AreAll}
 use Rattle.page_laws.proofs.PlaceLemmas.{AreAll-append, either_at, AnyAt, AllSit, IsAtIfGiven, open_at, all_sit, start_in, name_in}
 
 -- ---- at the macro
 
-break_at : (IsSo : Event (List ℕ) → Type 0) (place : Place) (breaks : Bool) → AnyAt IsSo place → AreAll IsSo (break_events place breaks)
+break_at : (IsSo : Event (List ℕ) → Type 0) (place : Place) (breaks : Bool) → AnyAt IsSo place → AreAll IsSo (if breaks then event_at place (kinds.Close closers.Line) ∷ [] else [])
 break_at IsSo place true p = (p _, tt)
 break_at IsSo place false p = tt
 
@@ -77,7 +78,7 @@ reference_at : (IsSo : Event (List ℕ) → Type 0) (place : Place) (arguments :
 reference_at IsSo place [] p h = tt
 reference_at IsSo place (name ∷ arguments) p h = (h.0.first _ refl, section_at IsSo place arguments p h.1)
 
-further_at : (IsSo : Event (List ℕ) → Type 0) (number : ℕ) (arguments : List (Argument (List ℕ))) → AllSit IsSo number arguments → AreAll IsSo (further_words number arguments)
+further_at : (IsSo : Event (List ℕ) → Type 0) (number : ℕ) (arguments : List (Argument (List ℕ))) → AllSit IsSo number arguments → AreAll IsSo (plain_words number (drop 1 arguments))
 further_at IsSo number [] h = tt
 further_at IsSo number (first ∷ arguments) h = plain_at IsSo number arguments h.1
 

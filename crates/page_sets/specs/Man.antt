@@ -1,7 +1,7 @@
 -- The events of a line of man(7), and the table of its macros. Source: man(7).
 use Prim.Native.String.{String}
 use Rattle.std.specs.Option.{option_or, option_map_or}
-use Rattle.std.specs.Prelude.{ℕ, Bool, List, codes, true, false, [], ◌∷◌, Option, option_map, Some, None, ◌&&◌, ◌++◌, if◌then◌else◌}
+use Rattle.std.specs.Prelude.{ℕ, Bool, List, codes, true, false, [], ◌∷◌, Option, option_map, Some, None, ◌&&◌, ◌++◌, if◌then◌else◌, drop}
 use Rattle.page_core_base.specs.Messages.{row_in}
 use Rattle.page_core_base.specs.Texts.{Line}
 use Rattle.page_core_base.specs.declared.cells.Font.{Font}
@@ -216,28 +216,20 @@ abbrev pub reference_words : Place → List (Argument (List ℕ)) → List (Even
 reference_words place [] = []
 reference_words place (name ∷ arguments) = argument_word place.line (Some fonts.I) Apart name ∷ section_words place arguments
 
--- the arguments after the first, which the macro's effect takes: words of the text, in the font around them (`UE ME SY`)
-abbrev pub further_words : ℕ → List (Argument (List ℕ)) → List (Event (List ℕ))
-further_words number [] = []
-further_words number (first ∷ arguments) = plain_words number arguments
-
+-- further words are the arguments after the first, which the macro's effect takes: words of the text, in the font around them (`UE ME SY`)
 abbrev pub words_events : Place → Words → List (Argument (List ℕ)) → List (Event (List ℕ))
 words_events place words.Nothing arguments = []
 words_events place words.Plain arguments = plain_words place.line arguments
 words_events place (words.Alternating font other) arguments = alternating_words place.line font other Apart arguments
 words_events place words.Option arguments = option_words place.line arguments
 words_events place words.Reference arguments = reference_words place arguments
-words_events place words.Further arguments = further_words place.line arguments
+words_events place words.Further arguments = plain_words place.line (drop 1 arguments)
 
 abbrev pub has_words : Words → Bool
 has_words words.Nothing = false
 has_words _ = true
 
 -- ---- the events of a line
-
-abbrev pub break_events : Place → Bool → List (Event (List ℕ))
-break_events place true = event_at place (kinds.Close closers.Line) ∷ []
-break_events place false = []
 
 -- the quote of an argument without its closing one, which is reported before the macro has its effect
 abbrev pub quote_at : Bool → Option ℕ → Option Quote
@@ -266,7 +258,7 @@ last_events place (lasts.Mark text) = mark place text Glued Apart ∷ []
 -- where it has words, the line fills line scopes
 abbrev pub macro_events : Place → Row → List ℕ → List (Argument (List ℕ)) → List (Event (List ℕ))
 macro_events place row rest arguments =
-    break_events place row.breaks
+    (if row.breaks then event_at place (kinds.Close closers.Line) ∷ [] else [])
     ++ (quote_events place.line (missing_quote row.quotes arguments)
     ++ (kind_events place (effect_kind row.effect rest arguments)
     ++ (kind_events place (option_map kinds.LineScope (line_scope row.effect))

@@ -1,6 +1,6 @@
 //! The events of a line, given one after another (man(7), "MACRO REFERENCE").
 
-ghost use Rattle.std.specs.Prelude.{◌≡◌, ◌≤◌, [], ◌∷◌, length, drop, option_map, IfSome, false};
+ghost use Rattle.std.specs.Prelude.{◌≡◌, ◌≤◌, [], ◌∷◌, length, drop, option_map, if◌then◌else◌, IfSome, false};
 ghost use Rattle.page_core_base.specs.laws.Views.{line_view, Came};
 ghost use Rattle.page_sets_lines.specs.laws.Events.{kind_view, event_view};
 ghost use Rattle.page_sets_lines.specs.laws.Views.{IsShortKind};
@@ -9,6 +9,7 @@ ghost use Rattle.page_roff_syntax.specs.laws.Views.{argument_view};
 ghost use Rattle.page_sets_lines.specs.declared.events.Join.TheVariants.{Apart};
 ghost use Rattle.page_sets.specs.Man as man;
 ghost use Rattle.page_sets_lines.specs.declared.events.EventKind.TheVariants as kinds;
+ghost use Rattle.page_sets_lines.specs.declared.openers.Closer.TheVariants as closers;
 ghost use Rattle.page_core_base.specs.declared.note_kinds.NoteKind.TheVariants.{Unterminated};
 
 use crate::man_effects::{effect_kind, line_scope};
@@ -110,7 +111,7 @@ fn give_plain_words<'a, O: EventTaker<'a>>(out: &mut O, number: u32, text: &'a [
 fn give_further_words<'a, O: EventTaker<'a>>(out: &mut O, number: u32, text: &'a [u8], start: usize)
     requires short { length text.now ≤ LINE }
     requires within { start ≤ length text.now }
-    ensures { Came O.left out.old (man.further_words number (arguments_after start text.now)) out.new }
+    ensures { Came O.left out.old (man.plain_words number (drop 1 (arguments_after start text.now))) out.new }
 {
     if let Some((_, rest)) = read_after(text, start) {
         give_plain_words(out, number, text, rest);
@@ -282,7 +283,7 @@ fn give_scope<'a, O: EventTaker<'a>>(out: &mut O, place: Place, scope: Option<Li
 
 // The end of the line scopes that are open, where a macro breaks them.
 fn give_break<'a, O: EventTaker<'a>>(out: &mut O, place: Place, breaks: bool)
-    ensures { Came O.left out.old (man.break_events place breaks) out.new }
+    ensures { Came O.left out.old (if breaks then event_at place (kinds.Close closers.Line) ∷ [] else []) out.new }
 {
     if breaks {
         out.give(event_at(place, EventKind::Close(Closer::Line)));

@@ -1,6 +1,7 @@
 -- The macros of man(7) keep the laws of macro sets: proofs, which the set's laws cite. Source: man(7).
-use Rattle.std.proofs.Common.{◌≡◌, ℕ, ◌+◌, ◌*◌, ◌≤◌, Bool, true, false, ◌&&◌, nat_le, List, [], ◌∷◌, ◌++◌, length, drop, refl, arith, inl, inr, length-append, Option, None, Some, option_map}
+use Rattle.std.proofs.Common.{◌≡◌, ℕ, ◌+◌, ◌*◌, ◌≤◌, Bool, true, false, ◌&&◌, nat_le, List, [], ◌∷◌, ◌++◌, length, drop, refl, arith, inl, inr, length-append, Option, None, Some, option_map, if◌then◌else◌}
 use Rattle.std.specs.List.{list_all}
+use Rattle.page_sets_lines.specs.declared.openers.Closer.TheVariants as closers
 use Rattle.std.specs.Option.{option_or, option_map_or}
 use Rattle.std.specs.Str.{bytes_eq}
 use Rattle.std.proofs.lemmas.Bool.{cases_Bool}
@@ -20,7 +21,7 @@ use Rattle.page_sets_lines.specs.declared.plain_lines.PlainLine.{PlainLine}
 use Rattle.page_roff_syntax.specs.declared.requests.LayoutRequest.{LayoutRequest}
 use Rattle.page_core_base.specs.Texts.{Line}
 use Rattle.page_sets_lines.specs.laws.Sets.{IsPart, IsArgument, IsArgumentIfGiven, OpensSlices, ClosesSlices, LeavesSlices, HasSlices, AreSlices, AreInOrder}
-use Rattle.page_sets_lines.specs.Lines.{name_end, name_of, name_place, is_nameless, arguments_after, first_of, line_end, plain_line, layout_request, plain_events}
+use Rattle.page_sets_lines.specs.Lines.{name_end, name_of, name_place, is_nameless, arguments_after, first_of, line_end, plain_line, layout_request, plain_events, event_at}
 use Rattle.page_sets_lines.proofs.ArgumentLaws.{ArgumentsFrom, all_after, earlier, few_after}
 use Rattle.page_sets_lines.proofs.LawLemmas.{nothing_part, rest_part, end_within, name_part, first_slice_after, first_text_after, second_text_after, request_slices, line_slices, AreSlices-append, HasNoWord, order_after, order_before, line_order, named_bytes}
 use Rattle.page_sets.specs.declared.man_rows.Opens.{Opens}
@@ -43,11 +44,11 @@ use Rattle.page_sets.specs.declared.man_rows.Row.{Row}
 use Rattle.page_sets.specs.declared.man_gives.Quote.{Quote}
 use Rattle.page_core_base.specs.Messages.{row_in}
 use Rattle.page_core_base.specs.declared.places.Place.{Place}
-use Rattle.page_sets.specs.Man.{quiet, table, macro_row, request_row, row_of, opener, closer, leaf, effect_kind, line_scope, one_word, plain_words, alternating_words, option_words, section_words, reference_words, further_words, words_events, has_words, break_events, quote_at, missing_quote, quote_events, kind_events, last_events, macro_events, lone_events, row_events, named_events, control_events, man_events}
+use Rattle.page_sets.specs.Man.{quiet, table, macro_row, request_row, row_of, opener, closer, leaf, effect_kind, line_scope, one_word, plain_words, alternating_words, option_words, section_words, reference_words, words_events, has_words, quote_at, missing_quote, quote_events, kind_events, last_events, macro_events, lone_events, row_events, named_events, control_events, man_events}
 
 -- ---- slices
 
-break_slices : (line : List ℕ) (place : Place) (breaks : Bool) → AreSlices line (break_events place breaks)
+break_slices : (line : List ℕ) (place : Place) (breaks : Bool) → AreSlices line (if breaks then event_at place (kinds.Close closers.Line) ∷ [] else [])
 break_slices line place true = (tt, tt)
 break_slices line place false = tt
 
@@ -146,7 +147,7 @@ reference_slices line place from [] h = tt
 reference_slices line place from (name ∷ arguments) h = (h.1, section_slices line place _ arguments h.2)
 
 further_slices : (line : List ℕ) (number from : ℕ) (arguments : List (Argument (List ℕ)))
-    → ArgumentsFrom line from arguments → AreSlices line (further_words number arguments)
+    → ArgumentsFrom line from arguments → AreSlices line (plain_words number (drop 1 arguments))
 further_slices line number from [] h = tt
 further_slices line number from (first ∷ arguments) h = plain_slices line number (first.column + length first.text) arguments h.2
 
@@ -207,7 +208,7 @@ man_slices line = form_slices line (plain_line line.form line.text)
 
 -- ---- order
 
-break_no_word : (place : Place) (breaks : Bool) → HasNoWord (break_events place breaks)
+break_no_word : (place : Place) (breaks : Bool) → HasNoWord (if breaks then event_at place (kinds.Close closers.Line) ∷ [] else [])
 break_no_word place true = (refl, tt)
 break_no_word place false = tt
 
@@ -265,7 +266,7 @@ reference_order line place from [] h = tt
 reference_order line place from (name ∷ arguments) h = (h.0, section_order line place _ arguments h.2)
 
 further_order : (line : List ℕ) (number from : ℕ) (arguments : List (Argument (List ℕ)))
-    → ArgumentsFrom line from arguments → AreInOrder from (further_words number arguments)
+    → ArgumentsFrom line from arguments → AreInOrder from (plain_words number (drop 1 arguments))
 further_order line number from [] h = tt
 further_order line number from (first ∷ arguments) h =
     plain_order line number from arguments (earlier line from (first.column + length first.text) arguments (omega (arith, h.0)) h.2)
@@ -362,7 +363,7 @@ weight row =
     break_weight row.breaks + (quotes_weight row.quotes + (effect_weight row.effect
     + (scope_weight (line_scope row.effect) + (marks_weight row.words + last_weight row.last))))
 
-few_break : (place : Place) (breaks : Bool) → length (break_events place breaks) ≤ break_weight breaks
+few_break : (place : Place) (breaks : Bool) → length (if breaks then event_at place (kinds.Close closers.Line) ∷ [] else []) ≤ break_weight breaks
 unfolding break_weight
 few_break place true = omega arith
 few_break place false = omega arith
@@ -425,7 +426,7 @@ few_reference : (place : Place) (arguments : List (Argument (List ℕ))) → len
 few_reference place [] = omega arith
 few_reference place (name ∷ arguments) = let f = few_section place arguments in omega (arith, f)
 
-few_further : (number : ℕ) (arguments : List (Argument (List ℕ))) → length (further_words number arguments) ≤ length arguments
+few_further : (number : ℕ) (arguments : List (Argument (List ℕ))) → length (plain_words number (drop 1 arguments)) ≤ length arguments
 few_further number [] = omega arith
 few_further number (first ∷ arguments) = let f = few_plain number arguments in omega (arith, f)
 
