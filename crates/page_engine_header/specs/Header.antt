@@ -181,8 +181,7 @@ cut_items TH place arguments = flat_map (argument_cut place) (take 5 arguments)
 cut_items Dt place (title ∷ section ∷ arch ∷ others) =
     argument_cut place title ++ (argument_cut place section ++ cut_item place (length (volume_of (said FIELD section)) + 3 + said_len arch))
 cut_items Dt place arguments = flat_map (argument_cut place) arguments
-cut_items Dd place arguments = cut_item place (joined_len arguments)
-cut_items Os place arguments = cut_item place (joined_len arguments)
+cut_items _ place arguments = cut_item place (joined_len arguments)
 
 -- ---- The header and the footer of a page. Source: man(7), TH; mandoc(1), "ASCII Output" and "DIAGNOSTICS".
 
