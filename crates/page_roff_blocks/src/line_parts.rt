@@ -1,6 +1,5 @@
 //! What a raw line is made of (roff(7), "if", "ie", "el", "while").
 
-
 use page_roff_heads::{Condition, LoopHead};
 use page_roff_syntax::RegionHead;
 

@@ -193,4 +193,3 @@ font_if_given (Some font) c = font_begun font c
 -- its words have ended: later rows are further in by their columns
 abbrev pub name_ended : ℕ → Context → Context
 name_ended columns c = record c { hang = pos columns }
-

@@ -55,4 +55,3 @@ row_of_quotation So = quotation_row Single "So" "Sc"
 
 abbrev pub quotation_marks : Quotation → Marks
 quotation_marks this = (row_of_quotation this).marks
-
