@@ -102,7 +102,7 @@ fn give_shift<O: PieceOut>(
     state: &mut Formatting,
 )
     ensures came { Came O.left out.old
-        (requests.given_shift_notes place (text_view columns.entry)
+        (unwrap_or (option_map (columns_notes place) (text_view columns.entry)) []
         ++ shown Break ∷ margin_items (record state.old.context { shift = set_to (requests.given_shift (text_view columns.entry) state.old.context.shift.value) }))
         out.new }
     ensures state { state.new ≡ row_ended (in_context
