@@ -106,8 +106,10 @@ abbrev pub Runs : {R N : Type 0} → Result Outcome Fault → Streams R N → R 
     → PageSettings → List ℕ → Option (List ℕ) → Type 0
 Runs result streams rows_before rows_after notes_before notes_after settings bytes after = MatchResult result
     (Whole streams rows_before rows_after notes_before notes_after settings bytes after)
-    (Stopped (AllCame streams rows_before rows_after notes_before notes_after)
-    (FrontCame streams rows_before rows_after notes_before notes_after) settings bytes)
+    (λ fault. Stopped
+    (λ (laid : Laid Edge). AllCame streams rows_before rows_after notes_before notes_after laid)
+    (λ (laid : Laid Edge). FrontCame streams rows_before rows_after notes_before notes_after laid)
+    settings bytes fault)
 
 -- ---- the causes of faults
 
@@ -144,15 +146,22 @@ pub record Untouched {R N : Type 0} (source_before source_after : SourceState) (
   pub notes : notes_after ≡ notes_before
 
 -- Why a run over a source stopped, by its fault: nothing was touched, a read failed, there was too much, or a sink failed.
-module _ {R N : Type 0} (sinks : Sinks R N) (source_before source_after : SourceState) (rows_before rows_after : R) (notes_before notes_after : N) (settings : PageSettings) (asked : ℕ) (bytes : List ℕ) where
-  abbrev pub StoppedBy : Fault → Type 0
-  StoppedBy Memory = Untouched source_before source_after rows_before rows_after notes_before notes_after
-  StoppedBy Read = Rose source_before.failed source_after.failed
-  StoppedBy TooLong = IsTooLong asked bytes
-  StoppedBy WriteText = Broken sinks rows_before rows_after notes_before notes_after settings bytes WriteText
-  StoppedBy WriteNotes = Broken sinks rows_before rows_after notes_before notes_after settings bytes WriteNotes
-  StoppedBy (Settings fault) = Untouched source_before source_after rows_before rows_after notes_before notes_after
-  StoppedBy _ = ⊥
+abbrev pub StoppedBy : {R N : Type 0} → Sinks R N → (source_before source_after : SourceState) → (rows_before rows_after : R)
+    → (notes_before notes_after : N) → PageSettings → (asked : ℕ) → (bytes : List ℕ) → Fault → Type 0
+StoppedBy sinks source_before source_after rows_before rows_after notes_before notes_after settings asked bytes Memory =
+    Untouched source_before source_after rows_before rows_after notes_before notes_after
+StoppedBy sinks source_before source_after rows_before rows_after notes_before notes_after settings asked bytes Read =
+    Rose source_before.failed source_after.failed
+StoppedBy sinks source_before source_after rows_before rows_after notes_before notes_after settings asked bytes TooLong =
+    IsTooLong asked bytes
+StoppedBy sinks source_before source_after rows_before rows_after notes_before notes_after settings asked bytes WriteText =
+    Broken sinks rows_before rows_after notes_before notes_after settings bytes WriteText
+StoppedBy sinks source_before source_after rows_before rows_after notes_before notes_after settings asked bytes WriteNotes =
+    Broken sinks rows_before rows_after notes_before notes_after settings bytes WriteNotes
+StoppedBy sinks source_before source_after rows_before rows_after notes_before notes_after settings asked bytes (Settings fault) =
+    Untouched source_before source_after rows_before rows_after notes_before notes_after
+StoppedBy sinks source_before source_after rows_before rows_after notes_before notes_after settings asked bytes _ =
+    ⊥
 
 -- nothing failed
 pub record Quiet {R N : Type 0} (sinks : Sinks R N) (source_before source_after : SourceState)

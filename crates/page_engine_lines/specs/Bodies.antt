@@ -40,17 +40,22 @@ title_fields has_begun name os rest fields =
 
 -- ---- The language of a page: the set of macros that its lines are of. Source: mandoc(1), -m; man(7), TH; mdoc(7), Dd.
 
--- a control line without a name, or of a request that changes rows, is of both; one of a macro is of man(7), but `Dd` is of mdoc(7)
+-- a macro is of man(7), but `Dd` is of mdoc(7)
+abbrev pub macro_language : List ℕ → Either
+macro_language name = if bytes_eq name (codes "Dd") then Mdoc else Man
+
+-- a control line without a name, or of a request that changes rows, is of both
 abbrev pub control_language : Line → Option Either
 control_language line =
-    if is_nameless line || is_some (layout_request (name_of line)) then None else Some (if bytes_eq (name_of line) (codes "Dd") then Mdoc else Man)
+    if is_nameless line || is_some (layout_request (name_of line)) then None else Some (macro_language (name_of line))
 
 -- text with a word, and a line as it is written, are of man(7)
 abbrev pub form_language : Line → Option PlainLine → Option Either
 form_language line None = control_language line
+form_language line (Some lines.Wordless) = None
+form_language line (Some lines.Blank) = None
 form_language line (Some lines.Words) = Some Man
 form_language line (Some lines.Raw) = Some Man
-form_language line _ = None
 
 -- the language that a line decides, if it decides one
 unfoldable pub language_of : Line → Option Either
@@ -106,23 +111,27 @@ chosen_if b (Some set) = chosen b set
 
 -- ---- the start
 
--- the set of macros that the settings ask for, if they do; else a page is read as man(7) until its language is decided
-abbrev pub asked_set : Language → Option Either
-asked_set languages.Auto = None
-asked_set languages.Man = Some sets.Man
-asked_set languages.Mdoc = Some sets.Mdoc
+-- a page is read as man(7) until its language is decided
+abbrev pub asked_set : Language → Either
+asked_set languages.Auto = sets.Man
+asked_set languages.Man = sets.Man
+asked_set languages.Mdoc = sets.Mdoc
+
+abbrev pub is_asked : Language → Bool
+is_asked languages.Auto = false
+is_asked languages.Man = true
+is_asked languages.Mdoc = true
 
 -- before a page's first line
 abbrev pub start_of : Settings → BodyEdge
 start_of s =
-    let set = unwrap_or (asked_set s.language) sets.Man in
-    let indent = indent_of s.indent set in
+    let indent = indent_of s.indent (asked_set s.language) in
     record {
       header = record {
         measure = record { width = s.width; indent = indent; output = s.output };
         indent = s.indent;
-        set = set;
-        is_decided = is_some (asked_set s.language);
+        set = asked_set s.language;
+        is_decided = is_asked s.language;
         os = s.os.bytes;
         fields = no_fields s.os.bytes;
       };

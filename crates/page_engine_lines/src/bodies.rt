@@ -1,11 +1,10 @@
 //! The body of a page: the events of its lines, with the header before the event that begins it (man(7)).
 
-ghost use Rattle.std.specs.Prelude.{◌≡◌, ◌≤◌, length, unwrap_or, is_some, IfOk};
+ghost use Rattle.std.specs.Prelude.{◌≡◌, ◌≤◌, length, IfOk};
 ghost use Rattle.page_core_base.specs.laws.Views.{Came, line_view};
 ghost use Rattle.page_engine_lines.specs.Bodies as bodies;
 ghost use Rattle.page_engine_lines.specs.laws.Views as bodies_laws;
 ghost use Rattle.page_engine_lines.specs.laws.Views.{GivesEvent, GivesEvents, plain_event, BodyFits};
-ghost use Rattle.page_sets.specs.declared.either.Either.TheVariants as sets;
 ghost use Rattle.page_sets_lines.specs.laws.Views.{IsShort};
 ghost use Rattle.page_sets_lines.specs.laws.Events.{event_view};
 ghost use Rattle.page_sets_lines.specs.Lines.{line_end, plain_events};
@@ -85,7 +84,7 @@ impl<O: PieceOut> EventOut for BodyOut<'_, '_, O> {
 
 // The set of macros that the settings ask for, and whether they ask for one.
 fn asked(language: Language) -> (Either, bool)
-    ensures { result ≡ (unwrap_or (bodies.asked_set language) sets.Man, is_some (bodies.asked_set language)) }
+    ensures { result ≡ (bodies.asked_set language, bodies.is_asked language) }
 {
     match language {
         Language::Auto => (Either::Man, false),

@@ -1,10 +1,8 @@
 //! The language of a page (mandoc(1), `-m`; man(7), `TH`; mdoc(7), `Dd`).
 
-ghost use Rattle.std.specs.Prelude.{◌≡◌, ◌≤◌, length, codes, if◌then◌else◌};
+ghost use Rattle.std.specs.Prelude.{◌≡◌, ◌≤◌, length};
 ghost use Rattle.page_core_base.specs.laws.Views.{line_view};
 ghost use Rattle.page_engine_lines.specs.Bodies as languages;
-ghost use Rattle.std.specs.Str.{bytes_eq};
-ghost use Rattle.page_sets.specs.declared.either.Either.TheVariants.{Mdoc, Man};
 
 use page_core_base::{LINE, Taken};
 use page_sets::Either;
@@ -12,7 +10,7 @@ use page_sets_lines::{ControlLine, PlainLine, layout_request};
 
 // The language of a macro's name.
 fn macro_language(name: &[u8]) -> Either
-    ensures { result ≡ (if bytes_eq name.now (codes "Dd") then Mdoc else Man) }
+    ensures { result ≡ languages.macro_language name.now }
 {
     match name {
         b"Dd" => Either::Mdoc,
