@@ -16,7 +16,7 @@ use Rattle.mandoc_command.specs.Names.{Text}
 use Rattle.mandoc_command.specs.Line.{HaveRules, are_words, is_empty, line, is_line, names_in, found_in, has_none, refusal_by, with_rules}
 use Rattle.mandoc_command.specs.declared.commands.Refusal.TheVariants.{Words}
 use Rattle.mandoc_command.specs.declared.programs.Program.{Program}
-use Rattle.mandoc_command.specs.declared.programs.Program.TheVariants.{Format, Makewhatis, Whatis}
+use Rattle.mandoc_command.specs.declared.programs.Program.TheVariants.{Format}
 
 -- arguments that are added in turn add their rules
 pub adds_rules : (old new : Command) (args : List Arg) (rules : List Rule) → AddsInTurn AddsArg old args new → HaveRules args rules
@@ -32,14 +32,12 @@ adds_rules old new (arg ∷ args) [] added have = absurd have
 pub line_is_simple : (program : Program) → is_simple (line program) ≡ true
 unfolding line
 line_is_simple Format = refl
-line_is_simple Makewhatis = refl
-line_is_simple Whatis = refl
+line_is_simple _ = refl
 
 pub line_is_free : (program : Program) → is_simple_and_free (line program) ≡ true
 unfolding line
 line_is_free Format = refl
-line_is_free Makewhatis = refl
-line_is_free Whatis = refl
+line_is_free _ = refl
 
 pub is_line-ok : (program : Program) (a : App) (words : List Text) → a ≡ line program → fault_of a words ≡ [] → is_line program words ≡ true
 unfolding is_line

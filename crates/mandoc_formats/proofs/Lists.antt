@@ -174,9 +174,8 @@ none_below status put_out e l = absurd (omega (arith, e, l))
 
 -- rows and messages where the messages are not wanted alone
 pub plain_out : (page : Page) (kind : Output) → (kind ≡ output.Lint → ⊥) → (page_out kind page ≡ page.rows) × (page_err kind page ≡ page.notes)
-plain_out page output.Ascii n = (refl, refl)
-plain_out page output.Utf8 n = (refl, refl)
 plain_out page output.Lint n = absurd (n refl)
+plain_out page _ n = (refl, refl)
 
 pub put_out_last : (worst worst' status : ℕ) (a b : List ℕ) → worst' ≡ ord_max nat_cmp worst status → IsPutOut status a b → IsPutOut worst' a b
 put_out_last worst worst' status a b m h l = let e = m ∙ worse worst status in h (omega (arith, e, l))

@@ -67,8 +67,6 @@ or_none (Some v) = refl
 
 -- a name's row is in the list of its letter
 row_by_letter : {V : Type 0} (letter : ℕ) (lists : List (List (List ℕ × V))) (name : List ℕ) (i : ℕ) → stand_by_letter letter lists ≡ true → letter_of name ≡ letter + i → row_in (joined lists) name ≡ row_in (get_or lists i []) name
-row_by_letter letter [] name zero stand place = refl
-row_by_letter letter [] name (suc i) stand place = refl
 row_by_letter letter (rows ∷ more) name zero stand place =
     let parts = and_parts (list_all (λ row. eqb (letter_of row.0) letter) rows) (stand_by_letter (letter + 1) more) stand in
     row_in-append rows (joined more) name
@@ -78,16 +76,15 @@ row_by_letter letter (rows ∷ more) name (suc i) stand place =
     row_in-append rows (joined more) name
     ∙ ap (λ o. option_or o (row_in (joined more) name)) (none_of_letter letter rows name parts.0 (λ same. omega arith))
     ∙ row_by_letter (letter + 1) more name i parts.1 (omega arith)
+row_by_letter _ [] _ _ _ _ = refl
 
 -- a table of the program as values
 abbrev pub table_view : {V : Type 0} → List (Bor (List (Bor (List ℕ) × V))) → List (List (List ℕ × V))
 table_view lists = map (λ rows. seen rows.now) lists
 
 list_view : {V : Type 0} (lists : List (Bor (List (Bor (List ℕ) × V)))) (i : ℕ) → seen (get_or (map (λ rows. rows.now) lists) i []) ≡ get_or (table_view lists) i []
-list_view [] zero = refl
-list_view [] (suc i) = refl
-list_view (rows ∷ more) zero = refl
 list_view (rows ∷ more) (suc i) = list_view more i
+list_view _ _ = refl
 
 -- where the lists of the program, one after another, are the rows of a table, the list of a name's letter says of it what the table says
 pub row_of_rows : {V : Type 0} (lists : List (Bor (List (Bor (List ℕ) × V)))) (table : List (List ℕ × V)) (name : List ℕ) → stand_by_letter 0 (table_view lists) ≡ true

@@ -28,7 +28,7 @@ unpaired (byte ∷ next ∷ bytes) = if byte == 34 && next == 34 then 34 ∷ unp
 -- ---- A finished line, as a set of macros reads it. Source: roff(7), "LANGUAGE SYNTAX".
 
 -- its form, its text, the number of its source line, and the bytes up to the end of its raw name
-pub record Line : Type 0 where
+pub record TakenLine : Type 0 where
   pub form : Form
   pub text : List ℕ
   pub number : ℕ

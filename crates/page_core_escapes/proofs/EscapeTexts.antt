@@ -5,8 +5,8 @@ use Rattle.std.proofs.lemmas.Bool.{cond_both}
 use Rattle.std.proofs.lemmas.Str.{IsUtf8-nil, IsUtf8-take}
 use Rattle.page_core_escapes.specs.declared.letters.Shape.{Shape}
 use Rattle.page_core_escapes.specs.declared.letters.Shape.TheVariants.{Alone, Glyph, Name, Size, Quoted}
-use Rattle.page_core_escapes.specs.declared.letters.Kind.{Kind}
-use Rattle.page_core_escapes.specs.declared.letters.Kind.TheVariants as means
+use Rattle.page_core_escapes.specs.declared.letters.LetterKind.{LetterKind}
+use Rattle.page_core_escapes.specs.declared.letters.LetterKind.TheVariants as means
 use Rattle.page_core_escapes.specs.declared.extents.Extent.TheVariants.{Whole, QuotedFrom}
 use Rattle.page_core_escapes.specs.Lengths.{letter_of, shape_before, shape_of, name_len, extent_by, extent_of, quoted_len, content_len, escape_len}
 use Rattle.page_core_escapes.specs.Meanings.{Face, roman, italic, bold, bold_italic, former, unknown, glyph, face, face_of, bare_name, bare_quoted, bracketed, names_code_point, argument_of, meaning_by, meaning_of, read_escape, escape_of}
@@ -41,7 +41,7 @@ face_texts name utf8 =
     (either_face _ _ _ (known_face bold_italic tt)
     (either_face _ _ _ (known_face former tt) (known_face (unknown name) utf8)))))
 
-meaning_texts : (kind : Kind) (argument text : List ℕ) → IsUtf8 argument → HasTexts (meaning_by kind argument text)
+meaning_texts : (kind : LetterKind) (argument text : List ℕ) → IsUtf8 argument → HasTexts (meaning_by kind argument text)
 meaning_texts means.Glyph argument text utf8 = utf8
 meaning_texts means.CodePoint argument text utf8 = bracketed_texts argument utf8
 meaning_texts (means.Char c) argument text utf8 = tt

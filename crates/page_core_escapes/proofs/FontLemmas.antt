@@ -6,7 +6,7 @@ use Rattle.std.proofs.Math.Dec.{leb-zero}
 use Rattle.std.proofs.lemmas.Bool.{cases_Bool, cond-true}
 use Rattle.page_core_escapes.specs.Meanings.{escape_of, Face, Meaning, face, face_of, is_one_of, letter_meaning, meaning_by, meaning_of, roman, italic, bold, bold_italic, former, unknown}
 use Rattle.page_core_escapes.specs.declared.letters.Shape.TheVariants.{Alone}
-use Rattle.page_core_escapes.specs.declared.letters.Kind.{Kind}
+use Rattle.page_core_escapes.specs.declared.letters.LetterKind.{LetterKind}
 use Rattle.page_core_escapes.specs.declared.letters.Letter.{Letter}
 use Rattle.page_core_escapes.specs.Lengths.{character_len, written_len, name_len, extent_len, escape_len_by, escape_len, letter_of}
 use Rattle.page_core_escapes.specs.machine.ShortEscapes.{ShortEscape, ShortFont}
@@ -60,14 +60,14 @@ code_font (x ∷ y ∷ z ∷ u ∷ v ∷ rest) h a b c d e =
     record { backslash = a; escape = record { not_empty = omega arith; within = h; escape = λ pairs. rw (first, second, third, fourth, fifth) (code_escape pairs rest) } }
 
 -- an escape of a letter alone, whose row has this kind
-alone_escape : (letter : ℕ) (kind : Kind) → letter_of letter ≡ record { shape = Alone; kind = kind } → continuation_len letter ≡ 0 → (34 == letter) ≡ false
+alone_escape : (letter : ℕ) (kind : LetterKind) → letter_of letter ≡ record { shape = Alone; kind = kind } → continuation_len letter ≡ 0 → (34 == letter) ≡ false
     → (pairs : Bool) (rest : List ℕ) → escape_of pairs (92 ∷ letter ∷ rest) ≡ (meaning_by kind [] (letter ∷ []), 2)
 unfolding escape_of escape_len escape_len_by extent_len meaning_of
 alone_escape letter kind row ascii other pairs rest =
     let by : Letter → Meaning × ℕ = λ l. (letter_meaning pairs l (letter ∷ []), 2) in
     rw (row, written_alone pairs letter rest ascii other) (ap by row)
 
-pub short_alone : (letter : ℕ) (kind : Kind) → letter_of letter ≡ record { shape = Alone; kind = kind } → continuation_len letter ≡ 0 → (34 == letter) ≡ false
+pub short_alone : (letter : ℕ) (kind : LetterKind) → letter_of letter ≡ record { shape = Alone; kind = kind } → continuation_len letter ≡ 0 → (34 == letter) ≡ false
     → (text : List ℕ) → 2 ≤ length text → get_or text 0 0 ≡ 92 → get_or text 1 0 ≡ letter → ShortEscape text (meaning_by kind [] (letter ∷ [])) 2
 short_alone letter kind row ascii other [] h a b = absurd (omega (arith, h))
 short_alone letter kind row ascii other (x ∷ []) h a b = absurd (omega (arith, h))

@@ -4,10 +4,10 @@ use Rattle.std.specs.List.{list_all}
 use Rattle.std.proofs.lemmas.Bool.{cases_Bool, cases_lt, and_parts, cond-true, cond-false}
 use Rattle.std.proofs.lemmas.Bool.Decides.{nat_tests}
 use Rattle.page_core_escapes.specs.declared.letters.Shape.{Shape}
-use Rattle.page_core_escapes.specs.declared.letters.Shape.TheVariants.{Alone, Glyph, Name, Size, Quoted}
-use Rattle.page_core_escapes.specs.Lengths.{is_among, Row, table, another, letter_of, after_sign, begins_size, shape_before, shape_of}
+use Rattle.page_core_escapes.specs.declared.letters.Shape.TheVariants.{Alone, Size}
+use Rattle.page_core_escapes.specs.Lengths.{is_among, EscapeRow, table, another, letter_of, after_sign, begins_size, shape_before, shape_of}
 
-abbrev is_ascii : Row → Bool
+abbrev is_ascii : EscapeRow → Bool
 is_ascii r = list_all (λ k. nat_lt k 128) r.keys
 
 -- a byte past ASCII is not among some of ASCII
@@ -18,7 +18,7 @@ among-high key (k ∷ ks) all high =
     let first : eqb key k ≡ false = grind (arith, nat_tests, parts.0, high) in
     rw (first, among-high key ks parts.1 high) refl
 
-find-high : (key : ℕ) (rows : List Row) → list_all is_ascii rows ≡ true → 128 ≤ key → find (λ row. is_among key row.keys) rows ≡ None
+find-high : (key : ℕ) (rows : List EscapeRow) → list_all is_ascii rows ≡ true → 128 ≤ key → find (λ row. is_among key row.keys) rows ≡ None
 find-high key [] all high = refl
 find-high key (r ∷ rs) all high =
     let parts = and_parts (is_ascii r) (list_all is_ascii rs) all in
@@ -26,14 +26,11 @@ find-high key (r ∷ rs) all high =
 
 letter_of-high : (key : ℕ) → 128 ≤ key → letter_of key ≡ another
 unfolding letter_of
-letter_of-high key high = ap (λ o. unwrap_or (option_map (λ (row : Row). row.letter) o) another) (find-high key table refl high)
+letter_of-high key high = ap (λ o. unwrap_or (option_map (λ (row : EscapeRow). row.letter) o) another) (find-high key table refl high)
 
 abbrev pub is_alone : Shape → Bool
 is_alone Alone = true
-is_alone Glyph = false
-is_alone Name = false
-is_alone Size = false
-is_alone Quoted = false
+is_alone _ = false
 
 -- a letter that something follows is one of ASCII
 pub letter_ascii : (key : ℕ) (s : Shape) → (letter_of key).shape ≡ s → is_alone s ≡ false → key < 128
@@ -52,10 +49,6 @@ pub record Follows (s : Shape) (rest : List ℕ) : Type 0 where
   pub size : shape_before rest s ≡ Size → begins_size (after_sign rest) ≡ true
 
 pub follows : (s : Shape) (rest : List ℕ) → Follows s rest
-follows Alone rest = record { same = λ e. refl; size = λ e. cc }
-follows Glyph rest = record { same = λ e. refl; size = λ e. cc }
-follows Name rest = record { same = λ e. refl; size = λ e. cc }
-follows Quoted rest = record { same = λ e. refl; size = λ e. cc }
 follows Size rest =
     elim (cases_Bool (begins_size (after_sign rest))) [
       | inl size ↦ record { same = λ e. cond-true _ _ _ size; size = λ e. size }
@@ -63,6 +56,7 @@ follows Size rest =
           let is : shape_before rest Size ≡ Alone = cond-false _ _ _ none in
           record { same = λ e. let alone : true ≡ false = ap is_alone (sym is) ∙ e in cc; size = λ e. let alone : Alone ≡ Size = sym is ∙ e in cc }
     ]
+follows _ rest = record { same = λ e. refl; size = λ e. cc }
 
 -- the letter of an escape of a shape
 pub shape_ascii : (key : ℕ) (rest : List ℕ) (s : Shape) → shape_of key rest ≡ s → is_alone s ≡ false → key < 128

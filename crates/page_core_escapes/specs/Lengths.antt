@@ -4,8 +4,8 @@ use Rattle.std.specs.Prelude.{ℕ, Bool, ◌==◌, List, ◌&&◌, nat_le, [], �
 use Rattle.std.specs.Str.{continuation_len}
 use Rattle.page_core_escapes.specs.declared.extents.Extent.{Extent}
 use Rattle.page_core_escapes.specs.declared.extents.Extent.TheVariants.{Whole, QuotedFrom}
-use Rattle.page_core_escapes.specs.declared.letters.Kind.{Kind}
-use Rattle.page_core_escapes.specs.declared.letters.Kind.TheVariants as means
+use Rattle.page_core_escapes.specs.declared.letters.LetterKind.{LetterKind}
+use Rattle.page_core_escapes.specs.declared.letters.LetterKind.TheVariants as means
 use Rattle.page_core_escapes.specs.declared.letters.Letter.{Letter}
 use Rattle.page_core_escapes.specs.declared.letters.Shape.{Shape}
 use Rattle.page_core_escapes.specs.declared.letters.Shape.TheVariants as follows
@@ -54,14 +54,14 @@ closing_bracket = 0x5D
 -- sequences"; mandoc_char(7).
 
 -- letters whose escapes are alike
-pub record Row : Type 0 where
+pub record EscapeRow : Type 0 where
   pub keys : List ℕ
   pub letter : Letter
 
-abbrev pub row : List ℕ → Shape → Kind → Row
+abbrev pub row : List ℕ → Shape → LetterKind → EscapeRow
 row keys shape kind = record { keys = keys; letter = record { shape = shape; kind = kind } }
 
-abbrev pub table : List Row
+abbrev pub table : List EscapeRow
 table =
     row (codes "(") follows.Glyph means.Glyph ∷
     row (codes "[") follows.Glyph means.CodePoint ∷

@@ -3,8 +3,8 @@ use Rattle.std.specs.List.{list_all, list_any}
 use Rattle.std.specs.Prelude.{ℕ, List, ◌-◌, length, take, ◌==◌, [], ◌∷◌, if◌then◌else◌, Bool, drop, unwrap_or, ◌&&◌, ◌||◌, nat_le, ◌+◌, ◌*◌, fold, not, false, codes, true, slice_index, Option, Some, None}
 use Rattle.std.specs.Str.{bytes_eq, chars, is_utf8}
 use Rattle.page_core_escapes.specs.Lengths.{parenthesis, bracket, written_len, is_digit, letter_of, escape_len}
-use Rattle.page_core_escapes.specs.declared.letters.Kind.{Kind}
-use Rattle.page_core_escapes.specs.declared.letters.Kind.TheVariants as means
+use Rattle.page_core_escapes.specs.declared.letters.LetterKind.{LetterKind}
+use Rattle.page_core_escapes.specs.declared.letters.LetterKind.TheVariants as means
 use Rattle.page_core_escapes.specs.declared.letters.Letter.{Letter}
 use Rattle.page_core_escapes.specs.declared.letters.Shape.{Shape}
 use Rattle.page_core_escapes.specs.declared.letters.Shape.TheVariants.{Alone, Glyph, Name, Size, Quoted}
@@ -113,7 +113,7 @@ argument_of pairs Size text = drop 1 text
 argument_of pairs Quoted text = bare_quoted pairs (drop 1 text)
 
 -- what an escape means by its kind, its argument and its text from its letter on; with another character there is no such escape
-abbrev pub meaning_by : Kind → (argument text : List ℕ) → Meaning
+abbrev pub meaning_by : LetterKind → (argument text : List ℕ) → Meaning
 meaning_by means.Glyph argument text = glyph argument
 meaning_by means.CodePoint argument text = bracketed argument
 meaning_by (means.Char c) argument text = character c

@@ -19,7 +19,7 @@ pub(crate) enum Shape {
 
 /// What an escape means, with its argument.
 #[derive(Clone, Copy)]
-pub(crate) enum Kind {
+pub(crate) enum LetterKind {
     /// The glyph that the argument names.
     Glyph,
     /// The character whose code point the argument names, or the glyph.
@@ -44,10 +44,10 @@ pub(crate) enum Kind {
 #[derive(Clone, Copy)]
 pub(crate) struct Letter {
     pub(crate) shape: Shape,
-    pub(crate) kind: Kind,
+    pub(crate) kind: LetterKind,
 }
 
-fn entry(shape: Shape, kind: Kind) -> Letter
+fn entry(shape: Shape, kind: LetterKind) -> Letter
     ensures { result ≡ record { shape = shape; kind = kind } }
 {
     Letter { shape, kind }
@@ -59,19 +59,19 @@ pub(crate) fn letter_of(key: u8) -> Letter
     ensures { result ≡ letter_of key }
 {
     match key {
-        b'(' => entry(Shape::Glyph, Kind::Glyph),
-        b'[' => entry(Shape::Glyph, Kind::CodePoint),
-        b'C' => entry(Shape::Quoted, Kind::Glyph),
-        b'e' | b'\\' => entry(Shape::Alone, Kind::Char('\\')),
-        b'-' => entry(Shape::Alone, Kind::Char('-')),
-        b'\'' => entry(Shape::Alone, Kind::Char('\u{B4}')),
-        b'`' => entry(Shape::Alone, Kind::Char('`')),
-        b'.' => entry(Shape::Alone, Kind::Char('.')),
-        b't' => entry(Shape::Alone, Kind::Tab),
-        b' ' | b'~' | b'0' => entry(Shape::Alone, Kind::Blank),
-        b'h' => entry(Shape::Quoted, Kind::Blanks),
-        b'c' => entry(Shape::Alone, Kind::Glue),
-        b'f' => entry(Shape::Name, Kind::Font),
+        b'(' => entry(Shape::Glyph, LetterKind::Glyph),
+        b'[' => entry(Shape::Glyph, LetterKind::CodePoint),
+        b'C' => entry(Shape::Quoted, LetterKind::Glyph),
+        b'e' | b'\\' => entry(Shape::Alone, LetterKind::Char('\\')),
+        b'-' => entry(Shape::Alone, LetterKind::Char('-')),
+        b'\'' => entry(Shape::Alone, LetterKind::Char('\u{B4}')),
+        b'`' => entry(Shape::Alone, LetterKind::Char('`')),
+        b'.' => entry(Shape::Alone, LetterKind::Char('.')),
+        b't' => entry(Shape::Alone, LetterKind::Tab),
+        b' ' | b'~' | b'0' => entry(Shape::Alone, LetterKind::Blank),
+        b'h' => entry(Shape::Quoted, LetterKind::Blanks),
+        b'c' => entry(Shape::Alone, LetterKind::Glue),
+        b'f' => entry(Shape::Name, LetterKind::Font),
         b'&'
         | b')'
         | b'|'
@@ -85,14 +85,14 @@ pub(crate) fn letter_of(key: u8) -> Letter
         | b'r'
         | b'd'
         | b'z'
-        | b'{' => entry(Shape::Alone, Kind::Nothing),
-        b'm' | b'M' | b'k' | b'F' => entry(Shape::Name, Kind::Nothing),
-        b'v' | b'x' => entry(Shape::Quoted, Kind::Nothing),
-        b's' => entry(Shape::Size, Kind::Size),
-        b'p' => entry(Shape::Alone, Kind::Unsupported),
-        b'g' | b'V' | b'Y' => entry(Shape::Name, Kind::Unsupported),
+        | b'{' => entry(Shape::Alone, LetterKind::Nothing),
+        b'm' | b'M' | b'k' | b'F' => entry(Shape::Name, LetterKind::Nothing),
+        b'v' | b'x' => entry(Shape::Quoted, LetterKind::Nothing),
+        b's' => entry(Shape::Size, LetterKind::Size),
+        b'p' => entry(Shape::Alone, LetterKind::Unsupported),
+        b'g' | b'V' | b'Y' => entry(Shape::Name, LetterKind::Unsupported),
         b'b' | b'o' | b'l' | b'L' | b'D' | b'N' | b'X' | b'A' | b'B' | b'H' | b'S' | b'R' | b'Z' =>
-            entry(Shape::Quoted, Kind::Unsupported),
-        _ => entry(Shape::Alone, Kind::Undefined),
+            entry(Shape::Quoted, LetterKind::Unsupported),
+        _ => entry(Shape::Alone, LetterKind::Undefined),
     }
 }

@@ -7,7 +7,7 @@ ghost use Rattle.page_core_escapes.specs.laws.Views.{meaning_view, face_view};
 ghost use Rattle.page_core_escapes.specs.machine.Steps.{FontLetter};
 
 use crate::extents::written_len;
-use crate::letters::{Kind, Shape, letter_of};
+use crate::letters::{LetterKind, Shape, letter_of};
 use std::str;
 
 /// The font that an escape asks for.
@@ -84,24 +84,24 @@ fn argument(pairs: bool, shape: Shape, text: &[u8]) -> &[u8]
 }
 
 // The meaning of an escape by its kind, its argument and its text from its letter on.
-fn meaning_by<'a>(kind: Kind, argument: &'a [u8], text: &[u8]) -> Escape<'a>
+fn meaning_by<'a>(kind: LetterKind, argument: &'a [u8], text: &[u8]) -> Escape<'a>
     requires { 0 < length text.now }
     ensures { meaning_view result ≡ meaning_by kind argument.now text.now }
 {
     match kind {
-        Kind::Glyph => Escape::Glyph(argument),
-        Kind::CodePoint => read_bracketed(argument),
-        Kind::Char(c) => Escape::Char(c),
-        Kind::Tab => Escape::Tab,
-        Kind::Blank => Escape::Blank,
-        Kind::Blanks => Escape::Blanks(argument),
-        Kind::Nothing => Escape::Nothing,
-        Kind::Size if argument.is_empty() => Escape::Undefined(first_char(text)),
-        Kind::Size => Escape::Nothing,
-        Kind::Glue => Escape::Glue,
-        Kind::Font => Escape::Font(read_font(argument)),
-        Kind::Undefined => Escape::Undefined(first_char(text)),
-        Kind::Unsupported => Escape::Unsupported,
+        LetterKind::Glyph => Escape::Glyph(argument),
+        LetterKind::CodePoint => read_bracketed(argument),
+        LetterKind::Char(c) => Escape::Char(c),
+        LetterKind::Tab => Escape::Tab,
+        LetterKind::Blank => Escape::Blank,
+        LetterKind::Blanks => Escape::Blanks(argument),
+        LetterKind::Nothing => Escape::Nothing,
+        LetterKind::Size if argument.is_empty() => Escape::Undefined(first_char(text)),
+        LetterKind::Size => Escape::Nothing,
+        LetterKind::Glue => Escape::Glue,
+        LetterKind::Font => Escape::Font(read_font(argument)),
+        LetterKind::Undefined => Escape::Undefined(first_char(text)),
+        LetterKind::Unsupported => Escape::Unsupported,
     }
 }
 

@@ -1,7 +1,7 @@
 -- What digits are worth, and a number in basic units.
 use Rattle.std.proofs.Common.{◌≡◌, ℕ, ◌+◌, ◌-◌, ◌*◌, ◌/◌, ◌^◌, min, List, [], ◌∷◌, get_or, None, Some, length, ◌==◌, true, false, ◌<◌, refl, arith}
 use Rattle.page_core_numbers.specs.declared.scales.Scale.{Scale}
-use Rattle.page_core_numbers.specs.declared.scales.Scale.TheVariants.{Basic, En, Em, Vertical, Pica, Inch, Point, Centimeter}
+use Rattle.page_core_numbers.specs.declared.scales.Scale.TheVariants.{Basic}
 use Rattle.page_core_numbers.specs.Expressions.{decimal, ten_thousandths, numerator, denominator, units_of, digits_of, after_digits, fraction_of, after_fraction, number_of, number_at}
 use Rattle.std.proofs.lemmas.Bool.Decides.{nat_tests}
 
@@ -18,13 +18,7 @@ pub units_held : (whole fraction : List ℕ) (scale : Scale) (w : ℕ) → w ≡
     → min ((w * 10000 + ten_thousandths fraction) * numerator scale / (10000 * denominator scale)) (2 ^ 31 - 1) ≡ min (units_of whole fraction scale) (2 ^ 31 - 1)
 unfolding units_of
 units_held whole fraction Basic w e = omega arith
-units_held whole fraction En w e = omega arith
-units_held whole fraction Em w e = omega arith
-units_held whole fraction Vertical w e = omega arith
-units_held whole fraction Pica w e = omega arith
-units_held whole fraction Inch w e = omega arith
-units_held whole fraction Point w e = omega arith
-units_held whole fraction Centimeter w e = omega arith
+units_held whole fraction _ w e = omega arith
 
 -- ---- a number at a text's front, by what is written of it
 

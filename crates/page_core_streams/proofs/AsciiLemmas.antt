@@ -9,7 +9,7 @@ use Rattle.std.proofs.Math.Seq.{take-add}
 use Rattle.std.proofs.lemmas.List.Folds.{list_all_more, list_all-append}
 use Rattle.page_core_base.specs.declared.cells.Cell.{Cell}
 use Rattle.page_core_base.specs.declared.cells.Font.{Font}
-use Rattle.page_core_base.specs.declared.cells.Font.TheVariants.{R, B, I, BI}
+use Rattle.page_core_base.specs.declared.cells.Font.TheVariants.{R}
 use Rattle.page_core_base.specs.laws.Views.{AreAscii, cells_in, is_ascii}
 use Rattle.page_core_base.specs.Rows.{is_blank, trimmed}
 use Rattle.page_core_base.proofs.AsciiLemmas.{cells-more}
@@ -95,9 +95,7 @@ roman-less fonts i within all = and_parts (list_all is_roman (take i fonts)) (is
 marked-roman : (c : ℕ) (font : Font) → c < 128 → is_roman font ≡ true → marked_bytes c font ≡ c ∷ []
 unfolding lib.Utf8.encode
 marked-roman c R few roman = search (rules, few)
-marked-roman c B few roman = cc
-marked-roman c I few roman = cc
-marked-roman c BI few roman = cc
+marked-roman c _ few roman = cc
 
 roman-byte : (c : ℕ) (font : Font) → c < 128 → is_roman font ≡ true → cell_bytes_of (record { c = c; font = font }) ≡ c ∷ []
 roman-byte c font few roman =

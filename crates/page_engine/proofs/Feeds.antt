@@ -6,7 +6,7 @@ use Rattle.page_core_base.specs.declared.faults.Fault.{Fault}
 use Rattle.page_core_base.specs.declared.note_kinds.Level.{Level}
 use Rattle.page_core_base.specs.declared.page_settings.Output.{Output}
 use Rattle.page_core_base.specs.laws.Views.{Gets, FailsBySink, IsPieceFault}
-use Rattle.page_fill.specs.declared.edges.Edge.{Edge as FillEdge}
+use Rattle.page_fill.specs.declared.edges.FillEdge.{FillEdge}
 use Rattle.page_engine_lines.specs.Edges.{LinesEdge}
 use Rattle.page_engine.specs.laws.Views.{FilterGave, FilterWithin, ShownGave, ShownWithin}
 use Rattle.page_engine.specs.Page.{is_silent, of_page}

@@ -7,35 +7,35 @@ use Rattle.page_core_base.specs.declared.pieces.Piece.TheVariants.{Text, Glyph, 
 use Rattle.page_core_base.specs.declared.pieces.TagForm.TheVariants as forms
 use Rattle.page_core_base.specs.Rows.{Laid, Item, shown, noted}
 use Rattle.page_fill.specs.declared.edges.OpenTag.{OpenTag}
-use Rattle.page_fill.specs.declared.edges.Edge.{Edge}
+use Rattle.page_fill.specs.declared.edges.FillEdge.{FillEdge}
 use Rattle.page_fill.specs.machine.ByPiece.{laid_item, laid_items}
 use Rattle.page_fill.specs.Filling.{Group, words, other, groups, row_end, placed, after_tag, tag_end, other_laid, groups_laid, filled}
 use Rattle.page_fill.specs.Words.{words_laid, content_laid}
 
-abbrev pub fixed : Edge → Output × ℕ
+abbrev pub fixed : FillEdge → Output × ℕ
 fixed e = (e.output, e.sheet.width)
 
-either_fixed : (b : Bool) (k l : Laid Edge) (kept : Output × ℕ) → fixed k.edge ≡ kept → fixed l.edge ≡ kept → fixed (if b then k else l).edge ≡ kept
+either_fixed : (b : Bool) (k l : Laid FillEdge) (kept : Output × ℕ) → fixed k.edge ≡ kept → fixed l.edge ≡ kept → fixed (if b then k else l).edge ≡ kept
 either_fixed true k l kept h g = h
 either_fixed false k l kept h g = g
 
-heading_fixed : (b : Bool) (e : Edge) → fixed (if b then e else record e { sheet = record e.sheet { heading = true } }) ≡ fixed e
+heading_fixed : (b : Bool) (e : FillEdge) → fixed (if b then e else record e { sheet = record e.sheet { heading = true } }) ≡ fixed e
 heading_fixed true e = refl
 heading_fixed false e = refl
 
-after_tag_fixed : (e : Edge) (tag : OpenTag) → fixed (after_tag e tag).edge ≡ fixed e
+after_tag_fixed : (e : FillEdge) (tag : OpenTag) → fixed (after_tag e tag).edge ≡ fixed e
 after_tag_fixed e tag = either_fixed _ _ _ (fixed e) refl (either_fixed tag.ends_row (row_end e) (placed e 1) (fixed e) refl refl)
 
-tag_end_fixed : (e : Edge) (set_in : Option ℕ) (tag : Option OpenTag) → fixed (tag_end e set_in tag).edge ≡ fixed e
+tag_end_fixed : (e : FillEdge) (set_in : Option ℕ) (tag : Option OpenTag) → fixed (tag_end e set_in tag).edge ≡ fixed e
 tag_end_fixed e (Some blanks) tag = refl
 tag_end_fixed e None None = refl
 tag_end_fixed e None (Some tag) = either_fixed e.sheet.tag_begun _ _ (fixed e) (after_tag_fixed (record e { tag = None }) tag) refl
 
-words_fixed : (e : Edge) (items : List Item) → fixed (words_laid e items).edge ≡ fixed e
+words_fixed : (e : FillEdge) (items : List Item) → fixed (words_laid e items).edge ≡ fixed e
 unfolding words_laid
 words_fixed e items = refl
 
-other_fixed : (e : Edge) (p : Piece (List ℕ)) → fixed (other_laid e p).edge ≡ fixed e
+other_fixed : (e : FillEdge) (p : Piece (List ℕ)) → fixed (other_laid e p).edge ≡ fixed e
 unfolding other_laid words_laid content_laid
 other_fixed e (Text bytes font place) = refl
 other_fixed e (Glyph name font place) = refl
@@ -57,21 +57,21 @@ other_fixed e TagEnd = tag_end_fixed e e.set_in e.tag
 other_fixed e Heading = heading_fixed (length e.sheet.cells == 0) _
 other_fixed e (Column n) = refl
 
-groups_fixed : (e : Edge) (all : List Group) → fixed (groups_laid e all).edge ≡ fixed e
+groups_fixed : (e : FillEdge) (all : List Group) → fixed (groups_laid e all).edge ≡ fixed e
 unfolding groups_laid
 groups_fixed e [] = refl
 groups_fixed e (words items ∷ more) = groups_fixed (words_laid e items).edge more ∙ words_fixed e items
 groups_fixed e (other p ∷ more) = groups_fixed (other_laid e p).edge more ∙ other_fixed e p
 
-pub filled_fixed : (e : Edge) (items : List Item) → fixed (filled e items).edge ≡ fixed e
+pub filled_fixed : (e : FillEdge) (items : List Item) → fixed (filled e items).edge ≡ fixed e
 filled_fixed e items = groups_fixed e (groups items)
 
 -- piece by piece
-item_fixed : (e : Edge) (item : Item) → fixed (laid_item e item).edge ≡ fixed e
+item_fixed : (e : FillEdge) (item : Item) → fixed (laid_item e item).edge ≡ fixed e
 item_fixed e (shown p) = filled_fixed e (shown p ∷ [])
 item_fixed e (noted m) = refl
 
-pub items_fixed : (e : Edge) (items : List Item) → fixed (laid_items e items).edge ≡ fixed e
+pub items_fixed : (e : FillEdge) (items : List Item) → fixed (laid_items e items).edge ≡ fixed e
 unfolding laid_items
 items_fixed e [] = refl
 items_fixed e (item ∷ items) = items_fixed (laid_item e item).edge items ∙ item_fixed e item

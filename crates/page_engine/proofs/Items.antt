@@ -14,8 +14,8 @@ use Rattle.page_fill.proofs.LetteredWordLemmas.{first-is, word-some}
 use Rattle.page_core_base.specs.Messages.{Message, IsSinkFault}
 use Rattle.page_core_base.specs.Rows.{LaidRow, Laid, Gave, join, nothing, Item, shown, noted}
 use Rattle.page_core_base.specs.declared.faults.Fault.{Fault}
-use Rattle.page_core_base.specs.declared.faults.Fault.TheVariants.{Memory, Read, WriteText, WriteNotes, TooLong, Settings, Failed, Ended, BadIndex}
-use Rattle.page_fill.specs.declared.edges.Edge.{Edge as FillEdge}
+use Rattle.page_core_base.specs.declared.faults.Fault.TheVariants.{WriteText, WriteNotes, Failed}
+use Rattle.page_fill.specs.declared.edges.FillEdge.{FillEdge}
 use Rattle.page_fill.specs.machine.ByPiece.{laid_item, laid_items}
 use Rattle.page_fill.specs.Filling.{filled}
 use Rattle.page_engine.specs.machine.PageSinks.{Passed, Broken, Ends, Quiet, cause_later}
@@ -26,15 +26,9 @@ laid_items_one row x = rw (append-nil, append-nil) refl
 
 -- a sink's fault is one of a sink of pieces
 sink_cause : (fault : Fault) (r r' n n' : ℕ) → IsSinkFault fault r r' n n' → IsPieceFault fault r r' n n'
-sink_cause Memory r r' n n' cause = absurd cause
-sink_cause Read r r' n n' cause = absurd cause
 sink_cause WriteText r r' n n' cause = cause
 sink_cause WriteNotes r r' n n' cause = cause
-sink_cause TooLong r r' n n' cause = absurd cause
-sink_cause (Settings s) r r' n n' cause = absurd cause
-sink_cause Failed r r' n n' cause = absurd cause
-sink_cause Ended r r' n n' cause = absurd cause
-sink_cause (BadIndex m) r r' n n' cause = absurd cause
+sink_cause _ r r' n n' cause = absurd cause
 
 -- where no item came nothing did
 pub nothing_passes : {R N : Type 0} {rg rw_ : R → List LaidRow → R → Type 0} {rf : R → ℕ} {ng nw : N → List Message → N → Type 0} {nf : N → ℕ}

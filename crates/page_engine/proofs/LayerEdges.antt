@@ -5,9 +5,9 @@ use Rattle.page_core_base.specs.declared.note_kinds.Level.{Level}
 use Rattle.page_core_base.specs.declared.page_settings.Output.{Output}
 use Rattle.page_fill.specs.machine.ByPiece.{laid_items}
 use Rattle.page_fill.specs.Filling.{filled}
-use Rattle.page_fill.specs.declared.edges.Edge.{Edge as FillEdge}
+use Rattle.page_fill.specs.declared.edges.FillEdge.{FillEdge}
 use Rattle.page_roff_lines.specs.Lines.{Line}
-use Rattle.page_roff_source.specs.Runs.{Edge as RoffEdge, done}
+use Rattle.page_roff_source.specs.Runs.{RoffEdge, done}
 use Rattle.page_engine_lines.specs.Bodies.{BodyEdge}
 use Rattle.page_engine_lines.specs.Acts.{lines_items, lines_after}
 use Rattle.page_engine_lines.specs.Edges.{LinesEdge}

@@ -53,10 +53,9 @@ return_whole o = either (λ x. x.whole ≡ o.whole) o.after_return _ o refl refl
 
 newline_closed : (m : Mode) (o : Open) → o.whole ≡ false → IsClosed (newline_in m o)
 unfolding newline_in close
-newline_closed Plain o f = λ t. refl
-newline_closed Comment o f = λ t. refl
 newline_closed Backslash o f = λ t. absurd (not_both o.whole f t)
 newline_closed Dropped o f = λ t. absurd (not_both o.whole f t)
+newline_closed _ o f = λ t. refl
 
 put_newline_closed : (o : Open) → o.whole ≡ false → IsClosed (put_newline o)
 unfolding put_newline

@@ -72,12 +72,6 @@ rose_not : (old new : ℕ) → old < 2 ^ 64 - 1 → new ≡ old → (old < 2 ^ 6
 rose_not old new room same rose = let less = rose room in omega (arith, less, same)
 
 pub no_cause : (fault : Fault) (r r' n n' : ℕ) → r < 2 ^ 64 - 1 → r' ≡ r → n < 2 ^ 64 - 1 → n' ≡ n → IsSinkFault fault r r' n n' → ⊥
-no_cause faults.Memory r r' n n' a b c d h = h
-no_cause faults.Read r r' n n' a b c d h = h
 no_cause faults.WriteText r r' n n' a b c d h = rose_not r r' a b h
 no_cause faults.WriteNotes r r' n n' a b c d h = rose_not n n' c d h
-no_cause faults.TooLong r r' n n' a b c d h = h
-no_cause (faults.Settings s) r r' n n' a b c d h = h
-no_cause faults.Failed r r' n n' a b c d h = h
-no_cause faults.Ended r r' n n' a b c d h = h
-no_cause (faults.BadIndex l) r r' n n' a b c d h = h
+no_cause _ r r' n n' a b c d h = h

@@ -8,7 +8,7 @@ use Rattle.page_core_base.specs.Messages.{Message}
 use Rattle.page_core_base.specs.declared.page_settings.Settings.{Settings}
 use Rattle.page_fill.specs.laws.Views as fill
 use Rattle.page_fill.specs.machine.ByPiece.{laid_items, laid_items-append}
-use Rattle.page_fill.specs.declared.edges.Edge.{Edge as FillEdge}
+use Rattle.page_fill.specs.declared.edges.FillEdge.{FillEdge}
 use Rattle.page_fill.specs.Filling.{filled, row_end}
 use Rattle.page_fill.proofs.FillerLaw.{items-law}
 use Rattle.page_fill.proofs.FillingLaw.{cut-law, held-law}

@@ -5,7 +5,7 @@ use Rattle.page_core_base.specs.laws.Views.{IsSink}
 use Rattle.page_core_base.specs.Rows.{Laid, nothing}
 use Rattle.page_core_base.specs.Settings.{IsGood, IsFirst}
 use Rattle.page_core_base.specs.declared.faults.Fault.{Fault}
-use Rattle.page_core_base.specs.declared.faults.Fault.TheVariants.{Memory, Read, WriteText, WriteNotes, TooLong, Settings, Failed, Ended, BadIndex}
+use Rattle.page_core_base.specs.declared.faults.Fault.TheVariants.{Memory, Read, WriteText, WriteNotes, TooLong, Settings}
 use Rattle.page_core_base.specs.declared.page_settings.Settings.{Settings as PageSettings}
 use Rattle.page_core_base.specs.declared.page_settings.SettingFault.{SettingFault}
 use Rattle.page_roff_lines.specs.Lines.{lines}
@@ -132,15 +132,9 @@ ended_well k rows notes {run} {mid} {run'} {r} {a} {r'} {n} {b} {n'} s t xs z g 
 -- a fault of a sink stops the run
 pub stopped_by : {R N : Type 0} (k : Sinks R N) (a b : SourceState) (r r' : R) (n n' : N) (e : Edge) (p : Point) (asked : ℕ) (bytes : List ℕ) (fault : Fault)
     → BrokenFrom k r r' n n' e p bytes fault → StoppedFrom k a b r r' n n' e p asked bytes fault
-stopped_by k a b r r' n n' e p asked bytes Memory c = absurd c.cause
-stopped_by k a b r r' n n' e p asked bytes Read c = absurd c.cause
 stopped_by k a b r r' n n' e p asked bytes WriteText c = c
 stopped_by k a b r r' n n' e p asked bytes WriteNotes c = c
-stopped_by k a b r r' n n' e p asked bytes TooLong c = absurd c.cause
-stopped_by k a b r r' n n' e p asked bytes (Settings s) c = absurd c.cause
-stopped_by k a b r r' n n' e p asked bytes Failed c = absurd c.cause
-stopped_by k a b r r' n n' e p asked bytes Ended c = absurd c.cause
-stopped_by k a b r r' n n' e p asked bytes (BadIndex l) c = absurd c.cause
+stopped_by k a b r r' n n' e p asked bytes _ c = absurd c.cause
 
 pub ended_with : {R N : Type 0} (k : Sinks R N) → IsSink k.to.row_gave k.to.row_within → IsSink k.to.note_gave k.to.note_within
     → {run mid : Run} {r a : R} {n b : N} (run' : Run) (r' : R) (n' : N) (res : Result (Unit {0}) Fault) (s t : SourceState) (asked : ℕ) (xs : List ℕ)
@@ -161,42 +155,28 @@ stopped_reading TooLong k run' s t bytes w g e h = (
   w.1,
   record { asked = w.0; few = w.2.few; source = w.2.source; lean = w.2.lean; ends = (rw w.4 (g.settled e h).came.gave, w.3) },
 )
-stopped_reading Memory k run' s t bytes w g e h = absurd w
-stopped_reading WriteText k run' s t bytes w g e h = absurd w
-stopped_reading WriteNotes k run' s t bytes w g e h = absurd w
-stopped_reading (Settings f) k run' s t bytes w g e h = absurd w
-stopped_reading Failed k run' s t bytes w g e h = absurd w
-stopped_reading Ended k run' s t bytes w g e h = absurd w
-stopped_reading (BadIndex l) k run' s t bytes w g e h = absurd w
+stopped_reading _ k run' s t bytes w g e h = absurd w
 
 -- ---- from the start of a page
 
 stopped_run : {R N : Type 0} (k : Sinks R N) → IsSink k.to.row_gave k.to.row_within → IsSink k.to.note_gave k.to.note_within
     → (a b : SourceState) (r r' : R) (n n' : N) (s : PageSettings) (asked : ℕ) (bytes : List ℕ) (fault : Fault) → IsGood s
     → StoppedFrom k a b r r' n n' (start s) (first_point s.encoding) asked bytes fault → Stopped (λ (l : Laid Edge). AllCame k.to r r' n n' l) (λ (l : Laid Edge). FrontCame k.to r r' n n' l) s bytes fault
-stopped_run k rows notes a b r r' n n' s asked bytes Memory g h = absurd h
 stopped_run k rows notes a b r r' n n' s asked bytes Read g h = (g, rw (← settled_start s bytes) h.0)
 stopped_run k rows notes a b r r' n n' s asked bytes WriteText g h =
     (g, rw (← page_start) (broken_front k rows notes (start s) (first_point s.encoding) bytes WriteText (start_reached s) h))
 stopped_run k rows notes a b r r' n n' s asked bytes WriteNotes g h =
     (g, rw (← page_start) (broken_front k rows notes (start s) (first_point s.encoding) bytes WriteNotes (start_reached s) h))
 stopped_run k rows notes a b r r' n n' s asked bytes TooLong g h = (g, rw (← settled_start s (take (2 ^ 31 - 1) bytes)) h.0)
-stopped_run k rows notes a b r r' n n' s asked bytes (Settings f) g h = absurd h
-stopped_run k rows notes a b r r' n n' s asked bytes Failed g h = absurd h
-stopped_run k rows notes a b r r' n n' s asked bytes Ended g h = absurd h
-stopped_run k rows notes a b r r' n n' s asked bytes (BadIndex l) g h = absurd h
+stopped_run k rows notes a b r r' n n' s asked bytes _ g h = absurd h
 
 cause_of : {R N : Type 0} (k : Sinks R N) (a b : SourceState) (r r' : R) (n n' : N) (s : PageSettings) (asked : ℕ) (bytes : List ℕ) (fault : Fault)
     → StoppedFrom k a b r r' n n' (start s) (first_point s.encoding) asked bytes fault → StoppedBy k a b r r' n n' s asked bytes fault
-cause_of k a b r r' n n' s asked bytes Memory h = absurd h
 cause_of k a b r r' n n' s asked bytes Read h = h.1
 cause_of k a b r r' n n' s asked bytes WriteText h = broken_start k r r' n n' s bytes WriteText h
 cause_of k a b r r' n n' s asked bytes WriteNotes h = broken_start k r r' n n' s bytes WriteNotes h
 cause_of k a b r r' n n' s asked bytes TooLong h = h.1
-cause_of k a b r r' n n' s asked bytes (Settings f) h = absurd h
-cause_of k a b r r' n n' s asked bytes Failed h = absurd h
-cause_of k a b r r' n n' s asked bytes Ended h = absurd h
-cause_of k a b r r' n n' s asked bytes (BadIndex l) h = absurd h
+cause_of k a b r r' n n' s asked bytes _ h = absurd h
 
 -- a run that stopped
 pub runs_stopped : {R N : Type 0} (k : Sinks R N) → IsSink k.to.row_gave k.to.row_within → IsSink k.to.note_gave k.to.note_within
@@ -267,11 +247,5 @@ runs_without_memory k rows notes a r n s g = record {
 pub runs_not_begun : {R N : Type 0} (k : Sinks R N) → IsSink k.to.row_gave k.to.row_within → IsSink k.to.note_gave k.to.note_within
     → (a : SourceState) (r : R) (n : N) (s : PageSettings) (fault : Fault) → CannotStart s fault → RunsOver (Err fault) k a a r r n n s []
 runs_not_begun k rows notes a r n s Memory h = runs_without_memory k rows notes a r n s h
-runs_not_begun k rows notes a r n s Read h = absurd h
-runs_not_begun k rows notes a r n s WriteText h = absurd h
-runs_not_begun k rows notes a r n s WriteNotes h = absurd h
-runs_not_begun k rows notes a r n s TooLong h = absurd h
 runs_not_begun k rows notes a r n s (Settings f) h = runs_refused k rows notes a r n s f h
-runs_not_begun k rows notes a r n s Failed h = absurd h
-runs_not_begun k rows notes a r n s Ended h = absurd h
-runs_not_begun k rows notes a r n s (BadIndex l) h = absurd h
+runs_not_begun k rows notes a r n s _ h = absurd h

@@ -4,8 +4,8 @@ use Rattle.std.specs.Prelude.{ℕ, Option, List, Bool, unwrap_or, None}
 use Rattle.page_core_base.specs.declared.note_kinds.Level.{Level}
 use Rattle.page_core_base.specs.declared.page_settings.Settings.{Settings}
 use Rattle.page_roff_names.specs.Names.{Definitions}
-use Rattle.page_roff_blocks.specs.Forest.{Place}
-use Rattle.page_roff_source.specs.Runs.{Edge as RoffEdge, counts_of}
+use Rattle.page_roff_blocks.specs.Forest.{SourcePlace}
+use Rattle.page_roff_source.specs.Runs.{RoffEdge, counts_of}
 use Rattle.page_roff_source.specs.declared.counts.Counts.{Counts}
 use Rattle.page_sets.specs.declared.either.Either.{Either}
 use Rattle.page_scopes_labels.specs.declared.labels.Label.{Label}
@@ -15,7 +15,7 @@ use Rattle.page_scopes_phrases.specs.declared.kept_texts.KeptText.{KeptText}
 use Rattle.page_scopes.specs.Bodies.{PageEdge}
 use Rattle.page_scopes.specs.declared.layouts.Kept.{Kept}
 use Rattle.page_fill.specs.Words as fill
-use Rattle.page_fill.specs.declared.edges.Edge.{Edge as FillEdge}
+use Rattle.page_fill.specs.declared.edges.FillEdge.{FillEdge}
 use Rattle.page_engine_header.specs.declared.fields.Fields.{Fields}
 use Rattle.page_engine_lines.specs.Bodies.{HeaderEdge, indent_of, BodyEdge}
 use Rattle.page_engine_lines.specs.Edges.{LinesEdge, start_of}
@@ -25,7 +25,7 @@ use Rattle.page_engine_lines.specs.Edges.{LinesEdge, start_of}
 -- Where roff is: in a region and in blocks; with what names stand for, and the body that the open region has so far, or the text of a loop that is
 -- collected; source lines, lines taken of them, and interpolations are counted.
 pub record RoffPart : Type 0 where
-  pub place : Place
+  pub place : SourcePlace
   pub definitions : Definitions
   pub body : Option (List ℕ)
   pub counts : Counts

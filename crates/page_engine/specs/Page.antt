@@ -8,7 +8,7 @@ use Rattle.page_core_base.specs.declared.page_settings.Output.TheVariants.{Lint}
 use Rattle.page_roff_lines.specs.Lines.{Line}
 use Rattle.page_roff_source.specs.Runs.{SourceLine}
 use Rattle.page_fill.specs.Filling.{filled, row_end}
-use Rattle.page_fill.specs.declared.edges.Edge.{Edge as FillEdge}
+use Rattle.page_fill.specs.declared.edges.FillEdge.{FillEdge}
 use Rattle.page_engine_lines.specs.Acts.{raw_line, lines_after, lines_items, page_items}
 use Rattle.page_engine_lines.specs.Edges.{footer_items}
 use Rattle.page_engine.specs.Edges.{Edge, lines_at, moved, last_line}

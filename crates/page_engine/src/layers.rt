@@ -5,7 +5,7 @@ ghost use Rattle.page_core_base.specs.laws.Views.{FailsBySink, Gets, IsFreeLine}
 ghost use Rattle.page_core_base.specs.Texts.{IsLine};
 ghost use Rattle.page_roff_lines.specs.laws.Cutting.{line_of};
 ghost use Rattle.page_roff_source.specs.Runs.{counts_of};
-ghost use Rattle.page_fill.specs.declared.edges.Edge.{Edge as FillEdge};
+ghost use Rattle.page_fill.specs.declared.edges.FillEdge.{FillEdge};
 ghost use Rattle.page_engine.specs.machine.Layers.{IsAt};
 ghost use Rattle.page_engine.specs.laws.Within.{IsWithin};
 ghost use Rattle.page_engine.specs.machine.ByLine.{settled_text, settled_line, ended, end_laid};

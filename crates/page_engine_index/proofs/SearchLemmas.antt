@@ -138,13 +138,7 @@ line_stopped k q laws first s t run part_run bytes chunk part rest (BadIndex n) 
       quiet = rw v.1 h.quiet;
       bad = λ more. rw n_is (split_index k q first s run bytes chunk part rest more h flat e ∙ ap (with_entries h.came) (v.0.1 (lines (rest ++ more))));
     }
-line_stopped k q laws first s t run part_run bytes chunk part rest Memory is flat e h w = absurd w
-line_stopped k q laws first s t run part_run bytes chunk part rest Read is flat e h w = absurd w
-line_stopped k q laws first s t run part_run bytes chunk part rest WriteNotes is flat e h w = absurd w
-line_stopped k q laws first s t run part_run bytes chunk part rest TooLong is flat e h w = absurd w
-line_stopped k q laws first s t run part_run bytes chunk part rest (Settings f) is flat e h w = absurd w
-line_stopped k q laws first s t run part_run bytes chunk part rest Failed is flat e h w = absurd w
-line_stopped k q laws first s t run part_run bytes chunk part rest Ended is flat e h w = absurd w
+line_stopped k q laws first s t run part_run bytes chunk part rest _ is flat e h w = absurd w
 
 -- ---- a line with too many bytes
 
@@ -291,13 +285,7 @@ end_stopped k q laws first s t run bytes (BadIndex n) some v h =
     let i : index bytes ≡ with_entries h.came (bad_at (run.place.lines + 1)) = last_index k q first s run bytes h some ∙ ap (with_entries h.came) (v.0.1 []) in
     let came = ap (λ (x : Index). x.entries) i ∙ append-nil h.came in
     (rw (came, v.1) h.gave, ap (λ (x : Index). x.bad) i ∙ ap (λ (m : ℕ). Some m) (sym (number_of v.0.0)), rw v.1 h.quiet)
-end_stopped k q laws first s t run bytes Memory some v h = absurd v
-end_stopped k q laws first s t run bytes Read some v h = absurd v
-end_stopped k q laws first s t run bytes WriteNotes some v h = absurd v
-end_stopped k q laws first s t run bytes TooLong some v h = absurd v
-end_stopped k q laws first s t run bytes (Settings f) some v h = absurd v
-end_stopped k q laws first s t run bytes Failed some v h = absurd v
-end_stopped k q laws first s t run bytes Ended some v h = absurd v
+end_stopped k q laws first s t run bytes _ some v h = absurd v
 
 -- ---- what a search did
 
@@ -353,13 +341,7 @@ over_stopped (BadIndex n) k laws a b s t q asked bytes quiet w =
       record { gave = subst (λ (es : List Entry). k.to.gave s (rows q es) t) (sym came) w.gave; bad = ap (λ (x : Index). x.bad) e; stays = inr (λ more. w.bad more ∙ sym e) },
       record { source = quiet; rows = w.quiet },
     )
-over_stopped Memory k laws a b s t q asked bytes quiet w = absurd w
-over_stopped Read k laws a b s t q asked bytes quiet w = absurd w
-over_stopped WriteNotes k laws a b s t q asked bytes quiet w = absurd w
-over_stopped TooLong k laws a b s t q asked bytes quiet w = absurd w
-over_stopped (Settings x) k laws a b s t q asked bytes quiet w = absurd w
-over_stopped Failed k laws a b s t q asked bytes quiet w = absurd w
-over_stopped Ended k laws a b s t q asked bytes quiet w = absurd w
+over_stopped _ k laws a b s t q asked bytes quiet w = absurd w
 
 -- by a fault of the source
 pub over_fault : {L : Type 0} (fault : Fault) (k : RowsTo L) (a b : SourceState) (s t : L) (q : Asked) (run : Search) (bytes : List ℕ)
@@ -379,13 +361,7 @@ over_fault TooLong k a b s t q run bytes w h = (
     cause = (w.3, record { source = w.5; rows = h.quiet });
   },
 )
-over_fault Memory k a b s t q run bytes w h = absurd w
-over_fault WriteText k a b s t q run bytes w h = absurd w
-over_fault WriteNotes k a b s t q run bytes w h = absurd w
-over_fault (BadIndex n) k a b s t q run bytes w h = absurd w
-over_fault (Settings x) k a b s t q run bytes w h = absurd w
-over_fault Failed k a b s t q run bytes w h = absurd w
-over_fault Ended k a b s t q run bytes w h = absurd w
+over_fault _ k a b s t q run bytes w h = absurd w
 
 -- ---- the code's steps
 

@@ -8,7 +8,7 @@ use Rattle.page_scopes.specs.laws.Views.{layout_tables}
 use Rattle.page_scopes.specs.declared.layouts.Kept.{Kept}
 use Rattle.page_scopes.specs.declared.layouts.LayoutState.{LayoutState}
 use Rattle.page_scopes_tree.specs.machine.Asides.{With, act, aside, Beside, beside, before_leaf}
-use Rattle.page_scopes_tree.specs.Ends.{Edge}
+use Rattle.page_scopes_tree.specs.Ends.{TreeEdge}
 use Rattle.page_scopes_tree.specs.laws.Views.{labels, Step, comes, does, steps_of}
 use Rattle.page_scopes_tree.specs.machine.Machines.{step, step_items, placed_items, ended_items, count_ended, state_left}
 use Rattle.page_scopes_tree.specs.machine.Nestings.{IsSound, standing_of}
@@ -109,7 +109,7 @@ plain_items b event =
     let first = step_items scopes_nesting lays d c in
     let second = step_items scopes_nesting lays d1 a in
     let begin = begin_items b event in
-    let tail : Edge Bool Label (Beside HeaderEdge LayoutState) Kept → List Item =
+    let tail : TreeEdge Bool Label (Beside HeaderEdge LayoutState) Kept → List Item =
     λ x. step_items body_nesting body_layout x (act a) ++ [] in
     settled-run body_nesting sound body_layout (opened b) (map act (steps_of event))
     ∙ ap (λ (t : List Item). t ++ tail (step body_nesting body_layout (opened b) (act c))) (comes_items b.header d event)
@@ -143,26 +143,12 @@ record IsPlain (kind : EventKind (List ℕ)) : Type 0 where
 
 leaf_kinds : (l : Leaf (List ℕ)) → IsTitle (kinds.Leaf l) ⊎ IsPlain (kinds.Leaf l)
 unfolding IsTitle
-leaf_kinds leaves.BlankLine = inr (record { steps = λ e. refl; items = λ b e. refl; after = λ b e. refl })
-leaf_kinds (leaves.Wordless text) = inr (record { steps = λ e. refl; items = λ b e. refl; after = λ b e. refl })
-leaf_kinds (leaves.Request request) = inr (record { steps = λ e. refl; items = λ b e. refl; after = λ b e. refl })
 leaf_kinds (leaves.Prologue name rest) = inl (name, rest, refl)
-leaf_kinds (leaves.Generated word) = inr (record { steps = λ e. refl; items = λ b e. refl; after = λ b e. refl })
-leaf_kinds (leaves.Example begins) = inr (record { steps = λ e. refl; items = λ b e. refl; after = λ b e. refl })
-leaf_kinds (leaves.Distance rows) = inr (record { steps = λ e. refl; items = λ b e. refl; after = λ b e. refl })
-leaf_kinds (leaves.Fonts font) = inr (record { steps = λ e. refl; items = λ b e. refl; after = λ b e. refl })
-leaf_kinds leaves.FurtherTag = inr (record { steps = λ e. refl; items = λ b e. refl; after = λ b e. refl })
-leaf_kinds (leaves.Step step) = inr (record { steps = λ e. refl; items = λ b e. refl; after = λ b e. refl })
+leaf_kinds _ = inr (record { steps = λ e. refl; items = λ b e. refl; after = λ b e. refl })
 
 event_kinds : (kind : EventKind (List ℕ)) → IsTitle kind ⊎ IsPlain kind
-event_kinds (kinds.Word word) = inr (record { steps = λ e. refl; items = λ b e. refl; after = λ b e. refl })
-event_kinds (kinds.Open opener) = inr (record { steps = λ e. refl; items = λ b e. refl; after = λ b e. refl })
-event_kinds (kinds.Close closer) = inr (record { steps = λ e. refl; items = λ b e. refl; after = λ b e. refl })
-event_kinds (kinds.LineScope opener) = inr (record { steps = λ e. refl; items = λ b e. refl; after = λ b e. refl })
 event_kinds (kinds.Leaf l) = leaf_kinds l
-event_kinds (kinds.Raw text) = inr (record { steps = λ e. refl; items = λ b e. refl; after = λ b e. refl })
-event_kinds (kinds.End fills) = inr (record { steps = λ e. refl; items = λ b e. refl; after = λ b e. refl })
-event_kinds (kinds.Note kind detail is_quoted begins_body) = inr (record { steps = λ e. refl; items = λ b e. refl; after = λ b e. refl })
+event_kinds _ = inr (record { steps = λ e. refl; items = λ b e. refl; after = λ b e. refl })
 
 Same : EventKind (List ℕ) → BodyEdge → Event (List ℕ) → Type 0
 Same kind b event = (tree_items b (kind_steps kind event) ≡ kind_items kind b event) × (tree_after b (kind_steps kind event) ≡ kind_after kind b event)

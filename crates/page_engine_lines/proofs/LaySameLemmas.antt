@@ -2,7 +2,7 @@
 use Rattle.std.proofs.Common.{◌≡◌, Bool, List, [], ◌∷◌, ◌++◌, map, refl, sym, ap, ◌∙◌, append_assoc, append-nil}
 use Rattle.page_engine_lines.specs.Bodies.{BodyEdge, HeaderEdge}
 use Rattle.page_engine_lines.specs.Trees as new
-use Rattle.page_engine_lines.specs.Trees.{PageAct, Step, Forest, After, Rest, State, Laid, tree, step_gave, begin_gave, end_gave, scope_of, lay, lay_outer, tree_of, laid_by}
+use Rattle.page_engine_lines.specs.Trees.{PageAct, Step, BlockForest, After, Rest, BodyState, LaidForest, tree, step_gave, begin_gave, end_gave, scope_of, lay, lay_outer, tree_of, laid_by}
 use Rattle.page_engine_lines.specs.machine.Trees.{as_act, body_layout, body_nesting}
 use Rattle.page_engine_lines.specs.machine.Trees as trees
 use Rattle.page_engine_lines.proofs.TreeSameLemmas.{A, OldRest, leaf_old, forest_old, afters_old, rest_old, AllStay, Proper, tree_law, mode_law, tree_proper}
@@ -19,7 +19,7 @@ use Rattle.page_scopes_tree.specs.declared.nestings.Scope.{Scope}
 abbrev OldState : Type 0
 OldState = Beside HeaderEdge LayoutState
 
-abbrev to : State → OldState
+abbrev to : BodyState → OldState
 to s = record { own = s.header; rest = s.layout }
 
 abbrev by : PageAct → forests.Ender A
@@ -30,25 +30,19 @@ Scopes = List (Scope Label Kept)
 
 -- ---- leaves
 
-leaf_items_law : (x : Step) (s : State) → body_layout.leaf_items (leaf_old x) (to s) ≡ (step_gave x s).items
+leaf_items_law : (x : Step) (s : BodyState) → body_layout.leaf_items (leaf_old x) (to s) ≡ (step_gave x s).items
 unfolding step_gave
 leaf_items_law (new.reports m) s = refl
-leaf_items_law (new.titles place name rest) s = refl
-leaf_items_law (new.comes event) s = refl
-leaf_items_law (new.does a) s = refl
-leaf_items_law (new.closes n) s = refl
+leaf_items_law _ s = refl
 
-leaf_state_law : (x : Step) (s : State) → body_layout.leaf_state (leaf_old x) (to s) ≡ to (step_gave x s).state
+leaf_state_law : (x : Step) (s : BodyState) → body_layout.leaf_state (leaf_old x) (to s) ≡ to (step_gave x s).state
 unfolding step_gave
 leaf_state_law (new.reports m) s = refl
-leaf_state_law (new.titles place name rest) s = refl
-leaf_state_law (new.comes event) s = refl
-leaf_state_law (new.does a) s = refl
-leaf_state_law (new.closes n) s = refl
+leaf_state_law _ s = refl
 
 -- ---- siblings
 
-after_law : (t : Forest) (s : State) → lays.after body_layout (forest_old t) (to s) ≡ to (lay t s).state
+after_law : (t : BlockForest) (s : BodyState) → lays.after body_layout (forest_old t) (to s) ≡ to (lay t s).state
 unfolding lay
 after_law new.none s = refl
 after_law (new.leaf x next) s = ap (λ z. lays.after body_layout (forest_old next) z) (leaf_state_law x s) ∙ after_law next (step_gave x s).state
@@ -61,7 +55,7 @@ after_law (new.node label event inside a next) s =
     ∙ after_law next (end_gave scope a i.state).state
 after_law (new.open_node label event inside) s = after_law inside (begin_gave event s).state
 
-items_law : (t : Forest) (s : State) → lays.lay body_layout (forest_old t) (to s) ≡ (lay t s).items
+items_law : (t : BlockForest) (s : BodyState) → lays.lay body_layout (forest_old t) (to s) ≡ (lay t s).items
 unfolding lay
 items_law new.none s = refl
 items_law (new.leaf x next) s =
@@ -83,7 +77,7 @@ items_law (new.open_node label event inside) s =
     let before = b.items ++ lays.lay body_layout (forest_old inside) (to b.state) in
     append-nil (before ++ []) ∙ append-nil before ∙ ap (λ xs. b.items ++ xs) (items_law inside b.state)
 
-open_law : (t : Forest) (s : State) → lays.open_in body_layout (forest_old t) (to s) ≡ (lay t s).scopes
+open_law : (t : BlockForest) (s : BodyState) → lays.open_in body_layout (forest_old t) (to s) ≡ (lay t s).scopes
 unfolding lay
 open_law new.none s = refl
 open_law (new.leaf x next) s = ap (λ z. lays.open_in body_layout (forest_old next) z) (leaf_state_law x s) ∙ open_law next (step_gave x s).state
@@ -99,19 +93,19 @@ open_law (new.open_node label event inside) s =
 
 -- ---- the nodes that were open before
 
-stay_items : (scopes : Scopes) (outer : List After) (s : State) → AllStay outer → lays.lay_outer body_layout scopes (to s) (afters_old outer) ≡ []
+stay_items : (scopes : Scopes) (outer : List After) (s : BodyState) → AllStay outer → lays.lay_outer body_layout scopes (to s) (afters_old outer) ≡ []
 stay_items scopes [] s p = refl
 stay_items [] (new.stays ∷ outer) s p = refl
 stay_items (scope ∷ scopes) (new.stays ∷ outer) s p = stay_items scopes outer s p
 stay_items scopes (new.ended_by a siblings ∷ outer) s p = absurd p
 
-stay_state : (scopes : Scopes) (outer : List After) (s : State) → AllStay outer → lays.after_outer body_layout scopes (to s) (afters_old outer) ≡ to s
+stay_state : (scopes : Scopes) (outer : List After) (s : BodyState) → AllStay outer → lays.after_outer body_layout scopes (to s) (afters_old outer) ≡ to s
 stay_state scopes [] s p = refl
 stay_state [] (new.stays ∷ outer) s p = refl
 stay_state (scope ∷ scopes) (new.stays ∷ outer) s p = stay_state scopes outer s p
 stay_state scopes (new.ended_by a siblings ∷ outer) s p = absurd p
 
-outer_items : (scopes : Scopes) (outer : List After) (l : Laid) → Proper outer
+outer_items : (scopes : Scopes) (outer : List After) (l : LaidForest) → Proper outer
     → l.items ++ lays.lay_outer body_layout scopes (to l.state) (afters_old outer) ≡ (lay_outer scopes outer l).items
 unfolding lay_outer
 outer_items [] [] l p = append-nil l.items
@@ -128,7 +122,7 @@ outer_items (scope ∷ scopes) (new.ended_by a siblings ∷ outer) l p =
     ∙ sym (append_assoc l.items (e.items ++ n.items) r) ∙ ap (λ xs. xs ++ r) (sym (append_assoc l.items e.items n.items))
     ∙ outer_items scopes outer (record n { items = l.items ++ e.items ++ n.items }) p
 
-outer_state : (scopes : Scopes) (outer : List After) (l : Laid) → Proper outer
+outer_state : (scopes : Scopes) (outer : List After) (l : LaidForest) → Proper outer
     → lays.after_outer body_layout scopes (to l.state) (afters_old outer) ≡ to (lay_outer scopes outer l).state
 unfolding lay_outer
 outer_state [] [] l p = refl
@@ -141,7 +135,7 @@ outer_state (scope ∷ scopes) (new.ended_by a siblings ∷ outer) l p =
     ap (λ z. lays.after_outer body_layout scopes z (afters_old outer)) (after_law siblings e.state)
     ∙ outer_state scopes outer (record n { items = l.items ++ e.items ++ n.items }) p
 
-outer_open : (scopes : Scopes) (outer : List After) (l : Laid)
+outer_open : (scopes : Scopes) (outer : List After) (l : LaidForest)
     → lays.open_outer body_layout l.scopes scopes (to l.state) (afters_old outer) ≡ (lay_outer scopes outer l).scopes
 unfolding lay_outer
 outer_open [] [] l = refl
@@ -158,13 +152,13 @@ outer_open (scope ∷ scopes) (new.ended_by a siblings ∷ outer) l =
 -- ---- a body
 
 module _ (b : BodyEdge) (steps : List Step) where
-  abbrev at_first : State
+  abbrev at_first : BodyState
   at_first = record { header = b.header; layout = b.scopes.state }
 
   abbrev r : Rest
   r = tree_of b steps
 
-  abbrev l : Laid
+  abbrev l : LaidForest
   l = lay r.here at_first
 
   r_law : forests.tree body_nesting b.scopes.mode (map (λ (scope : Scope Label Kept). scope.label) b.scopes.scopes) (map as_act steps) ≡ rest_old r

@@ -5,10 +5,10 @@ use Rattle.page_roff_syntax.specs.Requests.{request_of}
 use Rattle.page_roff_syntax.specs.declared.requests.Request.{Request}
 use Rattle.page_roff_syntax.specs.declared.requests.Request.TheVariants as requests
 use Rattle.page_roff_syntax.specs.declared.regions.RegionKind.{RegionKind}
-use Rattle.page_roff_syntax.specs.declared.regions.RegionKind.TheVariants.{Define, Append, Ignore, Table, Equation, Picture}
+use Rattle.page_roff_syntax.specs.declared.regions.RegionKind.TheVariants.{Define, Append}
 use Rattle.page_roff_syntax.specs.LineForms.{form_of}
 use Rattle.page_roff_syntax.specs.declared.line_forms.LineForm.{LineForm}
-use Rattle.page_roff_syntax.specs.declared.line_forms.LineForm.TheVariants.{Comment, BlankLine, Text, Control}
+use Rattle.page_roff_syntax.specs.declared.line_forms.LineForm.TheVariants.{Control}
 use Rattle.page_roff_heads.specs.declared.loops.LoopHead.{LoopHead}
 use Rattle.page_roff_blocks.specs.Parts.{line_parts, loop_text}
 use Rattle.page_roff_syntax.specs.Regions.{Opened}
@@ -18,16 +18,16 @@ use Rattle.page_roff_blocks.specs.machine.Languages.{Kind}
 use Rattle.page_roff_blocks.proofs.KeepLemmas.{IsIfSome, IsAny, HasLeaves, HasLoopTexts, any_leaves, any_lines}
 use Rattle.page_roff_blocks.proofs.KeepEffects.{IsKeptAfter, KeepsEffects, page_keeps}
 use Rattle.page_roff_effects.specs.Lines.{called_body, command_of, command_or, copies, request_command, call_if, ControlLine, does, command_outcome, control_line, control_outcome, form_outcome, leaf_outcome}
-use Rattle.page_roff_effects.specs.States.{Memory, Outcome, Product, no_product, line_product, call_product, loop_product, counted, Setting, surroundings, nothing, budget_outcome, block_outcome, end_of_block_outcome}
+use Rattle.page_roff_effects.specs.States.{Memory, PartOutcome, Product, no_product, line_product, call_product, loop_product, counted, TextSetting, surroundings, nothing, budget_outcome, block_outcome, end_of_block_outcome}
 use Rattle.page_roff_effects.specs.laws.Views.{State, after}
 use Rattle.page_roff_effects.specs.Regions.{head_outcome, longer, longer_if, body_outcome, kind_outcome, line_outcome, end_outcome, body_freed, finish_region, finish_outcome, longer_if_some, loop_outcome, collect_outcome, repeats_text, close_outcome, body_in}
 use Rattle.page_roff_effects.specs.machine.Effects.{effects, setting_of, tested_after, done_by, done_after}
-use Rattle.page_roff_source.specs.Runs.{Edge, SourceLine, done}
+use Rattle.page_roff_source.specs.Runs.{RoffEdge, SourceLine, done}
 use Rattle.page_roff_source.specs.machine.Taking.{before_line, run_line, line_done}
 use Rattle.page_roff_source.specs.machine.LineByLine.{lines_done}
 use Rattle.page_roff_source.proofs.LineLemmas.{done-by_line}
 
-either_number : (b : Bool) (o p : Outcome) (n : ℕ) → o.memory.number ≡ n → p.memory.number ≡ n → (if b then o else p).memory.number ≡ n
+either_number : (b : Bool) (o p : PartOutcome) (n : ℕ) → o.memory.number ≡ n → p.memory.number ≡ n → (if b then o else p).memory.number ≡ n
 either_number true o p n h g = h
 either_number false o p n h g = g
 
@@ -56,22 +56,20 @@ does_number may_call None line text m = request_number may_call (request_of line
 does_number may_call (Some macro) line text m = call_number _ _ _ m
 
 -- a macro or a request, once its line is expanded
-control_number : (setting : Setting) (may_call : Bool) (line : ControlLine) (m : Memory) → (control_outcome setting may_call line m).memory.number ≡ m.number
+control_number : (setting : TextSetting) (may_call : Bool) (line : ControlLine) (m : Memory) → (control_outcome setting may_call line m).memory.number ≡ m.number
 unfolding control_outcome command_outcome command_of
 control_number setting may_call line m =
     let called = called_body line.name m.definitions in
     let laid = expanded (surroundings (copies (command_or line.name called)) setting m) m.number line.text in
     either_number (length line.name == 0) (nothing m) _ m.number refl (does_number may_call called line laid.edge.text (counted laid.edge.count m))
 
-form_number : (setting : Setting) (may_call : Bool) (raw : List ℕ) (form : LineForm (List ℕ)) (m : Memory)
+form_number : (setting : TextSetting) (may_call : Bool) (raw : List ℕ) (form : LineForm (List ℕ)) (m : Memory)
     → (form_outcome setting may_call raw form m).memory.number ≡ m.number
-form_number setting may_call raw Comment m = refl
-form_number setting may_call raw BlankLine m = refl
-form_number setting may_call raw (Text text) m = refl
 form_number setting may_call raw (Control name column rest rest_column) m =
     control_number setting may_call (control_line raw name column rest_column) m
+form_number setting may_call raw _ m = refl
 
-leaf_number : (setting : Setting) (may_call : Bool) (raw : List ℕ) (m : Memory) → (leaf_outcome setting may_call raw m).memory.number ≡ m.number
+leaf_number : (setting : TextSetting) (may_call : Bool) (raw : List ℕ) (m : Memory) → (leaf_outcome setting may_call raw m).memory.number ≡ m.number
 unfolding leaf_outcome
 leaf_number setting may_call raw m = form_number setting may_call raw (form_of raw) m
 
@@ -85,20 +83,17 @@ longer_number : (text : Option (List ℕ)) (line : List ℕ) (m : Memory) → (l
 longer_number None line m = refl
 longer_number (Some text) line m = longer_if_number _ _ m
 
-body_number : (setting : Setting) (line : List ℕ) (m : Memory) → (body_outcome setting line m).memory.number ≡ m.number
+body_number : (setting : TextSetting) (line : List ℕ) (m : Memory) → (body_outcome setting line m).memory.number ≡ m.number
 body_number setting line m =
     let laid = expanded (surroundings true setting m) m.number line in
     either_number (is_some m.body) _ _ m.number (longer_number m.body laid.edge.text (counted laid.edge.count m)) refl
 
-kind_number : (setting : Setting) (kind : RegionKind) (line : List ℕ) (m : Memory) → (kind_outcome setting kind line m).memory.number ≡ m.number
+kind_number : (setting : TextSetting) (kind : RegionKind) (line : List ℕ) (m : Memory) → (kind_outcome setting kind line m).memory.number ≡ m.number
 kind_number setting Define line m = body_number setting line m
 kind_number setting Append line m = body_number setting line m
-kind_number setting Ignore line m = refl
-kind_number setting Table line m = refl
-kind_number setting Equation line m = refl
-kind_number setting Picture line m = refl
+kind_number setting _ line m = refl
 
-line_number : (setting : Setting) (o : Opened) (is_run : Bool) (line : List ℕ) (m : Memory) → (line_outcome setting o is_run line m).memory.number ≡ m.number
+line_number : (setting : TextSetting) (o : Opened) (is_run : Bool) (line : List ℕ) (m : Memory) → (line_outcome setting o is_run line m).memory.number ≡ m.number
 unfolding line_outcome
 line_number setting o true line m = kind_number setting o.kind line m
 line_number setting o false line m = refl
@@ -202,7 +197,7 @@ text_any (Some text) = tt
 texts_any : HasLoopTexts IsAny
 texts_any open_blocks line t = text_any (loop_text open_blocks line)
 
-one_number : (e : Edge) (line : SourceLine) → (line_done e line).memory.number ≡ line.number
+one_number : (e : RoffEdge) (line : SourceLine) → (line_done e line).memory.number ≡ line.number
 unfolding run_line before_line any_kind
 one_number e line =
     page_keeps IsAny any_kind (IsAt line.number) (effects (units_of e.output)) leaves_any texts_any (keeps_number (units_of e.output) line.number) tt
@@ -213,10 +208,10 @@ abbrev pub last_of : ℕ → List SourceLine → ℕ
 last_of n [] = n
 last_of n (line ∷ lines) = last_of line.number lines
 
-lines_number : (e : Edge) (lines : List SourceLine) → (lines_done e lines).memory.number ≡ last_of e.memory.number lines
+lines_number : (e : RoffEdge) (lines : List SourceLine) → (lines_done e lines).memory.number ≡ last_of e.memory.number lines
 unfolding lines_done
 lines_number e [] = refl
 lines_number e (line ∷ lines) = lines_number (line_done e line) lines ∙ ap (λ n. last_of n lines) (one_number e line)
 
-pub done_number_is : (e : Edge) (lines : List SourceLine) → e.to_come ≡ None → (done e lines).memory.number ≡ last_of e.memory.number lines
-done_number_is e lines idle = ap (λ (f : Edge). f.memory.number) (done-by_line e lines idle) ∙ lines_number e lines
+pub done_number_is : (e : RoffEdge) (lines : List SourceLine) → e.to_come ≡ None → (done e lines).memory.number ≡ last_of e.memory.number lines
+done_number_is e lines idle = ap (λ (f : RoffEdge). f.memory.number) (done-by_line e lines idle) ∙ lines_number e lines

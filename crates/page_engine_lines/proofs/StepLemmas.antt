@@ -62,7 +62,6 @@ message_after b m = after_by b (reports m ∷ []) (as_act (reports m) ∷ []) re
 
 kind_same : (kind : EventKind (List ℕ)) (event : Event (List ℕ)) → map as_act (kind_steps kind event) ≡ machine.kind_steps kind event
 kind_same (Leaf (Prologue name rest)) event = refl
-kind_same (Leaf _) event = refl
 kind_same _ event = refl
 
 events_same : (events : List (Event (List ℕ))) → map as_act (events_steps events) ≡ machine.events_steps events

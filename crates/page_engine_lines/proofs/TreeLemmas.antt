@@ -2,14 +2,14 @@
 use Rattle.std.proofs.Common.{◌≡◌, ℕ, ◌+◌, nat_lt, Bool, true, false, ◌&&◌, List, [], ◌∷◌, ◌++◌, length, map, Option, None, Some, ◌⊎◌, inl, inr, refl, sym, ap, ◌∙◌, append_assoc, append-nil, if◌then◌else◌}
 use Rattle.std.proofs.lemmas.Bool.{cases_Bool}
 use Rattle.std.proofs.lemmas.List.{map-append}
-use Rattle.page_core_base.specs.Texts.{Line}
+use Rattle.page_core_base.specs.Texts.{TakenLine}
 use Rattle.page_core_base.specs.Messages.{Message, message_about}
 use Rattle.page_core_base.specs.Rows.{Item, noted}
 use Rattle.page_core_base.specs.declared.note_kinds.NoteKind.TheVariants.{TrailingBlank}
 use Rattle.page_roff_effects.specs.States.{Given, says, takes}
 use Rattle.page_roff_syntax.specs.Delimiters.{kept_len}
 use Rattle.page_roff_syntax.specs.LineForms.{is_white}
-use Rattle.page_roff_source.specs.Runs.{Edge, SourceLine, end_notes, given, done}
+use Rattle.page_roff_source.specs.Runs.{RoffEdge, SourceLine, end_notes, given, done}
 use Rattle.page_roff_source.specs.machine.Taking.{before_line, run_line, line_given, line_done}
 use Rattle.page_roff_source.specs.machine.LineByLine.{lines_given, lines_done}
 use Rattle.page_roff_source.proofs.CutLemmas.{given-append, done-append}
@@ -100,7 +100,7 @@ front_more b c set steps items all more last i a f l r =
     rw (f, l, r, next, given) (append_assoc items (tree_items c g) _, refl)
 
 -- a line that decides the language
-line_decides : (b : BodyEdge) (set : Either) (line : Line) (language : Either) (more : List Given) (last : List Step)
+line_decides : (b : BodyEdge) (set : Either) (line : TakenLine) (language : Either) (more : List Given) (last : List Step)
     → b.header.is_decided ≡ false → language_of line ≡ Some language
     → (parted_items b set (takes line ∷ more) last ≡ given_items b (takes line ∷ more) ++ tree_items (body_after b (takes line ∷ more)) last)
     × (parted_after b set (takes line ∷ more) ≡ body_after b (takes line ∷ more))
@@ -278,20 +278,20 @@ trailing_is number text =
     noted_if (nat_lt (kept_len is_white text) (length text)) (message_about TrailingBlank (at number (kept_len is_white text + 1)) [])
 
 -- what a line gives and where it leaves the page is that of its text and number
-given_of_text : (e : Edge) (line : SourceLine) → line_given e line ≡ line_given e (source_line line.text line.number)
+given_of_text : (e : RoffEdge) (line : SourceLine) → line_given e line ≡ line_given e (source_line line.text line.number)
 unfolding run_line before_line
 given_of_text e line = refl
 
-done_of_text : (e : Edge) (line : SourceLine) → line_done e line ≡ line_done e (source_line line.text line.number)
+done_of_text : (e : RoffEdge) (line : SourceLine) → line_done e line ≡ line_done e (source_line line.text line.number)
 unfolding run_line before_line
 done_of_text e line = refl
 
-one_given : (e : Edge) (line : SourceLine) → given e (line ∷ []) ≡ map says line.notes ++ line_given e (source_line line.text line.number)
+one_given : (e : RoffEdge) (line : SourceLine) → given e (line ∷ []) ≡ map says line.notes ++ line_given e (source_line line.text line.number)
 unfolding lines_given
 one_given e line =
     given-by_line e (line ∷ []) ∙ ap (λ (g : List Given). map says line.notes ++ g) (append-nil (line_given e line) ∙ given_of_text e line)
 
-one_done : (e : Edge) (line : SourceLine) → e.to_come ≡ None → done e (line ∷ []) ≡ line_done e (source_line line.text line.number)
+one_done : (e : RoffEdge) (line : SourceLine) → e.to_come ≡ None → done e (line ∷ []) ≡ line_done e (source_line line.text line.number)
 unfolding lines_done
 one_done e line idle = done-by_line e (line ∷ []) idle ∙ done_of_text e line
 

@@ -19,7 +19,7 @@ use Rattle.page_scopes_tree.specs.declared.placements.Placement.TheVariants as p
 use Rattle.page_engine_lines.specs.machine.Trees.{Aside, as_act, body_nesting}
 use Rattle.page_engine_lines.specs.machine.Trees as trees
 use Rattle.page_engine_lines.specs.Trees as new
-use Rattle.page_engine_lines.specs.Trees.{PageAct, PageEvent, Step, Forest, After, Rest, after_ends, around_node, placed, tree}
+use Rattle.page_engine_lines.specs.Trees.{PageAct, PageEvent, Step, BlockForest, After, Rest, after_ends, around_node, placed, tree}
 
 abbrev pub A : Type 0
 A = With Aside oldsteps.Step
@@ -45,7 +45,7 @@ leaf_old (new.closes n) = aside (trees.closes n)
 abbrev pub opens_old : PageEvent → A
 opens_old event = act (oldsteps.does (acts.Event event))
 
-abbrev pub forest_old : Forest → OldForest
+abbrev pub forest_old : BlockForest → OldForest
 forest_old new.none = old.none
 forest_old (new.leaf x next) = old.leaf (leaf_old x) (forest_old next)
 forest_old (new.refused obstacle a next) = old.leaf (act (refused obstacle a)) (forest_old next)

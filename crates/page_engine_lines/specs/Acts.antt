@@ -7,7 +7,7 @@ use Rattle.page_core_base.specs.declared.note_kinds.NoteKind.TheVariants.{Traili
 use Rattle.page_roff_syntax.specs.Delimiters.{kept_len}
 use Rattle.page_roff_syntax.specs.LineForms.{is_white}
 use Rattle.page_roff_effects.specs.States.{Given, says, takes}
-use Rattle.page_roff_source.specs.Runs.{given, SourceLine, done, Edge, end_notes}
+use Rattle.page_roff_source.specs.Runs.{given, SourceLine, done, RoffEdge, end_notes}
 use Rattle.page_sets.specs.Mdoc.{either_events}
 use Rattle.page_sets.specs.declared.either.Either.{Either}
 use Rattle.page_scopes_words.specs.Words.{at}
@@ -77,7 +77,7 @@ lines_after e lines =
     record { roff = done e.roff lines; body = tree_after (reader e.body all) (rest_steps e.body all) }
 
 -- the acts at the page's end, on a line: what roff left open is reported, and then the body ends
-abbrev pub end_steps : Edge → ℕ → List Step
+abbrev pub end_steps : RoffEdge → ℕ → List Step
 end_steps e line = map reports (end_notes e) ++ page_end_steps line
 
 -- of lines, and of the page's end after them

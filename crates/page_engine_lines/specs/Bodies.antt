@@ -2,7 +2,7 @@
 use Rattle.std.specs.Prelude.{ℕ, List, [], ◌∷◌, Bool, if◌then◌else◌, codes, ◌||◌, Option, None, Some, is_some, true, false, ◌==◌, ◌++◌, unwrap_or}
 use Rattle.std.specs.Str.{bytes_eq}
 use Rattle.page_core_base.specs.Rows.{Item, shown}
-use Rattle.page_core_base.specs.Texts.{Line}
+use Rattle.page_core_base.specs.Texts.{TakenLine}
 use Rattle.page_core_base.specs.declared.note_kinds.NoteKind.TheVariants.{LateMacro}
 use Rattle.page_core_base.specs.declared.page_settings.Language.{Language}
 use Rattle.page_core_base.specs.declared.page_settings.Language.TheVariants as languages
@@ -45,12 +45,12 @@ abbrev pub macro_language : List ℕ → Either
 macro_language name = if bytes_eq name (codes "Dd") then Mdoc else Man
 
 -- a control line without a name, or of a request that changes rows, is of both
-abbrev pub control_language : Line → Option Either
+abbrev pub control_language : TakenLine → Option Either
 control_language line =
     if is_nameless line || is_some (layout_request (name_of line)) then None else Some (macro_language (name_of line))
 
 -- text with a word, and a line as it is written, are of man(7)
-abbrev pub form_language : Line → Option PlainLine → Option Either
+abbrev pub form_language : TakenLine → Option PlainLine → Option Either
 form_language line None = control_language line
 form_language line (Some lines.Wordless) = None
 form_language line (Some lines.Blank) = None
@@ -58,7 +58,7 @@ form_language line (Some lines.Words) = Some Man
 form_language line (Some lines.Raw) = Some Man
 
 -- the language that a line decides, if it decides one
-unfoldable pub language_of : Line → Option Either
+unfoldable pub language_of : TakenLine → Option Either
 language_of line = form_language line (plain_line line.form line.text)
 
 -- ---- The body of a page between its header and its footer: the events of each line, and the header before the event that begins the body.

@@ -2,14 +2,14 @@
 use Rattle.std.specs.Prelude.{ℕ, List}
 use Rattle.page_core_base.specs.Rows.{Item}
 use Rattle.page_core_base.specs.declared.page_settings.Settings.{Settings}
-use Rattle.page_roff_source.specs.Runs.{Edge}
+use Rattle.page_roff_source.specs.Runs.{RoffEdge}
 use Rattle.page_roff_source.specs.Runs as roff
 use Rattle.page_engine_lines.specs.Bodies.{BodyEdge}
 use Rattle.page_engine_lines.specs.Bodies as bodies
 
 -- what decides the pieces of the lines to come
 pub record LinesEdge : Type 0 where
-  pub roff : Edge
+  pub roff : RoffEdge
   pub body : BodyEdge
 
 -- the start of a page

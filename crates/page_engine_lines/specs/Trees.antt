@@ -20,7 +20,7 @@ use Rattle.page_scopes_tree.specs.declared.placements.Obstacle.{Obstacle}
 use Rattle.page_scopes_tree.specs.declared.placements.Placement.{Placement}
 use Rattle.page_scopes_tree.specs.declared.placements.Placement.TheVariants as placements
 use Rattle.page_scopes_words.specs.Words.{at, says}
-use Rattle.page_scopes_phrases.specs.Phrases.{Outcome}
+use Rattle.page_scopes_phrases.specs.Phrases.{EventOutcome}
 use Rattle.page_scopes_nodes.specs.Begins.{begun_by}
 use Rattle.page_scopes_nodes.specs.Ends as ends
 use Rattle.page_scopes.specs.Bodies.{act_name, begins, begun_after, coming, stands, kept}
@@ -61,22 +61,22 @@ page_end_steps line = closes line ∷ does (acts.PageEnd line) ∷ []
 
 -- Siblings: none; a leaf, or an event that is refused, and those after it; a node, with what is in it, the act that ends it and those after it; or, at
 -- last, a node that is still open.
-pub data Forest : Type 0 where
-  none : Forest
-  leaf : Step → Forest → Forest
-  refused : Obstacle → PageAct → Forest → Forest
-  node : Label → PageEvent → Forest → PageAct → Forest → Forest
-  open_node : Label → PageEvent → Forest → Forest
+pub data BlockForest : Type 0 where
+  none : BlockForest
+  leaf : Step → BlockForest → BlockForest
+  refused : Obstacle → PageAct → BlockForest → BlockForest
+  node : Label → PageEvent → BlockForest → PageAct → BlockForest → BlockForest
+  open_node : Label → PageEvent → BlockForest → BlockForest
 
 -- what ends an open node, and follows it in the one around it; or it stays open
 pub data After : Type 0 where
-  ended_by : PageAct → Forest → After
+  ended_by : PageAct → BlockForest → After
   stays : After
 
 -- What steps are inside open nodes: what goes into the innermost, and what comes after each, the innermost first; and whether the rest of a line is passed
 -- over after them.
 pub record Rest : Type 0 where
-  pub here : Forest
+  pub here : BlockForest
   pub outer : List After
   pub skips : Bool
 
@@ -112,29 +112,29 @@ tree skips nodes (step ∷ steps) = let r = tree skips nodes steps in record r {
 -- ---- what it gives
 
 -- the header's fields, and what the page is formatted by
-pub record State : Type 0 where
+pub record BodyState : Type 0 where
   pub header : HeaderEdge
   pub layout : LayoutState
 
-pub record Gave : Type 0 where
+pub record LaidStep : Type 0 where
   pub items : List Item
-  pub state : State
+  pub state : BodyState
 
-abbrev pub gave : List Item → State → Gave
+abbrev pub gave : List Item → BodyState → LaidStep
 gave items s = record { items = items; state = s }
 
-abbrev pub with_layout : LayoutState → State → State
+abbrev pub with_layout : LayoutState → BodyState → BodyState
 with_layout layout s = record s { layout = layout }
 
 -- what is given while the page is formatted
-abbrev pub formats : Outcome → State → Gave
+abbrev pub formats : EventOutcome → BodyState → LaidStep
 formats o s = gave o.items (with_layout (record s.layout { formatting = o.state }) s)
 
 abbrev pub header_at : ℕ → HeaderEdge → List Item
 header_at line h = header_items (is_mdoc h.set) h.measure (at line 1) h.fields
 
 -- The header is before the event that begins the body. At the page's end one that is missing comes with a message.
-unfoldable pub step_gave : Step → State → Gave
+unfoldable pub step_gave : Step → BodyState → LaidStep
 step_gave (reports m) s = gave (noted m ∷ []) s
 step_gave (titles place name rest) s =
     gave (title_items s.layout.has_begun place name rest)
@@ -150,24 +150,24 @@ step_gave (closes line) s =
     gave (if s.layout.has_begun then [] else (header_at line s.header ++ says NoBody (at line 1) [] ∷ [])) s
 
 -- a scope begins by its event; it ends by an act, with a message where that is not its own closer
-abbrev pub scope_of : Label → PageEvent → State → Scope Label Kept
+abbrev pub scope_of : Label → PageEvent → BodyState → Scope Label Kept
 scope_of label event s = record { label = label; before = kept event s.layout }
 
-abbrev pub begin_gave : PageEvent → State → Gave
+abbrev pub begin_gave : PageEvent → BodyState → LaidStep
 begin_gave event s = formats (begun_by s.layout.page event s.layout.formatting) s
 
-abbrev pub end_gave : Scope Label Kept → PageAct → State → Gave
+abbrev pub end_gave : Scope Label Kept → PageAct → BodyState → LaidStep
 end_gave scope act s =
     let g = formats (ends.ended scope.label scope.before.context scope.before.target (event_of act).place s.layout.formatting) s in
     record g { items = broken_notes act scope.label ++ g.items }
 
 -- what siblings give, the state after them, and the scopes that are still open in them, the innermost first
-pub record Laid : Type 0 where
+pub record LaidForest : Type 0 where
   pub items : List Item
-  pub state : State
+  pub state : BodyState
   pub scopes : List (Scope Label Kept)
 
-unfoldable pub lay : Forest → State → Laid
+unfoldable pub lay : BlockForest → BodyState → LaidForest
 lay none s = record { items = []; state = s; scopes = [] }
 lay (leaf step next) s =
     let g = step_gave step s in
@@ -186,7 +186,7 @@ lay (open_node label event inner) s =
     record i { items = b.items ++ i.items; scopes = i.scopes ++ scope_of label event s ∷ [] }
 
 -- after what goes into the innermost of the scopes that were open before: what ends them, and follows them
-unfoldable pub lay_outer : List (Scope Label Kept) → List After → Laid → Laid
+unfoldable pub lay_outer : List (Scope Label Kept) → List After → LaidForest → LaidForest
 lay_outer (scope ∷ scopes) (ended_by act siblings ∷ outer) l =
     let e = end_gave scope act l.state in
     let n = lay siblings e.state in
@@ -198,7 +198,7 @@ lay_outer scopes outer l = record l { scopes = l.scopes ++ scopes }
 abbrev pub tree_of : BodyEdge → List Step → Rest
 tree_of b steps = tree b.scopes.mode (map (λ scope. scope.label) b.scopes.scopes) steps
 
-abbrev pub laid_by : BodyEdge → Rest → Laid
+abbrev pub laid_by : BodyEdge → Rest → LaidForest
 laid_by b r = lay_outer b.scopes.scopes r.outer (lay r.here (record { header = b.header; layout = b.scopes.state }))
 
 -- the pieces and messages of steps, inside the open scopes; and the body after them

@@ -11,7 +11,7 @@ use Rattle.page_core_base.specs.declared.cells.Font.{Font}
 use Rattle.page_core_base.specs.declared.page_settings.Output.TheVariants.{Ascii}
 use Rattle.page_core_base.specs.declared.places.Place.{Place}
 use Rattle.page_core_base.specs.declared.pieces.Piece.{Piece}
-use Rattle.page_core_base.specs.declared.pieces.Piece.TheVariants.{Text, Glyph, Char, Tab, Blank, Glue, Split, Break, RowEnd, Para, Space, Indent, Literal, Tag, TagEnd, Heading, Column}
+use Rattle.page_core_base.specs.declared.pieces.Piece.TheVariants.{Text, Glyph, Char, Split, Para, Indent, Literal, Tag, Heading}
 use Rattle.page_core_tables.specs.Glyphs.{char_printed, glyph_printed}
 use Rattle.page_engine_header.specs.Header.{characters_of, in_font, plain_printed, token_printed, tokens_items}
 use Rattle.page_core_escapes.specs.Tokens.{TextToken}
@@ -107,70 +107,48 @@ heading_left Before r = elim (cases_Bool (bytes_eq r.text (codes "NAME"))) [
   | inl is ↦ rw is refl
   | inr other ↦ rw other refl
 ]
-heading_left Inside r = refl
-heading_left After r = refl
+heading_left _ r = refl
 
 heading_margin : (side : Side) (r : NameReader) → (with_top_heading side r).margin ≡ r.margin
 heading_margin Before r = elim (cases_Bool (bytes_eq r.text (codes "NAME"))) [
   | inl is ↦ rw is refl
   | inr other ↦ rw other refl
 ]
-heading_margin Inside r = refl
-heading_margin After r = refl
+heading_margin _ r = refl
 
 paragraph_left : (side : Side) (r : NameReader) → left (with_paragraph side r) ≡ with_paragraph side (left r)
 paragraph_left Before r = refl
-paragraph_left Inside r = refl
-paragraph_left After r = refl
+paragraph_left _ r = refl
 
 paragraph_margin : (side : Side) (r : NameReader) → (with_paragraph side r).margin ≡ r.margin
 paragraph_margin Before r = refl
-paragraph_margin Inside r = refl
-paragraph_margin After r = refl
+paragraph_margin _ r = refl
 
 piece_taken : (r : NameReader) (piece : Piece (List ℕ)) → has_ended r ≡ false → left (taken r piece) ≡ signs_taken (left r) (piece_signs r.margin piece)
 piece_taken r (Text bytes font place) h = characters_taken r (plain_printed Ascii (characters_of bytes)) h
 piece_taken r (Glyph name font place) h = characters_taken r (glyph_printed Ascii name).characters h
 piece_taken r (Char c font place) h = characters_taken r (char_printed Ascii c).characters h
-piece_taken r (Tab font place) h = rw h refl
-piece_taken r (Blank count has_tab) h = rw h refl
-piece_taken r Glue h = rw h refl
 piece_taken r Split h = refl
-piece_taken r Break h = rw h refl
-piece_taken r RowEnd h = rw h refl
 piece_taken r (Para count) h = rw h (paragraph_left r.side r)
-piece_taken r (Space count) h = rw h refl
 piece_taken r (Indent first rest) h = refl
 piece_taken r (Literal is_literal) h = refl
 piece_taken r (Tag hang form) h = refl
-piece_taken r TagEnd h = rw h refl
 piece_taken r Heading h = elim (cases_Bool (r.margin == 0)) [
   | inl top ↦ rw (top, h) (heading_left r.side r)
   | inr within ↦ rw (within, h) refl
 ]
-piece_taken r (Column column) h = rw h refl
+piece_taken r _ h = rw h refl
 
 margin_taken : (r : NameReader) (piece : Piece (List ℕ)) → (taken r piece).margin ≡ margin_after r.margin piece
 margin_taken r (Text bytes font place) = characters_margin r (plain_printed Ascii (characters_of bytes))
 margin_taken r (Glyph name font place) = characters_margin r (glyph_printed Ascii name).characters
 margin_taken r (Char c font place) = characters_margin r (char_printed Ascii c).characters
-margin_taken r (Tab font place) = refl
-margin_taken r (Blank count has_tab) = refl
-margin_taken r Glue = refl
-margin_taken r Split = refl
-margin_taken r Break = refl
-margin_taken r RowEnd = refl
 margin_taken r (Para count) = paragraph_margin r.side r
-margin_taken r (Space count) = refl
-margin_taken r (Indent first rest) = refl
-margin_taken r (Literal is_literal) = refl
-margin_taken r (Tag hang form) = refl
-margin_taken r TagEnd = refl
 margin_taken r Heading = elim (cases_Bool (r.margin == 0)) [
   | inl top ↦ rw top (heading_margin r.side r)
   | inr within ↦ rw within refl
 ]
-margin_taken r (Column column) = refl
+margin_taken r _ = refl
 
 items_ended : (r : NameReader) (items : List Item) → has_ended r ≡ true → left (read r items) ≡ signs_taken (left r) (signs_of r.margin items)
 items_ended r items h = ap (λ (q : NameReader). left q) (read_ended r items h) ∙ sym (signs_ended (left r) (signs_of r.margin items) h)
@@ -340,8 +318,7 @@ kept_is_name_text items =
 
 some_kept : (side : Side) (text kept : List ℕ) → kept_by side text ≡ Some kept → text ≡ kept
 some_kept Before text kept h = let no : ⊥ = cc in absurd no
-some_kept Inside text kept h = cc
-some_kept After text kept h = cc
+some_kept _ text kept h = cc
 
 -- characters alone have no heading among them
 pub text_is_kept : (items : List Item) (cs : List ℕ) → signs_of 0 items ≡ map character cs → (read (reader_at Inside) items).text ≡ kept_text (signs_of 0 items)

@@ -6,7 +6,7 @@ use Rattle.std.specs.Io.KnownBytes.{IsAtEnd}
 use Rattle.std.proofs.lemmas.List.{take-append-drop}
 use Rattle.page_core_base.specs.Settings.{IsGood}
 use Rattle.page_core_base.specs.declared.faults.Fault.{Fault}
-use Rattle.page_core_base.specs.declared.faults.Fault.TheVariants.{Memory, Read, WriteText, WriteNotes, TooLong, Settings, Failed, Ended, BadIndex}
+use Rattle.page_core_base.specs.declared.faults.Fault.TheVariants.{Read, TooLong}
 use Rattle.page_core_base.specs.declared.page_settings.Settings.{Settings as PageSettings}
 use Rattle.page_core_streams.specs.laws.Views.{Stops}
 use Rattle.page_core_streams.specs.Streams.{SourceState}
@@ -128,13 +128,7 @@ stopped Read run run' a b bytes w =
     (bytes, record { asked = w.0; few = w.1.few; source = w.1.source; lean = w.1.lean; ends = w.2 })
 stopped TooLong run run' a b bytes w =
     (w.1, record { asked = w.0; few = w.2.few; source = w.2.source; lean = w.2.lean; ends = (w.3, w.5) })
-stopped Memory run run' a b bytes w = absurd w
-stopped WriteText run run' a b bytes w = absurd w
-stopped WriteNotes run run' a b bytes w = absurd w
-stopped (Settings f) run run' a b bytes w = absurd w
-stopped Failed run run' a b bytes w = absurd w
-stopped Ended run run' a b bytes w = absurd w
-stopped (BadIndex l) run run' a b bytes w = absurd w
+stopped _ run run' a b bytes w = absurd w
 
 -- ---- a run
 
@@ -170,13 +164,7 @@ stops : (a b : SourceState) (s : PageSettings) (asked : ℕ) (bytes : List ℕ) 
     → Stopped s bytes fault × HasCause a b asked bytes fault
 stops a b s asked bytes Read good h = (good, h)
 stops a b s asked bytes TooLong good h = (good, h)
-stops a b s asked bytes Memory good h = absurd h
-stops a b s asked bytes WriteText good h = absurd h
-stops a b s asked bytes WriteNotes good h = absurd h
-stops a b s asked bytes (Settings f) good h = absurd h
-stops a b s asked bytes Failed good h = absurd h
-stops a b s asked bytes Ended good h = absurd h
-stops a b s asked bytes (BadIndex l) good h = absurd h
+stops a b s asked bytes _ good h = absurd h
 
 pub ends_early : (run run' : RecordRun) (a b : SourceState) (s : PageSettings) (bytes : List ℕ) (fault : Fault) → IsGood s
     → ReadsAll (Err fault) run run' a b bytes → ReadsRecordOver (Err fault) a b s bytes

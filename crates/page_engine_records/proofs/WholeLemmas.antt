@@ -8,7 +8,7 @@ use Rattle.page_engine_lines.specs.Acts.{lines_items, lines_after, page_items}
 use Rattle.page_engine_lines.specs.Edges.{LinesEdge, start_of}
 use Rattle.page_engine_lines.proofs.TreeLemmas.{ending_is, end_items_after, lines_after-append, lines_items-append, no_items, none_after, title_after}
 use Rattle.page_roff_lines.specs.Lines.{Line}
-use Rattle.page_roff_source.specs.Runs.{Edge, SourceLine}
+use Rattle.page_roff_source.specs.Runs.{RoffEdge, SourceLine}
 use Rattle.page_roff_source.proofs.LineLemmas.{done-idle}
 use Rattle.page_engine_records.specs.machine.Fronts.{Front, after_line, after_lines, ended, front_record, is_settled, start}
 use Rattle.page_engine_records.specs.NameTexts.{name_text}
@@ -54,7 +54,7 @@ rest_more f line lines =
     ∙ sym (read-append (read f.name first) (lines_items g more) last))))
 
 idle_after : (e : LinesEdge) (lines : List SourceLine) → (lines_after e lines).roff.to_come ≡ None
-idle_after e lines = ap (λ (r : Edge). r.to_come) (done-idle e.roff lines)
+idle_after e lines = ap (λ (r : RoffEdge). r.to_come) (done-idle e.roff lines)
 
 -- ---- a front
 

@@ -17,7 +17,7 @@ use Rattle.page_fill_rows.specs.machine.Sheets.{letters}
 use Rattle.page_fill_cells.proofs.BlankRunLemmas.{blanks-plain, count-blank, count-cells}
 use Rattle.page_fill_rows.proofs.CharacterLemmas.{letters-append}
 use Rattle.page_fill_rows.proofs.PlainLemmas.{characters_of-plain}
-use Rattle.page_fill.specs.declared.edges.Edge.{Edge}
+use Rattle.page_fill.specs.declared.edges.FillEdge.{FillEdge}
 use Rattle.page_fill.specs.machine.Fill.{laid, laid_piece, on_sheet, opening, text}
 use Rattle.page_fill.proofs.GlueLaw.{seq-nothing}
 use Rattle.page_fill.proofs.PlainWordLemmas.{text-plain}
@@ -31,7 +31,7 @@ blanks-bytes (b ∷ bytes) all =
     rw first (ap (λ rest. 32 ∷ rest) (blanks-bytes bytes others))
 
 -- a text of a count of blanks
-pub blanks-some : (e : Edge) (n : ℕ) (font : Font) (place : Place) → (n == 0) ≡ false
+pub blanks-some : (e : FillEdge) (n : ℕ) (font : Font) (place : Place) → (n == 0) ≡ false
     → text e (replicate n 32) font place
     ≡ join (opening e place) (over (letters (opening e place).edge.sheet (replicate n (cell_of font 32)) place) (on_sheet (opening e place).edge))
 blanks-some e n font place some =
@@ -41,20 +41,20 @@ blanks-some e n font place some =
 
 -- ---- one text after another
 
-joined-then : (e : Edge) (place : Place) → (opening e place).edge.word.is_joined ≡ true
+joined-then : (e : FillEdge) (place : Place) → (opening e place).edge.word.is_joined ≡ true
 unfolding opening
 joined-then e place = elim (cases_Bool e.word.is_joined) [ inl is ↦ rw is refl | inr new ↦ rw new refl ]
 
-pub goes-on : (e : Edge) (place : Place) → e.word.is_joined ≡ true → opening e place ≡ nothing e
+pub goes-on : (e : FillEdge) (place : Place) → e.word.is_joined ≡ true → opening e place ≡ nothing e
 unfolding opening
 goes-on e place is = rw is refl
 
 -- the second of two texts of blanks goes on with the word of the first
-blanks-after : (e : Edge) (cells : ℕ) (font : Font) (place : Place) → (cells == 0) ≡ false → e.word.is_joined ≡ true
+blanks-after : (e : FillEdge) (cells : ℕ) (font : Font) (place : Place) → (cells == 0) ≡ false → e.word.is_joined ≡ true
     → text e (replicate cells 32) font place ≡ over (letters e.sheet (replicate cells (cell_of font 32)) place) (on_sheet e)
 blanks-after e cells font place some is = blanks-some e cells font place some ∙ rw (goes-on e place is) refl
 
-both-texts : (e : Edge) (m n : ℕ) (font : Font) (place : Place) → (m == 0) ≡ false → (n == 0) ≡ false
+both-texts : (e : FillEdge) (m n : ℕ) (font : Font) (place : Place) → (m == 0) ≡ false → (n == 0) ≡ false
     → text e (replicate (m + n) 32) font place
     ≡ join (text e (replicate m 32) font place) (text (text e (replicate m 32) font place).edge (replicate n 32) font place)
 both-texts e m n font place some more =
@@ -76,14 +76,14 @@ both-texts e m n font place some more =
 -- ---- as many texts
 
 -- without a blank they are the first one
-twice-none : (e : Edge) (font : Font) (place : Place) → join (text e [] font place) (text (text e [] font place).edge [] font place) ≡ text e [] font place
+twice-none : (e : FillEdge) (font : Font) (place : Place) → join (text e [] font place) (text (text e [] font place).edge [] font place) ≡ text e [] font place
 unfolding text
 twice-none e font place = refl
 
 abbrev blanks_piece : ℕ → Font → Place → Piece (List ℕ)
 blanks_piece count font place = Text (replicate count 32) font place
 
-one-piece : (e : Edge) (count : ℕ) (font : Font) (place : Place) → laid_piece e (blanks_piece count font place) ≡ text e (replicate count 32) font place
+one-piece : (e : FillEdge) (count : ℕ) (font : Font) (place : Place) → laid_piece e (blanks_piece count font place) ≡ text e (replicate count 32) font place
 unfolding laid_piece
 one-piece e count font place =
     ap (λ cs. text e cs font place) (characters_of-plain (replicate count 32) (blanks-plain (replicate count 32) (count-blank count)))
@@ -91,7 +91,7 @@ one-piece e count font place =
 one-more : (k count : ℕ) → suc k * count ≡ count + k * count
 one-more k count = grind arith
 
-first-others : (e : Edge) (k count : ℕ) (font : Font) (place : Place) → ((count == 0) ≡ true) ⊎ ((count == 0) ≡ false)
+first-others : (e : FillEdge) (k count : ℕ) (font : Font) (place : Place) → ((count == 0) ≡ true) ⊎ ((count == 0) ≡ false)
     → join (text e (replicate count 32) font place) (text (text e (replicate count 32) font place).edge (replicate (suc k * count) 32) font place)
     ≡ text e (replicate (suc (suc k) * count) 32) font place
 first-others e k count font place (inl none) =
@@ -104,7 +104,7 @@ first-others e k count font place (inr some) =
     let sum : count + suc k * count ≡ suc (suc k) * count = sym (one-more (suc k) count) in
     sym (both-texts e count (suc k * count) font place some more) ∙ ap (λ (n : ℕ). text e (replicate n 32) font place) sum
 
-pub texts-together : (e : Edge) (k count : ℕ) (font : Font) (place : Place)
+pub texts-together : (e : FillEdge) (k count : ℕ) (font : Font) (place : Place)
     → laid e (replicate (suc k) (blanks_piece count font place)) ≡ text e (replicate (suc k * count) 32) font place
 unfolding laid
 texts-together e zero count font place =
@@ -114,20 +114,20 @@ texts-together e (suc k) count font place =
     let first = text e (replicate count 32) font place in
     let others = texts-together first.edge k count font place in
     let step : laid e (replicate (suc (suc k)) (blanks_piece count font place)) ≡ join first (text first.edge (replicate (suc k * count) 32) font place) =
-    ap (λ (l : Laid Edge). seq l (λ f. laid f (replicate (suc k) (blanks_piece count font place)))) (one-piece e count font place) ∙ ap (λ (l : Laid Edge). join first l) others in
+    ap (λ (l : Laid FillEdge). seq l (λ f. laid f (replicate (suc k) (blanks_piece count font place)))) (one-piece e count font place) ∙ ap (λ (l : Laid FillEdge). join first l) others in
     step ∙ first-others e k count font place (cases_Bool (count == 0))
 
 -- ---- some of them, and the others
 
-pub laid-append : (e : Edge) (front back : List (Piece (List ℕ))) → laid e (front ++ back) ≡ join (laid e front) (laid (laid e front).edge back)
+pub laid-append : (e : FillEdge) (front back : List (Piece (List ℕ))) → laid e (front ++ back) ≡ join (laid e front) (laid (laid e front).edge back)
 unfolding laid
 laid-append e [] back = refl
 laid-append e (piece ∷ front) back =
     let first = laid_piece e piece in
     let others = laid first.edge front in
-    ap (λ (l : Laid Edge). join first l) (laid-append first.edge front back) ∙ sym (join_assoc first others (laid others.edge back))
+    ap (λ (l : Laid FillEdge). join first l) (laid-append first.edge front back) ∙ sym (join_assoc first others (laid others.edge back))
 
-pub texts-parted : (e : Edge) (times part count : ℕ) (font : Font) (place : Place) → 0 < part → part ≤ times
+pub texts-parted : (e : FillEdge) (times part count : ℕ) (font : Font) (place : Place) → 0 < part → part ≤ times
     → laid e (replicate times (blanks_piece count font place))
     ≡ join (text e (replicate (part * count) 32) font place)
     (laid (text e (replicate (part * count) 32) font place).edge (replicate (times - part) (blanks_piece count font place)))
@@ -141,4 +141,4 @@ texts-parted e times part count font place some within =
     let parts = replicate-append-replicate part (times - part) piece ∙ ap (λ (k : ℕ). replicate k piece) sum in
     ap (laid e) (sym parts)
     ∙ (laid-append e (replicate part piece) (replicate (times - part) piece)
-    ∙ ap (λ (l : Laid Edge). join l (laid l.edge (replicate (times - part) piece))) together)
+    ∙ ap (λ (l : Laid FillEdge). join l (laid l.edge (replicate (times - part) piece))) together)

@@ -11,14 +11,14 @@ use Rattle.page_core_base.specs.Messages.{message_about}
 use Rattle.page_core_base.specs.Rows.{Item, shown, noted, LaidRow, row_of}
 use Rattle.page_fill_rows.specs.OpenRows.{fresh}
 use Rattle.page_fill_cells.specs.Cells.{cells_of}
-use Rattle.page_fill.specs.declared.edges.Edge.{Edge}
+use Rattle.page_fill.specs.declared.edges.FillEdge.{FillEdge}
 use Rattle.page_fill.specs.Filled.{first_word, outcome, filling}
 use Rattle.page_fill.specs.Words.{words_of, word_after_items, words_laid, content_laid, no_word}
 use Rattle.page_fill.specs.Filling.{groups, other_laid, groups_laid}
 use Rattle.page_fill.specs.Filling as filling_of
 
 -- the start of a page of so many columns
-abbrev at_start : ℕ → Edge
+abbrev at_start : ℕ → FillEdge
 at_start width = record { sheet = fresh width; word = no_word; tag = None; set_in = None; output = Ascii }
 
 abbrev one : ℕ → Piece (List ℕ)

@@ -8,7 +8,7 @@ use Rattle.page_core_base.specs.declared.cells.Cell.{Cell}
 use Rattle.page_core_base.specs.declared.cells.Font.{Font}
 use Rattle.page_core_base.specs.declared.page_settings.Output.{Output}
 use Rattle.page_core_base.specs.declared.pieces.Piece.{Piece}
-use Rattle.page_core_base.specs.declared.pieces.Piece.TheVariants.{Text, Glyph, Char, Tab, Blank, Glue, Split, Break, RowEnd, Para, Space, Indent, Literal, Tag, TagEnd, Heading, Column}
+use Rattle.page_core_base.specs.declared.pieces.Piece.TheVariants.{Text, Glyph, Char, Tab, Split}
 use Rattle.page_core_base.specs.declared.places.Place.{Place}
 use Rattle.page_core_base.specs.Messages.{Message}
 use Rattle.page_core_base.specs.Rows.{LaidRow, is_blank_row, Laid, join, seq, Item}
@@ -16,15 +16,15 @@ use Rattle.page_core_base.specs.Rows as items
 use Rattle.page_core_base.specs.declared.limits.TheConstants.{CELLS}
 use Rattle.page_core_tables.specs.Glyphs.{Printing, char_printed, glyph_printed}
 use Rattle.page_fill.specs.declared.edges.OpenWord.{OpenWord}
-use Rattle.page_fill.specs.declared.edges.Edge.{Edge}
+use Rattle.page_fill.specs.declared.edges.FillEdge.{FillEdge}
 use Rattle.page_fill_rows.specs.OpenRows.{Sheet, over, more_blank_rows, characters_of, unknown_notes, with_notes}
 use Rattle.page_fill_cells.specs.Cells.{blank, cell_of, cells_of}
 use Rattle.page_fill_rows.specs.machine.Sheets.{passes, letter, space}
 use Rattle.page_fill.specs.machine.Fill.{laid_piece}
-use Rattle.page_fill.specs.Words.{tab_notes, cell_content, printed_content, text_content, tab_content, Words, and_then, words_from, words_of, word_after_items, frame_of, open_row_of, with_row, next_edge, going_on, words_laid, after_cell, word_after}
+use Rattle.page_fill.specs.Words.{tab_notes, cell_content, printed_content, text_content, tab_content, RowWords, and_then, words_from, words_of, word_after_items, frame_of, open_row_of, with_row, next_edge, going_on, words_laid, after_cell, word_after}
 use Rattle.page_fill.specs.machine.Items.{laid_items}
 use Rattle.page_fill.proofs.Marks.{Mark, reported, opened, spaced, lettered, letters_of, printed_marks, character_marks, text_marks, tab_marks, blank_marks, opening_marks, is_of_words, piece_marks}
-use Rattle.page_fill.specs.Filled.{CellOrNote, shown, noted, Row, filling}
+use Rattle.page_fill.specs.Filled.{CellOrNote, shown, noted, RowSoFar, filling}
 use Rattle.page_fill_rows.specs.laws.Views.{IsHeld}
 use Rattle.page_fill.specs.laws.Views.{is_sound}
 use Rattle.page_fill.proofs.MarkRuns.{step, run, run-append}
@@ -62,7 +62,7 @@ tab-part-marks is_reported font place =
 
 -- ---- marks of words
 
-abbrev pub all_marks : Words → List Mark
+abbrev pub all_marks : RowWords → List Mark
 all_marks words = marks_of words.first ++ words_marks words.later
 
 blanks-marks : (n : ℕ) (place : Place) (content : List CellOrNote) → letters_of place (replicate n blank) ++ marks_of content ≡ marks_of (cell_content place (replicate n blank) ++ content)
@@ -75,7 +75,7 @@ word-of-marks : (stands : Bool) (notes : List Message) (n : ℕ) (place : Place)
 word-of-marks true notes n place content = ap (λ ms. map reported notes ++ (opened ∷ ms)) (blanks-marks n place content)
 word-of-marks false notes n place content = refl
 
-pub and-then-marks : (literal empty : Bool) (w : OpenWord) (place : Place) (ms : List Mark) (content : List CellOrNote) (rest : Words) → ms ≡ marks_of content
+pub and-then-marks : (literal empty : Bool) (w : OpenWord) (place : Place) (ms : List Mark) (content : List CellOrNote) (rest : RowWords) → ms ≡ marks_of content
     → (opening_marks literal empty w place ++ ms) ++ all_marks rest ≡ all_marks (and_then literal empty w place content rest)
 and-then-marks literal empty w place ms content rest is = elim (cases_Bool w.is_joined) [
   | inl j ↦
@@ -98,7 +98,7 @@ char-marks : (output : Output) (c : ℕ) (font : Font) (place : Place) → chara
 unfolding character_marks
 char-marks output c font place = printed-marks (char_printed output c) font place
 
-piece-words : (output : Output) (literal empty : Bool) (w : OpenWord) (p : Piece (List ℕ)) (rest : Words)
+piece-words : (output : Output) (literal empty : Bool) (w : OpenWord) (p : Piece (List ℕ)) (rest : RowWords)
     → piece_marks output literal empty w p ++ all_marks rest ≡ all_marks (words_from output literal empty w p rest)
 piece-words output literal empty w (Text bytes font place) rest = elim (cases_Bool (length (characters_of bytes) == 0)) [
   | inl z ↦ rw z refl
@@ -111,19 +111,8 @@ piece-words output literal empty w (Char c font place) rest =
 piece-words output literal empty w (Tab font place) rest =
     let is_reported = (after_cell literal w).is_reported in
     and-then-marks literal empty w place (tab_marks (not is_reported) place ++ lettered (cell_of font 32) place ∷ []) (tab_content is_reported font place) rest (tab-part-marks is_reported font place)
-piece-words output literal empty w (Blank count has_tab) rest = refl
-piece-words output literal empty w Glue rest = refl
 piece-words output literal empty w Split rest = elim (cases_Bool (w.is_joined && not literal)) [ inl b ↦ rw b refl | inr b ↦ rw b refl ]
-piece-words output literal empty w Break rest = refl
-piece-words output literal empty w RowEnd rest = refl
-piece-words output literal empty w (Para n) rest = refl
-piece-words output literal empty w (Space n) rest = refl
-piece-words output literal empty w (Indent first others) rest = refl
-piece-words output literal empty w (Literal b) rest = refl
-piece-words output literal empty w (Tag hang form) rest = refl
-piece-words output literal empty w TagEnd rest = refl
-piece-words output literal empty w Heading rest = refl
-piece-words output literal empty w (Column n) rest = refl
+piece-words output literal empty w _ rest = refl
 
 -- ---- rows at the end
 
@@ -147,7 +136,7 @@ heading-append b (x ∷ xs) ys =
 
 -- ---- the whole sheet, by its open row and the rows that were given
 
-with_row-twice : (s : Sheet) (a b : Row) (xs ys : List LaidRow) → with_row (with_row s a xs) b ys ≡ with_row s b (xs ++ ys)
+with_row-twice : (s : Sheet) (a b : RowSoFar) (xs ys : List LaidRow) → with_row (with_row s a xs) b ys ≡ with_row s b (xs ++ ys)
 with_row-twice s a b xs ys = rw (blank_rows-append s.blank_rows xs ys, heading-append s.heading xs ys) refl
 
 step-row : (s : Sheet) (m : Mark) → (step s m).edge ≡ with_row s (open_row_of (step s m).edge) (step s m).rows
@@ -181,7 +170,7 @@ run-row s (m ∷ ms) =
 
 -- ---- words from an edge
 
-words-run : (s : Sheet) (words : Words) → IsHeld s → over (run s (all_marks words)) open_row_of ≡ going_on s words
+words-run : (s : Sheet) (words : RowWords) → IsHeld s → over (run s (all_marks words)) open_row_of ≡ going_on s words
 words-run s words h =
     let x = run s (marks_of words.first) in
     ap (λ l. over l open_row_of) (run-append s (marks_of words.first) (words_marks words.later))
@@ -190,7 +179,7 @@ words-run s words h =
     ∙ ap (λ l. seq l (λ r. filling (frame_of s) r words.later)) (rest-run s words.first h)))
 
 -- what marks do is what the words do on the whole edge
-pub edge-run : (e : Edge) (w : OpenWord) (words : Words) → IsHeld e.sheet
+pub edge-run : (e : FillEdge) (w : OpenWord) (words : RowWords) → IsHeld e.sheet
     → over (run e.sheet (all_marks words)) (with_word e w) ≡ next_edge e w (going_on e.sheet words)
 edge-run e w words h =
     let x = run e.sheet (all_marks words) in
@@ -205,11 +194,11 @@ are_items_of_words literal [] = true
 are_items_of_words literal (items.noted m ∷ more) = are_items_of_words literal more
 are_items_of_words literal (items.shown p ∷ more) = is_of_words literal p && are_items_of_words literal more
 
-pub items-run : (e : Edge) (literal empty : Bool) (list : List Item) → e.sheet.literal ≡ literal → is_sound e.word ≡ true → AreStanding e empty → are_items_of_words literal list ≡ true
+pub items-run : (e : FillEdge) (literal empty : Bool) (list : List Item) → e.sheet.literal ≡ literal → is_sound e.word ≡ true → AreStanding e empty → are_items_of_words literal list ≡ true
     → laid_items e list ≡ over (run e.sheet (all_marks (words_of e.output literal empty e.word list))) (with_word e (word_after_items literal e.word list))
 unfolding laid_items words_of word_after_items run
 items-run e literal empty [] same h stand k = refl
-items-run e literal empty (items.noted m ∷ more) same h stand k = ap (λ (l : Laid Edge). with_notes (m ∷ []) l) (items-run e literal empty more same h stand k)
+items-run e literal empty (items.noted m ∷ more) same h stand k = ap (λ (l : Laid FillEdge). with_notes (m ∷ []) l) (items-run e literal empty more same h stand k)
 items-run e literal empty (items.shown p ∷ more) same h stand k =
     let content = and_parts (is_of_words literal p) (are_items_of_words literal more) k in
     let ms = piece_marks e.output literal empty e.word p in
@@ -222,12 +211,12 @@ items-run e literal empty (items.shown p ∷ more) same h stand k =
     let first = subst Runs same (piece-run e empty p stand (subst Fits (sym same) content.0)) in
     let still = subst Stands same (stands-after e empty p h stand) in
     let later = items-run (with_word e w x.edge) literal empty more (run-literal e.sheet ms ∙ same) (sound-after literal e.word p h) still content.1 in
-    ap (λ (l : Laid Edge). seq l (λ f. laid_items f more)) first
-    ∙ (ap (λ (l : Laid Edge). join (over x (with_word e w)) l) later
+    ap (λ (l : Laid FillEdge). seq l (λ f. laid_items f more)) first
+    ∙ (ap (λ (l : Laid FillEdge). join (over x (with_word e w)) l) later
     ∙ (ap (λ l. over l (with_word e (word_after_items literal w more))) (sym (run-append e.sheet ms (all_marks rest)))
     ∙ ap (λ l. over (run e.sheet l) (with_word e (word_after_items literal w more))) (piece-words e.output literal empty e.word p rest)))
 
-pub words-law : (e : Edge) (list : List Item) → IsHeld e.sheet → is_sound e.word ≡ true → are_items_of_words e.sheet.literal list ≡ true → laid_items e list ≡ words_laid e list
+pub words-law : (e : FillEdge) (list : List Item) → IsHeld e.sheet → is_sound e.word ≡ true → are_items_of_words e.sheet.literal list ≡ true → laid_items e list ≡ words_laid e list
 unfolding words_laid
 words-law e list h sound k =
     let literal = e.sheet.literal in

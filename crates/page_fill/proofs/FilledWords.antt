@@ -14,7 +14,7 @@ use Rattle.page_fill_cells.specs.Cells.{blank}
 use Rattle.page_fill_rows.specs.machine.Sheets.{passes, letter, space, given, begins, emptied}
 use Rattle.page_fill_rows.specs.machine.Sheets as sheets
 use Rattle.page_fill.proofs.Marks.{Mark, reported, opened, spaced, lettered}
-use Rattle.page_fill.specs.Filled.{CellOrNote, shown, noted, Word, Frame, Row, counted, with_cell, before_word, row_begun, row_ended, full_row_ended, first_word, Outcome, fits, too_wide, too_many, after_note, outcome, by_word, by_blanks, one_word, rest_of_word, filling}
+use Rattle.page_fill.specs.Filled.{CellOrNote, shown, noted, RowWord, Frame, RowSoFar, counted, with_cell, before_word, row_begun, row_ended, full_row_ended, first_word, WordOutcome, fits, too_wide, after_note, outcome, by_word, by_blanks, one_word, rest_of_word, filling}
 use Rattle.page_fill.specs.machine.Words.{is_wide}
 use Rattle.page_fill_rows.specs.laws.Views.{IsHeld}
 use Rattle.page_fill.specs.Words.{frame_of, open_row_of}
@@ -29,15 +29,15 @@ abbrev pub marks_of : List CellOrNote → List Mark
 marks_of content = map mark_of content
 
 -- no row is open
-abbrev pub closed : Row → Row
+abbrev pub closed : RowSoFar → RowSoFar
 closed row = record row { cells = []; gap = 0; word = 0 }
 
 -- the cells of the last word
-abbrev pub of_word : Row → List Cell
+abbrev pub of_word : RowSoFar → List Cell
 of_word row = drop row.word row.cells
 
 -- the next row with these cells, none where it has not begun
-abbrev pub started : Frame → Row → List Cell → Row
+abbrev pub started : Frame → RowSoFar → List Cell → RowSoFar
 started frame row cells = if length cells == 0 then row else row_begun frame row cells
 
 -- ---- a row's first word
@@ -60,14 +60,14 @@ first-run s (shown cell place ∷ content) first =
 -- ---- another word of a row
 
 -- a row that begins with some cells and one more
-more-begun : (frame : Frame) (row : Row) (front : List Cell) (cell : Cell) (content : List CellOrNote)
+more-begun : (frame : Frame) (row : RowSoFar) (front : List Cell) (cell : Cell) (content : List CellOrNote)
     → first_word frame (row_begun frame row (front ++ cell ∷ [])) content ≡ first_word frame (started frame row (front ++ cell ∷ [])) content
 more-begun frame row front cell content =
     let more : (length (front ++ cell ∷ []) == 0) ≡ false = rw (length-append front (cell ∷ [])) (grind (arith, nat_tests)) in
     rw more refl
 
 -- there is one more cell
-first-front : (frame : Frame) (row : Row) (front : List Cell) (cell : Cell) (place : Place) (content : List CellOrNote) → length front < CELLS
+first-front : (frame : Frame) (row : RowSoFar) (front : List Cell) (cell : Cell) (place : Place) (content : List CellOrNote) → length front < CELLS
     → first_word frame (started frame (closed row) front) (shown cell place ∷ content) ≡ first_word frame (started frame (counted (closed row) cell) (front ++ cell ∷ [])) content
 unfolding first_word
 first-front frame row [] cell place content room = refl
@@ -77,15 +77,14 @@ first-front frame row (c ∷ cs) cell place content room =
     let more : (length (c ∷ (cs ++ cell ∷ [])) == 0) ≡ false = grind (arith, nat_tests) in
     rw (some, full, some, more) refl
 
-note-first : (frame : Frame) (row : Row) (m : Message) (content : List CellOrNote) → with_notes (m ∷ []) (first_word frame row content) ≡ first_word frame row (noted m ∷ content)
+note-first : (frame : Frame) (row : RowSoFar) (m : Message) (content : List CellOrNote) → with_notes (m ∷ []) (first_word frame row content) ≡ first_word frame row (noted m ∷ content)
 unfolding first_word
 note-first frame row m content = refl
 
-by_word-note : (frame : Frame) (row : Row) (m : Message) (content : List CellOrNote) (o : Outcome)
+by_word-note : (frame : Frame) (row : RowSoFar) (m : Message) (content : List CellOrNote) (o : WordOutcome)
     → with_notes (m ∷ []) (by_word frame row content o) ≡ by_word frame row (noted m ∷ content) (after_note m o)
-by_word-note frame row m content (fits notes taken) = refl
 by_word-note frame row m content (too_wide taken) = ap (λ l. join (row_ended row (before_word row)) l) (note-first frame (started frame (closed row) (of_word row)) m content)
-by_word-note frame row m content (too_many notes taken place left) = refl
+by_word-note frame row m content _ = refl
 
 -- in the midst of a word that is not its row's first
 pub record IsInWord (s : Sheet) : Type 0 where
@@ -114,20 +113,19 @@ in-word-more s cell i room =
     let more : length s.cells < CELLS = grind (arith, nat_tests, i.bounded, room) in
     record { later = i.later; gap_within = i.gap_within; word_within = rw len (omega (arith, i.word_within)); bounded = rw len (omega (arith, more)) }
 
-wide-more : (frame : Frame) (row : Row) (cell : Cell) (place : Place) (content : List CellOrNote) (base front : List Cell) → base ≡ before_word row → front ≡ of_word row ++ cell ∷ []
+wide-more : (frame : Frame) (row : RowSoFar) (cell : Cell) (place : Place) (content : List CellOrNote) (base front : List Cell) → base ≡ before_word row → front ≡ of_word row ++ cell ∷ []
     → length (of_word row) < CELLS
     → join (row_ended row base) (first_word frame (started frame (counted (closed row) cell) front) content)
     ≡ join (row_ended row (before_word row)) (first_word frame (started frame (closed row) (of_word row)) (shown cell place ∷ content))
 wide-more frame row cell place content base front same more room =
     rw (same, more) (ap (λ l. join (row_ended row (before_word row)) l) (sym (first-front frame row (of_word row) cell place content room)))
 
-by_word-more : (frame : Frame) (row : Row) (cell : Cell) (place : Place) (content : List CellOrNote) (o : Outcome)
+by_word-more : (frame : Frame) (row : RowSoFar) (cell : Cell) (place : Place) (content : List CellOrNote) (o : WordOutcome)
     → row.gap ≤ length row.cells → row.word ≤ length row.cells → length (of_word row) < CELLS
     → by_word frame (with_cell row cell) content o ≡ by_word frame row (shown cell place ∷ content) o
-by_word-more frame row cell place content (fits notes taken) gap word room = refl
 by_word-more frame row cell place content (too_wide taken) gap word room =
     wide-more frame row cell place content (before_word (with_cell row cell)) (of_word (with_cell row cell)) (take-append-le row.gap row.cells (cell ∷ []) gap) (drop-append-le row.word row.cells (cell ∷ []) word) room
-by_word-more frame row cell place content (too_many notes taken at left) gap word room = refl
+by_word-more frame row cell place content _ gap word room = refl
 
 -- the cells of a word, from any of them on
 pub word-run : (s : Sheet) (content : List CellOrNote) → IsInWord s
@@ -182,7 +180,7 @@ in-blanks-more s i room =
     }
 
 -- the row before its blanks, of which the word's place is known after them alone
-abbrev pub with_place : Row → ℕ → Row
+abbrev pub with_place : RowSoFar → ℕ → RowSoFar
 with_place row word = record row { word = word }
 
 blanks-end : (s : Sheet) (content : List CellOrNote) (w : ℕ) → s.word ≡ length s.cells
@@ -219,13 +217,13 @@ blanks-run s (suc n) place content w i at_end =
 
 -- ---- a word
 
-abbrev pub word_marks : Word → List Mark
+abbrev pub word_marks : RowWord → List Mark
 word_marks w = map reported w.notes ++ (opened ∷ (replicate w.blanks (spaced w.place) ++ marks_of w.content))
 
 opened-in : (s : Sheet) → length s.cells ≤ CELLS → (length s.cells == 0) ≡ false → IsInWord (sheets.opens s)
 opened-in s bound some = record { later = grind (arith, nat_tests, some); gap_within = omega arith; word_within = omega arith; bounded = bound }
 
-one-word-run : (s : Sheet) (w : Word) → length s.cells ≤ CELLS
+one-word-run : (s : Sheet) (w : RowWord) → length s.cells ≤ CELLS
     → over (run s (opened ∷ (replicate w.blanks (spaced w.place) ++ marks_of w.content))) open_row_of ≡ one_word (frame_of s) (open_row_of s) w
 unfolding run
 one-word-run s w bound = elim (cases_Bool (length s.cells == 0)) [
@@ -277,11 +275,11 @@ unfolding run
 notes-run s [] ms = refl
 notes-run s (m ∷ notes) ms = ap (with_notes (m ∷ [])) (notes-run s notes ms)
 
-abbrev pub words_marks : List Word → List Mark
+abbrev pub words_marks : List RowWord → List Mark
 words_marks [] = []
 words_marks (w ∷ ws) = word_marks w ++ words_marks ws
 
-pub filling-run : (s : Sheet) (ws : List Word) → IsHeld s → over (run s (words_marks ws)) open_row_of ≡ filling (frame_of s) (open_row_of s) ws
+pub filling-run : (s : Sheet) (ws : List RowWord) → IsHeld s → over (run s (words_marks ws)) open_row_of ≡ filling (frame_of s) (open_row_of s) ws
 unfolding run filling
 filling-run s [] h = refl
 filling-run s (w ∷ ws) h =

@@ -9,9 +9,9 @@ use Rattle.page_core_base.specs.declared.places.Place.{Place}
 use Rattle.page_core_base.specs.Messages.{Message}
 use Rattle.page_core_base.specs.Rows.{Laid, nothing, join, seq, Item, shown, noted}
 use Rattle.page_fill.specs.declared.edges.OpenTag.{OpenTag}
-use Rattle.page_fill.specs.declared.edges.Edge.{Edge}
+use Rattle.page_fill.specs.declared.edges.FillEdge.{FillEdge}
 use Rattle.page_fill.specs.machine.Fill.{laid_piece, on_sheet, opening, tab, fixed_tab, filled_tab, to_stop, ended, paragraph, spaced, row_ended, heading, headed, without_tag, fits_hang}
-use Rattle.page_fill.specs.Words.{no_word, cell_content, Words, and_then, words_laid, content_laid, after_cell}
+use Rattle.page_fill.specs.Words.{no_word, cell_content, RowWords, and_then, words_laid, content_laid, after_cell}
 use Rattle.page_fill.specs.machine.Fill as fill
 use Rattle.page_fill_rows.specs.OpenRows.{over}
 use Rattle.page_fill_cells.specs.Cells.{blank}
@@ -30,64 +30,64 @@ use Rattle.page_fill.proofs.HeldSheets.{piece-held, opening-held}
 use Rattle.page_fill.proofs.FilledWords.{marks_of}
 use Rattle.page_fill.proofs.FilledPieces.{cell-marks, and-then-marks, edge-run, are_items_of_words, words-law}
 
-both : (b : Bool) (x y x' y' : Laid Edge) → x ≡ x' → y ≡ y' → (if b then x else y) ≡ (if b then x' else y')
+both : (b : Bool) (x y x' y' : Laid FillEdge) → x ≡ x' → y ≡ y' → (if b then x else y) ≡ (if b then x' else y')
 both true x y x' y' first second = first
 both false x y x' y' first second = second
 
-choice : (b : Bool) (z x y : Laid Edge) → (b ≡ true → z ≡ x) → (b ≡ false → z ≡ y) → z ≡ (if b then x else y)
+choice : (b : Bool) (z x y : Laid FillEdge) → (b ≡ true → z ≡ x) → (b ≡ false → z ≡ y) → z ≡ (if b then x else y)
 choice true z x y first second = first refl
 choice false z x y first second = second refl
 
 -- no word
-abbrev no_more : Words
+abbrev no_more : RowWords
 no_more = record { first = []; later = [] }
 
 -- ---- breaks
 
-row-end : (e : Edge) → ended e ≡ row_end e
+row-end : (e : FillEdge) → ended e ≡ row_end e
 unfolding ended broken
 row-end e = elim (cases_Bool (length e.sheet.cells == 0)) [ inl z ↦ rw z refl | inr z ↦ rw z refl ]
 
-blanks-law : (e : Edge) (n : ℕ) → over (empty_rows e.sheet n) (on_sheet e) ≡ blank_rows e n
+blanks-law : (e : FillEdge) (n : ℕ) → over (empty_rows e.sheet n) (on_sheet e) ≡ blank_rows e n
 unfolding empty_rows
 blanks-law e n = refl
 
-spaced-law : (e : Edge) (n : ℕ) → spaced e n ≡ seq (row_end e) (λ f. blank_rows f n)
+spaced-law : (e : FillEdge) (n : ℕ) → spaced e n ≡ seq (row_end e) (λ f. blank_rows f n)
 unfolding spaced empty_rows
-spaced-law e n = ap (λ (l : Laid Edge). seq l (λ f. blank_rows f n)) (row-end e)
+spaced-law e n = ap (λ (l : Laid FillEdge). seq l (λ f. blank_rows f n)) (row-end e)
 
-paragraph-law : (e : Edge) (n : ℕ) → laid_piece e (Para n) ≡ other_laid e (Para n)
+paragraph-law : (e : FillEdge) (n : ℕ) → laid_piece e (Para n) ≡ other_laid e (Para n)
 unfolding laid_piece other_laid paragraph empty_rows
-paragraph-law e n = ap (λ (l : Laid Edge). seq l (λ f. blank_rows f (if f.sheet.heading then 0 else n - f.sheet.blank_rows))) (row-end e)
+paragraph-law e n = ap (λ (l : Laid FillEdge). seq l (λ f. blank_rows f (if f.sheet.heading then 0 else n - f.sheet.blank_rows))) (row-end e)
 
-row_ended-law : (e : Edge) → laid_piece e RowEnd ≡ other_laid e RowEnd
+row_ended-law : (e : FillEdge) → laid_piece e RowEnd ≡ other_laid e RowEnd
 unfolding laid_piece other_laid row_ended
 row_ended-law e = both (length e.sheet.cells == 0) (spaced e 1) (ended e) (seq (row_end e) (λ f. blank_rows f 1)) (row_end e) (spaced-law e 1) (row-end e)
 
-heading-law : (e : Edge) → laid_piece e Heading ≡ other_laid e Heading
+heading-law : (e : FillEdge) → laid_piece e Heading ≡ other_laid e Heading
 unfolding laid_piece other_laid heading
-heading-law e = ap (λ (l : Laid Edge). over l (λ f. if length e.sheet.cells == 0 then f else on_sheet f (headed f.sheet))) (row-end e)
+heading-law e = ap (λ (l : Laid FillEdge). over l (λ f. if length e.sheet.cells == 0 then f else on_sheet f (headed f.sheet))) (row-end e)
 
 -- ---- tags
 
-after_tag-law : (e : Edge) (t : OpenTag) → fill.after_tag e t ≡ after_tag e t
+after_tag-law : (e : FillEdge) (t : OpenTag) → fill.after_tag e t ≡ after_tag e t
 after_tag-law e t = elim (cases_Bool (fits_hang e.sheet t.hang)) [
   | inl f ↦ rw f refl
   | inr f ↦ rw f (elim (cases_Bool t.ends_row) [ inl r ↦ rw r (row-end e) | inr r ↦ rw r refl ])
 ]
 
-tag-law : (e : Edge) (tag : Option OpenTag) → fill.tag_ended (without_tag e) tag ≡ tag_end e None tag
+tag-law : (e : FillEdge) (tag : Option OpenTag) → fill.tag_ended (without_tag e) tag ≡ tag_end e None tag
 tag-law e None = row-end (without_tag e)
 tag-law e (Some t) =
-    ap (λ (l : Laid Edge). if e.sheet.tag_begun then l else nothing (record (without_tag e) { word = no_word })) (after_tag-law (without_tag e) t)
+    ap (λ (l : Laid FillEdge). if e.sheet.tag_begun then l else nothing (record (without_tag e) { word = no_word })) (after_tag-law (without_tag e) t)
 
-tag_end-law : (e : Edge) (set_in : Option ℕ) → fill.tag_end e set_in ≡ tag_end e set_in e.tag
+tag_end-law : (e : FillEdge) (set_in : Option ℕ) → fill.tag_end e set_in ≡ tag_end e set_in e.tag
 tag_end-law e None = tag-law e e.tag
 tag_end-law e (Some blanks) = refl
 
 -- ---- tabs
 
-content-law : (e : Edge) (place : Place) (ms : List Mark) (content : List CellOrNote) → ms ≡ marks_of content → IsHeld e.sheet
+content-law : (e : FillEdge) (place : Place) (ms : List Mark) (content : List CellOrNote) → ms ≡ marks_of content → IsHeld e.sheet
     → over (run e.sheet (opening_marks e.sheet.literal (length e.sheet.cells == 0) e.word place ++ ms)) (with_word e (after_cell e.sheet.literal e.word)) ≡ content_laid e place content
 unfolding content_laid
 content-law e place ms content is h =
@@ -98,22 +98,22 @@ content-law e place ms content is h =
     ap (λ l. over (run e.sheet l) (with_word e w)) (sym (append-nil front) ∙ and-then-marks literal empty e.word place ms content no_more is)
     ∙ edge-run e w (and_then literal empty e.word place content no_more) h
 
-opening-law : (e : Edge) (place : Place) → IsHeld e.sheet → opening e place ≡ content_laid e place []
+opening-law : (e : FillEdge) (place : Place) → IsHeld e.sheet → opening e place ≡ content_laid e place []
 opening-law e place h =
     let ms = opening_marks e.sheet.literal (length e.sheet.cells == 0) e.word place in
     opening-run e (length e.sheet.cells == 0) place refl
     ∙ (ap (λ l. over (run e.sheet l) (with_word e (after_cell e.sheet.literal e.word))) (sym (append-nil ms)) ∙ content-law e place [] [] refl h)
 
-opening-joined : (e : Edge) (place : Place) → (opening e place).edge.word.is_joined ≡ true
+opening-joined : (e : FillEdge) (place : Place) → (opening e place).edge.word.is_joined ≡ true
 unfolding opening
 opening-joined e place = elim (cases_Bool e.word.is_joined) [ inl j ↦ rw j refl | inr j ↦ rw j refl ]
 
-opening-literal : (e : Edge) (place : Place) → (opening e place).edge.sheet.literal ≡ e.sheet.literal
+opening-literal : (e : FillEdge) (place : Place) → (opening e place).edge.sheet.literal ≡ e.sheet.literal
 opening-literal e place =
     let ms = opening_marks e.sheet.literal (length e.sheet.cells == 0) e.word place in
-    ap (λ (l : Laid Edge). l.edge.sheet.literal) (opening-run e (length e.sheet.cells == 0) place refl) ∙ run-literal e.sheet ms
+    ap (λ (l : Laid FillEdge). l.edge.sheet.literal) (opening-run e (length e.sheet.cells == 0) place refl) ∙ run-literal e.sheet ms
 
-fixed-law : (f : Edge) (place : Place) → f.word.is_joined ≡ true → IsHeld f.sheet → fixed_tab f place ≡ content_laid f place (stop_content f.sheet.cells place)
+fixed-law : (f : FillEdge) (place : Place) → f.word.is_joined ≡ true → IsHeld f.sheet → fixed_tab f place ≡ content_laid f place (stop_content f.sheet.cells place)
 fixed-law f place j h =
     let cells = replicate (to_stop f.sheet.cells) blank in
     let ms = letters_of place cells in
@@ -122,30 +122,30 @@ fixed-law f place j h =
 
 -- ---- pieces
 
-one-item : (e : Edge) (p : Piece (List ℕ)) → laid_items e (shown p ∷ []) ≡ laid_piece e p
+one-item : (e : FillEdge) (p : Piece (List ℕ)) → laid_items e (shown p ∷ []) ≡ laid_piece e p
 unfolding laid_items
 one-item e p = rw (append-nil (laid_piece e p).rows, append-nil (laid_piece e p).notes) refl
 
-one-law : (e : Edge) (p : Piece (List ℕ)) → IsHeld e.sheet → is_sound e.word ≡ true → marks.is_of_words e.sheet.literal p ≡ true → laid_piece e p ≡ words_laid e (shown p ∷ [])
+one-law : (e : FillEdge) (p : Piece (List ℕ)) → IsHeld e.sheet → is_sound e.word ≡ true → marks.is_of_words e.sheet.literal p ≡ true → laid_piece e p ≡ words_laid e (shown p ∷ [])
 one-law e p h s k = sym (one-item e p) ∙ words-law e (shown p ∷ []) h s (rw k refl)
 
-kept-tab : (e : Edge) (font : Font) (place : Place) → e.sheet.literal ≡ true → IsHeld e.sheet
+kept-tab : (e : FillEdge) (font : Font) (place : Place) → e.sheet.literal ≡ true → IsHeld e.sheet
     → laid_piece e (Tab font place) ≡ seq (content_laid e place []) (λ f. content_laid f place (stop_content f.sheet.cells place))
 unfolding laid_piece tab
 kept-tab e font place l h =
     let f = (opening e place).edge in
     let still : (opening e place).edge.sheet.literal ≡ true = opening-literal e place ∙ l in
     let choice : (if (opening e place).edge.sheet.literal then fixed_tab f place else filled_tab f font place) ≡ fixed_tab f place = rw still refl in
-    ap (λ (m : Laid Edge). join (opening e place) m) (choice ∙ fixed-law f place (opening-joined e place) (opening-held e place h))
-    ∙ ap (λ (m : Laid Edge). seq m (λ g. content_laid g place (stop_content g.sheet.cells place))) (opening-law e place h)
+    ap (λ (m : Laid FillEdge). join (opening e place) m) (choice ∙ fixed-law f place (opening-joined e place) (opening-held e place h))
+    ∙ ap (λ (m : Laid FillEdge). seq m (λ g. content_laid g place (stop_content g.sheet.cells place))) (opening-law e place h)
 
-tab-law : (e : Edge) (font : Font) (place : Place) → IsHeld e.sheet → is_sound e.word ≡ true → laid_piece e (Tab font place) ≡ other_laid e (Tab font place)
+tab-law : (e : FillEdge) (font : Font) (place : Place) → IsHeld e.sheet → is_sound e.word ≡ true → laid_piece e (Tab font place) ≡ other_laid e (Tab font place)
 unfolding other_laid
 tab-law e font place h s =
     choice e.sheet.literal (laid_piece e (Tab font place)) (seq (content_laid e place []) (λ f. content_laid f place (stop_content f.sheet.cells place))) (words_laid e (shown (Tab font place) ∷ []))
     (λ l. kept-tab e font place l h) (λ l. one-law e (Tab font place) h s (rw l refl))
 
-other-law : (e : Edge) (p : Piece (List ℕ)) → IsHeld e.sheet → is_sound e.word ≡ true → laid_piece e p ≡ other_laid e p
+other-law : (e : FillEdge) (p : Piece (List ℕ)) → IsHeld e.sheet → is_sound e.word ≡ true → laid_piece e p ≡ other_laid e p
 unfolding laid_piece other_laid
 other-law e (Text bytes font place) h s = one-law e (Text bytes font place) h s refl
 other-law e (Glyph name font place) h s = one-law e (Glyph name font place) h s refl
@@ -239,56 +239,56 @@ items-of-words literal [] k = refl
 items-of-words literal (noted m ∷ more) k = items-of-words literal more k
 items-of-words literal (shown p ∷ more) k = rw (piece-of-words literal p k.0) (items-of-words literal more k.1)
 
-items-held : (e : Edge) (items : List Item) → IsHeld e.sheet → IsHeld (laid_items e items).edge.sheet
+items-held : (e : FillEdge) (items : List Item) → IsHeld e.sheet → IsHeld (laid_items e items).edge.sheet
 unfolding laid_items
 items-held e [] h = h
 items-held e (noted m ∷ more) h = items-held e more h
 items-held e (shown p ∷ more) h = items-held (laid_piece e p).edge more (piece-held e p h)
 
-items-sound : (e : Edge) (items : List Item) → is_sound e.word ≡ true → is_sound (laid_items e items).edge.word ≡ true
+items-sound : (e : FillEdge) (items : List Item) → is_sound e.word ≡ true → is_sound (laid_items e items).edge.word ≡ true
 unfolding laid_items
 items-sound e [] s = s
 items-sound e (noted m ∷ more) s = items-sound e more s
 items-sound e (shown p ∷ more) s = items-sound (laid_piece e p).edge more (piece-sound e p s)
 
-groups-law : (e : Edge) (gs : List Group) → AreGrouped gs → IsHeld e.sheet → is_sound e.word ≡ true → laid_items e (items_of gs) ≡ groups_laid e gs
+groups-law : (e : FillEdge) (gs : List Group) → AreGrouped gs → IsHeld e.sheet → is_sound e.word ≡ true → laid_items e (items_of gs) ≡ groups_laid e gs
 unfolding laid_items groups_laid
 groups-law e [] k h s = refl
 groups-law e (words items ∷ more) k h s =
     let l = laid_items e items in
     laid_items-append e items (items_of more)
-    ∙ (ap (λ (m : Laid Edge). join l m) (groups-law l.edge more k.1 (items-held e items h) (items-sound e items s))
-    ∙ ap (λ (m : Laid Edge). seq m (λ f. groups_laid f more)) (words-law e items h s (items-of-words e.sheet.literal items k.0)))
+    ∙ (ap (λ (m : Laid FillEdge). join l m) (groups-law l.edge more k.1 (items-held e items h) (items-sound e items s))
+    ∙ ap (λ (m : Laid FillEdge). seq m (λ f. groups_laid f more)) (words-law e items h s (items-of-words e.sheet.literal items k.0)))
 groups-law e (other p ∷ more) k h s =
     let l = laid_piece e p in
-    ap (λ (m : Laid Edge). join l m) (groups-law l.edge more k (piece-held e p h) (piece-sound e p s))
-    ∙ ap (λ (m : Laid Edge). seq m (λ f. groups_laid f more)) (other-law e p h s)
+    ap (λ (m : Laid FillEdge). join l m) (groups-law l.edge more k (piece-held e p h) (piece-sound e p s))
+    ∙ ap (λ (m : Laid FillEdge). seq m (λ f. groups_laid f more)) (other-law e p h s)
 
-pub steps-law : (e : Edge) (items : List Item) → IsHeld e.sheet → is_sound e.word ≡ true → laid_items e items ≡ filled e items
+pub steps-law : (e : FillEdge) (items : List Item) → IsHeld e.sheet → is_sound e.word ≡ true → laid_items e items ≡ filled e items
 steps-law e items h s = ap (laid_items e) (sym (groups-items items)) ∙ groups-law e (groups items) (groups-grouped items) h s
 
-pub cut-law : (e : Edge) (above below : List Item) → IsHeld e.sheet → is_sound e.word ≡ true
+pub cut-law : (e : FillEdge) (above below : List Item) → IsHeld e.sheet → is_sound e.word ≡ true
     → filled e (above ++ below) ≡ join (filled e above) (filled (filled e above).edge below)
 cut-law e above below h s =
     let l = laid_items e above in
     sym (steps-law e (above ++ below) h s)
     ∙ (laid_items-append e above below
-    ∙ (ap (λ (m : Laid Edge). join l m) (steps-law l.edge below (items-held e above h) (items-sound e above s))
-    ∙ ap (λ (m : Laid Edge). seq m (λ f. filled f below)) (steps-law e above h s)))
+    ∙ (ap (λ (m : Laid FillEdge). join l m) (steps-law l.edge below (items-held e above h) (items-sound e above s))
+    ∙ ap (λ (m : Laid FillEdge). seq m (λ f. filled f below)) (steps-law e above h s)))
 
 -- ---- what an edge keeps
 
-pub held-law : (e : Edge) (items : List Item) → IsHeld e.sheet → is_sound e.word ≡ true → IsHeld (filled e items).edge.sheet × (is_sound (filled e items).edge.word ≡ true)
+pub held-law : (e : FillEdge) (items : List Item) → IsHeld e.sheet → is_sound e.word ≡ true → IsHeld (filled e items).edge.sheet × (is_sound (filled e items).edge.word ≡ true)
 held-law e items h s =
-    let Keeps : Laid Edge → Type 0 = λ l. IsHeld l.edge.sheet × (is_sound l.edge.word ≡ true) in
+    let Keeps : Laid FillEdge → Type 0 = λ l. IsHeld l.edge.sheet × (is_sound l.edge.word ≡ true) in
     subst Keeps (steps-law e items h s) (items-held e items h, items-sound e items s)
 
-one-end : (e : Edge) → laid_piece e Break ≡ ended e
+one-end : (e : FillEdge) → laid_piece e Break ≡ ended e
 unfolding laid_piece
 one-end e = refl
 
-pub end-law : (e : Edge) → IsHeld e.sheet → is_sound e.word ≡ true
+pub end-law : (e : FillEdge) → IsHeld e.sheet → is_sound e.word ≡ true
     → (ended e ≡ row_end e) × (IsHeld (row_end e).edge.sheet × (is_sound (row_end e).edge.word ≡ true))
 end-law e h s =
-    let Keeps : Laid Edge → Type 0 = λ l. IsHeld l.edge.sheet × (is_sound l.edge.word ≡ true) in
+    let Keeps : Laid FillEdge → Type 0 = λ l. IsHeld l.edge.sheet × (is_sound l.edge.word ≡ true) in
     (row-end e, subst Keeps (one-end e ∙ row-end e) (piece-held e Break h, piece-sound e Break s))

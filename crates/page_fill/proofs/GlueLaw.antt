@@ -9,9 +9,9 @@ use Rattle.page_core_base.specs.declared.pieces.Piece.TheVariants.{Text, Blank, 
 use Rattle.page_core_base.specs.declared.places.Place.{Place}
 use Rattle.page_core_base.specs.Rows.{Laid, nothing, seq, Item, shown}
 use Rattle.page_core_tables.specs.Glyphs.{char_printed}
-use Rattle.page_fill.specs.declared.edges.Edge.{Edge}
+use Rattle.page_fill.specs.declared.edges.FillEdge.{FillEdge}
 use Rattle.page_fill.specs.declared.edges.OpenWord.{OpenWord}
-use Rattle.page_fill.specs.Words.{begun_word, text_content, printed_content, Words, word_of, words_of, word_after_items, going_on, next_edge, words_laid}
+use Rattle.page_fill.specs.Words.{begun_word, text_content, printed_content, RowWords, word_of, words_of, word_after_items, going_on, next_edge, words_laid}
 use Rattle.page_fill_rows.specs.OpenRows.{characters_of}
 use Rattle.page_fill_rows.proofs.CharacterLemmas.{characters_of-text, chars-empty}
 use Rattle.page_fill.specs.Filled.{CellOrNote}
@@ -21,12 +21,12 @@ pub seq-nothing : {E : Type 0} (l : Laid E) → seq l (λ f. nothing f) ≡ l
 seq-nothing l = rw (append-nil l.rows, append-nil l.notes) refl
 
 -- one group of words
-pub one-group : (e : Edge) (items : List Item) → groups_laid e (words items ∷ []) ≡ words_laid e items
+pub one-group : (e : FillEdge) (items : List Item) → groups_laid e (words items ∷ []) ≡ words_laid e items
 unfolding groups_laid
 one-group e items = seq-nothing (words_laid e items)
 
 -- a group of words, by its words and what waits after them
-pub laid-by : (e : Edge) (items : List Item) (w : OpenWord) (all : Words) → word_after_items e.sheet.literal e.word items ≡ w
+pub laid-by : (e : FillEdge) (items : List Item) (w : OpenWord) (all : RowWords) → word_after_items e.sheet.literal e.word items ≡ w
     → words_of e.output e.sheet.literal (length e.sheet.cells == 0) e.word items ≡ all → words_laid e items ≡ next_edge e w (going_on e.sheet all)
 unfolding words_laid
 laid-by e items w all after is = rw (after, is) refl
@@ -67,7 +67,7 @@ two-after literal w a b font place n has_tab new some = elim (cases_Bool (length
 ]
 
 -- a word of this content
-abbrev one_of : Bool → Bool → OpenWord → Place → List CellOrNote → Words
+abbrev one_of : Bool → Bool → OpenWord → Place → List CellOrNote → RowWords
 one_of literal empty w place content = record { first = []; later = word_of literal empty w place content ∷ [] }
 
 whole-words : (output : Output) (literal empty : Bool) (w : OpenWord) (a : List ℕ) (font : Font) (place : Place) → w.is_joined ≡ false → (length (characters_of a) == 0) ≡ false
@@ -96,7 +96,7 @@ some-append (x ∷ xs) ys h = grind (arith, nat_tests)
 chars-nonempty : (bytes : List ℕ) → IsUtf8 bytes → 0 < length bytes → (length (characters_of bytes) == 0) ≡ false
 chars-nonempty bytes u some = let e : (length bytes == 0) ≡ false = grind (arith, nat_tests) in rw (characters_of-text bytes u) (chars-empty bytes u ∙ e)
 
-pub glued-texts : (e : Edge) (a b : List ℕ) (font : Font) (place : Place) (n : ℕ) (has_tab : Bool) → e.word.is_joined ≡ false → IsUtf8 a → IsUtf8 b → 0 < length a
+pub glued-texts : (e : FillEdge) (a b : List ℕ) (font : Font) (place : Place) (n : ℕ) (has_tab : Bool) → e.word.is_joined ≡ false → IsUtf8 a → IsUtf8 b → 0 < length a
     → filled e (shown (Text a font place) ∷ shown (Blank n has_tab) ∷ shown Glue ∷ shown (Text b font place) ∷ []) ≡ filled e (shown (Text (a ++ b) font place) ∷ [])
 unfolding groups
 glued-texts e a b font place n has_tab new u v some =

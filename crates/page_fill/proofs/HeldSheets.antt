@@ -14,7 +14,7 @@ use Rattle.page_core_base.specs.Rows.{nothing}
 use Rattle.page_core_base.specs.declared.limits.TheConstants.{CELLS}
 use Rattle.page_core_tables.specs.Glyphs.{char_printed, glyph_printed}
 use Rattle.page_fill.specs.declared.edges.OpenTag.{OpenTag}
-use Rattle.page_fill.specs.declared.edges.Edge.{Edge}
+use Rattle.page_fill.specs.declared.edges.FillEdge.{FillEdge}
 use Rattle.page_fill_rows.specs.OpenRows.{Sheet, fresh, characters_of}
 use Rattle.page_fill_cells.specs.Cells.{blank, cells_of, cell_of}
 use Rattle.page_fill_rows.specs.machine.Sheets.{passes, letter, letters, space, spaces, new_word, opens, broken, empty_rows}
@@ -75,7 +75,7 @@ new-word-held : (s : Sheet) (n : ℕ) (stands : Bool) (place : Place) → IsHeld
 new-word-held s n true place h = letters-held (opens s) (replicate n blank) place (opens-held s h)
 new-word-held s n false place h = spaces-held (opens s) n place (opens-held s h)
 
-pub opening-held : (e : Edge) (place : Place) → IsHeld e.sheet → IsHeld (opening e place).edge.sheet
+pub opening-held : (e : FillEdge) (place : Place) → IsHeld e.sheet → IsHeld (opening e place).edge.sheet
 unfolding opening
 opening-held e place h = elim (cases_Bool e.word.is_joined) [
   | inl j ↦ rw j h
@@ -95,14 +95,14 @@ glyph-held : (output : Output) (s : Sheet) (name : List ℕ) (font : Font) (plac
 unfolding glyph
 glyph-held output s name font place h = letters-held s (cells_of font (glyph_printed output name).characters) place h
 
-text-held : (e : Edge) (cs : List ℕ) (font : Font) (place : Place) → IsHeld e.sheet → IsHeld (text e cs font place).edge.sheet
+text-held : (e : FillEdge) (cs : List ℕ) (font : Font) (place : Place) → IsHeld e.sheet → IsHeld (text e cs font place).edge.sheet
 unfolding text
 text-held e cs font place h = elim (cases_Bool (length cs == 0)) [
   | inl z ↦ rw z h
   | inr z ↦ rw z (characters-held (opening e place).edge.output (opening e place).edge.sheet cs font place (opening-held e place h))
 ]
 
-tab-held : (e : Edge) (font : Font) (place : Place) → IsHeld e.sheet → IsHeld (tab e font place).edge.sheet
+tab-held : (e : FillEdge) (font : Font) (place : Place) → IsHeld e.sheet → IsHeld (tab e font place).edge.sheet
 unfolding tab
 tab-held e font place h =
     let f = (opening e place).edge in
@@ -118,11 +118,11 @@ broken-held s h = elim (cases_Bool (length s.cells == 0)) [
   | inr z ↦ rw z (record { gap_within = omega arith; word_within = omega arith; bounded = lit≤ tt })
 ]
 
-ended-held : (e : Edge) → IsHeld e.sheet → IsHeld (ended e).edge.sheet
+ended-held : (e : FillEdge) → IsHeld e.sheet → IsHeld (ended e).edge.sheet
 unfolding ended
 ended-held e h = broken-held e.sheet h
 
-heading-held : (e : Edge) → IsHeld e.sheet → IsHeld (heading e).edge.sheet
+heading-held : (e : FillEdge) → IsHeld e.sheet → IsHeld (heading e).edge.sheet
 unfolding heading
 heading-held e h =
     let k = ended-held e h in
@@ -131,19 +131,19 @@ heading-held e h =
       | inr z ↦ rw z (record { gap_within = k.gap_within; word_within = k.word_within; bounded = k.bounded })
     ]
 
-after_tag-held : (e : Edge) (t : OpenTag) → IsHeld e.sheet → IsHeld (after_tag e t).edge.sheet
+after_tag-held : (e : FillEdge) (t : OpenTag) → IsHeld e.sheet → IsHeld (after_tag e t).edge.sheet
 after_tag-held e t h = elim (cases_Bool (fits_hang e.sheet t.hang)) [
   | inl f ↦ rw f h
   | inr f ↦ rw f (elim (cases_Bool t.ends_row) [ inl r ↦ rw r (ended-held e h) | inr r ↦ rw r h ])
 ]
 
-tag-held : (e : Edge) (tag : Option OpenTag) → IsHeld e.sheet → IsHeld (tag_ended e tag).edge.sheet
+tag-held : (e : FillEdge) (tag : Option OpenTag) → IsHeld e.sheet → IsHeld (tag_ended e tag).edge.sheet
 tag-held e None h = ended-held e h
 tag-held e (Some t) h =
     elim e.sheet.tag_begun as (λ b. IsHeld (if b then after_tag e t else nothing (record e { word = no_word })).edge.sheet)
     [ true ↦ after_tag-held e t h | false ↦ h ]
 
-tag_end-held : (e : Edge) (set_in : Option ℕ) → IsHeld e.sheet → IsHeld (tag_end e set_in).edge.sheet
+tag_end-held : (e : FillEdge) (set_in : Option ℕ) → IsHeld e.sheet → IsHeld (tag_end e set_in).edge.sheet
 tag_end-held e None h = tag-held (without_tag e) e.tag h
 tag_end-held e (Some blanks) h = h
 
@@ -151,14 +151,14 @@ empty-held : (s : Sheet) (n : ℕ) → IsHeld s → IsHeld (empty_rows s n).edge
 unfolding empty_rows
 empty-held s n h = record { gap_within = h.gap_within; word_within = h.word_within; bounded = h.bounded }
 
-row_ended-held : (e : Edge) → IsHeld e.sheet → IsHeld (row_ended e).edge.sheet
+row_ended-held : (e : FillEdge) → IsHeld e.sheet → IsHeld (row_ended e).edge.sheet
 unfolding row_ended spaced
 row_ended-held e h = elim (cases_Bool (length e.sheet.cells == 0)) [
   | inl z ↦ rw z (empty-held (ended e).edge.sheet 1 (ended-held e h))
   | inr z ↦ rw z (ended-held e h)
 ]
 
-pub piece-held : (e : Edge) (p : Piece (List ℕ)) → IsHeld e.sheet → IsHeld (laid_piece e p).edge.sheet
+pub piece-held : (e : FillEdge) (p : Piece (List ℕ)) → IsHeld e.sheet → IsHeld (laid_piece e p).edge.sheet
 unfolding laid_piece one_character one_glyph paragraph spaced
 piece-held e (Text bytes font place) h = text-held e (characters_of bytes) font place h
 piece-held e (Glyph name font place) h = glyph-held (opening e place).edge.output (opening e place).edge.sheet name font place (opening-held e place h)

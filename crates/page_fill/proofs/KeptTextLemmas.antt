@@ -19,13 +19,13 @@ use Rattle.page_fill_rows.specs.machine.Plain.{has_part_room, taken}
 use Rattle.page_fill_rows.specs.OpenRows.{Sheet}
 use Rattle.page_fill_rows.proofs.PlainLemmas.{are_plain, characters_of-plain, of-plain}
 use Rattle.page_fill.specs.laws.Views.{AreKept, goes_on, has_kept_room}
-use Rattle.page_fill.specs.declared.edges.Edge.{Edge}
+use Rattle.page_fill.specs.declared.edges.FillEdge.{FillEdge}
 use Rattle.page_fill.specs.machine.Fill.{laid, laid_piece, on_sheet, text}
 use Rattle.page_fill.proofs.LetteredPieces.{text-printable}
 use Rattle.page_fill.proofs.PlainWordLemmas.{character-text, text-part}
 
 -- the row with these cells
-abbrev pub with_cells : Edge → List Cell → Edge
+abbrev pub with_cells : FillEdge → List Cell → FillEdge
 with_cells e [] = e
 with_cells e (cell ∷ cells) = on_sheet e (taken e.sheet (cell ∷ cells))
 
@@ -37,24 +37,24 @@ taken-both s front back some =
     let more : (length (s.cells ++ front) == 0) ≡ false = rw (length-append s.cells front) (grind (arith, nat_tests, some)) in
     rw (some, more, append_assoc s.cells front back, length-append front back, counts-both s.tag_columns (length front) (length back)) refl
 
-with-both : (e : Edge) (front back : List Cell) → (length e.sheet.cells == 0) ≡ false → with_cells (with_cells e front) back ≡ with_cells e (front ++ back)
+with-both : (e : FillEdge) (front back : List Cell) → (length e.sheet.cells == 0) ≡ false → with_cells (with_cells e front) back ≡ with_cells e (front ++ back)
 with-both e [] back some = refl
 with-both e (cell ∷ cells) [] some = rw (append-nil cells) refl
 with-both e (cell ∷ cells) (next ∷ more) some = ap (on_sheet e) (taken-both e.sheet (cell ∷ cells) (next ∷ more) some)
 
-with-goes-on : (e : Edge) (cells : List Cell) → goes_on e ≡ true → goes_on (with_cells e cells) ≡ true
+with-goes-on : (e : FillEdge) (cells : List Cell) → goes_on e ≡ true → goes_on (with_cells e cells) ≡ true
 with-goes-on e [] goes = goes
 with-goes-on e (cell ∷ cells) goes =
     let joined : e.word.is_joined ≡ true = grind (arith, goes) in
     let literal : e.sheet.literal ≡ true = grind (arith, goes) in
     rw (joined, literal, length-append e.sheet.cells (cell ∷ cells)) (grind (arith, nat_tests))
 
-with-length : (e : Edge) (cells : List Cell) → length (with_cells e cells).sheet.cells ≡ length e.sheet.cells + length cells
+with-length : (e : FillEdge) (cells : List Cell) → length (with_cells e cells).sheet.cells ≡ length e.sheet.cells + length cells
 with-length e [] = omega arith
 with-length e (cell ∷ cells) = length-append e.sheet.cells (cell ∷ cells)
 
 -- a text of such a row
-text-kept : (e : Edge) (bytes : List ℕ) (font : Font) (place : Place) → is_kept (Text bytes font place) ≡ true → are_plain (cells_of font bytes) ≡ true
+text-kept : (e : FillEdge) (bytes : List ℕ) (font : Font) (place : Place) → is_kept (Text bytes font place) ≡ true → are_plain (cells_of font bytes) ≡ true
     → goes_on e ≡ true → length e.sheet.cells + length bytes ≤ CELLS → laid_piece e (Text bytes font place) ≡ nothing (on_sheet e (taken e.sheet (cells_of font bytes)))
 unfolding laid_piece
 text-kept e bytes font place kept plain goes room =
@@ -65,7 +65,7 @@ text-kept e bytes font place kept plain goes room =
     ap (λ cs. text e cs font place) (characters_of-plain bytes printable) ∙ text-part e bytes font place printable some joined fits
 
 -- a character of such a row
-char-kept : (e : Edge) (c : ℕ) (font : Font) (place : Place) → are_plain (cell_of font c ∷ []) ≡ true
+char-kept : (e : FillEdge) (c : ℕ) (font : Font) (place : Place) → are_plain (cell_of font c ∷ []) ≡ true
     → goes_on e ≡ true → length e.sheet.cells + 1 ≤ CELLS → laid_piece e (Char c font place) ≡ nothing (on_sheet e (taken e.sheet (cell_of font c ∷ [])))
 unfolding laid_piece
 char-kept e c font place plain goes room =
@@ -75,7 +75,7 @@ char-kept e c font place plain goes room =
     character-text e c font place ∙ text-part e (c ∷ []) font place printable refl joined fits
 
 -- a piece lays its cells
-piece-kept : (e : Edge) (p : Piece (List ℕ)) → is_kept p ≡ true → are_plain (letters_of p) ≡ true → goes_on e ≡ true
+piece-kept : (e : FillEdge) (p : Piece (List ℕ)) → is_kept p ≡ true → are_plain (letters_of p) ≡ true → goes_on e ≡ true
     → length e.sheet.cells + length (letters_of p) ≤ CELLS → laid_piece e p ≡ nothing (with_cells e (letters_of p))
 unfolding laid_piece
 piece-kept e (Text [] font place) kept plain goes room = absurd (grind (arith, kept))
@@ -102,7 +102,7 @@ piece-kept e TagEnd kept plain goes room = absurd (grind (arith, kept))
 piece-kept e Heading kept plain goes room = absurd (grind (arith, kept))
 piece-kept e (Column column) kept plain goes room = absurd (grind (arith, kept))
 
-pieces-kept : (e : Edge) (pieces : List (Piece (List ℕ))) → list_all is_kept pieces ≡ true → are_plain (word_letters pieces) ≡ true → goes_on e ≡ true
+pieces-kept : (e : FillEdge) (pieces : List (Piece (List ℕ))) → list_all is_kept pieces ≡ true → are_plain (word_letters pieces) ≡ true → goes_on e ≡ true
     → length e.sheet.cells + length (word_letters pieces) ≤ CELLS → laid e pieces ≡ nothing (with_cells e (word_letters pieces))
 unfolding laid
 pieces-kept e [] kept plain goes room = refl
@@ -120,12 +120,12 @@ pieces-kept e (p ∷ ps) kept plain goes room =
     (pieces-kept f ps others later (with-goes-on e (letters_of p) goes) (omega (arith, room, len, len-f))
     ∙ ap nothing (with-both e (letters_of p) (word_letters ps) some))
 
-with-some : (e : Edge) (cells : List Cell) → 0 < length cells → with_cells e cells ≡ on_sheet e (taken e.sheet cells)
+with-some : (e : FillEdge) (cells : List Cell) → 0 < length cells → with_cells e cells ≡ on_sheet e (taken e.sheet cells)
 with-some e [] some = absurd (omega (arith, some))
 with-some e (cell ∷ cells) some = refl
 
 -- so do those of characters for which there is room
-pub kept-laid : (e : Edge) (bytes : List ℕ) (font : Font) (pieces : List (Piece (List ℕ))) → has_kept_room e bytes ≡ true → is_printable_ascii bytes ≡ true
+pub kept-laid : (e : FillEdge) (bytes : List ℕ) (font : Font) (pieces : List (Piece (List ℕ))) → has_kept_room e bytes ≡ true → is_printable_ascii bytes ≡ true
     → AreKept bytes font pieces → laid e pieces ≡ nothing (on_sheet e (taken e.sheet (cells_of font bytes)))
 kept-laid e bytes font pieces room printable are =
     let plain : are_plain (word_letters pieces) ≡ true = rw are.1 at (of-plain font bytes printable) in

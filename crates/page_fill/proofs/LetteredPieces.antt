@@ -7,7 +7,7 @@ use Rattle.std.proofs.lemmas.Bool.Decides.{nat_tests}
 use Rattle.page_core_base.specs.declared.cells.Cell.{Cell}
 use Rattle.page_core_base.specs.declared.cells.Font.{Font}
 use Rattle.page_core_base.specs.declared.pieces.Piece.{Piece}
-use Rattle.page_core_base.specs.declared.pieces.Piece.TheVariants.{Text, Glyph, Char, Tab, Blank, Glue, Split, Break, RowEnd, Para, Space, Indent, Literal, Tag, TagEnd, Heading, Column}
+use Rattle.page_core_base.specs.declared.pieces.Piece.TheVariants.{Text, Char, Blank}
 use Rattle.page_core_base.specs.declared.places.Place.{Place}
 use Rattle.page_core_base.specs.declared.limits.TheConstants.{CELLS}
 use Rattle.page_core_base.specs.Rows.{Laid, nothing, join, seq}
@@ -20,7 +20,7 @@ use Rattle.page_fill_rows.proofs.AnywhereLemmas.{letters-anywhere, letters-lengt
 use Rattle.page_fill_rows.proofs.CharacterLemmas.{letters-append}
 use Rattle.page_fill_rows.proofs.PlainLemmas.{are_plain, characters_of-plain}
 use Rattle.page_fill_rows.proofs.WrapLemmas.{both}
-use Rattle.page_fill.specs.declared.edges.Edge.{Edge}
+use Rattle.page_fill.specs.declared.edges.FillEdge.{FillEdge}
 use Rattle.page_fill.specs.Words.{begun_word}
 use Rattle.page_fill.specs.machine.Fill.{laid, laid_piece, on_sheet, opening, text}
 use Rattle.page_fill.proofs.BlankTextLemmas.{goes-on}
@@ -47,10 +47,10 @@ text-printable font (b ∷ text) plain =
 record IsLettered (p : Piece (List ℕ)) : Type 0 where
   pub word : is_word (bytes_of (letters_of p)) ≡ true
   pub place : Place
-  pub laid : (e : Edge) → are_plain (letters_of p) ≡ true
+  pub laid : (e : FillEdge) → are_plain (letters_of p) ≡ true
       → laid_piece e p ≡ join (opening e place) (over (letters (opening e place).edge.sheet (letters_of p) place) (on_sheet (opening e place).edge))
 
-text-laid : (e : Edge) (bytes : List ℕ) (font : Font) (place : Place) → is_word bytes ≡ true → are_plain (cells_of font bytes) ≡ true
+text-laid : (e : FillEdge) (bytes : List ℕ) (font : Font) (place : Place) → is_word bytes ≡ true → are_plain (cells_of font bytes) ≡ true
     → laid_piece e (Text bytes font place)
     ≡ join (opening e place) (over (letters (opening e place).edge.sheet (cells_of font bytes) place) (on_sheet (opening e place).edge))
 unfolding laid_piece
@@ -59,7 +59,7 @@ text-laid e bytes font place word plain =
     let some : (length bytes == 0) ≡ false = grind (arith, nat_tests, word) in
     ap (λ cs. text e cs font place) (characters_of-plain bytes printable) ∙ text-plain e bytes font place printable some
 
-char-laid : (e : Edge) (c : ℕ) (font : Font) (place : Place) → are_plain (cell_of font c ∷ []) ≡ true
+char-laid : (e : FillEdge) (c : ℕ) (font : Font) (place : Place) → are_plain (cell_of font c ∷ []) ≡ true
     → laid_piece e (Char c font place)
     ≡ join (opening e place) (over (letters (opening e place).edge.sheet (cell_of font c ∷ []) place) (on_sheet (opening e place).edge))
 unfolding laid_piece
@@ -69,21 +69,7 @@ char-laid e c font place plain =
 lettered : (p : Piece (List ℕ)) → is_lettered p ≡ true → IsLettered p
 lettered (Text bytes font place) is = record { word = rw (text-bytes font bytes) is; place = place; laid = λ e plain. text-laid e bytes font place is plain }
 lettered (Char c font place) is = record { word = grind (arith, nat_tests, is); place = place; laid = λ e plain. char-laid e c font place plain }
-lettered (Glyph name font place) is = absurd (grind (arith, is))
-lettered (Tab font place) is = absurd (grind (arith, is))
-lettered (Blank count has_tab) is = absurd (grind (arith, is))
-lettered Glue is = absurd (grind (arith, is))
-lettered Split is = absurd (grind (arith, is))
-lettered Break is = absurd (grind (arith, is))
-lettered RowEnd is = absurd (grind (arith, is))
-lettered (Para n) is = absurd (grind (arith, is))
-lettered (Space n) is = absurd (grind (arith, is))
-lettered (Indent first rest) is = absurd (grind (arith, is))
-lettered (Literal literal) is = absurd (grind (arith, is))
-lettered (Tag hang form) is = absurd (grind (arith, is))
-lettered TagEnd is = absurd (grind (arith, is))
-lettered Heading is = absurd (grind (arith, is))
-lettered (Column n) is = absurd (grind (arith, is))
+lettered _ is = absurd (grind (arith, is))
 
 -- ---- a word
 
@@ -123,7 +109,7 @@ back-is-plain front back plain = let both = parts-of-plain front back plain in g
 -- ---- what they lay
 
 -- pieces of the row's last word
-pieces-go-on : (e : Edge) (word : List (Piece (List ℕ))) (place : Place) → e.word.is_joined ≡ true → list_all is_lettered word ≡ true
+pieces-go-on : (e : FillEdge) (word : List (Piece (List ℕ))) (place : Place) → e.word.is_joined ≡ true → list_all is_lettered word ≡ true
     → are_plain (word_letters word) ≡ true → length e.sheet.cells + length (word_letters word) ≤ CELLS
     → laid e word ≡ over (letters e.sheet (word_letters word) place) (on_sheet e)
 unfolding laid letters
@@ -144,24 +130,24 @@ pieces-go-on e (p ∷ word) place joined all plain room =
     let grown = letters-length e.sheet own place within in
     let f = on_sheet e first.edge in
     let others = pieces-go-on f word place joined more (back-is-plain own rest plain) (omega (arith, len, grown, room)) in
-    ap (λ (m : Laid Edge). seq m (λ g. laid g word)) here
-    ∙ (ap (λ (m : Laid Edge). join (over first (on_sheet e)) m) others
+    ap (λ (m : Laid FillEdge). seq m (λ g. laid g word)) here
+    ∙ (ap (λ (m : Laid FillEdge). join (over first (on_sheet e)) m) others
     ∙ ap (λ (m : Laid Sheet). over m (on_sheet e)) (sym (letters-append e.sheet own rest place)))
 
 -- blanks wait
-abbrev waiting : Edge → ℕ → Edge
+abbrev waiting : FillEdge → ℕ → FillEdge
 waiting e n = record e { word = record { is_joined = false; is_open = false; is_placed = false; blanks = n; has_tab = false; is_reported = e.word.is_reported } }
 
 -- a word was begun
-abbrev pub begun_on : Edge → Sheet → Edge
+abbrev pub begun_on : FillEdge → Sheet → FillEdge
 begun_on e s = record e { sheet = s; word = begun_word false }
 
-blank-waits : (e : Edge) (n : ℕ) → e.word.is_placed ≡ false → laid_piece e (Blank n false) ≡ nothing (waiting e n)
+blank-waits : (e : FillEdge) (n : ℕ) → e.word.is_placed ≡ false → laid_piece e (Blank n false) ≡ nothing (waiting e n)
 unfolding laid_piece
 blank-waits e n placed = rw placed refl
 
 -- a word after blanks that lay something, wherever they are
-after-blanks : (e : Edge) (n : ℕ) (word : List (Piece (List ℕ))) (blanks : Laid Sheet) (place : Place) → e.word.is_placed ≡ false → is_lettered_word word ≡ true
+after-blanks : (e : FillEdge) (n : ℕ) (word : List (Piece (List ℕ))) (blanks : Laid Sheet) (place : Place) → e.word.is_placed ≡ false → is_lettered_word word ≡ true
     → are_plain (word_letters word) ≡ true → length blanks.edge.cells + length (word_letters word) ≤ CELLS
     → ((p : Place) → opening (waiting e n) p ≡ over blanks (begun_on e))
     → laid e (Blank n false ∷ word) ≡ over (join blanks (letters blanks.edge (word_letters word) place)) (begun_on e)
@@ -184,13 +170,13 @@ after-blanks e n (p ∷ word) blanks place placed is plain room opened =
     let others : laid (begun_on e first.edge) word ≡ over (letters first.edge rest place) (begun_on e) =
     pieces-go-on (begun_on e first.edge) word place refl more (back-is-plain own rest plain) (omega (arith, len, grown, room)) in
     rw (blank-waits e n placed)
-    (ap (λ (m : Laid Edge). seq m (λ g. laid g word)) here
-    ∙ (ap (λ (m : Laid Edge). join (over (join blanks first) (begun_on e)) m) others
+    (ap (λ (m : Laid FillEdge). seq m (λ g. laid g word)) here
+    ∙ (ap (λ (m : Laid FillEdge). join (over (join blanks first) (begun_on e)) m) others
     ∙ (ap (λ (m : Laid Sheet). over m (begun_on e)) (join_assoc blanks first (letters first.edge rest place))
     ∙ ap (λ (m : Laid Sheet). over (join blanks m) (begun_on e)) (sym (letters-append blanks.edge own rest place)))))
 
 -- a word after one blank
-pub word-laid : (e : Edge) (word : List (Piece (List ℕ))) (place : Place) → e.word.is_placed ≡ false → e.sheet.literal ≡ false → (length e.sheet.cells == 0) ≡ false
+pub word-laid : (e : FillEdge) (word : List (Piece (List ℕ))) (place : Place) → e.word.is_placed ≡ false → e.sheet.literal ≡ false → (length e.sheet.cells == 0) ≡ false
     → is_lettered_word word ≡ true → are_plain (word_letters word) ≡ true → length e.sheet.cells + 1 + length (word_letters word) ≤ CELLS
     → laid e (Blank 1 false ∷ word) ≡ over (both e.sheet (word_letters word) place) (begun_on e)
 word-laid e word place placed filled some is plain room =
@@ -200,7 +186,7 @@ word-laid e word place placed filled some is plain room =
     (λ p. opening-one (waiting e 1) p refl refl refl filled some ∙ ap (λ (m : Laid Sheet). over m (begun_on e)) (space-anywhere (opens e.sheet) p place free))
 
 -- a word after blanks with which it has room in the row
-pub word-laid-after : (e : Edge) (m : ℕ) (word : List (Piece (List ℕ))) (place : Place) → e.word.is_placed ≡ false → is_lettered_word word ≡ true
+pub word-laid-after : (e : FillEdge) (m : ℕ) (word : List (Piece (List ℕ))) (place : Place) → e.word.is_placed ≡ false → is_lettered_word word ≡ true
     → are_plain (word_letters word) ≡ true → has_word_room e.sheet (suc m) (length (word_letters word)) ≡ true
     → laid e (Blank (suc m) false ∷ word) ≡ over (letters (spaced_by e.sheet (suc m)) (word_letters word) place) (begun_on e)
 word-laid-after e m word place placed is plain room =

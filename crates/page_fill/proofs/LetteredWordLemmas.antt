@@ -26,7 +26,7 @@ use Rattle.page_fill_rows.proofs.PlainLemmas.{are_plain, cells-fit, columns-blan
 use Rattle.page_fill_rows.proofs.WordStartLemmas.{start-append}
 use Rattle.page_fill_rows.proofs.WrapLemmas.{both, both-cells}
 use Rattle.page_fill.specs.laws.Views.{AreWords, first_letters, fits_after, is_in_row}
-use Rattle.page_fill.specs.declared.edges.Edge.{Edge}
+use Rattle.page_fill.specs.declared.edges.FillEdge.{FillEdge}
 use Rattle.page_fill.specs.machine.Fill.{laid}
 use Rattle.page_fill.specs.machine.LetteredWords.{AreSpaced, LaysUpTo, LaysWords}
 use Rattle.page_fill.specs.machine.PlainWords.{next_front, whole_words}
@@ -220,7 +220,7 @@ both-taken s n front back k j =
     ∙ ap (λ (t : ℕ). row_with s whole (if length front + (1 + j) == 0 then length s.cells else length s.cells + n + (length front + (1 + j) - 1)) (length s.cells + n + (length front + (1 + j))) t) tag))
 
 -- the row took blanks and words
-abbrev words_on : Edge → ℕ → List Cell → ℕ → Edge
+abbrev words_on : FillEdge → ℕ → List Cell → ℕ → FillEdge
 words_on e blanks cells start = begun_on e (words_taken e.sheet blanks cells start)
 
 -- where no message is, it does not matter where a word is
@@ -243,7 +243,7 @@ word-some word is =
     let len = length-map (word_letters word) (λ (cell : Cell). cell.c) in
     grind (arith, nat_tests, w, len)
 
-word-fits : (e : Edge) (m : ℕ) (word : List (Piece (List ℕ))) → e.word.is_placed ≡ false → is_lettered_word word ≡ true → are_plain (word_letters word) ≡ true
+word-fits : (e : FillEdge) (m : ℕ) (word : List (Piece (List ℕ))) → e.word.is_placed ≡ false → is_lettered_word word ≡ true → are_plain (word_letters word) ≡ true
     → HasFree e.sheet (suc m + length (word_letters word)) → laid e (Blank (suc m) false ∷ word) ≡ nothing (words_on e (suc m) (word_letters word) 0)
 word-fits e m word placed is plain free =
     let cells = word_letters word in
@@ -255,7 +255,7 @@ word-fits e m word placed is plain free =
 last-start : (word : List (Piece (List ℕ))) → is_lettered_word word ≡ true → word_start (bytes_of (word_letters word)) ≡ 0
 last-start word is = start-letters (word_bytes word) (word-letters (word_bytes word) (word-is word is))
 
-words-fit : (e : Edge) (m : ℕ) (word : List (Piece (List ℕ))) (words : List (List (Piece (List ℕ)))) → e.word.is_placed ≡ false
+words-fit : (e : FillEdge) (m : ℕ) (word : List (Piece (List ℕ))) (words : List (List (Piece (List ℕ)))) → e.word.is_placed ≡ false
     → list_all is_lettered_word (word ∷ words) ≡ true → are_plain (joined_cells (word ∷ words)) ≡ true → HasFree e.sheet (suc m + length (joined_cells (word ∷ words)))
     → laid e (lettered_pieces (suc m) (word ∷ words)) ≡ nothing (words_on e (suc m) (joined_cells (word ∷ words)) (word_start (bytes_of (joined_cells (word ∷ words)))))
 unfolding lettered_cells lettered_pieces laid
@@ -285,12 +285,12 @@ words-fit e m word (more ∷ words) placed all plain free =
     ∙ (start-append (bytes_of cells) (32 ∷ bytes_of back) (start-some (bytes_of back)) ∙ omega (arith, size, one)) in
     let next = words-fit f 0 more words refl (others-are word (more ∷ words) all) others free_back in
     laid-append e (Blank (suc m) false ∷ word) (lettered_pieces 1 (more ∷ words))
-    ∙ (ap (λ (l : Laid Edge). join l (laid l.edge (lettered_pieces 1 (more ∷ words)))) (word-fits e m word placed is first room)
+    ∙ (ap (λ (l : Laid FillEdge). join l (laid l.edge (lettered_pieces 1 (more ∷ words)))) (word-fits e m word placed is first room)
     ∙ (next
     ∙ (ap (λ (s : Sheet). nothing (begun_on e s)) (both-taken e.sheet (suc m) cells back 0 start)
     ∙ ap (λ n. nothing (words_on e (suc m) (cells ++ blank ∷ back) n)) (sym last))))
 
-some-words : (e : Edge) (m : ℕ) (words : List (List (Piece (List ℕ)))) → is_in_row e ≡ true → list_all is_lettered_word words ≡ true
+some-words : (e : FillEdge) (m : ℕ) (words : List (List (Piece (List ℕ)))) → is_in_row e ≡ true → list_all is_lettered_word words ≡ true
     → are_plain (joined_cells words) ≡ true → 0 < length (joined_cells words) → suc m + length (joined_cells words) ≤ free_cells e.sheet
     → laid e (lettered_pieces (suc m) words) ≡ nothing (words_on e (suc m) (joined_cells words) (word_start (bytes_of (joined_cells words))))
 some-words e m [] ready all plain there within = absurd (omega (arith, there))
@@ -302,7 +302,7 @@ some-words e m (word ∷ words) ready all plain there within =
 
 -- ---- the first words of a text
 
-words-ready : (e : Edge) (blanks : ℕ) (cells : List Cell) (start : ℕ) → is_in_row e ≡ true → is_in_row (words_on e blanks cells start) ≡ true
+words-ready : (e : FillEdge) (blanks : ℕ) (cells : List Cell) (start : ℕ) → is_in_row e ≡ true → is_in_row (words_on e blanks cells start) ≡ true
 words-ready e blanks cells start ready =
     let front = length-append e.sheet.cells (replicate blanks blank) in
     let len = length-append (e.sheet.cells ++ replicate blanks blank) cells in
@@ -348,7 +348,7 @@ whole-front text fonts end room same plain is least above words are =
     }
 
 -- those that the row has room for
-some-fits : (e : Edge) (m : ℕ) (text : List ℕ) (fonts : List Font) (end : ℕ) → length fonts ≡ length text → is_printable_ascii text ≡ true
+some-fits : (e : FillEdge) (m : ℕ) (text : List ℕ) (fonts : List Font) (end : ℕ) → length fonts ≡ length text → is_printable_ascii text ≡ true
     → end ≡ whole_words text (free_cells e.sheet - suc m) → suc m + end ≤ free_cells e.sheet → end ≤ length text → 0 < end
     → LaysUpTo e (suc m) text fonts (drop end text) (drop end fonts)
     (nothing (begun_on e (words_taken e.sheet (suc m) (cells_in (take end text) (take end fonts)) (word_start (take end text)))))
@@ -365,10 +365,10 @@ some-fits e m text fonts end same plain is within least above = λ words are rea
       words-ready e (suc m) (cells_in (take end text) (take end fonts)) (word_start (take end text)) ready,
       ap (laid e) (split-first (suc m) words f.count some)
           ∙ (laid-append e (lettered_pieces (suc m) front) (lettered_pieces 1 others)
-          ∙ ap (λ (l : Laid Edge). join l (laid l.edge (lettered_pieces 1 others))) laid_is),
+          ∙ ap (λ (l : Laid FillEdge). join l (laid l.edge (lettered_pieces 1 others))) laid_is),
     )
 
-pub front-fits : (e : Edge) (blanks : ℕ) (text : List ℕ) (fonts : List Font) (end : ℕ) → 0 < blanks → length fonts ≡ length text → is_printable_ascii text ≡ true
+pub front-fits : (e : FillEdge) (blanks : ℕ) (text : List ℕ) (fonts : List Font) (end : ℕ) → 0 < blanks → length fonts ≡ length text → is_printable_ascii text ≡ true
     → end ≡ whole_words text (free_cells e.sheet - blanks) → blanks + end ≤ free_cells e.sheet → end ≤ length text → 0 < end
     → LaysUpTo e blanks text fonts (drop end text) (drop end fonts)
     (nothing (begun_on e (words_taken e.sheet blanks (cells_in (take end text) (take end fonts)) (word_start (take end text)))))
@@ -388,7 +388,7 @@ word-ends s count filled some room short =
     grind (arith, nat_tests, filled, some, room, wide)
 
 -- after more blanks than one, the first word has room
-fits-first : (e : Edge) (blanks : ℕ) (text : List ℕ) → is_in_row e ≡ true → length e.sheet.cells + blanks + length text ≤ CELLS → fits_after e blanks text ≡ true
+fits-first : (e : FillEdge) (blanks : ℕ) (text : List ℕ) → is_in_row e ≡ true → length e.sheet.cells + blanks + length text ≤ CELLS → fits_after e blanks text ≡ true
     → blanks + first_letters text ≤ free_cells e.sheet
 fits-first e blanks text ready room fits =
     let filled : e.sheet.literal ≡ false = grind (arith, ready) in
@@ -398,7 +398,7 @@ fits-first e blanks text ready room fits =
     rw (filled, some) (omega (arith, room, wide, least))
 
 -- where it has none, there is one
-is-one : (e : Edge) (blanks : ℕ) (text : List ℕ) → is_in_row e ≡ true → length e.sheet.cells + blanks + length text ≤ CELLS → (blanks == 1 || fits_after e blanks text) ≡ true
+is-one : (e : FillEdge) (blanks : ℕ) (text : List ℕ) → is_in_row e ≡ true → length e.sheet.cells + blanks + length text ≤ CELLS → (blanks == 1 || fits_after e blanks text) ≡ true
     → free_cells e.sheet - blanks < first_letters text → blanks ≡ 1
 is-one e blanks text ready room fits short = elim (cases_Bool (blanks == 1)) [
   | inl one ↦ grind (arith, nat_tests, one)
@@ -409,7 +409,7 @@ is-one e blanks text ready room fits short = elim (cases_Bool (blanks == 1)) [
 ]
 
 -- the first one, before which the row ends
-first-wraps : (e : Edge) (blanks : ℕ) (text : List ℕ) (fonts : List Font) (word : List (Piece (List ℕ))) (words : List (List (Piece (List ℕ)))) → length fonts ≡ length text
+first-wraps : (e : FillEdge) (blanks : ℕ) (text : List ℕ) (fonts : List Font) (word : List (Piece (List ℕ))) (words : List (List (Piece (List ℕ)))) → length fonts ≡ length text
     → is_printable_ascii text ≡ true → length e.sheet.cells + blanks + length text ≤ CELLS → (blanks == 1 || fits_after e blanks text) ≡ true
     → whole_words text (free_cells e.sheet - blanks) ≡ 0 → AreWords text fonts (word ∷ words) → is_in_row e ≡ true
     → (blanks ≡ 1) × (laid e (Blank 1 false ∷ word) ≡ over (wraps_plain e.sheet (word_letters word)) (begun_on e))
@@ -438,10 +438,10 @@ first-wraps e blanks text fonts word words same plain room fits none are ready =
     )
 
 -- it alone begins the next row
-wraps-first : (e : Edge) (blanks : ℕ) (text : List ℕ) (fonts : List Font) (end : ℕ) → length fonts ≡ length text → is_printable_ascii text ≡ true → 0 < length text
+wraps-first : (e : FillEdge) (blanks : ℕ) (text : List ℕ) (fonts : List Font) (end : ℕ) → length fonts ≡ length text → is_printable_ascii text ≡ true → 0 < length text
     → length e.sheet.cells + blanks + length text ≤ CELLS → (blanks == 1 || fits_after e blanks text) ≡ true → whole_words text (free_cells e.sheet - blanks) ≡ 0 → end ≡ word_end text
     → (words : List (List (Piece (List ℕ)))) → AreWords text fonts words → is_in_row e ≡ true
-    → let given : Laid Edge = over (wraps_words e.sheet (cells_in (take end text) (take end fonts)) (word_start (take end text))) (begun_on e) in
+    → let given : Laid FillEdge = over (wraps_words e.sheet (cells_in (take end text) (take end fonts)) (word_start (take end text))) (begun_on e) in
     (left : List (List (Piece (List ℕ)))) × AreSpaced (drop end text) (drop end fonts) left × (is_in_row given.edge ≡ true)
     × (laid e (lettered_pieces blanks words) ≡ join given (laid given.edge (lettered_pieces 1 left)))
 unfolding lettered_pieces
@@ -468,9 +468,9 @@ wraps-first e blanks text fonts end same plain some room fits none is (word ∷ 
     let wrapped = first-wraps e blanks text fonts word words same plain room fits none are ready in
     let filled : e.sheet.literal ≡ false = grind (arith, ready) in
     let there = word-some word first in
-    let given : Laid Edge = over (wraps_plain e.sheet cells) (begun_on e) in
+    let given : Laid FillEdge = over (wraps_plain e.sheet cells) (begun_on e) in
     let all_laid : laid e (lettered_pieces blanks (word ∷ words)) ≡ join given (laid given.edge (lettered_pieces 1 words)) =
-    rw wrapped.0 (laid-append e (Blank 1 false ∷ word) (lettered_pieces 1 words) ∙ ap (λ (l : Laid Edge). join l (laid l.edge (lettered_pieces 1 words))) wrapped.1) in (
+    rw wrapped.0 (laid-append e (Blank 1 false ∷ word) (lettered_pieces 1 words) ∙ ap (λ (l : Laid FillEdge). join l (laid l.edge (lettered_pieces 1 words))) wrapped.1) in (
       words,
       (others-are word words are.0, others),
       rw own (grind (arith, nat_tests, filled, there)),
@@ -521,7 +521,7 @@ free-begun s front count filled some plain room above =
     }
 
 -- the first words, before which the row ends
-words-wrap : (e : Edge) (word : List (Piece (List ℕ))) (words : List (List (Piece (List ℕ)))) → e.sheet.literal ≡ false → list_all is_lettered_word (word ∷ words) ≡ true
+words-wrap : (e : FillEdge) (word : List (Piece (List ℕ))) (words : List (List (Piece (List ℕ)))) → e.sheet.literal ≡ false → list_all is_lettered_word (word ∷ words) ≡ true
     → are_plain (joined_cells (word ∷ words)) ≡ true → length (joined_cells (word ∷ words)) ≤ next_free_cells e.sheet
     → laid e (Blank 1 false ∷ word) ≡ over (wraps_plain e.sheet (word_letters word)) (begun_on e)
     → laid e (lettered_pieces 1 (word ∷ words))
@@ -550,15 +550,15 @@ words-wrap e word (more ∷ words) filled all plain room first =
     ap word_start (map-append (λ (cell : Cell). cell.c) cells (blank ∷ back))
     ∙ (start-append (bytes_of cells) (32 ∷ bytes_of back) (start-some (bytes_of back)) ∙ omega (arith, size, one)) in
     let next = words-fit f 0 more words refl (others-are word (more ∷ words) all) others free in
-    let given : Laid Edge = over (wraps_plain e.sheet cells) (begun_on e) in
+    let given : Laid FillEdge = over (wraps_plain e.sheet cells) (begun_on e) in
     laid-append e (Blank 1 false ∷ word) (lettered_pieces 1 (more ∷ words))
-    ∙ (ap (λ (l : Laid Edge). join l (laid l.edge (lettered_pieces 1 (more ∷ words)))) first
-    ∙ (ap (λ (l : Laid Edge). join given l) next
+    ∙ (ap (λ (l : Laid FillEdge). join l (laid l.edge (lettered_pieces 1 (more ∷ words)))) first
+    ∙ (ap (λ (l : Laid FillEdge). join given l) next
     ∙ (ap (λ (s : Sheet). join given (nothing (begun_on e s))) (begun-taken t cells back start)
     ∙ ap (λ (n : ℕ). join given (nothing (begun_on e (begun_with t (cells ++ blank ∷ back) n)))) (sym last))))
 
 -- a count of the words is among them
-counted-wrap : (e : Edge) (word : List (Piece (List ℕ))) (words : List (List (Piece (List ℕ)))) (n : ℕ) → e.sheet.literal ≡ false
+counted-wrap : (e : FillEdge) (word : List (Piece (List ℕ))) (words : List (List (Piece (List ℕ)))) (n : ℕ) → e.sheet.literal ≡ false
     → list_all is_lettered_word (take n (word ∷ words)) ≡ true → are_plain (joined_cells (take n (word ∷ words))) ≡ true
     → length (joined_cells (take n (word ∷ words))) ≤ next_free_cells e.sheet → 0 < length (joined_cells (take n (word ∷ words)))
     → laid e (Blank 1 false ∷ word) ≡ over (wraps_plain e.sheet (word_letters word)) (begun_on e)
@@ -567,16 +567,16 @@ counted-wrap : (e : Edge) (word : List (Piece (List ℕ))) (words : List (List (
 counted-wrap e word words zero filled all plain room some first = absurd (omega (arith, some))
 counted-wrap e word words (suc n) filled all plain room some first = words-wrap e word (take n words) filled all plain room first
 
-wrapped-ready : (e : Edge) (cells : List Cell) (start : ℕ) → e.sheet.literal ≡ false → 0 < length cells
+wrapped-ready : (e : FillEdge) (cells : List Cell) (start : ℕ) → e.sheet.literal ≡ false → 0 < length cells
     → is_in_row (over (wraps_words e.sheet cells start) (begun_on e)).edge ≡ true
 wrapped-ready e cells start filled some = grind (arith, nat_tests, filled, some)
 
 -- they are those that the next row has room for
-wraps-more : (e : Edge) (blanks : ℕ) (text : List ℕ) (fonts : List Font) (end : ℕ) → length fonts ≡ length text → is_printable_ascii text ≡ true → 0 < length text
+wraps-more : (e : FillEdge) (blanks : ℕ) (text : List ℕ) (fonts : List Font) (end : ℕ) → length fonts ≡ length text → is_printable_ascii text ≡ true → 0 < length text
     → length e.sheet.cells + blanks + length text ≤ CELLS → (blanks == 1 || fits_after e blanks text) ≡ true → whole_words text (free_cells e.sheet - blanks) ≡ 0
     → end ≡ whole_words text (next_free_cells e.sheet) → end ≤ next_free_cells e.sheet → end ≤ length text → 0 < end
     → (words : List (List (Piece (List ℕ)))) → AreWords text fonts words → is_in_row e ≡ true
-    → let given : Laid Edge = over (wraps_words e.sheet (cells_in (take end text) (take end fonts)) (word_start (take end text))) (begun_on e) in
+    → let given : Laid FillEdge = over (wraps_words e.sheet (cells_in (take end text) (take end fonts)) (word_start (take end text))) (begun_on e) in
     (left : List (List (Piece (List ℕ)))) × AreSpaced (drop end text) (drop end fonts) left × (is_in_row given.edge ≡ true)
     × (laid e (lettered_pieces blanks words) ≡ join given (laid given.edge (lettered_pieces 1 left)))
 wraps-more e blanks text fonts end same plain some room fits none is within least above [] are ready =
@@ -591,14 +591,14 @@ wraps-more e blanks text fonts end same plain some room fits none is within leas
     let wrapped = first-wraps e blanks text fonts word words same plain room fits none are ready in
     let fits_next : length (joined_cells front) ≤ next_free_cells e.sheet = omega (arith, f.size, within) in
     let wraps = counted-wrap e word words f.count filled f.all f.plain fits_next there wrapped.1 in
-    let given : Laid Edge = over (wraps_words e.sheet (joined_cells front) (word_start (bytes_of (joined_cells front)))) (begun_on e) in
+    let given : Laid FillEdge = over (wraps_words e.sheet (joined_cells front) (word_start (bytes_of (joined_cells front)))) (begun_on e) in
     let all_laid : laid e (lettered_pieces blanks (word ∷ words)) ≡ join given (laid given.edge (lettered_pieces 1 others)) =
     rw wrapped.0
     (ap (laid e) (split-first 1 (word ∷ words) f.count there)
-    ∙ (laid-append e (lettered_pieces 1 front) (lettered_pieces 1 others) ∙ ap (λ (l : Laid Edge). join l (laid l.edge (lettered_pieces 1 others))) wraps)) in
+    ∙ (laid-append e (lettered_pieces 1 front) (lettered_pieces 1 others) ∙ ap (λ (l : Laid FillEdge). join l (laid l.edge (lettered_pieces 1 others))) wraps)) in
     (others, f.rest, rw f.cells (wrapped-ready e (joined_cells front) (word_start (take end text)) filled there), rw (f.cells, f.bytes) all_laid)
 
-pub front-wraps : (e : Edge) (blanks : ℕ) (text : List ℕ) (fonts : List Font) (end : ℕ) → length fonts ≡ length text → is_printable_ascii text ≡ true → 0 < length text
+pub front-wraps : (e : FillEdge) (blanks : ℕ) (text : List ℕ) (fonts : List Font) (end : ℕ) → length fonts ≡ length text → is_printable_ascii text ≡ true → 0 < length text
     → length e.sheet.cells + blanks + length text ≤ CELLS → (blanks == 1 || fits_after e blanks text) ≡ true → whole_words text (free_cells e.sheet - blanks) ≡ 0
     → whole_words text (next_free_cells e.sheet) ≤ next_free_cells e.sheet → end ≤ length text → end ≡ next_front e.sheet text
     → LaysUpTo e blanks text fonts (drop end text) (drop end fonts)
@@ -632,7 +632,7 @@ after-blank (b ∷ rest) (font ∷ own) (word ∷ words) same some are =
     let sum = length-append (word_letters word) (lettered_cells words) in
     (omega (arith, above, size, len, sum), (are.0, cells))
 
-pub lays-more : (e : Edge) (blanks : ℕ) (text : List ℕ) (fonts : List Font) (rest : List ℕ) (own : List Font) (given more : Laid Edge) (end next : ℕ) → length own ≡ length rest
+pub lays-more : (e : FillEdge) (blanks : ℕ) (text : List ℕ) (fonts : List Font) (rest : List ℕ) (own : List Font) (given more : Laid FillEdge) (end next : ℕ) → length own ≡ length rest
     → end < length rest → LaysUpTo e blanks text fonts (drop end rest) (drop end own) given
     → (0 < length (drop (end + 1) rest)
     → LaysUpTo given.edge 1 (drop (end + 1) rest) (drop (end + 1) own) (drop next (drop (end + 1) rest)) (drop next (drop (end + 1) own)) more)
@@ -648,14 +648,14 @@ lays-more e blanks text fonts rest own given more end next same within lays fron
     let some : 0 < length (drop (end + 1) rest) = rw texts at after.0 in
     let there : AreWords (drop (end + 1) rest) (drop (end + 1) own) left = rw (texts, owns) at after.1 in
     let f = front some left there u.2 in
-    (f.0, f.1, f.2, u.3 ∙ (ap (λ (l : Laid Edge). join given l) f.3 ∙ sym (join_assoc given more (laid more.edge (lettered_pieces 1 f.0)))))
+    (f.0, f.1, f.2, u.3 ∙ (ap (λ (l : Laid FillEdge). join given l) f.3 ∙ sym (join_assoc given more (laid more.edge (lettered_pieces 1 f.0)))))
 
 none-left : (words : List (List (Piece (List ℕ)))) → [] ≡ lettered_cells words → words ≡ []
 unfolding lettered_cells
 none-left [] is = refl
 none-left (word ∷ words) is = let len = ap (λ (cells : List Cell). length cells) is in absurd (omega (arith, len))
 
-pub lays-all : (e : Edge) (blanks : ℕ) (text : List ℕ) (fonts : List Font) (rest : List ℕ) (own : List Font) (given : Laid Edge) → length rest ≡ 0
+pub lays-all : (e : FillEdge) (blanks : ℕ) (text : List ℕ) (fonts : List Font) (rest : List ℕ) (own : List Font) (given : Laid FillEdge) → length rest ≡ 0
     → LaysUpTo e blanks text fonts rest own given → LaysWords e blanks text fonts given
 unfolding lettered_pieces laid
 lays-all e blanks text fonts [] own given none lays = λ words are ready.

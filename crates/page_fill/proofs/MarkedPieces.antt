@@ -6,7 +6,7 @@ use Rattle.page_core_base.specs.declared.cells.Cell.{Cell}
 use Rattle.page_core_base.specs.declared.cells.Font.{Font}
 use Rattle.page_core_base.specs.declared.page_settings.Output.{Output}
 use Rattle.page_core_base.specs.declared.pieces.Piece.{Piece}
-use Rattle.page_core_base.specs.declared.pieces.Piece.TheVariants.{Text, Glyph, Char, Tab, Blank, Glue, Split, Break, RowEnd, Para, Space, Indent, Literal, Tag, TagEnd, Heading, Column}
+use Rattle.page_core_base.specs.declared.pieces.Piece.TheVariants.{Text, Glyph, Char, Tab, Blank, Glue, Split}
 use Rattle.page_core_base.specs.declared.places.Place.{Place}
 use Rattle.page_core_base.specs.Rows.{Laid, nothing, join, seq}
 use Rattle.page_core_tables.specs.Glyphs.{Printing, char_printed, glyph_printed}
@@ -16,7 +16,7 @@ use Rattle.page_fill_rows.specs.OpenRows.{Sheet, over, with_notes, characters_of
 use Rattle.page_fill_cells.specs.Cells.{blank, cell_of, cells_of}
 use Rattle.page_fill_rows.specs.machine.Sheets.{letter, letters, space, spaces, new_word, opens, passes}
 use Rattle.page_fill_rows.specs.laws.Views.{put, character, characters, glyph}
-use Rattle.page_fill.specs.declared.edges.Edge.{Edge}
+use Rattle.page_fill.specs.declared.edges.FillEdge.{FillEdge}
 use Rattle.page_fill.specs.machine.Fill.{laid_piece, text, one_character, one_glyph, tab, opening, reports_tab, stands, fixed_tab, filled_tab, on_sheet, blanks_wait, opened_word, glued_word}
 use Rattle.page_fill.specs.Words.{tab_notes, begun_word, after_cell, word_after}
 use Rattle.page_fill.proofs.Marks.{Mark, reported, opened, spaced, lettered, letters_of, printed_marks, character_marks, text_marks, tab_marks, blank_marks, opening_marks, is_of_words, piece_marks}
@@ -115,18 +115,18 @@ run-literal s (m ∷ ms) = run-literal (step s m).edge ms ∙ step-literal s m
 -- ---- pieces
 
 -- the same with another sheet and word
-abbrev pub with_word : Edge → OpenWord → Sheet → Edge
+abbrev pub with_word : FillEdge → OpenWord → Sheet → FillEdge
 with_word e w s = record e { sheet = s; word = w }
 
-two-runs : (e : Edge) (w : OpenWord) (xs ys : List Mark)
+two-runs : (e : FillEdge) (w : OpenWord) (xs ys : List Mark)
     → seq (over (run e.sheet xs) (with_word e w)) (λ f. over (run f.sheet ys) (on_sheet f)) ≡ over (run e.sheet (xs ++ ys)) (with_word e w)
 two-runs e w xs ys = ap (λ l. over l (with_word e w)) (sym (run-append e.sheet xs ys))
 
 -- whether the blanks that wait are cells of the next word, where the row was empty or not when they were placed
-abbrev pub AreStanding : Edge → Bool → Type 0
+abbrev pub AreStanding : FillEdge → Bool → Type 0
 AreStanding e empty = stands e ≡ (e.sheet.literal || (e.word.is_placed && empty))
 
-pub opening-run : (e : Edge) (empty : Bool) (place : Place) → AreStanding e empty
+pub opening-run : (e : FillEdge) (empty : Bool) (place : Place) → AreStanding e empty
     → opening e place ≡ over (run e.sheet (opening_marks e.sheet.literal empty e.word place)) (with_word e (after_cell e.sheet.literal e.word))
 unfolding opening run
 opening-run e empty place same = elim (cases_Bool e.word.is_joined) [
@@ -141,40 +141,40 @@ opening-run e empty place same = elim (cases_Bool e.word.is_joined) [
       )
 ]
 
-text-run : (e : Edge) (empty : Bool) (cs : List ℕ) (font : Font) (place : Place) → AreStanding e empty → (length cs == 0) ≡ false
+text-run : (e : FillEdge) (empty : Bool) (cs : List ℕ) (font : Font) (place : Place) → AreStanding e empty → (length cs == 0) ≡ false
     → text e cs font place ≡ over (run e.sheet (opening_marks e.sheet.literal empty e.word place ++ text_marks e.output cs font place)) (with_word e (after_cell e.sheet.literal e.word))
 unfolding text
 text-run e empty cs font place h some =
     let xs = opening_marks e.sheet.literal empty e.word place in
     let w = after_cell e.sheet.literal e.word in
     rw some (
-    ap (λ (l : Laid Edge). seq l (λ f. over (characters f.output f.sheet cs font place) (on_sheet f))) (opening-run e empty place h)
+    ap (λ (l : Laid FillEdge). seq l (λ f. over (characters f.output f.sheet cs font place) (on_sheet f))) (opening-run e empty place h)
     ∙ (ap (λ (l : Laid Sheet). seq (over (run e.sheet xs) (with_word e w)) (λ f. over l (on_sheet f))) (characters-run e.output (run e.sheet xs).edge cs font place)
     ∙ two-runs e w xs (text_marks e.output cs font place))
     )
 
-one_character-run : (e : Edge) (empty : Bool) (c : ℕ) (font : Font) (place : Place) → AreStanding e empty
+one_character-run : (e : FillEdge) (empty : Bool) (c : ℕ) (font : Font) (place : Place) → AreStanding e empty
     → one_character e c font place ≡ over (run e.sheet (opening_marks e.sheet.literal empty e.word place ++ character_marks e.output c font place)) (with_word e (after_cell e.sheet.literal e.word))
 unfolding one_character
 one_character-run e empty c font place h =
     let xs = opening_marks e.sheet.literal empty e.word place in
     let w = after_cell e.sheet.literal e.word in
-    ap (λ (l : Laid Edge). seq l (λ f. over (character f.output f.sheet c font place) (on_sheet f))) (opening-run e empty place h)
+    ap (λ (l : Laid FillEdge). seq l (λ f. over (character f.output f.sheet c font place) (on_sheet f))) (opening-run e empty place h)
     ∙ (ap (λ (l : Laid Sheet). seq (over (run e.sheet xs) (with_word e w)) (λ f. over l (on_sheet f))) (character-run e.output (run e.sheet xs).edge c font place)
     ∙ two-runs e w xs (character_marks e.output c font place))
 
-one_glyph-run : (e : Edge) (empty : Bool) (name : List ℕ) (font : Font) (place : Place) → AreStanding e empty
+one_glyph-run : (e : FillEdge) (empty : Bool) (name : List ℕ) (font : Font) (place : Place) → AreStanding e empty
     → one_glyph e name font place ≡ over (run e.sheet (opening_marks e.sheet.literal empty e.word place ++ printed_marks (glyph_printed e.output name) font place)) (with_word e (after_cell e.sheet.literal e.word))
 unfolding one_glyph
 one_glyph-run e empty name font place h =
     let xs = opening_marks e.sheet.literal empty e.word place in
     let w = after_cell e.sheet.literal e.word in
-    ap (λ (l : Laid Edge). seq l (λ f. over (glyph f.output f.sheet name font place) (on_sheet f))) (opening-run e empty place h)
+    ap (λ (l : Laid FillEdge). seq l (λ f. over (glyph f.output f.sheet name font place) (on_sheet f))) (opening-run e empty place h)
     ∙ (ap (λ (l : Laid Sheet). seq (over (run e.sheet xs) (with_word e w)) (λ f. over l (on_sheet f))) (glyph-run e.output (run e.sheet xs).edge name font place)
     ∙ two-runs e w xs (printed_marks (glyph_printed e.output name) font place))
 
 -- a tab after an opening
-tab_cell-run : (e : Edge) (w : OpenWord) (xs : List Mark) (font : Font) (place : Place)
+tab_cell-run : (e : FillEdge) (w : OpenWord) (xs : List Mark) (font : Font) (place : Place)
     → seq (over (run e.sheet xs) (with_word e w)) (λ f. filled_tab f font place)
     ≡ over (run e.sheet (xs ++ (tab_marks (not w.is_reported) place ++ lettered (cell_of font 32) place ∷ []))) (with_word e (record w { is_reported = true }))
 tab_cell-run e w xs font place =
@@ -183,7 +183,7 @@ tab_cell-run e w xs font place =
     ap (λ (l : Laid Sheet). over (join (run e.sheet xs) l) (with_word e (record w { is_reported = true }))) last
     ∙ ap (λ l. over l (with_word e (record w { is_reported = true }))) (sym (run-append e.sheet xs (tab_marks (not w.is_reported) place ++ lettered (cell_of font 32) place ∷ [])))
 
-pub tab-run : (e : Edge) (empty : Bool) (font : Font) (place : Place) → AreStanding e empty → e.sheet.literal ≡ false
+pub tab-run : (e : FillEdge) (empty : Bool) (font : Font) (place : Place) → AreStanding e empty → e.sheet.literal ≡ false
     → tab e font place ≡ over (run e.sheet (opening_marks e.sheet.literal empty e.word place ++ (tab_marks (not (after_cell e.sheet.literal e.word).is_reported) place ++ lettered (cell_of font 32) place ∷ [])))
     (with_word e (record (after_cell e.sheet.literal e.word) { is_reported = true }))
 unfolding tab
@@ -191,14 +191,14 @@ tab-run e empty font place h fill =
     let xs = opening_marks e.sheet.literal empty e.word place in
     let w = after_cell e.sheet.literal e.word in
     let still : (run e.sheet xs).edge.literal ≡ false = run-literal e.sheet xs ∙ fill in
-    ap (λ (l : Laid Edge). seq l (λ f. if f.sheet.literal then fixed_tab f place else filled_tab f font place)) (opening-run e empty place h)
+    ap (λ (l : Laid FillEdge). seq l (λ f. if f.sheet.literal then fixed_tab f place else filled_tab f font place)) (opening-run e empty place h)
     ∙ (rw still refl ∙ tab_cell-run e w xs font place)
 
-text-empty : (e : Edge) (cs : List ℕ) (font : Font) (place : Place) → (length cs == 0) ≡ true → text e cs font place ≡ nothing (record e { word = opened_word e.word })
+text-empty : (e : FillEdge) (cs : List ℕ) (font : Font) (place : Place) → (length cs == 0) ≡ true → text e cs font place ≡ nothing (record e { word = opened_word e.word })
 unfolding text
 text-empty e cs font place z = rw z refl
 
-pub piece-run : (e : Edge) (empty : Bool) (p : Piece (List ℕ)) → AreStanding e empty → is_of_words e.sheet.literal p ≡ true
+pub piece-run : (e : FillEdge) (empty : Bool) (p : Piece (List ℕ)) → AreStanding e empty → is_of_words e.sheet.literal p ≡ true
     → laid_piece e p ≡ over (run e.sheet (piece_marks e.output e.sheet.literal empty e.word p)) (with_word e (word_after e.sheet.literal e.word p))
 unfolding laid_piece run
 piece-run e empty (Text bytes font place) h k = elim (cases_Bool (length (characters_of bytes) == 0)) [
@@ -211,16 +211,7 @@ piece-run e empty (Tab font place) h k = tab-run e empty font place h (elim (cas
 piece-run e empty (Blank count has_tab) h k = refl
 piece-run e empty Glue h k = refl
 piece-run e empty Split h k = elim (cases_Bool (e.word.is_joined && not e.sheet.literal)) [ inl b ↦ rw b refl | inr b ↦ rw b refl ]
-piece-run e empty Break h k = cc
-piece-run e empty RowEnd h k = cc
-piece-run e empty (Para n) h k = cc
-piece-run e empty (Space n) h k = cc
-piece-run e empty (Indent first rest) h k = cc
-piece-run e empty (Literal b) h k = cc
-piece-run e empty (Tag hang form) h k = cc
-piece-run e empty TagEnd h k = cc
-piece-run e empty Heading h k = cc
-piece-run e empty (Column n) h k = cc
+piece-run e empty _ h k = cc
 
 -- ---- what waits after a piece
 
@@ -240,30 +231,20 @@ sound-after literal w (Char c font place) h = sound-unplaced (after_cell literal
 sound-after literal w (Tab font place) h = sound-unplaced (record (after_cell literal w) { is_reported = true }) (unplaced-cell literal w h)
 sound-after literal w (Blank count has_tab) h = elim (cases_Bool w.is_placed) [ inl p ↦ rw p (rw p at h) | inr p ↦ rw p refl ]
 sound-after literal w Glue h = elim (cases_Bool w.is_open) [ inl o ↦ rw o h | inr o ↦ rw o refl ]
-sound-after literal w Split h = h
-sound-after literal w Break h = h
-sound-after literal w RowEnd h = h
-sound-after literal w (Para n) h = h
-sound-after literal w (Space n) h = h
-sound-after literal w (Indent first rest) h = h
-sound-after literal w (Literal b) h = h
-sound-after literal w (Tag hang form) h = h
-sound-after literal w TagEnd h = h
-sound-after literal w Heading h = h
-sound-after literal w (Column n) h = h
+sound-after literal w _ h = h
 
 -- a word that isn't placed
-unplaced-stands : (e : Edge) (empty : Bool) (w : OpenWord) (s : Sheet) → w.is_placed ≡ false → AreStanding (with_word e w s) empty
+unplaced-stands : (e : FillEdge) (empty : Bool) (w : OpenWord) (s : Sheet) → w.is_placed ≡ false → AreStanding (with_word e w s) empty
 unplaced-stands e empty w s h = rw h refl
 
 -- nothing was put yet
-same-stands : (e : Edge) (empty : Bool) (w : OpenWord) → (e.word.is_placed ≡ false → w.is_placed ≡ false) → AreStanding e empty → AreStanding (with_word e w e.sheet) empty
+same-stands : (e : FillEdge) (empty : Bool) (w : OpenWord) → (e.word.is_placed ≡ false → w.is_placed ≡ false) → AreStanding e empty → AreStanding (with_word e w e.sheet) empty
 same-stands e empty w keeps same = elim (cases_Bool e.word.is_placed) [
   | inl p ↦ elim (cases_Bool w.is_placed) [ inl q ↦ rw q (rw p at same) | inr q ↦ unplaced-stands e empty w e.sheet q ]
   | inr p ↦ unplaced-stands e empty w e.sheet (keeps p)
 ]
 
-pub stands-after : (e : Edge) (empty : Bool) (p : Piece (List ℕ)) → is_sound e.word ≡ true → AreStanding e empty
+pub stands-after : (e : FillEdge) (empty : Bool) (p : Piece (List ℕ)) → is_sound e.word ≡ true → AreStanding e empty
     → AreStanding (with_word e (word_after e.sheet.literal e.word p) (run e.sheet (piece_marks e.output e.sheet.literal empty e.word p)).edge) empty
 unfolding run
 stands-after e empty (Text bytes font place) h same = elim (cases_Bool (length (characters_of bytes) == 0)) [
@@ -278,13 +259,4 @@ stands-after e empty (Tab font place) h same = unplaced-stands e empty (record (
 stands-after e empty (Blank count has_tab) h same = same-stands e empty (blanks_wait e.word count has_tab) (λ u. rw u refl) same
 stands-after e empty Glue h same = same-stands e empty (glued_word e.word) (λ u. elim (cases_Bool e.word.is_open) [ inl o ↦ rw o u | inr o ↦ rw o refl ]) same
 stands-after e empty Split h same = elim (cases_Bool (e.word.is_joined && not e.sheet.literal)) [ inl b ↦ rw b same | inr b ↦ rw b same ]
-stands-after e empty Break h same = same-stands e empty e.word (λ u. u) same
-stands-after e empty RowEnd h same = same-stands e empty e.word (λ u. u) same
-stands-after e empty (Para n) h same = same-stands e empty e.word (λ u. u) same
-stands-after e empty (Space n) h same = same-stands e empty e.word (λ u. u) same
-stands-after e empty (Indent first rest) h same = same-stands e empty e.word (λ u. u) same
-stands-after e empty (Literal b) h same = same-stands e empty e.word (λ u. u) same
-stands-after e empty (Tag hang form) h same = same-stands e empty e.word (λ u. u) same
-stands-after e empty TagEnd h same = same-stands e empty e.word (λ u. u) same
-stands-after e empty Heading h same = same-stands e empty e.word (λ u. u) same
-stands-after e empty (Column n) h same = same-stands e empty e.word (λ u. u) same
+stands-after e empty _ h same = same-stands e empty e.word (λ u. u) same

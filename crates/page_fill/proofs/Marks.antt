@@ -5,7 +5,7 @@ use Rattle.page_core_base.specs.declared.cells.Cell.{Cell}
 use Rattle.page_core_base.specs.declared.cells.Font.{Font}
 use Rattle.page_core_base.specs.declared.page_settings.Output.{Output}
 use Rattle.page_core_base.specs.declared.pieces.Piece.{Piece}
-use Rattle.page_core_base.specs.declared.pieces.Piece.TheVariants.{Text, Glyph, Char, Tab, Blank, Glue, Split, Break, RowEnd, Para, Space, Indent, Literal, Tag, TagEnd, Heading, Column}
+use Rattle.page_core_base.specs.declared.pieces.Piece.TheVariants.{Text, Glyph, Char, Tab, Blank, Glue, Split}
 use Rattle.page_core_base.specs.declared.places.Place.{Place}
 use Rattle.page_core_base.specs.Messages.{Message}
 use Rattle.page_core_tables.specs.Glyphs.{Printing, char_printed, glyph_printed}
@@ -64,16 +64,7 @@ is_of_words literal (Tab font place) = not literal
 is_of_words literal (Blank count has_tab) = true
 is_of_words literal Glue = true
 is_of_words literal Split = true
-is_of_words literal Break = false
-is_of_words literal RowEnd = false
-is_of_words literal (Para n) = false
-is_of_words literal (Space n) = false
-is_of_words literal (Indent first rest) = false
-is_of_words literal (Literal b) = false
-is_of_words literal (Tag hang form) = false
-is_of_words literal TagEnd = false
-is_of_words literal Heading = false
-is_of_words literal (Column n) = false
+is_of_words literal _ = false
 
 abbrev pub piece_marks : Output → Bool → Bool → OpenWord → Piece (List ℕ) → List Mark
 piece_marks output literal empty w (Text bytes font place) = if length (characters_of bytes) == 0 then [] else opening_marks literal empty w place ++ text_marks output (characters_of bytes) font place

@@ -12,14 +12,14 @@ use Rattle.page_core_base.specs.declared.places.Place.{Place}
 use Rattle.page_core_base.specs.Rows.{Laid, nothing, seq, Item, shown}
 use Rattle.page_core_base.specs.declared.limits.TheConstants.{CELLS}
 use Rattle.page_core_tables.specs.Glyphs.{char_printed, known}
-use Rattle.page_fill.specs.declared.edges.Edge.{Edge}
+use Rattle.page_fill.specs.declared.edges.FillEdge.{FillEdge}
 use Rattle.page_fill.specs.declared.edges.OpenWord.{OpenWord}
-use Rattle.page_fill.specs.Words.{begun_word, cell_content, text_content, Words, words_of, word_after_items, frame_of, open_row_of, next_edge, going_on}
+use Rattle.page_fill.specs.Words.{begun_word, cell_content, text_content, RowWords, words_of, word_after_items, frame_of, open_row_of, next_edge, going_on}
 use Rattle.page_fill_rows.specs.OpenRows.{Sheet, characters_of}
 use Rattle.page_fill_cells.specs.Cells.{columns, blank, cell_of, cells_of}
 use Rattle.page_core_base.specs.laws.Views.{is_printable, is_printable_ascii}
 use Rattle.page_fill_rows.proofs.PlainLemmas.{characters_of-plain, columns-plain, first-plain, rest-plain}
-use Rattle.page_fill.specs.Filled.{Word, Frame, Row, first_word, outcome, one_word, rest_of_word, filling}
+use Rattle.page_fill.specs.Filled.{RowWord, Frame, RowSoFar, first_word, outcome, one_word, rest_of_word, filling}
 use Rattle.page_fill.specs.Filling.{groups, filled}
 use Rattle.page_fill.specs.machine.Words.{with_word, word_wrapped}
 use Rattle.page_fill.proofs.GlueLaw.{seq-nothing, one-group, laid-by}
@@ -53,24 +53,24 @@ some-plain bytes plain some = let e : (length bytes == 0) ≡ false = grind (ari
 
 -- ---- words that go on from an open row
 
-nothing-left : (frame : Frame) (row : Row) → rest_of_word frame row [] ≡ nothing row
+nothing-left : (frame : Frame) (row : RowSoFar) → rest_of_word frame row [] ≡ nothing row
 unfolding first_word outcome
 nothing-left frame row = elim (cases_Bool (row.gap == 0)) [ inl z ↦ rw z refl | inr z ↦ rw z refl ]
 
-abbrev later : List Word → Words
+abbrev later : List RowWord → RowWords
 later words = record { first = []; later = words }
 
-later-words : (s : Sheet) (words : List Word) → going_on s (later words) ≡ filling (frame_of s) (open_row_of s) words
-later-words s words = ap (λ (l : Laid Row). seq l (λ r. filling (frame_of s) r words)) (nothing-left (frame_of s) (open_row_of s))
+later-words : (s : Sheet) (words : List RowWord) → going_on s (later words) ≡ filling (frame_of s) (open_row_of s) words
+later-words s words = ap (λ (l : Laid RowSoFar). seq l (λ r. filling (frame_of s) r words)) (nothing-left (frame_of s) (open_row_of s))
 
-one-word : (frame : Frame) (row : Row) (n : ℕ) (cells : List Cell) (p q : Place) → filling frame row (apart n cells p q ∷ []) ≡ one_word frame row (apart n cells p q)
+one-word : (frame : Frame) (row : RowSoFar) (n : ℕ) (cells : List Cell) (p q : Place) → filling frame row (apart n cells p q ∷ []) ≡ one_word frame row (apart n cells p q)
 unfolding filling
 one-word frame row n cells p q = seq-nothing (one_word frame row (apart n cells p q))
 
-word-before : (frame : Frame) (row next : Row) (n : ℕ) (cells : List Cell) (p q : Place) (words : List Word) → one_word frame row (apart n cells p q) ≡ nothing next
+word-before : (frame : Frame) (row next : RowSoFar) (n : ℕ) (cells : List Cell) (p q : Place) (words : List RowWord) → one_word frame row (apart n cells p q) ≡ nothing next
     → filling frame row (apart n cells p q ∷ words) ≡ filling frame next words
 unfolding filling
-word-before frame row next n cells p q words step = ap (λ (l : Laid Row). seq l (λ r. filling frame r words)) step
+word-before frame row next n cells p q words step = ap (λ (l : Laid RowSoFar). seq l (λ r. filling frame r words)) step
 
 -- ---- the words of the pieces
 
@@ -112,7 +112,7 @@ parts-words output literal empty w a b font place new untabbed fill begun plain 
 
 -- ---- a part
 
-part-laid : (e : Edge) (b : List ℕ) (font : Font) (place : Place) → e.word.is_joined ≡ true → e.sheet.literal ≡ false → is_printable_ascii b ≡ true → 0 < length b
+part-laid : (e : FillEdge) (b : List ℕ) (font : Font) (place : Place) → e.word.is_joined ≡ true → e.sheet.literal ≡ false → is_printable_ascii b ≡ true → 0 < length b
     → filled e (part b font place) ≡ next_edge e e.word (one_word (frame_of e.sheet) (open_row_of e.sheet) (apart 0 (cells_of font b) nowhere place))
 unfolding groups
 part-laid e b font place joined fill plain some =
@@ -122,7 +122,7 @@ part-laid e b font place joined fill plain some =
     ∙ (laid-by e (part b font place) e.word (later (word ∷ [])) (part-after e.sheet.literal e.word b font place joined s) (part-words e.output e.sheet.literal (length e.sheet.cells == 0) e.word b font place joined fill plain s)
     ∙ ap (next_edge e e.word) (later-words e.sheet (word ∷ []) ∙ one-word (frame_of e.sheet) (open_row_of e.sheet) 0 (cells_of font b) nowhere place))
 
-pub next-fits : (e : Edge) (b : List ℕ) (font : Font) (place : Place) → e.word.is_joined ≡ true → e.sheet.literal ≡ false → 0 < length e.sheet.cells
+pub next-fits : (e : FillEdge) (b : List ℕ) (font : Font) (place : Place) → e.word.is_joined ≡ true → e.sheet.literal ≡ false → 0 < length e.sheet.cells
     → is_printable_ascii b ≡ true → 0 < length b → length e.sheet.cells + length b ≤ CELLS
     → e.sheet.margin + columns e.sheet.cells + length b ≤ e.sheet.width
     → filled e (shown Split ∷ shown (Text b font place) ∷ []) ≡ next_edge e e.word (nothing (with_word (open_row_of e.sheet) 0 (cells_of font b)))
@@ -135,7 +135,7 @@ next-fits e b font place joined fill begun plain some room fits =
 filling-rows : (s : Sheet) → s.literal ≡ false → (frame_of s).fills ≡ true
 filling-rows s fill = rw fill refl
 
-pub next-passes : (e : Edge) (b : List ℕ) (font : Font) (place : Place) → e.word.is_joined ≡ true → e.sheet.literal ≡ false → 0 < length e.sheet.cells
+pub next-passes : (e : FillEdge) (b : List ℕ) (font : Font) (place : Place) → e.word.is_joined ≡ true → e.sheet.literal ≡ false → 0 < length e.sheet.cells
     → is_printable_ascii b ≡ true → 0 < length b → length e.sheet.cells + length b ≤ CELLS
     → e.sheet.margin + columns e.sheet.cells ≤ e.sheet.width → e.sheet.width < e.sheet.margin + columns e.sheet.cells + length b
     → filled e (shown Split ∷ shown (Text b font place) ∷ []) ≡ next_edge e e.word (word_wrapped (frame_of e.sheet) (open_row_of e.sheet) 0 (cells_of font b))
@@ -147,7 +147,7 @@ next-passes e b font place joined fill begun plain some room fits past =
 
 -- ---- a word of two parts
 
-parts-laid : (e : Edge) (a b : List ℕ) (font : Font) (place : Place) → e.word.is_joined ≡ false → e.word.has_tab ≡ false → e.sheet.literal ≡ false → 0 < length e.sheet.cells
+parts-laid : (e : FillEdge) (a b : List ℕ) (font : Font) (place : Place) → e.word.is_joined ≡ false → e.word.has_tab ≡ false → e.sheet.literal ≡ false → 0 < length e.sheet.cells
     → is_printable_ascii a ≡ true → 0 < length a → is_printable_ascii b ≡ true → 0 < length b
     → length e.sheet.cells + e.word.blanks + length a ≤ CELLS → e.sheet.margin + columns e.sheet.cells + e.word.blanks + length a ≤ e.sheet.width
     → filled e (two_parts a b font place) ≡ next_edge e (begun_word false)
@@ -179,7 +179,7 @@ with-length : (cells : List Cell) (n : ℕ) (a : List ℕ) (font : Font) → len
 with-length cells n a font =
     omega (arith, length-append cells (replicate n blank ++ cells_of font a), length-append (replicate n blank) (cells_of font a), length-replicate n blank, length-map a (cell_of font))
 
-pub both-fit : (e : Edge) (a b : List ℕ) (font : Font) (place : Place) → e.word.is_joined ≡ false → e.word.has_tab ≡ false → e.sheet.literal ≡ false
+pub both-fit : (e : FillEdge) (a b : List ℕ) (font : Font) (place : Place) → e.word.is_joined ≡ false → e.word.has_tab ≡ false → e.sheet.literal ≡ false
     → 0 < length e.sheet.cells → is_printable_ascii a ≡ true → 0 < length a → is_printable_ascii b ≡ true → 0 < length b
     → length e.sheet.cells + e.word.blanks + length a + length b ≤ CELLS
     → e.sheet.margin + columns e.sheet.cells + e.word.blanks + length a + length b ≤ e.sheet.width
@@ -194,7 +194,7 @@ both-fit e a b font place new untabbed fill begun plain some plain' some' room f
     parts-laid e a b font place new untabbed fill begun plain some plain' some' (omega arith) (omega arith)
     ∙ ap (next_edge e (begun_word false)) (word-fits (frame_of e.sheet) row 0 (cells_of font b) nowhere place (omega arith) (omega arith) (omega arith))
 
-pub second-passes : (e : Edge) (a b : List ℕ) (font : Font) (place : Place) → e.word.is_joined ≡ false → e.word.has_tab ≡ false → e.sheet.literal ≡ false
+pub second-passes : (e : FillEdge) (a b : List ℕ) (font : Font) (place : Place) → e.word.is_joined ≡ false → e.word.has_tab ≡ false → e.sheet.literal ≡ false
     → 0 < length e.sheet.cells → is_printable_ascii a ≡ true → 0 < length a → is_printable_ascii b ≡ true → 0 < length b
     → length e.sheet.cells + e.word.blanks + length a + length b ≤ CELLS
     → e.sheet.margin + columns e.sheet.cells + e.word.blanks + length a ≤ e.sheet.width

@@ -12,11 +12,11 @@ use Rattle.page_fill_rows.specs.laws.Views.{character, characters}
 use Rattle.page_fill_rows.specs.machine.Plain.{has_part_room, has_room, has_word_room, spaced_by, taken}
 use Rattle.page_core_base.specs.laws.Views.{is_printable_ascii}
 use Rattle.page_fill_rows.proofs.PlainLemmas.{characters-plain, letters-fits, spaces-fit}
-use Rattle.page_fill.specs.declared.edges.Edge.{Edge}
+use Rattle.page_fill.specs.declared.edges.FillEdge.{FillEdge}
 use Rattle.page_fill.specs.machine.Fill.{text, one_character, opening, on_sheet, stands}
 use Rattle.page_fill.specs.Words.{begun_word}
 
-pub text-plain : (e : Edge) (bytes : List ℕ) (font : Font) (place : Place) → is_printable_ascii bytes ≡ true → (length bytes == 0) ≡ false
+pub text-plain : (e : FillEdge) (bytes : List ℕ) (font : Font) (place : Place) → is_printable_ascii bytes ≡ true → (length bytes == 0) ≡ false
     → text e bytes font place
     ≡ join (opening e place) (over (letters (opening e place).edge.sheet (cells_of font bytes) place) (on_sheet (opening e place).edge))
 unfolding text
@@ -25,7 +25,7 @@ text-plain e bytes font place plain some =
 
 -- ---- a text that goes on with the row's last word
 
-pub text-part : (e : Edge) (bytes : List ℕ) (font : Font) (place : Place) → is_printable_ascii bytes ≡ true → (length bytes == 0) ≡ false
+pub text-part : (e : FillEdge) (bytes : List ℕ) (font : Font) (place : Place) → is_printable_ascii bytes ≡ true → (length bytes == 0) ≡ false
     → e.word.is_joined ≡ true → has_part_room e.sheet (length bytes) ≡ true
     → text e bytes font place ≡ nothing (on_sheet e (taken e.sheet (cells_of font bytes)))
 unfolding opening
@@ -35,7 +35,7 @@ text-part e bytes font place plain some joined room =
 
 -- ---- a character
 
-pub character-text : (e : Edge) (c : ℕ) (font : Font) (place : Place) → one_character e c font place ≡ text e (c ∷ []) font place
+pub character-text : (e : FillEdge) (c : ℕ) (font : Font) (place : Place) → one_character e c font place ≡ text e (c ∷ []) font place
 unfolding one_character text characters
 character-text e c font place =
     let f = (opening e place).edge in
@@ -43,7 +43,7 @@ character-text e c font place =
 
 -- ---- the blanks before a word
 
-pub opening-fits : (e : Edge) (m n : ℕ) (place : Place) → e.word.is_joined ≡ false → e.word.has_tab ≡ false → e.word.blanks ≡ suc m
+pub opening-fits : (e : FillEdge) (m n : ℕ) (place : Place) → e.word.is_joined ≡ false → e.word.has_tab ≡ false → e.word.blanks ≡ suc m
     → has_word_room e.sheet (suc m) n ≡ true → opening e place ≡ nothing (record e { sheet = spaced_by e.sheet (suc m); word = begun_word false })
 unfolding opening
 opening-fits e m n place joined tab is room =
@@ -54,7 +54,7 @@ opening-fits e m n place joined tab is room =
     let narrow : e.sheet.margin + columns e.sheet.cells + suc m ≤ e.sheet.width = grind (arith, nat_tests, room) in
     rw (joined, tab, is, stood, spaces-fit (opens e.sheet) m place literal some within narrow) refl
 
-pub opening-one : (e : Edge) (place : Place) → e.word.is_joined ≡ false → e.word.has_tab ≡ false → e.word.blanks ≡ 1 → e.sheet.literal ≡ false
+pub opening-one : (e : FillEdge) (place : Place) → e.word.is_joined ≡ false → e.word.has_tab ≡ false → e.word.blanks ≡ 1 → e.sheet.literal ≡ false
     → (length e.sheet.cells == 0) ≡ false → opening e place ≡ over (space (opens e.sheet) place) (λ s. record e { sheet = s; word = begun_word false })
 unfolding opening spaces
 opening-one e place joined tab one literal some =

@@ -12,7 +12,7 @@ use Rattle.page_core_base.specs.Rows.{nothing}
 use Rattle.page_core_base.specs.declared.limits.TheConstants.{CELLS}
 use Rattle.page_fill_rows.specs.declared.TheConstants.{TAG_COLUMNS}
 use Rattle.page_fill_cells.specs.Cells.{columns, cell_columns, blank}
-use Rattle.page_fill.specs.Filled.{CellOrNote, shown, Word, Frame, Row, opens, before_word, with_cell, first_word, Outcome, fits, too_wide, outcome, by_word, by_blanks, one_word}
+use Rattle.page_fill.specs.Filled.{CellOrNote, shown, RowWord, Frame, RowSoFar, opens, before_word, with_cell, first_word, WordOutcome, fits, too_wide, outcome, by_word, by_blanks, one_word}
 use Rattle.page_fill.specs.Words.{cell_content}
 use Rattle.page_fill.specs.machine.Words.{is_wide, tally, has_cell, tallied, fitting, with_word, word_wrapped, word_first}
 
@@ -50,20 +50,20 @@ has_cell-append b (c ∷ cs) ys = has_cell-append true cs ys
 -- ---- cells
 
 -- the row with more cells
-abbrev pub more : Row → List Cell → Row
+abbrev pub more : RowSoFar → List Cell → RowSoFar
 more row cells = record (tallied row cells) { cells = row.cells ++ cells }
 
-not-wide : (frame : Frame) (row : Row) (c : Cell) → row.margin + columns row.cells + cell_columns c ≤ frame.width → is_wide frame row c ≡ false
+not-wide : (frame : Frame) (row : RowSoFar) (c : Cell) → row.margin + columns row.cells + cell_columns c ≤ frame.width → is_wide frame row c ≡ false
 not-wide frame row c h = grind (arith, nat_tests)
 
-within : (frame : Frame) (row : Row) (c : Cell) → frame.fills ≡ true → is_wide frame row c ≡ false → row.margin + columns row.cells + cell_columns c ≤ frame.width
+within : (frame : Frame) (row : RowSoFar) (c : Cell) → frame.fills ≡ true → is_wide frame row c ≡ false → row.margin + columns row.cells + cell_columns c ≤ frame.width
 within frame row c fill h = grind (arith, nat_tests)
 
-not-full : (row : Row) → length row.cells < CELLS → (length row.cells == CELLS) ≡ false
+not-full : (row : RowSoFar) → length row.cells < CELLS → (length row.cells == CELLS) ≡ false
 not-full row room = grind (arith, nat_tests)
 
 -- cells that fit
-cells-fit : (frame : Frame) (row : Row) (cs : List Cell) (place : Place) → length row.cells + length cs ≤ CELLS → row.margin + columns row.cells + columns cs ≤ frame.width
+cells-fit : (frame : Frame) (row : RowSoFar) (cs : List Cell) (place : Place) → length row.cells + length cs ≤ CELLS → row.margin + columns row.cells + columns cs ≤ frame.width
     → outcome frame row (cell_content place cs) ≡ fits [] (more row cs)
 unfolding outcome
 cells-fit frame row [] place room fit = rw (append-nil row.cells) refl
@@ -75,11 +75,11 @@ cells-fit frame row (c ∷ cs) place room fit =
     rw (here, free, rest, append_assoc) refl
 
 -- cells of which one passes the width
-pub record PassesAt (frame : Frame) (row : Row) (content : List CellOrNote) : Type 0 where
-  pub taken : Row
+pub record PassesAt (frame : Frame) (row : RowSoFar) (content : List CellOrNote) : Type 0 where
+  pub taken : RowSoFar
   pub is : outcome frame row content ≡ too_wide taken
 
-cells-pass : (frame : Frame) (row : Row) (cs : List Cell) (place : Place) → frame.fills ≡ true → length row.cells + length cs ≤ CELLS
+cells-pass : (frame : Frame) (row : RowSoFar) (cs : List Cell) (place : Place) → frame.fills ≡ true → length row.cells + length cs ≤ CELLS
     → row.margin + columns row.cells ≤ frame.width → frame.width < row.margin + columns row.cells + columns cs → PassesAt frame row (cell_content place cs)
 unfolding outcome
 cells-pass frame row [] place fill room fit past = absurd (omega (arith, sum_by-nil))
@@ -94,7 +94,7 @@ cells-pass frame row (c ∷ cs) place fill room fit past = elim (cases_Bool (is_
 ]
 
 -- cells of a row's first word, which has begun
-first-more : (frame : Frame) (row : Row) (cs : List Cell) (place : Place) → 0 < length row.cells → length row.cells + length cs ≤ CELLS
+first-more : (frame : Frame) (row : RowSoFar) (cs : List Cell) (place : Place) → 0 < length row.cells → length row.cells + length cs ≤ CELLS
     → first_word frame row (cell_content place cs) ≡ nothing (more row cs)
 unfolding first_word
 first-more frame row [] place some room = rw (append-nil row.cells) refl
@@ -106,7 +106,7 @@ first-more frame row (c ∷ cs) place some room =
     rw (free, begun, rest, append_assoc) refl
 
 -- a word that begins a row
-first-begins : (frame : Frame) (row : Row) (c : Cell) (cs : List Cell) (place : Place) → length row.cells ≡ 0 → length (c ∷ cs) ≤ CELLS
+first-begins : (frame : Frame) (row : RowSoFar) (c : Cell) (cs : List Cell) (place : Place) → length row.cells ≡ 0 → length (c ∷ cs) ≤ CELLS
     → first_word frame row (cell_content place (c ∷ cs)) ≡ nothing (word_first frame row (c ∷ cs))
 unfolding first_word
 first-begins frame row c cs place none room =
@@ -121,7 +121,7 @@ blanks-shown : (n : ℕ) (place : Place) → replicate n (shown blank place) ≡
 blanks-shown zero place = refl
 blanks-shown (suc n) place = ap (λ l. shown blank place ∷ l) (blanks-shown n place)
 
-blanks-fit : (frame : Frame) (row : Row) (n : ℕ) (place : Place) → length row.cells + n ≤ CELLS → row.margin + columns row.cells + n ≤ frame.width
+blanks-fit : (frame : Frame) (row : RowSoFar) (n : ℕ) (place : Place) → length row.cells + n ≤ CELLS → row.margin + columns row.cells + n ≤ frame.width
     → outcome frame row (replicate n (shown blank place)) ≡ fits [] (more row (replicate n blank))
 blanks-fit frame row n place room fit =
     let b = columns-blanks n in
@@ -129,7 +129,7 @@ blanks-fit frame row n place room fit =
     ap (outcome frame row) (blanks-shown n place) ∙ cells-fit frame row (replicate n blank) place (omega arith) (omega arith)
 
 -- blanks of which one passes the width, after those that fit
-blanks-pass : (frame : Frame) (row : Row) (n k : ℕ) (place : Place) → frame.fills ≡ true → length row.cells + n ≤ CELLS → k ≡ fitting frame row
+blanks-pass : (frame : Frame) (row : RowSoFar) (n k : ℕ) (place : Place) → frame.fills ≡ true → length row.cells + n ≤ CELLS → k ≡ fitting frame row
     → k < n → outcome frame row (replicate n (shown blank place)) ≡ too_wide (more row (replicate k blank))
 unfolding outcome
 blanks-pass frame row zero k place fill room is past = absurd (omega arith)
@@ -146,33 +146,33 @@ blanks-pass frame row (suc n) (suc k) place fill room is past =
 -- ---- a word with its blanks
 
 -- a word of cells; messages about its blanks name one place, those about its cells another
-abbrev pub apart : ℕ → List Cell → Place → Place → Word
+abbrev pub apart : ℕ → List Cell → Place → Place → RowWord
 apart n cells p q = record { notes = []; blanks = n; place = p; content = cell_content q cells }
 
-not-empty : (row : Row) → 0 < length row.cells → (length row.cells == 0) ≡ false
+not-empty : (row : RowSoFar) → 0 < length row.cells → (length row.cells == 0) ≡ false
 not-empty row some = grind (arith, nat_tests)
 
-word-begun : (frame : Frame) (row : Row) (n : ℕ) (cells : List Cell) (p q : Place) (o : Outcome) → 0 < length row.cells → outcome frame (opens row) (replicate n (shown blank p)) ≡ o
+word-begun : (frame : Frame) (row : RowSoFar) (n : ℕ) (cells : List Cell) (p q : Place) (o : WordOutcome) → 0 < length row.cells → outcome frame (opens row) (replicate n (shown blank p)) ≡ o
     → one_word frame row (apart n cells p q) ≡ by_blanks frame (cell_content q cells) o
 word-begun frame row n cells p q o some is = let z = not-empty row some in rw (z, is) refl
 
 -- the row with the blanks before its next word
-abbrev pub gapped : Row → ℕ → Row
+abbrev pub gapped : RowSoFar → ℕ → RowSoFar
 gapped row n = let full = more (opens row) (replicate n blank) in record full { word = length full.cells }
 
-blanks-taken : (frame : Frame) (row : Row) (n : ℕ) (cells : List Cell) (p q : Place) → 0 < length row.cells → length row.cells + n ≤ CELLS
+blanks-taken : (frame : Frame) (row : RowSoFar) (n : ℕ) (cells : List Cell) (p q : Place) → 0 < length row.cells → length row.cells + n ≤ CELLS
     → row.margin + columns row.cells + n ≤ frame.width
     → one_word frame row (apart n cells p q) ≡ by_word frame (gapped row n) (cell_content q cells) (outcome frame (gapped row n) (cell_content q cells))
 blanks-taken frame row n cells p q some room fit =
     word-begun frame row n cells p q (fits [] (more (opens row) (replicate n blank))) some (blanks-fit frame (opens row) n p room fit)
 
-gapped-columns : (row : Row) (n : ℕ) → columns (row.cells ++ replicate n blank) ≡ columns row.cells + n
+gapped-columns : (row : RowSoFar) (n : ℕ) → columns (row.cells ++ replicate n blank) ≡ columns row.cells + n
 gapped-columns row n = omega (arith, columns-append row.cells (replicate n blank), columns-blanks n)
 
-gapped-length : (row : Row) (n : ℕ) → length (row.cells ++ replicate n blank) ≡ length row.cells + n
+gapped-length : (row : RowSoFar) (n : ℕ) → length (row.cells ++ replicate n blank) ≡ length row.cells + n
 gapped-length row n = omega (arith, length-append row.cells (replicate n blank), length-replicate n blank)
 
-pub word-fits : (frame : Frame) (row : Row) (n : ℕ) (cells : List Cell) (p q : Place) → 0 < length row.cells → length row.cells + n + length cells ≤ CELLS
+pub word-fits : (frame : Frame) (row : RowSoFar) (n : ℕ) (cells : List Cell) (p q : Place) → 0 < length row.cells → length row.cells + n + length cells ≤ CELLS
     → row.margin + columns row.cells + n + columns cells ≤ frame.width → one_word frame row (apart n cells p q) ≡ nothing (with_word row n cells)
 word-fits frame row n cells p q some room fit =
     let w = gapped-columns row n in
@@ -183,13 +183,13 @@ word-fits frame row n cells p q some room fit =
     ∙ rw (k, append_assoc, tally-append row.tag_columns (replicate n blank) cells, has_cell-append row.tag_begun (replicate n blank) cells) refl)
 
 -- a word of which there is nothing in the row
-row-left : (row : Row) (n : ℕ) → before_word (gapped row n) ≡ row.cells
+row-left : (row : RowSoFar) (n : ℕ) → before_word (gapped row n) ≡ row.cells
 row-left row n = take_at row.cells (replicate n blank) (length row.cells) refl
 
-none-left : (row : Row) (n : ℕ) → drop (gapped row n).word (gapped row n).cells ≡ []
+none-left : (row : RowSoFar) (n : ℕ) → drop (gapped row n).word (gapped row n).cells ≡ []
 none-left row n = let k = gapped-length row n in drop_all (length (row.cells ++ replicate n blank)) (row.cells ++ replicate n blank) (omega arith)
 
-word-passes : (frame : Frame) (row : Row) (n : ℕ) (c : Cell) (cs : List Cell) (p q : Place) → frame.fills ≡ true → 0 < length row.cells
+word-passes : (frame : Frame) (row : RowSoFar) (n : ℕ) (c : Cell) (cs : List Cell) (p q : Place) → frame.fills ≡ true → 0 < length row.cells
     → length row.cells + n + length (c ∷ cs) ≤ CELLS → row.margin + columns row.cells + n ≤ frame.width
     → frame.width < row.margin + columns row.cells + n + columns (c ∷ cs)
     → one_word frame row (apart n (c ∷ cs) p q) ≡ word_wrapped frame row n (c ∷ cs)
@@ -204,7 +204,7 @@ word-passes frame row n c cs p q fill some room fit past =
     step ∙ (ap (by_word frame (gapped row n) (cell_content q (c ∷ cs))) pass.is
     ∙ rw (left, none, rest) refl)
 
-pub word-after_end : (frame : Frame) (row : Row) (n : ℕ) (c : Cell) (cs : List Cell) (p q : Place) → frame.fills ≡ true → 0 < length row.cells → length row.cells + n ≤ CELLS
+pub word-after_end : (frame : Frame) (row : RowSoFar) (n : ℕ) (c : Cell) (cs : List Cell) (p q : Place) → frame.fills ≡ true → 0 < length row.cells → length row.cells + n ≤ CELLS
     → frame.width < row.margin + columns row.cells + n → 0 < n → length (c ∷ cs) ≤ CELLS
     → one_word frame row (apart n (c ∷ cs) p q) ≡ word_wrapped frame row (fitting frame row) (c ∷ cs)
 word-after_end frame row n c cs p q fill some room past blanks short =
@@ -216,14 +216,14 @@ word-after_end frame row n c cs p q fill some room past blanks short =
     let rest = first-begins frame closed c cs q refl short in
     step ∙ rw (left, rest) refl
 
-pub word-begins : (frame : Frame) (row : Row) (n : ℕ) (c : Cell) (cs : List Cell) (p q : Place) → length row.cells ≡ 0 → length (c ∷ cs) ≤ CELLS
+pub word-begins : (frame : Frame) (row : RowSoFar) (n : ℕ) (c : Cell) (cs : List Cell) (p q : Place) → length row.cells ≡ 0 → length (c ∷ cs) ≤ CELLS
     → one_word frame row (apart n (c ∷ cs) p q) ≡ nothing (word_first frame row (c ∷ cs))
 word-begins frame row n c cs p q none room =
     let empty : (length row.cells == 0) ≡ true = grind (arith, nat_tests) in
     let rest = first-begins frame (opens row) c cs q none room in
     rw (empty, rest) refl
 
-pub passes-law : (frame : Frame) (row : Row) (n : ℕ) (cells : List Cell) (p q : Place) → frame.fills ≡ true → 0 < length row.cells
+pub passes-law : (frame : Frame) (row : RowSoFar) (n : ℕ) (cells : List Cell) (p q : Place) → frame.fills ≡ true → 0 < length row.cells
     → length row.cells + n + length cells ≤ CELLS → row.margin + columns row.cells + n ≤ frame.width
     → frame.width < row.margin + columns row.cells + n + columns cells → one_word frame row (apart n cells p q) ≡ word_wrapped frame row n cells
 passes-law frame row n [] p q fill some room fit past = absurd (omega (arith, sum_by-nil))

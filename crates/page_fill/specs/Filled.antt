@@ -1,5 +1,5 @@
 -- What filling is, in words. Between two breaks there is a list of words. A word is a list of parts, which end after its hyphens, and only its first
--- part has blanks before it; since a row may end before each part, a `Word` here is one such part. A row takes them up to its first offending
+-- part has blanks before it; since a row may end before each part, a `RowWord` here is one such part. A row takes them up to its first offending
 -- cell: the first one with which margin and columns pass the width while its word isn't the row's first, or else that would be one cell too many.
 -- In the first case the row ends before that word, in the second before that cell, which is reported. Blanks before a word count with that word,
 -- and are dropped where a row ends before them or among them. A row without an offending cell goes on. Where rows are kept as they are (no-fill
@@ -25,7 +25,7 @@ pub data CellOrNote : Type 0 where
 
 -- a word, or a part of one: messages before it, the blanks before it (none before a part that is not the first), with the place that a message
 -- about them names, and what it holds
-pub record Word : Type 0 where
+pub record RowWord : Type 0 where
   pub notes : List Message
   pub blanks : ℕ
   pub place : Place
@@ -40,7 +40,7 @@ pub record Frame : Type 0 where
   pub rest : ℕ
 
 -- the row that is open
-pub record Row : Type 0 where
+pub record RowSoFar : Type 0 where
   -- its margin, its cells (none: no row is open), how many of them are before its last word and that word's blanks, and before that word
   pub margin : ℕ
   pub cells : List Cell
@@ -53,37 +53,37 @@ pub record Row : Type 0 where
   pub tag_begun : Bool
 
 -- the cell counts for the open tag
-abbrev pub counted : Row → Cell → Row
+abbrev pub counted : RowSoFar → Cell → RowSoFar
 counted row cell = record row { tag_columns = min (row.tag_columns + cell_columns cell) TAG_COLUMNS; tag_begun = true }
 
 -- the row takes one more cell
-abbrev pub with_cell : Row → Cell → Row
+abbrev pub with_cell : RowSoFar → Cell → RowSoFar
 with_cell row cell = record (counted row cell) { cells = row.cells ++ cell ∷ [] }
 
 -- a word begins after the row's cells
-abbrev pub opens : Row → Row
+abbrev pub opens : RowSoFar → RowSoFar
 opens row = record row { gap = length row.cells; word = length row.cells }
 
 -- the cells before the last word and its blanks
-abbrev pub before_word : Row → List Cell
+abbrev pub before_word : RowSoFar → List Cell
 before_word row = take row.gap row.cells
 
 -- a row of these cells begins
-abbrev pub row_begun : Frame → Row → List Cell → Row
+abbrev pub row_begun : Frame → RowSoFar → List Cell → RowSoFar
 row_begun frame row cells = record row { margin = row.next; cells = cells; gap = 0; word = 0; next = frame.rest }
 
 -- a row of these cells ends, and none is open
-abbrev pub row_ended : Row → List Cell → Laid Row
+abbrev pub row_ended : RowSoFar → List Cell → Laid RowSoFar
 row_ended row cells = record { rows = row_of row.margin cells ∷ []; notes = []; edge = record row { cells = []; gap = 0; word = 0 } }
 
 -- a row of these cells ends, since one more would be too many
-abbrev pub full_row_ended : Row → List Cell → Place → Laid Row
+abbrev pub full_row_ended : RowSoFar → List Cell → Place → Laid RowSoFar
 full_row_ended row cells place = with_notes (message_about Limit place (name_of Cells) ∷ []) (row_ended row cells)
 
 -- ---- the first word of a row
 
 -- a row's first word, or what is left of it: the row begins with a cell, or takes it, and ends only before a cell that would be one too many
-unfoldable pub first_word : Frame → Row → List CellOrNote → Laid Row
+unfoldable pub first_word : Frame → RowSoFar → List CellOrNote → Laid RowSoFar
 first_word frame row [] = nothing row
 first_word frame row (noted m ∷ content) = with_notes (m ∷ []) (first_word frame row content)
 first_word frame row (shown cell place ∷ content) =
@@ -94,19 +94,19 @@ first_word frame row (shown cell place ∷ content) =
 
 -- what a word's cells and messages do in a row: no cell offends, and the row is this one after them; at one the columns pass the width, before which the row
 -- is this one; or one is too many, before which the row is this one, at this place, and from which on these are left
-pub data Outcome : Type 0 where
-  fits : List Message → Row → Outcome
-  too_wide : Row → Outcome
-  too_many : List Message → Row → Place → List CellOrNote → Outcome
+pub data WordOutcome : Type 0 where
+  fits : List Message → RowSoFar → WordOutcome
+  too_wide : RowSoFar → WordOutcome
+  too_many : List Message → RowSoFar → Place → List CellOrNote → WordOutcome
 
 -- an outcome after a message, which comes before the others. Where the columns pass the width none is reported yet: the next row has all of the word's
-abbrev pub after_note : Message → Outcome → Outcome
+abbrev pub after_note : Message → WordOutcome → WordOutcome
 after_note m (fits notes row) = fits (m ∷ notes) row
 after_note m (too_wide row) = too_wide row
 after_note m (too_many notes row place left) = too_many (m ∷ notes) row place left
 
 -- what content does in a row
-unfoldable pub outcome : Frame → Row → List CellOrNote → Outcome
+unfoldable pub outcome : Frame → RowSoFar → List CellOrNote → WordOutcome
 outcome frame row [] = fits [] row
 outcome frame row (noted m ∷ content) = after_note m (outcome frame row content)
 outcome frame row (shown cell place ∷ content) =
@@ -115,7 +115,7 @@ outcome frame row (shown cell place ∷ content) =
     else outcome frame (with_cell row cell) content
 
 -- the row's last word, which is not its first, goes on with this content: the row takes it, or ends before the word, whose cells begin the next row, or in it
-abbrev pub by_word : Frame → Row → List CellOrNote → Outcome → Laid Row
+abbrev pub by_word : Frame → RowSoFar → List CellOrNote → WordOutcome → Laid RowSoFar
 by_word frame row content (fits notes taken) = with_notes notes (nothing taken)
 by_word frame row content (too_wide taken) =
     let cells = drop row.word row.cells in
@@ -123,23 +123,23 @@ by_word frame row content (too_wide taken) =
 by_word frame row content (too_many notes taken place left) = with_notes notes (seq (full_row_ended taken taken.cells place) (λ r. first_word frame r left))
 
 -- the row took the blanks before a word of this content, which begins after them; or it ends before them
-abbrev pub by_blanks : Frame → List CellOrNote → Outcome → Laid Row
+abbrev pub by_blanks : Frame → List CellOrNote → WordOutcome → Laid RowSoFar
 by_blanks frame content (fits notes taken) = let row = record taken { word = length taken.cells } in by_word frame row content (outcome frame row content)
 by_blanks frame content (too_wide taken) = seq (row_ended taken (before_word taken)) (λ r. first_word frame r content)
 by_blanks frame content (too_many notes taken place left) = seq (full_row_ended taken (before_word taken) place) (λ r. first_word frame r content)
 
 -- a row that is open takes one more word, or none is
-abbrev pub one_word : Frame → Row → Word → Laid Row
+abbrev pub one_word : Frame → RowSoFar → RowWord → Laid RowSoFar
 one_word frame row word =
     if length row.cells == 0 then first_word frame (opens row) word.content
     else by_blanks frame word.content (outcome frame (opens row) (replicate word.blanks (shown blank word.place)))
 
 -- the row's last word goes on with this content
-abbrev pub rest_of_word : Frame → Row → List CellOrNote → Laid Row
+abbrev pub rest_of_word : Frame → RowSoFar → List CellOrNote → Laid RowSoFar
 rest_of_word frame row content = if row.gap == 0 then first_word frame row content else by_word frame row content (outcome frame row content)
 
 -- ---- words one after another
 
-unfoldable pub filling : Frame → Row → List Word → Laid Row
+unfoldable pub filling : Frame → RowSoFar → List RowWord → Laid RowSoFar
 filling frame row [] = nothing row
 filling frame row (word ∷ words) = with_notes word.notes (seq (one_word frame row word) (λ r. filling frame r words))

@@ -10,7 +10,7 @@ use Rattle.page_fill_cells.specs.Cells.{blank, columns}
 use Rattle.page_fill_rows.specs.OpenRows.{more_blank_rows, over}
 use Rattle.page_fill.specs.Filled.{row_ended, CellOrNote}
 use Rattle.page_fill.specs.Words.{no_word, open_row_of, next_edge, cell_content, with_tag, words_laid, content_laid}
-use Rattle.page_fill.specs.declared.edges.Edge.{Edge}
+use Rattle.page_fill.specs.declared.edges.FillEdge.{FillEdge}
 use Rattle.page_fill.specs.declared.edges.OpenTag.{OpenTag}
 
 -- ---- groups
@@ -43,11 +43,11 @@ groups (shown p ∷ items) = if is_of_words p then in_front (shown p) (groups it
 -- ---- other pieces
 
 -- the open row ends, if there is one, and nothing waits
-abbrev pub row_end : Edge → Laid Edge
+abbrev pub row_end : FillEdge → Laid FillEdge
 row_end e = let row = open_row_of e.sheet in next_edge e no_word (if length row.cells == 0 then nothing row else row_ended row row.cells)
 
 -- a count of blank rows
-abbrev pub blank_rows : Edge → ℕ → Laid Edge
+abbrev pub blank_rows : FillEdge → ℕ → Laid FillEdge
 blank_rows e n = record {
   rows = replicate n (row_of 0 []);
   notes = [];
@@ -55,7 +55,7 @@ blank_rows e n = record {
 }
 
 -- a new word is placed after a count of blanks
-abbrev pub placed : Edge → ℕ → Laid Edge
+abbrev pub placed : FillEdge → ℕ → Laid FillEdge
 placed e n = nothing (record e { word = record no_word { is_open = true; is_placed = true; blanks = n } })
 
 -- the greatest hang of a tag, in columns
@@ -63,7 +63,7 @@ abbrev pub HANG_MAX : ℕ
 HANG_MAX = 1000
 
 -- after a tag with this hang: where a blank fits before the hang, the next word begins there; else the row ends, or there is one blank
-abbrev pub after_tag : Edge → OpenTag → Laid Edge
+abbrev pub after_tag : FillEdge → OpenTag → Laid FillEdge
 after_tag e tag =
     let hang = min tag.hang HANG_MAX in
     if nat_le (e.sheet.tag_columns + 1) hang then placed e (hang - e.sheet.tag_columns)
@@ -72,7 +72,7 @@ after_tag e tag =
 
 -- a tag that is set in ends first, and then come its blanks, where a row is open; where another tag came between, the row ends; a tag without a cell is
 -- none, and nothing of it waits
-abbrev pub tag_end : Edge → Option ℕ → Option OpenTag → Laid Edge
+abbrev pub tag_end : FillEdge → Option ℕ → Option OpenTag → Laid FillEdge
 tag_end e (Some blanks) tag = placed (record e { set_in = None }) (if length e.sheet.cells == 0 then 0 else blanks)
 tag_end e None None = row_end (record e { tag = None })
 tag_end e None (Some tag) = if e.sheet.tag_begun then after_tag (record e { tag = None }) tag else nothing (record e { tag = None; word = no_word })
@@ -85,7 +85,7 @@ TAB_STOP = 8
 abbrev pub stop_content : List Cell → Place → List CellOrNote
 stop_content cells place = cell_content place (replicate (TAB_STOP - columns cells % TAB_STOP) blank)
 
-unfoldable pub other_laid : Edge → Piece (List ℕ) → Laid Edge
+unfoldable pub other_laid : FillEdge → Piece (List ℕ) → Laid FillEdge
 -- the row ends; that of a line that is kept as it is ends with a blank row where it has no cell
 other_laid e Break = row_end e
 other_laid e RowEnd = if length e.sheet.cells == 0 then seq (row_end e) (λ f. blank_rows f 1) else row_end e
@@ -109,11 +109,11 @@ other_laid e p = words_laid e (shown p ∷ [])
 
 -- ---- all
 
-unfoldable pub groups_laid : Edge → List Group → Laid Edge
+unfoldable pub groups_laid : FillEdge → List Group → Laid FillEdge
 groups_laid e [] = nothing e
 groups_laid e (words items ∷ more) = seq (words_laid e items) (λ f. groups_laid f more)
 groups_laid e (other p ∷ more) = seq (other_laid e p) (λ f. groups_laid f more)
 
 -- what items lay from an edge
-abbrev pub filled : Edge → List Item → Laid Edge
+abbrev pub filled : FillEdge → List Item → Laid FillEdge
 filled e items = groups_laid e (groups items)

@@ -16,8 +16,8 @@ use Rattle.page_core_base.specs.declared.places.Place.{Place}
 use Rattle.page_core_tables.specs.Glyphs.{Printing, char_printed, glyph_printed}
 use Rattle.page_fill_cells.specs.Cells.{cells_of, cell_of, blank}
 use Rattle.page_fill_rows.specs.OpenRows.{fresh, unknown_notes, characters_of, Sheet, more_blank_rows, over}
-use Rattle.page_fill.specs.Filled.{CellOrNote, shown, noted, Word, Frame, Row, rest_of_word, filling}
-use Rattle.page_fill.specs.declared.edges.Edge.{Edge}
+use Rattle.page_fill.specs.Filled.{CellOrNote, shown, noted, RowWord, Frame, RowSoFar, rest_of_word, filling}
+use Rattle.page_fill.specs.declared.edges.FillEdge.{FillEdge}
 use Rattle.page_fill.specs.declared.edges.OpenTag.{OpenTag}
 use Rattle.page_fill.specs.declared.edges.OpenWord.{OpenWord}
 
@@ -37,11 +37,11 @@ begun_word reported = record no_word { is_joined = true; is_open = true; is_repo
 -- ---- tags
 
 -- a tag takes the place of the one that is open, and its cells are counted
-abbrev pub counted_tag : Edge → OpenTag → Edge
+abbrev pub counted_tag : FillEdge → OpenTag → FillEdge
 counted_tag e tag = record e { sheet = record e.sheet { tag_columns = 0; tag_begun = false }; tag = Some tag; set_in = None }
 
 -- the words of a tag that is set in are words of the row: they go on with the tag that is open
-abbrev pub with_tag : Edge → ℕ → TagForm → Edge
+abbrev pub with_tag : FillEdge → ℕ → TagForm → FillEdge
 with_tag e hang forms.Row = counted_tag e (record { hang = hang; ends_row = true })
 with_tag e hang forms.Hang = counted_tag e (record { hang = hang; ends_row = false })
 with_tag e hang (forms.Inset n) = record e { set_in = Some n }
@@ -55,7 +55,7 @@ tab_notes reported place = if reported then message_about notes.TabFill place []
 -- ---- the start of a page, and the rows at its end
 
 -- a page begins below the blank row of its header
-abbrev pub start : Settings → Edge
+abbrev pub start : Settings → FillEdge
 start settings = record { sheet = fresh settings.width; word = no_word; tag = None; set_in = None; output = settings.output }
 
 -- ---- The words of pieces between two breaks, and the messages among them: each word with the blanks before it, and what it holds, cells and
@@ -100,28 +100,28 @@ word_after literal w _ = w
 -- ---- words
 
 -- what goes on with the open word, and the words after it
-pub record Words : Type 0 where
+pub record RowWords : Type 0 where
   pub first : List CellOrNote
-  pub later : List Word
+  pub later : List RowWord
 
 -- a word with the blanks that wait before it. They are cells of it where rows are kept as they are, and where they place it in an empty row.
-abbrev pub word_of : (literal empty : Bool) → OpenWord → Place → List CellOrNote → Word
+abbrev pub word_of : (literal empty : Bool) → OpenWord → Place → List CellOrNote → RowWord
 word_of literal empty w place content =
     let notes = tab_notes (w.has_tab && not literal) place in
     if literal || (w.is_placed && empty) then record { notes = notes; blanks = 0; place = place; content = cell_content place (replicate w.blanks blank) ++ content }
     else record { notes = notes; blanks = w.blanks; place = place; content = content }
 
 -- content goes on with the open word, or begins one, which what follows may go on with
-abbrev pub and_then : (literal empty : Bool) → OpenWord → Place → List CellOrNote → Words → Words
+abbrev pub and_then : (literal empty : Bool) → OpenWord → Place → List CellOrNote → RowWords → RowWords
 and_then literal empty w place content rest =
     if w.is_joined then record { first = content ++ rest.first; later = rest.later }
     else record { first = []; later = word_of literal empty w place (content ++ rest.first) ∷ rest.later }
 
 -- the open word is parted: what follows is a word without a blank
-abbrev pub parted : Words → Words
+abbrev pub parted : RowWords → RowWords
 parted rest = record { first = []; later = record { notes = []; blanks = 0; place = record { line = 0; column = 0 }; content = rest.first } ∷ rest.later }
 
-abbrev pub words_from : Output → (literal empty : Bool) → OpenWord → Piece (List ℕ) → Words → Words
+abbrev pub words_from : Output → (literal empty : Bool) → OpenWord → Piece (List ℕ) → RowWords → RowWords
 words_from output literal empty w (Text bytes font place) rest =
     if length (characters_of bytes) == 0 then rest else and_then literal empty w place (text_content output (characters_of bytes) font place) rest
 words_from output literal empty w (Glyph name font place) rest = and_then literal empty w place (printed_content (glyph_printed output name) font place) rest
@@ -130,7 +130,7 @@ words_from output literal empty w (Tab font place) rest = and_then literal empty
 words_from output literal empty w Split rest = if w.is_joined && not literal then parted rest else rest
 words_from output literal empty w _ rest = rest
 
-unfoldable pub words_of : Output → (literal empty : Bool) → OpenWord → List Item → Words
+unfoldable pub words_of : Output → (literal empty : Bool) → OpenWord → List Item → RowWords
 words_of output literal empty w [] = record { first = []; later = [] }
 words_of output literal empty w (items.noted m ∷ more) = let rest = words_of output literal empty w more in record rest { first = noted m ∷ rest.first }
 words_of output literal empty w (items.shown p ∷ more) = words_from output literal empty w p (words_of output literal empty (word_after literal w p) more)
@@ -147,7 +147,7 @@ word_after_items literal w (items.shown p ∷ more) = word_after_items literal (
 abbrev pub frame_of : Sheet → Frame
 frame_of s = record { width = s.width; fills = not s.literal; rest = s.rest }
 
-abbrev pub open_row_of : Sheet → Row
+abbrev pub open_row_of : Sheet → RowSoFar
 open_row_of s = record {
   margin = s.margin;
   cells = s.cells;
@@ -159,7 +159,7 @@ open_row_of s = record {
 }
 
 -- the edge with another open row, after these rows, of which none is a heading's, and with what waits
-abbrev pub with_row : Sheet → Row → List LaidRow → Sheet
+abbrev pub with_row : Sheet → RowSoFar → List LaidRow → Sheet
 with_row s row rows = record s {
   first = row.next;
   margin = row.margin;
@@ -172,21 +172,21 @@ with_row s row rows = record s {
   tag_begun = row.tag_begun;
 }
 
-abbrev pub next_edge : Edge → OpenWord → Laid Row → Laid Edge
+abbrev pub next_edge : FillEdge → OpenWord → Laid RowSoFar → Laid FillEdge
 next_edge e w l = over l (λ row. record e { sheet = with_row e.sheet row l.rows; word = w })
 
 -- words go on from an edge: the first may go on with the open row's last word, and the others follow
-abbrev pub going_on : Sheet → Words → Laid Row
+abbrev pub going_on : Sheet → RowWords → Laid RowSoFar
 going_on s words = seq (rest_of_word (frame_of s) (open_row_of s) words.first) (λ r. filling (frame_of s) r words.later)
 
 -- a group of words, with the messages among them
-unfoldable pub words_laid : Edge → List Item → Laid Edge
+unfoldable pub words_laid : FillEdge → List Item → Laid FillEdge
 words_laid e items =
     let literal = e.sheet.literal in
     next_edge e (word_after_items literal e.word items) (going_on e.sheet (words_of e.output literal (length e.sheet.cells == 0) e.word items))
 
 -- the open word goes on with this content; or one begins with the blanks that wait, and this is its first
-unfoldable pub content_laid : Edge → Place → List CellOrNote → Laid Edge
+unfoldable pub content_laid : FillEdge → Place → List CellOrNote → Laid FillEdge
 content_laid e place content =
     let literal = e.sheet.literal in
     next_edge e (after_cell literal e.word)

@@ -47,7 +47,7 @@ pub(crate) struct OpenTag {
 
 /// What is held between two pieces.
 #[derive(Drop)]
-pub struct Edge {
+pub struct FillEdge {
     /// The open row with its margin and its last word; the margins of the rows after it, how they are filled, and what is above them.
     pub(crate) sheet: OpenRow,
     /// The open word, and the blanks that wait before the next one.
@@ -128,7 +128,7 @@ fn report_tab<O: RowOut>(has_tab: bool, place: Place, out: &mut O)
     }
 }
 
-impl Edge {
+impl FillEdge {
     // Whether the next word's tab is reported: in filled text alone.
     fn reports_tab(&self) -> bool
         ensures { result ≡ fill.reports_tab self.now }

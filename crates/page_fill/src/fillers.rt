@@ -11,10 +11,10 @@ ghost use Rattle.page_fill.specs.laws.Views.{FillFits, is_sound, AreKept, can_ke
 ghost use Rattle.page_fill_rows.specs.laws.Views.{IsHeld};
 ghost use Rattle.page_fill.specs.Words as fill;
 ghost use Rattle.page_fill.specs.laws.Views as fill_laws;
-ghost use Rattle.page_fill.specs.declared.edges.Edge.{Edge};
+ghost use Rattle.page_fill.specs.declared.edges.FillEdge.{FillEdge};
 ghost use Rattle.page_fill.specs.Filling.{filled, row_end};
 
-use crate::Edge;
+use crate::FillEdge;
 use page_core_base::{Cell, Fault, Font, NoteSink, Output, Piece, Place, RowSink, Settings};
 use page_fill_rows::{KeepsRow, NoCells, OpenCells};
 use std::alloc::{AllocError, Global};
@@ -23,11 +23,11 @@ use std::marker::Model;
 /// Turns pieces into rows, and holds one row: the open one.
 ///
 /// A row is given to the sink as soon as no later piece can change it. After a failure or the end a filler is of no use. Contracts see it
-/// as what it holds between two pieces ([`Edge`]): the open row with its margins, the open word and the blanks that wait before the next
+/// as what it holds between two pieces ([`FillEdge`]): the open row with its margins, the open word and the blanks that wait before the next
 /// one, and the open tag; or as none, where it is of no use.
 #[derive(Drop)]
 pub struct FillerWith<K: KeepsRow> {
-    edge: Edge,
+    edge: FillEdge,
     is_going: bool,
     kept: K,
 }
@@ -42,9 +42,9 @@ impl<K: KeepsRow> Model for FillerWith<K> {
     ghost use Rattle.std.specs.Prelude.{◌≡◌, true, Option, None, Some, if◌then◌else◌};
     ghost use Rattle.page_fill_rows.specs.laws.Views.{IsHeld};
     ghost use Rattle.page_fill.specs.laws.Views.{is_sound};
-    ghost use Rattle.page_fill.specs.declared.edges.Edge.{Edge};
+    ghost use Rattle.page_fill.specs.declared.edges.FillEdge.{FillEdge};
 
-    ghost Value = { Option Edge };
+    ghost Value = { Option FillEdge };
 
     ghost view = { λ f. if f.is_going then Some f.edge else None };
 
@@ -55,16 +55,16 @@ impl<K: KeepsRow> Model for FillerWith<K> {
 /// What a filler holds between two pieces.
 #[derive(Drop)]
 pub struct FillerPart {
-    edge: Edge,
+    edge: FillEdge,
 }
 
 impl Model for FillerPart {
     ghost use Rattle.std.specs.Prelude.{◌≡◌, true};
     ghost use Rattle.page_fill_rows.specs.laws.Views.{IsHeld};
     ghost use Rattle.page_fill.specs.laws.Views.{is_sound};
-    ghost use Rattle.page_fill.specs.declared.edges.Edge.{Edge};
+    ghost use Rattle.page_fill.specs.declared.edges.FillEdge.{FillEdge};
 
-    ghost Value = { Edge };
+    ghost Value = { FillEdge };
 
     ghost view = { λ p. p.edge };
 
@@ -91,7 +91,7 @@ impl<K: KeepsRow> FillerWith<K> {
     // A filler that goes on where this is held, on a page of this width in columns, of an output.
     fn copy_of(
         alloc: Global,
-        edge: &Edge,
+        edge: &FillEdge,
         width: u32,
         output: Output,
     ) -> Result<FillerWith<K>, AllocError>
@@ -111,7 +111,7 @@ impl<K: KeepsRow> FillerWith<K> {
     ///
     /// Its fault is [`Fault::Failed`] after a failure and after the end; else [`Fault::Memory`].
     pub fn part(&self, alloc: Global) -> Result<FillerPart, Fault>
-        ensures open { (e : Edge) → self.now ≡ Some e
+        ensures open { (e : FillEdge) → self.now ≡ Some e
             → MatchResult result (λ part. part ≡ e) (λ fault. fault ≡ Fault.Memory) }
         ensures closed { self.now ≡ None → result ≡ Err Fault.Failed }
     {
@@ -149,7 +149,7 @@ impl<K: KeepsRow> FillerWith<K> {
         ensures ok { IfOk result (λ f. f ≡ Some (fill.start settings.now)) }
         ensures fault { IfErr result (λ fault. fault ≡ Fault.Memory) }
     {
-        let Ok(edge) = Edge::new(alloc, settings) else {
+        let Ok(edge) = FillEdge::new(alloc, settings) else {
             return Err(Fault::Memory);
         };
         let Ok(kept) = K::of(alloc, &edge.sheet) else {
@@ -198,12 +198,12 @@ impl<K: KeepsRow> FillerWith<K> {
         rows: &mut R,
         notes: &mut N,
     ) -> Result<(), Fault>
-        ensures gets { (e : Edge) → self.old ≡ Some e
+        ensures gets { (e : FillEdge) → self.old ≡ Some e
             → Gets result R.gave R.within N.gave N.within rows.old rows.new notes.old notes.new
             (filled e (shown (piece_of piece.entry) ∷ [])) }
-        ensures edge { (e : Edge) → self.old ≡ Some e
+        ensures edge { (e : FillEdge) → self.old ≡ Some e
             → OnOk result (self.new ≡ Some (filled e (shown (piece_of piece.entry) ∷ [])).edge) }
-        ensures faults { (e : Edge) → self.old ≡ Some e
+        ensures faults { (e : FillEdge) → self.old ≡ Some e
             → FailsBySink result (R.failed rows.old) (R.failed rows.new) (N.failed notes.old) (N.failed notes.new) }
         ensures closed { self.old ≡ None → (result ≡ Err Fault.Failed) × (rows.new ≡ rows.old) × (notes.new ≡ notes.old) }
         ensures stops { OnErr result (self.new ≡ None) }
@@ -234,12 +234,12 @@ impl<K: KeepsRow> FillerWith<K> {
         notes: &mut N,
     ) -> Result<(), Fault>
         requires { count ≤ BLANK_TEXT }
-        ensures gets { (e : Edge) → self.old ≡ Some e
+        ensures gets { (e : FillEdge) → self.old ≡ Some e
             → Gets result R.gave R.within N.gave N.within rows.old rows.new notes.old notes.new
             (filled e (replicate times (shown (Text (replicate count 32) font place)))) }
-        ensures edge { (e : Edge) → self.old ≡ Some e
+        ensures edge { (e : FillEdge) → self.old ≡ Some e
             → OnOk result (self.new ≡ Some (filled e (replicate times (shown (Text (replicate count 32) font place)))).edge) }
-        ensures faults { (e : Edge) → self.old ≡ Some e
+        ensures faults { (e : FillEdge) → self.old ≡ Some e
             → FailsBySink result (R.failed rows.old) (R.failed rows.new) (N.failed notes.old) (N.failed notes.new) }
         ensures closed { self.old ≡ None → (result ≡ Err Fault.Failed) × (rows.new ≡ rows.old) × (notes.new ≡ notes.old) }
         ensures stops { OnErr result (self.new ≡ None) }
@@ -287,12 +287,12 @@ impl<K: KeepsRow> FillerWith<K> {
         requires some { 0 < length text.now }
         requires ascii { is_printable_ascii text.now ≡ true }
         requires fonts { length fonts.now ≡ length text.now }
-        ensures gets { (e : Edge) (words : List (List (Piece (List ℕ)))) → self.old ≡ Some e → AreWords text.now fonts.now words
+        ensures gets { (e : FillEdge) (words : List (List (Piece (List ℕ)))) → self.old ≡ Some e → AreWords text.now fonts.now words
             → Gets result R.gave R.within N.gave N.within rows.old rows.new notes.old notes.new
             (filled e (map shown (lettered_pieces blanks words))) }
-        ensures edge { (e : Edge) (words : List (List (Piece (List ℕ)))) → self.old ≡ Some e → AreWords text.now fonts.now words
+        ensures edge { (e : FillEdge) (words : List (List (Piece (List ℕ)))) → self.old ≡ Some e → AreWords text.now fonts.now words
             → OnOk result (self.new ≡ Some (filled e (map shown (lettered_pieces blanks words))).edge) }
-        ensures faults { (e : Edge) → self.old ≡ Some e
+        ensures faults { (e : FillEdge) → self.old ≡ Some e
             → FailsBySink result (R.failed rows.old) (R.failed rows.new) (N.failed notes.old) (N.failed notes.new) }
         ensures closed { self.old ≡ None → (result ≡ Err Fault.Failed) × (rows.new ≡ rows.old) × (notes.new ≡ notes.old) }
         ensures stops { OnErr result (self.new ≡ None) }
@@ -316,8 +316,8 @@ impl<K: KeepsRow> FillerWith<K> {
     #[inline(always)]
     pub fn take_kept(&mut self, text: &[u8], font: Font) -> bool
         ensures answer { MatchOption self.old (result ≡ false) (λ e. result ≡ can_keep e text.now) }
-        ensures kept { (e : Edge) (pieces : List (Piece (List ℕ))) → self.old ≡ Some e → result ≡ true → AreKept text.now font pieces
-            → (f : Edge) × (self.new ≡ Some f) × (filled e (map shown pieces) ≡ nothing f) }
+        ensures kept { (e : FillEdge) (pieces : List (Piece (List ℕ))) → self.old ≡ Some e → result ≡ true → AreKept text.now font pieces
+            → (f : FillEdge) × (self.new ≡ Some f) × (filled e (map shown pieces) ≡ nothing f) }
         ensures same { result ≡ false → self.new ≡ self.old }
     {
         if !self.is_going || !self.edge.take_kept(text, font) {
@@ -336,9 +336,9 @@ impl<K: KeepsRow> FillerWith<K> {
         rows: &mut R,
         notes: &mut N,
     ) -> Result<(), Fault>
-        ensures gets { (e : Edge) → self.old ≡ Some e
+        ensures gets { (e : FillEdge) → self.old ≡ Some e
             → Gets result R.gave R.within N.gave N.within rows.old rows.new notes.old notes.new (row_end e) }
-        ensures faults { (e : Edge) → self.old ≡ Some e
+        ensures faults { (e : FillEdge) → self.old ≡ Some e
             → FailsBySink result (R.failed rows.old) (R.failed rows.new) (N.failed notes.old) (N.failed notes.new) }
         ensures closed { self.old ≡ None → (result ≡ Err Fault.Failed) × (rows.new ≡ rows.old) × (notes.new ≡ notes.old) }
         ensures ended { self.new ≡ None }

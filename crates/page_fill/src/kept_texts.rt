@@ -6,10 +6,10 @@ ghost use Rattle.page_core_base.specs.declared.pieces.Piece.{Piece};
 ghost use Rattle.page_fill.specs.laws.Views.{AreKept, can_keep, has_kept_room};
 ghost use Rattle.page_fill.specs.machine.Fill as fill;
 
-use crate::Edge;
+use crate::FillEdge;
 use page_core_base::Font;
 
-impl Edge {
+impl FillEdge {
     // Whether characters go on with the last word of a row that is kept as it is, and the row has room for them.
     #[inline(always)]
     fn has_kept_room(&self, text: &[u8]) -> bool

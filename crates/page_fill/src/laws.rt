@@ -10,12 +10,12 @@ ghost use Rattle.page_core_base.specs.declared.limits.TheConstants.{CELLS};
 ghost use Rattle.page_fill_rows.specs.laws.Views.{IsHeld};
 ghost use Rattle.page_fill.specs.laws.Views.{is_sound};
 ghost use Rattle.page_fill.specs.Words as edges;
-ghost use Rattle.page_fill.specs.declared.edges.Edge.{Edge};
+ghost use Rattle.page_fill.specs.declared.edges.FillEdge.{FillEdge};
 ghost use Rattle.page_fill_cells.specs.Cells.{cells_of};
 ghost use Rattle.page_fill_rows.specs.OpenRows as open_rows;
 ghost use Rattle.page_core_base.specs.laws.Views.{is_printable_ascii};
 ghost use Rattle.page_fill.specs.machine.ByPiece.{laid_items};
-ghost use Rattle.page_fill.specs.Filled.{Frame, Row, one_word};
+ghost use Rattle.page_fill.specs.Filled.{Frame, RowSoFar, one_word};
 ghost use Rattle.page_fill.specs.Filling as filling;
 ghost use Rattle.page_fill.specs.machine.Words as row;
 
@@ -23,20 +23,20 @@ ghost use Rattle.page_fill.specs.machine.Words as row;
 /// words, which fill rows, and what is between such groups; and a list may be cut anywhere. So it is at each edge that a page comes
 /// to: the premises on the sheet and the open word hold from the start of a page on.
 pub fn words_law()
-    ensures items { (e : Edge) (items : List Item) → IsHeld e.sheet → is_sound e.word ≡ true
+    ensures items { (e : FillEdge) (items : List Item) → IsHeld e.sheet → is_sound e.word ≡ true
         → laid_items e items ≡ filling.filled e items }
-    ensures cut { (e : Edge) (above below : List Item) → IsHeld e.sheet → is_sound e.word ≡ true
+    ensures cut { (e : FillEdge) (above below : List Item) → IsHeld e.sheet → is_sound e.word ≡ true
         → filling.filled e (above ++ below) ≡ join (filling.filled e above) (filling.filled (filling.filled e above).edge below) }
-    ensures held { (e : Edge) (items : List Item) → IsHeld e.sheet → is_sound e.word ≡ true
+    ensures held { (e : FillEdge) (items : List Item) → IsHeld e.sheet → is_sound e.word ≡ true
         → IsHeld (filling.filled e items).edge.sheet × (is_sound (filling.filled e items).edge.word ≡ true) }
-    ensures end { (e : Edge) → IsHeld e.sheet → is_sound e.word ≡ true
+    ensures end { (e : FillEdge) → IsHeld e.sheet → is_sound e.word ≡ true
         → IsHeld (filling.row_end e).edge.sheet × (is_sound (filling.row_end e).edge.word ≡ true) }
     ensures start { (width : ℕ) → IsHeld (open_rows.fresh width) × (is_sound edges.no_word ≡ true) }
 {}
 
 /// Texts that are glued are one word, whatever blanks are between them.
 pub fn glue_law()
-    ensures { (e : Edge) (a b : List ℕ) (font : Font) (place : Place) (n : ℕ) (has_tab : Bool)
+    ensures { (e : FillEdge) (a b : List ℕ) (font : Font) (place : Place) (n : ℕ) (has_tab : Bool)
         → e.word.is_joined ≡ false → IsUtf8 a → IsUtf8 b → 0 < length a
         → filling.filled e (shown (Text a font place) ∷ shown (Blank n has_tab) ∷ shown Glue ∷ shown (Text b font place) ∷ [])
         ≡ filling.filled e (shown (Text (a ++ b) font place) ∷ []) }
@@ -46,21 +46,21 @@ pub fn glue_law()
 /// begins the next row. A row's first word is taken whatever its columns are, up to `CELLS` cells: so the columns of a filled row pass
 /// the width only where its first word alone does.
 pub fn word_law()
-    ensures fits { (frame : Frame) (r : Row) (n : ℕ) (cells : List Cell) (place : Place)
+    ensures fits { (frame : Frame) (r : RowSoFar) (n : ℕ) (cells : List Cell) (place : Place)
         → 0 < length r.cells → length r.cells + n + length cells ≤ CELLS
         → r.margin + open_rows.columns r.cells + n + open_rows.columns cells ≤ frame.width
         → one_word frame r (row.word_of_cells n cells place) ≡ nothing (row.with_word r n cells) }
-    ensures passes { (frame : Frame) (r : Row) (n : ℕ) (cells : List Cell) (place : Place)
+    ensures passes { (frame : Frame) (r : RowSoFar) (n : ℕ) (cells : List Cell) (place : Place)
         → frame.fills ≡ true → 0 < length r.cells → length r.cells + n + length cells ≤ CELLS
         → r.margin + open_rows.columns r.cells + n ≤ frame.width
         → frame.width < r.margin + open_rows.columns r.cells + n + open_rows.columns cells
         → one_word frame r (row.word_of_cells n cells place) ≡ row.word_wrapped frame r n cells }
-    ensures blanks_pass { (frame : Frame) (r : Row) (n : ℕ) (cell : Cell) (cells : List Cell) (place : Place)
+    ensures blanks_pass { (frame : Frame) (r : RowSoFar) (n : ℕ) (cell : Cell) (cells : List Cell) (place : Place)
         → frame.fills ≡ true → 0 < length r.cells → length r.cells + n ≤ CELLS
         → frame.width < r.margin + open_rows.columns r.cells + n → 0 < n → length (cell ∷ cells) ≤ CELLS
         → one_word frame r (row.word_of_cells n (cell ∷ cells) place)
         ≡ row.word_wrapped frame r (row.fitting frame r) (cell ∷ cells) }
-    ensures first { (frame : Frame) (r : Row) (n : ℕ) (cell : Cell) (cells : List Cell) (place : Place)
+    ensures first { (frame : Frame) (r : RowSoFar) (n : ℕ) (cell : Cell) (cells : List Cell) (place : Place)
         → length r.cells ≡ 0 → length (cell ∷ cells) ≤ CELLS
         → one_word frame r (row.word_of_cells n (cell ∷ cells) place)
         ≡ nothing (row.word_first frame r (cell ∷ cells)) }
@@ -69,13 +69,13 @@ pub fn word_law()
 /// A row takes the next part of its last word where margin and columns stay within the width; else the row ends before that part, which
 /// begins the next row. So a word of two parts is in the row whole, with its last part at the second one, or the row ends between them.
 pub fn part_law()
-    ensures fits { (e : Edge) (part : List ℕ) (font : Font) (place : Place)
+    ensures fits { (e : FillEdge) (part : List ℕ) (font : Font) (place : Place)
         → e.word.is_joined ≡ true → e.sheet.literal ≡ false → 0 < length e.sheet.cells
         → is_printable_ascii part ≡ true → 0 < length part → length e.sheet.cells + length part ≤ CELLS
         → e.sheet.margin + open_rows.columns e.sheet.cells + length part ≤ e.sheet.width
         → filling.filled e (shown Split ∷ shown (Text part font place) ∷ [])
         ≡ edges.next_edge e e.word (nothing (row.with_word (edges.open_row_of e.sheet) 0 (cells_of font part))) }
-    ensures passes { (e : Edge) (part : List ℕ) (font : Font) (place : Place)
+    ensures passes { (e : FillEdge) (part : List ℕ) (font : Font) (place : Place)
         → e.word.is_joined ≡ true → e.sheet.literal ≡ false → 0 < length e.sheet.cells
         → is_printable_ascii part ≡ true → 0 < length part → length e.sheet.cells + length part ≤ CELLS
         → e.sheet.margin + open_rows.columns e.sheet.cells ≤ e.sheet.width
@@ -83,7 +83,7 @@ pub fn part_law()
         → filling.filled e (shown Split ∷ shown (Text part font place) ∷ [])
         ≡ edges.next_edge e e.word
         (row.word_wrapped (edges.frame_of e.sheet) (edges.open_row_of e.sheet) 0 (cells_of font part)) }
-    ensures whole { (e : Edge) (a b : List ℕ) (font : Font) (place : Place)
+    ensures whole { (e : FillEdge) (a b : List ℕ) (font : Font) (place : Place)
         → e.word.is_joined ≡ false → e.word.has_tab ≡ false → e.sheet.literal ≡ false → 0 < length e.sheet.cells
         → is_printable_ascii a ≡ true → 0 < length a → is_printable_ascii b ≡ true → 0 < length b
         → length e.sheet.cells + e.word.blanks + length a + length b ≤ CELLS
@@ -91,7 +91,7 @@ pub fn part_law()
         → filling.filled e (shown (Text a font place) ∷ shown Split ∷ shown (Text b font place) ∷ [])
         ≡ edges.next_edge e (edges.begun_word false) (nothing (row.with_word
         (row.with_word (edges.open_row_of e.sheet) e.word.blanks (cells_of font a)) 0 (cells_of font b))) }
-    ensures cut { (e : Edge) (a b : List ℕ) (font : Font) (place : Place)
+    ensures cut { (e : FillEdge) (a b : List ℕ) (font : Font) (place : Place)
         → e.word.is_joined ≡ false → e.word.has_tab ≡ false → e.sheet.literal ≡ false → 0 < length e.sheet.cells
         → is_printable_ascii a ≡ true → 0 < length a → is_printable_ascii b ≡ true → 0 < length b
         → length e.sheet.cells + e.word.blanks + length a + length b ≤ CELLS

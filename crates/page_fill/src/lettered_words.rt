@@ -7,13 +7,13 @@ ghost use Rattle.page_core_base.specs.Rows.{Laid};
 ghost use Rattle.page_core_base.specs.declared.limits.TheConstants.{CELLS};
 ghost use Rattle.page_core_base.specs.declared.pieces.Piece.{Piece};
 ghost use Rattle.page_fill.specs.laws.Views.{is_sound, AreWords, can_take, fits_after, is_in_row};
-ghost use Rattle.page_fill.specs.declared.edges.Edge.{Edge};
+ghost use Rattle.page_fill.specs.declared.edges.FillEdge.{FillEdge};
 ghost use Rattle.page_fill.specs.machine.Fill as fill;
 ghost use Rattle.page_fill.specs.machine.LetteredWords.{LaysUpTo, LaysWords};
 ghost use Rattle.page_fill.specs.machine.PlainWords as plain_words;
 ghost use Rattle.page_fill_rows.specs.machine.Plain as rows;
 
-use crate::Edge;
+use crate::FillEdge;
 use crate::edges::OpenWord;
 use page_core_base::{CELLS, Fault, Font, NoteSink, RowOut, RowSink};
 use page_fill_rows::{RowLatch, word_end, word_start};
@@ -30,7 +30,7 @@ fn whole_words(text: &[u8], room: usize) -> usize
     word_start(text, room + 1).saturating_sub(1)
 }
 
-impl Edge {
+impl FillEdge {
     // Whether the first word of a text goes into the row after a count of blanks.
     fn fits_after(&self, blanks: u32, text: &[u8]) -> bool
         requires row { is_in_row self.now ≡ true }
@@ -79,7 +79,7 @@ impl Edge {
         requires fonts { length fonts.now ≡ length text.now }
         requires room { length self.old.sheet.cells + blanks + length text.now ≤ CELLS }
         requires fits { (blanks == 1 || fits_after self.old blanks text.now) ≡ true }
-        ensures gives { (given : Laid Edge) × LaysOut O.left out.old given out.new self.new × (0 < length text.now
+        ensures gives { (given : Laid FillEdge) × LaysOut O.left out.old given out.new self.new × (0 < length text.now
             → LaysUpTo self.old blanks text.now fonts.now (drop result text.now) (drop result fonts.now) given) }
         ensures within { result ≤ length text.now }
         ensures room { length self.new.sheet.cells + (length text.now - result) ≤ CELLS }
@@ -107,7 +107,7 @@ impl Edge {
         requires some { 0 < length text.now }
         requires plain { is_printable_ascii text.now ≡ true }
         requires fonts { length fonts.now ≡ length text.now }
-        ensures gives { (given : Laid Edge) × LaysOut O.left out.old given out.new self.new × LaysWords self.old blanks text.now fonts.now given }
+        ensures gives { (given : Laid FillEdge) × LaysOut O.left out.old given out.new self.new × LaysWords self.old blanks text.now fonts.now given }
         ensures sound { is_sound self.new.word ≡ true }
     {
         let mut rest = text;

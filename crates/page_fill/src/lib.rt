@@ -4,7 +4,7 @@
 //! sink. Between two breaks there is a list of words, each with the blanks before it; a row takes them up to the first one that passes its
 //! width. So says the definition in words that all contracts here cite: read `filled` in `specs/Filling.antt` first, and then [`FillerWith`].
 //!
-//! What the code does is a machine: one piece after another goes into the open row ([`Edge`], which is all that is held between two pieces), and rows
+//! What the code does is a machine: one piece after another goes into the open row ([`FillEdge`], which is all that is held between two pieces), and rows
 //! go out as they are settled (`specs/machine/Fill.antt`, which you need not read to trust the result).
 //!
 //! Proved: `FillerWith` (`new`, `piece`, `take_blanks`, `takes_words`, `words`, `take_kept`, `finish`), which is a `PieceFiller` in a page, and a `Filler` where the cells of the open
@@ -22,7 +22,7 @@ mod lettered_words;
 mod pieces;
 mod stops;
 
-pub use edges::Edge;
+pub use edges::FillEdge;
 pub use fillers::{Filler, FillerPart, FillerWith, PieceFiller};
 pub use laws::{glue_law, part_law, word_law, words_law};
 pub use page_core_base::{Piece, PieceSink, TagForm};

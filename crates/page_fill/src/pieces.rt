@@ -7,7 +7,7 @@ ghost use Rattle.page_core_base.specs.declared.pieces.Piece.TheVariants.{Text};
 ghost use Rattle.page_fill.specs.laws.Views.{under};
 ghost use Rattle.page_fill.specs.machine.Fill as fill;
 
-use crate::edges::{Edge, NO_WORD};
+use crate::edges::{FillEdge, NO_WORD};
 use page_core_base::{
     BLANK_TEXT, Fault, Font, NoteSink, Output, Piece, Place, RowOut, RowSink, Settings,
 };
@@ -17,7 +17,7 @@ use std::alloc::{AllocError, Global};
 // Takes a piece, and gives the rows and messages that it settles.
 #[inline(always)]
 #[tactic(auto, unfolding(crate::specs::machine::Fill::laid_piece))]
-fn take_piece<O: RowOut>(edge: &mut Edge, piece: Piece<&[u8]>, out: &mut O)
+fn take_piece<O: RowOut>(edge: &mut FillEdge, piece: Piece<&[u8]>, out: &mut O)
     ensures { LaysOut O.left out.old (fill.laid_piece edge.old (piece_of piece.entry)) out.new edge.new }
 {
     match piece {
@@ -41,13 +41,13 @@ fn take_piece<O: RowOut>(edge: &mut Edge, piece: Piece<&[u8]>, out: &mut O)
     }
 }
 
-impl Edge {
+impl FillEdge {
     /// Below the header of a page of these settings, with one blank row. It reserves all memory that is ever held.
-    pub fn new(alloc: Global, settings: &Settings) -> Result<Edge, AllocError>
+    pub fn new(alloc: Global, settings: &Settings) -> Result<FillEdge, AllocError>
         ensures { IfOk result (λ e. e ≡ fill.start settings.now) }
     {
         let sheet = OpenRow::new(alloc, settings.width)?;
-        Ok(Edge {
+        Ok(FillEdge {
             sheet,
             word: NO_WORD,
             tag: None,
@@ -57,11 +57,11 @@ impl Edge {
     }
 
     /// This edge on a page of another width in columns and another output. It reserves all memory that is ever held.
-    pub fn copy(&self, alloc: Global, width: u32, output: Output) -> Result<Edge, AllocError>
+    pub fn copy(&self, alloc: Global, width: u32, output: Output) -> Result<FillEdge, AllocError>
         ensures { IfOk result (λ e. e ≡ under width output self.now) }
     {
         let sheet = self.sheet.copy(alloc, width)?;
-        Ok(Edge {
+        Ok(FillEdge {
             sheet,
             word: self.word,
             tag: self.tag,

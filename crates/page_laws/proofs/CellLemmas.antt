@@ -4,7 +4,7 @@ use Rattle.std.specs.List.{prefix_len}
 use Rattle.std.proofs.lemmas.Bool.{cases_Bool}
 use Rattle.std.proofs.lemmas.Bool.Decides.{nat_tests}
 use Rattle.page_scopes_phrases.specs.LineWords.{after_tab, cell, cells, cells_within, first_part, has_tab, other_cells, span, without_blanks}
-use Rattle.page_scopes_phrases.specs.Phrases.{Outcome, followed_by}
+use Rattle.page_scopes_phrases.specs.Phrases.{EventOutcome, followed_by}
 use Rattle.page_scopes_phrases.specs.declared.formatting.Formatting.{Formatting}
 use Rattle.page_scopes_phrases.specs.declared.phrases.Phrase.{Phrase}
 
@@ -30,7 +30,7 @@ no-tab : (p : Phrase (List ℕ)) → length p.text ≤ 0 → has_tab p ≡ false
 no-tab p h = grind (arith, nat_tests, h)
 
 -- what comes first, and then this
-abbrev then : Outcome → Outcome → Outcome
+abbrev then : EventOutcome → EventOutcome → EventOutcome
 then first next = record { items = first.items ++ next.items; state = next.state }
 
 -- enough steps are as good as more

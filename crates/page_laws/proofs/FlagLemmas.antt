@@ -1,7 +1,7 @@
 -- A line whose last event is at the column after its last byte: helpers of proofs.
 use Rattle.std.proofs.Common.{◌≡◌, ℕ, zero, suc, ◌+◌, Bool, true, false, List, [], ◌∷◌, ◌++◌, length, refl, ap, ◌∙◌, arith, None, Some}
 use Rattle.std.specs.Prelude.{codes}
-use Rattle.page_core_base.specs.Texts.{Line}
+use Rattle.page_core_base.specs.Texts.{TakenLine}
 use Rattle.page_roff_syntax.specs.declared.quotes.Argument.{Argument}
 use Rattle.page_roff_syntax.specs.declared.quotes.Quoting.TheVariants.{Unclosed}
 use Rattle.page_roff_syntax.specs.Arguments.{first_arguments, arguments}
@@ -67,15 +67,15 @@ flag_macro : line_macro (codes "Fl") ≡ Some (lines.Inline inlines.Flag)
 unfolding row_of
 flag_macro = refl
 
-line_parted : (line : Line) (column : ℕ) → line_arguments line ≡ empty_word column ∷ [] → line_parts (Some inlines.Flag) line ≡ flag_parts column
+line_parted : (line : TakenLine) (column : ℕ) → line_arguments line ≡ empty_word column ∷ [] → line_parts (Some inlines.Flag) line ≡ flag_parts column
 line_parted line column h = rw h (parted column (is_parsed (name_of line)))
 
-parted_events : (line : Line) (column : ℕ)
+parted_events : (line : TakenLine) (column : ℕ)
     → head_events line inlines.Flag (flag_parts column) ++ (line_end line.number true ∷ []) ≡ unclosed_flag line.number column
 unfolding is_real word_delimiter
 parted_events line column = refl
 
-named_flag : (line : Line) (column : ℕ) → is_nameless line ≡ false → name_of line ≡ codes "Fl" → line_arguments line ≡ empty_word column ∷ []
+named_flag : (line : TakenLine) (column : ℕ) → is_nameless line ≡ false → name_of line ≡ codes "Fl" → line_arguments line ≡ empty_word column ∷ []
     → control_events line ≡ unclosed_flag line.number column
 named_flag line column n name h =
     let by_name : named_events (line_macro (name_of line)) line ≡ named_events (Some (lines.Inline inlines.Flag)) line =

@@ -5,7 +5,7 @@ use Rattle.page_sets_lines.specs.declared.openers.Closer.TheVariants as closers
 use Rattle.std.specs.Option.{option_or, option_map_or}
 use Rattle.std.specs.Str.{bytes_eq}
 use Rattle.std.proofs.lemmas.Bool.{cases_Bool}
-use Rattle.page_core_base.specs.Texts.{Line}
+use Rattle.page_core_base.specs.Texts.{TakenLine}
 use Rattle.page_core_base.specs.Messages.{row_in}
 use Rattle.page_core_base.specs.declared.cells.Font.{Font}
 use Rattle.page_core_base.specs.declared.cells.Font.TheVariants as fonts
@@ -131,7 +131,7 @@ row_at IsSo place name arguments p s h =
 
 -- ---- a line
 
-named_at : (line : Line) → is_nameless line ≡ false → AreAll (IsInLine line) (named_events line (row_of (name_of line)))
+named_at : (line : TakenLine) → is_nameless line ≡ false → AreAll (IsInLine line) (named_events line (row_of (name_of line)))
 named_at line n =
     let place = name_place line in
     let p = name_in line n in
@@ -152,17 +152,17 @@ named_at line n =
           either_at (IsInLine line) (has_arguments rest) _ _ whole (h.3 _ whole)
     ]) facts
 
-control_at : (line : Line) → AreAll (IsInLine line) (control_events line)
+control_at : (line : TakenLine) → AreAll (IsInLine line) (control_events line)
 control_at line =
     elim (cases_Bool (is_nameless line)) [
       | inl t ↦ rw t (start_in line _, tt)
       | inr t ↦ rw t (named_at line t)
     ]
 
-form_at : (line : Line) (plain : Option PlainLine) → AreAll (IsInLine line) (option_map_or (plain_events line.number line.text) plain (control_events line))
+form_at : (line : TakenLine) (plain : Option PlainLine) → AreAll (IsInLine line) (option_map_or (plain_events line.number line.text) plain (control_events line))
 form_at line None = control_at line
 form_at line (Some plain) = (start_in line _, (start_in line _, tt))
 
-pub man_at : (line : Line) → AreAll (IsInLine line) (man_events line)
+pub man_at : (line : TakenLine) → AreAll (IsInLine line) (man_events line)
 unfolding man_events
 man_at line = form_at line (plain_line line.form line.text)

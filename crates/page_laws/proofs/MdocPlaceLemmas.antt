@@ -1,7 +1,7 @@
 -- The events of mdoc(7) are in their line: helpers of proofs.
 use Rattle.std.proofs.Common.{◌≡◌, ℕ, ◌≤◌, Bool, true, false, List, [], ◌∷◌, length, refl, arith, inl, inr, Option, None, Some, if◌then◌else◌}
 use Rattle.std.proofs.lemmas.Bool.{cases_Bool}
-use Rattle.page_core_base.specs.Texts.{Line}
+use Rattle.page_core_base.specs.Texts.{TakenLine}
 use Rattle.page_core_base.specs.declared.note_kinds.NoteKind.{NoteKind}
 use Rattle.page_core_base.specs.declared.note_kinds.NoteKind.TheVariants.{UnknownMacro, EmptyMacro}
 use Rattle.page_roff_syntax.specs.declared.quotes.Argument.{Argument}
@@ -14,7 +14,7 @@ use Rattle.page_sets_lines.specs.declared.plain_lines.PlainLine.{PlainLine}
 use Rattle.page_sets_mdoc_lines.specs.declared.blocks.LineMacro.{LineMacro}
 use Rattle.page_sets_mdoc_lines.specs.declared.blocks.LineMacro.TheVariants as lines
 use Rattle.page_sets_mdoc_lines.specs.declared.macros.Inline.{Inline}
-use Rattle.page_sets_mdoc_lines.specs.Parts.{Call, LineParts, has_calls, if_parsed, part_first, parts, tail_alone, takes, closes, is_closing, word_call, word_delimiter, delimiter_of}
+use Rattle.page_sets_mdoc_lines.specs.Parts.{InlineCall, LineParts, has_calls, if_parsed, part_first, parts, tail_alone, takes, closes, is_closing, word_call, word_delimiter, delimiter_of}
 use Rattle.page_roff_syntax.specs.Arguments.{is_quoted, has_arguments}
 use Rattle.page_roff_syntax.specs.declared.quotes.Quoting.{Quoting}
 use Rattle.page_roff_syntax.specs.declared.quotes.Quoting.TheVariants.{Bare, Closed, Unclosed}
@@ -56,12 +56,12 @@ closing_byte word h = closed_byte word.quoting word.text h
 -- ---- the parts of a line
 
 -- any event may be at a word that calls a macro
-record CallSits (IsSo : Event (List ℕ) → Type 0) (number : ℕ) (call : Call) : Type 0 where
+record CallSits (IsSo : Event (List ℕ) → Type 0) (number : ℕ) (call : InlineCall) : Type 0 where
   name : AnyAt IsSo (word_place number call.name)
   taken : SitsIfGiven IsSo number call.taken
   words : AllSit IsSo number call.words
 
-abbrev CallsSit : (Event (List ℕ) → Type 0) → ℕ → List Call → Type 0
+abbrev CallsSit : (Event (List ℕ) → Type 0) → ℕ → List InlineCall → Type 0
 CallsSit IsSo number [] = Unit {0}
 CallsSit IsSo number (call ∷ calls) = CallSits IsSo number call × CallsSit IsSo number calls
 
@@ -113,12 +113,12 @@ parts_sit IsSo number begun parsed (word ∷ words) h =
           ]
     ]
 
-line_parts_sit : (line : Line) (begun : Option Inline) → PartsSit (IsInLine line) line.number (line_parts begun line)
+line_parts_sit : (line : TakenLine) (begun : Option Inline) → PartsSit (IsInLine line) line.number (line_parts begun line)
 line_parts_sit line begun = parts_sit (IsInLine line) line.number begun (is_parsed (name_of line)) (line_arguments line) (all_sit line (name_end line))
 
 -- ---- what comes after the words of the macro that begins the line
 
-calls_at : (IsSo : Event (List ℕ) → Type 0) (number : ℕ) (calls : List Call) → CallsSit IsSo number calls → AreAll IsSo (calls_events number calls)
+calls_at : (IsSo : Event (List ℕ) → Type 0) (number : ℕ) (calls : List InlineCall) → CallsSit IsSo number calls → AreAll IsSo (calls_events number calls)
 calls_at IsSo number [] h = tt
 calls_at IsSo number (call ∷ calls) h =
     AreAll-append IsSo _ _
@@ -134,7 +134,7 @@ rest_at IsSo number p h = AreAll-append IsSo _ _ (calls_at IsSo number p.calls h
 
 -- ---- the words of a line
 
-head_at : (line : Line) (inline : Inline) → AnyAt (IsInLine line) (name_place line) → AreAll (IsInLine line) (head_events line inline (line_parts (Some inline) line))
+head_at : (line : TakenLine) (inline : Inline) → AnyAt (IsInLine line) (name_place line) → AreAll (IsInLine line) (head_events line inline (line_parts (Some inline) line))
 head_at line inline p =
     let these = line_parts (Some inline) line in
     let h = line_parts_sit line (Some inline) in
@@ -142,15 +142,15 @@ head_at line inline p =
     (placed_at (IsInLine line) true (name_place line) (name_of line) inline these.taken these.words (has_calls these.calls) p h.taken h.words)
     (rest_at (IsInLine line) line.number these h)
 
-phrase_at : (line : Line) → AreAll (IsInLine line) (phrase_events line.number (line_parts None line))
+phrase_at : (line : TakenLine) → AreAll (IsInLine line) (phrase_events line.number (line_parts None line))
 phrase_at line =
     let h = line_parts_sit line None in
     AreAll-append (IsInLine line) _ _ (printed_at (IsInLine line) line.number None _ h.words) (rest_at (IsInLine line) line.number (line_parts None line) h)
 
-arguments_sit : (line : Line) → AllSit (IsInLine line) line.number (line_arguments line)
+arguments_sit : (line : TakenLine) → AllSit (IsInLine line) line.number (line_arguments line)
 arguments_sit line = all_sit line (name_end line)
 
-include_words_at : (line : Line) (real : Bool) → AnyAt (IsInLine line) (name_place line) → AreAll (IsInLine line) (include_words real line)
+include_words_at : (line : TakenLine) (real : Bool) → AnyAt (IsInLine line) (name_place line) → AreAll (IsInLine line) (include_words real line)
 include_words_at line true p =
     framed_at (IsInLine line) (name_place line) (Some Break) (Some Break) _ p (include_at (IsInLine line) (name_place line) (line_arguments line) p (arguments_sit line))
 include_words_at line false p = printed_at (IsInLine line) line.number None (line_arguments line) (arguments_sit line)
@@ -163,7 +163,7 @@ names_sit IsSo number (word ∷ words) h =
       | inr t ↦ rw t h
     ]
 
-words_at : (begins : LineMacro) (line : Line) → AnyAt (IsInLine line) (name_place line) → AreAll (IsInLine line) (words_events begins line)
+words_at : (begins : LineMacro) (line : TakenLine) → AnyAt (IsInLine line) (name_place line) → AreAll (IsInLine line) (words_events begins line)
 words_at (lines.Inline inline) line p = head_at line inline p
 words_at lines.Item line p = phrase_at line
 words_at (lines.Heading name) line p = phrase_at line
@@ -173,21 +173,16 @@ words_at (lines.Field font) line p = printed_at (IsInLine line) line.number (fie
 words_at (lines.Sentence sentence) line p =
     sentence_at (IsInLine line) (name_place line) sentence (given_names (line_arguments line)) p (names_sit (IsInLine line) line.number (line_arguments line) (arguments_sit line))
 words_at lines.Include line p = include_words_at line (has_real_word line) p
-words_at (lines.Prologue name) line p = tt
-words_at (lines.Paragraph name) line p = tt
-words_at (lines.Begins block) line p = tt
-words_at (lines.Ends block) line p = tt
-words_at lines.Spacing line p = tt
-words_at lines.Target line p = tt
+words_at _ line p = tt
 
 -- ---- what a macro does before its words
 
-quote_at : (line : Line) (begins_body : Bool) (column : Option ℕ) → IsAtIfGiven (IsInLine line) line.number column
+quote_at : (line : TakenLine) (begins_body : Bool) (column : Option ℕ) → IsAtIfGiven (IsInLine line) line.number column
     → AreAll (IsInLine line) (quote_events line.number begins_body column)
 quote_at line begins_body None h = tt
 quote_at line begins_body (Some column) h = (h _, tt)
 
-missing_at : (line : Line) (begins_body : Bool) → AreAll (IsInLine line) (missing_quote begins_body line)
+missing_at : (line : TakenLine) (begins_body : Bool) → AreAll (IsInLine line) (missing_quote begins_body line)
 missing_at line begins_body = quote_at line begins_body _ (open_at (IsInLine line) line.number 0 (line_arguments line) (arguments_sit line))
 
 option_quote_at : (IsSo : Event (List ℕ) → Type 0) (number : ℕ) (words : List (Argument (List ℕ))) → AllSit IsSo number words → IsAtIfGiven IsSo number (option_quote words)
@@ -203,69 +198,67 @@ option_quote_at IsSo number (word ∷ words) h =
       | inr s ↦ rw s tt
     ]
 
-note_at : (line : Line) (kind : Option NoteKind) → AnyAt (IsInLine line) (name_place line) → AreAll (IsInLine line) (note_events line kind)
+note_at : (line : TakenLine) (kind : Option NoteKind) → AnyAt (IsInLine line) (name_place line) → AreAll (IsInLine line) (note_events line kind)
 note_at line None p = tt
 note_at line (Some kind) p = (p _, tt)
 
-kind_at : (line : Line) (kind : Option (EventKind (List ℕ))) → AnyAt (IsInLine line) (name_place line) → AreAll (IsInLine line) (kind_at_name line kind)
+kind_at : (line : TakenLine) (kind : Option (EventKind (List ℕ))) → AnyAt (IsInLine line) (name_place line) → AreAll (IsInLine line) (kind_at_name line kind)
 kind_at line None p = tt
 kind_at line (Some kind) p = (p _, tt)
 
-field_at : (real : Bool) (line : Line) → AnyAt (IsInLine line) (name_place line) → AreAll (IsInLine line) (field_front real line)
+field_at : (real : Bool) (line : TakenLine) → AnyAt (IsInLine line) (name_place line) → AreAll (IsInLine line) (field_front real line)
 field_at true line p = (p _, tt)
 field_at false line p = (p _, tt)
 
-include_front_at : (real : Bool) (line : Line) → AnyAt (IsInLine line) (name_place line) → AreAll (IsInLine line) (include_front real line)
+include_front_at : (real : Bool) (line : TakenLine) → AnyAt (IsInLine line) (name_place line) → AreAll (IsInLine line) (include_front real line)
 include_front_at true line p = tt
 include_front_at false line p = (p _, tt)
 
-front_at : (begins : LineMacro) (line : Line) → AnyAt (IsInLine line) (name_place line) → AreAll (IsInLine line) (block_front begins line)
+front_at : (begins : LineMacro) (line : TakenLine) → AnyAt (IsInLine line) (name_place line) → AreAll (IsInLine line) (block_front begins line)
 front_at (lines.Inline inline) line p = tt
-front_at (lines.Prologue name) line p = AreAll-append (IsInLine line) _ _ (missing_at line false) (p _, tt)
 front_at (lines.Heading name) line p = (p _, (p _, tt))
-front_at (lines.Paragraph name) line p = AreAll-append (IsInLine line) _ _ (missing_at line false) (p _, tt)
 front_at lines.Description line p = (p _, tt)
 front_at (lines.OneLine name) line p = (p _, tt)
 front_at (lines.Begins block) line p =
     AreAll-append (IsInLine line) _ _ (missing_at line true) (AreAll-append (IsInLine line) _ _ (note_at line (block_note block line) p) (p _, tt))
-front_at (lines.Ends block) line p = AreAll-append (IsInLine line) _ _ (missing_at line false) (p _, tt)
 front_at lines.Item line p = (p _, (p _, tt))
 front_at (lines.Field font) line p = field_at (has_real_word line) line p
 front_at (lines.Sentence sentence) line p = quote_at line true _ (option_quote_at (IsInLine line) line.number (line_arguments line) (arguments_sit line))
 front_at lines.Include line p = include_front_at (has_real_word line) line p
 front_at lines.Spacing line p = AreAll-append (IsInLine line) _ _ (missing_at line false) (kind_at line (spacing_kind (spacing_of (first_text line))) p)
 front_at lines.Target line p = missing_at line false
+front_at _ line p = AreAll-append (IsInLine line) _ _ (missing_at line false) (p _, tt)
 
 -- ---- a line
 
-refused_at : (kind : NoteKind) (line : Line) → AnyAt (IsInLine line) (name_place line) → AreAll (IsInLine line) (refused_events kind line)
+refused_at : (kind : NoteKind) (line : TakenLine) → AnyAt (IsInLine line) (name_place line) → AreAll (IsInLine line) (refused_events kind line)
 refused_at kind line p = (p _, (start_in line _, tt))
 
-macro_at : (begins : LineMacro) (line : Line) → AnyAt (IsInLine line) (name_place line) → AreAll (IsInLine line) (macro_events begins line)
+macro_at : (begins : LineMacro) (line : TakenLine) → AnyAt (IsInLine line) (name_place line) → AreAll (IsInLine line) (macro_events begins line)
 macro_at begins line p =
     either_at (IsInLine line) (has_phrase begins && not (has_arguments (rest_of line))) _ _ (refused_at EmptyMacro line p)
     (AreAll-append (IsInLine line) _ _ (front_at begins line p) (AreAll-append (IsInLine line) _ _ (words_at begins line p) (start_in line _, tt)))
 
-request_at : (request : Option LayoutRequest) (line : Line) → AnyAt (IsInLine line) (name_place line) → AreAll (IsInLine line) (request_events request line)
+request_at : (request : Option LayoutRequest) (line : TakenLine) → AnyAt (IsInLine line) (name_place line) → AreAll (IsInLine line) (request_events request line)
 request_at None line p = refused_at UnknownMacro line p
 request_at (Some request) line p =
     AreAll-append (IsInLine line) _ _ (AreAll-append (IsInLine line) _ _ (missing_at line false) (p _, tt)) (start_in line _, tt)
 
-named_at : (begins : Option LineMacro) (line : Line) → AnyAt (IsInLine line) (name_place line) → AreAll (IsInLine line) (named_events begins line)
+named_at : (begins : Option LineMacro) (line : TakenLine) → AnyAt (IsInLine line) (name_place line) → AreAll (IsInLine line) (named_events begins line)
 named_at None line p = request_at (layout_request (name_of line)) line p
 named_at (Some begins) line p = macro_at begins line p
 
-control_at : (line : Line) → AreAll (IsInLine line) (control_events line)
+control_at : (line : TakenLine) → AreAll (IsInLine line) (control_events line)
 control_at line =
     elim (cases_Bool (is_nameless line)) [
       | inl t ↦ rw t (start_in line _, tt)
       | inr t ↦ rw t (named_at (line_macro (name_of line)) line (name_in line t))
     ]
 
-form_at : (line : Line) (plain : Option PlainLine) → AreAll (IsInLine line) (option_map_or (plain_events line.number line.text) plain (control_events line))
+form_at : (line : TakenLine) (plain : Option PlainLine) → AreAll (IsInLine line) (option_map_or (plain_events line.number line.text) plain (control_events line))
 form_at line None = control_at line
 form_at line (Some plain) = (start_in line _, (start_in line _, tt))
 
-pub mdoc_at : (line : Line) → AreAll (IsInLine line) (mdoc_events line)
+pub mdoc_at : (line : TakenLine) → AreAll (IsInLine line) (mdoc_events line)
 unfolding mdoc_events
 mdoc_at line = form_at line (plain_line line.form line.text)

@@ -3,7 +3,7 @@ use Rattle.std.proofs.Common.{◌≡◌, ℕ, zero, suc, ◌+◌, ◌-◌, ◌�
 use Rattle.std.proofs.lemmas.Bool.{cases_Bool}
 use Rattle.std.proofs.lemmas.Bool.Decides.{nat_tests}
 use Rattle.std.proofs.lemmas.List.{drop-drop}
-use Rattle.page_core_base.specs.Texts.{Line}
+use Rattle.page_core_base.specs.Texts.{TakenLine}
 use Rattle.page_core_base.specs.declared.places.Place.{Place}
 use Rattle.page_roff_syntax.specs.declared.quotes.Argument.{Argument}
 use Rattle.page_roff_syntax.specs.Arguments.{is_blank, begins_quoted, argument_len, quoted_len, first_argument, first_arguments, quoted_argument, bare_argument, arguments}
@@ -107,31 +107,31 @@ after_quote text start w h =
     ]
 
 -- an event in a line by its column
-in_line : (line : Line) (column : ℕ) (kind : EventKind (List ℕ)) → 1 ≤ column → column ≤ last_column (prints_text kind) line.text
+in_line : (line : TakenLine) (column : ℕ) (kind : EventKind (List ℕ)) → 1 ≤ column → column ≤ last_column (prints_text kind) line.text
     → IsInLine line (event_at (record { line = line.number; column = column }) kind)
 in_line line column kind b e = record { number = refl; begins = b; ends = e }
 
 -- at one of its bytes
-at_byte : (line : Line) (column : ℕ) → 1 ≤ column → column ≤ length line.text → AnyAt (IsInLine line) (record { line = line.number; column = column })
+at_byte : (line : TakenLine) (column : ℕ) → 1 ≤ column → column ≤ length line.text → AnyAt (IsInLine line) (record { line = line.number; column = column })
 at_byte line column b e = λ kind. in_line line column kind b (omega (arith, e, long_enough (prints_text kind) line.text))
 
-bare_sits : (line : Line) (start : ℕ) (text : List ℕ) → start < length line.text → Sits (IsInLine line) line.number (bare_argument (start + 1) text)
+bare_sits : (line : TakenLine) (start : ℕ) (text : List ℕ) → start < length line.text → Sits (IsInLine line) line.number (bare_argument (start + 1) text)
 bare_sits line start text w =
     let any = at_byte line (start + 1) (omega arith) (omega (arith, w)) in
     record { first = λ kind prints. any kind; byte = λ some. any; quote = λ no. cc }
 
-quoted_byte : (line : Line) (start : ℕ) → start < length line.text → 1 ≤ length (quoted_argument (start + 1) (drop 1 (drop start line.text))).text
+quoted_byte : (line : TakenLine) (start : ℕ) → start < length line.text → 1 ≤ length (quoted_argument (start + 1) (drop 1 (drop start line.text))).text
     → AnyAt (IsInLine line) (record { line = line.number; column = start + 1 + 1 })
 quoted_byte line start w some =
     let inner = drop 1 (drop start line.text) in
     at_byte line (start + 1 + 1) (omega arith) (omega (arith, some, length-take (quoted_len inner) inner, length-drop 1 (drop start line.text), length-drop start line.text))
 
-quoted_text : (line : Line) (start : ℕ) (kind : EventKind (List ℕ)) → start < length line.text → begins_quoted (drop start line.text) ≡ true → prints_text kind ≡ true
+quoted_text : (line : TakenLine) (start : ℕ) (kind : EventKind (List ℕ)) → start < length line.text → begins_quoted (drop start line.text) ≡ true → prints_text kind ≡ true
     → IsInLine line (event_at (record { line = line.number; column = start + 1 + 1 }) kind)
 quoted_text line start kind w h prints =
     in_line line (start + 1 + 1) kind (omega arith) (rw prints (after_quote line.text start w h))
 
-quoted_sits : (line : Line) (start : ℕ) → start < length line.text → begins_quoted (drop start line.text) ≡ true
+quoted_sits : (line : TakenLine) (start : ℕ) → start < length line.text → begins_quoted (drop start line.text) ≡ true
     → Sits (IsInLine line) line.number (quoted_argument (start + 1) (drop 1 (drop start line.text)))
 quoted_sits line start w h =
     let e : start + 1 + 1 - 1 ≡ start + 1 = omega arith in
@@ -141,14 +141,14 @@ quoted_sits line start w h =
       quote = λ alone. rw e (at_byte line (start + 1) (omega arith) (omega (arith, w)));
     }
 
-first_sits : (line : Line) (start : ℕ) → start < length line.text → Sits (IsInLine line) line.number (first_argument (start + 1) (drop start line.text))
+first_sits : (line : TakenLine) (start : ℕ) → start < length line.text → Sits (IsInLine line) line.number (first_argument (start + 1) (drop start line.text))
 first_sits line start w =
     elim (cases_Bool (begins_quoted (drop start line.text))) [
       | inl t ↦ rw t (quoted_sits line start w t)
       | inr t ↦ rw t (bare_sits line start (drop start line.text) w)
     ]
 
-all_from : (line : Line) (n start : ℕ) (text : List ℕ) → text ≡ drop start line.text → AllSit (IsInLine line) line.number (first_arguments n (start + 1) text)
+all_from : (line : TakenLine) (n start : ℕ) (text : List ℕ) → text ≡ drop start line.text → AllSit (IsInLine line) line.number (first_arguments n (start + 1) text)
 all_from line zero start text e = tt
 all_from line (suc n) start [] e = tt
 all_from line (suc n) start (b ∷ bs) e =
@@ -164,16 +164,16 @@ all_from line (suc n) start (b ∷ bs) e =
       | inr t ↦ rw t (first, rw column (all_from line n (start + len) (drop len (b ∷ bs)) rest))
     ]
 
-pub all_sit : (line : Line) (start : ℕ) → AllSit (IsInLine line) line.number (arguments_after start line.text)
+pub all_sit : (line : TakenLine) (start : ℕ) → AllSit (IsInLine line) line.number (arguments_after start line.text)
 unfolding arguments
 all_sit line start = all_from line (length (drop start line.text)) start (drop start line.text) refl
 
 -- ---- its name, and its start
 
-pub start_in : (line : Line) → AnyAt (IsInLine line) (line_start line.number)
+pub start_in : (line : TakenLine) → AnyAt (IsInLine line) (line_start line.number)
 start_in line = λ kind. in_line line 1 kind (omega arith) (omega arith)
 
-pub name_in : (line : Line) → is_nameless line ≡ false → AnyAt (IsInLine line) (name_place line)
+pub name_in : (line : TakenLine) → is_nameless line ≡ false → AnyAt (IsInLine line) (name_place line)
 name_in line h =
     let n : (before_name line.text == name_end line) ≡ false = h in
     let some : before_name line.text < length line.text = grind (arith, nat_tests) in

@@ -2,7 +2,7 @@
 use Rattle.std.proofs.Common.{◌≡◌, ℕ, ◌+◌, ◌≤◌, min, ◌&&◌, List, [], ◌∷◌, length, inl, inr, arith}
 use Rattle.std.proofs.lemmas.Bool.{cases_Bool}
 use Rattle.page_core_base.specs.Limits.{LINE}
-use Rattle.page_core_base.specs.Texts.{Line}
+use Rattle.page_core_base.specs.Texts.{TakenLine}
 use Rattle.page_sets.specs.Mdoc.{either_events}
 use Rattle.page_sets.specs.declared.either.Either.{Either}
 use Rattle.page_sets.specs.declared.either.Either.TheVariants as sets
@@ -11,7 +11,7 @@ use Rattle.page_laws.specs.Places.{ends_in_quote, prints_text, IsInLine, AreAll}
 use Rattle.page_laws.proofs.ManPlaceLemmas.{man_at}
 use Rattle.page_laws.proofs.MdocPlaceLemmas.{mdoc_at}
 
-pub all_in_line : (set : Either) (line : Line) → AreAll (IsInLine line) (either_events set line)
+pub all_in_line : (set : Either) (line : TakenLine) → AreAll (IsInLine line) (either_events set line)
 all_in_line sets.Man line = man_at line
 all_in_line sets.Mdoc line = mdoc_at line
 
@@ -24,7 +24,7 @@ each_then IsSo IsThen (event ∷ events) f h = (f event h.0, each_then IsSo IsTh
 
 -- ---- by the limit of a line
 
-one_more : (line : Line) (event : Event (List ℕ)) → length line.text ≤ LINE → IsInLine line event → event.place.column ≤ LINE + 1
+one_more : (line : TakenLine) (event : Event (List ℕ)) → length line.text ≤ LINE → IsInLine line event → event.place.column ≤ LINE + 1
 one_more line event l h =
     let e = h.ends in
     elim (cases_Bool (prints_text event.kind && ends_in_quote line.text)) [
@@ -32,9 +32,9 @@ one_more line event l h =
       | inr t ↦ let k = rw t at e in omega (arith, l, k)
     ]
 
-pub all_one_more : (set : Either) (line : Line) → length line.text ≤ LINE → AreAll (λ event. event.place.column ≤ LINE + 1) (either_events set line)
+pub all_one_more : (set : Either) (line : TakenLine) → length line.text ≤ LINE → AreAll (λ event. event.place.column ≤ LINE + 1) (either_events set line)
 all_one_more set line l = each_then (IsInLine line) _ (either_events set line) (λ event h. one_more line event l h) (all_in_line set line)
 
 -- so no limit above it changes a column
-pub all_same : (set : Either) (line : Line) → length line.text ≤ LINE → AreAll (λ event. min event.place.column (LINE + 1) ≡ event.place.column) (either_events set line)
+pub all_same : (set : Either) (line : TakenLine) → length line.text ≤ LINE → AreAll (λ event. min event.place.column (LINE + 1) ≡ event.place.column) (either_events set line)
 all_same set line l = each_then _ _ (either_events set line) (λ event h. omega (arith, h)) (all_one_more set line l)

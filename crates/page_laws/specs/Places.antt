@@ -1,6 +1,6 @@
 -- Where the events of a line are in it. Source: man(7), mdoc(7); roff(7), "LANGUAGE SYNTAX".
 use Rattle.std.specs.Prelude.{◌≡◌, ℕ, zero, suc, ◌+◌, ◌≤◌, max, ◌==◌, ◌&&◌, Bool, false, true, List, [], ◌∷◌, ◌++◌, length, if◌then◌else◌, Some, codes}
-use Rattle.page_core_base.specs.Texts.{Line}
+use Rattle.page_core_base.specs.Texts.{TakenLine}
 use Rattle.page_core_base.specs.declared.cells.Font.TheVariants.{B}
 use Rattle.page_core_base.specs.declared.lines_taken.Form.TheVariants.{Control}
 use Rattle.page_roff_syntax.specs.declared.quotes.Argument.{Argument}
@@ -32,7 +32,7 @@ abbrev pub last_column : Bool → List ℕ → ℕ
 last_column prints text = max 1 (if prints && ends_in_quote text then length text + 1 else length text)
 
 -- an event is in a line
-pub record IsInLine (line : Line) (event : Event (List ℕ)) : Type 0 where
+pub record IsInLine (line : TakenLine) (event : Event (List ℕ)) : Type 0 where
   pub number : event.place.line ≡ line.number
   pub begins : 1 ≤ event.place.column
   pub ends : event.place.column ≤ last_column (prints_text event.kind) line.text
@@ -50,15 +50,15 @@ quote_after zero = 34 ∷ []
 quote_after (suc blanks) = 32 ∷ quote_after blanks
 
 -- `Fl` with an argument that lacks its last quote, and has no byte
-abbrev pub flag_line : (number blanks : ℕ) → Line
+abbrev pub flag_line : (number blanks : ℕ) → TakenLine
 flag_line number blanks = record { form = Control; text = codes ".Fl" ++ quote_after blanks; number = number; name_end = 3 }
 
 -- it is in the column after the quote
-abbrev pub last_argument : Line → Argument (List ℕ)
+abbrev pub last_argument : TakenLine → Argument (List ℕ)
 last_argument line = record { text = []; column = length line.text + 1; quoting = Unclosed }
 
 -- the dash before it is there, too
-abbrev pub flag_events : Line → List (Event (List ℕ))
+abbrev pub flag_events : TakenLine → List (Event (List ℕ))
 flag_events line =
     generated_word (word_place line.number (last_argument line)) Dash (Some B) Apart Glued
     ∷ word_event line.number roles.Argument (Some B) Apart Apart (last_argument line)

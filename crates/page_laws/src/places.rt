@@ -2,7 +2,7 @@
 
 ghost use Rattle.std.specs.Prelude.{◌≡◌, ◌≤◌, ◌+◌, ℕ, length, min};
 ghost use Rattle.page_core_base.specs.Limits.{LINE};
-ghost use Rattle.page_core_base.specs.Texts.{Line};
+ghost use Rattle.page_core_base.specs.Texts.{TakenLine};
 ghost use Rattle.page_sets.specs.Mdoc.{either_events};
 ghost use Rattle.page_sets.specs.declared.either.Either.{Either};
 ghost use Rattle.page_sets.specs.declared.either.Either.TheVariants.{Mdoc};
@@ -15,10 +15,10 @@ ghost use Rattle.page_laws.specs.Places.{AreAll, IsInLine, flag_events, flag_lin
 /// So of a line within the limit no column is more than one above it (`bound`), and `limit`: that number, which bounds the column of a macro's own text
 /// (`own_phrase` of `page_scopes_phrases`), never changes one.
 pub fn places_law()
-    ensures places { (set : Either) (line : Line) → AreAll (IsInLine line) (either_events set line) }
-    ensures bound { (set : Either) (line : Line) → length line.text ≤ LINE
+    ensures places { (set : Either) (line : TakenLine) → AreAll (IsInLine line) (either_events set line) }
+    ensures bound { (set : Either) (line : TakenLine) → length line.text ≤ LINE
         → AreAll (λ event. event.place.column ≤ LINE + 1) (either_events set line) }
-    ensures limit { (set : Either) (line : Line) → length line.text ≤ LINE
+    ensures limit { (set : Either) (line : TakenLine) → length line.text ≤ LINE
         → AreAll (λ event. min event.place.column (LINE + 1) ≡ event.place.column) (either_events set line) }
     ensures last { (number blanks : ℕ) → either_events Mdoc (flag_line number blanks) ≡ flag_events (flag_line number blanks) }
 {}

@@ -5,7 +5,7 @@ use Rattle.std.proofs.lemmas.Bool.Decides.{nat_tests}
 use Rattle.std.proofs.lemmas.List.{drop-drop, drop_all, take_all}
 use Rattle.page_roff_syntax.specs.LineForms.{form_of, without_comment}
 use Rattle.page_roff_syntax.specs.declared.line_forms.LineForm.{LineForm}
-use Rattle.page_roff_syntax.specs.declared.line_forms.LineForm.TheVariants.{Comment, BlankLine, Text, Control}
+use Rattle.page_roff_syntax.specs.declared.line_forms.LineForm.TheVariants.{Control}
 use Rattle.page_roff_heads.specs.Conditions.{condition_len, blank_len, after_blanks, begins_pair, is_some_line, remainder_of}
 use Rattle.page_roff_heads.specs.Heads.{conditional_of, guarded_of, end_place, block_end_of, loop_of}
 use Rattle.page_roff_heads.specs.declared.loops.LoopRead.{LoopRead}
@@ -13,7 +13,7 @@ use Rattle.page_roff_heads.specs.declared.texts.Placed.{Placed}
 use Rattle.page_roff_blocks.specs.declared.parts.Keyword.{Keyword}
 use Rattle.page_roff_blocks.specs.declared.parts.Keyword.TheVariants as keywords
 use Rattle.page_roff_blocks.specs.declared.line_parts.LinePart.{LinePart}
-use Rattle.page_roff_blocks.specs.declared.line_parts.LinePart.TheVariants.{Leaf, Guard, Block, Loop, End, Region}
+use Rattle.page_roff_blocks.specs.declared.line_parts.LinePart.TheVariants.{Leaf, Region}
 use Rattle.page_roff_blocks.specs.Parts.{part_of, with_part, line_parts, whole_line_part, rest_text, loop_part_if, plain_part, raw_rest, keyword_of, keyword_part, form_part, written_part}
 use Rattle.page_roff_blocks.specs.laws.Views.{line_parts_left}
 use Rattle.page_roff_blocks.specs.machine.LinePlaces.{IsEndOf, IsRestIn, rest_at, parts_at, place_after, is_block, opens_block}
@@ -92,8 +92,6 @@ loop_if_ends line false read h = tt
 
 keyword_ends : (k : Keyword) (line : List ℕ) (column : ℕ) (rest : List ℕ) (rest_column : ℕ) → EndsRest line (keyword_part k line column rest rest_column).rest
 unfolding EndsRest
-keyword_ends keywords.If line column rest n = let raw = raw_rest line n in further_rest (n - 1) line (conditional_of n raw).guarded.remainder (conditional_ends n raw)
-keyword_ends keywords.IfElse line column rest n = let raw = raw_rest line n in further_rest (n - 1) line (conditional_of n raw).guarded.remainder (conditional_ends n raw)
 keyword_ends keywords.Else line column rest n = let raw = raw_rest line n in further_rest (n - 1) line (guarded_of n raw).remainder (guarded_ends n raw)
 keyword_ends keywords.While line column rest n =
     let raw = raw_rest line n in
@@ -101,12 +99,11 @@ keyword_ends keywords.While line column rest n =
     loop_if_ends line read.guarded.opens_block read (further_rest (n - 1) line read.guarded.remainder (loop_ends n raw))
 keyword_ends (keywords.Region kind) line column rest n = tt
 keyword_ends keywords.Other line column rest n = plain_ends line
+keyword_ends _ line column rest n = let raw = raw_rest line n in further_rest (n - 1) line (conditional_of n raw).guarded.remainder (conditional_ends n raw)
 
 form_ends : (line : List ℕ) (form : LineForm (List ℕ)) → EndsRest line (form_part line form).rest
-form_ends line Comment = plain_ends line
-form_ends line BlankLine = plain_ends line
-form_ends line (Text text) = plain_ends line
 form_ends line (Control name column rest rest_column) = keyword_ends (keyword_of name) line column rest rest_column
+form_ends line _ = plain_ends line
 
 -- ---- its place
 
@@ -177,11 +174,7 @@ slice_parts n line p =
 -- what of a part belongs to a loop does not change whether it opens a block
 whole_block : (line_part : LinePart (List ℕ)) → is_block (whole_line_part line_part) ≡ is_block line_part
 whole_block (Leaf text) = refl
-whole_block (Guard head) = refl
-whole_block (Block opening) = refl
-whole_block (Loop head) = refl
-whole_block End = refl
-whole_block (Region head) = refl
+whole_block _ = refl
 
 pub slice_opens : (n : ℕ) (line : List ℕ) → n ≤ length line
     → opens_block (line_parts (drop n line)) ≡ is_block (written_part (take (length line - n) (drop n line))).line_part

@@ -7,7 +7,7 @@ use Rattle.std.proofs.lemmas.List.Sums.{prefix_len-le-length}
 use Rattle.page_roff_syntax.specs.LineForms.{form_of, name_start, name_len, is_control, is_name, is_white, has_word, begins_comment, without_comment, control_line, uncommented_form}
 use Rattle.page_roff_syntax.specs.laws.Views.{name_of, begins_control}
 use Rattle.page_roff_syntax.specs.declared.line_forms.LineForm.{LineForm}
-use Rattle.page_roff_syntax.specs.declared.line_forms.LineForm.TheVariants.{Comment, BlankLine, Text, Control}
+use Rattle.page_roff_syntax.specs.declared.line_forms.LineForm.TheVariants.{Control}
 use Rattle.page_roff_syntax.proofs.ControlLemmas.{uncommented_control}
 use Rattle.page_roff_heads.specs.Heads.{conditional_of, guarded_of, block_end_of, loop_of}
 use Rattle.page_roff_heads.specs.declared.loops.LoopRead.{LoopRead}
@@ -62,12 +62,6 @@ loop_shorter line false read h = tt
 
 keyword_shorter : (k : Keyword) (line : List ℕ) (column : ℕ) (rest : List ℕ) (rest_column : ℕ) → 2 ≤ rest_column → rest_column ≤ length line + 1
     → IsShorter line (keyword_part k line column rest rest_column).rest
-keyword_shorter keywords.If line column rest rest_column a b =
-    let raw = raw_rest line rest_column in
-    within_shorter (length raw) line (conditional_of rest_column raw).guarded.remainder (conditional_within rest_column raw) (raw_shorter line rest_column a b)
-keyword_shorter keywords.IfElse line column rest rest_column a b =
-    let raw = raw_rest line rest_column in
-    within_shorter (length raw) line (conditional_of rest_column raw).guarded.remainder (conditional_within rest_column raw) (raw_shorter line rest_column a b)
 keyword_shorter keywords.Else line column rest rest_column a b =
     let raw = raw_rest line rest_column in
     within_shorter (length raw) line (guarded_of rest_column raw).remainder (guarded_within rest_column raw) (raw_shorter line rest_column a b)
@@ -78,14 +72,15 @@ keyword_shorter keywords.While line column rest rest_column a b =
     (within_shorter (length raw) line read.guarded.remainder (loop_within rest_column raw) (raw_shorter line rest_column a b))
 keyword_shorter (keywords.Region kind) line column rest rest_column a b = tt
 keyword_shorter keywords.Other line column rest rest_column a b = plain_shorter line
+keyword_shorter _ line column rest rest_column a b =
+    let raw = raw_rest line rest_column in
+    within_shorter (length raw) line (conditional_of rest_column raw).guarded.remainder (conditional_within rest_column raw) (raw_shorter line rest_column a b)
 
 form_shorter : (line : List ℕ) (form : LineForm (List ℕ)) → form_of line ≡ form → IsShorter line (form_part line form).rest
-form_shorter line Comment e = plain_shorter line
-form_shorter line BlankLine e = plain_shorter line
-form_shorter line (Text text) e = plain_shorter line
 form_shorter line (Control name column rest rest_column) e =
     let h = rest_within line name rest column rest_column e in
     keyword_shorter (keyword_of name) line column rest rest_column h.0 h.1
+form_shorter line _ e = plain_shorter line
 
 pub written_shorter : (line : List ℕ) → IsShorter line (written_part line).rest
 unfolding written_part
@@ -152,14 +147,12 @@ columns_named line name e =
 
 -- the rest of a control line begins after its control character
 form_within : (line : List ℕ) (form : LineForm (List ℕ)) (columns : Columns) → form_of line ≡ form → columns_of form ≡ Some columns → IsWithin columns.rest line
-form_within line Comment columns e h = let no : ⊥ = cc in absurd no
-form_within line BlankLine columns e h = let no : ⊥ = cc in absurd no
-form_within line (Text text) columns e h = let no : ⊥ = cc in absurd no
 form_within line (Control name column rest rest_column) columns e h =
     let w = rest_within line name rest column rest_column e in
     let same : record { name = column; rest = rest_column } ≡ columns = cc in
     let r : rest_column ≡ columns.rest = ap (λ (c : Columns). c.rest) same in
     record { past = rw (sym r) w.0; within = rw (sym r) w.1 }
+form_within line _ columns e h = let no : ⊥ = cc in absurd no
 
 pub columns_within : (line : List ℕ) (columns : Columns) → columns_of (form_of line) ≡ Some columns → IsWithin columns.rest line
 columns_within line columns h = form_within line (form_of line) columns refl h
@@ -173,12 +166,10 @@ named_within line name e =
 -- ---- the first part of a control line, by what it heads
 
 part_in : (line : List ℕ) (form : LineForm (List ℕ)) (name : List ℕ) → name_of form ≡ Some name → form_part line form ≡ named_part (keyword_of name) line form
-part_in line Comment name e = refl
-part_in line BlankLine name e = refl
-part_in line (Text text) name e = refl
 part_in line (Control other column rest rest_column) name e =
     let same : other ≡ name = cc in
     rw same refl
+part_in line _ name e = refl
 
 pub part_named : (line name : List ℕ) → name_of (form_of line) ≡ Some name → written_part line ≡ named_part (keyword_of name) line (form_of line)
 unfolding written_part
@@ -188,22 +179,18 @@ part_named line name e = part_in line (form_of line) name e
 
 named_other : (line : List ℕ) (form : LineForm (List ℕ)) (name : List ℕ) → name_of form ≡ Some name → keyword_of name ≡ keywords.Other
     → form_part line form ≡ plain_part line
-named_other line Comment name e k = refl
-named_other line BlankLine name e k = refl
-named_other line (Text text) name e k = refl
 named_other line (Control other column rest rest_column) name e k =
     let same : other ≡ name = cc in
     rw (same, k) refl
+named_other line _ name e k = refl
 
 pub plain_named : (line name : List ℕ) → name_of (form_of line) ≡ Some name → keyword_of name ≡ keywords.Other → written_part line ≡ plain_part line
 unfolding written_part
 plain_named line name e k = named_other line (form_of line) name e k
 
 nameless : (line : List ℕ) (form : LineForm (List ℕ)) → name_of form ≡ None → form_part line form ≡ plain_part line
-nameless line Comment e = refl
-nameless line BlankLine e = refl
-nameless line (Text text) e = refl
 nameless line (Control other column rest rest_column) e = let no : ⊥ = cc in absurd no
+nameless line _ e = refl
 
 pub plain_nameless : (line : List ℕ) → name_of (form_of line) ≡ None → written_part line ≡ plain_part line
 unfolding written_part

@@ -5,15 +5,15 @@ use Rattle.std.proofs.lemmas.Bool.Decides.{nat_tests}
 use Rattle.std.proofs.lemmas.List.{length-take-le}
 use Rattle.page_roff_syntax.specs.LineForms.{form_of}
 use Rattle.page_roff_syntax.specs.declared.line_forms.LineForm.{LineForm}
-use Rattle.page_roff_syntax.specs.declared.line_forms.LineForm.TheVariants.{Comment, BlankLine, Text, Control}
+use Rattle.page_roff_syntax.specs.declared.line_forms.LineForm.TheVariants.{Control}
 use Rattle.page_roff_heads.specs.Heads.{conditional_of, guarded_of, end_place, block_end_of, loop_of}
 use Rattle.page_roff_heads.specs.declared.loops.LoopRead.{LoopRead}
 use Rattle.page_roff_blocks.specs.declared.line_parts.LinePart.{LinePart}
-use Rattle.page_roff_blocks.specs.declared.line_parts.LinePart.TheVariants.{Leaf, Guard, Block, Loop, End, Region}
+use Rattle.page_roff_blocks.specs.declared.line_parts.LinePart.TheVariants.{Leaf, Block, End, Region}
 use Rattle.page_roff_blocks.specs.declared.line_parts.Head.{Head}
 use Rattle.page_roff_blocks.specs.declared.parts.Keyword.{Keyword}
 use Rattle.page_roff_blocks.specs.declared.parts.Keyword.TheVariants as keywords
-use Rattle.page_roff_blocks.specs.declared.parts.Part.{Part}
+use Rattle.page_roff_blocks.specs.declared.parts.RawPart.{RawPart}
 use Rattle.page_roff_blocks.specs.Parts.{blocks_left, blocks_after, before_end, left_by, left_in, left_of, len_before, len_of, head_line_part, loop_part_if, end_part, plain_part, raw_rest, keyword_of, keyword_part, form_part, written_part}
 use Rattle.page_roff_blocks.specs.laws.Views.{left_rest}
 use Rattle.page_roff_blocks.specs.machine.LinePlaces.{IsEndOf, place_after}
@@ -48,20 +48,17 @@ plain_before line =
 
 keyword_before : (k : Keyword) (line : List ℕ) (column : ℕ) (rest : List ℕ) (rest_column : ℕ)
     → before_end (keyword_part k line column rest rest_column).line_part ≤ length line
-keyword_before keywords.If line column rest n = rw (head_before (conditional_of n (raw_rest line n)).guarded.opens_block _) (omega arith)
-keyword_before keywords.IfElse line column rest n = rw (head_before (conditional_of n (raw_rest line n)).guarded.opens_block _) (omega arith)
 keyword_before keywords.Else line column rest n = rw (head_before (guarded_of n (raw_rest line n)).opens_block _) (omega arith)
 keyword_before keywords.While line column rest n =
     let read = loop_of n (raw_rest line n) in
     rw (loop_before read.guarded.opens_block read) (omega arith)
 keyword_before (keywords.Region kind) line column rest n = omega arith
 keyword_before keywords.Other line column rest n = plain_before line
+keyword_before _ line column rest n = rw (head_before (conditional_of n (raw_rest line n)).guarded.opens_block _) (omega arith)
 
 form_before : (line : List ℕ) (form : LineForm (List ℕ)) → before_end (form_part line form).line_part ≤ length line
-form_before line Comment = plain_before line
-form_before line BlankLine = plain_before line
-form_before line (Text text) = plain_before line
 form_before line (Control name column rest rest_column) = keyword_before (keyword_of name) line column rest rest_column
+form_before line _ = plain_before line
 
 pub before_within : (line : List ℕ) → before_end (written_part line).line_part ≤ length line
 unfolding written_part
@@ -105,11 +102,11 @@ left_cons blocks line =
 -- ---- from a place in a line on, of which a slice holds the end
 
 -- the first part of what such a slice holds
-abbrev pub part_from : ℕ → List ℕ → Part (List ℕ)
+abbrev pub part_from : ℕ → List ℕ → RawPart (List ℕ)
 part_from n line = written_part (take (length line - n) (drop n line))
 
 -- the loop ends in this part
-pub len_found : (around blocks n : ℕ) (line : List ℕ) (part : Part (List ℕ)) → n ≤ length line → part ≡ part_from n line
+pub len_found : (around blocks n : ℕ) (line : List ℕ) (part : RawPart (List ℕ)) → n ≤ length line → part ≡ part_from n line
     → left_of around line ≡ left_of blocks (drop n line) → blocks_after part.line_part part.is_end blocks ≡ None
     → (len_of around line ≡ Some (n + before_end part.line_part)) × (n + before_end part.line_part ≤ length line)
 unfolding len_of
@@ -126,7 +123,7 @@ len_found around blocks n line part p e same ends =
     (ap (len_before line) left ∙ ap Some len, omega (arith, k, w, p))
 
 -- it goes on after this part
-left_next : (around blocks b n : ℕ) (line : List ℕ) (part : Part (List ℕ)) → part ≡ part_from n line
+left_next : (around blocks b n : ℕ) (line : List ℕ) (part : RawPart (List ℕ)) → part ≡ part_from n line
     → left_of around line ≡ left_of blocks (drop n line) → blocks_after part.line_part part.is_end blocks ≡ Some b → left_of around line ≡ left_rest b part.rest
 left_next around blocks b n line part e same goes =
     let rest = drop n line in
@@ -134,10 +131,10 @@ left_next around blocks b n line part e same goes =
     let some : blocks_after (written_part rest).line_part (written_part rest).is_end blocks ≡ Some b = rw is at goes in
     rw is (same ∙ left_cons blocks rest ∙ ap (λ b. left_by b (λ b. left_rest b (written_part rest).rest) (drop (before_end (written_part rest).line_part) rest)) some)
 
-pub ends_from : (n : ℕ) (line : List ℕ) (part : Part (List ℕ)) → n ≤ length line → part ≡ part_from n line → IsEndOf line part.rest
+pub ends_from : (n : ℕ) (line : List ℕ) (part : RawPart (List ℕ)) → n ≤ length line → part ≡ part_from n line → IsEndOf line part.rest
 ends_from n line part p e = rw (e ∙ ap written_part (to_end n line)) (end_further n line (written_part (drop n line)).rest p (written_ends (drop n line)))
 
-shorter_from : (n : ℕ) (line : List ℕ) (part : Part (List ℕ)) → part ≡ part_from n line → IsShorter (drop n line) part.rest
+shorter_from : (n : ℕ) (line : List ℕ) (part : RawPart (List ℕ)) → part ≡ part_from n line → IsShorter (drop n line) part.rest
 shorter_from n line part e = rw (e ∙ ap written_part (to_end n line)) (written_shorter (drop n line))
 
 -- nothing is left
@@ -145,7 +142,7 @@ last_rest : (line : List ℕ) (b : ℕ) (rest : Option (List ℕ)) → place_aft
 last_rest line b None h = refl
 last_rest line b (Some text) h = let no : ⊥ = cc in absurd no
 
-pub len_none : (around blocks b n : ℕ) (line : List ℕ) (part : Part (List ℕ)) → part ≡ part_from n line
+pub len_none : (around blocks b n : ℕ) (line : List ℕ) (part : RawPart (List ℕ)) → part ≡ part_from n line
     → left_of around line ≡ left_of blocks (drop n line) → blocks_after part.line_part part.is_end blocks ≡ Some b → place_after line part.rest ≡ None
     → len_of around line ≡ None
 unfolding len_of
@@ -160,7 +157,7 @@ next_rest line b next (Some text) h e =
     let is : length line - length text ≡ next = cc in
     ap (left_of b) (h.1 ∙ ap (λ k. drop k line) is)
 
-pub next_left : (around blocks b n next : ℕ) (line : List ℕ) (part : Part (List ℕ)) → n ≤ length line → part ≡ part_from n line
+pub next_left : (around blocks b n next : ℕ) (line : List ℕ) (part : RawPart (List ℕ)) → n ≤ length line → part ≡ part_from n line
     → left_of around line ≡ left_of blocks (drop n line) → blocks_after part.line_part part.is_end blocks ≡ Some b → place_after line part.rest ≡ Some next
     → left_of around line ≡ left_of b (drop next line)
 next_left around blocks b n next line part p e same goes place =
@@ -175,7 +172,7 @@ further_in n next line (Some text) p h s e =
     (omega (arith, is, h.0, s, k, p), omega (arith, is))
 
 -- it lies further in the line
-pub next_further : (n next : ℕ) (line : List ℕ) (part : Part (List ℕ)) → n ≤ length line → part ≡ part_from n line → place_after line part.rest ≡ Some next
+pub next_further : (n next : ℕ) (line : List ℕ) (part : RawPart (List ℕ)) → n ≤ length line → part ≡ part_from n line → place_after line part.rest ≡ Some next
     → (n < next) × (next ≤ length line)
 next_further n next line part p e place = further_in n next line part.rest p (ends_from n line part p e) (shorter_from n line part e) place
 
@@ -188,8 +185,6 @@ end_most true (suc blocks) b h = let is : blocks ≡ b = cc in omega (arith, is)
 
 pub blocks_most : (line_part : LinePart (List ℕ)) (is_end : Bool) (blocks b : ℕ) → blocks_after line_part is_end blocks ≡ Some b → b ≤ blocks + 1
 blocks_most (Leaf text) is_end blocks b h = end_most is_end blocks b h
-blocks_most (Guard head) is_end blocks b h = let is : blocks ≡ b = cc in omega (arith, is)
 blocks_most (Block opening) is_end blocks b h = let is : suc blocks ≡ b = cc in omega (arith, is)
-blocks_most (Loop head) is_end blocks b h = let is : blocks ≡ b = cc in omega (arith, is)
 blocks_most End is_end blocks b h = end_most true blocks b h
-blocks_most (Region head) is_end blocks b h = let is : blocks ≡ b = cc in omega (arith, is)
+blocks_most _ is_end blocks b h = let is : blocks ≡ b = cc in omega (arith, is)

@@ -6,7 +6,7 @@ use Rattle.page_roff_blocks.specs.declared.line_parts.Head.{Head}
 use Rattle.page_roff_blocks.specs.declared.line_parts.Opening.{Opening}
 use Rattle.page_roff_blocks.specs.declared.line_parts.Opening.TheVariants as openings
 use Rattle.page_roff_blocks.specs.declared.levels.Way.{Way}
-use Rattle.page_roff_blocks.specs.declared.levels.Way.TheVariants.{Runs, Skips, Exceeds}
+use Rattle.page_roff_blocks.specs.declared.levels.Way.TheVariants.{Runs}
 use Rattle.page_roff_blocks.specs.Parts.{ends_first, part_of, parts, line_parts}
 use Rattle.page_roff_blocks.specs.Forest.{Levels, bit_after}
 use Rattle.page_roff_blocks.specs.laws.Views.{way_of, enter, open_loop, skip, leave, leave_from, leave_loop, leave_level, BlockCursor, after_part, guarded_by}
@@ -37,8 +37,7 @@ line_parts_room line = let h = parts_room (suc (length line)) (Some line) in ome
 pub enter_room : (way : Way) (bit : Bool) (l : Levels) → (enter way bit l).skipped ≤ l.skipped + 1
 unfolding enter
 enter_room Runs bit l = omega arith
-enter_room Skips bit l = omega arith
-enter_room Exceeds bit l = omega arith
+enter_room _ bit l = omega arith
 
 pub leave_room : (bit : Bool) (outer : List Bool) (in_loop : Bool) (n : ℕ)
     → (leave (record { bit = bit; outer = outer; in_loop = in_loop; skipped = n })).skipped ≤ n

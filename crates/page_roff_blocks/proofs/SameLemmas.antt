@@ -218,8 +218,7 @@ module _ {K S : Type 0} (T : List ℕ → Type 0) (C : Condition (List ℕ) → 
 -- any conditions
 any_branch : (branch : Branch (List ℕ)) → IsTested (λ _. Unit {0}) branch
 any_branch (If condition) = tt
-any_branch (IfElse condition) = tt
-any_branch Else = tt
+any_branch _ = tt
 
 any_tests : (opening : Opening (List ℕ)) → IsTestedOpening (λ _. Unit {0}) opening
 any_tests (openings.Conditional head) = any_branch head.branch

@@ -33,12 +33,12 @@ bit_after (IfElse condition) value bit = not value
 bit_after Else value bit = false
 
 -- where a source is between two lines
-pub record Place : Type 0 where
+pub record SourcePlace : Type 0 where
   pub region : Option Opened
   pub levels : Levels
 
 -- before the first line of a source
-unfoldable pub first_place : Place
+unfoldable pub first_place : SourcePlace
 first_place = record { region = None; levels = outside }
 
 -- ---- The raw lines of one source as a forest, found from the raw text alone. Source: roff(7), "if", "while", "de", "ig".

@@ -23,7 +23,7 @@ use Rattle.page_roff_blocks.specs.declared.line_parts.Opening.{Opening}
 use Rattle.page_roff_blocks.specs.declared.line_parts.Opening.TheVariants as openings
 use Rattle.page_roff_blocks.specs.declared.parts.Keyword.{Keyword}
 use Rattle.page_roff_blocks.specs.declared.parts.Keyword.TheVariants as keywords
-use Rattle.page_roff_blocks.specs.declared.parts.Part.{Part}
+use Rattle.page_roff_blocks.specs.declared.parts.RawPart.{RawPart}
 
 -- ---- The first part of a raw line as it is written, found from its text alone. Source: roff(7), "if", "ie", "el", "while".
 
@@ -49,16 +49,16 @@ abbrev pub head_line_part : Bool → Head (List ℕ) → LinePart (List ℕ)
 head_line_part true head = Block (openings.Conditional head)
 head_line_part false head = Guard head
 
-abbrev pub head_part : Head (List ℕ) → Guarded (List ℕ) → Part (List ℕ)
+abbrev pub head_part : Head (List ℕ) → Guarded (List ℕ) → RawPart (List ℕ)
 head_part head guarded =
     record { line_part = head_line_part guarded.opens_block head; is_end = false; rest = rest_text guarded.remainder }
 
-abbrev pub conditional_part : (Condition (List ℕ) → Branch (List ℕ)) → ℕ → Conditional (List ℕ) → Part (List ℕ)
+abbrev pub conditional_part : (Condition (List ℕ) → Branch (List ℕ)) → ℕ → Conditional (List ℕ) → RawPart (List ℕ)
 conditional_part branch column read = head_part (record { column = column; branch = branch read.condition }) read.guarded
 
 -- The head of a loop. With a block, all that follows it on its line is its body as yet, and a remainder too. Without
 -- one, nothing follows the loop on its line.
-abbrev pub loop_part_if : Bool → LoopRead (List ℕ) → Part (List ℕ)
+abbrev pub loop_part_if : Bool → LoopRead (List ℕ) → RawPart (List ℕ)
 loop_part_if true read =
     record {
       line_part = Block (openings.Loop (record { condition = read.condition; body = Some read.first }));
@@ -68,27 +68,27 @@ loop_part_if true read =
 loop_part_if false read =
     record { line_part = Loop (record { condition = read.condition; body = rest_text read.guarded.remainder }); is_end = false; rest = None }
 
-abbrev pub loop_part : LoopRead (List ℕ) → Part (List ℕ)
+abbrev pub loop_part : LoopRead (List ℕ) → RawPart (List ℕ)
 loop_part read = loop_part_if read.guarded.opens_block read
 
 -- A line that heads nothing is cut at its first end of a block. What is before it is a leaf, unless
 -- empty.
-abbrev pub end_part : List ℕ → Option (List ℕ) → Part (List ℕ)
+abbrev pub end_part : List ℕ → Option (List ℕ) → RawPart (List ℕ)
 end_part [] rest = record { line_part = End; is_end = false; rest = rest }
 end_part (byte ∷ bytes) rest = record { line_part = Leaf (byte ∷ bytes); is_end = true; rest = rest }
 
-abbrev pub cut_part : List ℕ → Option (BlockEnd (List ℕ)) → Part (List ℕ)
+abbrev pub cut_part : List ℕ → Option (BlockEnd (List ℕ)) → RawPart (List ℕ)
 cut_part line None = record { line_part = Leaf line; is_end = false; rest = None }
 cut_part line (Some end) = end_part end.before (rest_text end.remainder)
 
-abbrev pub plain_part : List ℕ → Part (List ℕ)
+abbrev pub plain_part : List ℕ → RawPart (List ℕ)
 plain_part line = cut_part line (block_end_of line)
 
 -- the rest of a line from a column on, with its comment
 abbrev pub raw_rest : List ℕ → ℕ → List ℕ
 raw_rest line column = drop (column - 1) line
 
-abbrev pub keyword_part : Keyword → List ℕ → ℕ → List ℕ → ℕ → Part (List ℕ)
+abbrev pub keyword_part : Keyword → List ℕ → ℕ → List ℕ → ℕ → RawPart (List ℕ)
 keyword_part keywords.If line column rest rest_column = conditional_part If column (conditional_of rest_column (raw_rest line rest_column))
 keyword_part keywords.IfElse line column rest rest_column = conditional_part IfElse column (conditional_of rest_column (raw_rest line rest_column))
 keyword_part keywords.Else line column rest rest_column = head_part (record { column = column; branch = Else }) (guarded_of rest_column (raw_rest line rest_column))
@@ -97,12 +97,12 @@ keyword_part (keywords.Region kind) line column rest rest_column =
     record { line_part = Region (region_head kind column rest_column rest); is_end = false; rest = None }
 keyword_part keywords.Other line column rest rest_column = plain_part line
 
-abbrev pub form_part : List ℕ → LineForm (List ℕ) → Part (List ℕ)
+abbrev pub form_part : List ℕ → LineForm (List ℕ) → RawPart (List ℕ)
 form_part line (Control name column rest rest_column) = keyword_part (keyword_of name) line column rest rest_column
 form_part line _ = plain_part line
 
 -- the first part of a line
-unfoldable pub written_part : List ℕ → Part (List ℕ)
+unfoldable pub written_part : List ℕ → RawPart (List ℕ)
 written_part line = form_part line (form_of line)
 
 -- ---- What of a raw line belongs to a loop. Source: roff(7), "while".
@@ -187,11 +187,11 @@ abbrev pub whole_line_part : LinePart (List ℕ) → LinePart (List ℕ)
 whole_line_part (Block opening) = Block (whole_opening opening)
 whole_line_part line_part = line_part
 
-abbrev pub whole_part : Part (List ℕ) → Part (List ℕ)
+abbrev pub whole_part : RawPart (List ℕ) → RawPart (List ℕ)
 whole_part part = record { line_part = whole_line_part part.line_part; is_end = part.is_end; rest = part.rest }
 
 -- the first part of a line
-unfoldable pub part_of : List ℕ → Part (List ℕ)
+unfoldable pub part_of : List ℕ → RawPart (List ℕ)
 part_of line = whole_part (written_part line)
 
 -- a part, and then the others
@@ -199,7 +199,7 @@ abbrev pub ends_first : Bool → List (LinePart (List ℕ)) → List (LinePart (
 ends_first true more = End ∷ more
 ends_first false more = more
 
-abbrev pub with_part : Part (List ℕ) → List (LinePart (List ℕ)) → List (LinePart (List ℕ))
+abbrev pub with_part : RawPart (List ℕ) → List (LinePart (List ℕ)) → List (LinePart (List ℕ))
 with_part part more = part.line_part ∷ ends_first part.is_end more
 
 -- the parts of a line; a remainder is a line of its own, at most n of them deep

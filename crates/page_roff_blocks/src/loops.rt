@@ -8,7 +8,7 @@ ghost use Rattle.page_roff_syntax.specs.laws.Views.{text_view};
 
 use crate::line_parts::{LinePart, Opening};
 use crate::line_places::place_after;
-use crate::parts::{Part, written_part};
+use crate::parts::{RawPart, written_part};
 use page_core_base::LINE;
 use page_roff_heads::LoopHead;
 
@@ -121,14 +121,14 @@ fn whole_opening(opening: Opening<&[u8]>) -> Opening<&[u8]>
 
 /// The first part of a line.
 #[tactic(auto, unfolding(crate::specs::Parts::part_of))]
-pub(crate) fn part_of(line: &[u8]) -> Part<&[u8]>
+pub(crate) fn part_of(line: &[u8]) -> RawPart<&[u8]>
     requires { length line.now ≤ LINE }
     ensures value { part_view result ≡ part_of line.now }
     ensures fits { FitsPart (part_view result) }
 {
     let part = written_part(line);
     match part.line_part {
-        LinePart::Block(opening) => Part {
+        LinePart::Block(opening) => RawPart {
             line_part: LinePart::Block(whole_opening(opening)),
             is_end: part.is_end,
             rest: part.rest,

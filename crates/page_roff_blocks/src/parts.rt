@@ -41,7 +41,7 @@ pub(crate) struct Columns {
 
 // The first part of a line; `W` is a text.
 #[derive(Clone, Copy)]
-pub(crate) struct Part<W> {
+pub(crate) struct RawPart<W> {
     pub(crate) line_part: LinePart<W>,
     // Whether the end of a block follows it.
     pub(crate) is_end: bool,
@@ -76,13 +76,13 @@ fn rest_text(remainder: Option<Placed<&[u8]>>) -> Option<&[u8]>
 }
 
 // A head, and what it guards.
-fn head_part<'a>(head: Head<&'a [u8]>, guarded: Guarded<&'a [u8]>) -> Part<&'a [u8]>
+fn head_part<'a>(head: Head<&'a [u8]>, guarded: Guarded<&'a [u8]>) -> RawPart<&'a [u8]>
     requires head { FitsBranch (head_view head).branch }
     requires guarded { FitsGuarded (guarded_view guarded) }
     ensures value { part_view result ≡ head_part (head_view head.entry) (guarded_view guarded.entry) }
     ensures fits { FitsPart (part_view result) }
 {
-    Part {
+    RawPart {
         line_part: if guarded.opens_block {
             LinePart::Block(Opening::Conditional(head))
         } else {
@@ -94,14 +94,14 @@ fn head_part<'a>(head: Head<&'a [u8]>, guarded: Guarded<&'a [u8]>) -> Part<&'a [
 }
 
 // The head of a loop. With a block, all that follows it on its line is its body as yet.
-fn loop_part<'a>(read: LoopRead<&'a [u8]>) -> Part<&'a [u8]>
+fn loop_part<'a>(read: LoopRead<&'a [u8]>) -> RawPart<&'a [u8]>
     requires { FitsLoop (loop_view read) }
     ensures value { part_view result ≡ loop_part (loop_view read.entry) }
     ensures fits { FitsPart (part_view result) }
 {
     let rest = rest_text(read.guarded.remainder);
     if read.guarded.opens_block {
-        return Part {
+        return RawPart {
             line_part: LinePart::Block(Opening::Loop(LoopHead {
                 condition: read.condition,
                 body: Some(read.first),
@@ -110,7 +110,7 @@ fn loop_part<'a>(read: LoopRead<&'a [u8]>) -> Part<&'a [u8]>
             rest,
         };
     }
-    Part {
+    RawPart {
         line_part: LinePart::Loop(LoopHead {
             condition: read.condition,
             body: rest,
@@ -121,20 +121,20 @@ fn loop_part<'a>(read: LoopRead<&'a [u8]>) -> Part<&'a [u8]>
 }
 
 // What is before the end of a block, and what is left after it.
-fn end_part<'a>(before: &'a [u8], rest: Option<&'a [u8]>) -> Part<&'a [u8]>
+fn end_part<'a>(before: &'a [u8], rest: Option<&'a [u8]>) -> RawPart<&'a [u8]>
     requires before { length before.now ≤ LINE }
     requires rest { FitsRest (text_view rest) }
     ensures value { part_view result ≡ end_part before.now (text_view rest.entry) }
     ensures fits { FitsPart (part_view result) }
 {
     if before.is_empty() {
-        return Part {
+        return RawPart {
             line_part: LinePart::End,
             is_end: false,
             rest,
         };
     }
-    Part {
+    RawPart {
         line_part: LinePart::Leaf(before),
         is_end: true,
         rest,
@@ -142,14 +142,14 @@ fn end_part<'a>(before: &'a [u8], rest: Option<&'a [u8]>) -> Part<&'a [u8]>
 }
 
 // The first part of a line that heads nothing.
-fn plain_part(line: &[u8]) -> Part<&[u8]>
+fn plain_part(line: &[u8]) -> RawPart<&[u8]>
     requires { length line.now ≤ LINE }
     ensures value { part_view result ≡ plain_part line.now }
     ensures fits { FitsPart (part_view result) }
 {
     match block_end(line) {
         Some(end) => end_part(end.before, rest_text(end.remainder)),
-        None => Part {
+        None => RawPart {
             line_part: LinePart::Leaf(line),
             is_end: false,
             rest: None,
@@ -172,7 +172,7 @@ fn columns_of(line: &[u8], name: &[u8]) -> Columns
 }
 
 // The first part of a control line that heads a region.
-fn region_part(kind: RegionKind, line: &[u8]) -> Part<&[u8]>
+fn region_part(kind: RegionKind, line: &[u8]) -> RawPart<&[u8]>
     requires { length line.now ≤ LINE }
     ensures value { part_view result ≡ named_part (keywords.Region kind) line.now (form_of line.now) }
     ensures fits { FitsPart (part_view result) }
@@ -183,7 +183,7 @@ fn region_part(kind: RegionKind, line: &[u8]) -> Part<&[u8]>
             rest,
             rest_column,
             ..
-        } => Part {
+        } => RawPart {
             line_part: LinePart::Region(region_head(kind, column, rest, rest_column)),
             is_end: false,
             rest: None,
@@ -193,7 +193,7 @@ fn region_part(kind: RegionKind, line: &[u8]) -> Part<&[u8]>
 }
 
 // The first part of a control line with these columns that heads this.
-fn keyword_part(keyword: Keyword, line: &[u8], columns: Columns) -> Part<&[u8]>
+fn keyword_part(keyword: Keyword, line: &[u8], columns: Columns) -> RawPart<&[u8]>
     requires line { length line.now ≤ LINE }
     requires columns { columns_of (form_of line.now) ≡ Some columns }
     requires within { IsWithin columns.rest line.now }
@@ -212,7 +212,7 @@ fn keyword_part(keyword: Keyword, line: &[u8], columns: Columns) -> Part<&[u8]>
 }
 
 // The head of an `if`.
-fn if_part(raw_rest: &[u8], column: u32, rest_column: u32) -> Part<&[u8]>
+fn if_part(raw_rest: &[u8], column: u32, rest_column: u32) -> RawPart<&[u8]>
     requires short { length raw_rest.now ≤ LINE }
     requires room { rest_column + length raw_rest.now ≤ LINE + 1 }
     ensures value { part_view result
@@ -225,7 +225,7 @@ fn if_part(raw_rest: &[u8], column: u32, rest_column: u32) -> Part<&[u8]>
 }
 
 // The head of an `ie`.
-fn if_else_part(raw_rest: &[u8], column: u32, rest_column: u32) -> Part<&[u8]>
+fn if_else_part(raw_rest: &[u8], column: u32, rest_column: u32) -> RawPart<&[u8]>
     requires short { length raw_rest.now ≤ LINE }
     requires room { rest_column + length raw_rest.now ≤ LINE + 1 }
     ensures value { part_view result
@@ -238,7 +238,7 @@ fn if_else_part(raw_rest: &[u8], column: u32, rest_column: u32) -> Part<&[u8]>
 }
 
 // The head of an `el`.
-fn else_part(raw_rest: &[u8], column: u32, rest_column: u32) -> Part<&[u8]>
+fn else_part(raw_rest: &[u8], column: u32, rest_column: u32) -> RawPart<&[u8]>
     requires short { length raw_rest.now ≤ LINE }
     requires room { rest_column + length raw_rest.now ≤ LINE + 1 }
     ensures value { part_view result ≡ head_part (record { column = column; branch = Else }) (guarded_of rest_column raw_rest.now) }
@@ -249,7 +249,7 @@ fn else_part(raw_rest: &[u8], column: u32, rest_column: u32) -> Part<&[u8]>
 }
 
 /// The first part of a line as it is written. Only the head of a region is parted from its comment.
-pub(crate) fn written_part(line: &[u8]) -> Part<&[u8]>
+pub(crate) fn written_part(line: &[u8]) -> RawPart<&[u8]>
     requires { length line.now ≤ LINE }
     ensures value { part_view result ≡ written_part line.now }
     ensures fits { FitsPart (part_view result) }

@@ -15,9 +15,9 @@ pub struct Standing {
 }
 
 impl Model for Standing {
-    ghost use Rattle.page_roff_blocks.specs.Forest.{Place};
+    ghost use Rattle.page_roff_blocks.specs.Forest.{SourcePlace};
 
-    ghost Value = { Place };
+    ghost Value = { SourcePlace };
 
     ghost view = { λ s. record { region = s.region; levels = s.levels } };
 }

@@ -8,7 +8,7 @@ use Rattle.std.proofs.lemmas.Str.Ascii.{IsAscii-cons, IsAscii-nil}
 use Rattle.std.proofs.str.Valid.{of_two}
 use Rattle.page_core_base.specs.Texts.{IsLine, has_no_control}
 use Rattle.page_core_base.specs.declared.page_settings.Encoding.{Encoding}
-use Rattle.page_core_base.specs.declared.page_settings.Encoding.TheVariants.{Auto, Ascii, Latin1, Utf8}
+use Rattle.page_core_base.specs.declared.page_settings.Encoding.TheVariants.{Latin1, Utf8}
 use Rattle.page_roff_decoding.specs.Decoding.{line_limit, Character, good, bad, is_printable, latin1_bytes, sequence_length, high_character, character, later_length, characters_after, characters, bytes_of, all_bytes, characters_within}
 use Rattle.page_roff_decoding.specs.laws.Views.{line_limit_is}
 use Rattle.page_roff_decoding.proofs.SequenceLemmas.{Fine, split_true, sequence-fine, ascii_plain, tab_plain, both_true, plain_two}
@@ -67,8 +67,7 @@ high_character-fine Utf8 b text h =
     either_fine (sequence_length text == 0) (bad b) (good (take (sequence_length text) text)) (λ _. fine_question) (λ n. sequence-fine text n)
 high_character-fine Latin1 b text h =
     either_fine (nat_lt b 160) (bad b) (good (latin1_bytes b)) (λ _. fine_question) (λ n. let low : 160 ≤ b = grind (arith, nat_tests) in fine_latin1 b low h)
-high_character-fine Ascii b text h = fine_question
-high_character-fine Auto b text h = fine_question
+high_character-fine _ b text h = fine_question
 
 character-fine : (e : Encoding) (b : ℕ) (text : List ℕ) → b < 256 → Fine (bytes_of (character e b text))
 unfolding character

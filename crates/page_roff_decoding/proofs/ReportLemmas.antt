@@ -14,7 +14,7 @@ use Rattle.page_core_base.specs.Limits.{name_of}
 use Rattle.page_core_base.specs.declared.limits.Limit.TheVariants.{Line as LineLimit}
 use Rattle.page_core_base.specs.declared.page_settings.Encoding.{Encoding}
 use Rattle.page_roff_decoding.specs.declared.characters.Front.{Front}
-use Rattle.page_roff_decoding.specs.declared.characters.Front.TheVariants.{Same, Latin1, Bad}
+use Rattle.page_roff_decoding.specs.declared.characters.Front.TheVariants.{Same}
 use Rattle.page_roff_decoding.specs.Decoding.{line_limit, Character, good, bad, is_printable, character, later_length, characters_after, characters, bytes_of, characters_within, bad_character, notes_of, bad_notes}
 use Rattle.page_roff_decoding.specs.laws.Views.{line_limit_is}
 use Rattle.page_roff_decoding.specs.machine.Fronts.{as_character, width_of, later_of, size_of}
@@ -25,8 +25,7 @@ use Rattle.page_roff_decoding.proofs.FineLemmas.{singles_fine}
 
 size_is : (f : Front) (text : List ℕ) → width_of f ≤ length text → length (bytes_of (as_character f text)) ≡ size_of f
 size_is (Same n) text h = length-take-le n text h
-size_is (Latin1 b) text h = refl
-size_is (Bad b) text h = refl
+size_is _ text h = refl
 
 fits_true : (a b : ℕ) → a ≤ b → nat_le a b ≡ true
 fits_true a b h = grind (arith, nat_tests)

@@ -15,7 +15,7 @@ use Rattle.page_roff_syntax.specs.declared.quotes.Quoting.TheVariants.{Closed, U
 use Rattle.page_roff_syntax.specs.declared.requests.DefinitionRequest.{DefinitionRequest}
 use Rattle.page_roff_syntax.specs.declared.requests.DefinitionRequest.TheVariants.{DefineString, AppendString, SetRegister, Remove, Rename, RemoveRegisters}
 use Rattle.page_roff_names.specs.Names.{Definitions, refusal, definition, with_text, string_of, Definition, without_text, look, without_register, number_of, with_register}
-use Rattle.page_roff_names.specs.declared.rows.Meaning.TheVariants.{String}
+use Rattle.page_roff_names.specs.declared.rows.EntryKind.TheVariants.{String}
 use Rattle.page_roff_values.specs.Answers.{value_of, messages_of}
 
 -- ---- The arguments of requests for definitions. Source: roff(7), "Macro syntax" and "ds".
@@ -60,7 +60,7 @@ value_after column rest name = without_quote (after_blanks (drop (end_of column 
 -- ---- A call of a macro: the body that it runs, line by line, and its arguments, packed. Source: roff(7), "MACRO SYNTAX" and "de".
 
 -- a macro that is called: the lines of its body, and its arguments, each with a line feed after it
-pub record Call : Type 0 where
+pub record MacroCall : Type 0 where
   pub body : List ℕ
   pub packed : List ℕ
 
@@ -77,32 +77,32 @@ packed arguments = flat_map (λ argument. argument_value argument ++ (10 ∷ [])
 -- ---- What the requests for definitions do. Source: roff(7), "ds", "as", "nr", "rm", "rn", "rr".
 
 -- what is defined after a request, and its messages
-pub record Outcome : Type 0 where
+pub record DefinitionOutcome : Type 0 where
   pub definitions : Definitions
   pub notes : List Message
 
-abbrev pub outcome : Definitions → List Message → Outcome
+abbrev pub outcome : Definitions → List Message → DefinitionOutcome
 outcome definitions notes = record { definitions = definitions; notes = notes }
 
 -- a definition that passes a limit is reported, and all stays
-abbrev pub settled : Option Limit → Definitions → Place → Definitions → Outcome
+abbrev pub settled : Option Limit → Definitions → Place → Definitions → DefinitionOutcome
 settled None wanted place old = outcome wanted []
 settled (Some limit) wanted place old = outcome old (message_about kinds.Limit place (name_of limit) ∷ [])
 
-abbrev pub settles : List ℕ → List ℕ → Definitions → Place → Definitions → Outcome
+abbrev pub settles : List ℕ → List ℕ → Definitions → Place → Definitions → DefinitionOutcome
 settles name value wanted place old = settled (refusal name value wanted) wanted place old
 
 -- ---- strings
 
-abbrev pub defines_string : List ℕ → List ℕ → Place → Definitions → Outcome
+abbrev pub defines_string : List ℕ → List ℕ → Place → Definitions → DefinitionOutcome
 defines_string name value place old = settles name value (with_text name (definition String value) old) place old
 
 -- a name without a definition is passed over
-abbrev pub renames_found : Option Definition → List ℕ → List ℕ → Place → Definitions → Outcome
+abbrev pub renames_found : Option Definition → List ℕ → List ℕ → Place → Definitions → DefinitionOutcome
 renames_found None old_name name place old = outcome old []
 renames_found (Some d) old_name name place old = settles name d.value (with_text name d (without_text old_name old)) place old
 
-abbrev pub renames : List ℕ → List ℕ → Place → Definitions → Outcome
+abbrev pub renames : List ℕ → List ℕ → Place → Definitions → DefinitionOutcome
 renames old_name name place old = renames_found (look old_name old.texts) old_name name place old
 
 abbrev pub removes : List (Argument (List ℕ)) → Definitions → Definitions
@@ -130,13 +130,13 @@ abbrev pub next_number : List ℕ → List ℕ → Definitions → ℤ
 next_number name value old =
     if is_change value then in_range (unwrap_or (number_of name old) (pos 0) +ℤ value_of value) else value_of value
 
-abbrev pub sets_register : List ℕ → ℤ → Place → Definitions → Outcome
+abbrev pub sets_register : List ℕ → ℤ → Place → Definitions → DefinitionOutcome
 sets_register name number place old = settles name [] (with_register name number old) place old
 
-abbrev pub says_first : List Message → Outcome → Outcome
+abbrev pub says_first : List Message → DefinitionOutcome → DefinitionOutcome
 says_first notes after = outcome after.definitions (notes ++ after.notes)
 
-abbrev pub reads_number : List ℕ → List ℕ → Place → Definitions → Outcome
+abbrev pub reads_number : List ℕ → List ℕ → Place → Definitions → DefinitionOutcome
 reads_number name value place old =
     says_first (messages_of place value) (if is_read_only name then outcome old [] else sets_register name (next_number name value old) place old)
 
@@ -150,32 +150,32 @@ is_in_copy_mode _ = false
 
 -- ---- requests, by their arguments; a request without its name defines nothing, and an empty name is none
 
-abbrev pub if_named : List ℕ → Outcome → Definitions → Outcome
+abbrev pub if_named : List ℕ → DefinitionOutcome → Definitions → DefinitionOutcome
 if_named [] wanted old = outcome old []
 if_named (byte ∷ bytes) wanted old = wanted
 
-abbrev pub nr : List (Argument (List ℕ)) → Place → Definitions → Outcome
+abbrev pub nr : List (Argument (List ℕ)) → Place → Definitions → DefinitionOutcome
 nr [] place old = outcome old []
 nr (name ∷ values) place old = if_named name.text (reads_number (argument_name name) (first_text values) place old) old
 
 -- nothing has an empty name, so none is given another
-abbrev pub rn : List (Argument (List ℕ)) → Place → Definitions → Outcome
+abbrev pub rn : List (Argument (List ℕ)) → Place → Definitions → DefinitionOutcome
 rn (old_name ∷ name ∷ more) place old =
     if_named name.text (renames (argument_name old_name) (argument_name name) place old) old
 rn _ place old = outcome old []
 
-abbrev pub ds : ℕ → List ℕ → List (Argument (List ℕ)) → Place → Definitions → Outcome
+abbrev pub ds : ℕ → List ℕ → List (Argument (List ℕ)) → Place → Definitions → DefinitionOutcome
 ds column rest [] place old = outcome old []
 ds column rest (name ∷ more) place old =
     if_named name.text (defines_string (argument_name name) (value_after column rest name) place old) old
 
-abbrev pub as_request : ℕ → List ℕ → List (Argument (List ℕ)) → Place → Definitions → Outcome
+abbrev pub as_request : ℕ → List ℕ → List (Argument (List ℕ)) → Place → Definitions → DefinitionOutcome
 as_request column rest [] place old = outcome old []
 as_request column rest (name ∷ more) place old =
     if_named name.text (defines_string (argument_name name) (unwrap_or (string_of (argument_name name) old) [] ++ value_after column rest name) place old) old
 
 -- arguments without their last quote are reported first, but not of strings
-abbrev pub does : DefinitionRequest → ℕ → List ℕ → List (Argument (List ℕ)) → Place → Definitions → Outcome
+abbrev pub does : DefinitionRequest → ℕ → List ℕ → List (Argument (List ℕ)) → Place → Definitions → DefinitionOutcome
 does DefineString column rest names place old = ds column rest names place old
 does AppendString column rest names place old = as_request column rest names place old
 does SetRegister column rest names place old = says_first (closings_notes place.line names) (nr names place old)
@@ -185,5 +185,5 @@ does RemoveRegisters column rest names place old =
     outcome (removes_registers names old) (closings_notes place.line names)
 
 -- what a request does at a place, of which the finished rest begins at a column
-unfoldable pub outcome_of : DefinitionRequest → Place → ℕ → List ℕ → Definitions → Outcome
+unfoldable pub outcome_of : DefinitionRequest → Place → ℕ → List ℕ → Definitions → DefinitionOutcome
 outcome_of request place column rest old = does request column rest (arguments column rest) place old

@@ -20,9 +20,9 @@ pub struct LineBuffer {
 }
 
 impl Model for LineBuffer {
-    ghost use Rattle.page_core_base.specs.Texts.{Line};
+    ghost use Rattle.page_core_base.specs.Texts.{TakenLine};
 
-    ghost Value = { Line };
+    ghost Value = { TakenLine };
 
     ghost view = { λ l. record { form = l.form; text = l.text; number = l.line; name_end = l.name_end } };
 }

@@ -100,9 +100,9 @@ impl Model for CallBuffer {
     ghost use Rattle.std.specs.Prelude.{◌≤◌, ◌+◌};
     ghost use Rattle.std.specs.Vec.{vec_capacity};
     ghost use Rattle.page_core_base.specs.declared.limits.TheConstants.{ARGS, LINE};
-    ghost use Rattle.page_roff_definitions.specs.Definitions.{Call};
+    ghost use Rattle.page_roff_definitions.specs.Definitions.{MacroCall};
 
-    ghost Value = { Call };
+    ghost Value = { MacroCall };
 
     ghost view = { λ c. record { body = c.body; packed = c.packed.items } };
 

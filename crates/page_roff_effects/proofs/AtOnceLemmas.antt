@@ -27,14 +27,14 @@ use Rattle.page_roff_effects.specs.declared.commands.ProductKind.TheVariants as 
 use Rattle.page_roff_effects.specs.machine.Acting.{Acting, measured, plain_form, CallsIf, IsOrdinary, IsQuiet, TakesIf}
 use Rattle.page_core_base.specs.laws.Views.{IsFreeLine}
 use Rattle.page_roff_effects.specs.Lines.{called_body, command_of, command_or, request_command, ControlLine, calls, control_outcome, command_outcome, does, leaf_outcome, rest_column, rest_of, text_outcome}
-use Rattle.page_roff_effects.specs.States.{Memory, Outcome, Setting, call_product, gives_line, surroundings}
+use Rattle.page_roff_effects.specs.States.{Memory, PartOutcome, TextSetting, call_product, gives_line, surroundings}
 use Rattle.page_roff_effects.proofs.CallLemmas.{leaf_callable}
 use Rattle.page_roff_effects.proofs.FreeLemmas.{free_itself, uncommented, unended}
 use Rattle.page_roff_effects.proofs.PlainLemmas.{counted_none}
 
 -- ---- lines that are no control lines
 
-text_taken : (setting : Setting) (text : List ℕ) (m : Memory) → GivesItself text → text_outcome setting text m ≡ gives_line forms.Text text 0 m
+text_taken : (setting : TextSetting) (text : List ℕ) (m : Memory) → GivesItself text → text_outcome setting text m ≡ gives_line forms.Text text 0 m
 text_taken setting text m g =
     rw (g (surroundings false setting m) m.number refl) (ap (λ m. gives_line forms.Text text 0 m) (counted_none m))
 
@@ -46,7 +46,7 @@ text_form (x ∷ xs) w e =
       | inr t ↦ rw t refl
     ]
 
-pub free_text : (setting : Setting) (line : List ℕ) (m : Memory) → IsFreeLine line → length line ≤ LINE → name_of (form_of line) ≡ None
+pub free_text : (setting : TextSetting) (line : List ℕ) (m : Memory) → IsFreeLine line → length line ≤ LINE → name_of (form_of line) ≡ None
     → (may_call : Bool) → leaf_outcome setting may_call line m ≡ gives_line (plain_form line) line 0 m
 unfolding leaf_outcome
 free_text setting line m h short e may_call =
@@ -63,26 +63,26 @@ free_leaf line h e = one_leaf line (plain_nameless line e) (unended line h)
 
 -- ---- control lines
 
-control_taken : (setting : Setting) (may_call : Bool) (line : ControlLine) (m : Memory) → (length line.name == 0) ≡ false → command_of line.name m.definitions ≡ Pass
+control_taken : (setting : TextSetting) (may_call : Bool) (line : ControlLine) (m : Memory) → (length line.name == 0) ≡ false → command_of line.name m.definitions ≡ Pass
     → GivesItself line.text → control_outcome setting may_call line m ≡ gives_line forms.Control line.text line.name_end m
 unfolding control_outcome command_outcome
 control_taken setting may_call line m n p g =
     rw (n, p, g (surroundings false setting m) m.number refl) (ap (λ m. gives_line forms.Control line.text line.name_end m) (counted_none m))
 
-abbrev gives_call : made.Call → Memory → Outcome
+abbrev gives_call : made.MacroCall → Memory → PartOutcome
 gives_call call m = record { notes = []; product = call_product call; memory = m }
 
 calls_closed : (column : ℕ) (body : List ℕ) (args : List (Argument (List ℕ))) (m : Memory) → closings_notes m.number args ≡ [] → nat_le (length (packed args)) ARGS ≡ true
-    → calls true column body args m ≡ (let call : made.Call = record { body = body; packed = packed args } in gives_call call m)
+    → calls true column body args m ≡ (let call : made.MacroCall = record { body = body; packed = packed args } in gives_call call m)
 calls_closed column body args m c f = rw (c, f) refl
 
-quiet_call : (line : ControlLine) (text : List ℕ) (m : Memory) (call : made.Call) → IsQuiet line.name (rest_of line text) (rest_column line) m call
+quiet_call : (line : ControlLine) (text : List ℕ) (m : Memory) (call : made.MacroCall) → IsQuiet line.name (rest_of line text) (rest_column line) m call
     → does true Call line text m ≡ gives_call call m
 quiet_call line text m call q =
     calls_closed line.column (unwrap_or (called_body line.name m.definitions) []) (arguments (rest_column line) (rest_of line text)) m q.closed q.fits
-    ∙ ap₂ (λ (body bytes : List ℕ). let made : made.Call = record { body = body; packed = bytes } in gives_call made m) (sym q.body) (sym q.packs)
+    ∙ ap₂ (λ (body bytes : List ℕ). let made : made.MacroCall = record { body = body; packed = bytes } in gives_call made m) (sym q.body) (sym q.packs)
 
-control_called : (setting : Setting) (line : ControlLine) (m : Memory) (call : made.Call) → (length line.name == 0) ≡ false → command_of line.name m.definitions ≡ Call
+control_called : (setting : TextSetting) (line : ControlLine) (m : Memory) (call : made.MacroCall) → (length line.name == 0) ≡ false → command_of line.name m.definitions ≡ Call
     → GivesItself line.text → IsQuiet line.name (rest_of line line.text) (rest_column line) m call → control_outcome setting true line m ≡ gives_call call m
 unfolding control_outcome command_outcome
 control_called setting line m call n p g q =
@@ -117,7 +117,7 @@ form_named line name u e = rw u (word_named (has_word line) line name (rw u at e
 abbrev name_end : List ℕ → ℕ
 name_end line = 1 + name_start (drop 1 line) + name_len (drop 1 line)
 
-pub free_control : (setting : Setting) (line name : List ℕ) (m : Memory) → IsFreeLine line → length line ≤ LINE → name_of (form_of line) ≡ Some name
+pub free_control : (setting : TextSetting) (line name : List ℕ) (m : Memory) → IsFreeLine line → length line ≤ LINE → name_of (form_of line) ≡ Some name
     → (length name == 0) ≡ false → command_of name m.definitions ≡ Pass
     → (may_call : Bool) → leaf_outcome setting may_call line m ≡ gives_line forms.Control line (1 + name_start (drop 1 line) + length name) m
 unfolding leaf_outcome
@@ -137,7 +137,7 @@ rest_after line name = drop (1 + name_start (drop 1 line) + length name) line
 abbrev column_after : List ℕ → List ℕ → ℕ
 column_after line name = 1 + name_start (drop 1 line) + length name + 1
 
-free_call : (setting : Setting) (line name : List ℕ) (m : Memory) (call : made.Call) → IsFreeLine line → length line ≤ LINE → name_of (form_of line) ≡ Some name
+free_call : (setting : TextSetting) (line name : List ℕ) (m : Memory) (call : made.MacroCall) → IsFreeLine line → length line ≤ LINE → name_of (form_of line) ≡ Some name
     → (length name == 0) ≡ false → command_of name m.definitions ≡ Call → IsQuiet name (rest_after line name) (column_after line name) m call
     → leaf_outcome setting true line m ≡ gives_call call m
 unfolding leaf_outcome
@@ -174,7 +174,7 @@ free_named line name h e o = one_leaf line (plain_named line name e o.1) (unende
 
 -- ---- calls
 
-pub packs_call : (name rest : List ℕ) (column : ℕ) (m : Memory) (call : made.Call) (fits is_closed : Bool) → fits ≡ true → is_closed ≡ true
+pub packs_call : (name rest : List ℕ) (column : ℕ) (m : Memory) (call : made.MacroCall) (fits is_closed : Bool) → fits ≡ true → is_closed ≡ true
     → Packs (packed (arguments column rest)) fits call.packed
     → (is_closed ≡ true → (line : ℕ) → closings_notes line (arguments column rest) ≡ [])
     → call.body ≡ unwrap_or (called_body name m.definitions) [] → IsQuiet name rest column m call

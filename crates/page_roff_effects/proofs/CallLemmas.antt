@@ -4,14 +4,14 @@ use Rattle.std.proofs.lemmas.Bool.Decides.{nat_tests}
 use Rattle.page_core_base.specs.declared.limits.TheConstants.{ARGS, BODY}
 use Rattle.page_roff_syntax.specs.LineForms.{form_of}
 use Rattle.page_roff_syntax.specs.declared.line_forms.LineForm.{LineForm}
-use Rattle.page_roff_syntax.specs.declared.line_forms.LineForm.TheVariants.{Comment, BlankLine, Text, Control}
+use Rattle.page_roff_syntax.specs.declared.line_forms.LineForm.TheVariants.{Control}
 use Rattle.page_roff_names.specs.Names.{body_of}
 use Rattle.page_roff_effects.specs.declared.commands.Command.{Command}
-use Rattle.page_roff_effects.specs.declared.commands.Command.TheVariants.{Call, Define, Ignore, Refuse, Pass}
+use Rattle.page_roff_effects.specs.declared.commands.Command.TheVariants.{Call}
 use Rattle.page_roff_effects.specs.declared.commands.ProductKind.{ProductKind}
 use Rattle.page_roff_effects.specs.machine.Acting.{Acting, kind_of, Lends, IsCallable, IfCalled}
 use Rattle.page_roff_effects.specs.Lines.{within_limit, command_of, ControlLine, call_if, does, command_outcome, control_outcome, control_line, form_outcome, leaf_outcome}
-use Rattle.page_roff_effects.specs.States.{Memory, Outcome, Product, no_product, line_product, call_product, loop_product, Setting, nothing}
+use Rattle.page_roff_effects.specs.States.{Memory, PartOutcome, Product, no_product, line_product, call_product, loop_product, TextSetting, nothing}
 
 IsWithin : Bool → Product → Type 0
 IsWithin may_call no_product = Unit {0}
@@ -38,39 +38,34 @@ does_within : (may_call : Bool) (command : Command) (line : ControlLine) (text :
     → IsWithin may_call (does may_call command line text m).product
 unfolding IsWithin
 does_within may_call Call line text m = call_if_within may_call _ _ _ m refl (body_short (body_of line.name m.definitions))
-does_within may_call (Define request) line text m = tt
-does_within may_call Ignore line text m = tt
-does_within may_call Refuse line text m = tt
-does_within may_call Pass line text m = tt
+does_within may_call _ line text m = tt
 
-command_within : (setting : Setting) (may_call : Bool) (command : Command) (line : ControlLine) (m : Memory)
+command_within : (setting : TextSetting) (may_call : Bool) (command : Command) (line : ControlLine) (m : Memory)
     → IsWithin may_call (command_outcome setting may_call command line m).product
 unfolding command_outcome
 command_within setting may_call command line m = does_within may_call command line _ _
 
-control_by : (is_empty may_call : Bool) (o : Outcome) (m : Memory)
+control_by : (is_empty may_call : Bool) (o : PartOutcome) (m : Memory)
     → IsWithin may_call o.product → IsWithin may_call (if is_empty then nothing m else o).product
 unfolding IsWithin
 control_by true may_call o m h = tt
 control_by false may_call o m h = h
 
-control_within : (setting : Setting) (may_call : Bool) (line : ControlLine) (m : Memory)
+control_within : (setting : TextSetting) (may_call : Bool) (line : ControlLine) (m : Memory)
     → IsWithin may_call (control_outcome setting may_call line m).product
 unfolding control_outcome
 control_within setting may_call line m =
     control_by (length line.name == 0) may_call (command_outcome setting may_call (command_of line.name m.definitions) line m) m
     (command_within setting may_call (command_of line.name m.definitions) line m)
 
-form_within : (setting : Setting) (may_call : Bool) (raw : List ℕ) (form : LineForm (List ℕ)) (m : Memory)
+form_within : (setting : TextSetting) (may_call : Bool) (raw : List ℕ) (form : LineForm (List ℕ)) (m : Memory)
     → IsWithin may_call (form_outcome setting may_call raw form m).product
 unfolding IsWithin
-form_within setting may_call raw Comment m = tt
-form_within setting may_call raw BlankLine m = tt
-form_within setting may_call raw (Text text) m = tt
 form_within setting may_call raw (Control name column rest rest_column) m =
     control_within setting may_call (control_line raw name column rest_column) m
+form_within setting may_call raw _ m = tt
 
-leaf_within : (setting : Setting) (may_call : Bool) (raw : List ℕ) (m : Memory)
+leaf_within : (setting : TextSetting) (may_call : Bool) (raw : List ℕ) (m : Memory)
     → IsWithin may_call (leaf_outcome setting may_call raw m).product
 unfolding leaf_outcome
 leaf_within setting may_call raw m = form_within setting may_call raw (form_of raw) m
@@ -83,7 +78,7 @@ if_called (call_product call) may_call a lends within = rw lends within
 if_called (loop_product text) may_call a lends within = within
 
 -- what is lent as a call can be called
-pub leaf_callable : (setting : Setting) (may_call : Bool) (raw : List ℕ) (m : Memory) (result : ProductKind) (a : Acting)
+pub leaf_callable : (setting : TextSetting) (may_call : Bool) (raw : List ℕ) (m : Memory) (result : ProductKind) (a : Acting)
     → result ≡ kind_of (leaf_outcome setting may_call raw m).product → Lends (leaf_outcome setting may_call raw m).product a
     → IfCalled result (IsCallable may_call a.call)
 leaf_callable setting may_call raw m result a kind lends =

@@ -4,16 +4,16 @@ use Rattle.page_core_base.specs.declared.places.Place.{Place}
 use Rattle.page_roff_syntax.specs.Regions.{Opened}
 use Rattle.page_roff_syntax.specs.declared.region_heads.RegionHead.{RegionHead}
 use Rattle.page_roff_syntax.specs.declared.regions.RegionKind.{RegionKind}
-use Rattle.page_roff_syntax.specs.declared.regions.RegionKind.TheVariants.{Define, Append, Ignore, Table, Equation, Picture}
+use Rattle.page_roff_syntax.specs.declared.regions.RegionKind.TheVariants.{Define, Append}
 use Rattle.page_roff_syntax.specs.LineForms.{form_of}
 use Rattle.page_roff_syntax.specs.declared.line_forms.LineForm.{LineForm}
-use Rattle.page_roff_syntax.specs.declared.line_forms.LineForm.TheVariants.{Comment, BlankLine, Text, Control}
+use Rattle.page_roff_syntax.specs.declared.line_forms.LineForm.TheVariants.{Text, Control}
 use Rattle.page_roff_heads.specs.declared.conditions.Condition.{Condition}
 use Rattle.page_roff_heads.specs.declared.conditions.Test.{Test}
-use Rattle.page_roff_heads.specs.declared.conditions.Test.TheVariants.{Always, Unknown, IsDefined, IsRegister, Expression, Texts, Missing}
+use Rattle.page_roff_heads.specs.declared.conditions.Test.TheVariants.{Expression, Texts}
 use Rattle.page_roff_heads.specs.declared.loops.LoopHead.{LoopHead}
 use Rattle.page_core_base.specs.declared.limits.TheConstants.{EXPAND}
-use Rattle.page_roff_values.specs.Values.{Surroundings, Spot, Laid, start, expanded, NEST}
+use Rattle.page_roff_values.specs.Values.{Surroundings, TextSoFar, LaidText, start, expanded, NEST}
 use Rattle.page_roff_values.specs.laws.Views.{IsWithin}
 use Rattle.page_roff_values.proofs.LineLemmas.{value_within}
 use Rattle.page_roff_values.specs.Answers.{Answer, condition_answer, test_answer, unless_cut, expands, bytes_between}
@@ -22,7 +22,7 @@ use Rattle.page_roff_blocks.specs.laws.Spent.{Spends}
 use Rattle.page_roff_effects.specs.declared.commands.Command.{Command}
 use Rattle.page_roff_effects.specs.declared.commands.Command.TheVariants as commands
 use Rattle.page_roff_effects.specs.Lines.{command_of, copies, call_if, ControlLine, does, command_outcome, control_outcome, form_outcome, leaf_outcome}
-use Rattle.page_roff_effects.specs.States.{Memory, Outcome, Product, no_product, line_product, call_product, loop_product, sum_of_counts, Setting, surroundings, nothing, answer_of, budget_outcome, block_outcome, end_of_block_outcome}
+use Rattle.page_roff_effects.specs.States.{Memory, PartOutcome, Product, line_product, sum_of_counts, TextSetting, surroundings, nothing, answer_of, budget_outcome, block_outcome, end_of_block_outcome}
 use Rattle.page_roff_effects.specs.laws.Views.{State}
 use Rattle.page_roff_effects.specs.laws.Views as states
 use Rattle.page_roff_effects.specs.Regions.{head_outcome, longer, longer_if, body_outcome, kind_outcome, line_outcome, end_outcome, body_freed, finish_region, finish_outcome, longer_if_some, loop_outcome, collect_outcome, repeats_text, close_outcome}
@@ -46,19 +46,15 @@ expanded_few env line text = (value_within env NEST text (start line) (start_wit
 
 -- ---- conditions
 
-cut_within : (cut : Bool) (laid : Laid) (answer : Answer) → IsWithin laid.edge → IsWithin answer.edge → IsWithin (unless_cut cut laid answer).edge
+cut_within : (cut : Bool) (laid : LaidText) (answer : Answer) → IsWithin laid.edge → IsWithin answer.edge → IsWithin (unless_cut cut laid answer).edge
 cut_within true laid answer h k = h
 cut_within false laid answer h k = k
 
-expands_within : (env : Surroundings) (count : ℕ) (text : List ℕ) (s : Spot) → IsWithin s → IsWithin (expands env count text s).edge
+expands_within : (env : Surroundings) (count : ℕ) (text : List ℕ) (s : TextSoFar) → IsWithin s → IsWithin (expands env count text s).edge
 expands_within env count text s h = value_within env NEST text _ (record { text = h.text; count = h.count })
 
-test_within : (env : Surroundings) (place : Place) (is_turned : Bool) (test : Test (List ℕ)) (s : Spot) → IsWithin s
+test_within : (env : Surroundings) (place : Place) (is_turned : Bool) (test : Test (List ℕ)) (s : TextSoFar) → IsWithin s
     → IsWithin (test_answer env place is_turned test s).edge
-test_within env place is_turned (Always holds) s h = h
-test_within env place is_turned (Unknown letter) s h = h
-test_within env place is_turned (IsDefined name) s h = h
-test_within env place is_turned (IsRegister name) s h = h
 test_within env place is_turned (Expression text) s h =
     let laid = expands env (text.column - 1) text.text s in
     let k = expands_within env (text.column - 1) text.text s h in
@@ -69,9 +65,9 @@ test_within env place is_turned (Texts first second) s h =
     let more = expands env (bytes_between first second) second.text laid.edge in
     let m = expands_within env (bytes_between first second) second.text laid.edge k in
     cut_within laid.edge.ended laid _ k (cut_within more.edge.ended more _ m m)
-test_within env place is_turned Missing s h = h
+test_within env place is_turned _ s h = h
 
-condition_few : (setting : Setting) (condition : Condition (List ℕ)) (m : Memory) → (answer_of setting condition m).edge.count ≤ EXPAND
+condition_few : (setting : TextSetting) (condition : Condition (List ℕ)) (m : Memory) → (answer_of setting condition m).edge.count ≤ EXPAND
 unfolding answer_of condition_answer
 condition_few setting condition m = (test_within _ _ condition.is_turned condition.test (start m.number) (start_within m.number)).count
 
@@ -84,12 +80,9 @@ call_keeps false text bytes m = refl
 does_keeps : (may_call : Bool) (command : Command) (line : ControlLine) (text : List ℕ) (m : Memory)
     → (does may_call command line text m).memory.expansions ≡ m.expansions
 does_keeps may_call commands.Call line text m = ap (λ (m : Memory). m.expansions) (call_keeps _ _ _ m)
-does_keeps may_call (commands.Define request) line text m = refl
-does_keeps may_call commands.Ignore line text m = refl
-does_keeps may_call commands.Refuse line text m = refl
-does_keeps may_call commands.Pass line text m = refl
+does_keeps may_call _ line text m = refl
 
-command_few : (setting : Setting) (may_call : Bool) (command : Command) (line : ControlLine) (m : Memory)
+command_few : (setting : TextSetting) (may_call : Bool) (command : Command) (line : ControlLine) (m : Memory)
     → IsFew m.expansions (command_outcome setting may_call command line m).memory.expansions
 unfolding command_outcome
 command_few setting may_call command line m =
@@ -97,30 +90,27 @@ command_few setting may_call command line m =
     rw (does_keeps may_call command line laid.edge.text _)
     (few_counts m.expansions laid.edge.count (expanded_few (surroundings (copies command) setting m) m.number line.text))
 
-control_few_if : (b : Bool) (o : Outcome) (m : Memory) → IsFew m.expansions o.memory.expansions → IsFew m.expansions (if b then nothing m else o).memory.expansions
+control_few_if : (b : Bool) (o : PartOutcome) (m : Memory) → IsFew m.expansions o.memory.expansions → IsFew m.expansions (if b then nothing m else o).memory.expansions
 control_few_if true o m h = omega arith
 control_few_if false o m h = h
 
-form_few : (setting : Setting) (may_call : Bool) (raw : List ℕ) (form : LineForm (List ℕ)) (m : Memory)
+form_few : (setting : TextSetting) (may_call : Bool) (raw : List ℕ) (form : LineForm (List ℕ)) (m : Memory)
     → IsFew m.expansions (form_outcome setting may_call raw form m).memory.expansions
 unfolding control_outcome
-form_few setting may_call raw Comment m = omega arith
-form_few setting may_call raw BlankLine m = omega arith
 form_few setting may_call raw (Text text) m =
     few_counts m.expansions _ (expanded_few (surroundings false setting m) m.number text)
 form_few setting may_call raw (Control name column rest rest_column) m =
     control_few_if (length name == 0) _ m (command_few setting may_call (command_of name m.definitions) _ m)
+form_few setting may_call raw _ m = omega arith
 
-leaf_few : (setting : Setting) (may_call : Bool) (raw : List ℕ) (m : Memory) → IsFew m.expansions (leaf_outcome setting may_call raw m).memory.expansions
+leaf_few : (setting : TextSetting) (may_call : Bool) (raw : List ℕ) (m : Memory) → IsFew m.expansions (leaf_outcome setting may_call raw m).memory.expansions
 unfolding leaf_outcome
 leaf_few setting may_call raw m = form_few setting may_call raw (form_of raw) m
 
 done_memory : (p : Product) (s : State) → (state_of (done_by p s)).memory ≡ s.memory
 unfolding done_by
-done_memory no_product s = refl
 done_memory (line_product line) s = refl
-done_memory (call_product call) s = refl
-done_memory (loop_product text) s = refl
+done_memory _ s = refl
 
 -- ---- regions
 
@@ -132,23 +122,20 @@ longer_keeps : (text : Option (List ℕ)) (line : List ℕ) (m : Memory) → (lo
 longer_keeps None line m = refl
 longer_keeps (Some text) line m = longer_if_keeps _ _ m
 
-body_few_if : (b : Bool) (o : Outcome) (m : Memory) → IsFew m.expansions o.memory.expansions → IsFew m.expansions (if b then o else nothing m).memory.expansions
+body_few_if : (b : Bool) (o : PartOutcome) (m : Memory) → IsFew m.expansions o.memory.expansions → IsFew m.expansions (if b then o else nothing m).memory.expansions
 body_few_if true o m h = h
 body_few_if false o m h = omega arith
 
-body_few : (setting : Setting) (line : List ℕ) (m : Memory) → IsFew m.expansions (body_outcome setting line m).memory.expansions
+body_few : (setting : TextSetting) (line : List ℕ) (m : Memory) → IsFew m.expansions (body_outcome setting line m).memory.expansions
 body_few setting line m =
     let laid = expanded (surroundings true setting m) m.number line in
     body_few_if (is_some m.body) _ m (rw (longer_keeps m.body laid.edge.text _)
     (few_counts m.expansions laid.edge.count (expanded_few (surroundings true setting m) m.number line)))
 
-kind_few : (setting : Setting) (kind : RegionKind) (line : List ℕ) (m : Memory) → IsFew m.expansions (kind_outcome setting kind line m).memory.expansions
+kind_few : (setting : TextSetting) (kind : RegionKind) (line : List ℕ) (m : Memory) → IsFew m.expansions (kind_outcome setting kind line m).memory.expansions
 kind_few setting Define line m = body_few setting line m
 kind_few setting Append line m = body_few setting line m
-kind_few setting Ignore line m = omega arith
-kind_few setting Table line m = omega arith
-kind_few setting Equation line m = omega arith
-kind_few setting Picture line m = omega arith
+kind_few setting _ line m = omega arith
 
 head_keeps : (head : RegionHead (List ℕ)) (is_run : Bool) (m : Memory) → (head_outcome head is_run m).memory.expansions ≡ m.expansions
 unfolding head_outcome

@@ -8,12 +8,12 @@ use Rattle.page_roff_blocks.specs.machine.Languages.{Kind, page, body, Done, giv
 use Rattle.page_roff_blocks.specs.machine.Budgets.{Budgeted, with_rest, charge_by, charge, begin_line, whether_run, meet, test, unopened_by, read_line, end_line, collect_some, meaning, done_with, closed_with, turn_by, turn, language}
 use Rattle.page_roff_blocks.specs.machine.Fronts.{over_pair, over_done, IsFrontOfParts, IsFront}
 use Rattle.page_roff_effects.specs.laws.Views.{State, after}
-use Rattle.page_roff_effects.specs.States.{Outcome, Product, no_product, line_product, call_product, loop_product, Given, answer_of, test_outcome, budget_outcome, block_outcome, end_of_block_outcome}
+use Rattle.page_roff_effects.specs.States.{PartOutcome, Product, line_product, Given, answer_of, test_outcome, budget_outcome, block_outcome, end_of_block_outcome}
 use Rattle.page_roff_effects.specs.Lines.{leaf_outcome}
 use Rattle.page_roff_effects.specs.Regions.{head_outcome, line_outcome, end_outcome, finish_outcome, loop_outcome, collect_outcome, close_outcome}
 use Rattle.page_roff_effects.specs.machine.Effects.{effects, setting_of, turn_answer, tested_after, done_by, done_after, given_before, in_front}
 
-after_front : (g : List Given) (s : State) (o : Outcome) → after (given_before g s) o ≡ given_before g (after s o)
+after_front : (g : List Given) (s : State) (o : PartOutcome) → after (given_before g s) o ≡ given_before g (after s o)
 after_front g s o = rw append_assoc
 
 tested_front : (g : List Given) (s : State) (a : Answer) → tested_after (given_before g s) a ≡ over_pair (given_before g) (tested_after s a)
@@ -22,12 +22,10 @@ tested_front g s a = ap (λ (t : State). (a.holds, t)) (after_front g s (test_ou
 
 done_front : (g : List Given) (p : Product) (t : State) → done_by p (given_before g t) ≡ over_done (given_before g) (done_by p t)
 unfolding done_by
-done_front g no_product t = refl
 done_front g (line_product line) t = refl
-done_front g (call_product call) t = refl
-done_front g (loop_product text) t = refl
+done_front g _ t = refl
 
-done_after_front : (g : List Given) (s : State) (o : Outcome) → done_after (given_before g s) o ≡ over_done (given_before g) (done_after s o)
+done_after_front : (g : List Given) (s : State) (o : PartOutcome) → done_after (given_before g s) o ≡ over_done (given_before g) (done_after s o)
 unfolding done_after
 done_after_front g s o = ap (done_by o.product) (after_front g s o) ∙ done_front g o.product (after s o)
 

@@ -14,7 +14,7 @@ use Rattle.page_roff_values.proofs.LineLemmas.{plain_expanded}
 use Rattle.page_roff_values.specs.Values.{nothing, adds, start}
 use Rattle.page_roff_effects.specs.machine.Acting.{Acting, measured, plain_form, line_laid}
 use Rattle.page_roff_effects.specs.Lines.{leaf_outcome}
-use Rattle.page_roff_effects.specs.States.{Memory, Setting, counted, gives_line, surroundings}
+use Rattle.page_roff_effects.specs.States.{Memory, TextSetting, counted, gives_line, surroundings}
 
 no_comment : (line : List ℕ) → prefix_len is_plain line ≡ length line → without_comment line ≡ line
 no_comment line p =
@@ -37,7 +37,7 @@ pub counted_none : (m : Memory) → counted 0 m ≡ m
 counted_none m = ap (λ n. let k : Memory = record { definitions = m.definitions; body = m.body; number = m.number; expansions = n } in k) (omega arith)
 
 -- a line without a control character at its front and without a backslash is taken as it is written
-pub plain_taken : (setting : Setting) (may_call : Bool) (line : List ℕ) (m : Memory) → begins_control line ≡ false → prefix_len is_plain line ≡ length line
+pub plain_taken : (setting : TextSetting) (may_call : Bool) (line : List ℕ) (m : Memory) → begins_control line ≡ false → prefix_len is_plain line ≡ length line
     → length line ≤ LINE → leaf_outcome setting may_call line m ≡ gives_line (plain_form line) line 0 m
 unfolding leaf_outcome
 plain_taken setting may_call line m b p h =

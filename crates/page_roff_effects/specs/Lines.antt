@@ -15,9 +15,9 @@ use Rattle.page_roff_syntax.specs.declared.quotes.Argument.{Argument}
 use Rattle.page_roff_syntax.specs.declared.requests.Request.{Request}
 use Rattle.page_roff_syntax.specs.declared.requests.Request.TheVariants as requests
 use Rattle.page_roff_names.specs.Names.{Definitions, body_of}
-use Rattle.page_roff_values.specs.Values.{Laid, expanded}
-use Rattle.page_roff_definitions.specs.Definitions.{is_in_copy_mode, Outcome, packed, closings_notes, outcome_of}
-use Rattle.page_roff_effects.specs.States.{Memory, call_product, nothing, after_notes, at, reports, reports_at, gives_line, counted, Setting, surroundings}
+use Rattle.page_roff_values.specs.Values.{LaidText, expanded}
+use Rattle.page_roff_definitions.specs.Definitions.{is_in_copy_mode, DefinitionOutcome, packed, closings_notes, outcome_of}
+use Rattle.page_roff_effects.specs.States.{Memory, call_product, nothing, after_notes, at, reports, reports_at, gives_line, counted, TextSetting, surroundings}
 use Rattle.page_roff_effects.specs.States as states
 use Rattle.page_roff_effects.specs.declared.commands.Command.{Command}
 use Rattle.page_roff_effects.specs.declared.commands.Command.TheVariants.{Define, Ignore, Refuse, Pass, Call}
@@ -67,13 +67,13 @@ abbrev pub size_notes : Bool → Place → List Message
 size_notes true place = []
 size_notes false place = message_about kinds.Limit place (name_of limits.Args) ∷ []
 
-abbrev pub call_if : Bool → List ℕ → List ℕ → Memory → states.Outcome
+abbrev pub call_if : Bool → List ℕ → List ℕ → Memory → states.PartOutcome
 call_if true body bytes m = record { notes = []; product = call_product (record { body = body; packed = bytes }); memory = m }
 call_if false body bytes m = nothing m
 
 -- The call of a macro, whose name is in a column. Arguments without their last quote are reported first. One beyond a limit is skipped, with a message
 -- for each limit.
-abbrev pub calls : Bool → ℕ → List ℕ → List (Argument (List ℕ)) → Memory → states.Outcome
+abbrev pub calls : Bool → ℕ → List ℕ → List (Argument (List ℕ)) → Memory → states.PartOutcome
 calls may_call column body args m =
     let fits = nat_le (length (packed args)) ARGS in
     after_notes (closings_notes m.number args) (
@@ -96,11 +96,11 @@ abbrev pub rest_column : ControlLine → ℕ
 rest_column line = line.name_end + 1
 
 -- a request for definitions
-abbrev pub defines : Outcome → Memory → states.Outcome
+abbrev pub defines : DefinitionOutcome → Memory → states.PartOutcome
 defines o m = reports o.notes (record m { definitions = o.definitions })
 
 -- what a command does with the finished line
-abbrev pub does : Bool → Command → ControlLine → List ℕ → Memory → states.Outcome
+abbrev pub does : Bool → Command → ControlLine → List ℕ → Memory → states.PartOutcome
 does may_call Call line text m =
     calls may_call line.column (unwrap_or (called_body line.name m.definitions) [])
     (arguments (rest_column line) (rest_of line text)) m
@@ -111,22 +111,22 @@ does may_call Refuse line text m = reports_at kinds.UnsuppRequest line.column li
 does may_call Pass line text m = gives_line forms.Control text line.name_end m
 
 -- first the line is expanded
-abbrev pub after_expansion : Laid → (List ℕ → Memory → states.Outcome) → Memory → states.Outcome
+abbrev pub after_expansion : LaidText → (List ℕ → Memory → states.PartOutcome) → Memory → states.PartOutcome
 after_expansion laid f m = after_notes laid.notes (f laid.edge.text (counted laid.edge.count m))
 
-unfoldable pub command_outcome : Setting → Bool → Command → ControlLine → Memory → states.Outcome
+unfoldable pub command_outcome : TextSetting → Bool → Command → ControlLine → Memory → states.PartOutcome
 command_outcome setting may_call command line m =
     after_expansion (expanded (surroundings (copies command) setting m) m.number line.text) (does may_call command line) m
 
 -- a control line without a name does nothing, and is not expanded
-unfoldable pub control_outcome : Setting → Bool → ControlLine → Memory → states.Outcome
+unfoldable pub control_outcome : TextSetting → Bool → ControlLine → Memory → states.PartOutcome
 control_outcome setting may_call line m =
     if length line.name == 0 then nothing m
     else command_outcome setting may_call (command_of line.name m.definitions) line m
 
 -- ---- all lines that head nothing
 
-abbrev pub text_outcome : Setting → List ℕ → Memory → states.Outcome
+abbrev pub text_outcome : TextSetting → List ℕ → Memory → states.PartOutcome
 text_outcome setting text m =
     after_expansion (expanded (surroundings false setting m) m.number text) (λ finished m. gives_line forms.Text finished 0 m) m
 
@@ -134,7 +134,7 @@ abbrev pub control_line : List ℕ → List ℕ → ℕ → ℕ → ControlLine
 control_line text name column rest_column =
     record { name = name; column = column; name_end = rest_column - 1; text = without_comment text }
 
-abbrev pub form_outcome : Setting → Bool → List ℕ → LineForm (List ℕ) → Memory → states.Outcome
+abbrev pub form_outcome : TextSetting → Bool → List ℕ → LineForm (List ℕ) → Memory → states.PartOutcome
 form_outcome setting may_call raw Comment m = nothing m
 form_outcome setting may_call raw BlankLine m = gives_line forms.Blank raw 0 m
 form_outcome setting may_call raw (Text text) m = text_outcome setting text m
@@ -142,5 +142,5 @@ form_outcome setting may_call raw (Control name column rest rest_column) m =
     control_outcome setting may_call (control_line raw name column rest_column) m
 
 -- A raw line, where one more macro may run or not. A line that is cut, since it passes a limit of expansion, is the line all the same.
-unfoldable pub leaf_outcome : Setting → Bool → List ℕ → Memory → states.Outcome
+unfoldable pub leaf_outcome : TextSetting → Bool → List ℕ → Memory → states.PartOutcome
 leaf_outcome setting may_call raw m = form_outcome setting may_call raw (form_of raw) m

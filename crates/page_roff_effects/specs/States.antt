@@ -2,7 +2,7 @@
 use Rattle.std.specs.Prelude.{ℕ, List, Option, [], None, ◌∷◌, ◌+◌, ◌++◌, ◌-◌, ◌^◌, min, Bool, false, codes}
 use Rattle.page_core_base.specs.Limits.{name_of}
 use Rattle.page_core_base.specs.Messages.{Message, message_about}
-use Rattle.page_core_base.specs.Texts.{Line}
+use Rattle.page_core_base.specs.Texts.{TakenLine}
 use Rattle.page_core_base.specs.declared.limits.Limit.TheVariants as limits
 use Rattle.page_core_base.specs.declared.lines_taken.Form.{Form}
 use Rattle.page_core_base.specs.declared.note_kinds.NoteKind.{NoteKind}
@@ -12,7 +12,7 @@ use Rattle.page_roff_names.specs.Names.{Definitions, definitions}
 use Rattle.page_roff_heads.specs.declared.conditions.Condition.{Condition}
 use Rattle.page_roff_values.specs.Answers.{Answer, condition_answer}
 use Rattle.page_roff_values.specs.Values.{Surroundings}
-use Rattle.page_roff_definitions.specs.Definitions.{Call}
+use Rattle.page_roff_definitions.specs.Definitions.{MacroCall}
 
 -- ---- What the parts of a source change, and what they give. Source: roff(7), "LANGUAGE SYNTAX", "ds", "de".
 
@@ -35,13 +35,13 @@ numbered number m = record m { number = number }
 -- what comes of a part besides messages
 pub data Product : Type 0 where
   no_product : Product
-  line_product : Line → Product
-  call_product : Call → Product
+  line_product : TakenLine → Product
+  call_product : MacroCall → Product
   -- a loop that is whole: its condition and the lines of its body, each with a line feed after it
   loop_product : List ℕ → Product
 
 -- what a part of a source does: its messages, then what comes of it, and what is remembered after it
-pub record Outcome : Type 0 where
+pub record PartOutcome : Type 0 where
   pub notes : List Message
   pub product : Product
   pub memory : Memory
@@ -51,7 +51,7 @@ pub record Outcome : Type 0 where
 -- a message, or a line for the set of macros
 pub data Given : Type 0 where
   says : Message → Given
-  takes : Line → Given
+  takes : TakenLine → Given
 
 abbrev pub lines_of : Product → List Given
 lines_of (line_product line) = takes line ∷ []
@@ -60,13 +60,13 @@ lines_of _ = []
 -- ---- outcomes
 
 -- nothing happens
-abbrev pub nothing : Memory → Outcome
+abbrev pub nothing : Memory → PartOutcome
 nothing m = record { notes = []; product = no_product; memory = m }
 
-abbrev pub reports : List Message → Memory → Outcome
+abbrev pub reports : List Message → Memory → PartOutcome
 reports notes m = record { notes = notes; product = no_product; memory = m }
 
-abbrev pub gives_line : Form → List ℕ → ℕ → Memory → Outcome
+abbrev pub gives_line : Form → List ℕ → ℕ → Memory → PartOutcome
 gives_line form text name_end m =
     record {
       notes = [];
@@ -75,7 +75,7 @@ gives_line form text name_end m =
     }
 
 -- these messages come first
-abbrev pub after_notes : List Message → Outcome → Outcome
+abbrev pub after_notes : List Message → PartOutcome → PartOutcome
 after_notes notes o = record { notes = notes ++ o.notes; product = o.product; memory = o.memory }
 
 -- a column of the source line
@@ -86,7 +86,7 @@ at m column = record { line = m.number; column = column }
 abbrev pub note_at : NoteKind → ℕ → List ℕ → Memory → List Message
 note_at kind column detail m = message_about kind (at m column) detail ∷ []
 
-abbrev pub reports_at : NoteKind → ℕ → List ℕ → Memory → Outcome
+abbrev pub reports_at : NoteKind → ℕ → List ℕ → Memory → PartOutcome
 reports_at kind column detail m = reports (note_at kind column detail m) m
 
 abbrev pub with_body : Option (List ℕ) → Memory → Memory
@@ -103,31 +103,31 @@ counted count m = record m { expansions = sum_of_counts m.expansions count }
 -- ---- what interpolations read
 
 -- how many basic units wide a finished text is, and the arguments of the macro that runs, if one does
-pub record Setting : Type 0 where
+pub record TextSetting : Type 0 where
   pub units : List ℕ → ℕ
   pub arguments : Option (List (List ℕ))
 
-abbrev pub surroundings : Bool → Setting → Memory → Surroundings
+abbrev pub surroundings : Bool → TextSetting → Memory → Surroundings
 surroundings copy setting m =
     record { copy = copy; definitions = m.definitions; arguments = setting.arguments; units = setting.units }
 
 -- ---- What the parts of a source do to what is remembered, but for lines and regions. Source: roff(7), "if", "while"; mandoc(1), "DIAGNOSTICS".
 
 -- a condition: its messages, and the interpolations that it made
-unfoldable pub answer_of : Setting → Condition (List ℕ) → Memory → Answer
+unfoldable pub answer_of : TextSetting → Condition (List ℕ) → Memory → Answer
 answer_of setting condition m = condition_answer (surroundings false setting m) m.number condition
 
-abbrev pub test_outcome : Answer → Memory → Outcome
+abbrev pub test_outcome : Answer → Memory → PartOutcome
 test_outcome answer m = reports answer.notes (counted answer.edge.count m)
 
 -- a re-read line beyond the budget
-unfoldable pub budget_outcome : Memory → Outcome
+unfoldable pub budget_outcome : Memory → PartOutcome
 budget_outcome m = reports_at kinds.Loop 1 (name_of limits.Reread) m
 
 -- a true block beyond the limit of open ones, whose head's name is in a column
-unfoldable pub block_outcome : ℕ → Memory → Outcome
+unfoldable pub block_outcome : ℕ → Memory → PartOutcome
 block_outcome column m = reports_at kinds.Limit column (name_of limits.Conds) m
 
 -- the end of a block where none is open
-unfoldable pub end_of_block_outcome : Memory → Outcome
+unfoldable pub end_of_block_outcome : Memory → PartOutcome
 end_of_block_outcome m = reports_at kinds.NotOpen 1 (codes "\\}") m

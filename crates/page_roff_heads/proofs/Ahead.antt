@@ -6,8 +6,8 @@ use Rattle.std.proofs.lemmas.Bool.Decides.{nat_tests}
 use Rattle.std.proofs.lemmas.List.{drop-append-le, length-append, length-take-le, take_all, take-append-le}
 use Rattle.page_roff_syntax.specs.LineForms.{begins_comment, is_name, is_white, without_comment}
 use Rattle.page_roff_syntax.specs.Arguments.{is_blank}
-use Rattle.page_roff_heads.specs.declared.conditions.Kind.{Kind}
-use Rattle.page_roff_heads.specs.declared.conditions.Kind.TheVariants.{True, False, Defined, Register, Expression, Letter, Delimiter}
+use Rattle.page_roff_heads.specs.declared.conditions.ConditionKind.{ConditionKind}
+use Rattle.page_roff_heads.specs.declared.conditions.ConditionKind.TheVariants.{Defined, Register, Expression, Delimiter}
 use Rattle.page_roff_heads.specs.declared.conditions.Test.{Test}
 use Rattle.page_roff_heads.specs.declared.conditions.Test.TheVariants as tests
 use Rattle.page_roff_heads.specs.declared.conditions.TestRead.{TestRead}
@@ -281,11 +281,8 @@ texts_ahead column x w r h =
     ∙ ap (longer m) (after_ahead d (column + m) v r (omega (arith, some, length-take-le m (x ∷ w) fits)) (omega (arith, h, len, length-drop m (x ∷ w))))
     ∙ front
 
-kind_ahead : (k : Kind) (column x : ℕ) (w r : List ℕ) → (read_kind k column (x ∷ (w ++ r))).len + 1 < length (x ∷ w)
+kind_ahead : (k : ConditionKind) (column x : ℕ) (w r : List ℕ) → (read_kind k column (x ∷ (w ++ r))).len + 1 < length (x ∷ w)
     → read_kind k column (x ∷ (w ++ r)) ≡ read_kind k column (x ∷ w)
-kind_ahead True column x w r h = refl
-kind_ahead False column x w r h = refl
-kind_ahead Letter column x w r h = refl
 kind_ahead Defined column x w r h = named_ahead tests.IsDefined w r (omega (arith, h))
 kind_ahead Register column x w r h = named_ahead tests.IsRegister w r (omega (arith, h))
 kind_ahead Expression column x w r h =
@@ -294,6 +291,7 @@ kind_ahead Expression column x w r h =
     ap (λ k. take k (x ∷ (w ++ r))) e ∙ take-append-le (expression_len (x ∷ w)) (x ∷ w) r (omega (arith, h, e)) in
     ap₂ (λ (text : List ℕ) (k : ℕ). reads (tests.Expression (placed column text)) k) t e
 kind_ahead Delimiter column x w r h = texts_ahead column x w r (omega (arith, h))
+kind_ahead _ column x w r h = refl
 
 test_ahead : (column : ℕ) (w r : List ℕ) → (read_test column (w ++ r)).len + 1 < length w → read_test column (w ++ r) ≡ read_test column w
 unfolding read_test

@@ -5,8 +5,8 @@ use Rattle.page_roff_syntax.specs.Arguments.{is_blank}
 use Rattle.page_roff_syntax.specs.Delimiters.{width_len, place_of, character_len, delimiter_of}
 use Rattle.page_roff_syntax.specs.LineForms.{begins_comment, is_white, is_name}
 use Rattle.page_roff_heads.specs.declared.conditions.Condition.{Condition}
-use Rattle.page_roff_heads.specs.declared.conditions.Kind.{Kind}
-use Rattle.page_roff_heads.specs.declared.conditions.Kind.TheVariants.{True, False, Defined, Register, Expression, Letter, Delimiter}
+use Rattle.page_roff_heads.specs.declared.conditions.ConditionKind.{ConditionKind}
+use Rattle.page_roff_heads.specs.declared.conditions.ConditionKind.TheVariants.{True, False, Defined, Register, Expression, Letter, Delimiter}
 use Rattle.page_roff_heads.specs.declared.conditions.Test.{Test}
 use Rattle.page_roff_heads.specs.declared.conditions.Test.TheVariants as tests
 use Rattle.page_roff_heads.specs.declared.conditions.TestRead.{TestRead}
@@ -79,7 +79,7 @@ abbrev pub begins_expression : ℕ → Bool
 begins_expression byte = is_between 48 57 byte || is_among (codes "(\\+-.") byte
 
 -- what a test is, by its first byte
-unfoldable pub kind_of : ℕ → Kind
+unfoldable pub kind_of : ℕ → ConditionKind
 kind_of byte =
     if is_among (codes "no") byte then True
     else if is_among (codes "tev") byte then False
@@ -139,7 +139,7 @@ texts_at column text =
 abbrev pub named : (List ℕ → Test (List ℕ)) → List ℕ → TestRead (List ℕ)
 named test text = reads (test (name_after text)) (1 + (blank_len text + name_len text))
 
-abbrev pub read_kind : Kind → ℕ → List ℕ → TestRead (List ℕ)
+abbrev pub read_kind : ConditionKind → ℕ → List ℕ → TestRead (List ℕ)
 read_kind True column text = reads (tests.Always true) 1
 read_kind False column text = reads (tests.Always false) 1
 read_kind Defined column text = named tests.IsDefined (drop 1 text)

@@ -5,7 +5,7 @@ ghost use Rattle.std.specs.List.{prefix_len};
 ghost use Rattle.page_roff_syntax.specs.LineForms.{is_name, without_comment};
 ghost use Rattle.page_roff_heads.specs.Conditions as written;
 ghost use Rattle.page_roff_heads.specs.laws.Views.{read_view, test_view, condition_view, FitsTest};
-ghost use Rattle.page_roff_heads.specs.declared.conditions.Kind.TheVariants as kinds;
+ghost use Rattle.page_roff_heads.specs.declared.conditions.ConditionKind.TheVariants as kinds;
 ghost use Rattle.page_roff_heads.specs.declared.conditions.Test.TheVariants as tests;
 ghost use Rattle.page_roff_heads.specs.Conditions.{blank_len};
 
@@ -45,7 +45,7 @@ pub struct Condition<W> {
 
 /// What a test is, by its first byte.
 #[derive(Clone, Copy)]
-pub(crate) enum Kind {
+pub(crate) enum ConditionKind {
     True,
     False,
     Defined,
@@ -63,17 +63,17 @@ pub(crate) struct TestRead<W> {
 }
 
 #[tactic(auto, unfolding(crate::specs::Conditions::kind_of))]
-fn kind_of(byte: u8) -> Kind
+fn kind_of(byte: u8) -> ConditionKind
     ensures { result ≡ written.kind_of byte }
 {
     match byte {
-        b'n' | b'o' => Kind::True,
-        b't' | b'e' | b'v' => Kind::False,
-        b'd' => Kind::Defined,
-        b'r' => Kind::Register,
-        b'0'..=b'9' | b'(' | b'\\' | b'+' | b'-' | b'.' => Kind::Expression,
-        b'A'..=b'Z' | b'a'..=b'z' => Kind::Letter,
-        _ => Kind::Delimiter,
+        b'n' | b'o' => ConditionKind::True,
+        b't' | b'e' | b'v' => ConditionKind::False,
+        b'd' => ConditionKind::Defined,
+        b'r' => ConditionKind::Register,
+        b'0'..=b'9' | b'(' | b'\\' | b'+' | b'-' | b'.' => ConditionKind::Expression,
+        b'A'..=b'Z' | b'a'..=b'z' => ConditionKind::Letter,
+        _ => ConditionKind::Delimiter,
     }
 }
 
@@ -202,7 +202,7 @@ fn read_expression(text: &[u8], column: u32) -> TestRead<&[u8]>
 }
 
 // A test of a kind, of which the first byte is at a column.
-fn read_kind(kind: Kind, text: &[u8], column: u32) -> TestRead<&[u8]>
+fn read_kind(kind: ConditionKind, text: &[u8], column: u32) -> TestRead<&[u8]>
     requires some { 0 < length text.now }
     requires short { length text.now ≤ LINE }
     requires room { column + length text.now ≤ LINE + 1 }
@@ -212,13 +212,13 @@ fn read_kind(kind: Kind, text: &[u8], column: u32) -> TestRead<&[u8]>
 {
     let (name, len) = name_after(&text[1..]);
     match kind {
-        Kind::True => letter(Test::Always(true)),
-        Kind::False => letter(Test::Always(false)),
-        Kind::Letter => letter(Test::Unknown(&text[..1])),
-        Kind::Defined => named(Test::IsDefined(name), len),
-        Kind::Register => named(Test::IsRegister(name), len),
-        Kind::Expression => read_expression(text, column),
-        Kind::Delimiter => read_texts(text, column),
+        ConditionKind::True => letter(Test::Always(true)),
+        ConditionKind::False => letter(Test::Always(false)),
+        ConditionKind::Letter => letter(Test::Unknown(&text[..1])),
+        ConditionKind::Defined => named(Test::IsDefined(name), len),
+        ConditionKind::Register => named(Test::IsRegister(name), len),
+        ConditionKind::Expression => read_expression(text, column),
+        ConditionKind::Delimiter => read_texts(text, column),
     }
 }
 

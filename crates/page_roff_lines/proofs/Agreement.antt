@@ -9,10 +9,10 @@ use Rattle.std.proofs.lemmas.List.Splits.{join_with_byte-slice_split}
 use Rattle.page_roff_decoding.specs.Decoding.{line_limit}
 use Rattle.page_roff_lines.specs.declared.Mode.TheVariants.{Plain}
 use Rattle.page_roff_lines.specs.declared.Mark.{Mark}
-use Rattle.page_roff_lines.specs.declared.Mark.TheVariants.{Unread, First, Second, Absent, Present}
+use Rattle.page_roff_lines.specs.declared.Mark.TheVariants.{Absent, Present}
 use Rattle.page_roff_lines.specs.laws.Views.{newline}
 use Rattle.page_roff_lines.specs.machine.Held.{Held, hold, nothing_held}
-use Rattle.page_roff_lines.specs.Lines.{read, Logical, Kept, join_texts, logical_lines, keep}
+use Rattle.page_roff_lines.specs.Lines.{read, Logical, KeptLine, join_texts, logical_lines, keep}
 use Rattle.page_roff_lines.specs.machine.Open.{Open, restart, next_open, put_byte, put_newline, newline_in, without_return, close, put_in, put_plain, put, count_byte, ends_mark, mark_after, end_open, open_after, whole_lines, kept_of, if_whole, last_line, lines_from}
 use Rattle.page_roff_lines.specs.machine.Run.{is_settled}
 use Rattle.page_roff_lines.proofs.OpenLaws.{open_after-append, whole_lines-append}
@@ -71,7 +71,7 @@ lines_from-byte : (t : Held) (n p k : ℕ) (a : Mark) (b : ℕ) (bs : List ℕ)
     → lines_from (any true Plain t false false n p k a) (b ∷ bs) ≡ lines_from (st Plain nothing_held false false p p k a) (b ∷ bs)
 unfolding restart
 lines_from-byte t n p k a b bs =
-    ap (λ (ws : List Kept). ws ++ last_line (open_after (any true Plain t false false n p k a) (b ∷ bs))) (whole_lines-restart true Plain t false false n p k a (b ∷ bs))
+    ap (λ (ws : List KeptLine). ws ++ last_line (open_after (any true Plain t false false n p k a) (b ∷ bs))) (whole_lines-restart true Plain t false false n p k a (b ∷ bs))
     ∙ ap (λ (q : Open). whole_lines (st Plain nothing_held false false p p k a) (b ∷ bs) ++ last_line q) (open_after-restart true Plain t false false n p k a b bs)
 
 lines_from-whole : (t : Held) (n p k : ℕ) (a : Mark) (bs : List ℕ)
@@ -108,9 +108,7 @@ first_byte : (a : Mark) (p k : ℕ) (b : ℕ) → is_settled a ≡ true → (b =
 unfolding next_open put_byte count_byte restart ends_mark mark_after put_in put_plain put
 first_byte Absent p k b h e = rw (e, take-nil) refl
 first_byte Present p k b h e = rw (e, take-nil) refl
-first_byte Unread p k b h e = cc
-first_byte First p k b h e = cc
-first_byte Second p k b h e = cc
+first_byte _ p k b h e = cc
 
 begin : (a : Mark) (p k : ℕ) (b : ℕ) (bs : List ℕ) → is_settled a ≡ true → (b == newline) ≡ false
     → lines_from (st Plain nothing_held false false p p k a) (b ∷ bs) ≡ lines_from (at a p p plain [] k) (b ∷ bs)
@@ -167,9 +165,7 @@ empty_line : (a : Mark) (p k : ℕ) → is_settled a ≡ true
 unfolding next_open put_byte count_byte restart ends_mark mark_after put_newline newline_in without_return close
 empty_line Absent p k h = refl
 empty_line Present p k h = refl
-empty_line Unread p k h = cc
-empty_line First p k h = cc
-empty_line Second p k h = cc
+empty_line _ p k h = cc
 
 begins-byte : (more : List (List ℕ)) → Goes more → (a : Mark) (p k b : ℕ) (y : List ℕ) → is_settled a ≡ true → NoNewline (b ∷ y) → NoNewlines more
     → lines_from (st Plain nothing_held false false p p k a) (join_with_byte newline ((b ∷ y) ∷ more)) ≡ map keep (logical_lines p (lines_of_parts ((b ∷ y) ∷ more)))

@@ -44,10 +44,8 @@ put_in-short Backslash false o b h = either-short (b == hash) _ _ (shorten-short
 
 newline_in-short : (m : Mode) (o : Open) → Short o → Short (newline_in m o)
 unfolding newline_in close
-newline_in-short Plain o h = h
-newline_in-short Comment o h = h
-newline_in-short Dropped o h = h
 newline_in-short Backslash o h = shorten-short o.text h
+newline_in-short _ o h = h
 
 put_newline-short : (o : Open) → Short o → Short (put_newline o)
 unfolding put_newline without_return

@@ -12,7 +12,7 @@ use Rattle.page_roff_lines.specs.declared.Mode.TheVariants.{Plain, Backslash, Co
 use Rattle.page_roff_lines.specs.declared.Mark.{Mark}
 use Rattle.page_roff_lines.specs.declared.Mark.TheVariants.{Unread, First, Second, Absent, Present}
 use Rattle.page_roff_lines.specs.laws.Views.{newline}
-use Rattle.page_roff_lines.specs.Lines.{hash, Kept, kept_lines, has_mark, Line, decode_line, or_else, choice_of_lines, lines}
+use Rattle.page_roff_lines.specs.Lines.{hash, KeptLine, kept_lines, has_mark, Line, decode_line, or_else, choice_of_lines, lines}
 use Rattle.page_roff_lines.specs.machine.Open.{Open, first_open, restart, close, count_byte, put, put_plain, put_pair, put_in, put_byte, ends_mark, mark_after, is_marked, next_open, end_open, end_in, kept_of, if_whole, whole_lines, open_after, lines_from as raw_lines_from}
 use Rattle.page_roff_lines.specs.machine.Run.{is_settled}
 use Rattle.page_roff_lines.specs.laws.Cutting.{Point, first_point, encoding_after, point_at, next_point, end_point, line_at, lines_within, point_after, lines_from, IsAfter, IsFed}
@@ -21,7 +21,7 @@ use Rattle.page_roff_lines.proofs.PointLemmas.{open_point, point_after-append, l
 use Rattle.page_roff_lines.proofs.MarkLemmas.{kept_lines-one_by_one}
 
 -- lines decoded one after the other, each of which may decide the encoding of the next
-abbrev decode_all : Encoding → Bool → List Kept → List Line
+abbrev decode_all : Encoding → Bool → List KeptLine → List Line
 decode_all e m [] = []
 decode_all e m (k ∷ ks) =
     decode_line (or_else e (cond m Utf8 (choice_of k.text))) k ∷ decode_all (or_else e (cond m Utf8 (choice_of k.text))) m ks
@@ -43,17 +43,17 @@ characters-low e f (b ∷ bs) h =
     let low = low_first b bs h in
     rw low.0 (ap (λ cs. cond (is_printable b) (good (b ∷ [])) (bad b) ∷ cs) (characters-low e f bs low.1))
 
-decode_line-low : (e f : Encoding) (k : Kept) → choice_of k.text ≡ Auto → decode_line e k ≡ decode_line f k
+decode_line-low : (e f : Encoding) (k : KeptLine) → choice_of k.text ≡ Auto → decode_line e k ≡ decode_line f k
 unfolding decode_line
 decode_line-low e f k h = rw (characters-low e f k.text h) refl
 
 -- once the encoding is known, it stays
-known : (e : Encoding) (m : Bool) (ks : List Kept) → ((c : Encoding) → or_else e c ≡ e) → decode_all e m ks ≡ map (decode_line e) ks
+known : (e : Encoding) (m : Bool) (ks : List KeptLine) → ((c : Encoding) → or_else e c ≡ e) → decode_all e m ks ≡ map (decode_line e) ks
 known e m [] h = refl
 known e m (k ∷ ks) h = rw (h (cond m Utf8 (choice_of k.text))) (ap (λ ls. decode_line e k ∷ ls) (known e m ks h))
 
 -- a line that decides or not, where the encoding is not known
-first_decides : (k : Kept) (ks : List Kept) → decode_all Auto false ks ≡ map (decode_line (choice_of_lines ks)) ks → (c : Encoding) → choice_of k.text ≡ c
+first_decides : (k : KeptLine) (ks : List KeptLine) → decode_all Auto false ks ≡ map (decode_line (choice_of_lines ks)) ks → (c : Encoding) → choice_of k.text ≡ c
     → decode_line c k ∷ decode_all c false ks ≡ map (decode_line (or_else c (choice_of_lines ks))) (k ∷ ks)
 first_decides k ks rest Ascii h = ap (λ ls. decode_line Ascii k ∷ ls) (known Ascii false ks (λ c. refl))
 first_decides k ks rest Latin1 h = ap (λ ls. decode_line Latin1 k ∷ ls) (known Latin1 false ks (λ c. refl))
@@ -65,7 +65,7 @@ first_decides k ks rest Auto h =
     head ∙ ap (λ ls. decode_line e k ∷ ls) rest
 
 -- the encoding of the page is that of each line, as far as the line depends on it
-decode_all-page : (e : Encoding) (m : Bool) (ks : List Kept) → decode_all e m ks ≡ map (decode_line (or_else e (if m then Utf8 else choice_of_lines ks))) ks
+decode_all-page : (e : Encoding) (m : Bool) (ks : List KeptLine) → decode_all e m ks ≡ map (decode_line (or_else e (if m then Utf8 else choice_of_lines ks))) ks
 decode_all-page Ascii m ks = known Ascii m ks (λ c. refl)
 decode_all-page Latin1 m ks = known Latin1 m ks (λ c. refl)
 decode_all-page Utf8 m ks = known Utf8 m ks (λ c. refl)
@@ -107,10 +107,7 @@ next_open-whole o b h = put_byte-whole (ends_mark o.mark b) (count_byte (restart
 settled_by_newline : (m : Mark) → is_settled (mark_after m newline) ≡ true
 unfolding mark_after
 settled_by_newline Unread = refl
-settled_by_newline First = refl
-settled_by_newline Second = refl
-settled_by_newline Absent = refl
-settled_by_newline Present = refl
+settled_by_newline _ = refl
 
 -- where a line is whole, the page's first bytes were read
 whole-settled : (o : Open) (b : ℕ) → (next_open o b).whole ≡ true → is_settled (next_open o b).mark ≡ true
@@ -123,9 +120,7 @@ mark_after-settled : (m : Mark) (b : ℕ) → is_settled m ≡ true → mark_aft
 unfolding mark_after
 mark_after-settled Absent b h = refl
 mark_after-settled Present b h = refl
-mark_after-settled Unread b h = cc
-mark_after-settled First b h = cc
-mark_after-settled Second b h = cc
+mark_after-settled _ b h = cc
 
 open_after-mark : (o : Open) (bs : List ℕ) → is_settled o.mark ≡ true → (open_after o bs).mark ≡ o.mark
 unfolding open_after

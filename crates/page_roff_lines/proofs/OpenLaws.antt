@@ -46,9 +46,7 @@ put_in-part Backslash false o b = either-part (b == hash) _ _ (part o) refl refl
 newline_in-part : (m : Mode) (o : Open) → part (newline_in m o) ≡ part o
 unfolding newline_in close
 newline_in-part Plain o = refl
-newline_in-part Comment o = refl
-newline_in-part Dropped o = refl
-newline_in-part Backslash o = refl
+newline_in-part _ o = refl
 
 put_newline-part : (o : Open) → part (put_newline o) ≡ part o
 unfolding put_newline without_return

@@ -6,7 +6,7 @@ use Rattle.page_roff_decoding.specs.Decoding.{is_printable}
 use Rattle.page_roff_lines.specs.declared.Mode.{Mode}
 use Rattle.page_roff_lines.specs.declared.Mode.TheVariants.{Plain, Backslash}
 use Rattle.page_roff_lines.specs.declared.Mark.{Mark}
-use Rattle.page_roff_lines.specs.declared.Mark.TheVariants.{Unread, First, Second, Absent, Present}
+use Rattle.page_roff_lines.specs.declared.Mark.TheVariants.{Absent, Present}
 use Rattle.page_roff_lines.specs.laws.Views.{newline, carriage_return}
 use Rattle.page_roff_lines.specs.Lines.{backslash, quote, hash}
 use Rattle.page_roff_lines.specs.machine.Held.{Held, nothing_held, extend}
@@ -53,9 +53,7 @@ escape_byte : (t : Held) (r g : Bool) (n p k : ℕ) (a : Mark) → is_settled a 
 unfolding next_open put_byte put_in put_plain put count_byte restart ends_mark mark_after
 escape_byte t r g n p k Absent h = refl
 escape_byte t r g n p k Present h = refl
-escape_byte t r g n p k Unread h = cc
-escape_byte t r g n p k First h = cc
-escape_byte t r g n p k Second h = cc
+escape_byte t r g n p k _ h = cc
 
 -- the byte after it
 letter_byte : (t : Held) (g : Bool) (n p k : ℕ) (a : Mark) (b : ℕ) → is_settled a ≡ true → Stays b
@@ -63,9 +61,7 @@ letter_byte : (t : Held) (g : Bool) (n p k : ℕ) (a : Mark) (b : ℕ) → is_se
 unfolding next_open put_byte put_in put_pair pair_mode put count_byte restart ends_mark mark_after
 letter_byte t g n p k Absent b h s = rw (s.no_newline, s.no_hash, s.no_quote, s.no_return) refl
 letter_byte t g n p k Present b h s = rw (s.no_newline, s.no_hash, s.no_quote, s.no_return) refl
-letter_byte t g n p k Unread b h s = cc
-letter_byte t g n p k First b h s = cc
-letter_byte t g n p k Second b h s = cc
+letter_byte t g n p k _ b h s = cc
 
 pair-open_after : (t : Held) (r g : Bool) (n p k : ℕ) (a : Mark) (b : ℕ) → is_settled a ≡ true → Stays b
     → open_after (st Plain t r g n p k a) (backslash ∷ b ∷ []) ≡ with_run (st Plain t r g n p k a) (backslash ∷ b ∷ [])

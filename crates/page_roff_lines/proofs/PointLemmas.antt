@@ -2,7 +2,7 @@
 use Rattle.std.proofs.Common.{◌≡◌, ℕ, zero, suc, ◌-◌, ◌≤◌, Bool, true, false, cond, List, [], ◌∷◌, ◌++◌, length, take, get_or, refl, sym, ap, ◌∙◌, append_assoc, append-nil, add-one, arith}
 use Rattle.std.proofs.lemmas.List.{take_more}
 use Rattle.page_core_base.specs.declared.page_settings.Encoding.{Encoding}
-use Rattle.page_roff_lines.specs.Lines.{Kept}
+use Rattle.page_roff_lines.specs.Lines.{KeptLine}
 use Rattle.page_roff_lines.specs.machine.Open.{Open, next_open, end_open, kept_of, if_whole, whole_lines, open_after}
 use Rattle.page_roff_lines.specs.laws.Cutting.{Point, Cutting, encoding_after, point_at, next_point, end_point, line_of, line_at, lines_within, point_after}
 use Rattle.page_roff_lines.proofs.OpenLaws.{open_after-append}
@@ -24,7 +24,7 @@ nil-append : {X : Type 0} (xs ys : List X) → xs ++ ys ≡ [] → (xs ≡ []) �
 nil-append [] ys h = (refl, h)
 nil-append (x ∷ xs) ys h = cc
 
-whole-nil : (w : Bool) (k : Kept) → cond w (k ∷ []) [] ≡ [] → w ≡ false
+whole-nil : (w : Bool) (k : KeptLine) → cond w (k ∷ []) [] ≡ [] → w ≡ false
 whole-nil false k h = refl
 whole-nil true k h = cc
 
@@ -88,7 +88,7 @@ point_after-one p bs b o h is w =
     rw (none.0, after, ← next, append-nil) (line_at-whole (whole_point p.encoding o) w) in
     (point_after-append p bs (b ∷ []) ∙ last, lines_within-append p bs (b ∷ []) ∙ rw (none.1) line)
 
-nothing_whole : (o : Open) (k : Kept) → whole_lines o [] ≡ k ∷ [] → ⊥
+nothing_whole : (o : Open) (k : KeptLine) → whole_lines o [] ≡ k ∷ [] → ⊥
 unfolding whole_lines
 nothing_whole o k h = cc
 

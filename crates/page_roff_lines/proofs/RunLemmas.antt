@@ -5,7 +5,7 @@ use Rattle.page_roff_decoding.specs.Decoding.{line_limit}
 use Rattle.page_roff_lines.specs.declared.Mode.{Mode}
 use Rattle.page_roff_lines.specs.declared.Mode.TheVariants.{Plain, Backslash, Comment, Dropped}
 use Rattle.page_roff_lines.specs.declared.Mark.{Mark}
-use Rattle.page_roff_lines.specs.declared.Mark.TheVariants.{Unread, First, Second, Absent, Present}
+use Rattle.page_roff_lines.specs.declared.Mark.TheVariants.{Absent, Present}
 use Rattle.page_roff_lines.specs.laws.Views.{newline, carriage_return}
 use Rattle.page_roff_lines.specs.Lines.{backslash}
 use Rattle.page_roff_lines.specs.machine.Held.{Held, nothing_held, extend}
@@ -31,27 +31,21 @@ pub plain_byte : (t : Held) (r g : Bool) (n p k : ℕ) (a : Mark) (b : ℕ) → 
 unfolding next_open put_byte put_in put_plain put count_byte restart ends_mark mark_after
 plain_byte t r g n p k Absent b h e = let f = or_false (b == newline) (b == backslash) e in rw (f.0, f.1) refl
 plain_byte t r g n p k Present b h e = let f = or_false (b == newline) (b == backslash) e in rw (f.0, f.1) refl
-plain_byte t r g n p k Unread b h e = cc
-plain_byte t r g n p k First b h e = cc
-plain_byte t r g n p k Second b h e = cc
+plain_byte t r g n p k _ b h e = cc
 
 pub comment_byte : (t : Held) (r g : Bool) (n p k : ℕ) (a : Mark) (b : ℕ) → is_settled a ≡ true → ends_run Comment b ≡ false
     → next_open (st Comment t r g n p k a) b ≡ st Comment (extend t (b ∷ [])) (b == carriage_return) true n p (k + 1) a
 unfolding next_open put_byte put_in put_plain put count_byte restart ends_mark mark_after
 comment_byte t r g n p k Absent b h e = rw e refl
 comment_byte t r g n p k Present b h e = rw e refl
-comment_byte t r g n p k Unread b h e = cc
-comment_byte t r g n p k First b h e = cc
-comment_byte t r g n p k Second b h e = cc
+comment_byte t r g n p k _ b h e = cc
 
 pub dropped_byte : (t : Held) (r g : Bool) (n p k : ℕ) (a : Mark) (b : ℕ) → is_settled a ≡ true → ends_run Dropped b ≡ false
     → next_open (st Dropped t r g n p k a) b ≡ st Dropped t r g n p (k + 1) a
 unfolding next_open put_byte put_in put_plain put count_byte restart ends_mark mark_after
 dropped_byte t r g n p k Absent b h e = rw e refl
 dropped_byte t r g n p k Present b h e = rw e refl
-dropped_byte t r g n p k Unread b h e = cc
-dropped_byte t r g n p k First b h e = cc
-dropped_byte t r g n p k Second b h e = cc
+dropped_byte t r g n p k _ b h e = cc
 
 -- two texts at the end, one after the other
 pub take-take-append : (n : ℕ) (xs ys : List ℕ) → take n (take n xs ++ ys) ≡ take n (xs ++ ys)
@@ -182,9 +176,7 @@ pub newline-st : (t : Held) (g : Bool) (n p k : ℕ) (a : Mark) → is_settled a
 unfolding next_open put_byte put_newline without_return newline_in close count_byte restart ends_mark mark_after
 newline-st t g n p k Absent h = refl
 newline-st t g n p k Present h = refl
-newline-st t g n p k Unread h = cc
-newline-st t g n p k First h = cc
-newline-st t g n p k Second h = cc
+newline-st t g n p k _ h = cc
 
 newline-any : (w : Bool) (m : Mode) (t : Held) (r g : Bool) (n p k : ℕ) (a : Mark) → w ≡ false → m ≡ Plain → r ≡ false → is_settled a ≡ true
     → next_open (any w m t r g n p k a) newline ≡ any true Plain t false false n (p + 1) (k + 1) a

@@ -5,7 +5,7 @@ use Rattle.std.specs.Str.Lines.{strip_carriage_return}
 use Rattle.page_roff_lines.specs.declared.Mode.{Mode}
 use Rattle.page_roff_lines.specs.declared.Mode.TheVariants.{Plain}
 use Rattle.page_roff_lines.specs.declared.Mark.{Mark}
-use Rattle.page_roff_lines.specs.declared.Mark.TheVariants.{Unread, First, Second, Absent, Present}
+use Rattle.page_roff_lines.specs.declared.Mark.TheVariants.{Absent, Present}
 use Rattle.page_roff_lines.specs.laws.Views.{newline, carriage_return}
 use Rattle.page_roff_lines.specs.Lines.{backslash, quote, hash, Physical, after_byte, read, read_pair}
 use Rattle.page_roff_lines.specs.machine.Held.{Held, hold, shorten}
@@ -121,9 +121,7 @@ next_open-newline : (m : Mode) (t : Held) (r : Bool) (n p k : ℕ) (a : Mark) �
 unfolding next_open put_byte count_byte restart ends_mark mark_after
 next_open-newline m t r n p k Absent h = refl
 next_open-newline m t r n p k Present h = refl
-next_open-newline m t r n p k Unread h = cc
-next_open-newline m t r n p k First h = cc
-next_open-newline m t r n p k Second h = cc
+next_open-newline m t r n p k _ h = cc
 
 popped : (text : List ℕ) (b : ℕ) → shorten (hold (text ++ b ∷ [])) ≡ hold (text ++ [])
 popped text b = hold-pop text b ∙ ap hold (sym (append-nil text))

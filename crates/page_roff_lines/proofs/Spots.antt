@@ -7,7 +7,7 @@ use Rattle.page_roff_decoding.specs.Decoding.{line_limit}
 use Rattle.page_roff_lines.specs.declared.Mode.{Mode}
 use Rattle.page_roff_lines.specs.declared.Mode.TheVariants.{Plain, Backslash, Comment, Dropped}
 use Rattle.page_roff_lines.specs.declared.Mark.{Mark}
-use Rattle.page_roff_lines.specs.declared.Mark.TheVariants.{Unread, First, Second, Absent, Present}
+use Rattle.page_roff_lines.specs.declared.Mark.TheVariants.{Absent, Present}
 use Rattle.page_roff_lines.specs.laws.Views.{newline, carriage_return}
 use Rattle.page_roff_lines.specs.Lines.{backslash, quote, hash}
 use Rattle.page_roff_lines.specs.machine.Held.{Held, hold, extend, shorten}
@@ -124,9 +124,7 @@ pub next_open-settled : (m : Mode) (t : Held) (r : Bool) (n p k : ℕ) (a : Mark
 unfolding next_open put_byte count_byte restart ends_mark mark_after
 next_open-settled m t r n p k Absent b h e = rw e refl
 next_open-settled m t r n p k Present b h e = rw e refl
-next_open-settled m t r n p k Unread b h e = cc
-next_open-settled m t r n p k First b h e = cc
-next_open-settled m t r n p k Second b h e = cc
+next_open-settled m t r n p k _ b h e = cc
 
 grown : (xs ys : List ℕ) (b : ℕ) → xs ++ b ∷ [] ≡ ys → extend (hold xs) (b ∷ []) ≡ hold ys
 grown xs ys b e = hold-push xs b ∙ ap hold e

@@ -20,23 +20,17 @@ use Rattle.page_roff_lines.proofs.LineAgreement.{lines-one_by_one, next_open-who
 
 abbrev Goes : Mode → Bool → Type 0
 Goes Plain begun = ⊤
-Goes Backslash begun = begun ≡ true
-Goes Comment begun = begun ≡ true
-Goes Dropped begun = begun ≡ true
+Goes _ begun = begun ≡ true
 
 -- a byte order mark is looked for before anything else is read
 abbrev Early : Mark → Mode → Type 0
-Early Unread mode = mode ≡ Plain
-Early First mode = mode ≡ Plain
-Early Second mode = mode ≡ Plain
 Early Absent mode = ⊤
 Early Present mode = ⊤
+Early _ mode = mode ≡ Plain
 
 begun-goes : (m : Mode) → Goes m true
 begun-goes Plain = tt
-begun-goes Backslash = refl
-begun-goes Comment = refl
-begun-goes Dropped = refl
+begun-goes _ = refl
 
 abbrev Steady : Open → Type 0
 Steady o = Goes o.mode o.begun × Early o.mark o.mode
@@ -59,9 +53,7 @@ put_in-begun Backslash false o b h g = either-begun (b == hash) _ _ h (begun-goe
 newline_in-begun : (m : Mode) (o : Open) → HasBegun (newline_in m o)
 unfolding newline_in close
 newline_in-begun Plain o = tt
-newline_in-begun Comment o = tt
-newline_in-begun Dropped o = tt
-newline_in-begun Backslash o = tt
+newline_in-begun _ o = tt
 
 put_byte-begun : (e : Bool) (o : Open) (b : ℕ) → HasBegun o → (e ≡ true → o.mode ≡ Plain) → HasBegun (put_byte e o b)
 unfolding put_byte put_newline
@@ -71,16 +63,12 @@ put_byte-begun false o b h p =
 
 ends-plain : (m : Mark) (mode : Mode) (b : ℕ) → Early m mode → ends_mark m b ≡ true → mode ≡ Plain
 unfolding ends_mark
-ends-plain Second mode b h e = h
-ends-plain Unread mode b h e = h
-ends-plain First mode b h e = h
 ends-plain Absent mode b h e = cc
 ends-plain Present mode b h e = cc
+ends-plain _ mode b h e = h
 
 put_byte-early : (m : Mark) (o : Open) (b : ℕ) → Early m o.mode → Early (mark_after m b) (put_byte (ends_mark m b) o b).mode
 unfolding put_byte put_in put_plain put ends_mark mark_after
-put_byte-early Absent o b h = tt
-put_byte-early Present o b h = tt
 put_byte-early Unread o b h = elim (eqb_tells b 0xEF) [
   | inl is ↦ rw (is.1, h) refl
   | inr n ↦ rw n.0 tt
@@ -93,6 +81,7 @@ put_byte-early Second o b h = elim (eqb_tells b 0xBF) [
   | inl is ↦ rw is.1 tt
   | inr n ↦ rw n.0 tt
 ]
+put_byte-early _ o b h = tt
 
 -- a byte more, by how much of a mark came before it
 next-steady : (m : Mark) (o : Open) (b : ℕ) → HasBegun o → Early m o.mode
@@ -133,10 +122,7 @@ letter-put Backslash false o h = refl
 letter-byte : (m : Mark) (o : Open) → HasBegun o → (put_byte (ends_mark m letter) o letter).begun ≡ true
 unfolding put_byte ends_mark
 letter-byte Unread o h = letter-put o.mode o.after_return o h
-letter-byte First o h = letter-put o.mode o.after_return o h
-letter-byte Second o h = letter-put o.mode o.after_return o h
-letter-byte Absent o h = letter-put o.mode o.after_return o h
-letter-byte Present o h = letter-put o.mode o.after_return o h
+letter-byte _ o h = letter-put o.mode o.after_return o h
 
 letter-either : (m : Mark) (w : Bool) (p o : Open) → HasBegun p → HasBegun o
     → (put_byte (ends_mark m letter) (count_byte (cond w p o) letter) letter).begun ≡ true

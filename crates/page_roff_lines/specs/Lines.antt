@@ -72,16 +72,16 @@ abbrev pub has_mark : List ℕ → Bool
 has_mark bytes = starts_with nat_eq bytes (0xEF ∷ 0xBB ∷ 0xBF ∷ [])
 
 -- what is kept of a logical line, and whether that is less than all of it
-pub record Kept : Type 0 where
+pub record KeptLine : Type 0 where
   pub number : ℕ
   pub text : List ℕ
   pub cut : Bool
 
-abbrev pub keep : Logical → Kept
+abbrev pub keep : Logical → KeptLine
 keep l = record { number = l.number; text = take line_limit l.text; cut = nat_lt line_limit (length l.text) }
 
 -- what is kept of each logical line of a page, which is read without its mark
-abbrev pub kept_lines : List ℕ → List Kept
+abbrev pub kept_lines : List ℕ → List KeptLine
 kept_lines bytes = map keep (logical_lines 1 (physical_lines (if has_mark bytes then drop 3 bytes else bytes)))
 
 -- ---- The decoded lines of a page. Source: mandoc(1), -K.
@@ -94,11 +94,11 @@ pub record Line : Type 0 where
   pub notes : List Message
 
 -- the characters of a line that stay
-abbrev pub kept_characters : Encoding → Kept → List Character
+abbrev pub kept_characters : Encoding → KeptLine → List Character
 kept_characters e k = line_characters e k.text
 
 -- it is cut where more came than stays, of its bytes or of its characters
-unfoldable pub decode_line : Encoding → Kept → Line
+unfoldable pub decode_line : Encoding → KeptLine → Line
 decode_line e k = record {
   number = k.number;
   text = all_bytes (kept_characters e k);
@@ -111,7 +111,7 @@ or_else Auto e = e
 or_else known e = known
 
 -- what the first byte above 0x7F of these lines decides
-abbrev pub choice_of_lines : List Kept → Encoding
+abbrev pub choice_of_lines : List KeptLine → Encoding
 choice_of_lines [] = Auto
 choice_of_lines (k ∷ ks) = or_else (choice_of k.text) (choice_of_lines ks)
 

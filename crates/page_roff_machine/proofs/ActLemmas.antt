@@ -199,38 +199,24 @@ step_next output s x state e =
     ∙ ap (λ x. step_in l (meaning_at l (depth s.under) s.top.kind) x s.top.parts s.top.lines s.top s.under state) (sym e)
 
 pub is_the_line : (x : Next (List ℕ) Opened) → is_line x ≡ true → Line (line_in x) ≡ x
-is_the_line (Part part) e = absurd (cc)
 is_the_line (Line line) e = refl
-is_the_line (RegionLine o line is_end) e = absurd (cc)
-is_the_line (Turn region begun condition) e = absurd (cc)
-is_the_line (SourceEnd region begun) e = absurd (cc)
-is_the_line Nothing e = absurd (cc)
+is_the_line _ e = absurd (cc)
 
 -- the part that comes next
 pub is_the_part : (x : Next (List ℕ) Opened) (part : LinePart (List ℕ)) → Some part ≡ part_in x → Part part ≡ x
 is_the_part (Part first) part e = let k : part ≡ first = cc in ap (λ part. Part part) k
-is_the_part (Line line) part e = absurd (cc)
-is_the_part (RegionLine o line is_end) part e = absurd (cc)
-is_the_part (Turn region begun condition) part e = absurd (cc)
-is_the_part (SourceEnd region begun) part e = absurd (cc)
-is_the_part Nothing part e = absurd (cc)
+is_the_part _ part e = absurd (cc)
 
 pub is_nothing_next : (x : Next (List ℕ) Opened) → is_nothing x ≡ true → Nothing ≡ x
-is_nothing_next (Part part) e = absurd (cc)
-is_nothing_next (Line line) e = absurd (cc)
-is_nothing_next (RegionLine o line is_end) e = absurd (cc)
-is_nothing_next (Turn region begun condition) e = absurd (cc)
-is_nothing_next (SourceEnd region begun) e = absurd (cc)
 is_nothing_next Nothing e = refl
+is_nothing_next _ e = absurd (cc)
 
 -- where nothing is left of a source no line comes
 abbrev is_around : Next (List ℕ) Opened → Bool
-is_around (Part part) = false
-is_around (Line line) = false
-is_around (RegionLine o line is_last) = false
 is_around (Turn region begun condition) = true
 is_around (SourceEnd region begun) = true
 is_around Nothing = true
+is_around _ = false
 
 end_or_turn : (turn : Option (List ℕ)) (region : Option Opened) (begun : Bool) → is_around (turn_or_end turn region begun) ≡ true
 end_or_turn None region begun = refl
@@ -315,17 +301,15 @@ room r sound h =
 -- what was taken can run
 can_call : (product : ProductKind) (may_call : Bool) (s : Stack) (b : BudgetedActions) → may_call ≡ is_some (depth s.under)
     → IfCalled product (IsCallable may_call b.actions.call) → CanBegin product s b
-can_call kinds.Nothing may_call s b e h = tt
-can_call kinds.Line may_call s b e h = tt
 can_call kinds.Call may_call s b e h = rw (← e) h
 can_call kinds.Loop may_call s b e h = absurd h
+can_call _ may_call s b e h = tt
 
 can_repeat : (product : ProductKind) (may_run : Bool) (s : Stack) (b : BudgetedActions) → may_run ≡ is_some (depth s.under)
     → IfRepeated product (IsRepeatable may_run b.actions.call.body) → CanBegin product s b
 can_repeat kinds.Nothing may_run s b e h = tt
-can_repeat kinds.Line may_run s b e h = absurd h
-can_repeat kinds.Call may_run s b e h = absurd h
 can_repeat kinds.Loop may_run s b e h = rw (← e) h
+can_repeat _ may_run s b e h = absurd h
 
 reached_in_loop : (cursor : BlockCursor) → cursor.levels.in_loop ≡ true → reached cursor ≡ PassedOver
 unfolding reached reached_in

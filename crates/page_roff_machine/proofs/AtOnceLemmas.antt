@@ -1,6 +1,6 @@
 -- A source line that is taken at once gives what its run gives: helpers of proofs.
 use Rattle.std.proofs.Common.{◌≡◌, ℕ, ◌+◌, ◌≤◌, ◌^◌, Bool, true, false, List, [], ◌∷◌, Option, Some, None, inl, inr, refl, sym, ap, ap₂, subst, ◌∙◌}
-use Rattle.page_core_base.specs.Texts.{Line}
+use Rattle.page_core_base.specs.Texts.{TakenLine}
 use Rattle.page_core_base.specs.declared.page_settings.Output.{Output}
 use Rattle.page_core_base.specs.declared.limits.TheConstants.{REREAD}
 use Rattle.page_roff_blocks.specs.declared.line_parts.LinePart.{LinePart}
@@ -22,9 +22,9 @@ use Rattle.page_roff_effects.specs.machine.Acting.{with_number, with_arguments, 
 use Rattle.page_roff_effects.specs.machine.Effects.{effects, done_after, done_by}
 use Rattle.page_roff_effects.specs.Lines.{leaf_outcome}
 use Rattle.page_roff_effects.specs.Regions.{finish_outcome}
-use Rattle.page_roff_definitions.specs.Definitions.{Call}
+use Rattle.page_roff_definitions.specs.Definitions.{MacroCall}
 use Rattle.page_roff_values.specs.Values.{arguments_in, lines_in}
-use Rattle.page_roff_effects.specs.States.{Memory, Outcome, Given, takes, call_product, line_product, numbered}
+use Rattle.page_roff_effects.specs.States.{Memory, PartOutcome, Given, takes, call_product, line_product, numbered}
 use Rattle.page_roff_effects.specs.laws.Views.{State}
 use Rattle.page_roff_stack.specs.machine.Changes.{is_page, page_line}
 use Rattle.page_roff_stack.specs.machine.Stacks.{Stack, is_nothing, next_of}
@@ -68,13 +68,13 @@ unfolding leaf_next
 given_next l true f s = refl
 given_next l false f s = refl
 
-line_given : (output : Output) (line : List ℕ) (m : Memory) (count : ℕ) (taken : Line) (may_call : Bool)
+line_given : (output : Output) (line : List ℕ) (m : Memory) (count : ℕ) (taken : TakenLine) (may_call : Bool)
     → leaf_outcome (measured (acting_setting output page)) may_call line m ≡ record { notes = []; product = line_product taken; memory = m }
     → (language (acting_effects output)).leaf may_call page line (state_with count m []) ≡ gives (state_with count m (takes taken ∷ []))
 unfolding language effects done_with done_after done_by with_rest
 line_given output line m count taken may_call e = rw e refl
 
-leaf_taken : (output : Output) (line : List ℕ) (bit : Bool) (outer : List Bool) (m : Memory) (count : ℕ) (taken : Line)
+leaf_taken : (output : Output) (line : List ℕ) (bit : Bool) (outer : List Bool) (m : Memory) (count : ℕ) (taken : TakenLine)
     → ((may_call : Bool) → leaf_outcome (measured (acting_setting output page)) may_call line m ≡ record { notes = []; product = line_product taken; memory = m })
     → next (language (acting_effects output)) (alone (frame_at (Leaf line ∷ []) (at_line (level bit outer false 0))) (state_with count m []))
     ≡ Some (alone (frame_at [] (after_part (level bit outer false 0))) (state_with count m (takes taken ∷ [])))
@@ -90,7 +90,7 @@ nothing_left : (output : Output) (cursor : BlockCursor) (s : Budgeted State) →
 unfolding next next_in source_next
 nothing_left output cursor s = refl
 
-run_leaf : (output : Output) (line : List ℕ) (bit : Bool) (outer : List Bool) (m : Memory) (count : ℕ) (taken : Line)
+run_leaf : (output : Output) (line : List ℕ) (bit : Bool) (outer : List Bool) (m : Memory) (count : ℕ) (taken : TakenLine)
     → line_parts line ≡ Leaf line ∷ []
     → ((may_call : Bool) → leaf_outcome (measured (acting_setting output page)) may_call line m ≡ record { notes = []; product = line_product taken; memory = m })
     → run_page (language (acting_effects output)) (line ∷ []) (at_levels None (level bit outer false 0) (state_with count m []))
@@ -111,23 +111,23 @@ run_leaf output line bit outer m count taken ea eo =
 
 -- ---- the run of one that calls a macro
 
-abbrev gives_call : Call → Memory → Outcome
+abbrev gives_call : MacroCall → Memory → PartOutcome
 gives_call call m = record { notes = []; product = call_product call; memory = m }
 
-abbrev in_call : Call → BlockCursor → Budgeted State → Running (Budgeted State)
+abbrev in_call : MacroCall → BlockCursor → Budgeted State → Running (Budgeted State)
 in_call call cursor s = record { top = entered (lines_in call.body) (arguments_in call.packed); under = frame_at [] cursor ∷ []; state = s }
 
 pub may_call_on_page : is_some (depth []) ≡ true
 unfolding depth is_some
 may_call_on_page = refl
 
-call_given : (output : Output) (line : List ℕ) (m : Memory) (count : ℕ) (call : Call) (may_call : Bool) → may_call ≡ true
+call_given : (output : Output) (line : List ℕ) (m : Memory) (count : ℕ) (call : MacroCall) (may_call : Bool) → may_call ≡ true
     → leaf_outcome (measured (acting_setting output page)) true line m ≡ gives_call call m
     → (language (acting_effects output)).leaf may_call page line (state_with count m []) ≡ calls (lines_in call.body) (arguments_in call.packed) (state_with count m [])
 unfolding language effects done_with done_after done_by with_rest
 call_given output line m count call may_call t e = rw (t, e) refl
 
-leaf_called : (output : Output) (line : List ℕ) (bit : Bool) (outer : List Bool) (m : Memory) (count : ℕ) (call : Call)
+leaf_called : (output : Output) (line : List ℕ) (bit : Bool) (outer : List Bool) (m : Memory) (count : ℕ) (call : MacroCall)
     → leaf_outcome (measured (acting_setting output page)) true line m ≡ gives_call call m
     → next (language (acting_effects output)) (alone (frame_at (Leaf line ∷ []) (at_line (level bit outer false 0))) (state_with count m []))
     ≡ Some (in_call call (after_part (level bit outer false 0)) (state_with count m []))
@@ -147,7 +147,7 @@ unfolding next next_in source_next body_next finish_at language with_rest effect
 empty_ends output packed cursor m count = refl
 
 -- up to the macro
-run_call : (output : Output) (line : List ℕ) (bit : Bool) (outer : List Bool) (m : Memory) (count : ℕ) (call : Call)
+run_call : (output : Output) (line : List ℕ) (bit : Bool) (outer : List Bool) (m : Memory) (count : ℕ) (call : MacroCall)
     → line_parts line ≡ Leaf line ∷ [] → leaf_outcome (measured (acting_setting output page)) true line m ≡ gives_call call m
     → run_page (language (acting_effects output)) (line ∷ []) (at_levels None (level bit outer false 0) (state_with count m []))
     ≡ rest_of (language (acting_effects output)) (in_call call (after_part (level bit outer false 0)) (state_with (count + 1) m []))
@@ -189,7 +189,7 @@ levels_are l e s = ap₂ (λ (i : Bool) (k : ℕ). level l.bit l.outer i k) e s
 abbrev standing : Stack → Budget → Memory → List Given → At (Budgeted State)
 standing s b m given = at_levels s.top.region s.top.cursor.levels (budgeted b (record { memory = m; out = given }))
 
-pub takes_line : (old new : Runner) (taken : Line) (line : List ℕ) (number : ℕ) → is_idle (machine_of old) ≡ true → IsSound old
+pub takes_line : (old new : Runner) (taken : TakenLine) (line : List ℕ) (number : ℕ) → is_idle (machine_of old) ≡ true → IsSound old
     → TakesAtOnce taken line number old new → Takes taken line number (machine_of old) (machine_of new)
 takes_line old new taken line number idle sound h =
     let output = old.doing.actions.setting.output in
@@ -238,7 +238,7 @@ same_sound old new idle sound outside es ea = record {
   ];
 }
 
-pub taken_sound : (old new : Runner) (taken : Line) (line : List ℕ) (number : ℕ) → is_idle (machine_of old) ≡ true → IsSound old
+pub taken_sound : (old new : Runner) (taken : TakenLine) (line : List ℕ) (number : ℕ) → is_idle (machine_of old) ≡ true → IsSound old
     → TakesAtOnce taken line number old new → IsSound new
 taken_sound old new taken line number idle sound h = same_sound old new idle sound h.outside h.stack h.actions.left.setting
 
@@ -268,14 +268,14 @@ after_macro output r new levels m count h idle eo er el es =
     let s = state_with count m [] in
     elim h [
       | inl empty ↦
-          let call : Call = record { body = []; packed = r.doing.actions.call.packed } in
-          let body : r.doing.actions.call ≡ call = ap (λ (bytes : List ℕ). let k : Call = record { body = bytes; packed = r.doing.actions.call.packed } in k) empty.0 in
+          let call : MacroCall = record { body = []; packed = r.doing.actions.call.packed } in
+          let body : r.doing.actions.call ≡ call = ap (λ (bytes : List ℕ). let k : MacroCall = record { body = bytes; packed = r.doing.actions.call.packed } in k) empty.0 in
           ap (λ (n : Runner). outcome_of (machine_of n)) empty.1
           ∙ idle_stands (machine_of r) idle
           ∙ ap₂ (λ (region : Option Opened) (l : Levels). at_levels region l (running_of [] (machine_of r)).state) er el
           ∙ ap (at_levels None (level levels.bit levels.outer false 0)) es
           ∙ sym (run_empty output levels.bit levels.outer r.doing.actions.call.packed m count)
-          ∙ sym (ap (λ (k : Call). rest_of (language (acting_effects output)) (in_call k (after_part (level levels.bit levels.outer false 0)) s)) body)
+          ∙ sym (ap (λ (k : MacroCall). rest_of (language (acting_effects output)) (in_call k (after_part (level levels.bit levels.outer false 0)) s)) body)
       | inr inside ↦ in_macro output r new (level levels.bit levels.outer false 0) s inside eo er el es
     ]
 

@@ -23,11 +23,11 @@ use Rattle.page_roff_effects.specs.declared.commands.ProductKind.{ProductKind}
 use Rattle.page_roff_effects.specs.declared.commands.ProductKind.TheVariants as kinds
 use Rattle.page_roff_effects.specs.machine.Acting as acting
 use Rattle.page_roff_effects.specs.machine.Acting.{Acting, kind_of, Lends, IfRepeated, acting_effects, acting_setting, measured, ActingSetting}
-use Rattle.page_roff_effects.specs.States.{answer_of, test_outcome, budget_outcome, end_of_block_outcome, Setting, Memory, Outcome, Product, no_product, line_product, call_product, loop_product, Given, says, takes, lines_of}
+use Rattle.page_roff_effects.specs.States.{answer_of, test_outcome, budget_outcome, end_of_block_outcome, TextSetting, Memory, PartOutcome, Product, no_product, line_product, call_product, loop_product, Given, says, takes, lines_of}
 use Rattle.page_roff_effects.specs.machine.Effects.{effects, turn_answer, tested_after, done_by, done_after}
 use Rattle.page_roff_effects.specs.Lines.{leaf_outcome}
 use Rattle.page_roff_effects.specs.Regions.{longer_if_some, loop_outcome, collect_outcome, close_outcome, condition_in, body_in, head_outcome, longer_if, longer, line_outcome, end_outcome, finish_region, finish_outcome}
-use Rattle.page_roff_definitions.specs.Definitions.{Call, with_line}
+use Rattle.page_roff_definitions.specs.Definitions.{MacroCall, with_line}
 use Rattle.page_roff_values.specs.Answers.{Answer}
 use Rattle.page_roff_effects.specs.laws.Views.{State, after}
 use Rattle.page_roff_stack.specs.machine.Changes.{is_page}
@@ -144,7 +144,7 @@ collect_plain true line m = longer_plain m.body line m
 collect_plain false line m = refl
 
 -- after a part without a product
-pub acted : (b : Budget) (m : Memory) (new : BudgetedActions) (given : List Given) (o : Outcome)
+pub acted : (b : Budget) (m : Memory) (new : BudgetedActions) (given : List Given) (o : PartOutcome)
     → new.budget ≡ b → new.actions.memory ≡ o.memory → o.product ≡ no_product
     → budgeted b (after (record { memory = m; out = given }) o) ≡ state_in (given ++ map says o.notes) new
 acted b m new given o eb em ep = rw (eb, em, ep) (ap (λ more. budgeted b (record { memory = o.memory; out = given ++ more })) (append-nil (map says o.notes)))
@@ -233,7 +233,7 @@ module _ {P S : Type 0} (left : P → S → List Message → Type 0) where
   }
 
 -- nothing comes of a line of a region that is not run
-pub passed_nothing : (setting : Setting) (o : Opened) (is_run : Bool) (line : List ℕ) (m : Memory) → is_run ≡ false
+pub passed_nothing : (setting : TextSetting) (o : Opened) (is_run : Bool) (line : List ℕ) (m : Memory) → is_run ≡ false
     → kind_of (line_outcome setting o is_run line m).product ≡ kinds.Nothing
 unfolding line_outcome
 passed_nothing setting o true line m e = absurd (cc)
@@ -358,7 +358,7 @@ module _ {P S : Type 0} (left : P → S → List Message → Type 0) where
   run_after old mid e is_page_now kind k = record { page = k.page; setting = kind_after old mid e kind k.setting }
 
   -- what came of a line of a region
-  line_acted : (b : Budget) (m : Memory) (new : BudgetedActions) (given : List Given) (o : Outcome) (result : ProductKind)
+  line_acted : (b : Budget) (m : Memory) (new : BudgetedActions) (given : List Given) (o : PartOutcome) (result : ProductKind)
       → new.budget ≡ b → new.actions.memory ≡ o.memory → result ≡ kind_of o.product → Lends o.product new.actions
       → budgeted b (after (record { memory = m; out = given }) o) ≡ state_in ((given ++ map says o.notes) ++ line_of result new.actions) new
   line_acted b m new given o result eb em er lends =
@@ -695,7 +695,7 @@ module _ {P S : Type 0} (left : P → S → List Message → Type 0) where
       ∙ ap (λ product. done_as product new (given ++ map says notes)) (sym er)
   leaf_done e b s m new given notes (call_product call) result eb em er lends =
       ap (λ (t : Budgeted State). calls (lines_in call.body) (arguments_in call.packed) t) (plain_to b m new given notes eb em)
-      ∙ ap (λ (call : Call). calls (lines_in call.body) (arguments_in call.packed) (state_in (given ++ map says notes) new)) (sym lends)
+      ∙ ap (λ (call : MacroCall). calls (lines_in call.body) (arguments_in call.packed) (state_in (given ++ map says notes) new)) (sym lends)
       ∙ ap (λ product. done_as product new (given ++ map says notes)) (sym er)
   leaf_done e b s m new given notes (loop_product text) result eb em er lends =
       ap (λ (t : Budgeted State). repeats (condition_in text) (body_in text) t) (plain_to b m new given notes eb em)

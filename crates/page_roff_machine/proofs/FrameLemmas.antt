@@ -6,7 +6,7 @@ use Rattle.page_roff_blocks.specs.declared.line_parts.LinePart.TheVariants.{Leaf
 use Rattle.page_roff_blocks.specs.declared.block_cursors.Pass.{Pass}
 use Rattle.page_roff_blocks.specs.declared.block_cursors.Pass.TheVariants as passes
 use Rattle.page_roff_blocks.specs.declared.levels.Way.{Way}
-use Rattle.page_roff_blocks.specs.declared.levels.Way.TheVariants.{Runs, Skips, Exceeds}
+use Rattle.page_roff_blocks.specs.declared.levels.Way.TheVariants.{Runs}
 use Rattle.page_roff_blocks.specs.Forest.{Levels}
 use Rattle.page_roff_blocks.specs.laws.Views.{BlockCursor, at_line, after_part, way_of, enter, skip, leave_level, leave_loop, leave_from, leave, passed}
 use Rattle.page_roff_syntax.specs.Regions.{Opened, opened}
@@ -76,8 +76,7 @@ open_kept f cursor h k = record { turning = k.turning; region = λ e. rw h tt }
 enter_out : (way : Way) (bit : Bool) (l : Levels) → (enter way bit l).in_loop ≡ false
 unfolding enter
 enter_out Runs bit l = refl
-enter_out Skips bit l = refl
-enter_out Exceeds bit l = refl
+enter_out _ bit l = refl
 
 pub enter_in : (way : Way) (bit : Bool) (l : Levels) → (after_part (enter way bit l)).levels.in_loop ≡ true → l.in_loop ≡ true
 unfolding after_part
@@ -124,12 +123,8 @@ outside_regions s e = part_outside s.top.turning s.top.region s.top.parts s.top.
 
 head_passed : (is_run : Bool) (part : LinePart (List ℕ)) → is_run ≡ false → IsPassed (region_of is_run part)
 unfolding opened
-head_passed is_run (Leaf text) e = tt
-head_passed is_run (Guard head) e = tt
-head_passed is_run (Block opening) e = tt
-head_passed is_run (Loop head) e = tt
-head_passed is_run End e = tt
 head_passed is_run (Region head) e = e
+head_passed is_run _ e = tt
 
 region_passed : (is_run : Bool) (parts : List (LinePart (List ℕ))) → is_run ≡ false → IsPassed (first_region is_run parts)
 region_passed is_run [] e = tt
@@ -167,10 +162,9 @@ pub moved_kept : (movement : Movement) (s : Stack) → Suits movement (next_of s
 unfolding at_line
 moved_kept (moves.Part pass) s h k = pass_kept pass s h
 moved_kept (moves.Region is_run) s h k = λ f. record { turning = f.turning; region = λ e. region_passed is_run s.top.parts (k e) }
-moved_kept moves.Line s h k = λ f. record { turning = f.turning; region = λ e. tt }
 moved_kept moves.RegionLine s h k = λ f. record { turning = f.turning; region = f.region }
-moved_kept moves.RegionEnd s h k = λ f. record { turning = f.turning; region = λ e. tt }
 moved_kept moves.Turn s h k = turn_kept s.top.turning s.top k
+moved_kept _ s h k = λ f. record { turning = f.turning; region = λ e. tt }
 
 pub moved_source : (movement : Movement) (s : Stack) → Keeps movement s.top → IsBodyWithin s (with_top (went movement s.top) s)
 unfolding at_part

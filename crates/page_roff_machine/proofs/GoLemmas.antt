@@ -144,12 +144,8 @@ region_line_step : (old : Runner) (product : ProductKind) (given : List Given)
     → moved (output_of old.doing) (acts.RegionLine product) old.stack given old.doing
     ≡ reached_with (progress_as product) given (record { stack = with_top (next_line old.stack.top.region [] old.stack.top) old.stack; doing = old.doing })
 unfolding moved reached_with
-region_line_step old kinds.Nothing given =
-    ap (λ given. Some (running (with_top (next_line old.stack.top.region [] old.stack.top) old.stack) (state_in given old.doing))) (append-nil given)
 region_line_step old kinds.Line given = refl
-region_line_step old kinds.Call given =
-    ap (λ given. Some (running (with_top (next_line old.stack.top.region [] old.stack.top) old.stack) (state_in given old.doing))) (append-nil given)
-region_line_step old kinds.Loop given =
+region_line_step old _ given =
     ap (λ given. Some (running (with_top (next_line old.stack.top.region [] old.stack.top) old.stack) (state_in given old.doing))) (append-nil given)
 
 pub shifts_region_line : (old new : Runner) (product : ProductKind)

@@ -4,7 +4,7 @@ use Rattle.std.proofs.lemmas.List.{append-nil}
 use Rattle.page_core_base.specs.Messages.{Message}
 use Rattle.page_core_base.specs.declared.page_settings.Output.{Output}
 use Rattle.page_roff_blocks.specs.declared.line_parts.LinePart.{LinePart}
-use Rattle.page_roff_blocks.specs.Forest.{Place}
+use Rattle.page_roff_blocks.specs.Forest.{SourcePlace}
 use Rattle.page_roff_blocks.specs.laws.Views.{at_line}
 use Rattle.page_roff_syntax.specs.Regions.{Opened}
 use Rattle.page_roff_blocks.specs.machine.Run.{Meaning, At}
@@ -71,12 +71,8 @@ outcome_end m e = end_law (language_of m) (running_of [] m) e
 none_next : {S : Type 0} (l : Language S) (m : Meaning (List ℕ) S) (x : Next (List ℕ) Opened) (parts : List (LinePart (List ℕ))) (lines : List (List ℕ)) (f : Frame) (under : List Frame) (s : S)
     → is_nothing x ≡ true → step_in l m x parts lines f under s ≡ None
 unfolding step_in
-none_next l m (things.Part part) parts lines f under s e = absurd (cc)
-none_next l m (things.Line line) parts lines f under s e = absurd (cc)
-none_next l m (things.RegionLine o line is_end) parts lines f under s e = absurd (cc)
-none_next l m (things.Turn region begun condition) parts lines f under s e = absurd (cc)
-none_next l m (things.SourceEnd region begun) parts lines f under s e = absurd (cc)
 none_next l m things.Nothing parts lines f under s e = refl
+none_next l m _ parts lines f under s e = absurd (cc)
 
 pub idle_stands : (m : Machine) → is_idle m ≡ true → outcome_of m ≡ stands m
 unfolding step_of
@@ -109,7 +105,7 @@ new_sound output r e h = record {
 }
 
 -- a page that is between two lines
-pub resumed_sound : (output : Output) (place : Place) (memory : Memory) (taken : ℕ) (r : Runner) → Resumes output place memory taken (machine_of r)
+pub resumed_sound : (output : Output) (place : SourcePlace) (memory : Memory) (taken : ℕ) (r : Runner) → Resumes output place memory taken (machine_of r)
     → (place.levels.in_loop ≡ true → IsPassed place.region) → IsSound r
 unfolding HasMeasure AreOnLine IsOnLine at_line
 resumed_sound output place memory taken r h passed = record {
@@ -122,7 +118,7 @@ nothing_at : (region : Option Opened) → is_nothing (next_in None region [] [] 
 nothing_at None = refl
 nothing_at (Some o) = refl
 
-pub resumed_idle : (output : Output) (place : Place) (memory : Memory) (taken : ℕ) (m : Machine) → Resumes output place memory taken m → is_idle m ≡ true
+pub resumed_idle : (output : Output) (place : SourcePlace) (memory : Memory) (taken : ℕ) (m : Machine) → Resumes output place memory taken m → is_idle m ≡ true
 resumed_idle output place memory taken m h = ap (λ stack. is_nothing (next_of stack)) h.stack ∙ nothing_at place.region
 
 pub begun_sound : (old new : Runner) (line : List ℕ) (number : ℕ) → new.stack ≡ record { top = page_line line old.stack.top; under = []; texts = [] }

@@ -13,7 +13,7 @@ use Rattle.std.proofs.lemmas.Cmp.{nat_list_cmp_total}
 use Rattle.page_core_base.specs.declared.limits.TheConstants.{BODY}
 use Rattle.page_core_base.specs.declared.limits.Limit.{Limit}
 use Rattle.page_roff_names.specs.declared.changes.OtherSet.{OtherSet}
-use Rattle.page_roff_names.specs.declared.rows.Meaning.{Meaning}
+use Rattle.page_roff_names.specs.declared.rows.EntryKind.{EntryKind}
 use Rattle.page_roff_names.specs.laws.Views.{EntryFits, EntriesFit, DefinitionsFit, name_at, definition_at, value_at, Defines}
 use Rattle.page_roff_names.specs.Names.{Entries, Definition, definition, size, Definitions, definitions, with_text, by_bytes, first_passed, look, put, without}
 use Rattle.page_roff_names.specs.machine.Changes.{refusal_beside, Settles, RenamesBeside, IsKept, IsStore, IsBelow, IsAbove}
@@ -160,7 +160,7 @@ undone old_name d es less i l e f is =
     ∙ ap (λ d. insert (remove es i) i (name_at es i, d)) f
     ∙ put_back es i l
 
-pub same_definition : (meaning : Meaning) (value : List ℕ) (d : Definition) → meaning ≡ d.meaning → value ≡ d.value → definition meaning value ≡ d
+pub same_definition : (meaning : EntryKind) (value : List ℕ) (d : Definition) → meaning ≡ d.meaning → value ≡ d.value → definition meaning value ≡ d
 same_definition meaning value d e f = ap (λ m. definition m value) e ∙ ap (definition d.meaning) f
 
 pub moved : (o : OtherSet) (n : List ℕ) (d e : Definition) (base less new : Entries) → less ≡ base → d ≡ e → (refusal_beside o n d.value (put n d less) ≡ None) × (new ≡ put n d less) → (refusal_beside o n e.value (put n e base) ≡ None) × (new ≡ put n e base)
@@ -186,7 +186,7 @@ defined_at : (o : OtherSet) (n : List ℕ) (d : Definition) (t r new : Entries) 
 defined_at o n d t r new (Ok u) e s = (same_limits (length n) (ap (λ k. length (put n d t) + k) (sym e.0)) refl (ap (λ k. size (put n d t) + k) (sym e.1)) ∙ s.0, ap (λ t. definitions t r) s.1)
 defined_at o n d t r new (Err l) e s = (same_limits (length n) (ap (λ k. length (put n d t) + k) (sym e.0)) refl (ap (λ k. size (put n d t) + k) (sym e.1)) ∙ s.0, ap (λ t. definitions t r) s.1)
 
-pub appended : (m : Meaning) (so_far : Definitions → Option (List ℕ)) (o : OtherSet) (n more items : List ℕ) (t r new : Entries) (old : Definitions) (res : Result (Unit {0}) Limit) → definitions t r ≡ old → (o.names ≡ length r) × (o.bytes ≡ size r) → items ≡ unwrap_or (so_far (definitions t r)) [] → Settles o n (items ++ more) (put n (definition m (items ++ more)) t) t res new → Defines n (unwrap_or (so_far old) [] ++ more) (with_text n (definition m (unwrap_or (so_far old) [] ++ more)) old) old res (definitions new r)
+pub appended : (m : EntryKind) (so_far : Definitions → Option (List ℕ)) (o : OtherSet) (n more items : List ℕ) (t r new : Entries) (old : Definitions) (res : Result (Unit {0}) Limit) → definitions t r ≡ old → (o.names ≡ length r) × (o.bytes ≡ size r) → items ≡ unwrap_or (so_far (definitions t r)) [] → Settles o n (items ++ more) (put n (definition m (items ++ more)) t) t res new → Defines n (unwrap_or (so_far old) [] ++ more) (with_text n (definition m (unwrap_or (so_far old) [] ++ more)) old) old res (definitions new r)
 appended m so_far o n more items t r new old res is e f s =
     subst (λ old. Defines n (unwrap_or (so_far old) [] ++ more) (with_text n (definition m (unwrap_or (so_far old) [] ++ more)) old) old res (definitions new r)) is
     (subst (λ v. Defines n (v ++ more) (with_text n (definition m (v ++ more)) (definitions t r)) (definitions t r) res (definitions new r)) f

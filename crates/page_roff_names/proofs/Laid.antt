@@ -5,7 +5,7 @@ use Rattle.std.specs.List.{insert, remove}
 use Rattle.page_roff_names.specs.declared.rows.Span.{Span}
 use Rattle.page_roff_names.specs.Names.{Entries, Definition, definition, size}
 use Rattle.page_roff_names.specs.laws.Views.{name_at, definition_at, value_at, meaning_at, with_meaning}
-use Rattle.page_roff_names.specs.declared.rows.Meaning.{Meaning}
+use Rattle.page_roff_names.specs.declared.rows.EntryKind.{EntryKind}
 use Rattle.page_core_base.specs.declared.limits.TheConstants.{DEFS, NAMES}
 use Rattle.page_roff_names.specs.machine.Layout.{flat, layout, cut, extent, relaid, marked, IsLaid}
 
@@ -76,27 +76,27 @@ relaid-remove k j i [] l = absurd (omega arith)
 relaid-remove k j zero (a ∷ m) l = relaid-layout k (j + (length a.0 + length a.1.value)) m
 relaid-remove k j (suc i) (a ∷ m) l = ap (λ ss. record { start = k; name = length a.0; value = length a.1.value; meaning = a.1.meaning } ∷ ss) (relaid-remove (k + (length a.0 + length a.1.value)) (j + (length a.0 + length a.1.value)) i m (omega arith))
 
-pub marked_set : (ss : List Span) (i : ℕ) (d : Span) (meaning : Meaning) → i < length ss → slice_set ss i (record { start = (slice_index_or ss i d).start; name = (slice_index_or ss i d).name; value = (slice_index_or ss i d).value; meaning = meaning }) ≡ marked ss i meaning
+pub marked_set : (ss : List Span) (i : ℕ) (d : Span) (meaning : EntryKind) → i < length ss → slice_set ss i (record { start = (slice_index_or ss i d).start; name = (slice_index_or ss i d).name; value = (slice_index_or ss i d).value; meaning = meaning }) ≡ marked ss i meaning
 marked_set [] i d meaning l = absurd (omega arith)
 marked_set (s ∷ ss) zero d meaning l = refl
 marked_set (s ∷ ss) (suc i) d meaning l = ap (λ ss. s ∷ ss) (marked_set ss i d meaning (omega arith))
 
-pub marked-layout : (k i : ℕ) (m : Entries) (meaning : Meaning) → marked (layout k m) i meaning ≡ layout k (with_meaning m i meaning)
+pub marked-layout : (k i : ℕ) (m : Entries) (meaning : EntryKind) → marked (layout k m) i meaning ≡ layout k (with_meaning m i meaning)
 marked-layout k i [] meaning = refl
 marked-layout k zero (e ∷ es) meaning = refl
 marked-layout k (suc i) (e ∷ es) meaning = ap (λ ss. record { start = k; name = length e.0; value = length e.1.value; meaning = e.1.meaning } ∷ ss) (marked-layout (k + (length e.0 + length e.1.value)) i es meaning)
 
-pub flat-with_meaning : (i : ℕ) (m : Entries) (meaning : Meaning) → flat (with_meaning m i meaning) ≡ flat m
+pub flat-with_meaning : (i : ℕ) (m : Entries) (meaning : EntryKind) → flat (with_meaning m i meaning) ≡ flat m
 flat-with_meaning i [] meaning = refl
 flat-with_meaning zero (e ∷ es) meaning = refl
 flat-with_meaning (suc i) (e ∷ es) meaning = ap (λ t. e.0 ++ (e.1.value ++ t)) (flat-with_meaning i es meaning)
 
-pub length-with_meaning : (i : ℕ) (m : Entries) (meaning : Meaning) → length (with_meaning m i meaning) ≡ length m
+pub length-with_meaning : (i : ℕ) (m : Entries) (meaning : EntryKind) → length (with_meaning m i meaning) ≡ length m
 length-with_meaning i [] meaning = refl
 length-with_meaning zero (e ∷ es) meaning = refl
 length-with_meaning (suc i) (e ∷ es) meaning = ap suc (length-with_meaning i es meaning)
 
-pub size-with_meaning : (i : ℕ) (m : Entries) (meaning : Meaning) → size (with_meaning m i meaning) ≡ size m
+pub size-with_meaning : (i : ℕ) (m : Entries) (meaning : EntryKind) → size (with_meaning m i meaning) ≡ size m
 size-with_meaning i m meaning = sym (length-flat (with_meaning m i meaning)) ∙ ap length (flat-with_meaning i m meaning) ∙ length-flat m
 
 pub empty : (xs : List ℕ) → length xs ≡ 0 → xs ≡ []
@@ -104,7 +104,7 @@ empty [] e = refl
 empty (x ∷ xs) e = absurd (omega (arith, e))
 
 -- an entry without a value gets another meaning in its place
-pub with_meaning-hit : (n : List ℕ) (i : ℕ) (m : Entries) (meaning : Meaning) → i < length m → n ≡ name_at m i → value_at m i ≡ [] → with_meaning m i meaning ≡ insert (remove m i) i (n, definition meaning [])
+pub with_meaning-hit : (n : List ℕ) (i : ℕ) (m : Entries) (meaning : EntryKind) → i < length m → n ≡ name_at m i → value_at m i ≡ [] → with_meaning m i meaning ≡ insert (remove m i) i (n, definition meaning [])
 with_meaning-hit n i [] meaning l e f = absurd (omega arith)
 with_meaning-hit n zero (x ∷ es) meaning l e f = ap (λ v. (x.0, definition meaning v) ∷ es) f ∙ ap (λ n. (n, definition meaning []) ∷ es) (sym e)
 with_meaning-hit n (suc i) (x ∷ es) meaning l e f = ap (λ es. x ∷ es) (with_meaning-hit n i es meaning (omega arith) e f)
@@ -230,7 +230,7 @@ length-insert (a ∷ m) (suc i) e l = let h = length-insert m i e (omega arith) 
 pub size-insert : (m : Entries) (i : ℕ) (e : List ℕ × Definition) → size (insert m i e) ≡ size m + (length e.0 + length e.1.value)
 size-insert m i e = let h = size-split i m in let g = size-append (take i m) (e ∷ drop i m) in omega (arith, h, g)
 
-pub lies_marked : {ss new : List Span} {t : List ℕ} {m : Entries} (i : ℕ) (meaning : Meaning) → Lies ss t m → new ≡ marked ss i meaning → Lies new t (with_meaning m i meaning)
+pub lies_marked : {ss new : List Span} {t : List ℕ} {m : Entries} (i : ℕ) (meaning : EntryKind) → Lies ss t m → new ≡ marked ss i meaning → Lies new t (with_meaning m i meaning)
 lies_marked {ss} {new} {t} {m} i meaning h e = lies _ _ _
     (e ∙ ap (λ ss. marked ss i meaning) h.spans ∙ marked-layout 0 i m meaning)
     (h.text ∙ sym (flat-with_meaning i m meaning))

@@ -22,8 +22,7 @@ and_right false b p = absurd p
 
 less : (o : Ordering) → T (is_lt o) → o ≡ Less
 less Less p = refl
-less Equal p = absurd p
-less Greater p = absurd p
+less _ p = absurd p
 
 below_at : (x : List ℕ) (es : Entries) (k : ℕ) → T (below_all by_bytes x es) → k < length es → by_bytes x (name_at es k) ≡ Less
 below_at x [] k h l = absurd (omega arith)

@@ -10,17 +10,17 @@ use Rattle.std.specs.declared.option.Option.TheVariants.{Some, None}
 use Rattle.page_core_base.specs.Limits.{BODY, DEFS, NAME, NAMES}
 use Rattle.page_core_base.specs.declared.limits.Limit.{Limit}
 use Rattle.page_core_base.specs.declared.limits.Limit.TheVariants.{Name, Names, Body, Defs}
-use Rattle.page_roff_names.specs.declared.rows.Meaning.{Meaning}
-use Rattle.page_roff_names.specs.declared.rows.Meaning.TheVariants.{String, Macro, Register}
+use Rattle.page_roff_names.specs.declared.rows.EntryKind.{EntryKind}
+use Rattle.page_roff_names.specs.declared.rows.EntryKind.TheVariants.{String, Macro, Register}
 
 -- ---- What names stand for, as a list of entries. Source: roff(7), "ds", "de", "nr".
 
 -- what a name stands for: a string or a macro with its value, or a number register
 pub record Definition : Type 0 where
-  pub meaning : Meaning
+  pub meaning : EntryKind
   pub value : List ℕ
 
-abbrev pub definition : Meaning → List ℕ → Definition
+abbrev pub definition : EntryKind → List ℕ → Definition
 definition the_meaning the_value = record { meaning = the_meaning; value = the_value }
 
 -- a name and its definition, for each name
@@ -70,15 +70,15 @@ pub record Definitions : Type 0 where
 abbrev pub definitions : Entries → Entries → Definitions
 definitions the_texts the_registers = record { texts = the_texts; registers = the_registers }
 
-abbrev pub string_in : Meaning → List ℕ → Option (List ℕ)
+abbrev pub string_in : EntryKind → List ℕ → Option (List ℕ)
 string_in String value = Some value
 string_in _ value = None
 
-abbrev pub body_in : Meaning → List ℕ → Option (List ℕ)
+abbrev pub body_in : EntryKind → List ℕ → Option (List ℕ)
 body_in Macro value = Some value
 body_in _ value = None
 
-abbrev pub number_in : Meaning → Option ℤ
+abbrev pub number_in : EntryKind → Option ℤ
 number_in (Register n) = Some n
 number_in _ = None
 

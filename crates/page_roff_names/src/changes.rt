@@ -9,7 +9,7 @@ ghost use Rattle.page_roff_names.specs.Names.{Definition, definition, size, pred
 ghost use Rattle.page_roff_names.specs.machine.Changes.{refusal_beside, Settles, RenamesBeside, IsKept, FoundAt, MissingAt, StandsAt};
 
 use crate::predefined::predefined;
-use crate::rows::{Meaning, Row};
+use crate::rows::{EntryKind, Row};
 use page_core_base::{BODY, DEFS, Limit, NAME, NAMES, append};
 use std::cmp::Ordering;
 
@@ -98,9 +98,9 @@ pub(crate) fn string<'a>(row: &'a Row, name: &[u8]) -> Option<&'a [u8]>
 {
     match find(row, name) {
         Some(i) => match row.meaning(i) {
-            Meaning::String => Some(row.value(i)),
-            Meaning::Macro => None,
-            Meaning::Register(_) => None,
+            EntryKind::String => Some(row.value(i)),
+            EntryKind::Macro => None,
+            EntryKind::Register(_) => None,
         },
         None => predefined(name),
     }
@@ -115,9 +115,9 @@ pub(crate) fn body<'a>(row: &'a Row, place: usize, name: &[u8]) -> Option<&'a [u
 {
     match find_near(row, place, name) {
         Some(i) => match row.meaning(i) {
-            Meaning::String => None,
-            Meaning::Macro => Some(row.value(i)),
-            Meaning::Register(_) => None,
+            EntryKind::String => None,
+            EntryKind::Macro => Some(row.value(i)),
+            EntryKind::Register(_) => None,
         },
         None => None,
     }
@@ -196,7 +196,7 @@ fn passed(row: &Row, name: &[u8], value: usize, others: OtherSet) -> Option<Limi
 }
 
 /// Puts a definition in the place of that of the i-th entry.
-fn replace(row: &mut Row, i: usize, name: &[u8], meaning: Meaning, value: &[u8])
+fn replace(row: &mut Row, i: usize, name: &[u8], meaning: EntryKind, value: &[u8])
     requires place { i < length row.old }
     requires same { name.now ≡ name_at row.old i }
     requires few { length row.old ≤ NAMES }
@@ -213,7 +213,7 @@ fn replace(row: &mut Row, i: usize, name: &[u8], meaning: Meaning, value: &[u8])
 }
 
 /// Gives a name a definition.
-fn put_definition(row: &mut Row, name: &[u8], meaning: Meaning, value: &[u8])
+fn put_definition(row: &mut Row, name: &[u8], meaning: EntryKind, value: &[u8])
     requires sorted { T (is_sorted by_bytes row.old) }
     requires few { length (put name.now (definition meaning value.now) row.old) ≤ NAMES }
     requires small { size (put name.now (definition meaning value.now) row.old) ≤ DEFS }
@@ -229,7 +229,7 @@ fn put_definition(row: &mut Row, name: &[u8], meaning: Meaning, value: &[u8])
 pub(crate) fn settle(
     row: &mut Row,
     name: &[u8],
-    meaning: Meaning,
+    meaning: EntryKind,
     value: &[u8],
     others: OtherSet,
 ) -> Result<(), Limit>
@@ -251,7 +251,7 @@ pub(crate) fn settle_longer(
     row: &mut Row,
     scratch: &mut Vec<u8>,
     name: &[u8],
-    meaning: Meaning,
+    meaning: EntryKind,
     more: &[u8],
     others: OtherSet,
 ) -> Result<(), Limit>

@@ -8,7 +8,7 @@ use crate::changes::{
     string_so_far, withdraw,
 };
 use crate::places::Places;
-use crate::rows::{Meaning, Row};
+use crate::rows::{EntryKind, Row};
 use page_core_base::{BODY, Limit};
 use std::alloc::{AllocError, Global};
 use std::marker::Model;
@@ -87,9 +87,9 @@ impl Names {
         let place = find_near(&self.texts, self.called.of(name), name)?;
         self.called.set(name, place);
         match self.texts.meaning(place) {
-            Meaning::Macro => Some(self.texts.value(place).len()),
-            Meaning::String => None,
-            Meaning::Register(_) => None,
+            EntryKind::Macro => Some(self.texts.value(place).len()),
+            EntryKind::String => None,
+            EntryKind::Register(_) => None,
         }
     }
 
@@ -99,9 +99,9 @@ impl Names {
     {
         match find(&self.registers, name) {
             Some(i) => match self.registers.meaning(i) {
-                Meaning::String => None,
-                Meaning::Macro => None,
-                Meaning::Register(number) => Some(number),
+                EntryKind::String => None,
+                EntryKind::Macro => None,
+                EntryKind::Register(number) => Some(number),
             },
             None => None,
         }
@@ -109,12 +109,12 @@ impl Names {
 
     /// Defines a string, in place of what the name stood for.
     pub fn define_string(&mut self, name: &[u8], value: &[u8]) -> Result<(), Limit>
-        ensures { DefinesText Meaning.String name.now value.now self.old result self.new }
+        ensures { DefinesText EntryKind.String name.now value.now self.old result self.new }
     {
         settle(
             &mut self.texts,
             name,
-            Meaning::String,
+            EntryKind::String,
             value,
             others(&self.registers),
         )
@@ -122,12 +122,12 @@ impl Names {
 
     /// Defines a macro, in place of what the name stood for.
     pub fn define_macro(&mut self, name: &[u8], body: &[u8]) -> Result<(), Limit>
-        ensures { DefinesText Meaning.Macro name.now body.now self.old result self.new }
+        ensures { DefinesText EntryKind.Macro name.now body.now self.old result self.new }
     {
         settle(
             &mut self.texts,
             name,
-            Meaning::Macro,
+            EntryKind::Macro,
             body,
             others(&self.registers),
         )
@@ -136,14 +136,14 @@ impl Names {
     /// Appends to a string, or begins one where the name stands for none.
     pub fn append_string(&mut self, name: &[u8], more: &[u8]) -> Result<(), Limit>
         ensures { let value = unwrap_or (string_of name.now self.old) [] ++ more.now in
-            DefinesText Meaning.String name.now value self.old result self.new }
+            DefinesText EntryKind.String name.now value self.old result self.new }
     {
         copy(&mut self.scratch, string_so_far(&self.texts, name));
         settle_longer(
             &mut self.texts,
             &mut self.scratch,
             name,
-            Meaning::String,
+            EntryKind::String,
             more,
             others(&self.registers),
         )
@@ -152,14 +152,14 @@ impl Names {
     /// Appends to a macro, or begins one where the name stands for none.
     pub fn append_macro(&mut self, name: &[u8], more: &[u8]) -> Result<(), Limit>
         ensures { let value = unwrap_or (body_of name.now self.old) [] ++ more.now in
-            DefinesText Meaning.Macro name.now value self.old result self.new }
+            DefinesText EntryKind.Macro name.now value self.old result self.new }
     {
         copy(&mut self.scratch, body_so_far(&self.texts, name));
         settle_longer(
             &mut self.texts,
             &mut self.scratch,
             name,
-            Meaning::Macro,
+            EntryKind::Macro,
             more,
             others(&self.registers),
         )
@@ -192,7 +192,7 @@ impl Names {
         settle(
             &mut self.registers,
             name,
-            Meaning::Register(number),
+            EntryKind::Register(number),
             b"",
             others(&self.texts),
         )

@@ -13,7 +13,7 @@ use std::marker::Model;
 
 /// What a name stands for: a string or a macro, which has a value, or a number register.
 #[derive(Clone, Copy)]
-pub enum Meaning {
+pub enum EntryKind {
     String,
     Macro,
     Register(i32),
@@ -25,7 +25,7 @@ pub struct Span {
     start: usize,
     name: usize,
     value: usize,
-    meaning: Meaning,
+    meaning: EntryKind,
 }
 
 /// Entries in a row.
@@ -110,7 +110,7 @@ fn drop_span(spans: &mut Vec<Span>, i: usize)
 }
 
 /// Gives a span another meaning.
-fn mark(spans: &mut [Span], i: usize, meaning: Meaning)
+fn mark(spans: &mut [Span], i: usize, meaning: EntryKind)
     requires { i < length spans.old }
     ensures { spans.new ≡ marked spans.old i meaning }
 {
@@ -119,7 +119,7 @@ fn mark(spans: &mut [Span], i: usize, meaning: Meaning)
 }
 
 /// Gives a span of the row another meaning.
-fn mark_span(spans: &mut Vec<Span>, i: usize, meaning: Meaning)
+fn mark_span(spans: &mut Vec<Span>, i: usize, meaning: EntryKind)
     requires { i < vec_len spans.old }
     ensures items { spans.new.items ≡ marked spans.old.items i meaning }
     ensures capacity { vec_capacity spans.old ≤ vec_capacity spans.new }
@@ -193,7 +193,7 @@ impl Row {
         part(&self.text, span.start + span.name, span.value)
     }
 
-    pub fn meaning(&self, i: usize) -> Meaning
+    pub fn meaning(&self, i: usize) -> EntryKind
         requires { i < length self.now }
         ensures { result ≡ (definition_at self.now i).meaning }
     {
@@ -201,7 +201,7 @@ impl Row {
     }
 
     /// Gives the i-th entry another meaning, with the value that it has.
-    pub fn set_meaning(&mut self, i: usize, meaning: Meaning)
+    pub fn set_meaning(&mut self, i: usize, meaning: EntryKind)
         requires { i < length self.old }
         ensures { self.new ≡ with_meaning self.old i meaning }
     {
@@ -209,7 +209,7 @@ impl Row {
     }
 
     /// Puts an entry in before the i-th.
-    pub fn insert(&mut self, i: usize, name: &[u8], meaning: Meaning, value: &[u8])
+    pub fn insert(&mut self, i: usize, name: &[u8], meaning: EntryKind, value: &[u8])
         requires place { i ≤ length self.old }
         requires names { length self.old < NAMES }
         requires bytes { size self.old + length name.now + length value.now ≤ DEFS }

@@ -13,7 +13,7 @@ use Rattle.page_roff_heads.specs.declared.conditions.Condition.{Condition}
 use Rattle.page_roff_syntax.specs.declared.regions.RegionKind.{RegionKind}
 use Rattle.page_roff_syntax.specs.declared.regions.RegionKind.TheVariants.{Define, Append, Ignore, Table, Equation, Picture}
 use Rattle.page_roff_values.specs.machine.Texts.{MeasureAlike}
-use Rattle.page_roff_values.specs.Values.{Laid, expanded, start, NEST}
+use Rattle.page_roff_values.specs.Values.{LaidText, expanded, start, NEST}
 use Rattle.page_roff_values.proofs.AlikeLemmas.{value_alike}
 use Rattle.page_roff_blocks.specs.machine.Budgets.{Budgeted, language}
 use Rattle.page_roff_blocks.specs.machine.Languages.{Kind, run_page}
@@ -44,7 +44,7 @@ module _ (units other : List ℕ → ℕ) (same : MeasureAlike units other) wher
     unfolding control_outcome command_outcome
     control_alike may_call line t =
         let command = command_of line.name m.definitions in
-        ap (λ (laid : Laid). if length line.name == 0 then nothing m else after_expansion laid (does may_call command line) m)
+        ap (λ (laid : LaidText). if length line.name == 0 then nothing m else after_expansion laid (does may_call command line) m)
         (expanded_alike (copies command) line.text t)
 
     form_alike : (may_call : Bool) (raw : List ℕ) (form : LineForm (List ℕ)) → form_of raw ≡ form → IsLine raw
@@ -52,7 +52,7 @@ module _ (units other : List ℕ → ℕ) (same : MeasureAlike units other) wher
     form_alike may_call raw Comment e r = refl
     form_alike may_call raw BlankLine e r = refl
     form_alike may_call raw (Text text) e r =
-        ap (λ (laid : Laid). after_expansion laid (λ finished m. gives_line forms.Text finished 0 m) m) (expanded_alike false text (text_line raw text e r))
+        ap (λ (laid : LaidText). after_expansion laid (λ finished m. gives_line forms.Text finished 0 m) m) (expanded_alike false text (text_line raw text e r))
     form_alike may_call raw (Control name column rest rest_column) e r =
         control_alike may_call (control_line raw name column rest_column) (uncommented_line raw r)
 
@@ -62,7 +62,7 @@ module _ (units other : List ℕ → ℕ) (same : MeasureAlike units other) wher
 
     body_alike : (line : List ℕ) → IsLine line → body_outcome (setting_of units kind) line m ≡ body_outcome (setting_of other kind) line m
     body_alike line t =
-        ap (λ (laid : Laid). if is_some m.body then after_expansion laid (λ finished m. longer m.body finished m) m else nothing m) (expanded_alike true line t)
+        ap (λ (laid : LaidText). if is_some m.body then after_expansion laid (λ finished m. longer m.body finished m) m else nothing m) (expanded_alike true line t)
 
     region_alike : (region : RegionKind) (line : List ℕ) → IsLine line
         → kind_outcome (setting_of units kind) region line m ≡ kind_outcome (setting_of other kind) region line m

@@ -9,14 +9,14 @@ use Rattle.page_roff_blocks.specs.machine.Languages.{Kind, state_of}
 use Rattle.page_roff_blocks.specs.laws.Spent.{Spends}
 use Rattle.page_roff_blocks.proofs.BudgetLemmas.{page_line_bound}
 use Rattle.page_roff_blocks.proofs.SpendLemmas.{page_spends}
-use Rattle.page_roff_effects.specs.States.{answer_of, test_outcome, budget_outcome, block_outcome, end_of_block_outcome, Given, says, takes, Memory, Outcome, Product, no_product, line_product, call_product, loop_product, lines_of, with_body}
+use Rattle.page_roff_effects.specs.States.{answer_of, test_outcome, budget_outcome, block_outcome, end_of_block_outcome, Given, says, takes, Memory, PartOutcome, Product, no_product, line_product, lines_of, with_body}
 use Rattle.page_roff_effects.specs.machine.Effects.{effects, turn_answer, expansions_of, tested_after, done_by, done_after, setting_of}
 use Rattle.page_roff_effects.specs.Lines.{leaf_outcome}
 use Rattle.page_roff_effects.specs.Regions.{loop_outcome, collect_outcome, repeats_if, repeats_text, close_outcome, head_outcome, line_outcome, end_outcome, finish_outcome}
 use Rattle.page_roff_effects.specs.laws.Views.{State, after}
 use Rattle.page_roff_effects.proofs.CountLemmas.{spends}
 use Rattle.page_roff_machine.proofs.DoingLemmas.{head_plain, end_plain, finish_plain, loop_plain, collect_plain}
-use Rattle.page_roff_source.specs.Runs.{Edge, SourceLine, given, done}
+use Rattle.page_roff_source.specs.Runs.{RoffEdge, SourceLine, given, done}
 use Rattle.page_roff_source.specs.laws.Views.{line_count, EachIsWithin}
 use Rattle.page_roff_source.specs.machine.Taking.{before_line, run_line, line_given, line_done}
 use Rattle.page_roff_source.specs.machine.LineByLine.{lines_given, lines_done}
@@ -35,16 +35,14 @@ count-says (note ∷ notes) = count-says notes
 
 product_count : (p : Product) → line_count (lines_of p) ≤ 1
 unfolding line_count
-product_count no_product = omega arith
 product_count (line_product line) = omega arith
-product_count (call_product call) = omega arith
-product_count (loop_product text) = omega arith
+product_count _ = omega arith
 
 -- the lines that were given
 lines_out : State → ℕ
 lines_out s = line_count s.out
 
-after_count : (s : State) (o : Outcome) → lines_out (after s o) ≡ lines_out s + line_count (lines_of o.product)
+after_count : (s : State) (o : PartOutcome) → lines_out (after s o) ≡ lines_out s + line_count (lines_of o.product)
 unfolding lines_out
 after_count s o =
     let a = count-append s.out (map says o.notes ++ lines_of o.product) in
@@ -53,22 +51,20 @@ after_count s o =
     omega (arith, a, b, c)
 
 -- a part of which nothing comes but messages
-quiet : (s : State) (o : Outcome) → o.product ≡ no_product → lines_out (after s o) ≡ lines_out s
+quiet : (s : State) (o : PartOutcome) → o.product ≡ no_product → lines_out (after s o) ≡ lines_out s
 unfolding line_count
 quiet s o e =
     let a = after_count s o in
     let b : line_count (lines_of o.product) ≡ 0 = ap (λ (p : Product). line_count (lines_of p)) e in
     omega (arith, a, b)
 
-few : (s : State) (o : Outcome) → lines_out (after s o) ≤ lines_out s + 1
+few : (s : State) (o : PartOutcome) → lines_out (after s o) ≤ lines_out s + 1
 few s o = let a = after_count s o in let b = product_count o.product in omega (arith, a, b)
 
 done_out : (p : Product) (s : State) → lines_out (state_of (done_by p s)) ≡ lines_out s
 unfolding done_by
-done_out no_product s = refl
 done_out (line_product line) s = refl
-done_out (call_product call) s = refl
-done_out (loop_product text) s = refl
+done_out _ s = refl
 
 -- of a loop that is whole no line comes
 repeats_quiet : (may_run : Bool) (text : List ℕ) (m : Memory) → line_count (lines_of (repeats_if may_run text m).product) ≡ 0
@@ -140,39 +136,39 @@ module _ (units : List ℕ → ℕ) where
     finish = λ region in_loop gave_up s. quiet s (finish_outcome region in_loop gave_up s.memory) (finish_plain region in_loop gave_up s.memory);
   }
 
-pub taken_bound : (e : Edge) (line : SourceLine) → (line_done e line).taken ≤ e.taken + (REREAD + 1)
+pub taken_bound : (e : RoffEdge) (line : SourceLine) → (line_done e line).taken ≤ e.taken + (REREAD + 1)
 unfolding run_line before_line
 taken_bound e line =
     let h = page_line_bound (effects (units_of e.output)) line.text (before_line e line) in
     omega (arith, h)
 
-before_none : (e : Edge) (line : SourceLine) → lines_out (before_line e line).state.rest ≡ 0
+before_none : (e : RoffEdge) (line : SourceLine) → lines_out (before_line e line).state.rest ≡ 0
 unfolding before_line lines_out line_count
 before_none e line = refl
 
-taken_before : (e : Edge) (line : SourceLine) → (before_line e line).state.taken ≡ e.taken
+taken_before : (e : RoffEdge) (line : SourceLine) → (before_line e line).state.taken ≡ e.taken
 unfolding before_line
 taken_before e line = refl
 
 given_by : (given taken before none : ℕ) {after : ℕ} → none ≡ 0 → before ≡ taken → given + 1 * before ≤ 1 * after + none → given + taken ≤ after
 given_by given taken before none e f h = omega arith
 
-pub given_bound : (e : Edge) (line : SourceLine) → line_count (line_given e line) + e.taken ≤ (line_done e line).taken
+pub given_bound : (e : RoffEdge) (line : SourceLine) → line_count (line_given e line) + e.taken ≤ (line_done e line).taken
 unfolding run_line lines_out
 given_bound e line =
     let h = page_spends lines_out 1 (effects (units_of e.output)) (lines_spend (units_of e.output)) (line.text ∷ []) (before_line e line) in
     given_by (line_count (line_given e line)) e.taken _ _ (before_none e line) (taken_before e line) h
 
-pub expansions_bound : (e : Edge) (line : SourceLine)
+pub expansions_bound : (e : RoffEdge) (line : SourceLine)
     → (line_done e line).memory.expansions + EXPAND * e.taken ≤ EXPAND * (line_done e line).taken + e.memory.expansions
 unfolding run_line before_line
 expansions_bound e line =
     page_spends expansions_of EXPAND (effects (units_of e.output)) (spends (units_of e.output)) (line.text ∷ []) (before_line e line)
 
-pub each_bound : (e : Edge) → EachIsWithin e
+pub each_bound : (e : RoffEdge) → EachIsWithin e
 each_bound e = spends (units_of e.output)
 
-lines_done-bound : (e : Edge) (lines : List SourceLine) → (lines_done e lines).taken ≤ e.taken + (REREAD + 1) * length lines
+lines_done-bound : (e : RoffEdge) (lines : List SourceLine) → (lines_done e lines).taken ≤ e.taken + (REREAD + 1) * length lines
 unfolding lines_done
 lines_done-bound e [] = omega arith
 lines_done-bound e (line ∷ lines) =
@@ -180,10 +176,10 @@ lines_done-bound e (line ∷ lines) =
     let g = lines_done-bound (line_done e line) lines in
     omega (arith, h, g)
 
-pub lines_bound : (e : Edge) (lines : List SourceLine) → (done e lines).taken ≤ e.taken + (REREAD + 1) * length lines
+pub lines_bound : (e : RoffEdge) (lines : List SourceLine) → (done e lines).taken ≤ e.taken + (REREAD + 1) * length lines
 lines_bound e lines = rw (done-idle e lines) (lines_done-bound e lines)
 
-lines_done-expansions : (e : Edge) (lines : List SourceLine)
+lines_done-expansions : (e : RoffEdge) (lines : List SourceLine)
     → (lines_done e lines).memory.expansions + EXPAND * e.taken ≤ EXPAND * (lines_done e lines).taken + e.memory.expansions
 unfolding lines_done
 lines_done-expansions e [] = omega arith
@@ -192,25 +188,25 @@ lines_done-expansions e (line ∷ lines) =
     let g = lines_done-expansions (line_done e line) lines in
     omega (arith, h, g)
 
-pub lines_expansions : (e : Edge) (lines : List SourceLine)
+pub lines_expansions : (e : RoffEdge) (lines : List SourceLine)
     → (done e lines).memory.expansions + EXPAND * e.taken ≤ EXPAND * (done e lines).taken + e.memory.expansions
 lines_expansions e lines = rw (done-idle e lines) (lines_done-expansions e lines)
 
 -- ---- one line, by what the page gives of it
 
-one_count : (e : Edge) (line : SourceLine) → line_count (given e (line ∷ [])) ≡ line_count (line_given e line)
+one_count : (e : RoffEdge) (line : SourceLine) → line_count (given e (line ∷ [])) ≡ line_count (line_given e line)
 unfolding lines_given
 one_count e line =
     let front = count-append (map says line.notes) (line_given e line ++ []) in
     let none = count-says line.notes in
     ap line_count (given-by_line e (line ∷ [])) ∙ omega (arith, front, none, ap line_count (append-nil (line_given e line)))
 
-pub one_taken : (e : Edge) (line : SourceLine) → (done e (line ∷ [])).taken ≤ e.taken + (REREAD + 1)
+pub one_taken : (e : RoffEdge) (line : SourceLine) → (done e (line ∷ [])).taken ≤ e.taken + (REREAD + 1)
 one_taken e line = rw (one_done e line) (taken_bound e line)
 
-pub one_given_bound : (e : Edge) (line : SourceLine) → line_count (given e (line ∷ [])) + e.taken ≤ (done e (line ∷ [])).taken
+pub one_given_bound : (e : RoffEdge) (line : SourceLine) → line_count (given e (line ∷ [])) + e.taken ≤ (done e (line ∷ [])).taken
 one_given_bound e line = rw (one_done e line, one_count e line) (given_bound e line)
 
-pub one_expansions : (e : Edge) (line : SourceLine)
+pub one_expansions : (e : RoffEdge) (line : SourceLine)
     → (done e (line ∷ [])).memory.expansions + EXPAND * e.taken ≤ EXPAND * (done e (line ∷ [])).taken + e.memory.expansions
 one_expansions e line = rw (one_done e line) (expansions_bound e line)

@@ -12,14 +12,14 @@ use Rattle.page_core_base.specs.declared.limits.Limit.{Limit}
 use Rattle.page_core_base.specs.declared.places.Place.{Place}
 use Rattle.page_roff_syntax.specs.Arguments.{argument_name, arguments}
 use Rattle.page_roff_syntax.specs.declared.quotes.Argument.{Argument}
-use Rattle.page_roff_names.specs.declared.rows.Meaning.{Meaning}
-use Rattle.page_roff_names.specs.declared.rows.Meaning.TheVariants.{String, Macro, Register}
+use Rattle.page_roff_names.specs.declared.rows.EntryKind.{EntryKind}
+use Rattle.page_roff_names.specs.declared.rows.EntryKind.TheVariants.{String, Macro}
 use Rattle.page_roff_names.specs.Names.{Definition, Entries, definition, Definitions, by_bytes, look, put, without, string_in, body_in, string_or, body_or_none, string_of, body_of, with_text, without_text, with_register, refusal, predefined_strings, predefined}
 use Rattle.page_roff_syntax.specs.declared.requests.DefinitionRequest.{DefinitionRequest}
 use Rattle.page_roff_syntax.specs.declared.requests.DefinitionRequest.TheVariants.{DefineString, AppendString, SetRegister, Remove, Rename, RemoveRegisters}
 use Rattle.page_roff_values.specs.machine.Texts.{IsText}
 use Rattle.page_roff_values.proofs.PlainTexts.{nil_text, ascii_text, text_append}
-use Rattle.page_roff_definitions.specs.Definitions.{first_text, value_after, Outcome, outcome, settled, settles, renames_found, removes, removes_registers, is_read_only, next_number, sets_register, if_named, nr, rn, ds, as_request, does, outcome_of}
+use Rattle.page_roff_definitions.specs.Definitions.{first_text, value_after, DefinitionOutcome, outcome, settled, settles, renames_found, removes, removes_registers, is_read_only, next_number, sets_register, if_named, nr, rn, ds, as_request, does, outcome_of}
 use Rattle.page_roff_effects.specs.Lines.{within_limit, called_body}
 use Rattle.page_roff_source.specs.machine.Texts.{IsBody, IsValue, AreEntries, IsBodyIfSome}
 use Rattle.page_roff_source.proofs.ArgumentTexts.{HasFirst, arguments_first, value_after_text}
@@ -93,10 +93,9 @@ predefined_text : (name : List ℕ) → IsTextIfSome (predefined name)
 unfolding predefined is_plain
 predefined_text name = row_text name predefined_strings refl
 
-string_in_text : (meaning : Meaning) (value : List ℕ) → IsValue meaning value → IsTextIfSome (string_in meaning value)
+string_in_text : (meaning : EntryKind) (value : List ℕ) → IsValue meaning value → IsTextIfSome (string_in meaning value)
 string_in_text String value h = h
-string_in_text Macro value h = tt
-string_in_text (Register n) value h = tt
+string_in_text _ value h = tt
 
 string_by : (otherwise : Option (List ℕ)) (o : Option Definition) → IsTextIfSome otherwise → IsDefinition o → IsTextIfSome (string_or otherwise o)
 string_by otherwise None h k = h
@@ -111,10 +110,9 @@ some_text (Some text) h = h
 
 -- ---- macros
 
-body_in_is : (meaning : Meaning) (value : List ℕ) → IsValue meaning value → IsBodyIfSome (body_in meaning value)
-body_in_is String value h = tt
+body_in_is : (meaning : EntryKind) (value : List ℕ) → IsValue meaning value → IsBodyIfSome (body_in meaning value)
 body_in_is Macro value h = h
-body_in_is (Register n) value h = tt
+body_in_is _ value h = tt
 
 body_by : (o : Option Definition) → IsDefinition o → IsBodyIfSome (body_or_none o)
 body_by None h = tt
@@ -143,13 +141,13 @@ settled_holds None wanted place old h k = h
 settled_holds (Some limit) wanted place old h k = k
 
 -- a value is defined
-pub defines_holds : (meaning : Meaning) (name value : List ℕ) (place : Place) (old : Definitions) → IsValue meaning value → AreEntries old.texts
+pub defines_holds : (meaning : EntryKind) (name value : List ℕ) (place : Place) (old : Definitions) → IsValue meaning value → AreEntries old.texts
     → AreEntries (settles name value (with_text name (definition meaning value) old) place old).definitions.texts
 defines_holds meaning name value place old v h =
     let wanted = with_text name (definition meaning value) old in
     settled_holds (refusal name value wanted) wanted place old (put_holds name (definition meaning value) old.texts v h) h
 
-if_named_holds : (name : List ℕ) (wanted : Outcome) (old : Definitions) → AreEntries wanted.definitions.texts → AreEntries old.texts
+if_named_holds : (name : List ℕ) (wanted : DefinitionOutcome) (old : Definitions) → AreEntries wanted.definitions.texts → AreEntries old.texts
     → AreEntries (if_named name wanted old).definitions.texts
 if_named_holds [] wanted old h k = k
 if_named_holds (b ∷ bs) wanted old h k = h

@@ -13,7 +13,7 @@ use Rattle.page_roff_heads.specs.declared.loops.LoopHead.{LoopHead}
 use Rattle.page_roff_syntax.specs.LineForms.{is_control, has_word, without_comment, control_line as control_form, uncommented_form, form_of}
 use Rattle.page_roff_syntax.specs.declared.line_forms.LineForm.{LineForm}
 use Rattle.page_roff_syntax.specs.declared.line_forms.LineForm.TheVariants.{Comment, BlankLine, Text, Control}
-use Rattle.page_roff_names.specs.declared.rows.Meaning.TheVariants.{Macro}
+use Rattle.page_roff_names.specs.declared.rows.EntryKind.TheVariants.{Macro}
 use Rattle.page_roff_names.specs.Names.{Definitions, string_of}
 use Rattle.page_roff_syntax.specs.declared.regions.RegionKind.{RegionKind}
 use Rattle.page_roff_syntax.specs.declared.regions.RegionKind.TheVariants.{Define, Append, Ignore, Table, Equation, Picture}
@@ -32,7 +32,7 @@ use Rattle.page_roff_blocks.specs.machine.Languages.{Kind, page, body, arguments
 use Rattle.page_roff_blocks.proofs.KeepEffects.{IsKeptAfter, KeepsEffects, page_keeps}
 use Rattle.page_roff_blocks.proofs.KeepLemmas.{IsIfSome, IsLoopHead}
 use Rattle.page_roff_effects.specs.Lines.{called_body, request_command, command_or, command_of, copies, call_if, ControlLine, rest_of, rest_column, does, command_outcome, control_outcome, control_line, form_outcome, leaf_outcome}
-use Rattle.page_roff_effects.specs.States.{answer_of, test_outcome, budget_outcome, block_outcome, end_of_block_outcome, Memory, first_memory, Setting, surroundings, counted, Product, no_product, line_product, call_product, loop_product, lines_of, Given, says, takes, Outcome, nothing}
+use Rattle.page_roff_effects.specs.States.{answer_of, test_outcome, budget_outcome, block_outcome, end_of_block_outcome, Memory, first_memory, TextSetting, surroundings, counted, Product, no_product, line_product, call_product, loop_product, lines_of, Given, says, takes, PartOutcome, nothing}
 use Rattle.page_roff_effects.specs.machine.Effects.{effects, setting_of, turn_answer, tested_after, done_by, done_after}
 use Rattle.page_roff_definitions.specs.Definitions.{with_line, packed}
 use Rattle.page_roff_effects.specs.Regions.{first_body, body_begun, head_outcome, longer_if, longer, body_outcome, kind_outcome, line_outcome, macro_definition, body_freed, end_outcome, finish_region, finish_outcome, longer_if_some, loop_outcome, collect_outcome, repeats_text, close_outcome}
@@ -51,7 +51,7 @@ some_is : (o : Option (List ℕ)) (value : List ℕ) → IsTextIfSome o → o �
 some_is None value h e = absurd (cc)
 some_is (Some text) value h e = let same : text ≡ value = cc in subst IsText same h
 
-pub environment : (copy : Bool) (setting : Setting) (m : Memory) → AreArgumentTexts setting.arguments → HoldsTexts m → environments.AreLines (surroundings copy setting m)
+pub environment : (copy : Bool) (setting : TextSetting) (m : Memory) → AreArgumentTexts setting.arguments → HoldsTexts m → environments.AreLines (surroundings copy setting m)
 environment copy setting m a h = record {
   strings = λ name value e. some_is (string_of name m.definitions) value (string_text name m.definitions h.names) e;
   arguments = a;
@@ -78,7 +78,7 @@ IsProduct (line_product line) = IsLine line.text
 IsProduct (call_product call) = IsBody call.body × IsPacked call.packed
 IsProduct (loop_product text) = IsBody text
 
-record IsOutcome (o : Outcome) : Type 0 where
+record IsOutcome (o : PartOutcome) : Type 0 where
   pub memory : HoldsTexts o.memory
   pub product : IsProduct o.product
 
@@ -89,11 +89,11 @@ quiet : (notes : List Message) (m : Memory) → HoldsTexts m → IsOutcome (reco
 unfolding IsProduct
 quiet notes m h = record { memory = h; product = tt }
 
-outcome_if : (c : Bool) (x y : Outcome) → IsOutcome x → IsOutcome y → IsOutcome (if c then x else y)
+outcome_if : (c : Bool) (x y : PartOutcome) → IsOutcome x → IsOutcome y → IsOutcome (if c then x else y)
 outcome_if true x y h k = h
 outcome_if false x y h k = k
 
-noted : (notes : List Message) (o : Outcome) → IsOutcome o → IsOutcome (record { notes = notes; product = o.product; memory = o.memory })
+noted : (notes : List Message) (o : PartOutcome) → IsOutcome o → IsOutcome (record { notes = notes; product = o.product; memory = o.memory })
 noted notes o h = record { memory = h.memory; product = h.product }
 
 call_is : (c : Bool) (text bytes : List ℕ) (m : Memory) → IsBody text → IsPacked bytes → HoldsTexts m → IsOutcome (call_if c text bytes m)
@@ -190,7 +190,7 @@ word_text false raw text e = absurd (cc)
 pub text_line : (raw text : List ℕ) → form_of raw ≡ Text text → IsLine raw → IsLine text
 text_line raw text e r = subst IsLine (word_text (has_word raw) raw text e) (uncommented_line raw r)
 
-module _ (setting : Setting) (a : AreArgumentTexts setting.arguments) where
+module _ (setting : TextSetting) (a : AreArgumentTexts setting.arguments) where
   control_is : (may_call : Bool) (line : ControlLine) (m : Memory) → IsLine line.text → IsRestAt line.text line.name_end → HoldsTexts m
       → IsOutcome (control_outcome setting may_call line m)
   unfolding control_outcome command_outcome command_of
@@ -256,10 +256,7 @@ module _ (setting : Setting) (a : AreArgumentTexts setting.arguments) where
 first_is : (kind : RegionKind) (name : List ℕ) (d : Definitions) → AreEntries d.texts → IsBodyIfSome (first_body kind name d)
 first_is Define name d h = no_body
 first_is Append name d h = called_is name d h
-first_is Ignore name d h = tt
-first_is Table name d h = tt
-first_is Equation name d h = tt
-first_is Picture name d h = tt
+first_is _ name d h = tt
 
 begun_is : (kind : RegionKind) (name : Option (List ℕ)) (d : Definitions) → AreEntries d.texts → IsBodyIfSome (body_begun kind name d)
 begun_is kind None d h = tt
@@ -318,7 +315,7 @@ product_given (line_product line) h = (h, tt)
 product_given (call_product call) h = tt
 product_given (loop_product text) h = tt
 
-after_is : (s : State) (o : Outcome) → HoldsState s → IsOutcome o → HoldsState (after s o)
+after_is : (s : State) (o : PartOutcome) → HoldsState s → IsOutcome o → HoldsState (after s o)
 after_is s o h k = record {
   memory = k.memory;
   out = given_more s.out _ h.out (given_more (map says o.notes) (lines_of o.product) (said o.notes) (product_given o.product k.product));

@@ -1,7 +1,7 @@
 -- The forest of all lines of a page gives what its lines give one after another: helpers of proofs.
 use Rattle.std.proofs.Common.{◌≡◌, ℕ, ◌+◌, Bool, true, false, cond, List, [], ◌∷◌, ◌++◌, length, map, Option, Some, None, option_map, refl, sym, ap, ◌∙◌, append_assoc, append-nil, arith}
 use Rattle.page_roff_syntax.specs.Regions.{is_ending, Opened}
-use Rattle.page_roff_blocks.specs.Forest.{Levels, Place}
+use Rattle.page_roff_blocks.specs.Forest.{Levels, SourcePlace}
 use Rattle.page_roff_blocks.specs.machine.Run.{Meaning, At, after_head, each_line}
 use Rattle.page_roff_blocks.specs.machine.Steps as steps
 use Rattle.page_roff_blocks.specs.machine.Steps.{step_inside, step_from, step, step_lines}
@@ -19,7 +19,7 @@ use Rattle.page_roff_effects.specs.machine.Effects.{effects, in_front}
 use Rattle.page_roff_effects.specs.laws.Views.{State}
 use Rattle.page_roff_effects.specs.States.{Given, says, Memory, numbered}
 use Rattle.page_roff_effects.proofs.GivenLemmas.{is_front}
-use Rattle.page_roff_source.specs.Runs.{Edge, SourceLine, run_all, given, done}
+use Rattle.page_roff_source.specs.Runs.{RoffEdge, SourceLine, run_all, given, done}
 use Rattle.page_roff_source.specs.machine.Taking.{before_line, run_line, run_begun, line_given, line_done}
 use Rattle.page_roff_source.specs.laws.Views.{line_begun}
 use Rattle.page_roff_source.specs.machine.Given as machine
@@ -48,7 +48,7 @@ module _ {R : Type 0} (e : Effects R) where
   from_reset None t l left left' g g' taken r = refl
   from_reset (Some o) t l left left' g g' taken r = inside_reset (is_ending o.ending t) o t l left left' g g' taken r
 
-  budget_reset : (t : List ℕ) (place : Place) (left left' : ℕ) (g g' : Bool) (taken : ℕ) (r : R)
+  budget_reset : (t : List ℕ) (place : SourcePlace) (left left' : ℕ) (g g' : Bool) (taken : ℕ) (r : R)
       → run_page (language e) (t ∷ []) (record { place = place; state = with_budget left g taken r })
       ≡ run_page (language e) (t ∷ []) (record { place = place; state = with_budget left' g' taken r })
   unfolding run_page step_lines step
@@ -66,12 +66,12 @@ front_run units before t a =
     sym (page_law l t (over (in_front before) a)) ∙ rest_front (in_front before) l (is_front units before) (at_page t a)
     ∙ ap (over (in_front before)) (page_law l t a)
 
-abbrev at : Place → ℕ → Bool → ℕ → Memory → List Given → At (Budgeted State)
+abbrev at : SourcePlace → ℕ → Bool → ℕ → Memory → List Given → At (Budgeted State)
 at place left gave_up taken memory out =
     record { place = place; state = record { left = left; gave_up = gave_up; taken = taken; rest = record { memory = memory; out = out } } }
 
 -- one line with what comes before it
-one_line : (e : Edge) (x : SourceLine) (left : ℕ) (g : Bool) (out : List Given)
+one_line : (e : RoffEdge) (x : SourceLine) (left : ℕ) (g : Bool) (out : List Given)
     → run_page (language (effects (units_of e.output))) (x.text ∷ []) (after_head head_of x (at e.place left g e.taken e.memory out))
     ≡ over (in_front (out ++ map says x.notes)) (run_line e x)
 unfolding run_line before_line
@@ -83,11 +83,11 @@ one_line e x left g out =
     ∙ ap (λ (o : List Given). run_page l (x.text ∷ []) (at e.place REREAD false e.taken m o)) (sym (append-nil front))
     ∙ front_run (units_of e.output) front x.text (at e.place REREAD false e.taken m [])
 
-abbrev each : Edge → List SourceLine → At (Budgeted State) → At (Budgeted State)
+abbrev each : RoffEdge → List SourceLine → At (Budgeted State) → At (Budgeted State)
 each e lines a = each_line (λ line. line.text) head_of (meaning_at (language (effects (units_of e.output))) CALLS page) lines a
 
 -- line after line
-each_stands : (e : Edge) (xs : List SourceLine) (left : ℕ) (g : Bool) (out : List Given)
+each_stands : (e : RoffEdge) (xs : List SourceLine) (left : ℕ) (g : Bool) (out : List Given)
     → StandsAt (lines_done e xs) (out ++ lines_given e xs) (each e xs (at e.place left g e.taken e.memory out))
 unfolding each_line lines_given lines_done run_page
 each_stands e [] left g out = record { place = refl; memory = refl; taken = refl; out = sym (append-nil out) }
@@ -101,80 +101,80 @@ each_stands e (x ∷ xs) left g out =
     ∙ append_assoc out (map says x.notes) (line_given e x ++ lines_given f xs) in
     rw (one_line e x left g out, sym same) h
 
-all_stands : (e : Edge) (lines : List SourceLine) → StandsAt (lines_done e lines) (lines_given e lines) (machine.run_all e lines)
+all_stands : (e : RoffEdge) (lines : List SourceLine) → StandsAt (lines_done e lines) (lines_given e lines) (machine.run_all e lines)
 unfolding machine.run_all run_page_lines
 all_stands e lines =
     rw (forest_is_each (λ line. line.text) head_of (meaning_at (language (effects (units_of e.output))) CALLS page) lines (machine.before_lines e))
     (each_stands e lines 0 false [])
 
 -- the definitions run as the machine does
-all_same : (e : Edge) (lines : List SourceLine) → run_all e lines ≡ runs.at (machine.run_all e lines)
+all_same : (e : RoffEdge) (lines : List SourceLine) → run_all e lines ≡ runs.at (machine.run_all e lines)
 unfolding run_all machine.run_all
 all_same e lines = depths.page_law (units_of e.output) lines (machine.before_lines e)
 
-pub given_same : (e : Edge) (lines : List SourceLine) → given e lines ≡ machine.given e lines
+pub given_same : (e : RoffEdge) (lines : List SourceLine) → given e lines ≡ machine.given e lines
 given_same e lines = ap (λ a. a.state.out) (all_same e lines)
 
-pub given-by_line : (e : Edge) (lines : List SourceLine) → given e lines ≡ lines_given e lines
+pub given-by_line : (e : RoffEdge) (lines : List SourceLine) → given e lines ≡ lines_given e lines
 given-by_line e lines = given_same e lines ∙ (all_stands e lines).out
 
 -- ---- the edge after lines
 
 -- all that the present line gives was given
-abbrev pub idle : Edge → Edge
+abbrev pub idle : RoffEdge → RoffEdge
 idle e = record e { to_come = None }
 
-lines_done-output : (e : Edge) (lines : List SourceLine) → (lines_done e lines).output ≡ e.output
+lines_done-output : (e : RoffEdge) (lines : List SourceLine) → (lines_done e lines).output ≡ e.output
 unfolding lines_done
 lines_done-output e [] = refl
 lines_done-output e (x ∷ xs) = lines_done-output (line_done e x) xs
 
-lines_done-source : (e : Edge) (lines : List SourceLine) → (lines_done e lines).source ≡ e.source + length lines
+lines_done-source : (e : RoffEdge) (lines : List SourceLine) → (lines_done e lines).source ≡ e.source + length lines
 unfolding lines_done
 lines_done-source e [] = omega arith
 lines_done-source e (x ∷ xs) = let h = lines_done-source (line_done e x) xs in omega (arith, h)
 
-same_edge : (e f : Edge) → e.output ≡ f.output → e.place ≡ f.place → e.memory ≡ f.memory → e.source ≡ f.source → e.taken ≡ f.taken
+same_edge : (e f : RoffEdge) → e.output ≡ f.output → e.place ≡ f.place → e.memory ≡ f.memory → e.source ≡ f.source → e.taken ≡ f.taken
     → idle e ≡ idle f
 same_edge e f a b c d g = rw (a, b, c, d, g) refl
 
-pub done_same : (e : Edge) (lines : List SourceLine) → done e lines ≡ machine.done e lines
+pub done_same : (e : RoffEdge) (lines : List SourceLine) → done e lines ≡ machine.done e lines
 done_same e lines =
     ap (λ a. record (idle e) { place = a.place; memory = a.state.memory; source = e.source + length lines; taken = a.state.taken }) (all_same e lines)
 
-pub done-idle : (e : Edge) (lines : List SourceLine) → done e lines ≡ idle (lines_done e lines)
+pub done-idle : (e : RoffEdge) (lines : List SourceLine) → done e lines ≡ idle (lines_done e lines)
 done-idle e lines =
     let s = all_stands e lines in
     done_same e lines ∙ same_edge (machine.done e lines) (lines_done e lines) (sym (lines_done-output e lines)) s.place s.memory (sym (lines_done-source e lines)) s.taken
 
-lines_done-to_come : (e : Edge) (lines : List SourceLine) → e.to_come ≡ None → (lines_done e lines).to_come ≡ None
+lines_done-to_come : (e : RoffEdge) (lines : List SourceLine) → e.to_come ≡ None → (lines_done e lines).to_come ≡ None
 unfolding lines_done
 lines_done-to_come e [] h = h
 lines_done-to_come e (x ∷ xs) h = lines_done-to_come (line_done e x) xs refl
 
-idle-same : (e : Edge) → e.to_come ≡ None → idle e ≡ e
+idle-same : (e : RoffEdge) → e.to_come ≡ None → idle e ≡ e
 idle-same e h = ap (λ t. record e { to_come = t }) (sym h)
 
-pub done-by_line : (e : Edge) (lines : List SourceLine) → e.to_come ≡ None → done e lines ≡ lines_done e lines
+pub done-by_line : (e : RoffEdge) (lines : List SourceLine) → e.to_come ≡ None → done e lines ≡ lines_done e lines
 done-by_line e lines h = done-idle e lines ∙ idle-same (lines_done e lines) (lines_done-to_come e lines h)
 
 -- ---- one line
 
-one_given : (e : Edge) (line : SourceLine) → line.notes ≡ [] → given e (line ∷ []) ≡ line_given e line
+one_given : (e : RoffEdge) (line : SourceLine) → line.notes ≡ [] → given e (line ∷ []) ≡ line_given e line
 unfolding lines_given run_line before_line
 one_given e line h = given-by_line e (line ∷ []) ∙ rw h (append-nil (line_given e line))
 
-pub one_done : (e : Edge) (line : SourceLine) → done e (line ∷ []) ≡ line_done e line
+pub one_done : (e : RoffEdge) (line : SourceLine) → done e (line ∷ []) ≡ line_done e line
 unfolding lines_done
 one_done e line = done-idle e (line ∷ [])
 
-pub begun-is : (e : Edge) (line : SourceLine) → line.notes ≡ [] → line_begun e line ≡ run_begun e line
+pub begun-is : (e : RoffEdge) (line : SourceLine) → line.notes ≡ [] → line_begun e line ≡ run_begun e line
 begun-is e line h =
     ap (λ (t : Option (List Given)). record (done e (line ∷ [])) { to_come = t }) (ap Some (one_given e line h))
-    ∙ ap (λ (f : Edge). record f { to_come = Some (line_given e line) }) (one_done e line)
+    ∙ ap (λ (f : RoffEdge). record f { to_come = Some (line_given e line) }) (one_done e line)
 
 -- of roff over a sink, as long as it goes on
-pub begun_edge : (is_going : Bool) (old new : Edge) (edge : Option Edge) (line : SourceLine) → line.notes ≡ [] → is_going ≡ true
+pub begun_edge : (is_going : Bool) (old new : RoffEdge) (edge : Option RoffEdge) (line : SourceLine) → line.notes ≡ [] → is_going ≡ true
     → cond is_going (Some old) None ≡ edge → new ≡ run_begun old line → cond is_going (Some new) None ≡ option_map (λ e. line_begun e line) edge
 begun_edge true old new edge line none going before after =
     ap Some (after ∙ sym (begun-is old line none)) ∙ ap (option_map (λ e. line_begun e line)) before

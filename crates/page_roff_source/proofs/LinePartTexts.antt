@@ -5,7 +5,7 @@ use Rattle.std.proofs.lemmas.List.{length-drop}
 use Rattle.page_core_base.specs.Texts.{IsLine}
 use Rattle.page_roff_syntax.specs.LineForms.{form_of}
 use Rattle.page_roff_syntax.specs.declared.line_forms.LineForm.{LineForm}
-use Rattle.page_roff_syntax.specs.declared.line_forms.LineForm.TheVariants.{Comment, BlankLine, Text, Control}
+use Rattle.page_roff_syntax.specs.declared.line_forms.LineForm.TheVariants.{Control}
 use Rattle.page_roff_heads.specs.declared.heads.BlockEnd.{BlockEnd}
 use Rattle.page_roff_heads.specs.declared.loops.LoopRead.{LoopRead}
 use Rattle.page_roff_heads.specs.declared.texts.Placed.{Placed}
@@ -35,8 +35,7 @@ IsLeaf (Leaf text) = IsLine text
 IsLeaf (Guard head) = IsTested IsTextCondition head.branch
 IsLeaf (Block opening) = IsOpening IsLine opening × IsTestedOpening IsTextCondition opening
 IsLeaf (Loop head) = IsLoopHead IsLine head
-IsLeaf End = Unit {0}
-IsLeaf (Region head) = Unit {0}
+IsLeaf _ = Unit {0}
 
 -- a part of a line, what is before the end of a block in it, and what is left after it
 record IsPart (text : List ℕ) (line_part : LinePart (List ℕ)) (rest : Option (List ℕ)) : Type 0 where
@@ -100,13 +99,11 @@ keyword_part_is (Some requests.Ignored) line column rest rest_column h r = plain
 keyword_part_is (Some requests.Unsupported) line column rest rest_column h r = plain_part_is line h
 
 form_part_is : (form : LineForm (List ℕ)) (line : List ℕ) → form_of line ≡ form → IsLine line → IsPart line (form_part line form).line_part (form_part line form).rest
-form_part_is Comment line e h = plain_part_is line h
-form_part_is BlankLine line e h = plain_part_is line h
-form_part_is (Text text) line e h = plain_part_is line h
 form_part_is (Control name column rest rest_column) line e h =
     let at = control_rest line name rest column rest_column h e in
     let cut = commented_cut line (rest_column - 1) h.utf8 at.cut in
     keyword_part_is (request_of name) line column rest rest_column h (line_cut line (rest_column - 1) h cut).1
+form_part_is _ line e h = plain_part_is line h
 
 written_is : (line : List ℕ) → IsLine line → IsPart line (written_part line).line_part (written_part line).rest
 unfolding written_part
@@ -182,12 +179,10 @@ opening_is (openings.Loop head) h = ((h.0.0, body_is head.body h.0.1), tt)
 
 line_part_is : (line_part : LinePart (List ℕ)) → IsLeaf line_part → IsLeaf (whole_line_part line_part)
 unfolding IsLeaf
-line_part_is (Leaf text) h = h
-line_part_is (Guard head) h = h
 line_part_is (Block opening) h = opening_is opening h
-line_part_is (Loop head) h = h
 line_part_is End h = tt
 line_part_is (Region head) h = tt
+line_part_is _ h = h
 
 end_leaves : (is_end : Bool) (more : List (LinePart (List ℕ))) → AreLeaves IsLine more → AreLeaves IsLine (ends_first is_end more)
 end_leaves true more h = h
@@ -196,11 +191,9 @@ end_leaves false more h = h
 part_leaves : (line_part : LinePart (List ℕ)) (more : List (LinePart (List ℕ))) → IsLeaf line_part → AreLeaves IsLine more → AreLeaves IsLine (line_part ∷ more)
 unfolding IsLeaf
 part_leaves (Leaf text) more a h = (a, h)
-part_leaves (Guard head) more a h = h
 part_leaves (Block opening) more a h = (a.0, h)
 part_leaves (Loop head) more a h = (a, h)
-part_leaves End more a h = h
-part_leaves (Region head) more a h = h
+part_leaves _ more a h = h
 
 parts_leaves : (n : ℕ) (rest : Option (List ℕ)) → IsRest rest → AreLeaves IsLine (parts n rest)
 unfolding part_of
@@ -223,12 +216,9 @@ end_tested false more h = h
 
 part_tested : (line_part : LinePart (List ℕ)) (more : List (LinePart (List ℕ))) → IsLeaf line_part → AreTested IsTextCondition more → AreTested IsTextCondition (line_part ∷ more)
 unfolding IsLeaf
-part_tested (Leaf text) more a h = h
 part_tested (Guard head) more a h = (a, h)
 part_tested (Block opening) more a h = (a.1, h)
-part_tested (Loop head) more a h = h
-part_tested End more a h = h
-part_tested (Region head) more a h = h
+part_tested _ more a h = h
 
 parts_tested : (n : ℕ) (rest : Option (List ℕ)) → IsRest rest → AreTested IsTextCondition (parts n rest)
 unfolding part_of

@@ -1,13 +1,13 @@
 -- The machine that runs a page's lines is at the page's edge: helpers of proofs.
 use Rattle.std.proofs.Common.{◌≡◌, ℕ, ◌+◌, ◌*◌, ◌≤◌, ◌<◌, ◌^◌, Bool, true, false, List, [], ◌∷◌, length, Option, Some, None, IfSome, is_some, option_map, refl, sym, ap, subst, ◌∙◌, arith}
-use Rattle.page_core_base.specs.Texts.{IsLine, Line}
+use Rattle.page_core_base.specs.Texts.{IsLine, TakenLine}
 use Rattle.page_core_base.specs.declared.limits.TheConstants.{LINE, REREAD}
 use Rattle.page_core_base.specs.laws.Views.{line_view}
 use Rattle.page_core_base.specs.declared.lines_taken.Taken.{Taken}
 use Rattle.page_core_base.specs.Messages.{Message}
 use Rattle.page_core_base.specs.declared.page_settings.Output.{Output}
 use Rattle.page_roff_blocks.specs.laws.Views.{PlaceFits, at_line}
-use Rattle.page_roff_blocks.specs.Forest.{Place, outside, first_place}
+use Rattle.page_roff_blocks.specs.Forest.{SourcePlace, outside, first_place}
 use Rattle.page_roff_blocks.specs.machine.Run.{At}
 use Rattle.page_roff_blocks.specs.machine.Languages.{run_page}
 use Rattle.page_roff_blocks.specs.machine.Counting.{Budget}
@@ -28,7 +28,7 @@ use Rattle.page_roff_source.specs.machine.Texts.{HoldsTexts, AreGiven}
 use Rattle.page_roff_source.proofs.EffectTexts.{first_holds, finish_holds}
 use Rattle.page_roff_source.specs.declared.counts.Counts.{Counts}
 use Rattle.page_roff_source.specs.laws.Views.{RoffFits, Part, IsPart, edge_at, part_of, given_of, line_taken, left_if}
-use Rattle.page_roff_source.specs.Runs.{Edge, SourceLine, first_edge, counts_of, end_notes}
+use Rattle.page_roff_source.specs.Runs.{RoffEdge, SourceLine, first_edge, counts_of, end_notes}
 use Rattle.page_roff_source.specs.machine.Taking.{LinesState, before_line, TakesSource, line_done, line_given, run_line, run_begun}
 use Rattle.page_roff_source.specs.declared.roff_lines.Remaining.{Remaining}
 use Rattle.page_roff_source.specs.declared.roff_lines.Remaining.TheVariants as remaining
@@ -38,7 +38,7 @@ use Rattle.page_roff_source.proofs.RoomLemmas.{done_room}
 use Rattle.page_roff_source.proofs.TextLemmas.{line_texts, runs_as, taken_is, taken_line}
 
 -- an edge by what leaves the page there
-abbrev edge_with : Output → At (Budgeted State) → ℕ → Option (List Given) → Edge
+abbrev edge_with : Output → At (Budgeted State) → ℕ → Option (List Given) → RoffEdge
 edge_with output a source to_come = record {
   output = output;
   place = a.place;
@@ -48,10 +48,10 @@ edge_with output a source to_come = record {
   to_come = to_come;
 }
 
-abbrev begun_with : Output → At (Budgeted State) → ℕ → Edge
+abbrev begun_with : Output → At (Budgeted State) → ℕ → RoffEdge
 begun_with output a source = edge_with output a source (Some a.state.rest.out)
 
-abbrev at_stack : Output → stack.Stack → Memory → ℕ → Edge
+abbrev at_stack : Output → stack.Stack → Memory → ℕ → RoffEdge
 at_stack output s memory taken = record {
   output = output;
   place = record { region = s.top.region; levels = s.top.cursor.levels };
@@ -93,7 +93,7 @@ new_counted output = record { source = omega arith; taken = omega arith; skipped
 
 -- ---- between two lines
 
-abbrev pub held_part : Place → Memory → ℕ → ℕ → Part
+abbrev pub held_part : SourcePlace → Memory → ℕ → ℕ → Part
 held_part place memory source taken = record { place = place; memory = memory; source = source; taken = taken }
 
 resumed_edge : (output : Output) (p : Part) (m : Machine) → Resumes output p.place p.memory p.taken m → outcome_of m ≡ stands m
@@ -116,7 +116,7 @@ resumed_invariant output p m k h =
     record {
       idle = resumed_idle output p.place p.memory p.taken m h;
       counted = subst IsCounted (sym e) counted;
-      texts = subst (λ (x : Edge). HoldsTexts x.memory) (sym e) k.texts;
+      texts = subst (λ (x : RoffEdge). HoldsTexts x.memory) (sym e) k.texts;
       given = tt;
     }
 
@@ -125,9 +125,7 @@ pub part_at : (m : Machine) (source : ℕ) (left : Remaining) → IsAtEdge m sou
     → part_of (edge_of m source left) ≡ record { place = place_of m; memory = m.actions.memory; source = source; taken = m.budget.taken }
 part_at m source remaining.Nothing p none =
     ap (λ (a : At (Budgeted State)). part_of (edge_with (output_of m) a source None)) (idle_stands m p.idle)
-part_at m source remaining.Line p none = absurd (cc)
-part_at m source remaining.End p none = absurd (cc)
-part_at m source remaining.Run p none = absurd (cc)
+part_at m source _ p none = absurd (cc)
 
 pub is_part_at : (m : Machine) (source : ℕ) (left : Remaining) → IsAtEdge m source left → (edge_of m source left).to_come ≡ None
     → ((place_of m).levels.in_loop ≡ true → IsPassed (place_of m).region)
@@ -160,32 +158,32 @@ begun old new source line idle b h l =
     ∙ ap (λ (a : At (Budgeted State)). begun_with (output_of old) a (source + 1)) outcome
 
 -- a line that was taken at once is all that the line gives
-gives_taken : (old new : Machine) (source : ℕ) (taken : Line) (line : SourceLine) → machine.is_idle old ≡ true
+gives_taken : (old new : Machine) (source : ℕ) (taken : TakenLine) (line : SourceLine) → machine.is_idle old ≡ true
     → Takes taken line.text line.number old new → HoldsTexts (edge_of old source remaining.Nothing).memory → IsLine line.text
     → stands_after (takes taken ∷ []) new ≡ run_line (edge_of old source remaining.Nothing) line
 gives_taken old new source taken line idle t h l =
     let e = before_at old source line (idle_stands old idle) in
     t.outcome ∙ sym (ap (run_page (language_of old) (line.text ∷ [])) e) ∙ runs_as (edge_of old source remaining.Nothing) line h l
 
-gives_alone : (old new : Machine) (source : ℕ) (taken : Line) (line : SourceLine) → machine.is_idle old ≡ true
+gives_alone : (old new : Machine) (source : ℕ) (taken : TakenLine) (line : SourceLine) → machine.is_idle old ≡ true
     → Takes taken line.text line.number old new → HoldsTexts (edge_of old source remaining.Nothing).memory → IsLine line.text
     → line_given (edge_of old source remaining.Nothing) line ≡ takes taken ∷ []
 gives_alone old new source taken line idle t h l =
     sym (ap (λ (a : At (Budgeted State)). a.state.rest.out) (gives_taken old new source taken line idle t h l))
 
 -- it is kept, to be given
-kept_line : (old new : Machine) (source : ℕ) (taken : Line) (line : SourceLine) → machine.is_idle old ≡ true
+kept_line : (old new : Machine) (source : ℕ) (taken : TakenLine) (line : SourceLine) → machine.is_idle old ≡ true
     → Takes taken line.text line.number old new → new.actions.line ≡ taken → HoldsTexts (edge_of old source remaining.Nothing).memory → IsLine line.text
     → edge_of new (source + 1) remaining.Line ≡ run_begun (edge_of old source remaining.Nothing) line
 kept_line old new source taken line idle t k h l =
     let given = takes taken ∷ [] in
-    ap (λ (x : Line). edge_with (output_of new) (outcome_of new) (source + 1) (Some (takes x ∷ []))) k
+    ap (λ (x : TakenLine). edge_with (output_of new) (outcome_of new) (source + 1) (Some (takes x ∷ []))) k
     ∙ ap (λ (a : At (Budgeted State)). edge_with (output_of new) a (source + 1) (Some given)) (idle_stands new t.idle)
     ∙ ap (λ (o : Output). begun_with o (stands_after given new) (source + 1)) t.output
     ∙ ap (λ (a : At (Budgeted State)). begun_with (output_of old) a (source + 1)) (gives_taken old new source taken line idle t h l)
 
 -- it is given, and the line is done
-line_is_done : (old new : Machine) (source : ℕ) (taken : Line) (line : SourceLine) → machine.is_idle old ≡ true
+line_is_done : (old new : Machine) (source : ℕ) (taken : TakenLine) (line : SourceLine) → machine.is_idle old ≡ true
     → Takes taken line.text line.number old new → HoldsTexts (edge_of old source remaining.Nothing).memory → IsLine line.text
     → edge_of new (source + 1) remaining.Nothing ≡ line_done (edge_of old source remaining.Nothing) line
 line_is_done old new source taken line idle t h l =
@@ -193,7 +191,7 @@ line_is_done old new source taken line idle t h l =
     ∙ ap (λ (o : Output). edge_with o (stands_after (takes taken ∷ []) new) (source + 1) None) t.output
     ∙ ap (λ (a : At (Budgeted State)). edge_with (output_of old) a (source + 1) None) (gives_taken old new source taken line idle t h l)
 
-pub begun_counted : (e : Edge) (line : SourceLine) → IsCounted e → e.source < 2 ^ 31 → length line.text ≤ LINE → IsCounted (run_begun e line)
+pub begun_counted : (e : RoffEdge) (line : SourceLine) → IsCounted e → e.source < 2 ^ 31 → length line.text ≤ LINE → IsCounted (run_begun e line)
 begun_counted e line c few short =
     let t = taken_bound e line in
     let s = done_room e line in
@@ -209,7 +207,7 @@ room_to_begin m source p =
 
 -- ---- the next line
 
-left_by : (result : Bool) (m : Machine) (next : Option Line) (given : List Given) → next ≡ taken_if result m.actions.line → to_come m ≡ given
+left_by : (result : Bool) (m : Machine) (next : Option TakenLine) (given : List Given) → next ≡ taken_if result m.actions.line → to_come m ≡ given
     → given_by (run_if result) m ≡ left_if next given
 left_by true m next given e r = rw (e, r) refl
 left_by false m next given e r = rw e refl
@@ -245,22 +243,18 @@ unfolding AreGiven
 new_invariant output m n = record {
   idle = new_idle output m n;
   counted = subst IsCounted (sym (new_at output m n)) (new_counted output);
-  texts = subst (λ (e : Edge). HoldsTexts e.memory) (sym (new_at output m n)) first_holds;
+  texts = subst (λ (e : RoffEdge). HoldsTexts e.memory) (sym (new_at output m n)) first_holds;
   given = tt;
 }
 
 pub begin_room : (m : Machine) (source : ℕ) (left : Remaining) → IsAtEdge m source left → (edge_of m source left).to_come ≡ None
     → (m.budget.taken ≤ 2 ^ 62) × (m.stack.top.cursor.levels.skipped < 2 ^ 62)
 begin_room m source remaining.Nothing p none = room_to_begin m source p
-begin_room m source remaining.Line p none = absurd (cc)
-begin_room m source remaining.End p none = absurd (cc)
-begin_room m source remaining.Run p none = absurd (cc)
+begin_room m source _ p none = absurd (cc)
 
 nothing_left : (m : Machine) (source : ℕ) (left : Remaining) → (edge_of m source left).to_come ≡ None → left ≡ remaining.Nothing
 nothing_left m source remaining.Nothing none = refl
-nothing_left m source remaining.Line none = absurd (cc)
-nothing_left m source remaining.End none = absurd (cc)
-nothing_left m source remaining.Run none = absurd (cc)
+nothing_left m source _ none = absurd (cc)
 
 at_nothing : (m : Machine) (source : ℕ) (left : Remaining) → IsAtEdge m source left → (edge_of m source left).to_come ≡ None
     → IsAtEdge m source remaining.Nothing
@@ -277,15 +271,15 @@ begin_edge old new source left line number p none b l =
     (begun old new source s q.idle b q.texts l)
 
 -- the invariant at an edge after a line
-begun_invariant : (e : Edge) (new : Machine) (source : ℕ) (left : Remaining) (line : SourceLine) → IsCounted e → HoldsTexts e.memory → e.source < 2 ^ 31
+begun_invariant : (e : RoffEdge) (new : Machine) (source : ℕ) (left : Remaining) (line : SourceLine) → IsCounted e → HoldsTexts e.memory → e.source < 2 ^ 31
     → IsLine line.text → edge_of new (source + 1) left ≡ run_begun e line → IsIdleAs left new → IsAtEdge new (source + 1) left
 begun_invariant e new source left line c h few t same idle =
     let k = line_texts e line h t in
     record {
       idle = idle;
       counted = subst IsCounted (sym same) (begun_counted e line c few t.bounded);
-      texts = subst (λ (x : Edge). HoldsTexts x.memory) (sym same) k.memory;
-      given = subst (λ (x : Edge). AreGiven (given_of x)) (sym same) k.out;
+      texts = subst (λ (x : RoffEdge). HoldsTexts x.memory) (sym same) k.memory;
+      given = subst (λ (x : RoffEdge). AreGiven (given_of x)) (sym same) k.out;
     }
 
 pub begin_invariant : (old new : Machine) (source : ℕ) (left : Remaining) (line : List ℕ) (number : ℕ) → IsAtEdge old source left
@@ -295,16 +289,16 @@ begin_invariant old new source left line number p none b few t =
     (begin_edge old new source left line number p none b t) tt
 
 -- one begins that is taken at once, and kept
-abbrev with_line : Line → Machine → Machine
+abbrev with_line : TakenLine → Machine → Machine
 with_line line m = record m { actions = record m.actions { line = line } }
 
-kept_takes : (old new kept : Machine) (taken : Line) (line : List ℕ) (number : ℕ) → Takes taken line number old new → kept ≡ with_line taken new
+kept_takes : (old new kept : Machine) (taken : TakenLine) (line : List ℕ) (number : ℕ) → Takes taken line number old new → kept ≡ with_line taken new
     → Takes taken line number old kept
 kept_takes old new kept taken line number t e =
     let same : Takes taken line number old (with_line taken new) = record { output = t.output; idle = t.idle; short = t.short; outcome = t.outcome } in
     subst (Takes taken line number old) (sym e) same
 
-pub keep_edge : (old new kept : Machine) (source : ℕ) (left : Remaining) (taken : Line) (line : List ℕ) (number : ℕ) → IsAtEdge old source left
+pub keep_edge : (old new kept : Machine) (source : ℕ) (left : Remaining) (taken : TakenLine) (line : List ℕ) (number : ℕ) → IsAtEdge old source left
     → (edge_of old source left).to_come ≡ None → Takes taken line number old new → kept ≡ with_line taken new → IsLine line
     → edge_of kept (source + 1) remaining.Line ≡ run_begun (edge_of old source left) (record { text = line; number = number; notes = [] })
 keep_edge old new kept source left taken line number p none t e l =
@@ -313,7 +307,7 @@ keep_edge old new kept source left taken line number p none t e l =
     subst (λ (r : Remaining). edge_of kept (source + 1) remaining.Line ≡ run_begun (edge_of old source r) s) (sym (nothing_left old source left none))
     (kept_line old kept source taken s q.idle (kept_takes old new kept taken line number t e) (ap (λ (m : Machine). m.actions.line) e) q.texts l)
 
-pub keep_invariant : (old new kept : Machine) (source : ℕ) (left : Remaining) (taken : Line) (line : List ℕ) (number : ℕ) → IsAtEdge old source left
+pub keep_invariant : (old new kept : Machine) (source : ℕ) (left : Remaining) (taken : TakenLine) (line : List ℕ) (number : ℕ) → IsAtEdge old source left
     → (edge_of old source left).to_come ≡ None → Takes taken line number old new → kept ≡ with_line taken new → source < 2 ^ 31 → IsLine line
     → IsAtEdge kept (source + 1) remaining.Line
 keep_invariant old new kept source left taken line number p none t e few l =
@@ -326,7 +320,7 @@ pub none_begins : (old new : Machine) (result : Option Taken) (line : List ℕ) 
 none_begins old new None line number e b = b
 none_begins old new (Some taken) line number e b = absurd (cc)
 
-pub none_takes : (result : Option Taken) (line : SourceLine) (old new : Edge) → is_some result ≡ false → new ≡ run_begun old line
+pub none_takes : (result : Option Taken) (line : SourceLine) (old new : RoffEdge) → is_some result ≡ false → new ≡ run_begun old line
     → TakesSource (option_map line_view result) line old new
 none_takes None line old new e b = b
 none_takes (Some taken) line old new e b = absurd (cc)
@@ -368,28 +362,24 @@ lend_invariant old new source left (Some taken) line number p none e t few l =
     record {
       idle = subst (λ (r : Remaining). IsIdleAs r new) (sym (nothing_left old source left none)) t.idle;
       counted = subst IsCounted same counted;
-      texts = subst (λ (x : Edge). HoldsTexts x.memory) same (line_texts before s p.texts l).memory;
-      given = subst (λ (x : Edge). AreGiven (given_of x)) same tt;
+      texts = subst (λ (x : RoffEdge). HoldsTexts x.memory) same (line_texts before s p.texts l).memory;
+      given = subst (λ (x : RoffEdge). AreGiven (given_of x)) same tt;
     }
 
 -- after the line that was taken at once
 pub line_invariant : (m : Machine) (source : ℕ) (left : Remaining) → IsAtEdge m source left → left ≡ remaining.Line → IsAtEdge m source remaining.End
 unfolding AreGiven
-line_invariant m source remaining.Nothing p e = absurd (cc)
-line_invariant m source remaining.End p e = absurd (cc)
 line_invariant m source remaining.Line p e = record {
   idle = p.idle;
   counted = record { source = p.counted.source; taken = p.counted.taken; skipped = p.counted.skipped };
   texts = p.texts;
   given = tt;
 }
-line_invariant m source remaining.Run p e = absurd (cc)
+line_invariant m source _ p e = absurd (cc)
 
 pub line_runs_on : {P S : Type 0} (left : P → S → List Message → Type 0) (m : Machine) (source : ℕ) (r : Remaining) (old : LinesState) (s : S)
     → IsAtEdge m source r → r ≡ remaining.Line → state_of m source r ≡ old
     → RunsOn left old s true (state_of m source remaining.End) s
-line_runs_on left m source remaining.Nothing old s p e v = absurd (cc)
-line_runs_on left m source remaining.End old s p e v = absurd (cc)
 line_runs_on left m source remaining.Line old s p e v =
     rw (← v) (record {
       came = λ plan more h. h;
@@ -397,28 +387,24 @@ line_runs_on left m source remaining.Line old s p e v =
       text = taken_line true m.actions.line (takes m.actions.line ∷ []) p.given refl;
       edge = refl;
     })
-line_runs_on left m source remaining.Run old s p e v = absurd (cc)
+line_runs_on left m source _ old s p e v = absurd (cc)
 
 -- after its end was reported
 pub told_invariant : (m : Machine) (source : ℕ) (left : Remaining) → IsAtEdge m source left → left ≡ remaining.End → IsAtEdge m source remaining.Nothing
 unfolding AreGiven
-told_invariant m source remaining.Nothing p e = absurd (cc)
 told_invariant m source remaining.End p e = record {
   idle = p.idle;
   counted = record { source = p.counted.source; taken = p.counted.taken; skipped = p.counted.skipped };
   texts = p.texts;
   given = tt;
 }
-told_invariant m source remaining.Line p e = absurd (cc)
-told_invariant m source remaining.Run p e = absurd (cc)
+told_invariant m source _ p e = absurd (cc)
 
 pub told_runs_on : {P S : Type 0} (left : P → S → List Message → Type 0) (m : Machine) (source : ℕ) (r : Remaining) (old : LinesState) (s : S)
     → r ≡ remaining.End → state_of m source r ≡ old → RunsOn left old s false (state_of m source remaining.Nothing) s
-told_runs_on left m source remaining.Nothing old s e v = absurd (cc)
 told_runs_on left m source remaining.End old s e v =
     rw (← v) (record { came = λ plan more h. h; line = refl; text = λ h. absurd (cc); edge = refl })
-told_runs_on left m source remaining.Line old s e v = absurd (cc)
-told_runs_on left m source remaining.Run old s e v = absurd (cc)
+told_runs_on left m source _ old s e v = absurd (cc)
 
 -- after the next line, or at the end
 advance_done : {P S : Type 0} (left : P → S → List Message → Type 0) (old new : Machine) (source : ℕ) (s t : S) (result : Bool)
@@ -428,24 +414,19 @@ advance_done left old new source s t result p a =
     record {
       idle = idle_unless result new a.idle;
       counted = subst IsCounted same (record { source = p.counted.source; taken = p.counted.taken; skipped = p.counted.skipped });
-      texts = subst (λ (x : Edge). HoldsTexts x.memory) same p.texts;
-      given = subst (λ (x : Edge). AreGiven (given_of x)) same (taken_is (edge_of old source remaining.Run) p.given);
+      texts = subst (λ (x : RoffEdge). HoldsTexts x.memory) same p.texts;
+      given = subst (λ (x : RoffEdge). AreGiven (given_of x)) same (taken_is (edge_of old source remaining.Run) p.given);
     }
 
 -- it runs on where the machine has something to run
 pub advance_at : {P S : Type 0} (left : P → S → List Message → Type 0) (old new : Machine) (source : ℕ) (r : Remaining) (s t : S) (result : Bool)
     → IsAtEdge old source r → r ≡ remaining.Run → Advances left old s result new t → IsAtEdge new source (run_if result)
-advance_at left old new source remaining.Nothing s t result p e a = absurd (cc)
-advance_at left old new source remaining.Line s t result p e a = absurd (cc)
-advance_at left old new source remaining.End s t result p e a = absurd (cc)
 advance_at left old new source remaining.Run s t result p e a = advance_done left old new source s t result p a
+advance_at left old new source _ s t result p e a = absurd (cc)
 
 pub runs_on : {P S : Type 0} (left : P → S → List Message → Type 0) (old new : Machine) (source : ℕ) (r : Remaining) (x : LinesState) (s t : S) (result : Bool)
     → IsAtEdge old source r → r ≡ remaining.Run → state_of old source r ≡ x → Advances left old s result new t
     → RunsOn left x s result (state_of new source (run_if result)) t
-runs_on left old new source remaining.Nothing x s t result p e v a = absurd (cc)
-runs_on left old new source remaining.Line x s t result p e v a = absurd (cc)
-runs_on left old new source remaining.End x s t result p e v a = absurd (cc)
 runs_on left old new source remaining.Run x s t result p e v a =
     rw (← v) (record {
       came = a.came;
@@ -453,15 +434,14 @@ runs_on left old new source remaining.Run x s t result p e v a =
       text = taken_line result new.actions.line (to_come old) p.given a.line;
       edge = advanced left old new source s t result a;
     })
+runs_on left old new source _ x s t result p e v a = absurd (cc)
 
 -- where all was given, the machine is at the page's edge
 pub counts_at : (m : Machine) (source : ℕ) (left : Remaining) → IsAtEdge m source left → (edge_of m source left).to_come ≡ None
     → counts source m.budget.taken m.actions.memory.expansions ≡ counts_of (edge_of m source left)
 counts_at m source remaining.Nothing p none =
     ap (λ (a : At (Budgeted State)). counts source a.state.taken a.state.rest.memory.expansions) (sym (idle_stands m p.idle))
-counts_at m source remaining.Line p none = absurd (cc)
-counts_at m source remaining.End p none = absurd (cc)
-counts_at m source remaining.Run p none = absurd (cc)
+counts_at m source _ p none = absurd (cc)
 
 pub fits_at : (m : Machine) (source : ℕ) (left : Remaining) → IsAtEdge m source left → (edge_of m source left).to_come ≡ None
     → PlaceFits (place_of m) → MemoryFits m.actions.memory → RoffFits (edge_of m source left)
@@ -471,17 +451,13 @@ fits_at m source remaining.Nothing p none f g =
       memory = subst (λ (a : At (Budgeted State)). MemoryFits a.state.rest.memory) e g;
       place = subst (λ (a : At (Budgeted State)). PlaceFits a.place) e f;
     }
-fits_at m source remaining.Line p none f g = absurd (cc)
-fits_at m source remaining.End p none f g = absurd (cc)
-fits_at m source remaining.Run p none f g = absurd (cc)
+fits_at m source _ p none f g = absurd (cc)
 
 pub end_notes_at : (m : Machine) (source : ℕ) (left : Remaining) → IsAtEdge m source left → (edge_of m source left).to_come ≡ None
     → end_notes (edge_of m source left) ≡ machine.end_notes m
 end_notes_at m source remaining.Nothing p none =
     ap (λ (a : At (Budgeted State)). (finish_outcome a.place.region a.place.levels.in_loop false a.state.rest.memory).notes) (idle_stands m p.idle)
-end_notes_at m source remaining.Line p none = absurd (cc)
-end_notes_at m source remaining.End p none = absurd (cc)
-end_notes_at m source remaining.Run p none = absurd (cc)
+end_notes_at m source _ p none = absurd (cc)
 
 ended_counted : (old new : Machine) (source : ℕ) → machine.is_idle old ≡ true → machine.is_idle new ≡ true → new.stack ≡ old.stack → new.budget ≡ old.budget
     → IsCounted (edge_of old source remaining.Nothing) → IsCounted (edge_of new source remaining.Nothing)
@@ -508,6 +484,4 @@ end_invariant old new source remaining.Nothing p none s b m =
       texts = subst (λ (a : At (Budgeted State)). HoldsTexts a.state.rest.memory) (sym (idle_stands new i)) (subst HoldsTexts (sym m) left);
       given = tt;
     }
-end_invariant old new source remaining.Line p none s b m = absurd (cc)
-end_invariant old new source remaining.End p none s b m = absurd (cc)
-end_invariant old new source remaining.Run p none s b m = absurd (cc)
+end_invariant old new source _ p none s b m = absurd (cc)

@@ -13,7 +13,7 @@ use Rattle.page_roff_blocks.specs.machine.Languages.{page, meaning_at, run_page}
 use Rattle.page_core_base.specs.declared.limits.TheConstants.{CALLS}
 use Rattle.page_roff_blocks.specs.machine.Budgets.{language}
 use Rattle.page_roff_effects.specs.machine.Effects.{effects}
-use Rattle.page_roff_source.specs.Runs.{Edge, SourceLine}
+use Rattle.page_roff_source.specs.Runs.{RoffEdge, SourceLine}
 use Rattle.page_roff_source.specs.machine.Taking.{before_line, run_line, line_done}
 
 IsRoomy : {S : Type 0} → Levels → List ℕ → At S → Type 0
@@ -37,6 +37,6 @@ module _ {S : Type 0} (m : Meaning (List ℕ) S) where
       subst (λ (b : At S). IsRoomy a.place.levels line b) (sym (run_is_steps m (λ t. t) (line ∷ []) a))
       (from_room a.place.region line a.place.levels a.state)
 
-pub done_room : (e : Edge) (line : SourceLine) → (line_done e line).place.levels.skipped ≤ e.place.levels.skipped + (2 * length line.text + 2)
+pub done_room : (e : RoffEdge) (line : SourceLine) → (line_done e line).place.levels.skipped ≤ e.place.levels.skipped + (2 * length line.text + 2)
 unfolding run_line before_line run_page IsRoomy
 done_room e line = line_room (meaning_at (language (effects (units_of e.output))) CALLS page) line.text (before_line e line)

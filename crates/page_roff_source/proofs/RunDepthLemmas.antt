@@ -13,7 +13,7 @@ use Rattle.page_roff_blocks.specs.machine.Budgets as budgets
 use Rattle.page_roff_blocks.specs.machine.Budgets.{Effects, language, with_rest, charge, charge_by, done_with, closed_with, turn_by, unopened_by, collect_some}
 use Rattle.page_roff_values.specs.Values.{arguments_in, lines_in}
 use Rattle.page_roff_effects.specs.machine.Effects as effs
-use Rattle.page_roff_effects.specs.States.{end_of_block_outcome, Memory, Outcome, Product, no_product, line_product, call_product, loop_product}
+use Rattle.page_roff_effects.specs.States.{end_of_block_outcome, Memory, PartOutcome, Product, no_product, line_product, call_product, loop_product}
 use Rattle.page_roff_effects.specs.machine.Effects.{effects, done_after, setting_of, tested_after}
 use Rattle.page_roff_effects.specs.Regions.{close_outcome, repeats_text, condition_in, body_in, finish_outcome, line_outcome, end_outcome}
 use Rattle.page_roff_effects.specs.States as states
@@ -91,7 +91,7 @@ module _ (units : List ℕ → ℕ) where
 
   -- where so many more sources may run, a part does what it did
   abbrev DoesSo : ℕ → Kind → Type 0
-  DoesSo depth kind = (o : Outcome) (b : Old)
+  DoesSo depth kind = (o : PartOutcome) (b : Old)
       → runs_at units depth (arguments_of kind) o.product (after o (new b)) ≡ new (langs.done_at lang depth kind (done_with e b (done_after b.rest o)))
 
   unopened_body : (args : Option (List (List ℕ))) (g : Bool) (b : Old)

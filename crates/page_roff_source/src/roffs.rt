@@ -7,7 +7,7 @@ ghost use Rattle.page_core_base.specs.laws.Views.{line_view};
 ghost use Rattle.page_core_base.specs.Texts.{IsLine};
 ghost use Rattle.page_roff_machine.specs.Giving.{notes_before, next_line};
 ghost use Rattle.page_roff_source.specs.laws.Views.{RoffFits, RunsWithin, line_begun, given_of, line_taken, part_of, first_state, state_at, is_idle_at, counts_from, Reports};
-ghost use Rattle.page_roff_source.specs.Runs.{Edge, end_notes, counts_of};
+ghost use Rattle.page_roff_source.specs.Runs.{RoffEdge, end_notes, counts_of};
 ghost use Rattle.page_roff_machine.specs.machine.Machines.{taken_if};
 
 use crate::counts::Counts;
@@ -102,7 +102,7 @@ impl Roff {
     /// Its fault is [`Fault::Failed`] after a failure of the sink and after the end; else [`Fault::Memory`].
     pub fn part(&self, alloc: Global) -> Result<RoffPart, Fault>
         requires { IfSome self.now.edge (λ e. e.to_come ≡ None) }
-        ensures open { (e : Edge) → self.now.edge ≡ Some e
+        ensures open { (e : RoffEdge) → self.now.edge ≡ Some e
             → MatchResult result (λ part. part ≡ part_of e) (λ fault. fault ≡ Fault.Memory) }
         ensures closed { self.now.edge ≡ None → result ≡ Err Fault.Failed }
     {
@@ -159,9 +159,9 @@ impl Roff {
     ///
     /// Its fault is [`Fault::WriteNotes`]; after it, and after the end, it is [`Fault::Failed`].
     pub fn take<N: NoteSink>(&mut self, notes: &mut N) -> Result<Option<Taken<'_>>, Fault>
-        ensures reports { (e : Edge) → self.old.edge ≡ Some e
+        ensures reports { (e : RoffEdge) → self.old.edge ≡ Some e
             → Reports N.gave N.within N.failed result notes.old (notes_before (given_of e)) notes.new }
-        ensures line { (e : Edge) → self.old.edge ≡ Some e
+        ensures line { (e : RoffEdge) → self.old.edge ≡ Some e
             → IfOk result (λ taken. option_map line_view taken ≡ next_line (given_of e)) }
         ensures text { IfOk result (λ taken. IfSome taken (λ t. IsLine t.text.now)) }
         ensures closed { self.old.edge ≡ None → (result ≡ Err Fault.Failed) × (notes.new ≡ notes.old) }
@@ -195,7 +195,7 @@ impl Roff {
     /// Its fault is [`Fault::WriteNotes`]; after it, and after an earlier end, it is [`Fault::Failed`].
     pub fn end<N: NoteSink>(&mut self, notes: &mut N) -> Result<(), Fault>
         requires { IfSome self.old.edge (λ e. e.to_come ≡ None) }
-        ensures reports { (e : Edge) → self.old.edge ≡ Some e
+        ensures reports { (e : RoffEdge) → self.old.edge ≡ Some e
             → Reports N.gave N.within N.failed result notes.old (end_notes e) notes.new }
         ensures closed { self.old.edge ≡ None → (result ≡ Err Fault.Failed) × (notes.new ≡ notes.old) }
         ensures ended { (self.new.edge ≡ None) × (self.new.counts ≡ self.old.counts) }

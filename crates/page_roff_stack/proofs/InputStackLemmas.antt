@@ -31,12 +31,8 @@ turn_kind_of (Some t) f = refl
 
 pub went_kind : (movement : Movement) (f : Frame) → (went movement f).kind ≡ f.kind
 unfolding at_part
-went_kind (moves.Part pass) f = refl
-went_kind (moves.Region is_run) f = refl
-went_kind moves.Line f = refl
-went_kind moves.RegionLine f = refl
-went_kind moves.RegionEnd f = refl
 went_kind moves.Turn f = turn_kind_of f.turning f
+went_kind _ f = refl
 
 -- the innermost source changes, but not what it is
 pub top_held : (a : Inside) (top : InputFrame) (text : List ℕ) → text ≡ a.text.items → IsHeld top text → (frame_of top text).kind ≡ (frame_of a.top text).kind → IsStack a

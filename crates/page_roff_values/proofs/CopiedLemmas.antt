@@ -10,7 +10,7 @@ use Rattle.page_roff_parts.specs.Parts.{parts, parts_up_to}
 use Rattle.page_roff_parts.specs.machine.Fronts.{IsFront, copied_front}
 use Rattle.page_roff_parts.specs.machine.Verbatim.{IsVerbatim}
 use Rattle.page_roff_parts.proofs.FrontLemmas.{front_whole, map_is}
-use Rattle.page_roff_values.specs.Values.{Surroundings, NEST, Laid, Spot, adds, call_at, expanded, finished_len, lay, nothing, put, seq, start, value}
+use Rattle.page_roff_values.specs.Values.{Surroundings, NEST, LaidText, TextSoFar, adds, call_at, expanded, finished_len, lay, nothing, put, seq, start, value}
 use Rattle.page_roff_values.specs.machine.Rest.{rest}
 use Rattle.page_roff_values.specs.machine.Verbatim.{GivesItself}
 use Rattle.page_roff_values.proofs.LayLemmas.{seq_nothing}
@@ -20,7 +20,7 @@ abbrev Front : Type 0
 Front = List ℕ × List (Part (List ℕ))
 
 -- the first parts, which are copied, and then the others
-lay_copied : (call : Call (List ℕ) → Spot → Laid) (n : ℕ) (ps qs : List (Part (List ℕ))) (x : List ℕ) (s : Spot) → copied_front n ps ≡ Some (x, qs) → s.ended ≡ false
+lay_copied : (call : Call (List ℕ) → TextSoFar → LaidText) (n : ℕ) (ps qs : List (Part (List ℕ))) (x : List ℕ) (s : TextSoFar) → copied_front n ps ≡ Some (x, qs) → s.ended ≡ false
     → length x ≤ LINE - finished_len s → lay call ps s ≡ lay call qs (adds x s)
 unfolding lay
 lay_copied call zero ps qs x s e g h =
@@ -39,13 +39,13 @@ lay_copied call (suc n) (Copied run ∷ ps) qs x s e g h =
     (ap (λ t. lay call m.0.1 (record s { text = t })) (append_assoc s.text run m.0.0 ∙ ap (λ t. s.text ++ t) bytes) ∙ ap (λ rs. lay call rs (adds x s)) rest)
 
 -- this many bytes are copied, and then what follows them is laid
-pub front_laid : (copy : Bool) (n : ℕ) (text : List ℕ) (call : Call (List ℕ) → Spot → Laid) (s : Spot) → IsFront copy n text → s.ended ≡ false → n ≤ LINE - finished_len s
+pub front_laid : (copy : Bool) (n : ℕ) (text : List ℕ) (call : Call (List ℕ) → TextSoFar → LaidText) (s : TextSoFar) → IsFront copy n text → s.ended ≡ false → n ≤ LINE - finished_len s
     → lay call (parts copy text) s ≡ lay call (parts copy (drop n text)) (adds (take n text) s)
 front_laid copy n text call s f e h =
     lay_copied call n (parts copy text) (parts copy (drop n text)) (take n text) s f e (omega (arith, length-take n text))
 
 -- it is put before the rest is laid
-pub front_reads : (env : Surroundings) (room n : ℕ) (text : List ℕ) (ts : List (List ℕ)) (s : Spot) → s.ended ≡ false → n ≤ LINE - finished_len s
+pub front_reads : (env : Surroundings) (room n : ℕ) (text : List ℕ) (ts : List (List ℕ)) (s : TextSoFar) → s.ended ≡ false → n ≤ LINE - finished_len s
     → IsFront env.copy n text → rest env room (text ∷ ts) s ≡ seq (put (take n text) s) (rest env room (drop n text ∷ ts))
 unfolding rest value
 front_reads env room n text ts s e h f =

@@ -12,7 +12,7 @@ use Rattle.page_roff_parts.specs.declared.parts.Call.{Call}
 use Rattle.page_roff_parts.specs.declared.parts.Call.TheVariants.{String, Register, Argument, Width}
 use Rattle.page_roff_parts.specs.declared.parts.Part.{Part}
 use Rattle.page_roff_parts.specs.declared.parts.Part.TheVariants.{Copied, Called}
-use Rattle.page_roff_values.specs.Values.{argument_of, Surroundings, register_of, Spot, Laid, nothing, unless, seq, says, ends, adds, counts, kept, put, lay, charge, value_or, inside, leaves, width, interpolated, call_at, value, start, expanded, NEST, finished_len}
+use Rattle.page_roff_values.specs.Values.{argument_of, Surroundings, register_of, TextSoFar, LaidText, nothing, unless, seq, says, ends, adds, counts, kept, put, lay, charge, value_or, inside, leaves, width, interpolated, call_at, value, start, expanded, NEST, finished_len}
 use Rattle.page_roff_parts.specs.Parts.{plain, after_plain, copies, seen, parts, without_lone}
 use Rattle.page_roff_values.proofs.LineLemmas.{put_all}
 use Rattle.page_roff_parts.proofs.ReadLemmas.{parts_more}
@@ -30,57 +30,57 @@ begins_more xs ys = (ys, refl)
 begins_then : (xs ys us : List ℕ) → Begins xs ys → Begins ys us → Begins xs us
 begins_then xs ys us (zs, e) (ws, f) = (zs ++ ws, f ∙ ap (λ (l : List ℕ). l ++ ws) e ∙ append_assoc xs zs ws)
 
-unless_grows : (t : List ℕ) (b : Bool) (x y : Laid) → Begins t x.edge.text → Begins t y.edge.text → Begins t (unless b x y).edge.text
+unless_grows : (t : List ℕ) (b : Bool) (x y : LaidText) → Begins t x.edge.text → Begins t y.edge.text → Begins t (unless b x y).edge.text
 unless_grows t true x y h k = h
 unless_grows t false x y h k = k
 
-pub seq_grows : (t : List ℕ) (x : Laid) (f : Spot → Laid) → Begins t x.edge.text → ((s : Spot) → Begins s.text (f s).edge.text) → Begins t (seq x f).edge.text
+pub seq_grows : (t : List ℕ) (x : LaidText) (f : TextSoFar → LaidText) → Begins t x.edge.text → ((s : TextSoFar) → Begins s.text (f s).edge.text) → Begins t (seq x f).edge.text
 unfolding seq
 seq_grows t x f h k =
     unless_grows t x.edge.ended x (f x.edge) h (begins_then t x.edge.text (f x.edge).edge.text h (k x.edge))
 
-if_grows : (t : List ℕ) (b : Bool) (x y : Laid) → Begins t x.edge.text → Begins t y.edge.text → Begins t (if b then x else y).edge.text
+if_grows : (t : List ℕ) (b : Bool) (x y : LaidText) → Begins t x.edge.text → Begins t y.edge.text → Begins t (if b then x else y).edge.text
 if_grows t true x y h k = h
 if_grows t false x y h k = k
 
-put_grows : (run : List ℕ) (s : Spot) → Begins s.text (put run s).edge.text
+put_grows : (run : List ℕ) (s : TextSoFar) → Begins s.text (put run s).edge.text
 unfolding put
 put_grows run s =
     let end = kept run (LINE - finished_len s) in
     if_grows s.text (nat_lt end (length run)) (ends Limit (codes "LINE") (adds (take end run) s)) (nothing (adds (take end run) s))
     (begins_more s.text (take end run)) (begins_more s.text (take end run))
 
-lay_grows : (call : Call (List ℕ) → Spot → Laid) → ((c : Call (List ℕ)) (s : Spot) → Begins s.text (call c s).edge.text)
-    → (ps : List (Part (List ℕ))) (s : Spot) → Begins s.text (lay call ps s).edge.text
+lay_grows : (call : Call (List ℕ) → TextSoFar → LaidText) → ((c : Call (List ℕ)) (s : TextSoFar) → Begins s.text (call c s).edge.text)
+    → (ps : List (Part (List ℕ))) (s : TextSoFar) → Begins s.text (lay call ps s).edge.text
 unfolding lay
 lay_grows call k [] s = begins_same s.text
 lay_grows call k (Copied run ∷ ps) s = seq_grows s.text (put run s) (lay call ps) (put_grows run s) (lay_grows call k ps)
 lay_grows call k (Called c ∷ ps) s = seq_grows s.text (call c s) (lay call ps) (k c s) (lay_grows call k ps)
 
-charge_grows : (f : Spot → Laid) (s : Spot) → ((t : Spot) → Begins t.text (f t).edge.text) → Begins s.text (charge f s).edge.text
+charge_grows : (f : TextSoFar → LaidText) (s : TextSoFar) → ((t : TextSoFar) → Begins t.text (f t).edge.text) → Begins s.text (charge f s).edge.text
 unfolding charge
 charge_grows f s k = if_grows s.text (nat_lt s.count EXPAND) (f (counts s)) (ends Loop (name_of limits.Expand) s) (k (counts s)) (begins_same s.text)
 
-or_grows : (kind : NoteKind) (detail : List ℕ) (o : Option (List ℕ)) (f : List ℕ → Spot → Laid) (s : Spot)
-    → ((text : List ℕ) (t : Spot) → Begins t.text (f text t).edge.text) → Begins s.text (value_or kind detail o f s).edge.text
+or_grows : (kind : NoteKind) (detail : List ℕ) (o : Option (List ℕ)) (f : List ℕ → TextSoFar → LaidText) (s : TextSoFar)
+    → ((text : List ℕ) (t : TextSoFar) → Begins t.text (f text t).edge.text) → Begins s.text (value_or kind detail o f s).edge.text
 or_grows kind detail (Some text) f s k = k (without_lone text) s
 or_grows kind detail None f s k = begins_same s.text
 
-width_grows : (units : List ℕ → ℕ) (f : Spot → Laid) (s : Spot) → Begins s.text (width units f s).edge.text
+width_grows : (units : List ℕ → ℕ) (f : TextSoFar → LaidText) (s : TextSoFar) → Begins s.text (width units f s).edge.text
 unfolding width
 width_grows units f s =
     let a = f (inside s) in
     seq_grows s.text (leaves s a) (put (decimal (units a.edge.text))) (begins_same s.text) (put_grows (decimal (units a.edge.text)))
 
-interpolated_grows : (env : Surroundings) (f : List ℕ → Spot → Laid) (call : Call (List ℕ)) (s : Spot)
-    → ((text : List ℕ) (t : Spot) → Begins t.text (f text t).edge.text) → Begins s.text (interpolated env f call s).edge.text
+interpolated_grows : (env : Surroundings) (f : List ℕ → TextSoFar → LaidText) (call : Call (List ℕ)) (s : TextSoFar)
+    → ((text : List ℕ) (t : TextSoFar) → Begins t.text (f text t).edge.text) → Begins s.text (interpolated env f call s).edge.text
 unfolding interpolated
 interpolated_grows env f (String name) s k = or_grows UndefString name (string_of name env.definitions) f s k
 interpolated_grows env f (Register name) s k = put_grows (signed_decimal (register_of name env)) s
 interpolated_grows env f (Argument escape) s k = or_grows ArgOutside escape (argument_of escape env.arguments) f s k
 interpolated_grows env f (Width text) s k = width_grows env.units (f text) s
 
-call_grows : (env : Surroundings) (depth : ℕ) (call : Call (List ℕ)) (s : Spot) → Begins s.text (call_at env depth call s).edge.text
+call_grows : (env : Surroundings) (depth : ℕ) (call : Call (List ℕ)) (s : TextSoFar) → Begins s.text (call_at env depth call s).edge.text
 unfolding call_at
 call_grows env zero call s = charge_grows (says Loop (name_of limits.Nest)) s (λ t. begins_same t.text)
 call_grows env (suc depth) call s =

@@ -13,21 +13,21 @@ use Rattle.page_roff_parts.specs.declared.parts.Call.{Call}
 use Rattle.page_roff_parts.specs.declared.parts.Call.TheVariants.{String, Register, Argument, Width}
 use Rattle.page_roff_parts.specs.declared.parts.Part.{Part}
 use Rattle.page_roff_parts.specs.declared.parts.Part.TheVariants.{Copied, Called}
-use Rattle.page_roff_values.specs.Values.{argument_of, Surroundings, register_of, Spot, Laid, nothing, unless, seq, says, ends, adds, counts, kept, character_end, put, lay, charge, value_or, inside, leaves, width, interpolated, call_at, value, start, expanded, finished_len}
+use Rattle.page_roff_values.specs.Values.{argument_of, Surroundings, register_of, TextSoFar, LaidText, nothing, unless, seq, says, ends, adds, counts, kept, character_end, put, lay, charge, value_or, inside, leaves, width, interpolated, call_at, value, start, expanded, finished_len}
 use Rattle.page_roff_parts.specs.Parts.{copies, seen, parts, parts_up_to, without_lone}
 use Rattle.page_roff_values.specs.laws.Views.{IsWithin}
 use Rattle.page_roff_values.proofs.LayLemmas.{seq_end}
 use Rattle.page_roff_parts.proofs.ReadLemmas.{parts_more, plain_part}
 
-unless_within : (b : Bool) (x y : Laid) → IsWithin x.edge → IsWithin y.edge → IsWithin (unless b x y).edge
+unless_within : (b : Bool) (x y : LaidText) → IsWithin x.edge → IsWithin y.edge → IsWithin (unless b x y).edge
 unless_within true x y h k = h
 unless_within false x y h k = k
 
-seq_within : (x : Laid) (f : Spot → Laid) → IsWithin x.edge → ((s : Spot) → IsWithin s → IsWithin (f s).edge) → IsWithin (seq x f).edge
+seq_within : (x : LaidText) (f : TextSoFar → LaidText) → IsWithin x.edge → ((s : TextSoFar) → IsWithin s → IsWithin (f s).edge) → IsWithin (seq x f).edge
 unfolding seq
 seq_within x f h k = unless_within x.edge.ended x (f x.edge) h (k x.edge h)
 
-if_within : (b : Bool) (x y : Laid) → (b ≡ true → IsWithin x.edge) → (b ≡ false → IsWithin y.edge) → IsWithin (if b then x else y).edge
+if_within : (b : Bool) (x y : LaidText) → (b ≡ true → IsWithin x.edge) → (b ≡ false → IsWithin y.edge) → IsWithin (if b then x else y).edge
 if_within true x y h k = h refl
 if_within false x y h k = k refl
 
@@ -51,7 +51,7 @@ take_le zero xs = omega arith
 take_le (suc n) [] = omega arith
 take_le (suc n) (x ∷ xs) = let h = take_le n xs in omega arith
 
-put_within : (run : List ℕ) (s : Spot) → IsWithin s → IsWithin (put run s).edge
+put_within : (run : List ℕ) (s : TextSoFar) → IsWithin s → IsWithin (put run s).edge
 unfolding put
 put_within run s h =
     let end = kept run (LINE - finished_len s) in
@@ -61,40 +61,40 @@ put_within run s h =
     if_within (nat_lt end (length run)) (ends Limit (codes "LINE") (adds (take end run) s)) (nothing (adds (take end run) s))
     (λ e. record { text = k; count = h.count }) (λ e. record { text = k; count = h.count })
 
-lay_within : (call : Call (List ℕ) → Spot → Laid) → ((c : Call (List ℕ)) (s : Spot) → IsWithin s → IsWithin (call c s).edge)
-    → (ps : List (Part (List ℕ))) (s : Spot) → IsWithin s → IsWithin (lay call ps s).edge
+lay_within : (call : Call (List ℕ) → TextSoFar → LaidText) → ((c : Call (List ℕ)) (s : TextSoFar) → IsWithin s → IsWithin (call c s).edge)
+    → (ps : List (Part (List ℕ))) (s : TextSoFar) → IsWithin s → IsWithin (lay call ps s).edge
 unfolding lay
 lay_within call k [] s h = h
 lay_within call k (Copied run ∷ ps) s h = seq_within (put run s) (lay call ps) (put_within run s h) (lay_within call k ps)
 lay_within call k (Called c ∷ ps) s h = seq_within (call c s) (lay call ps) (k c s h) (lay_within call k ps)
 
-charge_within : (f : Spot → Laid) (s : Spot) → ((t : Spot) → IsWithin t → IsWithin (f t).edge) → IsWithin s → IsWithin (charge f s).edge
+charge_within : (f : TextSoFar → LaidText) (s : TextSoFar) → ((t : TextSoFar) → IsWithin t → IsWithin (f t).edge) → IsWithin s → IsWithin (charge f s).edge
 unfolding charge
 charge_within f s k h =
     if_within (nat_lt s.count EXPAND) (f (counts s)) (ends Loop (codes "EXPAND") s)
     (λ e. let l = ltb-true s.count EXPAND e in k (counts s) (record { text = h.text; count = omega arith })) (λ e. record { text = h.text; count = h.count })
 
-or_within : (kind : NoteKind) (detail : List ℕ) (o : Option (List ℕ)) (f : List ℕ → Spot → Laid) (s : Spot)
-    → ((text : List ℕ) (t : Spot) → IsWithin t → IsWithin (f text t).edge) → IsWithin s → IsWithin (value_or kind detail o f s).edge
+or_within : (kind : NoteKind) (detail : List ℕ) (o : Option (List ℕ)) (f : List ℕ → TextSoFar → LaidText) (s : TextSoFar)
+    → ((text : List ℕ) (t : TextSoFar) → IsWithin t → IsWithin (f text t).edge) → IsWithin s → IsWithin (value_or kind detail o f s).edge
 or_within kind detail (Some text) f s k h = k (without_lone text) s h
 or_within kind detail None f s k h = h
 
-width_within : (units : List ℕ → ℕ) (f : Spot → Laid) (s : Spot) → ((t : Spot) → IsWithin t → IsWithin (f t).edge) → IsWithin s → IsWithin (width units f s).edge
+width_within : (units : List ℕ → ℕ) (f : TextSoFar → LaidText) (s : TextSoFar) → ((t : TextSoFar) → IsWithin t → IsWithin (f t).edge) → IsWithin s → IsWithin (width units f s).edge
 unfolding width
 width_within units f s k h =
     let a = f (inside s) in
     let i = k (inside s) (record { text = omega arith; count = h.count }) in
     seq_within (leaves s a) (put (decimal (units a.edge.text))) (record { text = h.text; count = i.count }) (put_within (decimal (units a.edge.text)))
 
-interpolated_within : (env : Surroundings) (f : List ℕ → Spot → Laid) (call : Call (List ℕ)) (s : Spot)
-    → ((text : List ℕ) (t : Spot) → IsWithin t → IsWithin (f text t).edge) → IsWithin s → IsWithin (interpolated env f call s).edge
+interpolated_within : (env : Surroundings) (f : List ℕ → TextSoFar → LaidText) (call : Call (List ℕ)) (s : TextSoFar)
+    → ((text : List ℕ) (t : TextSoFar) → IsWithin t → IsWithin (f text t).edge) → IsWithin s → IsWithin (interpolated env f call s).edge
 unfolding interpolated
 interpolated_within env f (String name) s k h = or_within UndefString name (string_of name env.definitions) f s k h
 interpolated_within env f (Register name) s k h = put_within (signed_decimal (register_of name env)) s h
 interpolated_within env f (Argument escape) s k h = or_within ArgOutside escape (argument_of escape env.arguments) f s k h
 interpolated_within env f (Width text) s k h = width_within env.units (f text) s (k text) h
 
-call_within : (env : Surroundings) (depth : ℕ) (call : Call (List ℕ)) (s : Spot) → IsWithin s → IsWithin (call_at env depth call s).edge
+call_within : (env : Surroundings) (depth : ℕ) (call : Call (List ℕ)) (s : TextSoFar) → IsWithin s → IsWithin (call_at env depth call s).edge
 unfolding call_at
 call_within env zero call s h = charge_within (says Loop (codes "NEST")) s (λ t k. k) h
 call_within env (suc depth) call s h =
@@ -102,7 +102,7 @@ call_within env (suc depth) call s h =
     (λ t. interpolated_within env (λ text. lay (call_at env depth) (parts env.copy text)) call t
     (λ text. lay_within (call_at env depth) (call_within env depth) (parts env.copy text))) h
 
-pub value_within : (env : Surroundings) (depth : ℕ) (text : List ℕ) (s : Spot) → IsWithin s → IsWithin (value env depth text s).edge
+pub value_within : (env : Surroundings) (depth : ℕ) (text : List ℕ) (s : TextSoFar) → IsWithin s → IsWithin (value env depth text s).edge
 unfolding value
 value_within env depth text s h = lay_within (call_at env depth) (call_within env depth) (parts env.copy text) s h
 
@@ -112,7 +112,7 @@ less_if : (n : ℕ) (b : Bool) → nat_lt n n ≡ b → b ≡ false
 less_if n true e = let l : n < n = ltb-true n n e in absurd (omega arith)
 less_if n false e = refl
 
-pub put_all : (run : List ℕ) (s : Spot) → length run ≤ LINE - finished_len s → put run s ≡ nothing (adds run s)
+pub put_all : (run : List ℕ) (s : TextSoFar) → length run ≤ LINE - finished_len s → put run s ≡ nothing (adds run s)
 unfolding put
 put_all run s h = rw (le-leb (length run) (LINE - finished_len s) h, less_if (length run) (nat_lt (length run) (length run)) refl, take-length run) refl
 
@@ -132,7 +132,7 @@ pub plain_expanded : (env : Surroundings) (n : ℕ) (line : List ℕ) → ((k : 
 plain_expanded env n line f h = plain_line env n line None (λ k low high. f k high) refl h
 
 -- the value of a text without a backslash is that text
-pub plain_value : (env : Surroundings) (depth : ℕ) (text : List ℕ) (s : Spot) (r : Option ℕ) → IsFirstByte (is_byte 92) text r → is_none r ≡ true → 0 < length text
+pub plain_value : (env : Surroundings) (depth : ℕ) (text : List ℕ) (s : TextSoFar) (r : Option ℕ) → IsFirstByte (is_byte 92) text r → is_none r ≡ true → 0 < length text
     → value env depth text s ≡ put text s
 unfolding value lay parts parts_up_to seq
 plain_value env depth text s (Some k) f e h = let no : ⊥ = cc in absurd no

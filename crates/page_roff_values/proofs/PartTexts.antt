@@ -14,7 +14,7 @@ use Rattle.page_core_escapes.proofs.Boundaries.{character_begins, character_ends
 use Rattle.page_roff_syntax.specs.Delimiters.{character_len, place_of}
 use Rattle.page_roff_syntax.proofs.DelimiterLemmas.{place_found}
 use Rattle.page_roff_parts.specs.declared.parts.Call.{Call}
-use Rattle.page_roff_parts.specs.declared.parts.Call.TheVariants.{String, Register, Argument, Width}
+use Rattle.page_roff_parts.specs.declared.parts.Call.TheVariants.{String, Register, Width}
 use Rattle.page_roff_parts.specs.declared.parts.Part.{Part}
 use Rattle.page_roff_parts.specs.declared.parts.Part.TheVariants.{Copied, Called}
 use Rattle.page_roff_parts.specs.Parts.{CutText, SeenText, copies, calls, cut, two_characters, bracketed, name_cut, content_len, delimited, width_cut, plain, after_plain, argument_call, call_cut, pair, is_doubled, escape, seen, parts_up_to, parts, without_lone}
@@ -126,10 +126,8 @@ width_texts (b ∷ bs) h = texts_if (b == 92) None (delimited (character_len (b 
 -- ---- parts
 
 abbrev pub CallText : Call (List ℕ) → Type 0
-CallText (String name) = Unit {0}
-CallText (Register name) = Unit {0}
-CallText (Argument escape) = Unit {0}
 CallText (Width text) = IsText text
+CallText _ = Unit {0}
 
 abbrev pub PartText : Part (List ℕ) → Type 0
 PartText (Copied run) = IsText run

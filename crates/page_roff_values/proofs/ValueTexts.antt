@@ -14,7 +14,7 @@ use Rattle.page_roff_parts.specs.declared.parts.Call.{Call}
 use Rattle.page_roff_parts.specs.declared.parts.Call.TheVariants.{String, Register, Argument, Width}
 use Rattle.page_roff_parts.specs.declared.parts.Part.{Part}
 use Rattle.page_roff_parts.specs.declared.parts.Part.TheVariants.{Copied, Called}
-use Rattle.page_roff_values.specs.Values.{spaced, spaced_quoted, joined, quoted, argument_at, argument_named, argument_of, Surroundings, register_of, Spot, Laid, nothing, unless, seq, says, ends, adds, counts, kept, character_end, put, lay, charge, value_or, inside, leaves, width, interpolated, call_at, value, finished_len}
+use Rattle.page_roff_values.specs.Values.{spaced, spaced_quoted, joined, quoted, argument_at, argument_named, argument_of, Surroundings, register_of, TextSoFar, LaidText, nothing, unless, seq, says, ends, adds, counts, kept, character_end, put, lay, charge, value_or, inside, leaves, width, interpolated, call_at, value, finished_len}
 use Rattle.page_roff_parts.specs.Parts.{parts, without_lone}
 use Rattle.page_roff_values.specs.machine.Texts.{IsText, AreTexts, AreArgumentTexts, AreLines}
 use Rattle.page_roff_values.proofs.PlainTexts.{nil_text, ascii_text, text_append, text_at}
@@ -138,56 +138,56 @@ kept_text text room h =
 
 -- ---- a line
 
-unless_text : (b : Bool) (x y : Laid) → IsText x.edge.text → IsText y.edge.text → IsText (unless b x y).edge.text
+unless_text : (b : Bool) (x y : LaidText) → IsText x.edge.text → IsText y.edge.text → IsText (unless b x y).edge.text
 unless_text true x y h k = h
 unless_text false x y h k = k
 
-seq_text : (x : Laid) (f : Spot → Laid) → IsText x.edge.text → ((s : Spot) → IsText s.text → IsText (f s).edge.text) → IsText (seq x f).edge.text
+seq_text : (x : LaidText) (f : TextSoFar → LaidText) → IsText x.edge.text → ((s : TextSoFar) → IsText s.text → IsText (f s).edge.text) → IsText (seq x f).edge.text
 unfolding seq
 seq_text x f h k = unless_text x.edge.ended x (f x.edge) h (k x.edge h)
 
-if_text : (b : Bool) (x y : Laid) → IsText x.edge.text → IsText y.edge.text → IsText (if b then x else y).edge.text
+if_text : (b : Bool) (x y : LaidText) → IsText x.edge.text → IsText y.edge.text → IsText (if b then x else y).edge.text
 if_text true x y h k = h
 if_text false x y h k = k
 
-put_text : (run : List ℕ) (s : Spot) → IsText run → IsText s.text → IsText (put run s).edge.text
+put_text : (run : List ℕ) (s : TextSoFar) → IsText run → IsText s.text → IsText (put run s).edge.text
 unfolding put
 put_text run s h k =
     let end = kept run (LINE - finished_len s) in
     let t = text_append s.text (take end run) k (kept_text run (LINE - finished_len s) h) in
     if_text (nat_lt end (length run)) (ends Limit (codes "LINE") (adds (take end run) s)) (nothing (adds (take end run) s)) t t
 
-lay_text : (call : Call (List ℕ) → Spot → Laid) → ((c : Call (List ℕ)) (s : Spot) → CallText c → IsText s.text → IsText (call c s).edge.text)
-    → (ps : List (Part (List ℕ))) (s : Spot) → ArePartTexts ps → IsText s.text → IsText (lay call ps s).edge.text
+lay_text : (call : Call (List ℕ) → TextSoFar → LaidText) → ((c : Call (List ℕ)) (s : TextSoFar) → CallText c → IsText s.text → IsText (call c s).edge.text)
+    → (ps : List (Part (List ℕ))) (s : TextSoFar) → ArePartTexts ps → IsText s.text → IsText (lay call ps s).edge.text
 unfolding lay
 lay_text call k [] s p h = h
 lay_text call k (Copied run ∷ ps) s p h = seq_text (put run s) (lay call ps) (put_text run s p.0 h) (λ t. lay_text call k ps t p.1)
 lay_text call k (Called c ∷ ps) s p h = seq_text (call c s) (lay call ps) (k c s p.0 h) (λ t. lay_text call k ps t p.1)
 
-charge_text : (f : Spot → Laid) (s : Spot) → ((t : Spot) → IsText t.text → IsText (f t).edge.text) → IsText s.text → IsText (charge f s).edge.text
+charge_text : (f : TextSoFar → LaidText) (s : TextSoFar) → ((t : TextSoFar) → IsText t.text → IsText (f t).edge.text) → IsText s.text → IsText (charge f s).edge.text
 unfolding charge
 charge_text f s k h = if_text (nat_lt s.count EXPAND) (f (counts s)) (ends Loop (codes "EXPAND") s) (k (counts s) h) h
 
-or_text : (kind : NoteKind) (detail : List ℕ) (o : Option (List ℕ)) (f : List ℕ → Spot → Laid) (s : Spot) → SomeText o
-    → ((text : List ℕ) (t : Spot) → IsText text → IsText t.text → IsText (f text t).edge.text) → IsText s.text → IsText (value_or kind detail o f s).edge.text
+or_text : (kind : NoteKind) (detail : List ℕ) (o : Option (List ℕ)) (f : List ℕ → TextSoFar → LaidText) (s : TextSoFar) → SomeText o
+    → ((text : List ℕ) (t : TextSoFar) → IsText text → IsText t.text → IsText (f text t).edge.text) → IsText s.text → IsText (value_or kind detail o f s).edge.text
 or_text kind detail (Some text) f s o k h = k (without_lone text) s (lone_text text o) h
 or_text kind detail None f s o k h = h
 
-width_text : (units : List ℕ → ℕ) (f : Spot → Laid) (s : Spot) → IsText s.text → IsText (width units f s).edge.text
+width_text : (units : List ℕ → ℕ) (f : TextSoFar → LaidText) (s : TextSoFar) → IsText s.text → IsText (width units f s).edge.text
 unfolding width
 width_text units f s h =
     let a = f (inside s) in
     seq_text (leaves s a) (put (decimal (units a.edge.text))) h (λ t. put_text (decimal (units a.edge.text)) t (decimal_text (units a.edge.text)))
 
-interpolated_text : (env : Surroundings) → AreLines env → (f : List ℕ → Spot → Laid) (call : Call (List ℕ)) (s : Spot)
-    → ((text : List ℕ) (t : Spot) → IsText text → IsText t.text → IsText (f text t).edge.text) → IsText s.text → IsText (interpolated env f call s).edge.text
+interpolated_text : (env : Surroundings) → AreLines env → (f : List ℕ → TextSoFar → LaidText) (call : Call (List ℕ)) (s : TextSoFar)
+    → ((text : List ℕ) (t : TextSoFar) → IsText text → IsText t.text → IsText (f text t).edge.text) → IsText s.text → IsText (interpolated env f call s).edge.text
 unfolding interpolated
 interpolated_text env l f (String name) s k h = or_text UndefString name (string_of name env.definitions) f s (string_text name env l) k h
 interpolated_text env l f (Register name) s k h = put_text (signed_decimal (register_of name env)) s (signed_text (register_of name env)) h
 interpolated_text env l f (Argument escape) s k h = or_text ArgOutside escape (argument_of escape env.arguments) f s (argument_text escape env l) k h
 interpolated_text env l f (Width text) s k h = width_text env.units (f text) s h
 
-call_text : (env : Surroundings) → AreLines env → (depth : ℕ) (call : Call (List ℕ)) (s : Spot) → CallText call → IsText s.text → IsText (call_at env depth call s).edge.text
+call_text : (env : Surroundings) → AreLines env → (depth : ℕ) (call : Call (List ℕ)) (s : TextSoFar) → CallText call → IsText s.text → IsText (call_at env depth call s).edge.text
 unfolding call_at
 call_text env l zero call s c h = charge_text (says Loop (codes "NEST")) s (λ t k. k) h
 call_text env l (suc depth) call s c h =
@@ -196,6 +196,6 @@ call_text env l (suc depth) call s c h =
     (λ text u p. lay_text (call_at env depth) (call_text env l depth) (parts env.copy text) u (parts_texts env.copy text p))) h
 
 -- the finished text of a text is a text
-pub value_text : (env : Surroundings) → AreLines env → (depth : ℕ) (text : List ℕ) (s : Spot) → IsText text → IsText s.text → IsText (value env depth text s).edge.text
+pub value_text : (env : Surroundings) → AreLines env → (depth : ℕ) (text : List ℕ) (s : TextSoFar) → IsText text → IsText s.text → IsText (value env depth text s).edge.text
 unfolding value
 value_text env l depth text s p h = lay_text (call_at env depth) (call_text env l depth) (parts env.copy text) s (parts_texts env.copy text p) h

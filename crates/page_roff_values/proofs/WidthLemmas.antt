@@ -9,7 +9,7 @@ use Rattle.page_core_base.specs.Messages.{Message}
 use Rattle.page_core_base.specs.declared.page_settings.Output.{Output}
 use Rattle.page_core_numbers.specs.Columns.{columns_of}
 use Rattle.page_roff_values.specs.declared.expansions.Nested.TheInside.{Inside}
-use Rattle.page_roff_values.specs.Values.{Surroundings, Spot, Laid, nothing, join, seq, put, inside, outside, leaves, column_of, width, value}
+use Rattle.page_roff_values.specs.Values.{Surroundings, TextSoFar, LaidText, nothing, join, seq, put, inside, outside, leaves, column_of, width, value}
 use Rattle.page_roff_values.specs.machine.Expansions.{NestedSpot, nested_of}
 use Rattle.page_roff_values.specs.laws.Views.{Goes}
 use Rattle.page_roff_values.specs.machine.Rest.{rest}
@@ -36,8 +36,8 @@ pub goes_back : (env : Surroundings) (room : ℕ) (text : List ℕ) (s t : Neste
     → t.spot ≡ (seq (nothing (inside s.spot)) (rest env room (text ∷ []))).edge → t.before ≡ s.before ++ s.spot.text
     → going_outside (length s.before) s.spot.around.width_column t ≡ record { spot = outside s.spot t.spot; before = s.before }
 goes_back env room text s t going is kept =
-    let all : t.spot ≡ (value env room text (inside s.spot)).edge = is ∙ ap (λ (a : Laid). a.edge) (sym (begins env room text (inside s.spot) going)) in
-    outside_is s t (ap (λ (a : Spot). a.around) all ∙ (value_follows env room text (inside s.spot)).around) kept
+    let all : t.spot ≡ (value env room text (inside s.spot)).edge = is ∙ ap (λ (a : LaidText). a.edge) (sym (begins env room text (inside s.spot) going)) in
+    outside_is s t (ap (λ (a : TextSoFar). a.around) all ∙ (value_follows env room text (inside s.spot)).around) kept
 
 pub units_known : (output : Output) (text : List ℕ) → IsUtf8 text → 24 * columns_of output text ≡ units_of_bytes output text
 units_known output text h = rw (is_utf8-from_IsUtf8 text h) refl
@@ -50,13 +50,13 @@ pub units_none : (output : Output) (text : List ℕ) → ¬ (IsUtf8 text) → 0 
 units_none output text h = rw (no_true (is_utf8 text) (λ e. h (IsUtf8-from_is_utf8 text e))) refl
 
 -- the messages of the text came, and the line goes on with the width
-pub width_goes : {P S : Type 0} (left : P → S → List Message → Type 0) (o p : S) (measure : List ℕ → ℕ) (f : Spot → Laid) (s t u : Spot) (units : ℕ)
+pub width_goes : {P S : Type 0} (left : P → S → List Message → Type 0) (o p : S) (measure : List ℕ → ℕ) (f : TextSoFar → LaidText) (s t u : TextSoFar) (units : ℕ)
     → Goes left o (f (inside s)) p (nothing t) → u ≡ outside s t → units ≡ measure t.text
     → Goes left o (width measure f s) p (seq (nothing u) (put (decimal units)))
 unfolding width
 width_goes left o p measure f s t u units k e h =
     let a = f (inside s) in
-    let n : units ≡ measure a.edge.text = h ∙ ap (λ (x : Spot). measure x.text) k.1 in
+    let n : units ≡ measure a.edge.text = h ∙ ap (λ (x : TextSoFar). measure x.text) k.1 in
     goes_on left o p (seq (leaves s a) (put (decimal (measure a.edge.text)))) (leaves s a) u (put (decimal units))
     (seq_more (leaves s a) (put (decimal (measure a.edge.text))) ∙ ap (λ (m : ℕ). join (leaves s a) (seq (nothing (leaves s a).edge) (put (decimal m)))) (sym n))
     (k.0, e ∙ ap (outside s) k.1)

@@ -13,7 +13,7 @@ use Rattle.page_roff_heads.specs.declared.conditions.Condition.{Condition}
 use Rattle.page_roff_heads.specs.declared.conditions.Test.{Test}
 use Rattle.page_roff_heads.specs.declared.conditions.Test.TheVariants.{Always, Unknown, IsDefined, IsRegister, Expression, Texts, Missing}
 use Rattle.page_roff_heads.specs.declared.texts.Placed.{Placed}
-use Rattle.page_roff_values.specs.Values.{Spot, Surroundings, register_found, Laid, NEST, value, after_bytes, start}
+use Rattle.page_roff_values.specs.Values.{TextSoFar, Surroundings, register_found, LaidText, NEST, value, after_bytes, start}
 
 -- ---- The value of an expression, and its messages. Source: roff(7), "Numerical expressions".
 
@@ -31,9 +31,9 @@ messages_of place text = messages_at place.line place.column (expression_of Basi
 pub record Answer : Type 0 where
   pub holds : Bool
   pub notes : List Message
-  pub edge : Spot
+  pub edge : TextSoFar
 
-abbrev pub answers : Bool → List Message → Spot → Answer
+abbrev pub answers : Bool → List Message → TextSoFar → Answer
 answers holds notes edge = record { holds = holds; notes = notes; edge = edge }
 
 -- ! turns it
@@ -45,23 +45,23 @@ abbrev pub is_defined : List ℕ → Definitions → Bool
 is_defined name d = is_some (string_of name d) || is_some (body_of name d) || is_some (request_of name)
 
 -- a text is expanded after what is finished of its line, of which this many bytes are before the text
-abbrev pub expands : Surroundings → ℕ → List ℕ → Spot → Laid
+abbrev pub expands : Surroundings → ℕ → List ℕ → TextSoFar → LaidText
 expands env count text s = value env NEST text (after_bytes count s)
 
 -- What a text gives, unless it was cut: then the condition is false, and nothing turns that.
-abbrev pub unless_cut : Bool → Laid → Answer → Answer
+abbrev pub unless_cut : Bool → LaidText → Answer → Answer
 unless_cut true laid answer = answers false laid.notes laid.edge
 unless_cut false laid answer = answers answer.holds (laid.notes ++ answer.notes) answer.edge
 
-abbrev pub after : Laid → (Spot → Answer) → Answer
+abbrev pub after : LaidText → (TextSoFar → Answer) → Answer
 after laid f = unless_cut laid.edge.ended laid (f laid.edge)
 
 -- an expanded expression is true above 0
-abbrev pub number_answer : Bool → Place → Spot → Answer
+abbrev pub number_answer : Bool → Place → TextSoFar → Answer
 number_answer is_turned place s = answers (turned is_turned (is_positive (value_of s.text))) (messages_of place s.text) s
 
 -- the second text is after the first, of which this many bytes were finished
-abbrev pub texts_answer : Bool → ℕ → Spot → Answer
+abbrev pub texts_answer : Bool → ℕ → TextSoFar → Answer
 texts_answer is_turned len s = answers (turned is_turned (bytes_eq (take len s.text) (drop len s.text))) [] s
 
 -- this many bytes of a line are before a text
@@ -72,12 +72,12 @@ bytes_before text = text.column - 1
 abbrev pub bytes_between : Placed (List ℕ) → Placed (List ℕ) → ℕ
 bytes_between first second = second.column - 1 - length first.text
 
-abbrev pub second_answer : Surroundings → Bool → Placed (List ℕ) → Placed (List ℕ) → Spot → Answer
+abbrev pub second_answer : Surroundings → Bool → Placed (List ℕ) → Placed (List ℕ) → TextSoFar → Answer
 second_answer env is_turned first second s =
     after (expands env (bytes_between first second) second.text s) (texts_answer is_turned (length s.text))
 
 -- A test at a place, in a line so far. All its messages but those of interpolations are at the place.
-abbrev pub test_answer : Surroundings → Place → Bool → Test (List ℕ) → Spot → Answer
+abbrev pub test_answer : Surroundings → Place → Bool → Test (List ℕ) → TextSoFar → Answer
 test_answer env place is_turned (Always holds) s = answers (turned is_turned holds) [] s
 test_answer env place is_turned (Unknown letter) s =
     answers (turned is_turned false) (message_about BadCondition place letter ∷ []) s

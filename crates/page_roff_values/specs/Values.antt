@@ -108,39 +108,39 @@ NEST = 16
 
 -- Where a text is: its source line, how many bytes of the line are before it, and the column of the outermost `\w` that it
 -- is in, if it is in one.
-pub record Around : Type 0 where
+pub record TextPlace : Type 0 where
   pub line : ℕ
   pub bytes_before : ℕ
   pub width_column : Option ℕ
 
 -- a line so far: where it is, what is finished of it, how many interpolations it made, whether it has ended
-pub record Spot : Type 0 where
-  pub around : Around
+pub record TextSoFar : Type 0 where
+  pub around : TextPlace
   pub text : List ℕ
   pub count : ℕ
   pub ended : Bool
 
 -- the messages of a part of a line, and the line with it
-pub record Laid : Type 0 where
+pub record LaidText : Type 0 where
   pub notes : List Message
-  pub edge : Spot
+  pub edge : TextSoFar
 
-abbrev pub nothing : Spot → Laid
+abbrev pub nothing : TextSoFar → LaidText
 nothing s = record { notes = []; edge = s }
 
-abbrev pub join : Laid → Laid → Laid
+abbrev pub join : LaidText → LaidText → LaidText
 join a b = record { notes = a.notes ++ b.notes; edge = b.edge }
 
-abbrev pub unless : Bool → Laid → Laid → Laid
+abbrev pub unless : Bool → LaidText → LaidText → LaidText
 unless true a b = a
 unless false a b = join a b
 
 -- one thing, and then another unless the line has ended
-unfoldable pub seq : Laid → (Spot → Laid) → Laid
+unfoldable pub seq : LaidText → (TextSoFar → LaidText) → LaidText
 seq a f = unless a.edge.ended a (f a.edge)
 
 -- a message's column is the byte after what is finished; in a width it is that of the width
-abbrev pub column_of : Spot → ℕ
+abbrev pub column_of : TextSoFar → ℕ
 column_of s = unwrap_or s.around.width_column (s.around.bytes_before + length s.text + 1)
 
 -- how many bytes are finished: those that are before the text count too, but not in a width, whose text is measured by itself
@@ -148,20 +148,20 @@ abbrev pub bytes_before_in : Option ℕ → ℕ → ℕ
 bytes_before_in None bytes_before = bytes_before
 bytes_before_in (Some column) bytes_before = 0
 
-abbrev pub finished_len : Spot → ℕ
+abbrev pub finished_len : TextSoFar → ℕ
 finished_len s = bytes_before_in s.around.width_column s.around.bytes_before + length s.text
 
-abbrev pub message_at : NoteKind → List ℕ → Spot → Message
+abbrev pub message_at : NoteKind → List ℕ → TextSoFar → Message
 message_at kind detail s = message_about kind (record { line = s.around.line; column = column_of s }) detail
 
-abbrev pub says : NoteKind → List ℕ → Spot → Laid
+abbrev pub says : NoteKind → List ℕ → TextSoFar → LaidText
 says kind detail s = record { notes = message_at kind detail s ∷ []; edge = s }
 
 -- the line ends here, with a message
-abbrev pub ends : NoteKind → List ℕ → Spot → Laid
+abbrev pub ends : NoteKind → List ℕ → TextSoFar → LaidText
 ends kind detail s = record { notes = message_at kind detail s ∷ []; edge = record s { ended = true } }
 
-abbrev pub adds : List ℕ → Spot → Spot
+abbrev pub adds : List ℕ → TextSoFar → TextSoFar
 adds run s = record s { text = s.text ++ run }
 
 -- the last place up to n where a character ends
@@ -175,40 +175,40 @@ abbrev pub kept : List ℕ → ℕ → ℕ
 kept text room = if nat_le (length text) room then length text else character_end text room
 
 -- Bytes are copied. Beyond LINE the line is cut at a character's end, and ends.
-unfoldable pub put : List ℕ → Spot → Laid
+unfoldable pub put : List ℕ → TextSoFar → LaidText
 put run s =
     let end = kept run (LINE - finished_len s) in
     if nat_lt end (length run) then ends Limit (codes "LINE") (adds (take end run) s) else nothing (adds (take end run) s)
 
 -- parts, from the left; what an interpolation does is given
-unfoldable pub lay : (Call (List ℕ) → Spot → Laid) → List (Part (List ℕ)) → Spot → Laid
+unfoldable pub lay : (Call (List ℕ) → TextSoFar → LaidText) → List (Part (List ℕ)) → TextSoFar → LaidText
 lay call [] s = nothing s
 lay call (Copied run ∷ rest) s = seq (put run s) (lay call rest)
 lay call (Called name ∷ rest) s = seq (call name s) (lay call rest)
 
-abbrev pub counts : Spot → Spot
+abbrev pub counts : TextSoFar → TextSoFar
 counts s = record s { count = s.count + 1 }
 
 -- An interpolation counts one. The one beyond EXPAND ends the line.
-unfoldable pub charge : (Spot → Laid) → Spot → Laid
+unfoldable pub charge : (TextSoFar → LaidText) → TextSoFar → LaidText
 charge f s = if nat_lt s.count EXPAND then f (counts s) else ends Loop (name_of limits.Expand) s
 
 -- a value is expanded by itself; where there is none, a message
-abbrev pub value_or : NoteKind → List ℕ → Option (List ℕ) → (List ℕ → Spot → Laid) → Spot → Laid
+abbrev pub value_or : NoteKind → List ℕ → Option (List ℕ) → (List ℕ → TextSoFar → LaidText) → TextSoFar → LaidText
 value_or kind detail (Some text) f s = f (without_lone text) s
 value_or kind detail None f s = says kind detail s
 
 -- ---- widths: roff(7), `\w`
 
 -- a text whose width is measured begins with nothing, and messages in it have the column of the `\w`
-abbrev pub inside : Spot → Spot
+abbrev pub inside : TextSoFar → TextSoFar
 inside s = record s { around = record s.around { width_column = Some (column_of s) }; text = [] }
 
 -- the line after the text; where the text has ended the line, it ends before the `\w`
-abbrev pub outside : Spot → Spot → Spot
+abbrev pub outside : TextSoFar → TextSoFar → TextSoFar
 outside s t = record { around = s.around; text = s.text; count = t.count; ended = t.ended }
 
-abbrev pub leaves : Spot → Laid → Laid
+abbrev pub leaves : TextSoFar → LaidText → LaidText
 leaves s a = record { notes = a.notes; edge = outside s a.edge }
 
 -- basic units, 24 a column
@@ -216,7 +216,7 @@ abbrev pub units_of : Output → List ℕ → ℕ
 units_of output text = 24 * columns_of output text
 
 -- The text is expanded by itself, and the line goes on with its width.
-unfoldable pub width : (List ℕ → ℕ) → (Spot → Laid) → Spot → Laid
+unfoldable pub width : (List ℕ → ℕ) → (TextSoFar → LaidText) → TextSoFar → LaidText
 width units f s =
     let a = f (inside s) in
     seq (leaves s a) (put (decimal (units a.edge.text)))
@@ -224,31 +224,31 @@ width units f s =
 -- ---- values
 
 -- what an interpolation gives; `f` expands a text by itself
-unfoldable pub interpolated : Surroundings → (List ℕ → Spot → Laid) → Call (List ℕ) → Spot → Laid
+unfoldable pub interpolated : Surroundings → (List ℕ → TextSoFar → LaidText) → Call (List ℕ) → TextSoFar → LaidText
 interpolated env f (String name) s = value_or UndefString name (string_of name env.definitions) f s
 interpolated env f (Register name) s = put (signed_decimal (register_of name env)) s
 interpolated env f (Argument escape) s = value_or ArgOutside escape (argument_of escape env.arguments) f s
 interpolated env f (Width text) s = width env.units (f text) s
 
 -- An interpolation in which this many more may be inside one another. One too deep gives nothing.
-unfoldable pub call_at : Surroundings → ℕ → Call (List ℕ) → Spot → Laid
+unfoldable pub call_at : Surroundings → ℕ → Call (List ℕ) → TextSoFar → LaidText
 call_at env zero call s = charge (says Loop (name_of limits.Nest)) s
 call_at env (suc depth) call s =
     charge (interpolated env (λ text. lay (call_at env depth) (parts env.copy text)) call) s
 
 -- The value of a text in which this many interpolations may be inside one another, after what is finished of its line.
-unfoldable pub value : Surroundings → ℕ → List ℕ → Spot → Laid
+unfoldable pub value : Surroundings → ℕ → List ℕ → TextSoFar → LaidText
 value env depth text s = lay (call_at env depth) (parts env.copy text) s
 
 -- the beginning of a line
-abbrev pub start : ℕ → Spot
+abbrev pub start : ℕ → TextSoFar
 start line =
     record { around = record { line = line; bytes_before = 0; width_column = None }; text = []; count = 0; ended = false }
 
 -- a whole line
-abbrev pub expanded : Surroundings → ℕ → List ℕ → Laid
+abbrev pub expanded : Surroundings → ℕ → List ℕ → LaidText
 expanded env line text = value env NEST text (start line)
 
 -- this many bytes of the line are before the text that comes
-abbrev pub after_bytes : ℕ → Spot → Spot
+abbrev pub after_bytes : ℕ → TextSoFar → TextSoFar
 after_bytes bytes_before s = record s { around = record s.around { bytes_before = bytes_before } }

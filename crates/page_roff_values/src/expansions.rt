@@ -31,9 +31,9 @@ pub struct Expansion {
 
 impl Model for Expansion {
     ghost use Rattle.std.specs.Prelude.{◌≡◌, []};
-    ghost use Rattle.page_roff_values.specs.Values.{Spot};
+    ghost use Rattle.page_roff_values.specs.Values.{TextSoFar};
 
-    ghost Value = { Spot };
+    ghost Value = { TextSoFar };
 
     ghost view = { λ a. a.nested.spot };
 

@@ -26,7 +26,7 @@ use Rattle.page_scopes_words.specs.Words.{at, says, number_notes}
 use Rattle.page_scopes_layout.specs.Lists.{margin_items}
 use Rattle.page_scopes_layout.specs.declared.contexts.Context.{Context}
 use Rattle.page_scopes_phrases.specs.LineWords.{argument_word, line_word}
-use Rattle.page_scopes_phrases.specs.Phrases.{Outcome, nothing, row_break}
+use Rattle.page_scopes_phrases.specs.Phrases.{EventOutcome, nothing, row_break}
 use Rattle.page_scopes_phrases.specs.Phrases as formatting
 use Rattle.page_scopes_phrases.specs.declared.formatting.Formatting.{Formatting}
 use Rattle.page_scopes_phrases.specs.declared.kept_texts.KeptText.{KeptText}
@@ -90,7 +90,7 @@ closer_suffix (closers.Target link argument) = argument
 closer_suffix (closers.Block (block_closers.Custom mark)) = mark
 closer_suffix _ = None
 
-abbrev pub given_suffix : ℕ → Option (Argument (List ℕ)) → Formatting → Outcome
+abbrev pub given_suffix : ℕ → Option (Argument (List ℕ)) → Formatting → EventOutcome
 given_suffix line None s = nothing s
 given_suffix line (Some argument) s = line_word line (argument_word None Glued argument) s
 
@@ -101,14 +101,14 @@ is_early (leaves.Wordless text) has_begun = not has_begun
 is_early (leaves.Request request) has_begun = not has_begun
 is_early _ has_begun = false
 
-abbrev pub kind_stands : Place → EventKind (List ℕ) → Option KeptText → (has_begun : Bool) → Formatting → Outcome
+abbrev pub kind_stands : Place → EventKind (List ℕ) → Option KeptText → (has_begun : Bool) → Formatting → EventOutcome
 kind_stands place (kinds.Close closer) name has_begun s = given_suffix place.line (closer_suffix closer) s
 kind_stands place (kinds.Leaf leaf) name has_begun s =
     if is_early leaf has_begun then nothing s else kind_outcome place (kinds.Leaf leaf) name s
 kind_stands place kind name has_begun s = kind_outcome place kind name s
 
 -- with the columns of a name that begins a row of the SYNOPSIS; the name is that of the manual; at the page's end the row ends
-unfoldable pub stands : Output → Act (Event (List ℕ)) → Option KeptText → (has_begun : Bool) → Formatting → Outcome
+unfoldable pub stands : Output → Act (Event (List ℕ)) → Option KeptText → (has_begun : Bool) → Formatting → EventOutcome
 stands output (acts.Event event) name has_begun s = kind_stands event.place event.kind name has_begun (kind_counted output event.kind name s)
 stands output (acts.PageEnd line) name has_begun s = row_break s
 

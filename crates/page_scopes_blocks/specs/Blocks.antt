@@ -32,7 +32,7 @@ use Rattle.page_scopes_layout.specs.declared.contexts.SeriesSoFar.{SeriesSoFar}
 use Rattle.page_scopes_layout.specs.declared.contexts.SeriesSoFar.TheVariants.{Begun, Empty}
 use Rattle.page_scopes_phrases.specs.LineWords.{generated_word, own_word, argument_word, line_word}
 use Rattle.page_scopes_phrases.specs.Names.{function_end}
-use Rattle.page_scopes_phrases.specs.Phrases.{Outcome, own_phrase, phrase_outcome, nothing, followed_by, row_ended, after_notes, in_context, counting}
+use Rattle.page_scopes_phrases.specs.Phrases.{EventOutcome, own_phrase, phrase_outcome, nothing, followed_by, row_ended, after_notes, in_context, counting}
 use Rattle.page_scopes_phrases.specs.declared.formatting.Formatting.{Formatting}
 use Rattle.page_scopes_phrases.specs.declared.kept_texts.KeptText.{KeptText}
 use Rattle.page_scopes_blocks.specs.Lists.{given_columns, given_notes}
@@ -42,31 +42,31 @@ use Rattle.page_scopes_blocks.specs.Lists.{given_columns, given_notes}
 -- ---- where a scope begins
 
 -- `Aq Bq Brq Dq Op Pq Ql Qq Sq`, and `Nd`; the words of an enclosure are glued to its marks
-abbrev pub line_words : Place → LineOpener → Formatting → Outcome
+abbrev pub line_words : Place → LineOpener → Formatting → EventOutcome
 line_words place (lines.Enclosure marks) s = generated_word place (own_word (opening marks) Apart Glued) s
 line_words place lines.Description s = phrase_outcome place.line (own_phrase place (codes "\\(en") None Apart Apart) s
 line_words place _ s = nothing s
 
 -- `Ao Bo Bro Do Oo Po Qo So`, and `Eo`, of which the mark is a word; no other block has one
-abbrev pub block_words : Place → BlockOpener (List ℕ) → Formatting → Outcome
+abbrev pub block_words : Place → BlockOpener (List ℕ) → Formatting → EventOutcome
 block_words place (openers.Quotation quotation) s = generated_word place (own_word (opening (quotation_marks quotation)) Apart Glued) s
 block_words place (openers.Custom (Some mark)) s = line_word place.line (record (argument_word None Apart mark) { after = Glued }) s
 block_words place _ s = nothing s
 
 -- a function (`Fo`) begins with its name in bold, and what opens its arguments
-abbrev pub function_name : Place → Argument (List ℕ) → Formatting → Outcome
+abbrev pub function_name : Place → Argument (List ℕ) → Formatting → EventOutcome
 function_name place name s =
     followed_by (line_word place.line (argument_word (Some B) Apart name) s) (generated_word place (own_word OpenParenthesis Glued Glued))
 
 -- ---- where it ends, by its closer, with its line, by force or with the page
 
 -- after the last field of a reference (`Rs`), where it has one
-abbrev pub reference_end : SeriesSoFar → Place → Formatting → Outcome
+abbrev pub reference_end : SeriesSoFar → Place → Formatting → EventOutcome
 reference_end Begun place s = generated_word place (own_word FullStop Glued Apart) s
 reference_end _ place s = nothing s
 
 -- the mark of `Ec` is a word after its block has ended
-abbrev pub last_words : Place → Label → Formatting → Outcome
+abbrev pub last_words : Place → Label → Formatting → EventOutcome
 last_words place (labels.Line (lines.Enclosure marks)) s = generated_word place (own_word (closing marks) Glued Apart) s
 last_words place (labels.Explicit (Block (blocks.Quotation quotation))) s =
     generated_word place (own_word (closing (quotation_marks quotation)) Glued Apart) s
@@ -79,21 +79,21 @@ last_words place _ s = nothing s
 -- ---- displays (`Bd`)
 
 -- a paragraph, or a row of its own
-abbrev pub display_begins : (is_compact : Bool) → Formatting → Outcome
+abbrev pub display_begins : (is_compact : Bool) → Formatting → EventOutcome
 display_begins is_compact s = record {
   items = shown (if is_compact then pieces.Break else pieces.Para s.context.distance.value) ∷ shown (pieces.Literal s.context.is_literal.value) ∷ margin_items s.context;
   state = row_ended s;
 }
 
 -- as far in as its offset says
-abbrev pub display : Output → Place → Bool → Bool → Option (Argument (List ℕ)) → Formatting → Outcome
+abbrev pub display : Output → Place → Bool → Bool → Option (Argument (List ℕ)) → Formatting → EventOutcome
 display output place is_literal is_compact offset s =
     after_notes (given_notes place offset) (display_begins is_compact (in_context (display_begun is_literal (unwrap_or (given_columns output offset) (pos 0)) s.context) s))
 
 -- ---- all of them
 
 -- `Bd`; `Bf`, whose words are in its font; `Rs`, which has no field yet; `Fo`, which has no argument yet; the others print their marks
-abbrev pub block_front : Output → Place → BlockOpener (List ℕ) → Formatting → Outcome
+abbrev pub block_front : Output → Place → BlockOpener (List ℕ) → Formatting → EventOutcome
 block_front output place (openers.Display is_literal is_compact offset) s = display output place is_literal is_compact offset s
 block_front output place (openers.Fonts font) s = nothing (in_context (font_if_given font s.context) s)
 block_front output place openers.Reference s = nothing (in_context (record s.context { fields = Empty }) s)
@@ -101,7 +101,7 @@ block_front output place (openers.Function name) s = function_name place name (i
 block_front output place opener s = block_words place opener s
 
 -- nothing is set in it yet
-unfoldable pub block_opened : Output → Place → BlockOpener (List ℕ) → Formatting → Outcome
+unfoldable pub block_opened : Output → Place → BlockOpener (List ℕ) → Formatting → EventOutcome
 block_opened output place opener s = block_front output place opener (in_context (entered_context s.context) s)
 
 -- ---- The columns of the words of `Nm` that begin a row of the SYNOPSIS: later rows are as many further in. Source: mdoc(7), `Nm`.

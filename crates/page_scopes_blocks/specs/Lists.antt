@@ -25,7 +25,7 @@ use Rattle.page_scopes_layout.specs.declared.contexts.PagePart.TheVariants as pa
 use Rattle.page_scopes_layout.specs.declared.lists.ColumnWidths.{ColumnWidths}
 use Rattle.page_scopes_layout.specs.declared.lists.OpenList.{OpenList}
 use Rattle.page_scopes_phrases.specs.LineWords.{line_word}
-use Rattle.page_scopes_phrases.specs.Phrases.{in_context, Outcome, followed_by, phrase_outcome, own_phrase, nothing, row_ended, at_margins, after_notes}
+use Rattle.page_scopes_phrases.specs.Phrases.{in_context, EventOutcome, followed_by, phrase_outcome, own_phrase, nothing, row_ended, at_margins, after_notes}
 use Rattle.page_scopes_phrases.specs.declared.formatting.Formatting.{Formatting}
 use Rattle.page_scopes_phrases.specs.declared.phrases.Phrase.{Phrase}
 use Rattle.page_scopes_blocks.specs.declared.open_lists.SaidList.{SaidList}
@@ -43,25 +43,25 @@ abbrev pub after_tag : Context → Context → Context
 after_tag before c = record c { first = None; part = before.part }
 
 -- it is in front of its text, which hangs
-abbrev pub tag_begun : TagPlace → Formatting → Outcome
+abbrev pub tag_begun : TagPlace → Formatting → EventOutcome
 tag_begun tag s = record {
   items = margin_items (tag_context tag s.context) ++ shown (pieces.Tag tag.hang Row) ∷ [];
   state = in_context (tag_context tag s.context) s;
 }
 
 -- what pads it takes the place of a blank
-abbrev pub tag_ended : Context → Formatting → Outcome
+abbrev pub tag_ended : Context → Formatting → EventOutcome
 tag_ended before s = record {
   items = shown pieces.TagEnd ∷ margin_items (after_tag before s.context);
   state = record s { context = after_tag before s.context; gap = 0 };
 }
 
 -- a tag of the words of an argument
-unfoldable pub tag : TagPlace → ℕ → Word (List ℕ) → Formatting → Outcome
+unfoldable pub tag : TagPlace → ℕ → Word (List ℕ) → Formatting → EventOutcome
 tag place line word s = followed_by (tag_begun place s) (λ t. followed_by (line_word line word t) (tag_ended s.context))
 
 -- `tag` of the words of a phrase
-unfoldable pub phrase_tag : TagPlace → ℕ → Phrase (List ℕ) → Formatting → Outcome
+unfoldable pub phrase_tag : TagPlace → ℕ → Phrase (List ℕ) → Formatting → EventOutcome
 phrase_tag place line phrase s = followed_by (tag_begun place s) (λ t. followed_by (phrase_outcome line phrase t) (tag_ended s.context))
 
 -- ---- Items of lists: their marks and numbers. Source: mdoc(7), `Bl` and `It`.
@@ -77,24 +77,24 @@ mark_of kinds.Enum number = Some (decimal number ++ codes ".")
 mark_of _ number = None
 
 -- a mark is a tag of its item's text; in other lists the text is at its margin
-abbrev pub given_mark : Place → OpenList → Option (List ℕ) → Formatting → Outcome
+abbrev pub given_mark : Place → OpenList → Option (List ℕ) → Formatting → EventOutcome
 given_mark place list (Some mark) s =
     phrase_tag (record { margin = list.head; hang = hold (pos list.hang) }) place.line (own_phrase place mark None Apart Apart) s
 given_mark place list None s = record { items = margin_items s.context; state = s }
 
-abbrev pub mark : Place → Option OpenList → Formatting → Outcome
+abbrev pub mark : Place → Option OpenList → Formatting → EventOutcome
 mark place (Some list) s = given_mark place list (mark_of list.kind list.items) s
 mark place None s = nothing s
 
 -- ---- items
 
-abbrev pub item_begins : Formatting → Outcome
+abbrev pub item_begins : Formatting → EventOutcome
 item_begins s =
     let front = item_begun s.context.list s.context in
     record { items = begin_items labels.Item front; state = row_ended (in_context front s) }
 
 -- after a blank row or in a new row, with its mark
-unfoldable pub item_opened : Place → Formatting → Outcome
+unfoldable pub item_opened : Place → Formatting → EventOutcome
 item_opened place s = followed_by (item_begins (in_context (entered_context s.context) s)) (λ t. mark place t.context.list t)
 
 -- ---- The widths that the arguments of `Bl` give. Source: mdoc(7), `Bl`.
@@ -177,11 +177,11 @@ abbrev pub list_notes : Output → Place → ListKind → List ℕ → ListOptio
 list_notes output place kind text options =
     given_notes place options.width ++ (given_notes place options.offset ++ cut_notes place (columns_of output kind text))
 
-abbrev pub list_by : SaidList → Formatting → Outcome
+abbrev pub list_by : SaidList → Formatting → EventOutcome
 list_by said s = at_margins (in_context (list_begun said.list (unwrap_or said.offset (pos 0)) (entered_context s.context)) s)
 
 -- a list of a type, compact or not, with these arguments
-unfoldable pub list_opened : Output → Place → ListKind → Bool → List ℕ → Formatting → Outcome
+unfoldable pub list_opened : Output → Place → ListKind → Bool → List ℕ → Formatting → EventOutcome
 list_opened output place kind is_compact text s =
     after_notes (list_notes output place kind text (list_options (arguments_after 0 text)))
     (list_by (said_list output kind is_compact text (list_options (arguments_after 0 text))) s)

@@ -3,7 +3,7 @@ use Rattle.std.specs.Prelude.{ℕ, ◌≤◌, Bool, true, false, List, [], ◌�
 use Rattle.std.specs.Str.{bytes_eq}
 use Rattle.page_core_base.specs.declared.cells.Font.TheVariants.{I}
 use Rattle.page_core_base.specs.declared.note_kinds.NoteKind.TheVariants.{UnknownMacro}
-use Rattle.page_core_base.specs.Texts.{Line}
+use Rattle.page_core_base.specs.Texts.{TakenLine}
 use Rattle.page_roff_syntax.specs.declared.quotes.Argument.{Argument}
 use Rattle.page_roff_syntax.specs.Arguments.{has_arguments}
 use Rattle.page_sets_names.specs.declared.marks.Quotation.TheVariants.{Do}
@@ -37,11 +37,11 @@ quotation true = kinds.Open (openers.Block (block_openers.Quotation Do))
 quotation false = kinds.Close (closers.Block (block_closers.Quotation Do))
 
 -- a name that is none of the set's
-abbrev pub unknown : Line → Event (List ℕ)
+abbrev pub unknown : TakenLine → Event (List ℕ)
 unknown line = event_at (name_place line) (kinds.Note UnknownMacro (name_of line) false false)
 
 -- the events of a line from a place on
-abbrev pub events_from : Line → MarkedPlace → List (Event (List ℕ))
+abbrev pub events_from : TakenLine → MarkedPlace → List (Event (List ℕ))
 events_from line (places.Plain plain) = plain_events line.number line.text plain
 events_from line places.Unknown = unknown line ∷ line_end line.number false ∷ []
 events_from line (places.Quotation begins) = event_at (name_place line) (quotation begins) ∷ line_end line.number false ∷ []
@@ -50,7 +50,7 @@ events_from line (places.End filled) = line_end line.number filled ∷ []
 events_from line places.Nothing = []
 
 -- its arguments lie within the line
-abbrev pub FitsPlace : Line → MarkedPlace → Type 0
+abbrev pub FitsPlace : TakenLine → MarkedPlace → Type 0
 FitsPlace line (places.Plain plain) = Unit {0}
 FitsPlace line places.Unknown = Unit {0}
 FitsPlace line (places.Quotation begins) = Unit {0}
@@ -67,14 +67,14 @@ macro_place name text start =
     else places.Unknown
 
 -- the place before the events of a line: one without a name does nothing
-abbrev pub control_place : Line → MarkedPlace
+abbrev pub control_place : TakenLine → MarkedPlace
 control_place line =
     if is_nameless line then places.End false else macro_place (name_of line) line.text (name_end line)
 
-abbrev pub place_of : Line → Option PlainLine → MarkedPlace
+abbrev pub place_of : TakenLine → Option PlainLine → MarkedPlace
 place_of line None = control_place line
 place_of line (Some plain) = places.Plain plain
 
 -- the events of a line
-abbrev pub marked_events : Line → List (Event (List ℕ))
+abbrev pub marked_events : TakenLine → List (Event (List ℕ))
 marked_events line = events_from line (place_of line (plain_line line.form line.text))

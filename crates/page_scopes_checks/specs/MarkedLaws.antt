@@ -2,7 +2,7 @@
 use Rattle.std.proofs.Common.{ℕ, ◌+◌, ◌*◌, ◌≤◌, Bool, true, false, List, [], ◌∷◌, length, arith, inl, inr, Option, None, Some, codes}
 use Rattle.std.specs.Str.{bytes_eq}
 use Rattle.std.proofs.lemmas.Bool.{cases_Bool}
-use Rattle.page_core_base.specs.Texts.{Line}
+use Rattle.page_core_base.specs.Texts.{TakenLine}
 use Rattle.page_roff_syntax.specs.declared.quotes.Argument.{Argument}
 use Rattle.page_sets_lines.specs.declared.plain_lines.PlainLine.{PlainLine}
 use Rattle.page_sets_lines.specs.laws.Sets.{HasSlices, AreSlices, AreInOrder}
@@ -15,7 +15,7 @@ use Rattle.page_scopes_checks.specs.Marked.{italic_words, quotation, events_from
 
 -- ---- a place is of its line
 
-macro_fits : (line : Line) → FitsPlace line (macro_place (name_of line) line.text (name_end line))
+macro_fits : (line : TakenLine) → FitsPlace line (macro_place (name_of line) line.text (name_end line))
 unfolding macro_place
 macro_fits line =
     elim (cases_Bool (bytes_eq (name_of line) (codes "I"))) [
@@ -31,14 +31,14 @@ macro_fits line =
           ])
     ]
 
-pub control_fits : (line : Line) → FitsPlace line (control_place line)
+pub control_fits : (line : TakenLine) → FitsPlace line (control_place line)
 control_fits line =
     elim (cases_Bool (is_nameless line)) [
       | inl t ↦ rw t tt
       | inr t ↦ rw t (macro_fits line)
     ]
 
-pub place_fits : (line : Line) (plain : Option PlainLine) → FitsPlace line (place_of line plain)
+pub place_fits : (line : TakenLine) (plain : Option PlainLine) → FitsPlace line (place_of line plain)
 place_fits line None = control_fits line
 place_fits line (Some plain) = tt
 
@@ -54,7 +54,7 @@ quotation_slices : (line : List ℕ) (begins : Bool) → HasSlices line (quotati
 quotation_slices line true = tt
 quotation_slices line false = tt
 
-pub place_slices : (line : Line) (place : MarkedPlace) → FitsPlace line place → AreSlices line.text (events_from line place)
+pub place_slices : (line : TakenLine) (place : MarkedPlace) → FitsPlace line place → AreSlices line.text (events_from line place)
 place_slices line (places.Plain plain) fits = (line_slices plain line.text, (tt, tt))
 place_slices line places.Unknown fits = (name_part line, (tt, tt))
 place_slices line (places.Quotation begins) fits = (quotation_slices line.text begins, (tt, tt))
@@ -63,7 +63,7 @@ place_slices line (places.Words rest filled) fits =
 place_slices line (places.End filled) fits = (tt, tt)
 place_slices line places.Nothing fits = tt
 
-pub marked_slices : (line : Line) → AreSlices line.text (marked_events line)
+pub marked_slices : (line : TakenLine) → AreSlices line.text (marked_events line)
 marked_slices line =
     let plain = plain_line line.form line.text in
     place_slices line (place_of line plain) (place_fits line plain)
@@ -76,14 +76,14 @@ words_order line number from [] filled h = (tt, tt)
 words_order line number from (argument ∷ arguments) filled h =
     (h.0, words_order line number (argument.column + length argument.text) arguments filled h.2)
 
-quotation_order : (begins : Bool) (line : Line) → AreInOrder 0 (events_from line (places.Quotation begins))
+quotation_order : (begins : Bool) (line : TakenLine) → AreInOrder 0 (events_from line (places.Quotation begins))
 quotation_order true line = (tt, (tt, tt))
 quotation_order false line = (tt, (tt, tt))
 
-plain_order : (line : Line) (plain : PlainLine) → AreInOrder 0 (events_from line (places.Plain plain))
+plain_order : (line : TakenLine) (plain : PlainLine) → AreInOrder 0 (events_from line (places.Plain plain))
 plain_order line plain = (line_order plain line.text, (tt, tt))
 
-place_order : (line : Line) (place : MarkedPlace) → AreInOrder 0 (events_from line place)
+place_order : (line : TakenLine) (place : MarkedPlace) → AreInOrder 0 (events_from line place)
 place_order line (places.Plain plain) = plain_order line plain
 place_order line places.Unknown = (tt, (tt, tt))
 place_order line (places.Quotation begins) = quotation_order begins line
@@ -93,7 +93,7 @@ place_order line (places.Words rest filled) =
 place_order line (places.End filled) = (tt, tt)
 place_order line places.Nothing = tt
 
-pub marked_in_order : (line : Line) → AreInOrder 0 (marked_events line)
+pub marked_in_order : (line : TakenLine) → AreInOrder 0 (marked_events line)
 marked_in_order line = place_order line (place_of line (plain_line line.form line.text))
 
 -- ---- few
@@ -102,7 +102,7 @@ few_words : (number : ℕ) (arguments : List (Argument (List ℕ))) (filled : Bo
 few_words number [] filled = omega arith
 few_words number (argument ∷ arguments) filled = let f = few_words number arguments filled in omega (arith, f)
 
-few_from : (line : Line) (place : MarkedPlace) → length (events_from line place) ≤ 2 * length line.text + 2
+few_from : (line : TakenLine) (place : MarkedPlace) → length (events_from line place) ≤ 2 * length line.text + 2
 few_from line (places.Plain plain) = omega arith
 few_from line places.Unknown = omega arith
 few_from line (places.Quotation begins) = omega arith
@@ -113,5 +113,5 @@ few_from line (places.Words rest filled) =
 few_from line (places.End filled) = omega arith
 few_from line places.Nothing = omega arith
 
-pub marked_few : (line : Line) → length (marked_events line) ≤ 2 * length line.text + 2
+pub marked_few : (line : TakenLine) → length (marked_events line) ≤ 2 * length line.text + 2
 marked_few line = few_from line (place_of line (plain_line line.form line.text))

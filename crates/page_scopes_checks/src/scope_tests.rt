@@ -6,8 +6,8 @@ use page_roff_syntax::{Argument, Quoting};
 use page_scopes_tree::ScopeStack;
 use page_sets_lines::{
     BlockCloser, BlockOpener, Closer, Event, EventKind, FontMacro, HeadingName, Join, Leaf,
-    LineOpener, Link, Marks, OneLineName, Opener, ParagraphName, Quotation, Request, Role, TagName,
-    Word,
+    LineOpener, Link, Marks, OneLineName, Opener, ParagraphName, Quotation, RequestLeaf, Role,
+    TagName, Word,
 };
 use page_test_streams::{Brief, Notation, ShownBy};
 use std::alloc::{AllocError, Global};
@@ -102,7 +102,7 @@ fn other(letter: u8) -> EventKind<&'static [u8]> {
         b'n' => EventKind::LineScope(LineOpener::Description),
         b'l' => EventKind::LineScope(LineOpener::OneLine(OneLineName::Dl)),
         b'B' => EventKind::Leaf(Leaf::BlankLine),
-        b'.' => EventKind::Leaf(Leaf::Request(Request::Break)),
+        b'.' => EventKind::Leaf(Leaf::Request(RequestLeaf::Break)),
         b'X' => EventKind::Raw(b"x"),
         b'e' => EventKind::End { fills: false },
         b'E' => EventKind::End { fills: true },

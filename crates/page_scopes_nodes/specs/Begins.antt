@@ -39,7 +39,7 @@ use Rattle.page_scopes_layout.specs.Lists.{begin_items, head_begun, line_begin_i
 use Rattle.page_scopes_layout.specs.declared.contexts.Context.{Context}
 use Rattle.page_scopes_phrases.specs.LineWords.{argument_word}
 use Rattle.page_scopes_phrases.specs.Names.{cut_notes, fonts_through, after_kept, gap_items, parts_items, kept_of}
-use Rattle.page_scopes_phrases.specs.Phrases.{Outcome, in_context, row_ended, after_notes, nothing, followed_by}
+use Rattle.page_scopes_phrases.specs.Phrases.{EventOutcome, in_context, row_ended, after_notes, nothing, followed_by}
 use Rattle.page_scopes_phrases.specs.declared.formatting.Formatting.{Formatting}
 use Rattle.page_scopes_phrases.specs.declared.kept_texts.KeptText.{KeptText}
 use Rattle.page_scopes_blocks.specs.Blocks.{block_opened, line_words}
@@ -71,7 +71,7 @@ abbrev pub mark_items : Font → Place → List ℕ → List Item
 mark_items font place mark = shown (Text mark font place) ∷ []
 
 -- the target in angles, a word, without the messages of its escapes, all at the place where the link ends; a mark ends no sentence, and leaves one that has ended
-unfoldable pub target_word : Place → KeptText → Formatting → Outcome
+unfoldable pub target_word : Place → KeptText → Formatting → EventOutcome
 target_word place target s = record {
   items = gap_items s place
       ++ (mark_items s.context.fonts.value.font place (codes "<")
@@ -90,32 +90,32 @@ abbrev pub given_notes : Place → Option (List ℕ) → List Item
 given_notes place number = unwrap_or (option_map (columns_notes place) number) []
 
 -- a scope begins in the context of its front, and the row ends
-abbrev pub begun : Label → Context → Formatting → Outcome
+abbrev pub begun : Label → Context → Formatting → EventOutcome
 begun label front s = record { items = begin_items label front; state = row_ended (in_context front s) }
 
 -- `PP`, `LP`, `P`: skipped where there is nothing before them since the heading
-abbrev pub plain : Place → ParagraphName → Formatting → Outcome
+abbrev pub plain : Place → ParagraphName → Formatting → EventOutcome
 plain place name s =
     if s.has_content then begun labels.Paragraph (record (flat (reset (entered_context s.context))) { prevailing = PREVAILING }) s
     else record { items = says SkipPara place (paragraph_name name) ∷ []; state = in_context (entered_context s.context) s }
 
 -- `TP`, `IP`: the text is a number of columns, or the prevailing indent, further in
-abbrev pub indented : Place → Option (List ℕ) → Formatting → Outcome
+abbrev pub indented : Place → Option (List ℕ) → Formatting → EventOutcome
 indented place hang s = after_notes (given_notes place hang) (begun labels.Paragraph (indented_begun (option_map columns_value hang) (entered_context s.context)) s)
 
 -- the tag of `IP` is at the margin
-abbrev pub given_tag : ℕ → Option (Argument (List ℕ)) → Formatting → Outcome
+abbrev pub given_tag : ℕ → Option (Argument (List ℕ)) → Formatting → EventOutcome
 given_tag line None s = nothing s
 given_tag line (Some argument) s =
     tag (record { margin = s.context.margin; hang = hold s.context.hang }) line (argument_word None Apart argument) s
 
 -- `HP`: the rows after the first are further in
-abbrev pub hanging : Place → Option (List ℕ) → Formatting → Outcome
+abbrev pub hanging : Place → Option (List ℕ) → Formatting → EventOutcome
 hanging place hang s =
     after_notes (given_notes place hang) (begun labels.Paragraph (first_at_margin (indented_begun (option_map columns_value hang) (entered_context s.context))) s)
 
 -- `RS`: all is further in
-abbrev pub margin : Place → Option (List ℕ) → Formatting → Outcome
+abbrev pub margin : Place → Option (List ℕ) → Formatting → EventOutcome
 margin place columns s =
     after_notes (given_notes place columns)
     (begun (labels.Explicit RelativeMargin) (margin_begun (option_map columns_value columns) (entered_context s.context)) s)
@@ -124,20 +124,20 @@ margin place columns s =
 abbrev pub name_hang : PageLayout → Argument (List ℕ) → ℕ
 name_hang page name = name_columns page.output (is_quoted name.quoting) name.text + 1
 
-abbrev pub synopsis : PageLayout → ℕ → Argument (List ℕ) → Formatting → Outcome
+abbrev pub synopsis : PageLayout → ℕ → Argument (List ℕ) → Formatting → EventOutcome
 synopsis page line name s =
     followed_by (begun (labels.Explicit Syntax) (syntax_begun (text_margin s.context) (name_hang page name) (entered_context s.context)) s)
     (tag (record { margin = text_margin s.context; hang = hold (pos (name_hang page name)) }) line (argument_word (Some B) Apart name))
 
 -- `Bl`, and the other blocks
-abbrev pub block : PageLayout → Place → BlockOpener (List ℕ) → Formatting → Outcome
+abbrev pub block : PageLayout → Place → BlockOpener (List ℕ) → Formatting → EventOutcome
 block page place (block_openers.List kind is_compact options) s = list_opened page.output place kind is_compact options s
 block page place opener s = block_opened page.output place opener s
 
 -- ---- all of them: `SH`, `SS`, `Sh` and `Ss` are at the page's indent, and a link (`UR`, `MT`) gives the messages of its target. Which section begins is known
 -- once its heading ends; a subsection stays in its section
 
-unfoldable pub opened : PageLayout → Place → Opener (List ℕ) → Formatting → Outcome
+unfoldable pub opened : PageLayout → Place → Opener (List ℕ) → Formatting → EventOutcome
 opened page place openers.Item s = item_opened place s
 opened page place openers.Section s = begun labels.Section (record (subsection_begun page.indent (entered_context s.context)) { section = Other }) s
 opened page place openers.Subsection s = begun labels.Section (subsection_begun page.indent (entered_context s.context)) s
@@ -182,19 +182,19 @@ line_state (lines.OneLine name) s = row_ended s
 line_state _ s = s
 
 -- its pieces, and then what it prints itself
-abbrev pub line_opened : Place → LineOpener → Formatting → Outcome
+abbrev pub line_opened : Place → LineOpener → Formatting → EventOutcome
 line_opened place opener s =
     let front = line_context opener (entered_context s.context) in
     followed_by (record { items = line_begin_items opener front; state = line_state opener (in_context front s) }) (line_words place opener)
 
 -- ---- an event that opens a scope
 
-abbrev pub kind_begun : PageLayout → Event (List ℕ) → EventKind (List ℕ) → Formatting → Outcome
+abbrev pub kind_begun : PageLayout → Event (List ℕ) → EventKind (List ℕ) → Formatting → EventOutcome
 kind_begun page event (kinds.Open opener) s = opened page event.place opener s
 kind_begun page event (kinds.LineScope opener) s = line_opened event.place opener s
 kind_begun page event _ s = nothing s
 
-unfoldable pub begun_by : PageLayout → Event (List ℕ) → Formatting → Outcome
+unfoldable pub begun_by : PageLayout → Event (List ℕ) → Formatting → EventOutcome
 begun_by page event s = kind_begun page event event.kind s
 
 -- ---- what a link keeps

@@ -15,7 +15,7 @@ use Rattle.page_scopes_layout.specs.Lists.{is_row, end_items}
 use Rattle.page_scopes_layout.specs.declared.contexts.Context.{Context}
 use Rattle.page_scopes_layout.specs.declared.contexts.PageSection.{PageSection}
 use Rattle.page_scopes_layout.specs.declared.headings.HeadingSoFar.{HeadingSoFar}
-use Rattle.page_scopes_phrases.specs.Phrases.{Outcome, row_ended, in_context, followed_by, line_ended}
+use Rattle.page_scopes_phrases.specs.Phrases.{EventOutcome, row_ended, in_context, followed_by, line_ended}
 use Rattle.page_scopes_phrases.specs.declared.formatting.Formatting.{Formatting}
 use Rattle.page_scopes_phrases.specs.declared.kept_texts.KeptText.{KeptText}
 use Rattle.page_scopes_blocks.specs.Blocks.{last_words}
@@ -24,7 +24,7 @@ use Rattle.page_scopes_nodes.specs.Begins.{target_word}
 -- ---- What a scope ends with: the target of a link or the mark of an enclosure, its own pieces, and what is known after it. Source: man(7), "MACRO OVERVIEW"; mdoc(7), "MACRO REFERENCE".
 
 -- the target of a link (`UR` up to `UE`, `MT` up to `ME`) is its last word
-abbrev pub last_word : Place → Label → Option KeptText → Formatting → Outcome
+abbrev pub last_word : Place → Label → Option KeptText → Formatting → EventOutcome
 last_word place label None s = last_words place label s
 last_word place label (Some target) s = target_word place target s
 
@@ -48,19 +48,19 @@ label_section (labels.Line (lines.Heading headings.Sh)) heading section = headed
 label_section _ heading section = section
 
 -- in the context after the scope its margins hold again
-abbrev pub left : Label → Context → Formatting → Outcome
+abbrev pub left : Label → Context → Formatting → EventOutcome
 left label before s =
     let d = restored label before s.context in
     let after = record d { section = label_section label s.heading d.section } in
     record { items = end_items label d; state = label_state label (in_context after s) }
 
-unfoldable pub ended : Label → Context → Option KeptText → Place → Formatting → Outcome
+unfoldable pub ended : Label → Context → Option KeptText → Place → Formatting → EventOutcome
 ended label before target place s = followed_by (last_word place label target s) (left label before)
 
 -- ---- The end of a line: what it gives. Source: roff(7), `nf`, `\c`.
 
 -- where rows are kept, a line with words of the page's text is a row, unless it ends in `\c`
-abbrev pub line_end : Formatting → Outcome
+abbrev pub line_end : Formatting → EventOutcome
 line_end s = record {
   items = if s.context.is_literal.value && (not s.line.is_cut && s.line.has_row_words) then shown pieces.RowEnd ∷ [] else [];
   state = line_ended s;

@@ -19,8 +19,8 @@ use Rattle.page_sets_lines.specs.declared.events.EventKind.TheVariants as event_
 use Rattle.page_sets_lines.specs.declared.events.Join.TheVariants.{Glued, Apart}
 use Rattle.page_sets_lines.specs.declared.leaves.Leaf.{Leaf}
 use Rattle.page_sets_lines.specs.declared.leaves.Leaf.TheVariants as leaves
-use Rattle.page_sets_lines.specs.declared.leaves.Request.{Request}
-use Rattle.page_sets_lines.specs.declared.leaves.Request.TheVariants as requests
+use Rattle.page_sets_lines.specs.declared.leaves.RequestLeaf.{RequestLeaf}
+use Rattle.page_sets_lines.specs.declared.leaves.RequestLeaf.TheVariants as requests
 use Rattle.page_sets_lines.specs.declared.line_steps.LineStep.{LineStep}
 use Rattle.page_sets_lines.specs.declared.line_steps.LineStep.TheVariants as steps
 use Rattle.page_sets_lines.specs.declared.line_steps.SynopsisStep.{SynopsisStep}
@@ -37,7 +37,7 @@ use Rattle.page_scopes_layout.specs.declared.contexts.SeriesSoFar.{SeriesSoFar}
 use Rattle.page_scopes_layout.specs.declared.contexts.SeriesSoFar.TheVariants as series
 use Rattle.page_scopes_phrases.specs.LineWords.{generated_word, own_word, column_step, argument_word, line_word, in_columns, white_columns}
 use Rattle.page_scopes_phrases.specs.Names.{function_end, manual_name, name_notes, named}
-use Rattle.page_scopes_phrases.specs.Phrases.{Outcome, row_ended, with_content, in_context, after_notes, at_margins, row_break, joined_gap, nothing, counting, changed}
+use Rattle.page_scopes_phrases.specs.Phrases.{EventOutcome, row_ended, with_content, in_context, after_notes, at_margins, row_break, joined_gap, nothing, counting, changed}
 use Rattle.page_scopes_phrases.specs.declared.formatting.Formatting.{Formatting}
 use Rattle.page_scopes_phrases.specs.declared.kept_texts.KeptText.{KeptText}
 use Rattle.page_scopes_nodes.specs.Ends.{line_end}
@@ -57,7 +57,7 @@ cells_after place font part (byte ∷ bytes) =
     else cells_after place font (part ++ byte ∷ []) bytes
 
 -- a row of its own, which is kept: the characters as they are, in the font in use
-unfoldable pub raw_line : Place → List ℕ → Formatting → Outcome
+unfoldable pub raw_line : Place → List ℕ → Formatting → EventOutcome
 raw_line place text s = record {
   items = shown pieces.Break ∷ shown (pieces.Literal true)
       ∷ (cells_after place s.context.fonts.value.font [] text ++ shown pieces.RowEnd ∷ shown (pieces.Literal s.context.is_literal.value) ∷ []);
@@ -102,7 +102,7 @@ with_font_named name c = record c { fonts = fonts_named (unwrap_or (option_map (
 
 -- ---- rows that are kept (`nf`, `EX`), or filled (`fi`, `EE`)
 
-abbrev pub literal : Bool → Formatting → Outcome
+abbrev pub literal : Bool → Formatting → EventOutcome
 literal on s = record {
   items = shown pieces.Break ∷ shown (pieces.Literal on) ∷ [];
   state = row_ended (in_context (record s.context { is_literal = set_to on }) s);
@@ -110,7 +110,7 @@ literal on s = record {
 
 -- ---- br, sp, ft, in, nf and fi
 
-abbrev pub request : Place → Request (List ℕ) → Formatting → Outcome
+abbrev pub request : Place → RequestLeaf (List ℕ) → Formatting → EventOutcome
 request place requests.Break s = row_break s
 request place (requests.Space rows) s = record {
   items = given_rows_notes place rows ++ shown (pieces.Space (given_rows rows)) ∷ [];
@@ -125,7 +125,7 @@ request place (requests.Literal on) s = literal on s
 -- ---- What macros of mdoc(7) change in their line, or print there. Source: mdoc(7), "MACRO REFERENCE".
 
 -- `Pp`, `Lp`: fonts and the shift stay as they are; skipped where there is nothing before them since the heading
-abbrev pub body_paragraph : Place → BodyParagraphName → Formatting → Outcome
+abbrev pub body_paragraph : Place → BodyParagraphName → Formatting → EventOutcome
 body_paragraph place name s =
     if s.has_content then record {
       items = shown (pieces.Para s.context.distance.value) ∷ margin_items (flat s.context);
@@ -134,14 +134,14 @@ body_paragraph place name s =
     else record { items = says SkipPara place (body_paragraph_name name) ∷ []; state = s }
 
 -- a comma parts a field of a reference (`%A` and so on) from the one before, and so the arguments of a function (`Fo`, `Fa`); after the first they have begun
-abbrev pub next_of : SeriesSoFar → (begun : Context) → Place → Formatting → Outcome
+abbrev pub next_of : SeriesSoFar → (begun : Context) → Place → Formatting → EventOutcome
 next_of series.Outside begun place s = nothing s
 next_of series.Empty begun place s = nothing (in_context begun s)
 next_of series.Begun begun place s = generated_word place (own_word Comma Glued Apart) s
 
 -- ---- the section SYNOPSIS
 
-abbrev pub name_hung : Option ℕ → Formatting → Outcome
+abbrev pub name_hung : Option ℕ → Formatting → EventOutcome
 name_hung None s = nothing s
 name_hung (Some columns) s = record {
   items = margin_items (name_ended columns s.context);
@@ -149,7 +149,7 @@ name_hung (Some columns) s = record {
 }
 
 -- for `In` a word comes before its file; the name of the manual (`Nm`) begins a row at the margin
-abbrev pub synopsis_step : Place → SynopsisStep → Formatting → Outcome
+abbrev pub synopsis_step : Place → SynopsisStep → Formatting → EventOutcome
 synopsis_step place Break s = row_break s
 synopsis_step place Include s = generated_word place (own_word owns.Include Apart Apart) s
 synopsis_step place NameBegins s = changed (counting (Some 0)) (at_margins (in_context (first_at_margin (flat s.context)) s))
@@ -158,13 +158,13 @@ synopsis_step place NameEnds s = name_hung s.line.name_columns s
 -- ---- `Sm`
 
 -- where there are blanks between words again, there is one here
-abbrev pub spaced : Bool → Formatting → Outcome
+abbrev pub spaced : Bool → Formatting → EventOutcome
 spaced on s = nothing (record s { context = record s.context { has_spacing = set_to on }; gap = if on then max s.gap 1 else s.gap })
 
 -- ---- all of them
 
 -- `Ns`: the next word is glued to the one before, unless blanks part them; the address of `Lk` is a word
-abbrev pub step_outcome : Place → LineStep (List ℕ) → Option KeptText → Formatting → Outcome
+abbrev pub step_outcome : Place → LineStep (List ℕ) → Option KeptText → Formatting → EventOutcome
 step_outcome place steps.NextColumn name s = column_step place s.context.list s
 step_outcome place steps.Glue name s = nothing (record s { gap = joined_gap Glued (s.line.ends_blank && not s.context.is_literal.value) s.gap })
 step_outcome place (steps.BodyParagraph paragraph) name s = body_paragraph place paragraph s
@@ -181,14 +181,14 @@ step_outcome place (steps.Synopsis step) name s = if in_synopsis s.context then 
 -- ---- lines without words
 
 -- a blank line is a row, where rows are kept; else a blank row, which is reported
-abbrev pub blank_line : Place → Formatting → Outcome
+abbrev pub blank_line : Place → Formatting → EventOutcome
 blank_line place s = record {
   items = if s.context.is_literal.value then shown pieces.RowEnd ∷ [] else says BlankFill place [] ∷ shown (pieces.Space 1) ∷ [];
   state = row_ended (with_content s);
 }
 
 -- blanks and tabs are a row, where rows are kept; in columns each tab begins the next one
-abbrev pub kept_line : Place → List ℕ → Formatting → Outcome
+abbrev pub kept_line : Place → List ℕ → Formatting → EventOutcome
 kept_line place text s =
     if in_columns s.context && has_tab text then white_columns text s
     else record {
@@ -197,7 +197,7 @@ kept_line place text s =
     }
 
 -- else they end the row; a line of nothing does nothing
-abbrev pub wordless_line : (literal : Bool) → Place → List ℕ → Formatting → Outcome
+abbrev pub wordless_line : (literal : Bool) → Place → List ℕ → Formatting → EventOutcome
 wordless_line true place text s = kept_line place text s
 wordless_line false place [] s = nothing s
 wordless_line false place (byte ∷ bytes) s = row_break s
@@ -205,19 +205,19 @@ wordless_line false place (byte ∷ bytes) s = row_break s
 -- ---- macros
 
 -- `PD`: the blank rows before a paragraph
-abbrev pub distance : Place → Option (List ℕ) → Formatting → Outcome
+abbrev pub distance : Place → Option (List ℕ) → Formatting → EventOutcome
 distance place rows s =
     record { items = given_rows_notes place rows; state = in_context (record s.context { distance = set_to (given_rows rows) }) s }
 
 -- the words of a font macro (`B`, `I`, `SM`, `SB`) are in its font; after them the fonts are those before them
-abbrev pub fonts : Option Font → Formatting → Outcome
+abbrev pub fonts : Option Font → Formatting → EventOutcome
 fonts (Some font) s = nothing (record s { context = font_begun font s.context; line = record s.line { fonts_before = Some s.context.fonts } })
 fonts None s =
     nothing (record s { context = record s.context { fonts = unwrap_or s.line.fonts_before s.context.fonts }; line = record s.line { fonts_before = None } })
 
 -- ---- one row for each leaf; the name is that of the manual; a further tag (`TQ`) is in front of text that hangs by the prevailing indent
 
-unfoldable pub leaf_outcome : Place → Leaf (List ℕ) → Option KeptText → Formatting → Outcome
+unfoldable pub leaf_outcome : Place → Leaf (List ℕ) → Option KeptText → Formatting → EventOutcome
 leaf_outcome place leaves.BlankLine name s = blank_line place s
 leaf_outcome place (leaves.Wordless text) name s = wordless_line s.context.is_literal.value place text s
 leaf_outcome place (leaves.Request row_request) name s = request place row_request s
@@ -232,7 +232,7 @@ leaf_outcome place (leaves.Step step) name s = step_outcome place step name s
 -- ---- What an event gives that opens and closes nothing, and what it leaves. Source: man(7), mdoc(7); mandoc(1), "DIAGNOSTICS".
 
 -- a word, a leaf, a line as it is, a line's end, or a message; the name is that of the manual
-unfoldable pub kind_outcome : Place → EventKind (List ℕ) → Option KeptText → Formatting → Outcome
+unfoldable pub kind_outcome : Place → EventKind (List ℕ) → Option KeptText → Formatting → EventOutcome
 kind_outcome place (event_kinds.Word word) name s =
     after_notes (name_notes place.line word.role word.arg name) (line_word place.line word s)
 kind_outcome place (event_kinds.Leaf leaf) name s = leaf_outcome place leaf name s

@@ -21,7 +21,7 @@ use page_roff_syntax::Argument;
 use page_scopes_layout::Context;
 use page_scopes_phrases::Formatting;
 use page_scopes_words::{Fonts, Setting, give_columns, give_rows, report_font};
-use page_sets_lines::Request;
+use page_sets_lines::RequestLeaf;
 
 /// The rows that are given, one where they are not, with the messages of their number.
 pub(crate) fn give_given_rows<O: PieceOut>(out: &mut O, place: Place, rows: Option<&[u8]>) -> u32
@@ -170,19 +170,19 @@ pub(crate) fn give_literal<O: PieceOut>(out: &mut O, on: bool, state: &mut Forma
 pub(crate) fn give_request<O: PieceOut>(
     out: &mut O,
     place: Place,
-    request: &Request<&[u8]>,
+    request: &RequestLeaf<&[u8]>,
     state: &mut Formatting,
 )
     ensures { GivesOutcome O.left out.old (requests.request place (request_view request.now) state.old) out.new state.new }
 {
     match *request {
-        Request::Break => {
+        RequestLeaf::Break => {
             out.give(Piece::Break);
             state.end_row();
         }
-        Request::Space(rows) => give_space(out, place, rows, state),
-        Request::Font(name) => give_font(out, place, name, &mut state.context),
-        Request::Shift(columns) => give_shift(out, place, columns, state),
-        Request::Literal(on) => give_literal(out, on, state),
+        RequestLeaf::Space(rows) => give_space(out, place, rows, state),
+        RequestLeaf::Font(name) => give_font(out, place, name, &mut state.context),
+        RequestLeaf::Shift(columns) => give_shift(out, place, columns, state),
+        RequestLeaf::Literal(on) => give_literal(out, on, state),
     }
 }

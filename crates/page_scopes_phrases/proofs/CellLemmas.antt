@@ -11,7 +11,7 @@ use Rattle.page_core_escapes.proofs.TokenLemmas.{tokens_more, tokens_none}
 use Rattle.page_scopes_phrases.specs.LineWords.{after_tab, before_blanks, before_tab, cell, cells_within, first_part, has_tab, other_cells, other_cells_text, span, span_of, tab_in, white_columns, with_more, tab_step}
 use Rattle.page_sets_lines.specs.laws.Views.{FitsAt}
 use Rattle.page_scopes_phrases.specs.laws.Views.{GivesOutcome}
-use Rattle.page_scopes_phrases.specs.Phrases.{Outcome, followed_by, nothing}
+use Rattle.page_scopes_phrases.specs.Phrases.{EventOutcome, followed_by, nothing}
 use Rattle.page_scopes_phrases.specs.declared.cells.CellSpan.{CellSpan}
 use Rattle.page_scopes_phrases.specs.declared.phrases.Phrase.{Phrase}
 use Rattle.page_scopes_phrases.specs.declared.formatting.Formatting.{Formatting}
@@ -159,7 +159,7 @@ pub is_not_before : (m n : ℕ) → n ≤ m → nat_lt m n ≡ false
 is_not_before m n h = grind (arith, nat_tests, h)
 
 -- what is still to come of a text in cells, which are given to a latch
-pub record CellsLeft {P O : Type 0} (left : P → O → List Item → Type 0) (start : O) (all : Outcome) (line : ℕ) (p : Phrase (List ℕ)) (s : Formatting)
+pub record CellsLeft {P O : Type 0} (left : P → O → List Item → Type 0) (start : O) (all : EventOutcome) (line : ℕ) (p : Phrase (List ℕ)) (s : Formatting)
     (out : O) : Type 0 where
   pub room : ℕ
   pub enough : length p.text ≤ room
@@ -178,7 +178,7 @@ unfolding cells_within
 last-cell zero line p s h = refl
 last-cell (suc n) line p s h = rw h refl
 
-pub cells-go-on : {P O : Type 0} (left : P → O → List Item → Type 0) (start : O) (all : Outcome) (line : ℕ) (p : Phrase (List ℕ)) (s t : Formatting)
+pub cells-go-on : {P O : Type 0} (left : P → O → List Item → Type 0) (start : O) (all : EventOutcome) (line : ℕ) (p : Phrase (List ℕ)) (s t : Formatting)
     (out next : O) → has_tab p ≡ true → CellsLeft left start all line p s out → GivesOutcome left out (first_part (span p) line p s) next t
     → CellsLeft left start all line (other_cells (span p) p) t next
 cells-go-on left start all line p s t out next h before given =
@@ -191,26 +191,26 @@ cells-go-on left start all line p s t out next h before given =
       came = λ plan rest x.
           let a = rw more.2 at (before.came plan rest x) in
           given.came plan (others.items ++ rest) (subst (λ items. left plan out items) (append_assoc first.items others.items rest) a);
-      state = before.state ∙ ap (λ (o : Outcome). o.state) more.2;
+      state = before.state ∙ ap (λ (o : EventOutcome). o.state) more.2;
     })
 
-pub cells-end : {P O : Type 0} (left : P → O → List Item → Type 0) (start : O) (all : Outcome) (line : ℕ) (p : Phrase (List ℕ)) (s t : Formatting)
+pub cells-end : {P O : Type 0} (left : P → O → List Item → Type 0) (start : O) (all : EventOutcome) (line : ℕ) (p : Phrase (List ℕ)) (s t : Formatting)
     (out last : O) → has_tab p ≡ false → CellsLeft left start all line p s out → GivesOutcome left out (cell line p s) last t → GivesOutcome left start all last t
 cells-end left start all line p s t out last h before given =
     let same = last-cell before.room line p s h in
     record {
       came = λ plan rest x. given.came plan rest (rw same at (before.came plan rest x));
-      state = given.state ∙ sym (before.state ∙ ap (λ (o : Outcome). o.state) same);
+      state = given.state ∙ sym (before.state ∙ ap (λ (o : EventOutcome). o.state) same);
     }
 
 -- ---- white space, byte by byte
 
 -- what is still to come of an outcome, which is given to a latch part by part
-pub record OutcomeLeft {P O : Type 0} (left : P → O → List Item → Type 0) (start : O) (all next : Outcome) (out : O) : Type 0 where
+pub record OutcomeLeft {P O : Type 0} (left : P → O → List Item → Type 0) (start : O) (all next : EventOutcome) (out : O) : Type 0 where
   pub came : CameUpTo left start all.items next.items out
   pub state : all.state ≡ next.state
 
-pub white-goes-on : {P O : Type 0} (left : P → O → List Item → Type 0) (start : O) (all : Outcome) (byte : ℕ) (bytes : List ℕ) (s t : Formatting)
+pub white-goes-on : {P O : Type 0} (left : P → O → List Item → Type 0) (start : O) (all : EventOutcome) (byte : ℕ) (bytes : List ℕ) (s t : Formatting)
     (out next : O) → OutcomeLeft left start all (white_columns (byte ∷ bytes) s) out → GivesOutcome left out (if byte == 9 then tab_step s else nothing s) next t
     → OutcomeLeft left start all (white_columns bytes t) next
 white-goes-on left start all byte bytes s t out next before given =

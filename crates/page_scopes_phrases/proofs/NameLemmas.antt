@@ -47,10 +47,8 @@ escape-blank bytes (meanings.blanks expression) count is =
 escape-blank bytes _ count is = cc
 
 pub token-blank : (token : TextToken) (count : ℕ) → token_known token ≡ Blanks count → IsBlank token count
-token-blank (white bytes) count is = cc
-token-blank (plain bytes) count is = cc
-token-blank (quotes bytes) count is = cc
 token-blank (escaped bytes meaning) count is = escape-blank bytes meaning count is
+token-blank _ count is = cc
 
 -- ---- a token that prints nothing
 
@@ -66,10 +64,8 @@ escape-quiet bytes meanings.bad is = record { items = λ literal gap place font.
 escape-quiet bytes _ is = cc
 
 pub token-quiet : (token : TextToken) → token_known token ≡ Nothing → IsQuiet token
-token-quiet (white bytes) is = cc
-token-quiet (plain bytes) is = cc
-token-quiet (quotes bytes) is = cc
 token-quiet (escaped bytes meaning) is = escape-quiet bytes meaning is
+token-quiet _ is = cc
 
 -- ---- a token that prints as it is written
 

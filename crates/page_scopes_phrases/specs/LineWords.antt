@@ -24,7 +24,7 @@ use Rattle.page_scopes_words.specs.Words.{says, at, ends_sentence}
 use Rattle.page_scopes_layout.specs.Lists.{has_columns, next_cell}
 use Rattle.page_scopes_layout.specs.declared.contexts.Context.{Context}
 use Rattle.page_scopes_layout.specs.declared.lists.OpenList.{OpenList}
-use Rattle.page_scopes_phrases.specs.Phrases.{Outcome, nothing, phrase_outcome, is_text, followed_by, after_notes, changed, own_phrase}
+use Rattle.page_scopes_phrases.specs.Phrases.{EventOutcome, nothing, phrase_outcome, is_text, followed_by, after_notes, changed, own_phrase}
 use Rattle.page_scopes_phrases.specs.declared.cells.CellSpan.{CellSpan}
 use Rattle.page_scopes_phrases.specs.declared.formatting.Formatting.{Formatting}
 use Rattle.page_scopes_phrases.specs.declared.phrases.Phrase.{Phrase}
@@ -38,7 +38,7 @@ abbrev pub in_columns : Context → Bool
 in_columns c = unwrap_or (option_map has_columns c.list) false
 
 -- what is before the next word there takes the place of a blank
-abbrev pub next_column : Option OpenList → Formatting → Outcome
+abbrev pub next_column : Option OpenList → Formatting → EventOutcome
 next_column (Some list) s =
     if has_columns list then record {
       items = shown (pieces.Column (next_cell list).column) ∷ [];
@@ -48,7 +48,7 @@ next_column (Some list) s =
 next_column None s = nothing s
 
 -- `Ta`: it is reported where no list is open, and does nothing in a list without columns
-abbrev pub column_step : Place → Option OpenList → Formatting → Outcome
+abbrev pub column_step : Place → Option OpenList → Formatting → EventOutcome
 column_step place (Some list) s = next_column (Some list) s
 column_step place None s = record { items = says ItemOutside place [] ∷ []; state = s }
 
@@ -99,15 +99,15 @@ other_cells span p =
 -- ---- a text in cells
 
 -- a cell without a byte beside a tab is no word
-abbrev pub cell : ℕ → Phrase (List ℕ) → Formatting → Outcome
+abbrev pub cell : ℕ → Phrase (List ℕ) → Formatting → EventOutcome
 cell line p s = if length p.text == 0 then nothing s else phrase_outcome line p s
 
 -- a tab is a word of its row
-abbrev pub tab_step : Formatting → Outcome
+abbrev pub tab_step : Formatting → EventOutcome
 tab_step s = next_column s.context.list (record s { line = record s.line { has_row_words = s.line.has_row_words || is_text s.context.part } })
 
 -- the first cell, and the next column
-abbrev pub first_part : CellSpan → ℕ → Phrase (List ℕ) → Formatting → Outcome
+abbrev pub first_part : CellSpan → ℕ → Phrase (List ℕ) → Formatting → EventOutcome
 first_part span line p s = followed_by (cell line (record p { text = take span.end p.text; after = Apart }) s) tab_step
 
 abbrev pub span : Phrase (List ℕ) → CellSpan
@@ -117,22 +117,22 @@ abbrev pub has_tab : Phrase (List ℕ) → Bool
 has_tab p = nat_lt (span p).tab (length p.text)
 
 -- each tab begins the next column; a text has no more of them than bytes
-unfoldable pub cells_within : ℕ → ℕ → Phrase (List ℕ) → Formatting → Outcome
+unfoldable pub cells_within : ℕ → ℕ → Phrase (List ℕ) → Formatting → EventOutcome
 cells_within zero line p s = cell line p s
 cells_within (suc n) line p s =
     if has_tab p then followed_by (first_part (span p) line p s) (cells_within n line (other_cells (span p) p))
     else cell line p s
 
-abbrev pub cells : ℕ → Phrase (List ℕ) → Formatting → Outcome
+abbrev pub cells : ℕ → Phrase (List ℕ) → Formatting → EventOutcome
 cells line p s = cells_within (length p.text) line p s
 
 -- a text is separated by tabs where columns are open; one without a byte is a word, as everywhere
-abbrev pub text_outcome : ℕ → Phrase (List ℕ) → Formatting → Outcome
+abbrev pub text_outcome : ℕ → Phrase (List ℕ) → Formatting → EventOutcome
 text_outcome line p s = if in_columns s.context && not (length p.text == 0) then cells line p s else phrase_outcome line p s
 
 -- ---- white space without a word
 
-abbrev pub white_columns : List ℕ → Formatting → Outcome
+abbrev pub white_columns : List ℕ → Formatting → EventOutcome
 white_columns [] s = nothing s
 white_columns (byte ∷ bytes) s = followed_by (if byte == 9 then tab_step s else nothing s) (white_columns bytes)
 
@@ -164,7 +164,7 @@ abbrev pub with_sentence : List ℕ → Formatting → Formatting
 with_sentence text s = record s { line = record s.line { is_sentence = ends_sentence s.line.ends_blank text } }
 
 -- a word of a line
-unfoldable pub line_word : ℕ → Word (List ℕ) → Formatting → Outcome
+unfoldable pub line_word : ℕ → Word (List ℕ) → Formatting → EventOutcome
 line_word line word s =
     after_notes (quote_items line word.arg.quoting word.arg.column) (changed (with_sentence word.arg.text) (text_outcome line (word_phrase word) s))
 
@@ -186,7 +186,7 @@ after_generated own s = record s {
   };
 }
 
-unfoldable pub generated_word : Place → GeneratedWord → Formatting → Outcome
+unfoldable pub generated_word : Place → GeneratedWord → Formatting → EventOutcome
 generated_word place word s =
     changed (after_generated word.text)
     (phrase_outcome place.line (own_phrase place (generated_text (generated_spaced s.context.has_spacing.value word.text)) word.font word.before word.after) s)

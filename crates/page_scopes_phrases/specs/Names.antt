@@ -23,7 +23,7 @@ use Rattle.page_scopes_words.specs.declared.fonts.Fonts.{Fonts}
 use Rattle.page_scopes_words.specs.declared.settings.Setting.{Setting}
 use Rattle.page_scopes_layout.specs.Headings.{heading_further, in_synopsis}
 use Rattle.page_scopes_phrases.specs.LineWords.{with_sentence, generated_word, own_word}
-use Rattle.page_scopes_phrases.specs.Phrases.{next_gap, is_text, Outcome, after_notes, changed, own_phrase, phrase_outcome, own_fonts, followed_by, nothing, row_break}
+use Rattle.page_scopes_phrases.specs.Phrases.{next_gap, is_text, EventOutcome, after_notes, changed, own_phrase, phrase_outcome, own_fonts, followed_by, nothing, row_break}
 use Rattle.page_scopes_phrases.specs.declared.formatting.Formatting.{Formatting}
 use Rattle.page_scopes_phrases.specs.declared.kept_texts.KeptText.{KeptText}
 
@@ -99,7 +99,7 @@ name_notes line _ argument name = []
 -- ---- where it is printed
 
 -- where there is no name, its place is taken by a word of no bytes
-unfoldable pub missing_name : Place → Formatting → Outcome
+unfoldable pub missing_name : Place → Formatting → EventOutcome
 missing_name place s =
     after_notes (says MissingName place [] ∷ []) (changed (with_sentence []) (phrase_outcome place.line (own_phrase place [] (Some B) Apart Apart) s))
 
@@ -113,7 +113,7 @@ has_gap_cells s = s.context.is_literal.value && (s.line.is_after_word && nat_lt 
 
 -- in bold, without the messages of its escapes, with the blanks before it where it begins with some; a sentence ends as it is written, and a row begins with a
 -- cell; it may be of a heading
-unfoldable pub name_word : Place → KeptText → Formatting → Outcome
+unfoldable pub name_word : Place → KeptText → Formatting → EventOutcome
 name_word place name s = record {
   items = gap_items s place
       ++ (empty_items place name ++ parts_items s.context.is_literal.value (max (next_gap s) 1) place (own_fonts (Some B) s.context.fonts) (tokens_of false name.text));
@@ -123,15 +123,15 @@ name_word place name s = record {
   }));
 }
 
-abbrev pub manual_name : Place → Option KeptText → Formatting → Outcome
+abbrev pub manual_name : Place → Option KeptText → Formatting → EventOutcome
 manual_name place (Some name) s = name_word place name s
 manual_name place None s = missing_name place s
 
 -- ---- What ends a function, of `Fn` or of `Fo`. Source: mdoc(7), "MACRO REFERENCE".
 
 -- in the SYNOPSIS a semicolon follows what closes its arguments, and the row ends
-abbrev pub declaration_end : Place → Formatting → Outcome
+abbrev pub declaration_end : Place → Formatting → EventOutcome
 declaration_end place s = if in_synopsis s.context then followed_by (generated_word place (own_word Semicolon Glued Apart) s) row_break else nothing s
 
-unfoldable pub function_end : Place → Formatting → Outcome
+unfoldable pub function_end : Place → Formatting → EventOutcome
 function_end place s = followed_by (generated_word place (own_word CloseParenthesis Glued Apart) s) (declaration_end place)

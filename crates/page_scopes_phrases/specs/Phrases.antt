@@ -74,32 +74,32 @@ counting columns s = record s { line = record s.line { name_columns = columns } 
 -- ---- What an event gives, and what it leaves. Source: man(7), mdoc(7).
 
 -- pieces and messages, and by what the page is then formatted
-pub record Outcome : Type 0 where
+pub record EventOutcome : Type 0 where
   pub items : List Item
   pub state : Formatting
 
 -- it prints nothing, and leaves this state
-abbrev pub nothing : Formatting → Outcome
+abbrev pub nothing : Formatting → EventOutcome
 nothing s = record { items = []; state = s }
 
 -- the row ends
-abbrev pub row_break : Formatting → Outcome
+abbrev pub row_break : Formatting → EventOutcome
 row_break s = record { items = shown Break ∷ []; state = row_ended s }
 
 -- and rows go on in their context
-abbrev pub at_margins : Formatting → Outcome
+abbrev pub at_margins : Formatting → EventOutcome
 at_margins s = record { items = shown Break ∷ margin_items s.context; state = row_ended s }
 
 -- messages come first, or other items
-abbrev pub after_notes : List Item → Outcome → Outcome
+abbrev pub after_notes : List Item → EventOutcome → EventOutcome
 after_notes notes o = record o { items = notes ++ o.items }
 
 -- then the state changes
-abbrev pub changed : (Formatting → Formatting) → Outcome → Outcome
+abbrev pub changed : (Formatting → Formatting) → EventOutcome → EventOutcome
 changed change o = record o { state = change o.state }
 
 -- one after the other
-abbrev pub followed_by : Outcome → (Formatting → Outcome) → Outcome
+abbrev pub followed_by : EventOutcome → (Formatting → EventOutcome) → EventOutcome
 followed_by first next = after_notes first.items (next first.state)
 
 -- ---- A text that an event prints: its fonts, and how it is beside the words around it. Source: man(7), `B`, `BR`; roff(7), `\f`, `\c`.
@@ -194,7 +194,7 @@ state_after p pen s = record s {
 
 -- ---- all of it; it may be of a heading
 
-abbrev pub phrase_outcome : ℕ → Phrase (List ℕ) → Formatting → Outcome
+abbrev pub phrase_outcome : ℕ → Phrase (List ℕ) → Formatting → EventOutcome
 phrase_outcome line p s = record {
   items = text_items (phrase_style p s.context) line s.line.last_word (phrase_pen p s) (words_of p.is_quoted p.text);
   state = state_after p (text_after (phrase_style p s.context) (phrase_pen p s) (words_of p.is_quoted p.text))

@@ -56,15 +56,11 @@ char_lettered bytes c h = record {
 
 -- a font that there is has no message
 known_notes : (quoted : Bool) (place : Place) (font : Face) → is_known font ≡ true → face_notes quoted place font ≡ []
-known_notes quoted place meanings.roman h = refl
-known_notes quoted place meanings.italic h = refl
-known_notes quoted place meanings.bold h = refl
-known_notes quoted place meanings.bold_italic h = refl
-known_notes quoted place meanings.former h = refl
 known_notes quoted place (meanings.unknown name) h = absurd (never h)
   where
     never : false ≡ true → ⊥
     never e = grind (arith, e)
+known_notes quoted place _ h = refl
 
 pub font_lettered : (bytes : List ℕ) (font : Face) → is_known font ≡ true → Lettered (escaped bytes (meanings.face font)) []
 font_lettered bytes font h = record {

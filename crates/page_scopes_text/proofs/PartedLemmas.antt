@@ -6,7 +6,7 @@ use Rattle.std.proofs.lemmas.Bool.{cases_Bool}
 use Rattle.std.proofs.lemmas.Bool.Decides.{nat_tests}
 use Rattle.page_core_base.specs.laws.Views.{is_word}
 use Rattle.page_core_base.specs.declared.places.Place.{Place}
-use Rattle.page_core_escapes.specs.Tokens.{TextToken, white, plain, quotes, escaped, begins_white, is_space, is_white, prints_itself, token_at, token_len}
+use Rattle.page_core_escapes.specs.Tokens.{TextToken, white, plain, begins_white, is_space, is_white, prints_itself, token_at, token_len}
 use Rattle.page_core_escapes.specs.laws.Views.{begins_word}
 use Rattle.page_core_escapes.specs.Meanings.{escape_of, read_escape}
 use Rattle.page_core_escapes.specs.Lengths.{escape_len}
@@ -20,9 +20,7 @@ use Rattle.page_scopes_text.specs.machine.Reads.{ReadsPlain}
 
 token_before : (token : TextToken) (text : Parted) → is_space token ≡ false → after_token token text ≡ record { word = token ∷ text.word; others = text.others }
 token_before (white bytes) text h = let no : ⊥ = cc in absurd no
-token_before (plain bytes) text h = refl
-token_before (quotes bytes) text h = refl
-token_before (escaped bytes meaning) text h = refl
+token_before _ text h = refl
 
 -- a word goes on with its first token
 pub words_more : (quoted : Bool) (text : List ℕ) (n : ℕ) → begins_word text ≡ true → 0 < n → n ≡ token_len quoted text

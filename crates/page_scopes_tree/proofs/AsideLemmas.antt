@@ -3,7 +3,7 @@ use Rattle.std.proofs.Common.{◌≡◌, ℕ, zero, suc, ◌≤◌, ◌<◌, Lis
 use Rattle.page_scopes_tree.specs.machine.Nestings.{Standing, as_node, as_leaf, as_nothing, Nesting, standing_of, IsSound}
 use Rattle.page_scopes_tree.specs.declared.nestings.Scope.{Scope}
 use Rattle.page_scopes_tree.specs.laws.Views.{labels}
-use Rattle.page_scopes_tree.specs.Ends.{Edge}
+use Rattle.page_scopes_tree.specs.Ends.{TreeEdge}
 use Rattle.page_scopes_tree.specs.machine.Layouts.{Layout}
 use Rattle.page_scopes_tree.specs.machine.Machines.{ended_items, ended_state, placed_items, placed_state, placed_scopes, count_ended, state_left, step, step_items}
 use Rattle.page_scopes_tree.specs.machine.Asides.{With, act, aside, ends_with, stands_with, standing_with, with_asides, Sides, layout_with, beside, before_leaf}
@@ -62,7 +62,7 @@ module _ {Y M L A F H S B I : Type 0} (nests : Nesting M L A F) (lays : Layout L
   placed_scopes_with (as_leaf f) a scopes own s = refl
   placed_scopes_with as_nothing a scopes own s = refl
 
-  pub act_items : (own : H) (d : Edge M L S B) (a : A)
+  pub act_items : (own : H) (d : TreeEdge M L S B) (a : A)
       → step_items (with_asides nests) (layout_with lays sides) (beside own d) (act a)
       ≡ ended_items lays (count_ended nests d a) a d.scopes d.state
       ++ (before_leaf sides (standing_of nests d.mode a (labels d.scopes)) own (state_left nests lays d a)
@@ -74,7 +74,7 @@ module _ {Y M L A F H S B I : Type 0} (nests : Nesting M L A F) (lays : Layout L
         placed_items_with (standing_of nests d.mode a (labels d.scopes)) a own (state_left nests lays d a),
       ) refl
 
-  pub act_step : (own : H) (d : Edge M L S B) (a : A)
+  pub act_step : (own : H) (d : TreeEdge M L S B) (a : A)
       → step (with_asides nests) (layout_with lays sides) (beside own d) (act a) ≡ beside own (step nests lays d a)
   act_step own d a =
       rw (
@@ -83,10 +83,10 @@ module _ {Y M L A F H S B I : Type 0} (nests : Nesting M L A F) (lays : Layout L
         placed_state_with (standing_of nests d.mode a (labels d.scopes)) a own (state_left nests lays d a),
       ) refl
 
-  pub aside_items : (own : H) (d : Edge M L S B) (y : Y)
+  pub aside_items : (own : H) (d : TreeEdge M L S B) (y : Y)
       → step_items (with_asides nests) (layout_with lays sides) (beside own d) (aside y) ≡ sides.items y own d.state
   aside_items own d y = refl
 
-  pub aside_step : (own : H) (d : Edge M L S B) (y : Y)
+  pub aside_step : (own : H) (d : TreeEdge M L S B) (y : Y)
       → step (with_asides nests) (layout_with lays sides) (beside own d) (aside y) ≡ beside (sides.own y own d.state) d
   aside_step own d y = refl

@@ -5,26 +5,26 @@ use Rattle.std.proofs.lemmas.List.{append-nil}
 use Rattle.page_scopes_tree.specs.machine.Nestings.{Standing, as_node, as_leaf, as_nothing, Nesting, standing_of, IsSound}
 use Rattle.page_scopes_tree.specs.declared.nestings.Scope.{Scope}
 use Rattle.page_scopes_tree.specs.laws.Views.{labels}
-use Rattle.page_scopes_tree.specs.Ends.{Edge}
+use Rattle.page_scopes_tree.specs.Ends.{TreeEdge}
 use Rattle.page_scopes_tree.specs.machine.Layouts.{Layout, settled, edge}
 use Rattle.page_scopes_tree.specs.machine.Machines.{ended_items, ended_state, placed_scopes, count_ended, state_left, step_items, step, run_items, run}
 use Rattle.page_scopes_tree.proofs.RunLemmas.{settled-run, length-labels, left_labels}
 use Rattle.page_scopes_tree.proofs.EdgeLemmas.{edge-run}
 
-run_items-append : {M L A F S B I : Type 0} (nests : Nesting M L A F) (lays : Layout L A F S B I) (d : Edge M L S B) (acts more : List A) →
+run_items-append : {M L A F S B I : Type 0} (nests : Nesting M L A F) (lays : Layout L A F S B I) (d : TreeEdge M L S B) (acts more : List A) →
     run_items nests lays d (acts ++ more) ≡ run_items nests lays d acts ++ run_items nests lays (run nests lays d acts) more
 run_items-append nests lays d [] more = refl
 run_items-append nests lays d (a ∷ acts) more =
     ap (λ t. step_items nests lays d a ++ t) (run_items-append nests lays (step nests lays d a) acts more)
     ∙ sym (append_assoc (step_items nests lays d a) _ _)
 
-run-append : {M L A F S B I : Type 0} (nests : Nesting M L A F) (lays : Layout L A F S B I) (d : Edge M L S B) (acts more : List A) →
+run-append : {M L A F S B I : Type 0} (nests : Nesting M L A F) (lays : Layout L A F S B I) (d : TreeEdge M L S B) (acts more : List A) →
     run nests lays d (acts ++ more) ≡ run nests lays (run nests lays d acts) more
 run-append nests lays d [] more = refl
 run-append nests lays d (a ∷ acts) more = run-append nests lays (step nests lays d a) acts more
 
 -- the cut law, for any cut: what is given
-pub settled-append : {M L A F S B I : Type 0} (nests : Nesting M L A F) {most : ℕ} (sound : IsSound nests most) (lays : Layout L A F S B I) (d : Edge M L S B) (acts more : List A) →
+pub settled-append : {M L A F S B I : Type 0} (nests : Nesting M L A F) {most : ℕ} (sound : IsSound nests most) (lays : Layout L A F S B I) (d : TreeEdge M L S B) (acts more : List A) →
     settled nests lays d (acts ++ more) ≡ settled nests lays d acts ++ settled nests lays (edge nests lays d acts) more
 settled-append nests sound lays d acts more =
     settled-run nests sound lays d (acts ++ more) ∙ run_items-append nests lays d acts more
@@ -34,18 +34,18 @@ settled-append nests sound lays d acts more =
     ∙ ap (λ t. settled nests lays t more) (sym (edge-run nests sound lays d acts)))
 
 -- the cut law: what decides the rest
-pub edge-append : {M L A F S B I : Type 0} (nests : Nesting M L A F) {most : ℕ} (sound : IsSound nests most) (lays : Layout L A F S B I) (d : Edge M L S B) (acts more : List A) →
+pub edge-append : {M L A F S B I : Type 0} (nests : Nesting M L A F) {most : ℕ} (sound : IsSound nests most) (lays : Layout L A F S B I) (d : TreeEdge M L S B) (acts more : List A) →
     edge nests lays d (acts ++ more) ≡ edge nests lays (edge nests lays d acts) more
 edge-append nests sound lays d acts more =
     edge-run nests sound lays d (acts ++ more) ∙ run-append nests lays d acts more ∙ sym (edge-run nests sound lays (run nests lays d acts) more)
     ∙ ap (λ t. edge nests lays t more) (sym (edge-run nests sound lays d acts))
 
 -- one act
-pub settled-one : {M L A F S B I : Type 0} (nests : Nesting M L A F) {most : ℕ} (sound : IsSound nests most) (lays : Layout L A F S B I) (d : Edge M L S B) (a : A) →
+pub settled-one : {M L A F S B I : Type 0} (nests : Nesting M L A F) {most : ℕ} (sound : IsSound nests most) (lays : Layout L A F S B I) (d : TreeEdge M L S B) (a : A) →
     settled nests lays d (a ∷ []) ≡ step_items nests lays d a
 settled-one nests sound lays d a = settled-run nests sound lays d (a ∷ []) ∙ append-nil (step_items nests lays d a)
 
-pub edge-one : {M L A F S B I : Type 0} (nests : Nesting M L A F) {most : ℕ} (sound : IsSound nests most) (lays : Layout L A F S B I) (d : Edge M L S B) (a : A) →
+pub edge-one : {M L A F S B I : Type 0} (nests : Nesting M L A F) {most : ℕ} (sound : IsSound nests most) (lays : Layout L A F S B I) (d : TreeEdge M L S B) (a : A) →
     edge nests lays d (a ∷ []) ≡ step nests lays d a
 edge-one nests sound lays d a = edge-run nests sound lays d (a ∷ [])
 
@@ -57,7 +57,7 @@ placed_fit lays most (as_node l) a scopes s h k = let less : length scopes < mos
 placed_fit lays most (as_leaf f) a scopes s h k = k
 placed_fit lays most as_nothing a scopes s h k = k
 
-pub step_fits : {M L A F S B I : Type 0} (nests : Nesting M L A F) {most : ℕ} (sound : IsSound nests most) (lays : Layout L A F S B I) (d : Edge M L S B) (a : A) →
+pub step_fits : {M L A F S B I : Type 0} (nests : Nesting M L A F) {most : ℕ} (sound : IsSound nests most) (lays : Layout L A F S B I) (d : TreeEdge M L S B) (a : A) →
     length d.scopes ≤ most → length (step nests lays d a).scopes ≤ most
 step_fits nests {most = most} sound lays d a h =
     let n = count_ended nests d a in
@@ -66,12 +66,12 @@ step_fits nests {most = most} sound lays d a h =
     placed_fit lays most (standing_of nests d.mode a (labels d.scopes)) a (drop n d.scopes) (state_left nests lays d a)
     (λ l q. let room = sound.room d.mode a n (drop n (labels d.scopes)) l q in omega arith) less
 
-run_fits : {M L A F S B I : Type 0} (nests : Nesting M L A F) {most : ℕ} (sound : IsSound nests most) (lays : Layout L A F S B I) (d : Edge M L S B) (acts : List A) →
+run_fits : {M L A F S B I : Type 0} (nests : Nesting M L A F) {most : ℕ} (sound : IsSound nests most) (lays : Layout L A F S B I) (d : TreeEdge M L S B) (acts : List A) →
     length d.scopes ≤ most → length (run nests lays d acts).scopes ≤ most
 run_fits nests sound lays d [] h = h
 run_fits nests sound lays d (a ∷ acts) h = run_fits nests sound lays (step nests lays d a) acts (step_fits nests sound lays d a h)
 
-pub edge-fits : {M L A F S B I : Type 0} (nests : Nesting M L A F) {most : ℕ} (sound : IsSound nests most) (lays : Layout L A F S B I) (d : Edge M L S B) (acts : List A) →
+pub edge-fits : {M L A F S B I : Type 0} (nests : Nesting M L A F) {most : ℕ} (sound : IsSound nests most) (lays : Layout L A F S B I) (d : TreeEdge M L S B) (acts : List A) →
     length d.scopes ≤ most → length (edge nests lays d acts).scopes ≤ most
 edge-fits nests sound lays d acts h = rw (edge-run nests sound lays d acts) (run_fits nests sound lays d acts h)
 

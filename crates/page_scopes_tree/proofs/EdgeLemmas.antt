@@ -5,7 +5,7 @@ use Rattle.page_scopes_tree.specs.machine.Nestings.{Standing, as_node, as_leaf, 
 use Rattle.page_scopes_tree.specs.machine.Forests.{Ender, by_act, still_open, Forest, none, node, After, Rest, leaf_first, node_of, ended, placed, all_open, tree}
 use Rattle.page_scopes_tree.specs.declared.nestings.Scope.{Scope}
 use Rattle.page_scopes_tree.specs.laws.Views.{labels}
-use Rattle.page_scopes_tree.specs.Ends.{Edge}
+use Rattle.page_scopes_tree.specs.Ends.{TreeEdge}
 use Rattle.page_scopes_tree.specs.machine.Layouts.{Layout, scope_of, after, open_in, open_outer, open_rest, after_outer, after_rest, mode_after, edge}
 use Rattle.page_scopes_tree.specs.machine.Machines.{ended_state, placed_state, placed_scopes, count_ended, state_left, step, run}
 use Rattle.page_scopes_tree.proofs.RunLemmas.{ends_fit, left_labels}
@@ -137,7 +137,7 @@ placed_labels lays (as_node l) a left scopes s h = ap (λ t. l ∷ t) h
 placed_labels lays (as_leaf f) a left scopes s h = h
 placed_labels lays as_nothing a left scopes s h = h
 
-held_tree : {M L A F S B I : Type 0} (nests : Nesting M L A F) {most : ℕ} (sound : IsSound nests most) (lays : Layout L A F S B I) (d : Edge M L S B) (acts : List A) →
+held_tree : {M L A F S B I : Type 0} (nests : Nesting M L A F) {most : ℕ} (sound : IsSound nests most) (lays : Layout L A F S B I) (d : TreeEdge M L S B) (acts : List A) →
     held_of lays d.scopes d.state (tree nests d.mode (labels d.scopes) acts) ≡ held (run nests lays d acts).scopes (run nests lays d acts).state
 held_tree nests sound lays d [] = held_all_open lays d.scopes d.state
 held_tree nests sound lays d (a ∷ acts) =
@@ -152,7 +152,7 @@ held_tree nests sound lays d (a ∷ acts) =
     ∙ held_placed lays st a left rest scopes s (λ open_nodes. IsTidy-tree nests acts m open_nodes) (left_labels n d.scopes)
     ∙ held_tree nests sound lays (step nests lays d a) acts
 
-mode_run : {M L A F S B I : Type 0} (nests : Nesting M L A F) (lays : Layout L A F S B I) (d : Edge M L S B) (acts : List A) →
+mode_run : {M L A F S B I : Type 0} (nests : Nesting M L A F) (lays : Layout L A F S B I) (d : TreeEdge M L S B) (acts : List A) →
     mode_after nests d.mode (labels d.scopes) acts ≡ (run nests lays d acts).mode
 mode_run nests lays d [] = refl
 mode_run nests lays d (a ∷ acts) =
@@ -163,15 +163,15 @@ mode_run nests lays d (a ∷ acts) =
     (left_labels (count_ended nests d a) d.scopes))
     ∙ mode_run nests lays (step nests lays d a) acts
 
-pub edge-run : {M L A F S B I : Type 0} (nests : Nesting M L A F) {most : ℕ} (sound : IsSound nests most) (lays : Layout L A F S B I) (d : Edge M L S B) (acts : List A) →
+pub edge-run : {M L A F S B I : Type 0} (nests : Nesting M L A F) {most : ℕ} (sound : IsSound nests most) (lays : Layout L A F S B I) (d : TreeEdge M L S B) (acts : List A) →
     edge nests lays d acts ≡ run nests lays d acts
 unfolding held_of held edge
 edge-run nests sound lays d acts =
     let h = held_tree nests sound lays d acts in
-    let of_mode : _ → Edge _ _ _ _ = λ m. record {
+    let of_mode : _ → TreeEdge _ _ _ _ = λ m. record {
       mode = m;
       scopes = open_rest lays d.scopes d.state (tree nests d.mode (labels d.scopes) acts);
       state = after_rest lays d.scopes d.state (tree nests d.mode (labels d.scopes) acts);
     } in
-    let of_held : Held _ _ _ → Edge _ _ _ _ = λ k. record { mode = (run nests lays d acts).mode; scopes = k.scopes; state = k.state } in
+    let of_held : Held _ _ _ → TreeEdge _ _ _ _ = λ k. record { mode = (run nests lays d acts).mode; scopes = k.scopes; state = k.state } in
     ap of_mode (mode_run nests lays d acts) ∙ ap of_held h

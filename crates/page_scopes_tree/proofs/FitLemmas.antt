@@ -64,16 +64,13 @@ margin-fits number nodes =
 
 opener-fits : (opener : Opener (List ℕ)) (nodes : List Label) → opener_ends opener nodes ≤ length nodes
 opener-fits openers.Item nodes = item-fits nodes
-opener-fits openers.Section nodes = omega arith
 opener-fits openers.Subsection nodes = prefix_len-le-length (λ label. not (is_section label)) nodes
 opener-fits (openers.Paragraph name) nodes = paragraph-fits nodes
 opener-fits (openers.Tagged hang) nodes = paragraph-fits nodes
 opener-fits (openers.Indented tag hang) nodes = paragraph-fits nodes
 opener-fits (openers.Hanging hang) nodes = paragraph-fits nodes
-opener-fits (openers.RelativeMargin columns) nodes = omega arith
-opener-fits (openers.Target link target) nodes = omega arith
 opener-fits (openers.Syntax name) nodes = explicit-fits Syntax nodes
-opener-fits (openers.Block opener) nodes = omega arith
+opener-fits _ nodes = omega arith
 
 closer-fits : (closer : Closer (List ℕ)) (nodes : List Label) → closer_ends closer nodes ≤ length nodes
 closer-fits closers.Line nodes = prefix_len-le-length is_line nodes
@@ -89,14 +86,12 @@ leaf-fits leaves.BlankLine nodes = prefix_len-le-length is_line nodes
 leaf-fits _ nodes = omega arith
 
 kind-fits : (kind : EventKind (List ℕ)) (nodes : List Label) → kind_ends kind nodes ≤ length nodes
-kind-fits (kinds.Word word) nodes = omega arith
 kind-fits (kinds.Open opener) nodes = opener-fits opener nodes
 kind-fits (kinds.Close closer) nodes = closer-fits closer nodes
-kind-fits (kinds.LineScope opener) nodes = omega arith
 kind-fits (kinds.Leaf leaf) nodes = leaf-fits leaf nodes
 kind-fits (kinds.Raw text) nodes = prefix_len-le-length is_line nodes
 kind-fits (kinds.End fills) nodes = either-fits fills (line_scopes nodes) 0 (length nodes) (prefix_len-le-length is_line nodes) (omega arith)
-kind-fits (kinds.Note kind detail is_quoted begins_body) nodes = omega arith
+kind-fits _ nodes = omega arith
 
 pub act-fits : (act : Act (Event (List ℕ))) (nodes : List Label) → act_ends act nodes ≤ length nodes
 act-fits (acts.Event event) nodes = kind-fits event.kind nodes
@@ -163,13 +158,12 @@ closed-opens obstacle (suc n) h = h
 
 closer-opens : (closer : Closer (List ℕ)) (n : ℕ) → Opens (closer_placement closer n) → ⊥
 unfolding Opens
-closer-opens closers.Line n h = h
 closer-opens (closers.RelativeMargin None) n h = closed-opens _ n h
 closer-opens (closers.RelativeMargin (Some number)) n h = closed-opens _ n h
 closer-opens (closers.Target link suffix) n h = closed-opens _ n h
 closer-opens closers.Syntax n h = closed-opens _ n h
-closer-opens closers.Enclosures n h = h
 closer-opens (closers.Block closer) n h = closed-opens _ n h
+closer-opens _ n h = h
 
 dropped-opens : (test : Bool) → Opens (if test then placements.Nothing else placements.Leaf) → ⊥
 unfolding Opens
@@ -183,14 +177,11 @@ leaf-opens _ n remaining h = h
 
 kind-room : (kind : EventKind (List ℕ)) (n : ℕ) (remaining : List Label) → Opens (kind_placement kind n remaining) → length remaining < SCOPES
 unfolding Opens
-kind-room (kinds.Word word) n remaining h = absurd h
 kind-room (kinds.Open opener) n remaining h = opener-room opener remaining h
 kind-room (kinds.Close closer) n remaining h = absurd (closer-opens closer n h)
 kind-room (kinds.LineScope opener) n remaining h = line-room opener remaining h
 kind-room (kinds.Leaf leaf) n remaining h = absurd (leaf-opens leaf n remaining h)
-kind-room (kinds.Raw text) n remaining h = absurd h
-kind-room (kinds.End fills) n remaining h = absurd h
-kind-room (kinds.Note kind detail is_quoted begins_body) n remaining h = absurd h
+kind-room _ n remaining h = absurd h
 
 pub act-room : (act : Act (Event (List ℕ))) (n : ℕ) (remaining : List Label) (label : Label) → act_placement act n remaining ≡ placements.Node label → length remaining < SCOPES
 unfolding Opens
@@ -199,9 +190,7 @@ act-room (acts.PageEnd line) n remaining label h = let no : ⊥ = cc in absurd n
 
 node-placement : (act : Act (Event (List ℕ))) (placement : Placement) (label : Label) → standing_by act placement ≡ as_node label → placement ≡ placements.Node label
 node-placement act (placements.Node other) label h = cc
-node-placement act placements.Leaf label h = let no : ⊥ = cc in absurd no
-node-placement act (placements.Refused obstacle) label h = let no : ⊥ = cc in absurd no
-node-placement act placements.Nothing label h = let no : ⊥ = cc in absurd no
+node-placement act _ label h = let no : ⊥ = cc in absurd no
 
 placed-room : (test : Bool) (act : Act (Event (List ℕ))) (n : ℕ) (remaining : List Label) (label : Label)
     → (if test then as_nothing else standing_by act (act_placement act n remaining)) ≡ as_node label → length remaining < SCOPES

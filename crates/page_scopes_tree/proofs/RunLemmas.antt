@@ -5,7 +5,7 @@ use Rattle.page_scopes_tree.specs.machine.Nestings.{Standing, as_node, as_leaf, 
 use Rattle.page_scopes_tree.specs.machine.Forests.{Forest, After, Rest, node_of, ended, placed, all_open, tree}
 use Rattle.page_scopes_tree.specs.declared.nestings.Scope.{Scope}
 use Rattle.page_scopes_tree.specs.laws.Views.{labels}
-use Rattle.page_scopes_tree.specs.Ends.{Edge}
+use Rattle.page_scopes_tree.specs.Ends.{TreeEdge}
 use Rattle.page_scopes_tree.specs.machine.Layouts.{Layout, scope_of, lay_outer, lay_rest, settled}
 use Rattle.page_scopes_tree.specs.machine.Machines.{ended_items, ended_state, placed_items, placed_state, placed_scopes, count_ended, state_left, step, run_items}
 
@@ -55,14 +55,14 @@ length-labels [] = refl
 length-labels (scope ∷ scopes) = ap suc (length-labels scopes)
 
 -- an act ends no more than there is
-pub ends_fit : {M L A F S B : Type 0} (nests : Nesting M L A F) {most : ℕ} (sound : IsSound nests most) (d : Edge M L S B) (a : A) → count_ended nests d a ≤ length d.scopes
+pub ends_fit : {M L A F S B : Type 0} (nests : Nesting M L A F) {most : ℕ} (sound : IsSound nests most) (d : TreeEdge M L S B) (a : A) → count_ended nests d a ≤ length d.scopes
 ends_fit nests sound d a = subst (λ m. count_ended nests d a ≤ m) (length-labels d.scopes) (sound.fits d.mode a (labels d.scopes))
 
 pub left_labels : {L B : Type 0} (n : ℕ) (scopes : List (Scope L B)) → drop n (labels scopes) ≡ labels (drop n scopes)
 left_labels n scopes = drop-map (λ scope. scope.label) n scopes
 
 -- what the tree of the acts gives is what the stack gives act by act
-lay_tree : {M L A F S B I : Type 0} (nests : Nesting M L A F) {most : ℕ} (sound : IsSound nests most) (lays : Layout L A F S B I) (d : Edge M L S B) (acts : List A) →
+lay_tree : {M L A F S B I : Type 0} (nests : Nesting M L A F) {most : ℕ} (sound : IsSound nests most) (lays : Layout L A F S B I) (d : TreeEdge M L S B) (acts : List A) →
     lay_rest lays d.scopes d.state (tree nests d.mode (labels d.scopes) acts) ≡ run_items nests lays d acts
 lay_tree nests sound lays d [] = lay_all_open lays d.scopes d.state
 lay_tree nests sound lays d (a ∷ acts) =
@@ -81,7 +81,7 @@ lay_tree nests sound lays d (a ∷ acts) =
     ∙ ap (λ t. then ++ t) (lay_tree nests sound lays (step nests lays d a) acts))
     ∙ sym (append_assoc first then more)
 
-pub settled-run : {M L A F S B I : Type 0} (nests : Nesting M L A F) {most : ℕ} (sound : IsSound nests most) (lays : Layout L A F S B I) (d : Edge M L S B) (acts : List A) →
+pub settled-run : {M L A F S B I : Type 0} (nests : Nesting M L A F) {most : ℕ} (sound : IsSound nests most) (lays : Layout L A F S B I) (d : TreeEdge M L S B) (acts : List A) →
     settled nests lays d acts ≡ run_items nests lays d acts
 unfolding settled
 settled-run nests sound lays d acts = lay_tree nests sound lays d acts

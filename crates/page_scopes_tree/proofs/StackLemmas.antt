@@ -5,7 +5,7 @@ use Rattle.std.proofs.lemmas.List.{drop-drop, append-nil, length-reverse}
 use Rattle.page_scopes_tree.proofs.CutLemmas.{ended_items-add, ended_state-add, settled-one, edge-one, step_fits}
 use Rattle.page_scopes_tree.proofs.EdgeLemmas.{edge-run}
 use Rattle.page_scopes_tree.proofs.RunLemmas.{settled-run}
-use Rattle.page_scopes_tree.specs.Ends.{Edge}
+use Rattle.page_scopes_tree.specs.Ends.{TreeEdge}
 use Rattle.page_scopes_tree.specs.machine.Layouts.{Layout, settled, edge}
 use Rattle.page_scopes_tree.specs.machine.Nestings.{Nesting, IsSound}
 use Rattle.page_scopes_tree.specs.machine.Machines.{ended_items, ended_state, step_items, step}
@@ -37,36 +37,36 @@ drop_more count i h xs = ap (λ n. drop n xs) (one_and_rest count i h) ∙ sym (
 
 -- ---- one event, which comes and does
 
-pub settled-two : {M L A F S B I : Type 0} (nests : Nesting M L A F) {most : ℕ} (sound : IsSound nests most) (lays : Layout L A F S B I) (d : Edge M L S B)
+pub settled-two : {M L A F S B I : Type 0} (nests : Nesting M L A F) {most : ℕ} (sound : IsSound nests most) (lays : Layout L A F S B I) (d : TreeEdge M L S B)
     (a b : A) → settled nests lays d (a ∷ b ∷ []) ≡ step_items nests lays d a ++ step_items nests lays (step nests lays d a) b
 settled-two nests sound lays d a b =
     settled-run nests sound lays d (a ∷ b ∷ [])
     ∙ ap (λ t. step_items nests lays d a ++ t) (append-nil (step_items nests lays (step nests lays d a) b))
 
-pub edge-two : {M L A F S B I : Type 0} (nests : Nesting M L A F) {most : ℕ} (sound : IsSound nests most) (lays : Layout L A F S B I) (d : Edge M L S B)
+pub edge-two : {M L A F S B I : Type 0} (nests : Nesting M L A F) {most : ℕ} (sound : IsSound nests most) (lays : Layout L A F S B I) (d : TreeEdge M L S B)
     (a b : A) → edge nests lays d (a ∷ b ∷ []) ≡ step nests lays (step nests lays d a) b
 edge-two nests sound lays d a b = edge-run nests sound lays d (a ∷ b ∷ [])
 
 -- what two steps give and leave, where the edge before them and that between them have other names
 pub items_by_two : {M L A F S B I : Type 0} (nests : Nesting M L A F) {most : ℕ} (sound : IsSound nests most) (lays : Layout L A F S B I)
-    (d d0 d1 : Edge M L S B) (a b : A) → d0 ≡ d → d1 ≡ step nests lays d0 a
+    (d d0 d1 : TreeEdge M L S B) (a b : A) → d0 ≡ d → d1 ≡ step nests lays d0 a
     → settled nests lays d (a ∷ b ∷ []) ≡ step_items nests lays d0 a ++ step_items nests lays d1 b
 items_by_two nests sound lays d d0 d1 a b same first =
     sym (ap (λ t. settled nests lays t (a ∷ b ∷ [])) same) ∙ settled-two nests sound lays d0 a b
     ∙ ap (λ t. step_items nests lays d0 a ++ step_items nests lays t b) (sym first)
 
 pub edge_by_two : {M L A F S B I : Type 0} (nests : Nesting M L A F) {most : ℕ} (sound : IsSound nests most) (lays : Layout L A F S B I)
-    (d d0 d1 : Edge M L S B) (a b : A) → d0 ≡ d → d1 ≡ step nests lays d0 a → edge nests lays d (a ∷ b ∷ []) ≡ step nests lays d1 b
+    (d d0 d1 : TreeEdge M L S B) (a b : A) → d0 ≡ d → d1 ≡ step nests lays d0 a → edge nests lays d (a ∷ b ∷ []) ≡ step nests lays d1 b
 edge_by_two nests sound lays d d0 d1 a b same first =
     sym (ap (λ t. edge nests lays t (a ∷ b ∷ [])) same) ∙ edge-two nests sound lays d0 a b ∙ ap (λ t. step nests lays t b) (sym first)
 
 -- the same of one step
 pub items_by_one : {M L A F S B I : Type 0} (nests : Nesting M L A F) {most : ℕ} (sound : IsSound nests most) (lays : Layout L A F S B I)
-    (d d0 : Edge M L S B) (a : A) → d0 ≡ d → settled nests lays d (a ∷ []) ≡ step_items nests lays d0 a
+    (d d0 : TreeEdge M L S B) (a : A) → d0 ≡ d → settled nests lays d (a ∷ []) ≡ step_items nests lays d0 a
 items_by_one nests sound lays d d0 a same = sym (ap (λ t. settled nests lays t (a ∷ [])) same) ∙ settled-one nests sound lays d0 a
 
 pub edge_by_one : {M L A F S B I : Type 0} (nests : Nesting M L A F) {most : ℕ} (sound : IsSound nests most) (lays : Layout L A F S B I)
-    (d d0 : Edge M L S B) (a : A) → d0 ≡ d → edge nests lays d (a ∷ []) ≡ step nests lays d0 a
+    (d d0 : TreeEdge M L S B) (a : A) → d0 ≡ d → edge nests lays d (a ∷ []) ≡ step nests lays d0 a
 edge_by_one nests sound lays d d0 a same = sym (ap (λ t. edge nests lays t (a ∷ [])) same) ∙ edge-one nests sound lays d0 a
 
 -- no more scopes than there may be

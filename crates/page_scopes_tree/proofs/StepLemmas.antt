@@ -3,7 +3,7 @@ use Rattle.std.proofs.Common.{◌≡◌, ℕ, Bool, true, false, List, ◌++◌,
 use Rattle.page_core_base.specs.laws.Views.{Came}
 use Rattle.page_core_base.specs.Rows.{Item}
 use Rattle.page_scopes_tree.proofs.RunLemmas.{left_labels}
-use Rattle.page_scopes_tree.specs.Ends.{Edge, act_ends}
+use Rattle.page_scopes_tree.specs.Ends.{TreeEdge, act_ends}
 use Rattle.page_scopes_tree.specs.laws.Views.{labels, Step, does}
 use Rattle.page_scopes_tree.specs.machine.Layouts.{Layout}
 use Rattle.page_scopes_tree.specs.machine.Machines.{ended_items, ended_state, placed_items, placed_scopes, placed_state, step_items}
@@ -23,7 +23,7 @@ second_of true a b h = let P : Bool → Type 0 = λ t. (if t then a else b) ≡ 
 second_of false a b h = refl
 
 edge_of : {S B : Type 0} (m n : Bool) (xs ys : List (Scope Label B)) (s t : S) → m ≡ n → xs ≡ ys → s ≡ t
-    → (let d : Edge Bool Label S B = record { mode = m; scopes = xs; state = s } in let e : Edge Bool Label S B = record { mode = n; scopes = ys; state = t } in d ≡ e)
+    → (let d : TreeEdge Bool Label S B = record { mode = m; scopes = xs; state = s } in let e : TreeEdge Bool Label S B = record { mode = n; scopes = ys; state = t } in d ≡ e)
 edge_of m n xs ys s t h k l = rw (h, k, l) refl
 
 pub step-taken : {P O S B : Type 0} (left : P → O → List Item → Type 0) (tables : Tables S B) (act : Act (Event (List ℕ))) (skips next : Bool)

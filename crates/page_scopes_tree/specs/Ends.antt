@@ -32,7 +32,7 @@ event_of (acts.PageEnd line) = record { place = record { line = line; column = 1
 -- ---- The open nodes of a page, the innermost first, and what decides the rest. Source: man(7), mdoc(7).
 
 -- what decides the rest: the mode, the open nodes, the innermost first, each with what it keeps, and the state
-pub record Edge (M L S B : Type 0) : Type 0 where
+pub record TreeEdge (M L S B : Type 0) : Type 0 where
   pub mode : M
   pub scopes : List (Scope L B)
   pub state : S

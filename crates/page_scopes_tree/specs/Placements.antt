@@ -16,8 +16,8 @@ use Rattle.page_sets_lines.specs.declared.events.Event.{Event}
 use Rattle.page_sets_lines.specs.declared.events.EventKind.{EventKind}
 use Rattle.page_sets_lines.specs.declared.events.EventKind.TheVariants as kinds
 use Rattle.page_sets_lines.specs.declared.leaves.Leaf.TheVariants as leaves
-use Rattle.page_sets_lines.specs.declared.leaves.Request.{Request}
-use Rattle.page_sets_lines.specs.declared.leaves.Request.TheVariants as requests
+use Rattle.page_sets_lines.specs.declared.leaves.RequestLeaf.{RequestLeaf}
+use Rattle.page_sets_lines.specs.declared.leaves.RequestLeaf.TheVariants as requests
 use Rattle.page_sets_lines.specs.declared.openers.Closer.{Closer}
 use Rattle.page_sets_lines.specs.declared.openers.Closer.TheVariants as closers
 use Rattle.page_sets_lines.specs.declared.openers.LineOpener.{LineOpener}
@@ -30,7 +30,7 @@ use Rattle.page_scopes_labels.specs.declared.labels.Label.{Label}
 use Rattle.page_scopes_labels.specs.declared.labels.Label.TheVariants as labels
 use Rattle.page_scopes_labels.specs.declared.labels.ScopeEnd.{ScopeEnd}
 use Rattle.page_scopes_labels.specs.declared.labels.ScopeEnd.TheVariants as ends
-use Rattle.page_scopes_tree.specs.Ends.{inside, event_of, Edge}
+use Rattle.page_scopes_tree.specs.Ends.{inside, event_of, TreeEdge}
 use Rattle.page_scopes_tree.specs.declared.acts.Act.{Act}
 use Rattle.page_scopes_tree.specs.declared.acts.Act.TheVariants as acts
 use Rattle.page_scopes_tree.specs.declared.placements.Obstacle.{Obstacle}
@@ -98,7 +98,7 @@ in_line_scope [] = false
 in_line_scope (label ∷ nodes) = is_line label
 
 -- a line scope drops breaks and blank rows
-abbrev pub is_dropped : Request (List ℕ) → Bool
+abbrev pub is_dropped : RequestLeaf (List ℕ) → Bool
 is_dropped requests.Break = true
 is_dropped (requests.Space rows) = true
 is_dropped _ = false
@@ -238,4 +238,4 @@ obstacle_notes FewerMargins act = says note_kinds.FewerRs (event_of act).place [
 
 -- what decides the rest of a page: whether the rest of a line is passed over, the open scopes, and the layout's state
 abbrev pub ScopesEdge : Type 0 → Type 0 → Type 0
-ScopesEdge S B = Edge Bool Label S B
+ScopesEdge S B = TreeEdge Bool Label S B

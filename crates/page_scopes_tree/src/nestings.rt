@@ -3,7 +3,7 @@
 ghost use Rattle.std.specs.Prelude.{◌≡◌, ℕ, ◌+◌, ◌*◌, ◌≤◌, List, ◌++◌, length};
 ghost use Rattle.page_scopes_tree.specs.machine.Forests.{tree};
 ghost use Rattle.page_scopes_tree.specs.machine.Asides.{act, aside, before_leaf, beside, layout_with, Sides, with_asides};
-ghost use Rattle.page_scopes_tree.specs.Ends.{Edge};
+ghost use Rattle.page_scopes_tree.specs.Ends.{TreeEdge};
 ghost use Rattle.page_scopes_tree.specs.laws.Views.{labels};
 ghost use Rattle.page_scopes_tree.specs.machine.Layouts.{edge, Layout, settled};
 ghost use Rattle.page_scopes_tree.specs.machine.Machines.{count_ended, ended_items, placed_items, run, run_items, state_left, step, step_items};
@@ -21,24 +21,24 @@ pub struct Scope<L, B> {
 /// cut; and the edge at the end is the same.
 pub fn cut_law<M, L, A, F, S, B, I>()
     ensures given { (nests : Nesting M L A F) (most : ℕ) → IsSound nests most
-        → (lays : Layout L A F S B I) (d : Edge M L S B) (acts more : List A)
+        → (lays : Layout L A F S B I) (d : TreeEdge M L S B) (acts more : List A)
         → settled nests lays d (acts ++ more)
         ≡ settled nests lays d acts ++ settled nests lays (edge nests lays d acts) more }
     ensures edge { (nests : Nesting M L A F) (most : ℕ) → IsSound nests most
-        → (lays : Layout L A F S B I) (d : Edge M L S B) (acts more : List A)
+        → (lays : Layout L A F S B I) (d : TreeEdge M L S B) (acts more : List A)
         → edge nests lays d (acts ++ more) ≡ edge nests lays (edge nests lays d acts) more }
 {}
 
 /// A stack of open nodes, each with what it keeps of the state before it, gives act by act what the tree gives.
 pub fn stack_law<M, L, A, F, S, B, I>()
     ensures given { (nests : Nesting M L A F) (most : ℕ) → IsSound nests most
-        → (lays : Layout L A F S B I) (d : Edge M L S B) (acts : List A)
+        → (lays : Layout L A F S B I) (d : TreeEdge M L S B) (acts : List A)
         → settled nests lays d acts ≡ run_items nests lays d acts }
     ensures edge { (nests : Nesting M L A F) (most : ℕ) → IsSound nests most
-        → (lays : Layout L A F S B I) (d : Edge M L S B) (acts : List A)
+        → (lays : Layout L A F S B I) (d : TreeEdge M L S B) (acts : List A)
         → edge nests lays d acts ≡ run nests lays d acts }
     ensures depth { (nests : Nesting M L A F) (most : ℕ) → IsSound nests most
-        → (lays : Layout L A F S B I) (d : Edge M L S B) (acts : List A)
+        → (lays : Layout L A F S B I) (d : TreeEdge M L S B) (acts : List A)
         → length d.scopes ≤ most → length (edge nests lays d acts).scopes ≤ most }
 {}
 
@@ -52,15 +52,15 @@ pub fn part_law<M, L, A, F>()
 /// Asides end and open nothing, and acts beside them do what they do alone.
 pub fn asides_law<Y, M, L, A, F, H, S, B, I>()
     ensures sound { (nests : Nesting M L A F) (most : ℕ) → IsSound nests most → IsSound (with_asides {Y = Y} nests) most }
-    ensures act_items { (nests : Nesting M L A F) (lays : Layout L A F S B I) (sides : Sides Y A F H S I) (own : H) (d : Edge M L S B) (a : A)
+    ensures act_items { (nests : Nesting M L A F) (lays : Layout L A F S B I) (sides : Sides Y A F H S I) (own : H) (d : TreeEdge M L S B) (a : A)
         → step_items (with_asides nests) (layout_with lays sides) (beside own d) (act a)
         ≡ ended_items lays (count_ended nests d a) a d.scopes d.state
         ++ (before_leaf sides (standing_of nests d.mode a (labels d.scopes)) own (state_left nests lays d a)
         ++ placed_items lays (standing_of nests d.mode a (labels d.scopes)) a (state_left nests lays d a)) }
-    ensures act_step { (nests : Nesting M L A F) (lays : Layout L A F S B I) (sides : Sides Y A F H S I) (own : H) (d : Edge M L S B) (a : A)
+    ensures act_step { (nests : Nesting M L A F) (lays : Layout L A F S B I) (sides : Sides Y A F H S I) (own : H) (d : TreeEdge M L S B) (a : A)
         → step (with_asides nests) (layout_with lays sides) (beside own d) (act a) ≡ beside own (step nests lays d a) }
-    ensures aside_items { (nests : Nesting M L A F) (lays : Layout L A F S B I) (sides : Sides Y A F H S I) (own : H) (d : Edge M L S B) (y : Y)
+    ensures aside_items { (nests : Nesting M L A F) (lays : Layout L A F S B I) (sides : Sides Y A F H S I) (own : H) (d : TreeEdge M L S B) (y : Y)
         → step_items (with_asides nests) (layout_with lays sides) (beside own d) (aside y) ≡ sides.items y own d.state }
-    ensures aside_step { (nests : Nesting M L A F) (lays : Layout L A F S B I) (sides : Sides Y A F H S I) (own : H) (d : Edge M L S B) (y : Y)
+    ensures aside_step { (nests : Nesting M L A F) (lays : Layout L A F S B I) (sides : Sides Y A F H S I) (own : H) (d : TreeEdge M L S B) (y : Y)
         → step (with_asides nests) (layout_with lays sides) (beside own d) (aside y) ≡ beside (sides.own y own d.state) d }
 {}

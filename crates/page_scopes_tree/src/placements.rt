@@ -11,7 +11,9 @@ use crate::runs::{Run, run_len};
 use crate::{Act, Scope};
 use page_core_base::SCOPES;
 use page_scopes_labels::{Explicit, Label};
-use page_sets_lines::{BlockOpener, Closer, Event, EventKind, Leaf, LineOpener, Opener, Request};
+use page_sets_lines::{
+    BlockOpener, Closer, Event, EventKind, Leaf, LineOpener, Opener, RequestLeaf,
+};
 
 /// Why an event is refused.
 #[derive(Clone, Copy, PartialEq, Eq)]
@@ -167,10 +169,10 @@ fn in_enclosure<B>(remaining: &[Scope<Label, B>]) -> bool
 }
 
 // Whether a line scope drops a request.
-fn is_dropped(request: &Request<&[u8]>) -> bool
+fn is_dropped(request: &RequestLeaf<&[u8]>) -> bool
     ensures { result ≡ placements.is_dropped (request_view request.now) }
 {
-    matches!(request, Request::Break | Request::Space(_))
+    matches!(request, RequestLeaf::Break | RequestLeaf::Space(_))
 }
 
 // What becomes of an event that ended this many scopes and leaves these.

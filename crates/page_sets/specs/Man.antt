@@ -3,7 +3,7 @@ use Prim.Native.String.{String}
 use Rattle.std.specs.Option.{option_or, option_map_or}
 use Rattle.std.specs.Prelude.{ℕ, Bool, List, codes, true, false, [], ◌∷◌, Option, option_map, Some, None, ◌&&◌, ◌++◌, if◌then◌else◌, drop}
 use Rattle.page_core_base.specs.Messages.{row_in}
-use Rattle.page_core_base.specs.Texts.{Line}
+use Rattle.page_core_base.specs.Texts.{TakenLine}
 use Rattle.page_core_base.specs.declared.cells.Font.{Font}
 use Rattle.page_core_base.specs.declared.cells.Font.TheVariants as fonts
 use Rattle.page_core_base.specs.declared.note_kinds.NoteKind.{NoteKind}
@@ -49,7 +49,7 @@ use Rattle.page_sets.specs.declared.man_rows.Opens.{Opens}
 use Rattle.page_sets.specs.declared.man_rows.Opens.TheVariants as opens
 use Rattle.page_sets.specs.declared.man_rows.Quotes.{Quotes}
 use Rattle.page_sets.specs.declared.man_rows.Quotes.TheVariants.{Printed, After, BodyAfter}
-use Rattle.page_sets.specs.declared.man_rows.Row.{Row}
+use Rattle.page_sets.specs.declared.man_rows.ManRow.{ManRow}
 use Rattle.page_sets.specs.declared.man_rows.Sets.{Sets}
 use Rattle.page_sets.specs.declared.man_rows.Sets.TheVariants as sets
 use Rattle.page_sets.specs.declared.man_rows.Words.{Words}
@@ -59,12 +59,12 @@ use Rattle.page_sets.specs.declared.man_rows.Words.TheVariants as words
 
 -- a row of the table: a name; what it does without arguments; whether it breaks the line scopes that are open; of which arguments a missing
 -- closing quote is reported early; its effect; what becomes of its arguments; and what comes after them
-abbrev pub row : String → Alone → Bool → Quotes → Effect → Words → Last → List ℕ × Row
+abbrev pub row : String → Alone → Bool → Quotes → Effect → Words → Last → List ℕ × ManRow
 row name alone breaks quotes effect words last =
     (codes name, record { alone = alone; breaks = breaks; quotes = quotes; effect = effect; words = words; last = last })
 
 -- the table
-abbrev pub table : List (List ℕ × Row)
+abbrev pub table : List (List ℕ × ManRow)
 table =
     row "AT" Same true (After 0) effects.Nothing words.Nothing lasts.Nothing ∷
     row "B" (Scope (scopes.FontWords names.B)) false Printed (effects.Sets (sets.FontBegins fonts.B)) words.Plain lasts.FontEnds ∷
@@ -105,11 +105,11 @@ table =
     []
 
 -- the row of a macro
-unfoldable pub macro_row : List ℕ → Option Row
+unfoldable pub macro_row : List ℕ → Option ManRow
 macro_row name = row_in table name
 
 -- a request, or a macro that breaks no line scope and prints nothing
-abbrev pub quiet : Sets → Row
+abbrev pub quiet : Sets → ManRow
 quiet change = record {
   alone = Same;
   breaks = false;
@@ -120,11 +120,11 @@ quiet change = record {
 }
 
 -- requests are known to every set
-abbrev pub request_row : List ℕ → Option Row
+abbrev pub request_row : List ℕ → Option ManRow
 request_row name = option_map (λ request. quiet (sets.Request request)) (layout_request name)
 
 -- the row of a name
-abbrev pub row_of : List ℕ → Option Row
+abbrev pub row_of : List ℕ → Option ManRow
 row_of name = option_or (macro_row name) (request_row name)
 
 -- ---- The events of a line. Source: man(7).
@@ -256,7 +256,7 @@ last_events place (lasts.Mark text) = mark place text Glued Apart ∷ []
 
 -- a macro with its arguments: it breaks line scopes, a missing quote is reported, it has its effect, opens a line scope, and gives its words;
 -- where it has words, the line fills line scopes
-abbrev pub macro_events : Place → Row → List ℕ → List (Argument (List ℕ)) → List (Event (List ℕ))
+abbrev pub macro_events : Place → ManRow → List ℕ → List (Argument (List ℕ)) → List (Event (List ℕ))
 macro_events place row rest arguments =
     (if row.breaks then event_at place (kinds.Close closers.Line) ∷ [] else [])
     ++ (quote_events place.line (missing_quote row.quotes arguments)
@@ -276,22 +276,22 @@ lone_events Empty place name events = refused_events EmptyMacro place name
 lone_events (Scope opener) place name events =
     event_at place (kinds.LineScope opener) ∷ line_end place.line false ∷ []
 
-abbrev pub row_events : Place → List ℕ → List ℕ → List (Argument (List ℕ)) → Row → List (Event (List ℕ))
+abbrev pub row_events : Place → List ℕ → List ℕ → List (Argument (List ℕ)) → ManRow → List (Event (List ℕ))
 row_events place name rest arguments row =
     if has_arguments rest then macro_events place row rest arguments
     else lone_events row.alone place name (macro_events place row rest arguments)
 
 -- a macro by its row, if its name has one
-abbrev pub named_events : Line → Option Row → List (Event (List ℕ))
+abbrev pub named_events : TakenLine → Option ManRow → List (Event (List ℕ))
 named_events line None = refused_events UnknownMacro (name_place line) (name_of line)
 named_events line (Some row) =
     row_events (name_place line) (name_of line) (rest_of line) (arguments_after (name_end line) line.text) row
 
 -- a line without a name does nothing
-abbrev pub control_events : Line → List (Event (List ℕ))
+abbrev pub control_events : TakenLine → List (Event (List ℕ))
 control_events line =
     if is_nameless line then line_end line.number false ∷ [] else named_events line (row_of (name_of line))
 
 -- the events of a line
-unfoldable pub man_events : Line → List (Event (List ℕ))
+unfoldable pub man_events : TakenLine → List (Event (List ℕ))
 man_events line = option_map_or (plain_events line.number line.text) (plain_line line.form line.text) (control_events line)

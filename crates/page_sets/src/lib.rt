@@ -28,6 +28,6 @@ pub use page_core_base::{Form, Taken};
 pub use page_sets_lines::{
     Block, BlockCloser, BlockOpener, BodyParagraphName, Closer, Event, EventKind, FontMacro,
     GeneratedText, GeneratedWord, HeadingName, Join, Leaf, LineOpener, LineStep, Link, MacroSet,
-    Marks, OneLineName, Opener, ParagraphName, Prologue, Quotation, Request, Role, SynopsisStep,
-    TagName, Word,
+    Marks, OneLineName, Opener, ParagraphName, Prologue, Quotation, RequestLeaf, Role,
+    SynopsisStep, TagName, Word,
 };

@@ -13,7 +13,7 @@ ghost use Rattle.page_sets_lines.specs.declared.openers.Closer.TheVariants as cl
 ghost use Rattle.page_core_base.specs.declared.note_kinds.NoteKind.TheVariants.{Unterminated};
 
 use crate::man_effects::{effect_kind, line_scope};
-use crate::man_rows::{Alone, Last, Quotes, Row, Words, row_of};
+use crate::man_rows::{Alone, Last, ManRow, Quotes, Words, row_of};
 use page_core_base::{Font, LINE, NoteKind, Place, Taken};
 use page_roff_syntax::{Argument, has_arguments};
 use page_sets_lines::{
@@ -301,7 +301,7 @@ fn give_end<'a, O: EventTaker<'a>>(out: &mut O, number: u32, fills: bool)
 fn give_macro<'a, O: EventTaker<'a>>(
     out: &mut O,
     place: Place,
-    row: Row,
+    row: ManRow,
     text: &'a [u8],
     start: usize,
 )
@@ -344,7 +344,7 @@ fn give_lone<'a, O: EventTaker<'a>>(
     out: &mut O,
     place: Place,
     name: &'a [u8],
-    row: Row,
+    row: ManRow,
     text: &'a [u8],
     start: usize,
 )

@@ -99,7 +99,7 @@ pub(crate) enum Last {
 
 /// A row of the table.
 #[derive(Clone, Copy)]
-pub(crate) struct Row {
+pub(crate) struct ManRow {
     pub(crate) alone: Alone,
     /// Whether it breaks the line scopes that are open.
     pub(crate) breaks: bool,
@@ -112,7 +112,7 @@ pub(crate) struct Row {
 // A request, or a macro that breaks no line scope and prints nothing.
 macro_rules! quiet {
     ($sets:expr) => {
-        Row {
+        ManRow {
             alone: Alone::Same,
             breaks: false,
             quotes: Quotes::After(0),
@@ -126,7 +126,7 @@ macro_rules! quiet {
 // A macro that breaks line scopes: what it does without arguments, how many of them are printed, and its effect.
 macro_rules! block {
     ($alone:expr, $quotes:expr, $effect:expr) => {
-        Row {
+        ManRow {
             alone: $alone,
             breaks: true,
             quotes: $quotes,
@@ -165,7 +165,7 @@ macro_rules! closing {
 // A macro that opens or closes a scope and prints its first argument there; the others are words.
 macro_rules! with_further_words {
     ($alone:expr, $effect:expr) => {
-        Row {
+        ManRow {
             alone: $alone,
             breaks: true,
             quotes: Quotes::Printed,
@@ -186,7 +186,7 @@ macro_rules! ignored {
 // A heading: its arguments are words.
 macro_rules! heading {
     ($opens:expr) => {
-        Row {
+        ManRow {
             alone: Alone::Same,
             breaks: true,
             quotes: Quotes::Printed,
@@ -200,7 +200,7 @@ macro_rules! heading {
 // Words in one font; without any it opens a scope over the next line.
 macro_rules! font_words {
     ($name:expr, $font:expr) => {
-        Row {
+        ManRow {
             alone: Alone::Scope(LineOpener::FontWords($name)),
             breaks: false,
             quotes: Quotes::Printed,
@@ -214,7 +214,7 @@ macro_rules! font_words {
 // A macro that needs words, which are in no font of its own, or in several.
 macro_rules! needs_words {
     ($quotes:expr, $effect:expr, $words:expr, $last:expr) => {
-        Row {
+        ManRow {
             alone: Alone::Empty,
             breaks: false,
             quotes: $quotes,
@@ -241,14 +241,14 @@ macro_rules! alternating {
 }
 
 // The row of a macro.
-fn macro_row(name: &[u8]) -> Option<Row>
+fn macro_row(name: &[u8]) -> Option<ManRow>
     ensures { result ≡ rows.macro_row name.now }
 {
     row_named(list_for(&MACROS, name), name)
 }
 
 // The row of a request.
-fn request_row(name: &[u8]) -> Option<Row>
+fn request_row(name: &[u8]) -> Option<ManRow>
     ensures { result ≡ rows.request_row name.now }
 {
     let request = layout_request(name)?;
@@ -256,7 +256,7 @@ fn request_row(name: &[u8]) -> Option<Row>
 }
 
 /// The row of a name, if a macro or request has it.
-pub(crate) fn row_of(name: &[u8]) -> Option<Row>
+pub(crate) fn row_of(name: &[u8]) -> Option<ManRow>
     ensures { result ≡ rows.row_of name.now }
 {
     if let Some(row) = macro_row(name) {
@@ -266,7 +266,7 @@ pub(crate) fn row_of(name: &[u8]) -> Option<Row>
 }
 
 // The table: the names by their first letter. The place of a list is its letter's number: from 1 for `A`.
-static MACROS: [&[(&[u8], Row)]; 26] = [
+static MACROS: [&[(&[u8], ManRow)]; 26] = [
     &[], // before A
     &[(b"AT", ignored!())], // A
     &[ // B

@@ -3,7 +3,7 @@ use Rattle.std.proofs.Common.{◌≡◌, ℕ, ◌+◌, ◌-◌, ◌≤◌, ◌<�
 use Rattle.std.proofs.lemmas.List.Sums.{prefix_len-le-length}
 use Rattle.std.proofs.Math.Seq.{take-length}
 use Rattle.std.proofs.lemmas.Bool.Decides.{nat_tests}
-use Rattle.page_core_base.specs.Texts.{Line}
+use Rattle.page_core_base.specs.Texts.{TakenLine}
 use Rattle.page_roff_syntax.specs.declared.quotes.Argument.{Argument}
 use Rattle.page_roff_syntax.specs.LineForms.{is_white}
 use Rattle.page_sets_lines.specs.declared.events.EventKind.{EventKind}
@@ -35,10 +35,10 @@ start_within : (text : List ℕ) → before_name text ≤ length text
 start_within [] = omega arith
 start_within (control ∷ bytes) = omega (arith, prefix_len-le-length is_white bytes)
 
-pub end_within : (line : Line) → name_end line ≤ length line.text
+pub end_within : (line : TakenLine) → name_end line ≤ length line.text
 end_within line = omega (arith, start_within line.text)
 
-pub name_part : (line : Line) → IsPart line.text (name_of line)
+pub name_part : (line : TakenLine) → IsPart line.text (name_of line)
 name_part line =
     let text = line.text in
     let start = before_name text in
@@ -72,17 +72,15 @@ pub second_text_after : (line : List ℕ) (start : ℕ) → IsPartIfGiven line (
 second_text_after line start = text_part line (second_of (arguments_after start line)) (second_slice_after line start)
 
 pub request_slices : (line : List ℕ) (name : LayoutRequest) (given : Option (Argument (List ℕ))) → IsArgumentIfGiven line given → RequestsSlices line (request name given)
-request_slices line layout.Break given h = tt
 request_slices line layout.Space given h = text_part line given h
 request_slices line layout.Font given h = h
 request_slices line layout.Shift given h = text_part line given h
-request_slices line (layout.Literal on) given h = tt
+request_slices line _ given h = tt
 
 pub line_slices : (line : PlainLine) (text : List ℕ) → HasSlices text (plain_kind line text)
 line_slices lines.Words text = record { column = omega arith; slice = whole_slice text }
-line_slices lines.Wordless text = whole_part text
 line_slices lines.Blank text = tt
-line_slices lines.Raw text = whole_part text
+line_slices _ text = whole_part text
 
 pub AreSlices-append : (line : List ℕ) (front rest : List (Event (List ℕ))) → AreSlices line front → AreSlices line rest → AreSlices line (front ++ rest)
 AreSlices-append line [] rest h k = k
@@ -92,13 +90,7 @@ AreSlices-append line (event ∷ front) rest h k = (h.0, AreSlices-append line f
 
 abbrev pub is_word : EventKind (List ℕ) → Bool
 is_word (kinds.Word word) = true
-is_word (kinds.Open opener) = false
-is_word (kinds.Close closer) = false
-is_word (kinds.LineScope opener) = false
-is_word (kinds.Leaf leaf) = false
-is_word (kinds.Raw text) = false
-is_word (kinds.End fills) = false
-is_word (kinds.Note kind detail is_quoted begins_body) = false
+is_word _ = false
 
 -- none of the events is a word
 abbrev pub HasNoWord : List (Event (List ℕ)) → Type 0
@@ -107,13 +99,7 @@ HasNoWord (event ∷ events) = (is_word event.kind ≡ false) × HasNoWord event
 
 no_word_passes : (from : ℕ) (kind : EventKind (List ℕ)) → is_word kind ≡ false → BeginsFrom from kind × (past from kind ≡ from)
 no_word_passes from (kinds.Word word) h = cc
-no_word_passes from (kinds.Open opener) h = (tt, refl)
-no_word_passes from (kinds.Close closer) h = (tt, refl)
-no_word_passes from (kinds.LineScope opener) h = (tt, refl)
-no_word_passes from (kinds.Leaf leaf) h = (tt, refl)
-no_word_passes from (kinds.Raw text) h = (tt, refl)
-no_word_passes from (kinds.End fills) h = (tt, refl)
-no_word_passes from (kinds.Note kind detail is_quoted begins_body) h = (tt, refl)
+no_word_passes from _ h = (tt, refl)
 
 pub order_after : (from : ℕ) (front rest : List (Event (List ℕ))) → HasNoWord front → AreInOrder from rest → AreInOrder from (front ++ rest)
 order_after from [] rest h k = k
@@ -133,9 +119,7 @@ order_before from (event ∷ words) rest h k = (h.0, order_before (past from eve
 
 pub line_order : (line : PlainLine) (text : List ℕ) → BeginsFrom 0 (plain_kind line text)
 line_order lines.Words text = omega arith
-line_order lines.Wordless text = tt
-line_order lines.Blank text = tt
-line_order lines.Raw text = tt
+line_order _ text = tt
 
 -- ---- a line with a name
 
@@ -143,7 +127,7 @@ start_bytes : (text : List ℕ) → 1 ≤ length text → 1 ≤ before_name text
 start_bytes [] h = absurd (omega arith)
 start_bytes (control ∷ bytes) h = omega arith
 
-pub named_bytes : (line : Line) → is_nameless line ≡ false → (2 ≤ name_end line) × (name_end line ≤ length line.text)
+pub named_bytes : (line : TakenLine) → is_nameless line ≡ false → (2 ≤ name_end line) × (name_end line ≤ length line.text)
 named_bytes line h =
     let n : (before_name line.text == name_end line) ≡ false = h in
     let w = end_within line in

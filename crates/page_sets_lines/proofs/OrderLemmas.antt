@@ -16,13 +16,7 @@ pub record IsTaken (argument : Argument (List ℕ)) (arguments after : List (Arg
 -- a word takes one of the arguments, and those after it are left; all else takes none
 abbrev pub Takes : EventKind (List ℕ) → List (Argument (List ℕ)) → List (Argument (List ℕ)) → Type 0
 Takes (kinds.Word word) arguments after = IsTaken word.arg arguments after
-Takes (kinds.Open opener) arguments after = after ≡ arguments
-Takes (kinds.Close closer) arguments after = after ≡ arguments
-Takes (kinds.LineScope opener) arguments after = after ≡ arguments
-Takes (kinds.Leaf leaf) arguments after = after ≡ arguments
-Takes (kinds.Raw text) arguments after = after ≡ arguments
-Takes (kinds.End fills) arguments after = after ≡ arguments
-Takes (kinds.Note kind detail is_quoted begins_body) arguments after = after ≡ arguments
+Takes _ arguments after = after ≡ arguments
 
 -- the words of the events are some of the arguments, in their order
 abbrev pub TakesInOrder : List (Event (List ℕ)) → List (Argument (List ℕ)) → Type 0
@@ -41,13 +35,7 @@ later_one : (kind : EventKind (List ℕ)) (events : List (Event (List ℕ))) (fr
     → (left : List (Argument (List ℕ))) × Takes kind (front ++ arguments) left × TakesInOrder events left
 later_one (kinds.Word word) events front arguments after h k m =
     (after, record { before = front ++ h.before; split = ap (λ l. front ++ l) h.split ∙ sym (joined front h.before (word.arg ∷ after)) }, k)
-later_one (kinds.Open opener) events front arguments after h k m = (front ++ after, ap (λ l. front ++ l) h, m)
-later_one (kinds.Close closer) events front arguments after h k m = (front ++ after, ap (λ l. front ++ l) h, m)
-later_one (kinds.LineScope opener) events front arguments after h k m = (front ++ after, ap (λ l. front ++ l) h, m)
-later_one (kinds.Leaf leaf) events front arguments after h k m = (front ++ after, ap (λ l. front ++ l) h, m)
-later_one (kinds.Raw text) events front arguments after h k m = (front ++ after, ap (λ l. front ++ l) h, m)
-later_one (kinds.End fills) events front arguments after h k m = (front ++ after, ap (λ l. front ++ l) h, m)
-later_one (kinds.Note kind detail is_quoted begins_body) events front arguments after h k m = (front ++ after, ap (λ l. front ++ l) h, m)
+later_one _ events front arguments after h k m = (front ++ after, ap (λ l. front ++ l) h, m)
 
 pub takes_later : (events : List (Event (List ℕ))) (front arguments : List (Argument (List ℕ)))
     → TakesInOrder events arguments → TakesInOrder events (front ++ arguments)
@@ -61,13 +49,7 @@ more_behind : (kind : EventKind (List ℕ)) (arguments after behind : List (Argu
     → Takes kind arguments after → Takes kind (arguments ++ behind) (after ++ behind)
 more_behind (kinds.Word word) arguments after behind h =
     record { before = h.before; split = ap (λ l. l ++ behind) h.split ∙ joined h.before (word.arg ∷ after) behind }
-more_behind (kinds.Open opener) arguments after behind h = ap (λ l. l ++ behind) h
-more_behind (kinds.Close closer) arguments after behind h = ap (λ l. l ++ behind) h
-more_behind (kinds.LineScope opener) arguments after behind h = ap (λ l. l ++ behind) h
-more_behind (kinds.Leaf leaf) arguments after behind h = ap (λ l. l ++ behind) h
-more_behind (kinds.Raw text) arguments after behind h = ap (λ l. l ++ behind) h
-more_behind (kinds.End fills) arguments after behind h = ap (λ l. l ++ behind) h
-more_behind (kinds.Note kind detail is_quoted begins_body) arguments after behind h = ap (λ l. l ++ behind) h
+more_behind _ arguments after behind h = ap (λ l. l ++ behind) h
 
 pub TakesInOrder-append : (events more : List (Event (List ℕ))) (arguments behind : List (Argument (List ℕ)))
     → TakesInOrder events arguments → TakesInOrder more behind → TakesInOrder (events ++ more) (arguments ++ behind)
@@ -90,13 +72,7 @@ taken_from line argument after (first ∷ before) from h =
 order_one : (line : List ℕ) (from : ℕ) (kind : EventKind (List ℕ)) (arguments after : List (Argument (List ℕ)))
     → ArgumentsFrom line from arguments → Takes kind arguments after → BeginsFrom from kind × ArgumentsFrom line (past from kind) after
 order_one line from (kinds.Word word) arguments after a h = taken_from line word.arg after h.before from (rw h.split at a)
-order_one line from (kinds.Open opener) arguments after a h = (tt, rw h a)
-order_one line from (kinds.Close closer) arguments after a h = (tt, rw h a)
-order_one line from (kinds.LineScope opener) arguments after a h = (tt, rw h a)
-order_one line from (kinds.Leaf leaf) arguments after a h = (tt, rw h a)
-order_one line from (kinds.Raw text) arguments after a h = (tt, rw h a)
-order_one line from (kinds.End fills) arguments after a h = (tt, rw h a)
-order_one line from (kinds.Note kind detail is_quoted begins_body) arguments after a h = (tt, rw h a)
+order_one line from _ arguments after a h = (tt, rw h a)
 
 pub in_order : (line : List ℕ) (from : ℕ) (events : List (Event (List ℕ))) (arguments : List (Argument (List ℕ)))
     → ArgumentsFrom line from arguments → TakesInOrder events arguments → AreInOrder from events

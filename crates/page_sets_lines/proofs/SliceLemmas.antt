@@ -35,103 +35,50 @@ part_fits line text short part = let within = part.1.within in omega (arith, wit
 
 block_opener_fits : (line : List ℕ) (opener : BlockOpener (List ℕ)) → length line ≤ LINE → BlockOpensSlices line opener → BlockOpenerFits opener
 block_opener_fits line (block_openers.List kind is_compact options) short slices = part_fits line options short slices
-block_opener_fits line (block_openers.Quotation quotation) short slices = tt
 block_opener_fits line (block_openers.Custom mark) short slices = given_fits line mark short slices
-block_opener_fits line block_openers.Extension short slices = tt
 block_opener_fits line (block_openers.Display is_literal is_compact offset) short slices = given_fits line offset short slices
-block_opener_fits line (block_openers.Fonts font) short slices = tt
-block_opener_fits line block_openers.Keep short slices = tt
-block_opener_fits line block_openers.Reference short slices = tt
 block_opener_fits line (block_openers.Function name) short slices = argument_fits line name short slices
+block_opener_fits line _ short slices = tt
 
 block_closer_fits : (line : List ℕ) (closer : BlockCloser (List ℕ)) → length line ≤ LINE → BlockClosesSlices line closer → BlockCloserFits closer
-block_closer_fits line block_closers.List short slices = tt
-block_closer_fits line (block_closers.Quotation quotation) short slices = tt
 block_closer_fits line (block_closers.Custom mark) short slices = given_fits line mark short slices
-block_closer_fits line block_closers.Extension short slices = tt
-block_closer_fits line block_closers.Display short slices = tt
-block_closer_fits line block_closers.Fonts short slices = tt
-block_closer_fits line block_closers.Keep short slices = tt
-block_closer_fits line block_closers.Reference short slices = tt
-block_closer_fits line block_closers.Function short slices = tt
+block_closer_fits line _ short slices = tt
 
 opener_fits : (line : List ℕ) (opener : Opener (List ℕ)) → length line ≤ LINE → OpensSlices line opener → OpenerFits opener
-opener_fits line openers.Item short slices = tt
-opener_fits line openers.Section short slices = tt
-opener_fits line openers.Subsection short slices = tt
-opener_fits line (openers.Paragraph name) short slices = tt
-opener_fits line (openers.Tagged hang) short slices = tt
 opener_fits line (openers.Indented tag hang) short slices = given_fits line tag short slices.0
-opener_fits line (openers.Hanging hang) short slices = tt
-opener_fits line (openers.RelativeMargin columns) short slices = tt
 opener_fits line (openers.Target link target) short slices = argument_fits line target short slices
 opener_fits line (openers.Syntax name) short slices = argument_fits line name short slices
 opener_fits line (openers.Block opener) short slices = block_opener_fits line opener short slices
+opener_fits line _ short slices = tt
 
 closer_fits : (line : List ℕ) (closer : Closer (List ℕ)) → length line ≤ LINE → ClosesSlices line closer → CloserFits closer
-closer_fits line closers.Line short slices = tt
-closer_fits line (closers.RelativeMargin number) short slices = tt
 closer_fits line (closers.Target link suffix) short slices = given_fits line suffix short slices
-closer_fits line closers.Syntax short slices = tt
-closer_fits line closers.Enclosures short slices = tt
 closer_fits line (closers.Block closer) short slices = block_closer_fits line closer short slices
+closer_fits line _ short slices = tt
 
 step_fits : (line : List ℕ) (step : LineStep (List ℕ)) → length line ≤ LINE → StepsSlices line step → StepFits step
-step_fits line steps.NextColumn short slices = tt
-step_fits line steps.Glue short slices = tt
-step_fits line (steps.BodyParagraph name) short slices = tt
 step_fits line (steps.Uri uri) short slices = argument_fits line uri short slices
-step_fits line steps.ManualName short slices = tt
-step_fits line steps.NextField short slices = tt
-step_fits line steps.NextArgument short slices = tt
-step_fits line steps.FunctionEnd short slices = tt
-step_fits line (steps.Spacing on) short slices = tt
-step_fits line (steps.Synopsis step) short slices = tt
+step_fits line _ short slices = tt
 
 leaf_fits : (line : List ℕ) (leaf : Leaf (List ℕ)) → length line ≤ LINE → LeavesSlices line leaf → LeafFits leaf
-leaf_fits line leaves.BlankLine short slices = tt
-leaf_fits line (leaves.Wordless text) short slices = tt
-leaf_fits line (leaves.Request request) short slices = tt
-leaf_fits line (leaves.Prologue name rest) short slices = tt
-leaf_fits line (leaves.Generated word) short slices = tt
-leaf_fits line (leaves.Example begins) short slices = tt
-leaf_fits line (leaves.Distance rows) short slices = tt
-leaf_fits line (leaves.Fonts font) short slices = tt
-leaf_fits line leaves.FurtherTag short slices = tt
 leaf_fits line (leaves.Step step) short slices = step_fits line step short slices
+leaf_fits line _ short slices = tt
 
 -- the texts of an event of a line, which are slices of it, are in a line
 pub kind_fits : (line : List ℕ) (kind : EventKind (List ℕ)) → length line ≤ LINE → HasSlices line kind → KindFits kind
 kind_fits line (kinds.Word word) short slices = argument_fits line word.arg short slices
 kind_fits line (kinds.Open opener) short slices = opener_fits line opener short slices
 kind_fits line (kinds.Close closer) short slices = closer_fits line closer short slices
-kind_fits line (kinds.LineScope opener) short slices = tt
 kind_fits line (kinds.Leaf leaf) short slices = leaf_fits line leaf short slices
-kind_fits line (kinds.Raw text) short slices = tt
-kind_fits line (kinds.End fills) short slices = tt
-kind_fits line (kinds.Note kind detail is_quoted begins_body) short slices = tt
+kind_fits line _ short slices = tt
 
 leaf_short : (line : List ℕ) (leaf : Leaf (List ℕ)) → length line ≤ LINE → HasSlices line (kinds.Leaf leaf) → RestIsShort (kinds.Leaf leaf)
-leaf_short line leaves.BlankLine short slices = tt
-leaf_short line (leaves.Wordless text) short slices = tt
-leaf_short line (leaves.Request request) short slices = tt
 leaf_short line (leaves.Prologue name rest) short slices = part_fits line rest short slices
-leaf_short line (leaves.Generated word) short slices = tt
-leaf_short line (leaves.Example begins) short slices = tt
-leaf_short line (leaves.Distance rows) short slices = tt
-leaf_short line (leaves.Fonts font) short slices = tt
-leaf_short line leaves.FurtherTag short slices = tt
-leaf_short line (leaves.Step step) short slices = tt
+leaf_short line _ short slices = tt
 
 rest_short : (line : List ℕ) (kind : EventKind (List ℕ)) → length line ≤ LINE → HasSlices line kind → RestIsShort kind
-rest_short line (kinds.Word word) short slices = tt
-rest_short line (kinds.Open opener) short slices = tt
-rest_short line (kinds.Close closer) short slices = tt
-rest_short line (kinds.LineScope opener) short slices = tt
 rest_short line (kinds.Leaf leaf) short slices = leaf_short line leaf short slices
-rest_short line (kinds.Raw text) short slices = tt
-rest_short line (kinds.End fills) short slices = tt
-rest_short line (kinds.Note kind detail is_quoted begins_body) short slices = tt
+rest_short line _ short slices = tt
 
 -- the first event of a line
 pub first_short : (line : List ℕ) (events : List (Event (List ℕ))) (event : Event (List ℕ)) (others : List (Event (List ℕ)))

@@ -1,7 +1,7 @@
 -- Finished lines: the name and the arguments of a control line, and the events of lines that are the same in both sets of macros. Source: man(7), mdoc(7), roff(7).
 use Rattle.std.specs.List.{prefix_len}
 use Rattle.std.specs.Prelude.{ℕ, ◌+◌, min, List, length, drop, max, ◌-◌, take, ◌==◌, Bool, [], ◌∷◌, Option, None, Some, true, false, zero, suc, if◌then◌else◌}
-use Rattle.page_core_base.specs.Texts.{Line}
+use Rattle.page_core_base.specs.Texts.{TakenLine}
 use Rattle.page_core_base.specs.declared.cells.Font.{Font}
 use Rattle.page_core_base.specs.declared.lines_taken.Form.{Form}
 use Rattle.page_core_base.specs.declared.lines_taken.Form.TheVariants as forms
@@ -27,8 +27,8 @@ use Rattle.page_sets_lines.specs.declared.events.Role.TheVariants as roles
 use Rattle.page_sets_lines.specs.declared.events.Word.{Word}
 use Rattle.page_sets_lines.specs.declared.leaves.Leaf.TheVariants as leaves
 use Rattle.page_sets_lines.specs.declared.leaves.Leaf.TheVariants.{Wordless, BlankLine}
-use Rattle.page_sets_lines.specs.declared.leaves.Request.{Request}
-use Rattle.page_sets_lines.specs.declared.leaves.Request.TheVariants as requests
+use Rattle.page_sets_lines.specs.declared.leaves.RequestLeaf.{RequestLeaf}
+use Rattle.page_sets_lines.specs.declared.leaves.RequestLeaf.TheVariants as requests
 use Rattle.page_sets_lines.specs.declared.plain_lines.PlainLine.{PlainLine}
 use Rattle.page_sets_lines.specs.declared.plain_lines.PlainLine.TheVariants as lines
 
@@ -39,21 +39,21 @@ abbrev pub before_name : List ℕ → ℕ
 before_name text = min 1 (length text) + prefix_len is_white (drop 1 text)
 
 -- the name goes as far as the line says, but not past the text's end; a name that would end before it begins is empty
-abbrev pub name_end : Line → ℕ
+abbrev pub name_end : TakenLine → ℕ
 name_end line = max (before_name line.text) (min line.name_end (length line.text))
 
 -- where the name is
-abbrev pub name_place : Line → Place
+abbrev pub name_place : TakenLine → Place
 name_place line = record { line = line.number; column = before_name line.text + 1 }
 
-abbrev pub name_of : Line → List ℕ
+abbrev pub name_of : TakenLine → List ℕ
 name_of line = take (name_end line - before_name line.text) (drop (before_name line.text) line.text)
 
-abbrev pub is_nameless : Line → Bool
+abbrev pub is_nameless : TakenLine → Bool
 is_nameless line = before_name line.text == name_end line
 
 -- what comes after the name: the arguments, with what is between them
-abbrev pub rest_of : Line → List ℕ
+abbrev pub rest_of : TakenLine → List ℕ
 rest_of line = drop (name_end line) line.text
 
 -- the arguments that begin after this many bytes
@@ -155,7 +155,7 @@ unfoldable pub layout_request : List ℕ → Option LayoutRequest
 layout_request name = layout_in (request_of name)
 
 -- a request with its first argument, where it has one
-abbrev pub request : LayoutRequest → Option (Argument (List ℕ)) → Request (List ℕ)
+abbrev pub request : LayoutRequest → Option (Argument (List ℕ)) → RequestLeaf (List ℕ)
 request layout.Break given = requests.Break
 request layout.Space given = requests.Space (text_of given)
 request layout.Font given = requests.Font given

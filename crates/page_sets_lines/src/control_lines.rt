@@ -53,9 +53,9 @@ pub struct ControlLine<'a> {
 }
 
 impl<'a> Model for ControlLine<'a> {
-    ghost use Rattle.page_core_base.specs.Texts.{Line};
+    ghost use Rattle.page_core_base.specs.Texts.{TakenLine};
 
-    ghost Value = { Line };
+    ghost Value = { TakenLine };
 
     ghost use Rattle.std.specs.Prelude.{◌≡◌, ◌≤◌, length};
     ghost use Rattle.page_core_base.specs.laws.Views.{line_view};

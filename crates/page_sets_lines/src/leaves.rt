@@ -9,7 +9,7 @@ use page_sets_names::{GeneratedText, Prologue};
 
 /// A request that changes rows; `W` is a text, a number in it still an expression.
 #[derive(Clone, Copy)]
-pub enum Request<W> {
+pub enum RequestLeaf<W> {
     /// `br`.
     Break,
     /// `sp`, with its rows.
@@ -38,7 +38,7 @@ pub enum Leaf<W> {
     BlankLine,
     /// A text line without a word: blanks and tabs, or nothing.
     Wordless(W),
-    Request(Request<W>),
+    Request(RequestLeaf<W>),
     /// A macro of the prologue, with the rest of its line.
     Prologue(Prologue, W),
     /// A word of the macro's own.

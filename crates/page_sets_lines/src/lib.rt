@@ -28,7 +28,7 @@ pub use events::{
     Event, EventKind, Join, Role, Word, event_at, generated_word, line_start, word_event,
     word_place,
 };
-pub use leaves::{GeneratedWord, Leaf, Request};
+pub use leaves::{GeneratedWord, Leaf, RequestLeaf};
 pub use line_steps::{LineStep, SynopsisStep};
 pub use lists::{Awaited, ListKind, ListOptions, ListWord, read_list_options};
 pub use macro_sets::MacroSet;

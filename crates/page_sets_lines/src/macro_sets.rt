@@ -2,7 +2,7 @@
 
 ghost use Rattle.std.specs.Prelude.{◌≡◌, ◌≤◌, ◌+◌, ◌*◌, List, ℕ, length};
 ghost use Rattle.page_sets_lines.specs.declared.events.Event.{Event};
-ghost use Rattle.page_core_base.specs.Texts.{Line};
+ghost use Rattle.page_core_base.specs.Texts.{TakenLine};
 ghost use Rattle.page_core_base.specs.laws.Views.{line_view, Came};
 ghost use Rattle.page_sets_lines.specs.laws.Events.{TakesNext};
 ghost use Rattle.page_sets_lines.specs.laws.Sets.{AreSlices, AreInOrder};
@@ -21,13 +21,13 @@ pub trait MacroSet {
     ghost page_indent: { Self → ℕ };
 
     // the table of the set: the events of a line
-    ghost table: { Self → Line → List (Event (List ℕ)) };
+    ghost table: { Self → TakenLine → List (Event (List ℕ)) };
 
     // whether a place is of a line
-    ghost IsPlaceOf: { Self → Line → Self.Place → Type 0 };
+    ghost IsPlaceOf: { Self → TakenLine → Self.Place → Type 0 };
 
     // the events of a line from a place on
-    ghost events_from: { Self → Line → Self.Place → List (Event (List ℕ)) };
+    ghost events_from: { Self → TakenLine → Self.Place → List (Event (List ℕ)) };
 
     /// The indent of a page, in columns.
     fn indent(&self) -> u32
@@ -60,15 +60,15 @@ pub trait MacroSet {
     }
 
     // each argument is the slice of the line at its column, and each other text a slice of it
-    ghost slices: { (set : Self) (line : Line) → AreSlices line.text (table set line) };
+    ghost slices: { (set : Self) (line : TakenLine) → AreSlices line.text (table set line) };
 
     // the same of the events from a place on
-    ghost slices_from: { (set : Self) (line : Line) (place : Self.Place) →
+    ghost slices_from: { (set : Self) (line : TakenLine) (place : Self.Place) →
         IsPlaceOf set line place → AreSlices line.text (events_from set line place) };
 
     // the words are in order
-    ghost in_order: { (set : Self) (line : Line) → AreInOrder 0 (table set line) };
+    ghost in_order: { (set : Self) (line : TakenLine) → AreInOrder 0 (table set line) };
 
     // at most two events a byte, and two
-    ghost few: { (set : Self) (line : Line) → length (table set line) ≤ 2 * length line.text + 2 };
+    ghost few: { (set : Self) (line : TakenLine) → length (table set line) ≤ 2 * length line.text + 2 };
 }

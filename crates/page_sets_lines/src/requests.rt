@@ -5,7 +5,7 @@ ghost use Rattle.page_sets_lines.specs.Lines.{text_of, layout_request};
 ghost use Rattle.page_sets_lines.specs.laws.Events.{given_view, request_view, text_view};
 ghost use Rattle.page_sets_lines.specs.Lines as plain;
 
-use crate::leaves::Request;
+use crate::leaves::RequestLeaf;
 use page_roff_syntax::{Argument, LayoutRequest};
 
 /// The request of this name that changes rows.
@@ -33,14 +33,14 @@ fn text_of<'a>(given: Option<Argument<&'a [u8]>>) -> Option<&'a [u8]>
 pub fn with_argument<'a>(
     request: LayoutRequest,
     given: Option<Argument<&'a [u8]>>,
-) -> Request<&'a [u8]>
+) -> RequestLeaf<&'a [u8]>
     ensures { request_view result ≡ plain.request request (given_view given.entry) }
 {
     match request {
-        LayoutRequest::Break => Request::Break,
-        LayoutRequest::Space => Request::Space(text_of(given)),
-        LayoutRequest::Font => Request::Font(given),
-        LayoutRequest::Shift => Request::Shift(text_of(given)),
-        LayoutRequest::Literal(on) => Request::Literal(on),
+        LayoutRequest::Break => RequestLeaf::Break,
+        LayoutRequest::Space => RequestLeaf::Space(text_of(given)),
+        LayoutRequest::Font => RequestLeaf::Font(given),
+        LayoutRequest::Shift => RequestLeaf::Shift(text_of(given)),
+        LayoutRequest::Literal(on) => RequestLeaf::Literal(on),
     }
 }

@@ -2,7 +2,7 @@
 use Rattle.std.specs.List.{list_any}
 use Rattle.std.specs.Prelude.{Bool, true, false, ℕ, List, [], ◌∷◌, Option, None, Some, ◌++◌, unwrap_or, codes, ◌-◌, ◌&&◌, if◌then◌else◌, is_some}
 use Rattle.std.specs.Str.{bytes_eq}
-use Rattle.page_core_base.specs.Texts.{Line}
+use Rattle.page_core_base.specs.Texts.{TakenLine}
 use Rattle.page_core_base.specs.declared.note_kinds.NoteKind.{NoteKind}
 use Rattle.page_core_base.specs.declared.note_kinds.NoteKind.TheVariants.{Unterminated, UnknownFont, EmptyMacro}
 use Rattle.page_roff_syntax.specs.Arguments.{is_quoted}
@@ -26,8 +26,8 @@ use Rattle.page_sets_lines.specs.declared.openers.LineOpener.TheVariants as scop
 use Rattle.page_sets_lines.specs.declared.openers.Opener.{Opener}
 use Rattle.page_sets_lines.specs.declared.openers.Opener.TheVariants as openers
 use Rattle.page_sets_mdoc_lines.specs.Parts.{is_real}
-use Rattle.page_sets_mdoc_lines.specs.declared.blocks.Block.{Block}
-use Rattle.page_sets_mdoc_lines.specs.declared.blocks.Block.TheVariants as blocks
+use Rattle.page_sets_mdoc_lines.specs.declared.blocks.BlockMacro.{BlockMacro}
+use Rattle.page_sets_mdoc_lines.specs.declared.blocks.BlockMacro.TheVariants as blocks
 use Rattle.page_sets_mdoc_lines.specs.declared.blocks.LineMacro.{LineMacro}
 use Rattle.page_sets_mdoc_lines.specs.declared.blocks.LineMacro.TheVariants as lines
 use Rattle.page_sets_mdoc_blocks.specs.Displays.{display, given_font, list_note}
@@ -47,14 +47,14 @@ has_phrase _ = false
 -- REFERENCE"; roff(7), "REQUEST REFERENCE".
 
 -- an event at the macro that begins the line
-abbrev pub at_name : Line → EventKind (List ℕ) → Event (List ℕ)
+abbrev pub at_name : TakenLine → EventKind (List ℕ) → Event (List ℕ)
 at_name line kind = event_at (name_place line) kind
 
-abbrev pub line_arguments : Line → List (Argument (List ℕ))
+abbrev pub line_arguments : TakenLine → List (Argument (List ℕ))
 line_arguments line = arguments_after (name_end line) line.text
 
 -- a message that names the macro
-abbrev pub refusal : NoteKind → Line → Event (List ℕ)
+abbrev pub refusal : NoteKind → TakenLine → Event (List ℕ)
 refusal kind line = at_name line (kinds.Note kind (name_of line) false false)
 
 -- the quote of an argument that lacks its last one; its message may begin the body of the page
@@ -64,11 +64,11 @@ quote_events number begins_body (Some column) =
     event_at (record { line = number; column = column }) (kinds.Note Unterminated [] false begins_body) ∷ []
 
 -- a macro that prints none of its arguments tells of a quote that lacks its last one
-abbrev pub missing_quote : Bool → Line → List (Event (List ℕ))
+abbrev pub missing_quote : Bool → TakenLine → List (Event (List ℕ))
 missing_quote begins_body line = quote_events line.number begins_body (open_quote 0 (line_arguments line))
 
 -- `br sp ft in nf fi`
-abbrev pub request_front : LayoutRequest → Line → List (Event (List ℕ))
+abbrev pub request_front : LayoutRequest → TakenLine → List (Event (List ℕ))
 request_front name line =
     missing_quote false line ++ (at_name line (kinds.Leaf (leaves.Request (request name (first_of (line_arguments line))))) ∷ [])
 
@@ -82,11 +82,11 @@ heading_opener headings.Ss = openers.Subsection
 -- ---- blocks of lines (`Bd Bf Bk Bl Rs` up to `Ed Ef Ek El Re`)
 
 -- the text of the first argument, if there is one
-abbrev pub first_text : Line → Option (List ℕ)
+abbrev pub first_text : TakenLine → Option (List ℕ)
 first_text line = text_of (first_of (line_arguments line))
 
 -- what it opens and closes
-abbrev pub opener_of : Block → Line → BlockOpener (List ℕ)
+abbrev pub opener_of : BlockMacro → TakenLine → BlockOpener (List ℕ)
 opener_of blocks.List line =
     let options = list_options (line_arguments line) in block_openers.List (unwrap_or options.kind list_kinds.Item) options.is_compact (rest_of line)
 opener_of blocks.Display line = display (line_arguments line)
@@ -94,51 +94,51 @@ opener_of blocks.Fonts line = block_openers.Fonts (given_font (first_text line))
 opener_of blocks.Keep line = block_openers.Keep
 opener_of blocks.Reference line = block_openers.Reference
 
-abbrev pub closer_of : Block → BlockCloser (List ℕ)
+abbrev pub closer_of : BlockMacro → BlockCloser (List ℕ)
 closer_of blocks.List = block_closers.List
 closer_of blocks.Display = block_closers.Display
 closer_of blocks.Fonts = block_closers.Fonts
 closer_of blocks.Keep = block_closers.Keep
 closer_of blocks.Reference = block_closers.Reference
 
-abbrev pub kind_at_name : Line → Option (EventKind (List ℕ)) → List (Event (List ℕ))
+abbrev pub kind_at_name : TakenLine → Option (EventKind (List ℕ)) → List (Event (List ℕ))
 kind_at_name line None = []
 kind_at_name line (Some kind) = at_name line kind ∷ []
 
 -- a message about the arguments; one about a font names it
-abbrev pub note_detail : NoteKind → Line → List ℕ
+abbrev pub note_detail : NoteKind → TakenLine → List ℕ
 note_detail UnknownFont line = unwrap_or (first_text line) []
 note_detail _ line = []
 
 -- whether that argument is quoted
-abbrev pub note_is_quoted : NoteKind → Line → Bool
+abbrev pub note_is_quoted : NoteKind → TakenLine → Bool
 note_is_quoted UnknownFont line = option_map_or (λ argument. is_quoted argument.quoting) (first_of (line_arguments line)) false
 note_is_quoted _ line = false
 
-abbrev pub note_events : Line → Option NoteKind → List (Event (List ℕ))
+abbrev pub note_events : TakenLine → Option NoteKind → List (Event (List ℕ))
 note_events line None = []
 note_events line (Some kind) = at_name line (kinds.Note kind (note_detail kind line) (note_is_quoted kind line) true) ∷ []
 
 -- a font that is not known is told of
-abbrev pub block_note : Block → Line → Option NoteKind
+abbrev pub block_note : BlockMacro → TakenLine → Option NoteKind
 block_note blocks.List line = list_note (list_options (line_arguments line))
 block_note blocks.Fonts line = if is_some (given_font (first_text line)) then None else Some UnknownFont
 block_note _ line = None
 
-abbrev pub begin_front : Block → Line → List (Event (List ℕ))
+abbrev pub begin_front : BlockMacro → TakenLine → List (Event (List ℕ))
 begin_front block line =
     missing_quote true line ++ (note_events line (block_note block line) ++ (at_name line (kinds.Open (openers.Block (opener_of block line))) ∷ []))
 
-abbrev pub end_front : Block → Line → List (Event (List ℕ))
+abbrev pub end_front : BlockMacro → TakenLine → List (Event (List ℕ))
 end_front block line = missing_quote false line ++ (at_name line (kinds.Close (closers.Block (closer_of block))) ∷ [])
 
 -- ---- fields of a reference (`%A` and so on)
 
 -- one of the arguments is no delimiter
-abbrev pub has_real_word : Line → Bool
+abbrev pub has_real_word : TakenLine → Bool
 has_real_word line = list_any is_real (line_arguments line)
 
-abbrev pub field_front : Bool → Line → List (Event (List ℕ))
+abbrev pub field_front : Bool → TakenLine → List (Event (List ℕ))
 field_front true line = at_name line (kinds.Leaf (leaves.Step steps.NextField)) ∷ []
 field_front false line = refusal EmptyMacro line ∷ []
 
@@ -161,7 +161,7 @@ given_names (word ∷ words) = if is_standard word then words else word ∷ word
 -- ---- files of declarations (`In`)
 
 -- one without a word is refused
-abbrev pub include_front : Bool → Line → List (Event (List ℕ))
+abbrev pub include_front : Bool → TakenLine → List (Event (List ℕ))
 include_front true line = []
 include_front false line = refusal EmptyMacro line ∷ []
 
@@ -179,13 +179,13 @@ abbrev pub spacing_kind : Option (Option Bool) → Option (EventKind (List ℕ))
 spacing_kind None = None
 spacing_kind (Some on) = Some (kinds.Leaf (leaves.Step (steps.Spacing on)))
 
-abbrev pub spacing_front : Line → List (Event (List ℕ))
+abbrev pub spacing_front : TakenLine → List (Event (List ℕ))
 spacing_front line = missing_quote false line ++ kind_at_name line (spacing_kind (spacing_of (first_text line)))
 
 -- ---- all of them
 
 -- what a macro does before its words; macros that can be among words have no front of their own
-abbrev pub block_front : LineMacro → Line → List (Event (List ℕ))
+abbrev pub block_front : LineMacro → TakenLine → List (Event (List ℕ))
 block_front (lines.Inline inline) line = []
 block_front (lines.Prologue name) line = missing_quote false line ++ (at_name line (kinds.Leaf (leaves.Prologue name (rest_of line))) ∷ [])
 block_front (lines.Heading name) line =

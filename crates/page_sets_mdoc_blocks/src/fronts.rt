@@ -19,7 +19,7 @@ use page_sets_lines::{
     BlockCloser, BlockOpener, Closer, ControlLine, Event, EventKind, EventTaker, HeadingName, Leaf,
     LineOpener, LineStep, Opener, event_at, with_argument,
 };
-use page_sets_mdoc_lines::{Block, LineMacro};
+use page_sets_mdoc_lines::{BlockMacro, LineMacro};
 
 // An event at the name of the macro that begins a line.
 fn at_name<'a>(line: &ControlLine<'_>, kind: EventKind<&'a [u8]>) -> Event<&'a [u8]>
@@ -99,41 +99,41 @@ fn give_note<'a, O: EventTaker<'a>>(out: &mut O, line: &ControlLine<'a>, kind: O
 
 // What a block of lines opens with.
 #[tactic(auto, using(crate::proofs::FrontLemmas::opens_fit))]
-fn opener_of<'a>(block: Block, line: &ControlLine<'a>) -> BlockOpener<&'a [u8]>
+fn opener_of<'a>(block: BlockMacro, line: &ControlLine<'a>) -> BlockOpener<&'a [u8]>
     ensures opener { block_opener_view result ≡ fronts.opener_of block line.now }
     ensures fits { BlockOpenerFits (block_opener_view result) }
 {
     line.len_law();
     match block {
-        Block::List => list_of(line),
-        Block::Display => display_of(line),
-        Block::Fonts => BlockOpener::Fonts(first_font(line)),
-        Block::Keep => BlockOpener::Keep,
-        Block::Reference => BlockOpener::Reference,
+        BlockMacro::List => list_of(line),
+        BlockMacro::Display => display_of(line),
+        BlockMacro::Fonts => BlockOpener::Fonts(first_font(line)),
+        BlockMacro::Keep => BlockOpener::Keep,
+        BlockMacro::Reference => BlockOpener::Reference,
     }
 }
 
 // What a block of lines closes with.
-fn closer_of<'a>(block: Block) -> BlockCloser<&'a [u8]>
+fn closer_of<'a>(block: BlockMacro) -> BlockCloser<&'a [u8]>
     ensures closer { block_closer_view result ≡ fronts.closer_of block }
     ensures fits { BlockCloserFits (block_closer_view result) }
 {
     match block {
-        Block::List => BlockCloser::List,
-        Block::Display => BlockCloser::Display,
-        Block::Fonts => BlockCloser::Fonts,
-        Block::Keep => BlockCloser::Keep,
-        Block::Reference => BlockCloser::Reference,
+        BlockMacro::List => BlockCloser::List,
+        BlockMacro::Display => BlockCloser::Display,
+        BlockMacro::Fonts => BlockCloser::Fonts,
+        BlockMacro::Keep => BlockCloser::Keep,
+        BlockMacro::Reference => BlockCloser::Reference,
     }
 }
 
 // The message about the arguments of a block.
-fn block_note(block: Block, line: &ControlLine<'_>) -> Option<NoteKind>
+fn block_note(block: BlockMacro, line: &ControlLine<'_>) -> Option<NoteKind>
     ensures { result ≡ fronts.block_note block line.now }
 {
     match block {
-        Block::List => list_note(line),
-        Block::Fonts if first_font(line).is_none() => Some(NoteKind::UnknownFont),
+        BlockMacro::List => list_note(line),
+        BlockMacro::Fonts if first_font(line).is_none() => Some(NoteKind::UnknownFont),
         _ => None,
     }
 }
@@ -153,7 +153,7 @@ fn give_quoted<'a, O: EventTaker<'a>>(
 }
 
 // A block of lines begins.
-fn give_begin<'a, O: EventTaker<'a>>(out: &mut O, block: Block, line: &ControlLine<'a>)
+fn give_begin<'a, O: EventTaker<'a>>(out: &mut O, block: BlockMacro, line: &ControlLine<'a>)
     ensures { Came O.left out.old (fronts.begin_front block line.now) out.new }
 {
     give_quote(out, line.number(), true, line.missing_quote());

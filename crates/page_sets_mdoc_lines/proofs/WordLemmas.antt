@@ -9,7 +9,7 @@ use Rattle.page_sets_mdoc_lines.specs.declared.macros.Inline.{Inline}
 use Rattle.page_sets_mdoc_lines.specs.declared.word_spans.ReadWord.{ReadWord}
 use Rattle.page_sets_mdoc_lines.specs.declared.word_spans.WordSpan.{WordSpan}
 use Rattle.page_sets_mdoc_lines.specs.laws.Views.{arguments_after, is_something, parts_arguments, rest_parts, span_of, FirstIs, IsFirstOf, TakesWord, taken_onto}
-use Rattle.page_sets_mdoc_lines.specs.Parts.{is_closing, is_real, takes_next, word_call, Call, LineParts, call_first, front_len, has_calls, if_parsed, parts, tail_alone, inside, outside}
+use Rattle.page_sets_mdoc_lines.specs.Parts.{is_closing, is_real, takes_next, word_call, InlineCall, LineParts, call_first, front_len, has_calls, if_parsed, parts, tail_alone, inside, outside}
 use Rattle.page_sets_mdoc_lines.proofs.CursorLemmas.{few_left}
 use Rattle.page_sets_mdoc_lines.proofs.PartLemmas.{none_taken, rest_goes_on, whole, words_taken}
 use Rattle.page_sets_mdoc_lines.proofs.WordSpanLemmas.{closing_calls}
@@ -126,7 +126,7 @@ onto_rest p (Some word) = refl
 
 -- ---- what comes after a macro's words
 
-no_calls : (calls : List Call) → has_calls calls ≡ false → calls ≡ []
+no_calls : (calls : List InlineCall) → has_calls calls ≡ false → calls ≡ []
 no_calls [] h = refl
 no_calls (call ∷ calls) h = cc
 

@@ -71,7 +71,7 @@ takes_next _ word = false
 -- Source: mdoc(7), "MACRO SYNTAX".
 
 -- a macro that a word of the line calls: that word, the word that the macro takes as it is, and its other words
-pub record Call : Type 0 where
+pub record InlineCall : Type 0 where
   pub inline : Inline
   pub name : Argument (List ℕ)
   pub taken : Option (Argument (List ℕ))
@@ -81,7 +81,7 @@ pub record Call : Type 0 where
 pub record LineParts : Type 0 where
   pub taken : Option (Argument (List ℕ))
   pub words : List (Argument (List ℕ))
-  pub calls : List Call
+  pub calls : List InlineCall
   pub tail : List (Argument (List ℕ))
 
 abbrev pub tail_alone : List (Argument (List ℕ)) → LineParts
@@ -126,7 +126,7 @@ front_len closing [] = 0
 front_len closing (argument ∷ arguments) =
     if front_len closing arguments == 0 && closing argument then 0 else 1 + front_len closing arguments
 
-abbrev pub has_calls : List Call → Bool
+abbrev pub has_calls : List InlineCall → Bool
 has_calls [] = false
 has_calls (call ∷ calls) = true
 

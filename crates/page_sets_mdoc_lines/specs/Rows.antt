@@ -11,7 +11,7 @@ use Rattle.page_sets_names.specs.declared.macro_names.OneLineName.TheVariants as
 use Rattle.page_sets_names.specs.declared.macro_names.Prologue.TheVariants as prologues
 use Rattle.page_sets_names.specs.declared.marks.Marks.TheVariants as marks
 use Rattle.page_sets_names.specs.declared.marks.Quotation.TheVariants as quotations
-use Rattle.page_sets_mdoc_lines.specs.declared.blocks.Block.TheVariants as blocks
+use Rattle.page_sets_mdoc_lines.specs.declared.blocks.BlockMacro.TheVariants as blocks
 use Rattle.page_sets_mdoc_lines.specs.declared.blocks.LineMacro.{LineMacro}
 use Rattle.page_sets_mdoc_lines.specs.declared.blocks.LineMacro.TheVariants as lines
 use Rattle.page_sets_mdoc_lines.specs.declared.blocks.Sentence.TheVariants as sentences

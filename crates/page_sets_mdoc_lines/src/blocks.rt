@@ -6,7 +6,7 @@ use page_sets_lines::{BodyParagraphName, HeadingName, OneLineName, Prologue};
 
 /// A block of lines between two macros.
 #[derive(Clone, Copy, PartialEq, Eq)]
-pub enum Block {
+pub enum BlockMacro {
     /// `Bd` and `Ed`.
     Display,
     /// `Bf` and `Ef`.
@@ -44,9 +44,9 @@ pub enum LineMacro {
     /// `D1 Dl`.
     OneLine(OneLineName),
     /// `Bd Bf Bk Bl Rs`.
-    Begins(Block),
+    Begins(BlockMacro),
     /// `Ed Ef Ek El Re`.
-    Ends(Block),
+    Ends(BlockMacro),
     /// `It`: an item of a list.
     Item,
     /// A field of a reference: italic `%B %J %T`, roman `%A %C %D %I %N %O %P %Q %R %U %V`.

@@ -21,7 +21,7 @@ mod rows;
 mod word_spans;
 mod words;
 
-pub use blocks::{Block, LineMacro, Sentence};
+pub use blocks::{BlockMacro, LineMacro, Sentence};
 pub use cursors::Cursor;
 pub use delimiters::{Delimiter, delimiter_of};
 pub use laws::{few_law, front_law, parts_law};

@@ -5,7 +5,7 @@ ghost use Rattle.std.specs.Prelude.{◌≡◌};
 ghost use Rattle.page_sets_mdoc_lines.specs.Rows as rows;
 ghost use Rattle.page_sets_mdoc_lines.specs.machine.NameLengths.{has_name_len};
 
-use crate::blocks::{Block, LineMacro, Sentence};
+use crate::blocks::{BlockMacro, LineMacro, Sentence};
 use crate::macros::{Defaulted, Inline, Pair, System};
 use page_core_base::{Font, list_for, row_named};
 use page_sets_lines::{BodyParagraphName, HeadingName, Marks, OneLineName, Prologue, Quotation};
@@ -104,9 +104,9 @@ static MACROS: [&[(&[u8], MacroRow)]; 38] = [
         ),
     ],
     &[
-        (b"Bl", unparsed!(LineMacro::Begins(Block::List))),
-        (b"Bd", unparsed!(LineMacro::Begins(Block::Display))),
-        (b"Bk", unparsed!(LineMacro::Begins(Block::Keep))),
+        (b"Bl", unparsed!(LineMacro::Begins(BlockMacro::List))),
+        (b"Bd", unparsed!(LineMacro::Begins(BlockMacro::Display))),
+        (b"Bk", unparsed!(LineMacro::Begins(BlockMacro::Keep))),
         (b"Brq", callable!(Inline::Enclosure(Marks::Curly))),
         (b"Bsx", callable!(Inline::System(System::BsdOs))),
         (b"Bx", callable!(Inline::Bsd)),
@@ -127,7 +127,7 @@ static MACROS: [&[(&[u8], MacroRow)]; 38] = [
             b"Brc",
             callable!(Inline::Closes(Pair::Quotation(Quotation::Bro))),
         ),
-        (b"Bf", unparsed!(LineMacro::Begins(Block::Fonts))),
+        (b"Bf", unparsed!(LineMacro::Begins(BlockMacro::Fonts))),
     ],
     &[
         (b"Cm", callable!(Inline::Words(Font::B))),
@@ -153,13 +153,13 @@ static MACROS: [&[(&[u8], MacroRow)]; 38] = [
     &[
         (b"Em", callable!(Inline::Words(Font::I))),
         (b"Ev", callable!(Inline::Words(Font::R))),
-        (b"El", unparsed!(LineMacro::Ends(Block::List))),
-        (b"Ed", unparsed!(LineMacro::Ends(Block::Display))),
-        (b"Ek", unparsed!(LineMacro::Ends(Block::Keep))),
+        (b"El", unparsed!(LineMacro::Ends(BlockMacro::List))),
+        (b"Ed", unparsed!(LineMacro::Ends(BlockMacro::Display))),
+        (b"Ek", unparsed!(LineMacro::Ends(BlockMacro::Keep))),
         (b"Er", callable!(Inline::Words(Font::R))),
         (b"Eo", callable!(Inline::Opens(Pair::Custom))),
         (b"Ec", callable!(Inline::Closes(Pair::Custom))),
-        (b"Ef", unparsed!(LineMacro::Ends(Block::Fonts))),
+        (b"Ef", unparsed!(LineMacro::Ends(BlockMacro::Fonts))),
         (b"Ex", unparsed!(LineMacro::Sentence(Sentence::Exit))),
     ],
     &[
@@ -244,8 +244,8 @@ static MACROS: [&[(&[u8], MacroRow)]; 38] = [
         ),
     ],
     &[
-        (b"Rs", unparsed!(LineMacro::Begins(Block::Reference))),
-        (b"Re", unparsed!(LineMacro::Ends(Block::Reference))),
+        (b"Rs", unparsed!(LineMacro::Begins(BlockMacro::Reference))),
+        (b"Re", unparsed!(LineMacro::Ends(BlockMacro::Reference))),
         (b"Rv", unparsed!(LineMacro::Sentence(Sentence::Return))),
     ],
     &[

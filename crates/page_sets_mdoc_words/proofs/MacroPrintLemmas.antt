@@ -106,18 +106,15 @@ mark_slice line (Some word) words h = h.0
 
 opened_prints : (line : List ℕ) (place : Place) (name : List ℕ) (pair : Pair) (taken : Option (Argument (List ℕ))) (words : List (Argument (List ℕ)))
     → IsPart line name → IsArgumentIfGiven line taken → AreArguments line words → Prints line 2 words (opened place name pair taken words)
-opened_prints line place name (pairs.Quotation quotation) taken words n m h = first_prints line place.line _ words refl tt h
 opened_prints line place name pairs.Custom taken words n m h = first_prints line place.line (event_at place (kinds.Open (begins.Block (openers.Custom taken)))) words refl m h
-opened_prints line place name pairs.Extension taken words n m h = first_prints line place.line _ words refl tt h
 opened_prints line place name pairs.Function taken words n m h =
     with_words_print line 0 place name words _ (omega arith) n h (function_opened_prints line place words h)
+opened_prints line place name _ taken words n m h = first_prints line place.line _ words refl tt h
 
 closed_prints : (line : List ℕ) (place : Place) (pair : Pair) (taken : Option (Argument (List ℕ))) (words : List (Argument (List ℕ)))
     → IsArgumentIfGiven line taken → AreArguments line words → Prints line 2 words (closed place pair taken words)
-closed_prints line place (pairs.Quotation quotation) taken words m h = first_prints line place.line _ words refl tt h
 closed_prints line place pairs.Custom taken words m h = first_prints line place.line (event_at place (kinds.Close (ends.Block (closers.Custom taken)))) words refl m h
-closed_prints line place pairs.Extension taken words m h = first_prints line place.line _ words refl tt h
-closed_prints line place pairs.Function taken words m h = first_prints line place.line _ words refl tt h
+closed_prints line place _ taken words m h = first_prints line place.line _ words refl tt h
 
 -- the arguments of a macro give slices of its line, words in its order, and at most two events a word and two more
 pub inline_prints : (line : List ℕ) (place : Place) (name : List ℕ) (inline : Inline) (taken : Option (Argument (List ℕ))) (words : List (Argument (List ℕ))) (follows : Bool)
@@ -154,26 +151,18 @@ inline_prints line place name inlines.Reference taken words follows n all =
 inline_prints line place name inlines.Function taken words follows n all =
     let h = others_are line taken words all in
     skipped line 2 taken words _ (with_words_print line 1 place name words _ (omega arith) n h (function_prints line place words h))
-inline_prints line place name (inlines.System system) taken words follows n all =
-    skipped line 2 taken words _ (first_prints line place.line _ words refl tt (others_are line taken words all))
 inline_prints line place name inlines.Bsd taken words follows n all =
     skipped line 2 taken words _ (more_events line 1 2 words _ (omega arith) (bsd_prints line place words (others_are line taken words all)))
 inline_prints line place name inlines.Link taken words follows n all =
     let h = others_are line taken words all in
     skipped line 2 taken words _ (with_words_print line 0 place name words _ (omega arith) n h (link_prints line place words h))
-inline_prints line place name inlines.NoSpace taken words follows n all =
-    skipped line 2 taken words _ (first_prints line place.line _ words refl tt (others_are line taken words all))
-inline_prints line place name inlines.Apostrophe taken words follows n all =
-    skipped line 2 taken words _ (first_prints line place.line _ words refl tt (others_are line taken words all))
-inline_prints line place name inlines.NextColumn taken words follows n all =
-    skipped line 2 taken words _ (first_prints line place.line _ words refl tt (others_are line taken words all))
 inline_prints line place name inlines.Prefix taken words follows n all = prefix_prints line place name taken words n all
-inline_prints line place name (inlines.Enclosure marks) taken words follows n all =
-    skipped line 2 taken words _ (first_prints line place.line _ words refl tt (others_are line taken words all))
 inline_prints line place name (inlines.Opens pair) taken words follows n all =
     skipped line 2 taken words _ (opened_prints line place name pair taken words n (mark_slice line taken words all) (others_are line taken words all))
 inline_prints line place name (inlines.Closes pair) taken words follows n all =
     skipped line 2 taken words _ (closed_prints line place pair taken words (mark_slice line taken words all) (others_are line taken words all))
+inline_prints line place name _ taken words follows n all =
+    skipped line 2 taken words _ (first_prints line place.line _ words refl tt (others_are line taken words all))
 
 -- ---- with what a macro does in the SYNOPSIS
 

@@ -33,13 +33,7 @@ pub record Prints (line : List ℕ) (more : ℕ) (words : List (Argument (List �
 -- what is no word takes no argument
 nothing_taken : (kind : EventKind (List ℕ)) (arguments : List (Argument (List ℕ))) → is_word kind ≡ false → Takes kind arguments arguments
 nothing_taken (kinds.Word word) arguments h = let no : ⊥ = cc in absurd no
-nothing_taken (kinds.Open opener) arguments h = refl
-nothing_taken (kinds.Close closer) arguments h = refl
-nothing_taken (kinds.LineScope opener) arguments h = refl
-nothing_taken (kinds.Leaf leaf) arguments h = refl
-nothing_taken (kinds.Raw text) arguments h = refl
-nothing_taken (kinds.End fills) arguments h = refl
-nothing_taken (kinds.Note kind detail is_quoted begins_body) arguments h = refl
+nothing_taken _ arguments h = refl
 
 -- ---- one event
 

@@ -13,9 +13,7 @@ use Rattle.page_sets_mdoc_words.specs.Sentences.{given_names, is_zero, joined, m
 
 and_goes_on : (place : Place) (left : NameCount) (events : List (Event (List ℕ))) → joined place left events ≡ joined place left [] ++ events
 and_goes_on place counts.Zero events = refl
-and_goes_on place counts.One events = refl
-and_goes_on place counts.Two events = refl
-and_goes_on place counts.More events = refl
+and_goes_on place _ events = refl
 
 pub name_goes_on : (place : Place) (mark : Option GeneratedText) (left : NameCount) (events : List (Event (List ℕ)))
     → marked place mark (joined place left events) ≡ marked place mark [] ++ (joined place left [] ++ events)

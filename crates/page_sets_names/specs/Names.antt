@@ -3,8 +3,8 @@ use Prim.Native.String.{String}
 use Rattle.std.specs.Prelude.{ℕ, List, codes, Bool, true, false}
 use Rattle.page_sets_names.specs.declared.generated_texts.GeneratedText.{GeneratedText}
 use Rattle.page_sets_names.specs.declared.generated_texts.GeneratedText.TheVariants.{OpenParenthesis, CloseParenthesis, OpenBracket, CloseBracket, OpenAngle, CloseAngle, OpenBrace, CloseBrace, OpenDouble, CloseDouble, OpenSingle, CloseSingle, Straight, Comma, FullStop, Colon, Apostrophe, Dash, Flag, JoinedFlag, Files, JoinedFiles, Home, Bsd, BsdOs, DragonFly, FreeBsd, NetBsd, OpenBsd, Unix, Call, CallComma, Semicolon, Include, The, And, UtilityExits, UtilitiesExit, FunctionReturns, FunctionsReturn}
-use Rattle.page_sets_names.specs.declared.generated_texts.Role.{Role}
-use Rattle.page_sets_names.specs.declared.generated_texts.Role.TheVariants.{Mark, Word, Sentence}
+use Rattle.page_sets_names.specs.declared.generated_texts.TextRole.{TextRole}
+use Rattle.page_sets_names.specs.declared.generated_texts.TextRole.TheVariants.{Mark, Word, Sentence}
 use Rattle.page_sets_names.specs.declared.macro_names.BodyParagraphName.{BodyParagraphName}
 use Rattle.page_sets_names.specs.declared.macro_names.BodyParagraphName.TheVariants as bodies
 use Rattle.page_sets_names.specs.declared.macro_names.FontMacro.{FontMacro}
@@ -70,15 +70,15 @@ prologue_name prologues.Os = codes "Os"
 -- ---- The texts that macros print themselves. Source: man(7) and mdoc(7), "MACRO REFERENCE".
 
 -- a text, and what it is in a sentence
-pub record Row : Type 0 where
+pub record TextRow : Type 0 where
   pub text : List ℕ
-  pub role : Role
+  pub role : TextRole
 
-abbrev pub row : String → Role → Row
+abbrev pub row : String → TextRole → TextRow
 row text role = record { text = codes text; role = role }
 
 -- the table
-abbrev pub row_of : GeneratedText → Row
+abbrev pub row_of : GeneratedText → TextRow
 row_of OpenParenthesis = row "(" Mark
 row_of CloseParenthesis = row ")" Mark
 row_of OpenBracket = row "[" Mark
@@ -123,11 +123,11 @@ row_of FunctionsReturn = row "functions return the value 0 if successful; otherw
 abbrev pub generated_text : GeneratedText → List ℕ
 generated_text text = (row_of text).text
 
-abbrev pub is_word : Role → Bool
+abbrev pub is_word : TextRole → Bool
 is_word Mark = false
 is_word _ = true
 
-abbrev pub ends_sentence : Role → Bool
+abbrev pub ends_sentence : TextRole → Bool
 ends_sentence Sentence = true
 ends_sentence _ = false
 

@@ -90,7 +90,7 @@ pub enum GeneratedText {
 
 /// What such a text is in a sentence.
 #[derive(Clone, Copy)]
-pub(crate) enum Role {
+pub(crate) enum TextRole {
     /// A mark, which does not go on with the sentence.
     Mark,
     /// A word.
@@ -111,7 +111,7 @@ impl GeneratedText {
     pub fn is_word(self) -> bool
         ensures { result ≡ texts.generated_is_word self }
     {
-        !matches!(GENERATED_TEXTS[self as usize].1, Role::Mark)
+        !matches!(GENERATED_TEXTS[self as usize].1, TextRole::Mark)
     }
 
     /// Whether it is glued to what comes after it in its line.
@@ -135,62 +135,62 @@ impl GeneratedText {
     pub fn ends_sentence(self) -> bool
         ensures { result ≡ texts.generated_ends_sentence self }
     {
-        matches!(GENERATED_TEXTS[self as usize].1, Role::Sentence)
+        matches!(GENERATED_TEXTS[self as usize].1, TextRole::Sentence)
     }
 }
 
 // The texts, in the order of `GeneratedText`.
-static GENERATED_TEXTS: [(&str, Role); 40] = [
-    ("(", Role::Mark),
-    (")", Role::Mark),
-    ("[", Role::Mark),
-    ("]", Role::Mark),
-    ("<", Role::Mark),
-    (">", Role::Mark),
-    ("{", Role::Mark),
-    ("}", Role::Mark),
-    ("\\(lq", Role::Mark),
-    ("\\(rq", Role::Mark),
-    ("\\(oq", Role::Mark),
-    ("\\(cq", Role::Mark),
-    ("\"", Role::Mark),
-    (",", Role::Mark),
-    (".", Role::Mark),
-    (":", Role::Mark),
-    ("'", Role::Mark),
-    ("-", Role::Mark),
-    ("-", Role::Word),
-    ("-", Role::Word),
-    ("file ...", Role::Word),
-    ("file...", Role::Word),
-    ("~", Role::Word),
-    ("BSD", Role::Word),
-    ("BSD/OS", Role::Word),
-    ("DragonFly", Role::Word),
-    ("FreeBSD", Role::Word),
-    ("NetBSD", Role::Word),
-    ("OpenBSD", Role::Word),
-    ("UNIX", Role::Word),
-    ("()", Role::Mark),
-    ("(),", Role::Mark),
-    (";", Role::Mark),
-    ("#include", Role::Word),
-    ("The", Role::Word),
-    ("and", Role::Word),
+static GENERATED_TEXTS: [(&str, TextRole); 40] = [
+    ("(", TextRole::Mark),
+    (")", TextRole::Mark),
+    ("[", TextRole::Mark),
+    ("]", TextRole::Mark),
+    ("<", TextRole::Mark),
+    (">", TextRole::Mark),
+    ("{", TextRole::Mark),
+    ("}", TextRole::Mark),
+    ("\\(lq", TextRole::Mark),
+    ("\\(rq", TextRole::Mark),
+    ("\\(oq", TextRole::Mark),
+    ("\\(cq", TextRole::Mark),
+    ("\"", TextRole::Mark),
+    (",", TextRole::Mark),
+    (".", TextRole::Mark),
+    (":", TextRole::Mark),
+    ("'", TextRole::Mark),
+    ("-", TextRole::Mark),
+    ("-", TextRole::Word),
+    ("-", TextRole::Word),
+    ("file ...", TextRole::Word),
+    ("file...", TextRole::Word),
+    ("~", TextRole::Word),
+    ("BSD", TextRole::Word),
+    ("BSD/OS", TextRole::Word),
+    ("DragonFly", TextRole::Word),
+    ("FreeBSD", TextRole::Word),
+    ("NetBSD", TextRole::Word),
+    ("OpenBSD", TextRole::Word),
+    ("UNIX", TextRole::Word),
+    ("()", TextRole::Mark),
+    ("(),", TextRole::Mark),
+    (";", TextRole::Mark),
+    ("#include", TextRole::Word),
+    ("The", TextRole::Word),
+    ("and", TextRole::Word),
     (
         "utility exits 0 on success, and >0 if an error occurs.",
-        Role::Sentence,
+        TextRole::Sentence,
     ),
     (
         "utilities exit 0 on success, and >0 if an error occurs.",
-        Role::Sentence,
+        TextRole::Sentence,
     ),
     (
         "function returns the value 0 if successful; otherwise the value -1 is returned and the global variable errno is set to indicate the error.",
-        Role::Sentence,
+        TextRole::Sentence,
     ),
     (
         "functions return the value 0 if successful; otherwise the value -1 is returned and the global variable errno is set to indicate the error.",
-        Role::Sentence,
+        TextRole::Sentence,
     ),
 ];

@@ -5,12 +5,12 @@ use Rattle.std.specs.List.{list_all}
 use Rattle.std.specs.Prelude.{ℕ, ◌%◌, List, [], ◌∷◌, ◌≡◌, Result, MatchResult, Bool, nat_lt, true, length, map, ◌&&◌, nat_le, not, ◌==◌, ◌+◌, ◌++◌, false, if◌then◌else◌, refl, ◌||◌, get_or, ◌<◌}
 use Rattle.page_core_base.specs.Messages.{Message, Rose, IsSinkFault}
 use Rattle.page_core_base.specs.Rows.{row_of, is_blank_row, Item, noted, parts_of, part_pieces, shown, Laid, join, Gave, LaidRow}
-use Rattle.page_core_base.specs.Texts.{Line}
+use Rattle.page_core_base.specs.Texts.{TakenLine}
 use Rattle.page_core_base.specs.declared.cells.Cell.{Cell}
 use Rattle.page_core_base.specs.declared.cells.Font.{Font}
 use Rattle.page_core_base.specs.declared.cells.Font.TheVariants.{R}
 use Rattle.page_core_base.specs.declared.faults.Fault.{Fault}
-use Rattle.page_core_base.specs.declared.faults.Fault.TheVariants.{Memory, Read, WriteText, WriteNotes, TooLong, Settings, Failed, Ended, BadIndex}
+use Rattle.page_core_base.specs.declared.faults.Fault.TheVariants.{WriteText, WriteNotes, Failed}
 use Rattle.page_core_base.specs.declared.lines_taken.Taken.{Taken}
 use Rattle.page_core_base.specs.declared.notes.Note.{Note}
 use Rattle.page_core_base.specs.declared.pieces.Piece.{Piece}
@@ -46,21 +46,15 @@ abbrev pub IsPieceFault : Fault → ℕ → ℕ → ℕ → ℕ → Type 0
 IsPieceFault WriteText rows rows' notes notes' = Rose rows rows'
 IsPieceFault WriteNotes rows rows' notes notes' = Rose notes notes'
 IsPieceFault Failed rows rows' notes notes' = (rows' ≡ rows) × (notes' ≡ notes)
-IsPieceFault Memory rows rows' notes notes' = ⊥
-IsPieceFault Read rows rows' notes notes' = ⊥
-IsPieceFault TooLong rows rows' notes notes' = ⊥
-IsPieceFault (Settings s) rows rows' notes notes' = ⊥
-IsPieceFault Ended rows rows' notes notes' = ⊥
-IsPieceFault (BadIndex n) rows rows' notes notes' = ⊥
+IsPieceFault _ _ _ _ _ = ⊥
 
 abbrev pub FailsByPieces : {A : Type 0} → Result A Fault → ℕ → ℕ → ℕ → ℕ → Type 0
 FailsByPieces r rows rows' notes notes' = MatchResult r (λ _. (rows' ≡ rows) × (notes' ≡ notes)) (λ e. IsPieceFault e rows rows' notes notes')
 
 -- the cells of characters, each in its font
 abbrev pub cells_in : List ℕ → List Font → List Cell
-cells_in [] fonts = []
-cells_in (c ∷ cs) [] = []
 cells_in (c ∷ cs) (font ∷ fonts) = record { c = c; font = font } ∷ cells_in cs fonts
+cells_in _ _ = []
 
 abbrev pub is_ascii : ℕ → Bool
 is_ascii c = nat_lt c 128
@@ -213,7 +207,7 @@ abbrev pub IsFreeLine : List ℕ → Type 0
 IsFreeLine line = (k : ℕ) → k + 1 < length line → key_at line k ≡ false
 
 -- a line of the program, with what its text holds
-abbrev pub line_view : Taken → Line
+abbrev pub line_view : Taken → TakenLine
 line_view taken = record { form = taken.form; text = taken.text.now; number = taken.line; name_end = taken.name_end }
 
 -- of every plan these items came, or a fault keeps them away; an item is a piece or a message, a message alone, or an event of a macro set

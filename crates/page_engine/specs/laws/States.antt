@@ -46,13 +46,7 @@ pub record IsEndedAt (p : PageState) (e : Edge) : Type 0 where
 abbrev pub CannotStart : Settings → Fault → Type 0
 CannotStart s (faults.Settings fault) = IsFirst s fault
 CannotStart s faults.Memory = IsGood s
-CannotStart s faults.Read = ⊥
-CannotStart s faults.WriteText = ⊥
-CannotStart s faults.WriteNotes = ⊥
-CannotStart s faults.TooLong = ⊥
-CannotStart s faults.Failed = ⊥
-CannotStart s faults.Ended = ⊥
-CannotStart s (faults.BadIndex line) = ⊥
+CannotStart s _ = ⊥
 
 -- the fault of each call on a page that is not open
 abbrev pub closed : Phase → Option Fault

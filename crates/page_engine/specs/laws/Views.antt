@@ -7,7 +7,7 @@ use Rattle.page_core_base.specs.Rows.{LaidRow, Laid, nothing}
 use Rattle.page_core_base.specs.Settings.{IsGood, IsFirst}
 use Rattle.page_core_base.specs.laws.Views.{IsSink}
 use Rattle.page_core_base.specs.declared.faults.Fault.{Fault}
-use Rattle.page_core_base.specs.declared.faults.Fault.TheVariants.{Memory, Read, WriteText, WriteNotes, TooLong, Settings, Failed, Ended, BadIndex}
+use Rattle.page_core_base.specs.declared.faults.Fault.TheVariants.{Memory, WriteText, WriteNotes, TooLong, Settings}
 use Rattle.page_core_base.specs.declared.note_kinds.Level.{Level}
 use Rattle.page_core_base.specs.declared.page_settings.Settings.{Settings as PageSettings}
 use Rattle.page_roff_lines.specs.Lines.{Line}
@@ -158,15 +158,12 @@ pub record Began (came_front : Laid Edge → Type 0) (settings : PageSettings) (
 -- by its fault: no read fails, and a page is too long by its bytes alone
 abbrev pub StoppedIn : (came_whole came_front : Laid Edge → Type 0) → PageSettings → List ℕ → Fault → Type 0
 StoppedIn came_whole came_front settings bytes Memory = IsGood settings × came_whole (nothing (start settings))
-StoppedIn came_whole came_front settings bytes Read = ⊥
 StoppedIn came_whole came_front settings bytes TooLong =
     IsGood settings × (2 ^ 31 - 1 < length bytes) × came_whole (settled_page settings (take (2 ^ 31 - 1) bytes))
 StoppedIn came_whole came_front settings bytes WriteText = IsGood settings × Began came_front settings bytes
 StoppedIn came_whole came_front settings bytes WriteNotes = IsGood settings × Began came_front settings bytes
 StoppedIn came_whole came_front settings bytes (Settings fault) = IsFirst settings fault × came_whole (nothing (start settings))
-StoppedIn came_whole came_front settings bytes Failed = ⊥
-StoppedIn came_whole came_front settings bytes Ended = ⊥
-StoppedIn came_whole came_front settings bytes (BadIndex line) = ⊥
+StoppedIn came_whole came_front settings bytes _ = ⊥
 
 abbrev pub RunsIn : {R N : Type 0} → Result Outcome Fault → Streams R N → R → R → N → N
     → PageSettings → List ℕ → Type 0

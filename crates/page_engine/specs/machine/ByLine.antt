@@ -8,7 +8,7 @@ use Rattle.page_engine_lines.specs.machine.Lines.{source_items, source_after, en
 use Rattle.page_fill.specs.machine.ByPiece.{laid_items}
 use Rattle.page_fill.specs.Filling.{row_end}
 use Rattle.page_fill.specs.laws.Views as fill
-use Rattle.page_fill.specs.declared.edges.Edge.{Edge as FillEdge}
+use Rattle.page_fill.specs.declared.edges.FillEdge.{FillEdge}
 use Rattle.page_roff_lines.specs.Lines.{Line}
 use Rattle.page_engine.specs.Edges.{Edge, last_line, lines_at, moved}
 use Rattle.page_engine.specs.Page.{of_page}

@@ -4,10 +4,10 @@ use Rattle.page_roff_source.specs.Runs.{counts_of}
 use Rattle.page_roff_source.specs.declared.counts.Counts.{Counts}
 use Rattle.page_engine.specs.declared.layers.Layers.{Layers}
 use Rattle.page_engine.specs.declared.pages.Phase.{Phase}
-use Rattle.page_engine.specs.declared.pages.Phase.TheVariants.{Open, Failed, Ended}
+use Rattle.page_engine.specs.declared.pages.Phase.TheVariants.{Open}
 use Rattle.page_engine.specs.Edges.{Edge, lines_at, roff_part, body_part}
 use Rattle.page_engine.specs.laws.Views.{IsReached}
-use Rattle.page_fill.specs.declared.edges.Edge.{Edge as FillEdge}
+use Rattle.page_fill.specs.declared.edges.FillEdge.{FillEdge}
 
 -- the layers are at an edge
 pub record IsAt (here : Layers) (e : Edge) : Type 0 where
@@ -39,5 +39,4 @@ edge_of p = with_fill p p.filler
 -- while a page is open its layers are at an edge that a page comes to, and its counts are those of its lines
 abbrev pub IsKept : Phase → Counts → Layers → Type 0
 IsKept Open counts layers = (e : Edge) × IsAt layers e × IsReached e × (counts ≡ counts_of layers.lines.roff)
-IsKept Failed counts layers = Unit {0}
-IsKept Ended counts layers = Unit {0}
+IsKept _ counts layers = Unit {0}

@@ -7,7 +7,7 @@ use Rattle.page_core_base.specs.Rows.{LaidRow, Laid, Gave, Item, noted}
 use Rattle.page_core_base.specs.declared.faults.Fault.{Fault}
 use Rattle.page_core_base.specs.declared.faults.Fault.TheVariants.{Failed, WriteNotes}
 use Rattle.page_core_base.specs.laws.Views.{IsSink, IsPieceFault, all_noted}
-use Rattle.page_fill.specs.declared.edges.Edge.{Edge as FillEdge}
+use Rattle.page_fill.specs.declared.edges.FillEdge.{FillEdge}
 use Rattle.page_fill.specs.machine.ByPiece.{laid_items, laid_items-append}
 
 -- the rows and messages of these items came, and the filler's row is the one after them

@@ -4,7 +4,7 @@ use Rattle.std.specs.Io.KnownBytes.{IsAtEnd}
 use Rattle.page_core_base.specs.Messages.{Rose}
 use Rattle.page_core_base.specs.Rows.{Laid, nothing}
 use Rattle.page_core_base.specs.declared.faults.Fault.{Fault}
-use Rattle.page_core_base.specs.declared.faults.Fault.TheVariants.{Memory, Read, WriteText, WriteNotes, TooLong, Settings, Failed, Ended, BadIndex}
+use Rattle.page_core_base.specs.declared.faults.Fault.TheVariants.{Read, WriteText, WriteNotes, TooLong}
 use Rattle.page_core_base.specs.declared.page_settings.Settings.{Settings as PageSettings}
 use Rattle.page_roff_lines.specs.laws.Cutting.{Point, first_point, point_after, lines_within, last_line, lines_from}
 use Rattle.page_engine.specs.declared.runs.Run.{Run}
@@ -147,17 +147,13 @@ pub record EndedWell {R N : Type 0} (k : Sinks R N) (run' : Run) (a b : SourceSt
 
 abbrev pub StoppedFrom : {R N : Type 0} → Sinks R N → SourceState → SourceState → R → R → N → N → Edge
     → Point → ℕ → List ℕ → Fault → Type 0
-StoppedFrom k a b r r' n n' e p asked bytes Memory = ⊥
 StoppedFrom k a b r r' n n' e p asked bytes Read =
     AllCame k.to r r' n n' (settled_from e p bytes) × Rose a.failed b.failed
 StoppedFrom k a b r r' n n' e p asked bytes TooLong =
     AllCame k.to r r' n n' (settled_from e p (take (2 ^ 31 - 1) bytes)) × IsTooLong asked bytes
 StoppedFrom k a b r r' n n' e p asked bytes WriteText = BrokenFrom k r r' n n' e p bytes WriteText
 StoppedFrom k a b r r' n n' e p asked bytes WriteNotes = BrokenFrom k r r' n n' e p bytes WriteNotes
-StoppedFrom k a b r r' n n' e p asked bytes (Settings fault) = ⊥
-StoppedFrom k a b r r' n n' e p asked bytes Failed = ⊥
-StoppedFrom k a b r r' n n' e p asked bytes Ended = ⊥
-StoppedFrom k a b r r' n n' e p asked bytes (BadIndex line) = ⊥
+StoppedFrom k a b r r' n n' e p asked bytes _ = ⊥
 
 pub record ReadsAll {R N : Type 0} (res : Result (Unit {0}) Fault) (k : Sinks R N) (run' : Run)
     (a b : SourceState) (r r' : R) (n n' : N)

@@ -2,7 +2,7 @@
 use Rattle.std.specs.Prelude.{ℕ, List, Bool, ◌&&◌, [], if◌then◌else◌, ◌++◌, ◌∷◌, ◌≡◌, ◌≤◌, length}
 use Rattle.page_core_base.specs.Limits.{FIELD}
 use Rattle.page_core_base.specs.Rows.{Item}
-use Rattle.page_core_base.specs.Texts.{Line}
+use Rattle.page_core_base.specs.Texts.{TakenLine}
 use Rattle.page_core_base.specs.laws.Views.{Came}
 use Rattle.page_core_base.specs.declared.note_kinds.NoteKind.TheVariants.{NoBody}
 use Rattle.page_sets_names.specs.declared.macro_names.Prologue.{Prologue as PrologueName}
@@ -108,7 +108,7 @@ unfoldable pub end_items : BodyEdge → ℕ → List Item
 end_items b line = late_header b line ++ scopes.end_items b.scopes line
 
 -- the body for a line, which decides the language unless one is decided
-abbrev pub decided : BodyEdge → Line → BodyEdge
+abbrev pub decided : BodyEdge → TakenLine → BodyEdge
 decided b line = if b.header.is_decided then b else chosen_if b (language_of line)
 
 -- the fields of header and footer

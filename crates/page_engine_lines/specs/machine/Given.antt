@@ -3,21 +3,21 @@
 use Rattle.std.specs.Prelude.{ℕ, List, [], ◌∷◌, ◌++◌}
 use Rattle.page_core_base.specs.Rows.{Item, noted}
 use Rattle.page_roff_effects.specs.States.{Given, says, takes}
-use Rattle.page_core_base.specs.Texts.{Line}
+use Rattle.page_core_base.specs.Texts.{TakenLine}
 use Rattle.page_engine_lines.specs.Bodies.{BodyEdge}
 use Rattle.page_engine_lines.specs.laws.Views.{decided, events_after, events_items}
 use Rattle.page_sets.specs.Mdoc.{either_events}
 use Rattle.page_sets_lines.specs.declared.events.Event.{Event}
 
 -- what the macros of a body's set make of a line
-abbrev pub set_events : BodyEdge → Line → List (Event (List ℕ))
+abbrev pub set_events : BodyEdge → TakenLine → List (Event (List ℕ))
 set_events b line = either_events b.header.set line
 
 -- a line decides the language, unless it is decided, and then is what the macros make of it
-abbrev pub line_items : BodyEdge → Line → List Item
+abbrev pub line_items : BodyEdge → TakenLine → List Item
 line_items b line = events_items (decided b line) (set_events (decided b line) line)
 
-abbrev pub line_after : BodyEdge → Line → BodyEdge
+abbrev pub line_after : BodyEdge → TakenLine → BodyEdge
 line_after b line = events_after (decided b line) (set_events (decided b line) line)
 
 -- a message is itself, a line is what the macros make of it

@@ -11,7 +11,7 @@ use Rattle.page_scopes.specs.laws.Views.{layout_tables}
 use Rattle.page_scopes.specs.declared.layouts.Kept.{Kept}
 use Rattle.page_scopes.specs.declared.layouts.LayoutState.{LayoutState}
 use Rattle.page_scopes_tree.specs.machine.Asides.{With, act, aside, with_asides, Beside, Sides, layout_with, beside}
-use Rattle.page_scopes_tree.specs.Ends.{Edge}
+use Rattle.page_scopes_tree.specs.Ends.{TreeEdge}
 use Rattle.page_scopes_tree.specs.machine.Layouts.{Layout, settled, edge}
 use Rattle.page_scopes_tree.specs.machine.Nestings.{Nesting}
 use Rattle.page_scopes_tree.specs.laws.Views.{Step, comes, does, steps_of}
@@ -92,10 +92,10 @@ abbrev pub body_layout : Layout Label (With Aside Step) (With Aside Fact) (Besid
 body_layout = layout_with (framed layout_tables) body_sides
 
 -- the open scopes of a body, with its header beside the state of their layout, and the body that they are of
-abbrev pub opened : BodyEdge → Edge Bool Label (Beside HeaderEdge LayoutState) Kept
+abbrev pub opened : BodyEdge → TreeEdge Bool Label (Beside HeaderEdge LayoutState) Kept
 opened b = beside b.header b.scopes
 
-abbrev pub body_of : Edge Bool Label (Beside HeaderEdge LayoutState) Kept → BodyEdge
+abbrev pub body_of : TreeEdge Bool Label (Beside HeaderEdge LayoutState) Kept → BodyEdge
 body_of d = record { header = d.state.own; scopes = record { mode = d.mode; scopes = d.scopes; state = d.state.rest } }
 
 -- the pieces and messages of the block tree of all acts, inside the open scopes

@@ -5,7 +5,7 @@ use Rattle.std.specs.Str.{bytes_eq}
 use Rattle.page_core_base.specs.Rows.{Item, shown, noted}
 use Rattle.page_core_base.specs.declared.page_settings.Output.TheVariants.{Ascii}
 use Rattle.page_core_base.specs.declared.pieces.Piece.{Piece}
-use Rattle.page_core_base.specs.declared.pieces.Piece.TheVariants.{Text, Glyph, Char, Tab, Blank, Glue, Split, Break, RowEnd, Para, Space, Indent, Literal, Tag, TagEnd, Heading, Column}
+use Rattle.page_core_base.specs.declared.pieces.Piece.TheVariants.{Text, Glyph, Char, Tab, Glue, Split, Para, Indent, Literal, Tag, Heading}
 use Rattle.page_core_tables.specs.Glyphs.{char_printed, glyph_printed}
 use Rattle.page_engine_header.specs.Header.{characters_of, plain_printed}
 use Rattle.page_engine_records.specs.NameTexts.{TEXT}
@@ -64,24 +64,18 @@ taken r (Text bytes font place) = with_characters r (plain_printed Ascii (charac
 taken r (Glyph name font place) = with_characters r (glyph_printed Ascii name).characters
 taken r (Char c font place) = with_characters r (char_printed Ascii c).characters
 taken r (Tab font place) = with_character r 32
-taken r (Blank count has_tab) = apart r
 taken r Glue = record r { is_apart = false }
 taken r Split = r
-taken r Break = apart r
-taken r RowEnd = apart r
 taken r (Para count) = with_paragraph r.side r
-taken r (Space count) = apart r
 taken r (Indent first rest) = record r { margin = first }
 taken r (Literal is_literal) = r
 taken r (Tag hang form) = r
-taken r TagEnd = apart r
 taken r Heading = with_heading r
-taken r (Column column) = apart r
+taken r _ = apart r
 
 abbrev pub is_after : Side → Bool
-is_after Before = false
-is_after Inside = false
 is_after After = true
+is_after _ = false
 
 abbrev pub has_ended : NameReader → Bool
 has_ended r = is_after r.side
@@ -104,8 +98,7 @@ reader_at side = record { side = side; margin = 0; text = []; is_apart = false; 
 -- before the section there is no text of it
 abbrev pub kept_by : Side → List ℕ → Option (List ℕ)
 kept_by Before text = None
-kept_by Inside text = Some text
-kept_by After text = Some text
+kept_by _ text = Some text
 
 abbrev pub kept_of : NameReader → Option (List ℕ)
 kept_of r = kept_by r.side r.text

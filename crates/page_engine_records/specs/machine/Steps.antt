@@ -3,7 +3,7 @@ use Rattle.std.specs.Prelude.{◌≡◌, ◌<◌, ◌≤◌, ℕ, ◌+◌, ◌-�
 use Rattle.std.specs.Io.KnownBytes.{IsAtEnd}
 use Rattle.page_core_base.specs.Messages.{Rose}
 use Rattle.page_core_base.specs.declared.faults.Fault.{Fault}
-use Rattle.page_core_base.specs.declared.faults.Fault.TheVariants.{Memory, Read, WriteText, WriteNotes, TooLong, Settings, Failed, Ended, BadIndex}
+use Rattle.page_core_base.specs.declared.faults.Fault.TheVariants.{Read, TooLong}
 use Rattle.page_core_streams.specs.Streams.{SourceState, HasGiven, IsLean, IsTooLong}
 use Rattle.page_engine_lines.specs.machine.Lines.{end_items}
 use Rattle.page_roff_lines.specs.laws.Cutting.{Point, first_point, last_line, lines_from, lines_within, point_after}
@@ -85,13 +85,7 @@ pub record EndedWell (run run' : RecordRun) (a b : SourceState) (bytes : List �
 abbrev pub StoppedBy : SourceState → SourceState → ℕ → List ℕ → Fault → Type 0
 StoppedBy a b asked bytes Read = Rose a.failed b.failed
 StoppedBy a b asked bytes TooLong = IsTooLong asked bytes × (b.failed ≡ a.failed)
-StoppedBy a b asked bytes Memory = ⊥
-StoppedBy a b asked bytes WriteText = ⊥
-StoppedBy a b asked bytes WriteNotes = ⊥
-StoppedBy a b asked bytes (Settings fault) = ⊥
-StoppedBy a b asked bytes Failed = ⊥
-StoppedBy a b asked bytes Ended = ⊥
-StoppedBy a b asked bytes (BadIndex line) = ⊥
+StoppedBy a b asked bytes _ = ⊥
 
 pub record ReadsAll (res : Result (Unit {0}) Fault) (run run' : RecordRun) (a b : SourceState) (bytes : List ℕ) : Type 0 where
   pub asked : ℕ

@@ -4,7 +4,7 @@ use Rattle.std.specs.Prelude.{◌≡◌, List, [], ◌∷◌, ◌++◌, refl}
 use Rattle.std.proofs.Common.{◌∙◌, ap, sym}
 use Rattle.page_core_base.specs.Rows.{Laid, nothing, join, seq, Item, shown, noted}
 use Rattle.page_core_base.specs.laws.Views.{join_assoc}
-use Rattle.page_fill.specs.declared.edges.Edge.{Edge as FillEdge}
+use Rattle.page_fill.specs.declared.edges.FillEdge.{FillEdge}
 use Rattle.page_fill.specs.machine.Fill as fill
 
 abbrev pub laid_item : FillEdge → Item → Laid FillEdge

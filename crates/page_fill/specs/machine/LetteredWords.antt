@@ -7,11 +7,11 @@ use Rattle.page_core_base.specs.declared.pieces.Piece.{Piece}
 use Rattle.page_core_base.specs.Rows.{Laid, join}
 use Rattle.page_core_base.specs.laws.Views.{cells_in, is_lettered_word, lettered_cells, lettered_pieces}
 use Rattle.page_fill.specs.laws.Views.{AreWords, is_in_row}
-use Rattle.page_fill.specs.declared.edges.Edge.{Edge}
+use Rattle.page_fill.specs.declared.edges.FillEdge.{FillEdge}
 use Rattle.page_fill.specs.machine.Fill.{laid}
 
 -- the pieces of words, the first of which is after so many blanks, lay this
-abbrev pub LaysWords : Edge → ℕ → List ℕ → List Font → Laid Edge → Type 0
+abbrev pub LaysWords : FillEdge → ℕ → List ℕ → List Font → Laid FillEdge → Type 0
 LaysWords e blanks text fonts given =
     (words : List (List (Piece (List ℕ)))) → AreWords text fonts words → is_in_row e ≡ true → given ≡ laid e (lettered_pieces blanks words)
 
@@ -20,7 +20,7 @@ abbrev pub AreSpaced : List ℕ → List Font → List (List (Piece (List ℕ)))
 AreSpaced text fonts words = (list_all is_lettered_word words ≡ true) × (cells_in text fonts ≡ lettered_cells words)
 
 -- so much was laid of them, and the words of another text are left, each after one blank
-abbrev pub LaysUpTo : Edge → ℕ → List ℕ → List Font → List ℕ → List Font → Laid Edge → Type 0
+abbrev pub LaysUpTo : FillEdge → ℕ → List ℕ → List Font → List ℕ → List Font → Laid FillEdge → Type 0
 LaysUpTo e blanks text fonts rest own given =
     (words : List (List (Piece (List ℕ)))) → AreWords text fonts words → is_in_row e ≡ true
     → (left : List (List (Piece (List ℕ)))) × AreSpaced rest own left × (is_in_row given.edge ≡ true)

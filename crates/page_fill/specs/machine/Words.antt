@@ -7,15 +7,15 @@ use Rattle.page_core_base.specs.declared.places.Place.{Place}
 use Rattle.page_core_base.specs.Rows.{Laid, row_of}
 use Rattle.page_fill_rows.specs.OpenRows.{TAG_COLUMNS}
 use Rattle.page_fill_cells.specs.Cells.{columns, cell_columns, blank}
-use Rattle.page_fill.specs.Filled.{Word, Frame, Row, row_begun}
+use Rattle.page_fill.specs.Filled.{RowWord, Frame, RowSoFar, row_begun}
 use Rattle.page_fill.specs.Words.{cell_content}
 
 -- margin and columns pass the width with the cell
-abbrev pub is_wide : Frame → Row → Cell → Bool
+abbrev pub is_wide : Frame → RowSoFar → Cell → Bool
 is_wide frame row cell = frame.fills && nat_lt frame.width (row.margin + columns row.cells + cell_columns cell)
 
 -- a word of cells, after blanks
-abbrev pub word_of_cells : ℕ → List Cell → Place → Word
+abbrev pub word_of_cells : ℕ → List Cell → Place → RowWord
 word_of_cells n cells place = record { notes = []; blanks = n; place = place; content = cell_content place cells }
 
 -- the columns of the open tag with more cells, and whether it has one
@@ -27,24 +27,24 @@ abbrev pub has_cell : Bool → List Cell → Bool
 has_cell b [] = b
 has_cell b (c ∷ cs) = has_cell true cs
 
-abbrev pub tallied : Row → List Cell → Row
+abbrev pub tallied : RowSoFar → List Cell → RowSoFar
 tallied row cells = record row { tag_columns = tally row.tag_columns cells; tag_begun = has_cell row.tag_begun cells }
 
 -- the row with one more word, and the blanks before it
-abbrev pub with_word : Row → ℕ → List Cell → Row
+abbrev pub with_word : RowSoFar → ℕ → List Cell → RowSoFar
 with_word row n cells =
     record (tallied row (replicate n blank ++ cells)) { cells = row.cells ++ (replicate n blank ++ cells); gap = length row.cells; word = length row.cells + n }
 
 -- the blanks that fit in the row
-abbrev pub fitting : Frame → Row → ℕ
+abbrev pub fitting : Frame → RowSoFar → ℕ
 fitting frame row = frame.width - (row.margin + columns row.cells)
 
 -- the word begins a row
-abbrev pub word_first : Frame → Row → List Cell → Row
+abbrev pub word_first : Frame → RowSoFar → List Cell → RowSoFar
 word_first frame row cells = row_begun frame (tallied row cells) cells
 
 -- the row ends before the word, which begins the next one; so many blanks before it stood in the row
-abbrev pub word_wrapped : Frame → Row → ℕ → List Cell → Laid Row
+abbrev pub word_wrapped : Frame → RowSoFar → ℕ → List Cell → Laid RowSoFar
 word_wrapped frame row n cells = record {
   rows = row_of row.margin row.cells ∷ [];
   notes = [];

@@ -4,10 +4,10 @@ use Rattle.std.specs.Prelude.{ℕ, List, Option, Some, None, [], ◌≤◌, leng
 use Rattle.page_core_base.specs.Limits.{LINE, CONDS}
 use Rattle.page_roff_syntax.specs.laws.Views.{text_view, region_view, RegionFits}
 use Rattle.page_roff_syntax.specs.declared.line_forms.LineForm.{LineForm}
-use Rattle.page_roff_syntax.specs.declared.line_forms.LineForm.TheVariants.{Comment, BlankLine, Text, Control}
+use Rattle.page_roff_syntax.specs.declared.line_forms.LineForm.TheVariants.{Control}
 use Rattle.page_roff_heads.specs.laws.Views.{condition_view, FitsTest}
 use Rattle.page_roff_heads.specs.declared.loops.LoopHead.{LoopHead}
-use Rattle.page_roff_blocks.specs.Forest.{bit_after, Levels, Place}
+use Rattle.page_roff_blocks.specs.Forest.{bit_after, Levels, SourcePlace}
 use Rattle.page_roff_blocks.specs.Parts.{plain_part, keyword_part, left_of, line_parts}
 use Rattle.page_roff_blocks.specs.declared.block_cursors.Pass.{Pass}
 use Rattle.page_roff_blocks.specs.declared.block_cursors.Pass.TheVariants as passes
@@ -27,21 +27,17 @@ use Rattle.page_roff_blocks.specs.declared.line_parts.Opening.{Opening}
 use Rattle.page_roff_blocks.specs.declared.line_parts.Opening.TheVariants as openings
 use Rattle.page_roff_blocks.specs.declared.parts.Columns.{Columns}
 use Rattle.page_roff_blocks.specs.declared.parts.Keyword.{Keyword}
-use Rattle.page_roff_blocks.specs.declared.parts.Part.{Part}
+use Rattle.page_roff_blocks.specs.declared.parts.RawPart.{RawPart}
 
 -- ---- of the program: a control line's columns, and its first part by what it heads
 
 abbrev pub columns_of : LineForm (List ℕ) → Option Columns
-columns_of Comment = None
-columns_of BlankLine = None
-columns_of (Text text) = None
 columns_of (Control name column rest rest_column) = Some (record { name = column; rest = rest_column })
+columns_of _ = None
 
-abbrev pub named_part : Keyword → List ℕ → LineForm (List ℕ) → Part (List ℕ)
-named_part keyword line Comment = plain_part line
-named_part keyword line BlankLine = plain_part line
-named_part keyword line (Text text) = plain_part line
+abbrev pub named_part : Keyword → List ℕ → LineForm (List ℕ) → RawPart (List ℕ)
 named_part keyword line (Control name column rest rest_column) = keyword_part keyword line column rest rest_column
+named_part keyword line _ = plain_part line
 
 -- what is left of the rest of a line
 abbrev pub left_rest : ℕ → Option (List ℕ) → Option (List ℕ)
@@ -78,7 +74,7 @@ line_part_view (Loop head) = Loop (loop_head_view head)
 line_part_view End = End
 line_part_view (Region head) = Region (region_view head)
 
-abbrev pub part_view : Part (Bor (List ℕ)) → Part (List ℕ)
+abbrev pub part_view : RawPart (Bor (List ℕ)) → RawPart (List ℕ)
 part_view part = record { line_part = line_part_view part.line_part; is_end = part.is_end; rest = text_view part.rest }
 
 -- texts lie within a line
@@ -103,10 +99,9 @@ FitsLinePart (Leaf text) = length text ≤ LINE
 FitsLinePart (Guard head) = FitsBranch head.branch
 FitsLinePart (Block opening) = FitsOpening opening
 FitsLinePart (Loop head) = FitsLoopHead head
-FitsLinePart End = Unit {0}
-FitsLinePart (Region head) = Unit {0}
+FitsLinePart _ = Unit {0}
 
-abbrev pub FitsPart : Part (List ℕ) → Type 0
+abbrev pub FitsPart : RawPart (List ℕ) → Type 0
 FitsPart part = FitsLinePart part.line_part × FitsRest part.rest
 
 -- a column after the control character, in a line or at its end
@@ -135,8 +130,7 @@ way_of true count = way_in (nat_lt count CONDS)
 -- a block is entered in a level that is run, whose bit is this one from then on
 unfoldable pub enter : Way → Bool → Levels → Levels
 enter Runs bit l = record { bit = false; outer = bit ∷ l.outer; in_loop = false; skipped = 0 }
-enter Skips bit l = record { bit = bit; outer = l.outer; in_loop = false; skipped = 1 }
-enter Exceeds bit l = record { bit = bit; outer = l.outer; in_loop = false; skipped = 1 }
+enter _ bit l = record { bit = bit; outer = l.outer; in_loop = false; skipped = 1 }
 
 -- a block is skipped
 unfoldable pub skip : Levels → Levels
@@ -239,6 +233,6 @@ unfoldable pub reached : BlockCursor → Reached
 reached s = reached_in s.levels.in_loop s.levels.skipped s.passing s.begun
 
 -- an open region is within its caps, and as many true blocks are open as may be
-pub record PlaceFits (p : Place) : Type 0 where
+pub record PlaceFits (p : SourcePlace) : Type 0 where
   pub region : IfSome p.region RegionFits
   pub blocks : length p.levels.outer ≤ CONDS

@@ -1,7 +1,7 @@
 -- Places in a raw line, between its parts: how the code goes through a line. Trust needs no reading of it. Source: roff(7), "if", "ie", "el".
 use Rattle.std.specs.Prelude.{◌≡◌, ℕ, ◌-◌, ◌≤◌, Bool, true, false, not, ◌&&◌, is_none, List, [], ◌∷◌, length, drop, Option, Some, None}
 use Rattle.page_roff_blocks.specs.declared.line_parts.LinePart.{LinePart}
-use Rattle.page_roff_blocks.specs.declared.line_parts.LinePart.TheVariants.{Leaf, Guard, Block, Loop, End, Region}
+use Rattle.page_roff_blocks.specs.declared.line_parts.LinePart.TheVariants.{Leaf, Block}
 use Rattle.page_roff_blocks.specs.declared.line_places.LinePlace.{LinePlace}
 use Rattle.page_roff_blocks.specs.laws.Views.{line_parts_left}
 use Rattle.page_roff_blocks.specs.Parts.{ends_first}
@@ -29,12 +29,8 @@ parts_at line place = whole_first place.is_whole line (ends_first place.is_end (
 
 -- whether the first of parts opens a block
 abbrev pub is_block : LinePart (List ℕ) → Bool
-is_block (Leaf text) = false
-is_block (Guard head) = false
 is_block (Block opening) = true
-is_block (Loop head) = false
-is_block End = false
-is_block (Region head) = false
+is_block _ = false
 
 abbrev pub opens_block : List (LinePart (List ℕ)) → Bool
 opens_block [] = false

@@ -15,7 +15,7 @@ use Rattle.page_roff_blocks.specs.declared.levels.Way.TheVariants.{Runs, Skips, 
 use Rattle.page_roff_syntax.specs.declared.region_heads.RegionHead.{RegionHead}
 use Rattle.page_roff_blocks.specs.declared.block_cursors.Reached.{Reached}
 use Rattle.page_roff_blocks.specs.declared.block_cursors.Reached.TheVariants.{PassedOver, First, Remainder}
-use Rattle.page_roff_blocks.specs.Forest.{Forest, empty, line, leaf, guard, block, loop, region, Source, ends, shuts, opens, holds, Inside, unended, ended, source_of, inside_of, Levels, bit_after, Place}
+use Rattle.page_roff_blocks.specs.Forest.{Forest, empty, line, leaf, guard, block, loop, region, Source, ends, shuts, opens, holds, Inside, unended, ended, source_of, inside_of, Levels, bit_after, SourcePlace}
 use Rattle.page_roff_blocks.specs.laws.Views.{way_of, enter, open_loop, skip, leave, what_ends, reached_if}
 use Rattle.page_roff_syntax.specs.Regions.{Opened, opened}
 
@@ -56,7 +56,7 @@ pub record Flow (S : Type 0) : Type 0 where
 
 -- where a source is between two lines, and the state
 pub record At (S : Type 0) : Type 0 where
-  pub place : Place
+  pub place : SourcePlace
   pub state : S
 
 -- a line begins

@@ -12,8 +12,7 @@ as_character (Bad b) text = bad b
 -- how many bytes it takes
 abbrev pub width_of : Front → ℕ
 width_of (Same n) = n
-width_of (Latin1 b) = 1
-width_of (Bad b) = 1
+width_of _ = 1
 
 abbrev pub later_of : Front → ℕ
 later_of f = width_of f - 1

@@ -2,15 +2,15 @@
 -- Source: roff(7), "MACRO SYNTAX" and "de".
 use Rattle.std.specs.Prelude.{◌≡◌, ℕ, Bool, true, false, nat_le, List, [], length, Option, Some, None}
 use Rattle.page_core_base.specs.Limits.{ARGS, BODY}
-use Rattle.page_core_base.specs.Texts.{Line}
+use Rattle.page_core_base.specs.Texts.{TakenLine}
 use Rattle.page_core_base.specs.declared.lines_taken.Form.TheVariants.{Text}
-use Rattle.page_roff_definitions.specs.Definitions.{Call, with_line}
+use Rattle.page_roff_definitions.specs.Definitions.{MacroCall, with_line}
 
 -- before a line and a call were taken
-abbrev pub no_line : Line
+abbrev pub no_line : TakenLine
 no_line = record { form = Text; text = []; number = 0; name_end = 0 }
 
-abbrev pub no_call : Call
+abbrev pub no_call : MacroCall
 no_call = record { body = []; packed = [] }
 
 -- a line is added to a body with its end, unless that passes the limit: then there is no body

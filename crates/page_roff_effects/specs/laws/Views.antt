@@ -2,7 +2,7 @@
 use Rattle.std.specs.Prelude.{List, ◌+◌, ◌++◌, map, ◌≤◌, length, IfSome}
 use Rattle.page_core_base.specs.Limits.{BODY}
 use Rattle.page_roff_names.specs.laws.Views.{DefinitionsFit}
-use Rattle.page_roff_effects.specs.States.{Memory, Given, Outcome, says, lines_of}
+use Rattle.page_roff_effects.specs.States.{Memory, Given, PartOutcome, says, lines_of}
 
 -- what is remembered, and what was given so far, in order
 pub record State : Type 0 where
@@ -10,7 +10,7 @@ pub record State : Type 0 where
   pub out : List Given
 
 -- after a part: its messages come before its line
-abbrev pub after : State → Outcome → State
+abbrev pub after : State → PartOutcome → State
 after s o = record { memory = o.memory; out = s.out ++ (map says o.notes ++ lines_of o.product) }
 
 -- names and what they stand for; and the bytes of the body that the open region has so far

@@ -3,7 +3,7 @@
 use Rattle.std.specs.Prelude.{◌≡◌, ℕ, ◌≤◌, nat_le, Bool, true, List, [], ◌∷◌, length, Option, None, if◌then◌else◌, unwrap_or}
 use Rattle.page_core_base.specs.Limits.{ARGS, BODY, LINE}
 use Rattle.page_core_base.specs.Messages.{Message}
-use Rattle.page_core_base.specs.Texts.{Line}
+use Rattle.page_core_base.specs.Texts.{TakenLine}
 use Rattle.page_core_base.specs.laws.Views.{line_view, Came}
 use Rattle.page_core_base.specs.declared.lines_taken.Form.{Form}
 use Rattle.page_core_base.specs.declared.lines_taken.Form.TheVariants.{Text, Blank}
@@ -13,19 +13,19 @@ use Rattle.page_roff_blocks.specs.Parts.{line_parts, keyword_in, keyword_of}
 use Rattle.page_roff_syntax.specs.Arguments.{arguments}
 use Rattle.page_roff_syntax.specs.LineForms.{has_word}
 use Rattle.page_roff_syntax.specs.Requests.{request_of}
-use Rattle.page_roff_values.specs.Values.{Spot, Laid, expanded}
+use Rattle.page_roff_values.specs.Values.{TextSoFar, LaidText, expanded}
 use Rattle.page_roff_values.specs.machine.Views.{units_of_bytes}
 use Rattle.page_roff_blocks.specs.machine.Budgets.{Effects}
 use Rattle.page_roff_blocks.specs.machine.Languages.{Kind, arguments_of}
 use Rattle.page_roff_values.specs.Answers.{Answer}
-use Rattle.page_roff_definitions.specs.Definitions.{closings_notes, Call, packed}
+use Rattle.page_roff_definitions.specs.Definitions.{closings_notes, MacroCall, packed}
 use Rattle.page_roff_effects.specs.declared.at_once.AtOnce.{AtOnce}
 use Rattle.page_roff_effects.specs.declared.at_once.AtOnce.TheVariants as ways
 use Rattle.page_roff_effects.specs.declared.commands.Command.TheVariants.{Pass}
 use Rattle.page_roff_effects.specs.Lines.{called_body, request_command}
 use Rattle.page_roff_effects.specs.declared.commands.ProductKind.{ProductKind}
 use Rattle.page_roff_effects.specs.declared.commands.ProductKind.TheVariants as kinds
-use Rattle.page_roff_effects.specs.States.{Memory, first_memory, Product, no_product, line_product, call_product, loop_product, Outcome, Setting, surroundings, counted, test_outcome}
+use Rattle.page_roff_effects.specs.States.{Memory, first_memory, Product, no_product, line_product, call_product, loop_product, PartOutcome, TextSetting, surroundings, counted, test_outcome}
 use Rattle.page_roff_effects.specs.laws.Views.{State}
 use Rattle.page_roff_effects.specs.machine.Effects.{effects}
 use Rattle.page_roff_effects.specs.Lines as leaves
@@ -37,7 +37,7 @@ pub record ActingSetting : Type 0 where
   pub arguments : Option (List (List ℕ))
 
 -- the code measures any bytes
-abbrev pub measured : ActingSetting → Setting
+abbrev pub measured : ActingSetting → TextSetting
 measured setting = record { units = units_of_bytes setting.output; arguments = setting.arguments }
 
 abbrev pub acting_setting : Output → Kind → ActingSetting
@@ -50,9 +50,9 @@ acting_effects output = effects (units_of_bytes output)
 pub record Acting : Type 0 where
   pub setting : ActingSetting
   pub memory : Memory
-  pub finished : Spot
-  pub line : Line
-  pub call : Call
+  pub finished : TextSoFar
+  pub line : TakenLine
+  pub call : MacroCall
 
 abbrev pub first_setting : Output → ActingSetting
 first_setting output = record { output = output; arguments = None }
@@ -72,7 +72,7 @@ Lends (call_product call) a = a.call ≡ call
 Lends (loop_product text) a = a.call.body ≡ text
 
 -- one more macro may run, and this one is within the limits
-pub record IsCallable (may_call : Bool) (call : Call) : Type 0 where
+pub record IsCallable (may_call : Bool) (call : MacroCall) : Type 0 where
   pub room : may_call ≡ true
   pub body : length call.body ≤ BODY
   pub packed : length call.packed ≤ ARGS
@@ -97,13 +97,13 @@ IfRepeated kinds.Call P = ⊥
 IfRepeated kinds.Loop P = P
 
 -- a call did what an outcome says: its messages came, and this is remembered
-pub record Does {P S : Type 0} (left : P → S → List Message → Type 0) (old : Acting) (out : S) (o : Outcome) (new : Acting) (out_new : S) : Type 0 where
+pub record Does {P S : Type 0} (left : P → S → List Message → Type 0) (old : Acting) (out : S) (o : PartOutcome) (new : Acting) (out_new : S) : Type 0 where
   pub setting : new.setting ≡ old.setting
   pub memory : new.memory ≡ o.memory
   pub came : Came left out o.notes out_new
 
 -- and it answered what comes of the part, which is lent from then on
-pub record Gives {P S : Type 0} (left : P → S → List Message → Type 0) (old : Acting) (out : S) (o : Outcome) (result : ProductKind) (new : Acting) (out_new : S) : Type 0 where
+pub record Gives {P S : Type 0} (left : P → S → List Message → Type 0) (old : Acting) (out : S) (o : PartOutcome) (result : ProductKind) (new : Acting) (out_new : S) : Type 0 where
   pub does : Does left old out o new out_new
   pub kind : result ≡ kind_of o.product
   pub lends : Lends o.product new
@@ -114,7 +114,7 @@ pub record Tests {P S : Type 0} (left : P → S → List Message → Type 0) (ol
   pub holds : result ≡ answer.holds
 
 -- a line was expanded
-abbrev pub with_finished : Laid → Acting → Acting
+abbrev pub with_finished : LaidText → Acting → Acting
 with_finished laid a =
     record {
       setting = a.setting;
@@ -124,10 +124,10 @@ with_finished laid a =
       call = a.call;
     }
 
-abbrev pub Expands : {P S : Type 0} → (P → S → List Message → Type 0) → S → S → Spot → Laid → Type 0
+abbrev pub Expands : {P S : Type 0} → (P → S → List Message → Type 0) → S → S → TextSoFar → LaidText → Type 0
 Expands left old new edge laid = (edge ≡ laid.edge) × Came left old laid.notes new
 
-abbrev pub line_laid : Bool → List ℕ → Acting → Laid
+abbrev pub line_laid : Bool → List ℕ → Acting → LaidText
 line_laid copy text a = expanded (surroundings copy (measured a.setting) a.memory) a.memory.number text
 
 -- a line was expanded, or is what it gives and was not copied
@@ -150,7 +150,7 @@ with_number number a = record a {
 }
 
 -- something came of a part, without a message
-pub record Takes (old : Acting) (o : Outcome) (result : ProductKind) (new : Acting) : Type 0 where
+pub record Takes (old : Acting) (o : PartOutcome) (result : ProductKind) (new : Acting) : Type 0 where
   pub setting : new.setting ≡ old.setting
   pub memory : new.memory ≡ o.memory
   pub kind : result ≡ kind_of o.product
@@ -166,27 +166,27 @@ pub record IsLeft (old new : Acting) : Type 0 where
   pub memory : new.memory ≡ old.memory
 
 -- a raw line that is one part was taken as this line, without a message, whether one more macro may run or not
-pub record IsTaken (old : Acting) (raw : List ℕ) (outcome : Bool → Outcome) (line : Line) (new : Acting) : Type 0 where
+pub record IsTaken (old : Acting) (raw : List ℕ) (outcome : Bool → PartOutcome) (line : TakenLine) (new : Acting) : Type 0 where
   pub leaf : line_parts raw ≡ Leaf raw ∷ []
   pub left : IsLeft old new
   pub short : length line.text ≤ LINE
   pub given : (may_call : Bool) → outcome may_call ≡ record { notes = []; product = line_product line; memory = old.memory }
 
 -- it called a macro without a message, where one more may run
-pub record IsCalled (old : Acting) (raw : List ℕ) (outcome : Bool → Outcome) (new : Acting) : Type 0 where
+pub record IsCalled (old : Acting) (raw : List ℕ) (outcome : Bool → PartOutcome) (new : Acting) : Type 0 where
   pub leaf : line_parts raw ≡ Leaf raw ∷ []
   pub left : IsLeft old new
   pub given : outcome true ≡ record { notes = []; product = call_product new.call; memory = old.memory }
   pub fits : IsCallable true new.call
 
 -- what came of a raw line at once
-abbrev pub TakesIf : AtOnce → Acting → List ℕ → (Bool → Outcome) → Acting → Type 0
+abbrev pub TakesIf : AtOnce → Acting → List ℕ → (Bool → PartOutcome) → Acting → Type 0
 TakesIf ways.Nothing old raw outcome new = IsLeft old new
 TakesIf (ways.Line taken) old raw outcome new = IsTaken old raw outcome (line_view taken) new
 TakesIf ways.Call old raw outcome new = IsCalled old raw outcome new
 
 -- the call of the macro of a name, with the arguments in the rest of its line, has no message
-pub record IsQuiet (name rest : List ℕ) (column : ℕ) (m : Memory) (call : Call) : Type 0 where
+pub record IsQuiet (name rest : List ℕ) (column : ℕ) (m : Memory) (call : MacroCall) : Type 0 where
   pub body : call.body ≡ unwrap_or (called_body name m.definitions) []
   pub packs : call.packed ≡ packed (arguments column rest)
   pub fits : nat_le (length (packed (arguments column rest))) ARGS ≡ true

@@ -6,17 +6,17 @@ use Rattle.page_roff_values.specs.Values.{arguments_in, lines_in}
 use Rattle.page_roff_values.specs.Answers.{Answer}
 use Rattle.page_roff_blocks.specs.machine.Languages.{Kind, arguments_of, Done, gives, calls, repeats}
 use Rattle.page_roff_blocks.specs.machine.Budgets.{Budgeted, Effects}
-use Rattle.page_roff_effects.specs.States.{answer_of, test_outcome, budget_outcome, block_outcome, end_of_block_outcome, Memory, Given, Outcome, Product, no_product, line_product, call_product, loop_product, Setting}
+use Rattle.page_roff_effects.specs.States.{answer_of, test_outcome, budget_outcome, block_outcome, end_of_block_outcome, Memory, Given, PartOutcome, Product, no_product, line_product, call_product, loop_product, TextSetting}
 use Rattle.page_roff_effects.specs.laws.Views.{State, after}
 use Rattle.page_roff_effects.specs.Lines.{leaf_outcome}
 use Rattle.page_roff_effects.specs.Regions.{loop_outcome, collect_outcome, close_outcome, condition_in, body_in, head_outcome, line_outcome, end_outcome, finish_outcome}
 
 -- what a part of such a source reads
-abbrev pub setting_of : (List ℕ → ℕ) → Kind → Setting
+abbrev pub setting_of : (List ℕ → ℕ) → Kind → TextSetting
 setting_of units kind = record { units = units; arguments = arguments_of kind }
 
 -- that of a turn of a loop is read from its own text, of which the first byte is in column 1
-abbrev pub turn_answer : Setting → List ℕ → Memory → Answer
+abbrev pub turn_answer : TextSetting → List ℕ → Memory → Answer
 turn_answer setting condition m = answer_of setting (condition_of 1 condition) m
 
 -- a call of a macro and a loop are left to the source, all else is done
@@ -26,7 +26,7 @@ done_by (line_product line) s = gives s
 done_by (call_product call) s = calls (lines_in call.body) (arguments_in call.packed) s
 done_by (loop_product text) s = repeats (condition_in text) (body_in text) s
 
-unfoldable pub done_after : State → Outcome → Done State
+unfoldable pub done_after : State → PartOutcome → Done State
 done_after s o = done_by o.product (after s o)
 
 unfoldable pub tested_after : State → Answer → Bool × State

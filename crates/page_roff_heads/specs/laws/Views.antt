@@ -4,7 +4,7 @@ use Rattle.std.specs.Prelude.{ℕ, List, ◌+◌, ◌≤◌, length, Option, opt
 use Rattle.page_core_base.specs.Limits.{LINE}
 use Rattle.page_roff_heads.specs.Conditions.{placed, reads}
 use Rattle.page_roff_heads.specs.declared.conditions.Condition.{Condition}
-use Rattle.page_roff_heads.specs.declared.conditions.Kind.TheVariants.{Expression}
+use Rattle.page_roff_heads.specs.declared.conditions.ConditionKind.TheVariants.{Expression}
 use Rattle.page_roff_heads.specs.declared.conditions.Test.{Test}
 use Rattle.page_roff_heads.specs.declared.conditions.Test.TheVariants as tests
 use Rattle.page_roff_heads.specs.declared.conditions.TestRead.{TestRead}
@@ -45,13 +45,12 @@ condition_view condition =
 
 -- its texts lie within a line
 abbrev pub FitsTest : Test (List ℕ) → Type 0
-FitsTest (tests.Always holds) = Unit {0}
 FitsTest (tests.Unknown letter) = length letter ≤ LINE
 FitsTest (tests.IsDefined name) = length name ≤ LINE
 FitsTest (tests.IsRegister name) = length name ≤ LINE
 FitsTest (tests.Expression text) = FitsPlaced text
 FitsTest (tests.Texts first second) = FitsPlaced first × FitsPlaced second
-FitsTest tests.Missing = Unit {0}
+FitsTest _ = Unit {0}
 
 -- ---- of the program, with what its texts hold
 

@@ -7,7 +7,7 @@ use Rattle.page_roff_lines.specs.declared.Mode.TheVariants.{Plain, Backslash, Co
 use Rattle.page_roff_lines.specs.declared.Mark.{Mark}
 use Rattle.page_roff_lines.specs.declared.Mark.TheVariants.{Unread, First, Second, Absent, Present}
 use Rattle.page_roff_lines.specs.laws.Views.{newline, carriage_return}
-use Rattle.page_roff_lines.specs.Lines.{backslash, quote, hash, Kept}
+use Rattle.page_roff_lines.specs.Lines.{backslash, quote, hash, KeptLine}
 use Rattle.page_roff_lines.specs.machine.Held.{Held, nothing_held, extend, shorten}
 
 pub record Open : Type 0 where
@@ -78,10 +78,9 @@ without_return o = if o.after_return then record o { text = shorten o.text; afte
 
 -- a line feed, after the carriage return before it was taken away
 unfoldable pub newline_in : Mode → Open → Open
-newline_in Plain o = close o
-newline_in Comment o = close o
 newline_in Backslash o = record o { text = shorten o.text; mode = Plain }
 newline_in Dropped o = record o { mode = Plain }
+newline_in _ o = close o
 
 unfoldable pub put_newline : Open → Open
 put_newline o = record (newline_in o.mode (without_return o)) { physical = o.physical + 1 }
@@ -97,18 +96,12 @@ mark_after Present b = Present
 -- the byte ends a mark
 unfoldable pub ends_mark : Mark → ℕ → Bool
 ends_mark Second b = b == 0xBF
-ends_mark Unread b = false
-ends_mark First b = false
-ends_mark Absent b = false
-ends_mark Present b = false
+ends_mark _ b = false
 
 -- the page begins with a mark
 abbrev pub is_marked : Mark → Bool
 is_marked Present = true
-is_marked Unread = false
-is_marked First = false
-is_marked Second = false
-is_marked Absent = false
+is_marked _ = false
 
 -- one byte more of the page
 unfoldable pub count_byte : Open → ℕ → Open
@@ -136,15 +129,15 @@ unfoldable pub end_open : Open → Open
 end_open o = let r = restart o in if r.begun then close (end_in r.mode r.after_return r) else r
 
 -- what a line keeps
-abbrev pub kept_of : Open → Kept
+abbrev pub kept_of : Open → KeptLine
 kept_of o = record { number = o.number; text = o.text.bytes; cut = nat_lt line_limit o.text.total }
 
 -- the line, where it is whole
-unfoldable pub if_whole : Open → List Kept
+unfoldable pub if_whole : Open → List KeptLine
 if_whole o = if o.whole then kept_of o ∷ [] else []
 
 -- the lines that are whole within these bytes, and the line that is open after them
-unfoldable pub whole_lines : Open → List ℕ → List Kept
+unfoldable pub whole_lines : Open → List ℕ → List KeptLine
 whole_lines o [] = []
 whole_lines o (b ∷ bs) = if_whole (next_open o b) ++ whole_lines (next_open o b) bs
 
@@ -153,9 +146,9 @@ open_after o [] = o
 open_after o (b ∷ bs) = open_after (next_open o b) bs
 
 -- the line that is there if the page ends
-abbrev pub last_line : Open → List Kept
+abbrev pub last_line : Open → List KeptLine
 last_line o = if_whole (end_open o)
 
 -- all lines that come from here on, if these are the bytes to the page's end
-abbrev pub lines_from : Open → List ℕ → List Kept
+abbrev pub lines_from : Open → List ℕ → List KeptLine
 lines_from o bytes = whole_lines o bytes ++ last_line (open_after o bytes)

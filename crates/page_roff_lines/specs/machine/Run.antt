@@ -5,9 +5,9 @@ use Rattle.memchr.specs.Find.{is_byte, is_byte2}
 use Rattle.page_core_base.specs.laws.Views.{is_backslash, is_key, key_at}
 use Rattle.page_roff_decoding.specs.Decoding.{is_printable}
 use Rattle.page_roff_lines.specs.declared.Mode.{Mode}
-use Rattle.page_roff_lines.specs.declared.Mode.TheVariants.{Plain, Backslash, Comment, Dropped}
+use Rattle.page_roff_lines.specs.declared.Mode.TheVariants.{Plain, Backslash, Dropped}
 use Rattle.page_roff_lines.specs.declared.Mark.{Mark}
-use Rattle.page_roff_lines.specs.declared.Mark.TheVariants.{Unread, First, Second, Absent, Present}
+use Rattle.page_roff_lines.specs.declared.Mark.TheVariants.{Absent, Present}
 use Rattle.page_roff_lines.specs.laws.Views.{newline, carriage_return}
 use Rattle.page_roff_lines.specs.Lines.{backslash, quote, hash}
 use Rattle.page_roff_lines.specs.machine.Held.{extend}
@@ -17,16 +17,13 @@ use Rattle.page_roff_lines.specs.machine.Open.{Open, open_after, restart, whole_
 abbrev pub ends_run : Mode → ℕ → Bool
 ends_run Plain b = is_byte2 newline backslash b
 ends_run Backslash b = true
-ends_run Comment b = is_byte newline b
-ends_run Dropped b = is_byte newline b
+ends_run _ b = is_byte newline b
 
 -- the page's first bytes, which may be a mark, are in no run
 abbrev pub is_settled : Mark → Bool
-is_settled Unread = false
-is_settled First = false
-is_settled Second = false
 is_settled Absent = true
 is_settled Present = true
+is_settled _ = false
 
 -- the byte after a backslash stays with it, and begins no comment
 abbrev pub stays : ℕ → Bool
@@ -60,10 +57,9 @@ put_run o run = record o {
 }
 
 unfoldable pub run_in : Mode → Open → List ℕ → Open
-run_in Plain o run = put_run o run
-run_in Comment o run = put_run o run
 run_in Backslash o run = o
 run_in Dropped o run = o
+run_in _ o run = put_run o run
 
 abbrev pub with_run : Open → List ℕ → Open
 with_run o run = record (run_in o.mode o run) { consumed = o.consumed + length run }

@@ -1,6 +1,6 @@
 -- A source line that is taken at once, as the code does it. Trust needs no reading of it. Source: roff(7), "LANGUAGE SYNTAX" and "MACRO SYNTAX".
 use Rattle.std.specs.Prelude.{◌≡◌, ◌⊎◌, ℕ, true, false, List, [], None}
-use Rattle.page_core_base.specs.Texts.{Line}
+use Rattle.page_core_base.specs.Texts.{TakenLine}
 use Rattle.page_core_base.specs.laws.Views.{line_view}
 use Rattle.page_roff_blocks.specs.machine.Counting.{begun}
 use Rattle.page_roff_effects.specs.declared.at_once.AtOnce.{AtOnce}
@@ -21,7 +21,7 @@ pub record IsOutside (s : Stack) : Type 0 where
   pub skipped : s.top.cursor.levels.skipped ≡ 0
 
 -- a line was taken at once, as this one: the stack stays
-pub record TakesAtOnce (taken : Line) (line : List ℕ) (number : ℕ) (old new : Runner) : Type 0 where
+pub record TakesAtOnce (taken : TakenLine) (line : List ℕ) (number : ℕ) (old new : Runner) : Type 0 where
   pub outside : IsOutside old.stack
   pub stack : new.stack ≡ old.stack
   pub budget : new.doing.budget ≡ begun old.doing.budget

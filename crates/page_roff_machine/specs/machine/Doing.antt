@@ -159,10 +159,8 @@ leaf_in b may_call text reached kind s =
 
 -- what came of it: a line that was taken is given, and a call or a loop is lent
 abbrev pub line_of : ProductKind → Acting → List Given
-line_of kinds.Nothing a = []
 line_of kinds.Line a = takes a.line ∷ []
-line_of kinds.Call a = []
-line_of kinds.Loop a = []
+line_of _ a = []
 
 abbrev pub line_after : ProductKind → BudgetedActions → List Given → Budgeted State
 line_after product b given = state_in (given ++ line_of product b.actions) b

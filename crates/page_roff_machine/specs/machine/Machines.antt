@@ -1,12 +1,12 @@
 -- The machine that runs a source line, as the code makes its steps: what is still to come of the line. Trust needs no reading of it.
 -- Source: roff(7), "LANGUAGE SYNTAX"; mandoc(1), "DIAGNOSTICS".
 use Rattle.std.specs.Prelude.{◌≡◌, ◌≤◌, ℕ, length, Bool, true, false, List, [], ◌∷◌, Option, Some, None}
-use Rattle.page_core_base.specs.Texts.{Line}
+use Rattle.page_core_base.specs.Texts.{TakenLine}
 use Rattle.page_core_base.specs.laws.Views.{line_view, Came}
 use Rattle.page_core_base.specs.declared.lines_taken.Taken.{Taken}
 use Rattle.page_core_base.specs.Messages.{Message}
 use Rattle.page_core_base.specs.declared.page_settings.Output.{Output}
-use Rattle.page_roff_blocks.specs.Forest.{Place}
+use Rattle.page_roff_blocks.specs.Forest.{SourcePlace}
 use Rattle.page_roff_blocks.specs.machine.Run.{At}
 use Rattle.page_core_base.specs.Limits.{LINE, REREAD}
 use Rattle.page_roff_blocks.specs.machine.Languages.{Language, run_page}
@@ -66,7 +66,7 @@ abbrev pub is_idle : Machine → Bool
 is_idle m = is_nothing (next_of m.stack)
 
 -- where the page is between two lines, and the state there
-abbrev pub place_of : Machine → Place
+abbrev pub place_of : Machine → SourcePlace
 place_of m = record { region = m.stack.top.region; levels = m.stack.top.cursor.levels }
 
 abbrev pub stands : Machine → At (Budgeted State)
@@ -96,7 +96,7 @@ abbrev pub stands_after : List Given → Machine → At (Budgeted State)
 stands_after given m = record { place = place_of m; state = (running_of given m).state }
 
 -- all of a line of the page was taken at once, as this line: that is all that it gives, and it is done
-pub record Takes (taken : Line) (line : List ℕ) (number : ℕ) (old new : Machine) : Type 0 where
+pub record Takes (taken : TakenLine) (line : List ℕ) (number : ℕ) (old new : Machine) : Type 0 where
   pub output : output_of new ≡ output_of old
   pub idle : is_idle new ≡ true
   pub short : length taken.text ≤ LINE
@@ -108,7 +108,7 @@ BeginsOrTakes None line number old new = Begins line number old new
 
 -- ---- running on
 
-abbrev pub taken_if : Bool → Line → Option Line
+abbrev pub taken_if : Bool → TakenLine → Option TakenLine
 taken_if true line = Some line
 taken_if false line = None
 
@@ -135,7 +135,7 @@ pub record IsNew (output : Output) (m : Machine) : Type 0 where
   pub budget : m.budget ≡ first_budget
 
 -- between two lines of a page, where it is so, with what is remembered and the number of lines that were taken
-pub record Resumes (output : Output) (place : Place) (memory : Memory) (taken : ℕ) (m : Machine) : Type 0 where
+pub record Resumes (output : Output) (place : SourcePlace) (memory : Memory) (taken : ℕ) (m : Machine) : Type 0 where
   pub stack : m.stack ≡ stack_at place
   pub actions : acting.Remembers output memory m.actions
   pub budget : m.budget ≡ budget_at taken

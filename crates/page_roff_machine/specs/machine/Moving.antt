@@ -8,7 +8,7 @@ use Rattle.page_roff_blocks.specs.declared.levels.Way.{Way}
 use Rattle.page_roff_blocks.specs.declared.levels.Way.TheVariants.{Skips}
 use Rattle.page_roff_blocks.specs.declared.block_cursors.Pass.TheVariants as passes
 use Rattle.page_roff_blocks.specs.declared.block_cursors.Reached.{Reached}
-use Rattle.page_roff_blocks.specs.declared.block_cursors.Reached.TheVariants.{PassedOver, First, Remainder}
+use Rattle.page_roff_blocks.specs.declared.block_cursors.Reached.TheVariants.{PassedOver}
 use Rattle.page_roff_blocks.specs.laws.Views.{BlockCursor, way_of, what_ends}
 use Rattle.page_roff_syntax.specs.Regions.{Opened}
 use Rattle.page_roff_blocks.specs.machine.Run.{refuse_if}
@@ -68,10 +68,8 @@ moved output acts.SourceEnd s given b = stacks.left s.under (state_in given b)
 
 -- what came of a part, as a step
 abbrev pub progress_as : ProductKind → Progress
-progress_as kinds.Nothing = More
 progress_as kinds.Line = Line
-progress_as kinds.Call = More
-progress_as kinds.Loop = More
+progress_as _ = More
 
 -- ---- the arguments of the innermost source
 
@@ -103,10 +101,9 @@ pub record Repeats (old new : Runner) : Type 0 where
 
 -- what was taken can run, if it is a macro or a loop
 abbrev pub CanBegin : ProductKind → Stack → BudgetedActions → Type 0
-CanBegin kinds.Nothing s b = Unit {0}
-CanBegin kinds.Line s b = Unit {0}
 CanBegin kinds.Call s b = IsCallable (is_some (depth s.under)) b.actions.call
 CanBegin kinds.Loop s b = IsRepeatable (is_some (depth s.under)) b.actions.call.body
+CanBegin _ s b = Unit {0}
 
 -- ---- what is so of each source that runs
 
@@ -139,17 +136,12 @@ frames_of s = s.top ∷ s.under
 -- a block comes that is passed over
 abbrev pub passes_block : Reached → Next (List ℕ) Opened → Bool
 passes_block PassedOver x = opens_block x
-passes_block First x = false
-passes_block Remainder x = false
+passes_block _ x = false
 
 -- the line that begins next
 abbrev pub line_in : Next (List ℕ) Opened → List ℕ
-line_in (things.Part part) = []
 line_in (things.Line line) = line
-line_in (things.RegionLine o line is_end) = []
-line_in (things.Turn region begun condition) = []
-line_in (things.SourceEnd region begun) = []
-line_in things.Nothing = []
+line_in _ = []
 
 -- what of it belongs to the loop that is collected, if one is, was collected, without changing the stack
 pub record Collects {P S : Type 0} (left : P → S → List Message → Type 0) (old : Runner) (out : S)
@@ -161,21 +153,17 @@ pub record Collects {P S : Type 0} (left : P → S → List Message → Type 0) 
 
 -- what is so of each source that runs stays so
 abbrev pub Keeps : Movement → Frame → Type 0
-Keeps (moves.Part pass) f = Unit {0}
 Keeps (moves.Region is_run) f = f.cursor.levels.in_loop ≡ true → is_run ≡ false
-Keeps moves.Line f = Unit {0}
-Keeps moves.RegionLine f = Unit {0}
-Keeps moves.RegionEnd f = Unit {0}
 Keeps moves.Turn f = IsTurningWithin f.turning
+Keeps _ f = Unit {0}
 
 -- it is an act for what comes next
 abbrev pub Suits : Act → Stack → BudgetedActions → Type 0
 Suits (acts.Move movement) s b = stacks.Suits movement (next_of s) × Keeps movement s.top
 Suits (acts.Leaf product) s b = CanBegin product s b
 Suits (acts.Block answer column) s b = is_part (next_of s) ≡ true
-Suits acts.BlockEnd s b = Unit {0}
-Suits (acts.RegionLine product) s b = Unit {0}
 Suits acts.SourceEnd s b = may_end (next_of s) ≡ true
+Suits _ s b = Unit {0}
 
 -- What comes next was done, without changing the stack: with this act the step of the definition is made.
 pub record Decides {P S : Type 0} (left : P → S → List Message → Type 0) (old : Runner) (out : S)

@@ -7,8 +7,8 @@ use Rattle.std.specs.declared.result.Result.TheVariants.{Ok}
 use Rattle.page_core_base.specs.Limits.{BODY, NAME, DEFS, NAMES}
 use Rattle.page_core_base.specs.declared.limits.Limit.{Limit}
 use Rattle.page_roff_names.specs.Names.{Entries, Definition, definition, Definitions, refusal, with_text, look, without_text, size}
-use Rattle.page_roff_names.specs.declared.rows.Meaning.{Meaning}
-use Rattle.page_roff_names.specs.declared.rows.Meaning.TheVariants.{String}
+use Rattle.page_roff_names.specs.declared.rows.EntryKind.{EntryKind}
+use Rattle.page_roff_names.specs.declared.rows.EntryKind.TheVariants.{String}
 
 abbrev pub name_at : Entries → ℕ → List ℕ
 name_at [] i = []
@@ -23,11 +23,11 @@ definition_at (e ∷ es) (suc i) = definition_at es i
 abbrev pub value_at : Entries → ℕ → List ℕ
 value_at es i = (definition_at es i).value
 
-abbrev pub meaning_at : Entries → ℕ → Meaning
+abbrev pub meaning_at : Entries → ℕ → EntryKind
 meaning_at es i = (definition_at es i).meaning
 
 -- the i-th entry with another meaning
-abbrev pub with_meaning : Entries → ℕ → Meaning → Entries
+abbrev pub with_meaning : Entries → ℕ → EntryKind → Entries
 with_meaning [] i meaning = []
 with_meaning (e ∷ es) zero meaning = (e.0, definition meaning e.1.value) ∷ es
 with_meaning (e ∷ es) (suc i) meaning = e ∷ with_meaning es i meaning
@@ -45,7 +45,7 @@ Defines name value wanted old result new = MatchResult result
 
 -- a string or a macro with this value is defined, or a limit is named
 abbrev pub DefinesText :
-    Meaning → List ℕ → List ℕ → Definitions → Result (Unit {0}) Limit → Definitions → Type 0
+    EntryKind → List ℕ → List ℕ → Definitions → Result (Unit {0}) Limit → Definitions → Type 0
 DefinesText meaning name value old result new =
     Defines name value (with_text name (definition meaning value) old) old result new
 

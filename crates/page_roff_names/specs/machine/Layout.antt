@@ -2,7 +2,7 @@
 use Rattle.std.specs.Prelude.{◌≡◌, ℕ, zero, suc, ◌+◌, ◌≤◌, List, [], ◌∷◌, ◌++◌, length, take, drop}
 use Rattle.page_core_base.specs.Limits.{DEFS, NAMES}
 use Rattle.page_roff_names.specs.declared.rows.Span.{Span}
-use Rattle.page_roff_names.specs.declared.rows.Meaning.{Meaning}
+use Rattle.page_roff_names.specs.declared.rows.EntryKind.{EntryKind}
 use Rattle.page_roff_names.specs.Names.{Entries, definition}
 
 -- the entries, one after another
@@ -33,7 +33,7 @@ relaid k (s ∷ ss) =
     record { start = k; name = s.name; value = s.value; meaning = s.meaning }
     ∷ relaid (k + (s.name + s.value)) ss
 
-abbrev pub marked : List Span → ℕ → Meaning → List Span
+abbrev pub marked : List Span → ℕ → EntryKind → List Span
 marked [] i m = []
 marked (s ∷ ss) zero m = record { start = s.start; name = s.name; value = s.value; meaning = m } ∷ ss
 marked (s ∷ ss) (suc i) m = s ∷ marked ss i m

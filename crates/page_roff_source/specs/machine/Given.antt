@@ -8,7 +8,7 @@ use Rattle.page_roff_blocks.specs.machine.Languages.{run_page_lines}
 use Rattle.page_roff_effects.specs.machine.Effects.{effects}
 use Rattle.page_roff_effects.specs.laws.Views.{State}
 use Rattle.page_roff_effects.specs.States.{Given, says, numbered}
-use Rattle.page_roff_source.specs.Runs.{Edge, SourceLine}
+use Rattle.page_roff_source.specs.Runs.{RoffEdge, SourceLine}
 
 -- What comes before a line: messages are about its number from now on, and those in front of it are given.
 abbrev pub head_of : SourceLine → Budgeted State → Budgeted State
@@ -16,22 +16,22 @@ head_of line s =
     record s { rest = record { memory = numbered line.number s.rest.memory; out = s.rest.out ++ map says line.notes } }
 
 -- where the page is before its next line, which has a budget of its own
-abbrev pub before_lines : Edge → At (Budgeted State)
+abbrev pub before_lines : RoffEdge → At (Budgeted State)
 before_lines e = record {
   place = e.place;
   state = record { left = 0; gave_up = false; taken = e.taken; rest = record { memory = e.memory; out = [] } };
 }
 
 -- the forest of all lines, inside what is open
-unfoldable pub run_all : Edge → List SourceLine → At (Budgeted State)
+unfoldable pub run_all : RoffEdge → List SourceLine → At (Budgeted State)
 run_all e lines = run_page_lines (language (effects (units_of e.output))) (λ line. line.text) head_of lines (before_lines e)
 
 -- what it gives: messages, and lines for the set of macros, in their order
-abbrev pub given : Edge → List SourceLine → List Given
+abbrev pub given : RoffEdge → List SourceLine → List Given
 given e lines = (run_all e lines).state.rest.out
 
 -- where it leaves the page
-abbrev pub done : Edge → List SourceLine → Edge
+abbrev pub done : RoffEdge → List SourceLine → RoffEdge
 done e lines = let a = run_all e lines in record {
   output = e.output;
   place = a.place;

@@ -5,21 +5,21 @@ use Rattle.page_roff_blocks.specs.machine.Run.{At}
 use Rattle.page_roff_blocks.specs.machine.Budgets.{Budgeted}
 use Rattle.page_roff_effects.specs.laws.Views.{State}
 use Rattle.page_roff_effects.specs.States.{Given, says}
-use Rattle.page_roff_source.specs.Runs.{Edge, SourceLine}
+use Rattle.page_roff_source.specs.Runs.{RoffEdge, SourceLine}
 use Rattle.page_roff_source.specs.machine.Taking.{line_given, line_done}
 
 -- what lines give, each after the messages in front of it
-unfoldable pub lines_given : Edge → List SourceLine → List Given
+unfoldable pub lines_given : RoffEdge → List SourceLine → List Given
 lines_given e [] = []
 lines_given e (line ∷ lines) = map says line.notes ++ (line_given e line ++ lines_given (line_done e line) lines)
 
 -- where they leave the page
-unfoldable pub lines_done : Edge → List SourceLine → Edge
+unfoldable pub lines_done : RoffEdge → List SourceLine → RoffEdge
 lines_done e [] = e
 lines_done e (line ∷ lines) = lines_done (line_done e line) lines
 
 -- a run that is where an edge does, whatever is left of a budget, and gave this
-pub record StandsAt (e : Edge) (given : List Given) (a : At (Budgeted State)) : Type 0 where
+pub record StandsAt (e : RoffEdge) (given : List Given) (a : At (Budgeted State)) : Type 0 where
   pub place : a.place ≡ e.place
   pub memory : a.state.rest.memory ≡ e.memory
   pub taken : a.state.taken ≡ e.taken

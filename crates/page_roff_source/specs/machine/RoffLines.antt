@@ -11,7 +11,7 @@ use Rattle.page_roff_machine.specs.machine.Machines as machine
 use Rattle.page_roff_source.specs.machine.Texts.{HoldsTexts, AreGiven}
 use Rattle.page_roff_source.specs.declared.roff_lines.Remaining.{Remaining}
 use Rattle.page_roff_source.specs.declared.roff_lines.Remaining.TheVariants as remaining
-use Rattle.page_roff_source.specs.Runs.{Edge}
+use Rattle.page_roff_source.specs.Runs.{RoffEdge}
 use Rattle.page_roff_source.specs.laws.Views.{given_of, line_taken}
 use Rattle.page_roff_source.specs.machine.Taking.{LinesState}
 
@@ -28,7 +28,7 @@ run_if true = remaining.Run
 run_if false = remaining.Nothing
 
 -- where the machine leaves the page, and what is still to be given
-abbrev pub edge_of : Machine → ℕ → Remaining → Edge
+abbrev pub edge_of : Machine → ℕ → Remaining → RoffEdge
 edge_of m source left = record {
   output = output_of m;
   place = (outcome_of m).place;
@@ -39,7 +39,7 @@ edge_of m source left = record {
 }
 
 -- so few lines came that no count is too large
-pub record IsCounted (e : Edge) : Type 0 where
+pub record IsCounted (e : RoffEdge) : Type 0 where
   pub source : e.source ≤ 2 ^ 31
   pub taken : e.taken ≤ (REREAD + 1) * e.source
   pub skipped : e.place.levels.skipped ≤ (2 * LINE + 2) * e.source
@@ -54,10 +54,8 @@ state_of m source left = record {
 
 -- where nothing is left to be run, the machine has nothing to do
 abbrev pub IsIdleAs : Remaining → Machine → Type 0
-IsIdleAs remaining.Nothing m = machine.is_idle m ≡ true
-IsIdleAs remaining.Line m = machine.is_idle m ≡ true
-IsIdleAs remaining.End m = machine.is_idle m ≡ true
 IsIdleAs remaining.Run m = Unit {0}
+IsIdleAs _ m = machine.is_idle m ≡ true
 
 -- the machine is at the edge
 pub record IsAtEdge (m : Machine) (source : ℕ) (left : Remaining) : Type 0 where

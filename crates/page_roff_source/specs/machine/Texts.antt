@@ -1,8 +1,8 @@
 -- All that is remembered of a page is text, and each line that is given of it is a line. Source: roff(7), "LANGUAGE SYNTAX".
 use Rattle.std.specs.Prelude.{◌≡◌, ℕ, List, [], ◌∷◌, ◌++◌, Option, Some, None}
 use Rattle.page_core_base.specs.Texts.{IsLine}
-use Rattle.page_roff_names.specs.declared.rows.Meaning.{Meaning}
-use Rattle.page_roff_names.specs.declared.rows.Meaning.TheVariants.{String, Macro, Register}
+use Rattle.page_roff_names.specs.declared.rows.EntryKind.{EntryKind}
+use Rattle.page_roff_names.specs.declared.rows.EntryKind.TheVariants.{String, Macro, Register}
 use Rattle.page_roff_names.specs.Names.{Entries}
 use Rattle.page_roff_values.specs.machine.Texts.{IsText, AreTexts}
 use Rattle.page_roff_effects.specs.States.{Memory, Given, says, takes}
@@ -29,7 +29,7 @@ pub record IsPacked (bytes : List ℕ) : Type 0 where
   pub is : bytes ≡ ended texts
 
 -- what a name stands for
-abbrev pub IsValue : Meaning → List ℕ → Type 0
+abbrev pub IsValue : EntryKind → List ℕ → Type 0
 IsValue String value = IsText value
 IsValue Macro value = IsBody value
 IsValue (Register n) value = Unit {0}

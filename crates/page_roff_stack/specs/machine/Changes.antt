@@ -7,7 +7,7 @@ use Rattle.page_roff_blocks.specs.declared.line_parts.LinePart.TheVariants.{Leaf
 use Rattle.page_roff_blocks.specs.declared.block_cursors.Pass.{Pass}
 use Rattle.page_roff_blocks.specs.declared.block_cursors.Pass.TheVariants as passes
 use Rattle.page_roff_blocks.specs.Parts.{line_parts}
-use Rattle.page_roff_blocks.specs.Forest.{Place, outside}
+use Rattle.page_roff_blocks.specs.Forest.{SourcePlace, outside}
 use Rattle.page_roff_blocks.specs.laws.Views.{BlockCursor, after_part, at_line, passed}
 use Rattle.page_roff_syntax.specs.Regions.{Opened, opened}
 use Rattle.page_roff_blocks.specs.machine.Languages.{Kind, page, body}
@@ -21,7 +21,7 @@ abbrev pub first_frame : Frame
 first_frame = record { kind = page; region = None; parts = []; cursor = at_line outside; lines = []; turning = None }
 
 -- the page between two lines, where it is so
-abbrev pub page_at : Place → Frame
+abbrev pub page_at : SourcePlace → Frame
 page_at p = record { kind = page; region = p.region; parts = []; cursor = at_line p.levels; lines = []; turning = None }
 
 -- whether a line begins next, outside of regions
@@ -61,12 +61,8 @@ past cursor f = at_part f (drop 1 f.parts) cursor
 
 -- the region of the head that comes first
 abbrev pub region_of : Bool → LinePart (List ℕ) → Option Opened
-region_of is_run (Leaf text) = None
-region_of is_run (Guard head) = None
-region_of is_run (Block opening) = None
-region_of is_run (Loop head) = None
-region_of is_run End = None
 region_of is_run (Region head) = Some (opened head is_run)
+region_of is_run _ = None
 
 abbrev pub first_region : Bool → List (LinePart (List ℕ)) → Option Opened
 first_region is_run [] = None
@@ -122,11 +118,8 @@ IfEnters passes.End P = Unit {0}
 -- a block is entered by a part, and a line begins where one comes next
 abbrev pub MayGo : Movement → Frame → Type 0
 MayGo (moves.Part pass) f = IfEnters pass (HasPart f)
-MayGo (moves.Region is_run) f = Unit {0}
 MayGo moves.Line f = begins_line f ≡ true
-MayGo moves.RegionLine f = Unit {0}
-MayGo moves.RegionEnd f = Unit {0}
-MayGo moves.Turn f = Unit {0}
+MayGo _ f = Unit {0}
 
 -- ---- within bounds
 

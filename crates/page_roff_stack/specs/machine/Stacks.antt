@@ -2,7 +2,7 @@
 -- of it. Source: mandoc(1), "input stack limit"; roff(7), "Macros".
 use Rattle.std.specs.Prelude.{◌≡◌, ℕ, zero, suc, Bool, true, false, List, [], ◌∷◌, ◌++◌, drop, Option, Some, None}
 use Rattle.page_roff_blocks.specs.declared.line_parts.LinePart.{LinePart}
-use Rattle.page_roff_blocks.specs.Forest.{Place}
+use Rattle.page_roff_blocks.specs.Forest.{SourcePlace}
 use Rattle.page_roff_syntax.specs.Regions.{Opened, is_ending}
 use Rattle.page_roff_blocks.specs.machine.LinePlaces.{is_block}
 use Rattle.page_roff_blocks.specs.machine.Run.{Meaning, At}
@@ -32,11 +32,11 @@ abbrev pub first_stack : Stack
 first_stack = record { top = first_frame; under = []; texts = [] }
 
 -- the page between two lines, where it is so
-abbrev pub stack_at : Place → Stack
+abbrev pub stack_at : SourcePlace → Stack
 stack_at p = record { top = page_at p; under = []; texts = [] }
 
 -- where the innermost source is
-abbrev pub standing_of : Stack → Place
+abbrev pub standing_of : Stack → SourcePlace
 standing_of s = record { region = s.top.region; levels = s.top.cursor.levels }
 
 abbrev pub with_top : Frame → Stack → Stack
@@ -99,71 +99,43 @@ next_of s = next_in s.top.turning s.top.region s.top.parts s.top.lines s.under
 
 abbrev pub is_part : Next (List ℕ) Opened → Bool
 is_part (Part part) = true
-is_part (Line line) = false
-is_part (RegionLine o line is_end) = false
-is_part (Turn region begun condition) = false
-is_part (SourceEnd region begun) = false
-is_part Nothing = false
+is_part _ = false
 
 -- the part that comes next
 abbrev pub part_in : Next (List ℕ) Opened → Option (LinePart (List ℕ))
 part_in (Part part) = Some part
-part_in (Line line) = None
-part_in (RegionLine o line is_end) = None
-part_in (Turn region begun condition) = None
-part_in (SourceEnd region begun) = None
-part_in Nothing = None
+part_in _ = None
 
 abbrev pub is_line : Next (List ℕ) Opened → Bool
-is_line (Part part) = false
 is_line (Line line) = true
-is_line (RegionLine o line is_end) = false
-is_line (Turn region begun condition) = false
-is_line (SourceEnd region begun) = false
-is_line Nothing = false
+is_line _ = false
 
 abbrev pub is_turn : Next (List ℕ) Opened → Bool
-is_turn (Part part) = false
-is_turn (Line line) = false
-is_turn (RegionLine o line is_end) = false
 is_turn (Turn region begun condition) = true
-is_turn (SourceEnd region begun) = false
-is_turn Nothing = false
+is_turn _ = false
 
 -- the innermost source may end: no turn of it comes, or its turn may not begin
 abbrev pub may_end : Next (List ℕ) Opened → Bool
-may_end (Part part) = false
-may_end (Line line) = false
-may_end (RegionLine o line is_end) = false
 may_end (Turn region begun condition) = true
 may_end (SourceEnd region begun) = true
-may_end Nothing = false
+may_end _ = false
 
 abbrev pub is_nothing : Next (List ℕ) Opened → Bool
-is_nothing (Part part) = false
-is_nothing (Line line) = false
-is_nothing (RegionLine o line is_end) = false
-is_nothing (Turn region begun condition) = false
-is_nothing (SourceEnd region begun) = false
 is_nothing Nothing = true
+is_nothing _ = false
 
 -- whether the part that comes next opens a block
 abbrev pub opens_block : Next (List ℕ) Opened → Bool
 opens_block (Part part) = is_block part
-opens_block (Line line) = false
-opens_block (RegionLine o line is_end) = false
-opens_block (Turn region begun condition) = false
-opens_block (SourceEnd region begun) = false
-opens_block Nothing = false
+opens_block _ = false
 
 -- a movement is one for what comes next
 abbrev pub Suits : Movement → Next (List ℕ) Opened → Type 0
 Suits (moves.Part pass) x = IfEnters pass (is_part x ≡ true)
 Suits (moves.Region is_run) x = is_part x ≡ true
 Suits moves.Line x = is_line x ≡ true
-Suits moves.RegionLine x = Unit {0}
-Suits moves.RegionEnd x = Unit {0}
 Suits moves.Turn x = is_turn x ≡ true
+Suits _ x = Unit {0}
 
 -- ---- the page is around all macros
 

@@ -45,5 +45,4 @@ FitsNext (Part part) = FitsLinePart part
 FitsNext (Line line) = length line ≤ LINE
 FitsNext (RegionLine region line is_end) = length line ≤ LINE
 FitsNext (Turn region begun condition) = length condition ≤ LINE
-FitsNext (SourceEnd region begun) = Unit {0}
-FitsNext Nothing = Unit {0}
+FitsNext _ = Unit {0}

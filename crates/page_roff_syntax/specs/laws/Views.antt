@@ -40,10 +40,8 @@ begins_control (byte ∷ bytes) = is_control byte
 
 -- the name of a control line; others have none
 abbrev pub name_of : LineForm (List ℕ) → Option (List ℕ)
-name_of Comment = None
-name_of BlankLine = None
-name_of (Text text) = None
 name_of (Control name column rest rest_column) = Some name
+name_of _ = None
 
 -- a name of the program, with what its text holds
 abbrev pub name_view : Option (Bor (List ℕ)) → Option (List ℕ)
@@ -58,10 +56,9 @@ form_view (Control name column rest rest_column) = Control name.now column rest.
 
 -- texts and columns lie within a line
 abbrev pub FitsLine : LineForm (List ℕ) → Type 0
-FitsLine Comment = Unit {0}
-FitsLine BlankLine = Unit {0}
 FitsLine (Text text) = length text ≤ LINE
 FitsLine (Control name column rest rest_column) = (length rest ≤ LINE) × (rest_column + length rest ≤ LINE + 1)
+FitsLine _ = Unit {0}
 
 -- a text of the program, if there is one
 abbrev pub text_view : Option (Bor (List ℕ)) → Option (List ℕ)

@@ -4,19 +4,19 @@ use Rattle.std.specs.Vec.{vec_capacity}
 use Rattle.page_core_base.specs.Limits.{LINE}
 use Rattle.page_core_base.specs.laws.Views.{NEST}
 use Rattle.page_roff_values.specs.declared.expansions.Nested.TheInside.{Inside}
-use Rattle.page_roff_values.specs.Values.{Spot}
+use Rattle.page_roff_values.specs.Values.{TextSoFar}
 
 -- a line so far, or the text of a width, and what is finished of those that it is inside of, one after another
 pub record NestedSpot : Type 0 where
-  pub spot : Spot
+  pub spot : TextSoFar
   pub before : List ℕ
 
 -- one that is inside of no other
-abbrev pub outermost : Spot → NestedSpot
+abbrev pub outermost : TextSoFar → NestedSpot
 outermost s = record { spot = s; before = [] }
 
 -- a step of its own: those that it is inside of stay
-abbrev pub over : (Spot → Spot) → NestedSpot → NestedSpot
+abbrev pub over : (TextSoFar → TextSoFar) → NestedSpot → NestedSpot
 over f s = record { spot = f s.spot; before = s.before }
 
 abbrev pub nested_of : Inside → NestedSpot

@@ -12,7 +12,7 @@ use Rattle.page_scopes_tree.specs.laws.Edges.{events_items, events_edge, page_en
 use Rattle.page_scopes_tree.specs.machine.Frames.{Tables}
 use Rattle.page_scopes_tree.specs.declared.nestings.Scope.{Scope}
 use Rattle.page_scopes_layout.specs.declared.contexts.Context.{Context}
-use Rattle.page_scopes_phrases.specs.Phrases.{Outcome}
+use Rattle.page_scopes_phrases.specs.Phrases.{EventOutcome}
 use Rattle.page_scopes_nodes.specs.Begins.{begun_by}
 use Rattle.page_scopes_nodes.specs.Ends.{ended}
 use Rattle.page_scopes_nodes.specs.declared.page_layouts.PageLayout.{PageLayout}
@@ -21,7 +21,7 @@ use Rattle.page_scopes.specs.declared.layouts.Kept.{Kept}
 use Rattle.page_scopes.specs.declared.layouts.LayoutState.{LayoutState}
 
 -- what an outcome leaves
-abbrev pub leaves : LayoutState → Outcome → LayoutState
+abbrev pub leaves : LayoutState → EventOutcome → LayoutState
 leaves s o = record s { formatting = o.state }
 
 abbrev pub layout_tables : Tables LayoutState Kept

@@ -3,12 +3,12 @@ use Rattle.std.specs.Borrow.{Bor}
 use Rattle.std.specs.Prelude.{◌≡◌, List, ℕ}
 use Rattle.page_core_base.specs.Rows.{Item}
 use Rattle.page_core_base.specs.laws.Views.{Came}
-use Rattle.page_scopes_phrases.specs.Phrases.{Outcome}
+use Rattle.page_scopes_phrases.specs.Phrases.{EventOutcome}
 use Rattle.page_scopes_phrases.specs.declared.formatting.Formatting.{Formatting}
 use Rattle.page_scopes_phrases.specs.declared.phrases.Phrase.{Phrase}
 
 -- a latch was given what an outcome gives, and this state is the one that it leaves
-pub record GivesOutcome {P O : Type 0} (left : P → O → List Item → Type 0) (out : O) (outcome : Outcome) (next : O) (s : Formatting) : Type 0 where
+pub record GivesOutcome {P O : Type 0} (left : P → O → List Item → Type 0) (out : O) (outcome : EventOutcome) (next : O) (s : Formatting) : Type 0 where
   pub came : Came left out outcome.items next
   pub state : s ≡ outcome.state
 

@@ -4,7 +4,7 @@ use Rattle.std.specs.List.{list_all}
 use Rattle.page_core_base.specs.Rows.{Item}
 use Rattle.page_core_base.specs.declared.cells.Cell.{Cell}
 use Rattle.page_core_base.specs.declared.cells.Font.{Font}
-use Rattle.page_core_base.specs.declared.cells.Font.TheVariants.{R, I, B, BI}
+use Rattle.page_core_base.specs.declared.cells.Font.TheVariants.{R}
 use Rattle.page_scopes_words.specs.machine.Letters.{GivesLetters}
 use Rattle.page_scopes_words.specs.declared.fonts.Fonts.{Fonts}
 use Rattle.page_scopes_words.specs.declared.settings.Setting.{Setting}
@@ -22,9 +22,7 @@ pub record GoesOn (style : TextStyle) (pen : Pen) : Type 0 where
 -- words with a blank between two are given in the roman font, and one word in any
 abbrev pub is_in_font : Font → List ℕ → Bool
 is_in_font R text = true
-is_in_font I text = list_all (λ byte. not (byte == 32)) text
-is_in_font B text = list_all (λ byte. not (byte == 32)) text
-is_in_font BI text = list_all (λ byte. not (byte == 32)) text
+is_in_font _ text = list_all (λ byte. not (byte == 32)) text
 
 -- words of letters at a text's front were given after the pen's blanks; they were read as if one blank were before them
 pub record GivesFront {S : Type 0} (style : TextStyle) (pen : Pen) (text : List ℕ) (next : Setting Fonts) (rest : List ℕ)

@@ -2,7 +2,7 @@
 -- every mode, and neither ends nor opens anything. Trust needs no reading of it.
 use Rattle.std.specs.Prelude.{ℕ, List, [], ◌++◌}
 use Rattle.page_scopes_tree.specs.machine.Nestings.{Standing, as_node, as_leaf, as_nothing, Nesting}
-use Rattle.page_scopes_tree.specs.Ends.{Edge}
+use Rattle.page_scopes_tree.specs.Ends.{TreeEdge}
 use Rattle.page_scopes_tree.specs.machine.Layouts.{Layout}
 
 -- an act of the language, or an aside; of a leaf the same
@@ -70,7 +70,7 @@ layout_with lays sides = record {
 }
 
 -- an edge of the language, with the state beside it
-abbrev pub beside : {M L H S B : Type 0} → H → Edge M L S B → Edge M L (Beside H S) B
+abbrev pub beside : {M L H S B : Type 0} → H → TreeEdge M L S B → TreeEdge M L (Beside H S) B
 beside own d = record { mode = d.mode; scopes = d.scopes; state = record { own = own; rest = d.state } }
 
 -- what is given before the leaf that an act is

@@ -1,7 +1,7 @@
 -- A machine: laying out a block tree of any language: what it gives, sibling after sibling, and what decides the rest. Trust needs no reading of it.
 use Rattle.std.specs.Prelude.{List, [], ◌∷◌, ◌++◌}
 use Rattle.page_scopes_tree.specs.machine.Nestings.{Nesting, left_by, standing_of, mode_of, inside}
-use Rattle.page_scopes_tree.specs.Ends.{Edge}
+use Rattle.page_scopes_tree.specs.Ends.{TreeEdge}
 use Rattle.page_scopes_tree.specs.laws.Views.{labels}
 use Rattle.page_scopes_tree.specs.declared.nestings.Scope.{Scope}
 use Rattle.page_scopes_tree.specs.machine.Forests.{Ender, by_act, still_open, Forest, none, leaf, node, After, Rest, tree}
@@ -99,11 +99,11 @@ mode_after nests m nodes (a ∷ acts) =
     mode_after nests (mode_of nests m a nodes) (inside (standing_of nests m a nodes) (left_by nests m a nodes)) acts
 
 -- what acts give while the page goes on
-unfoldable pub settled : {M L A F S B I : Type 0} → Nesting M L A F → Layout L A F S B I → Edge M L S B → List A → List I
+unfoldable pub settled : {M L A F S B I : Type 0} → Nesting M L A F → Layout L A F S B I → TreeEdge M L S B → List A → List I
 settled nests lays d acts = lay_rest lays d.scopes d.state (tree nests d.mode (labels d.scopes) acts)
 
 -- what decides the rest after them
-unfoldable pub edge : {M L A F S B I : Type 0} → Nesting M L A F → Layout L A F S B I → Edge M L S B → List A → Edge M L S B
+unfoldable pub edge : {M L A F S B I : Type 0} → Nesting M L A F → Layout L A F S B I → TreeEdge M L S B → List A → TreeEdge M L S B
 edge nests lays d acts = record {
   mode = mode_after nests d.mode (labels d.scopes) acts;
   scopes = open_rest lays d.scopes d.state (tree nests d.mode (labels d.scopes) acts);

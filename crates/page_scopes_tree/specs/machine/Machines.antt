@@ -3,7 +3,7 @@ use Rattle.std.specs.Prelude.{ℕ, zero, suc, List, [], ◌∷◌, ◌++◌, dro
 use Rattle.page_scopes_tree.specs.machine.Nestings.{Standing, as_node, as_leaf, as_nothing, Nesting, standing_of, mode_of}
 use Rattle.page_scopes_tree.specs.declared.nestings.Scope.{Scope}
 use Rattle.page_scopes_tree.specs.laws.Views.{labels}
-use Rattle.page_scopes_tree.specs.Ends.{Edge}
+use Rattle.page_scopes_tree.specs.Ends.{TreeEdge}
 use Rattle.page_scopes_tree.specs.machine.Layouts.{Layout, scope_of}
 
 -- an act ends this many of the innermost nodes
@@ -34,29 +34,29 @@ placed_scopes lays (as_node l) a scopes s = scope_of lays l a s ∷ scopes
 placed_scopes lays (as_leaf f) a scopes s = scopes
 placed_scopes lays as_nothing a scopes s = scopes
 
-abbrev pub count_ended : {M L A F S B : Type 0} → Nesting M L A F → Edge M L S B → A → ℕ
+abbrev pub count_ended : {M L A F S B : Type 0} → Nesting M L A F → TreeEdge M L S B → A → ℕ
 count_ended nests d a = nests.ends d.mode a (labels d.scopes)
 
 -- the state where the act has ended what it ends
-abbrev pub state_left : {M L A F S B I : Type 0} → Nesting M L A F → Layout L A F S B I → Edge M L S B → A → S
+abbrev pub state_left : {M L A F S B I : Type 0} → Nesting M L A F → Layout L A F S B I → TreeEdge M L S B → A → S
 state_left nests lays d a = ended_state lays (count_ended nests d a) a d.scopes d.state
 
-abbrev pub step_items : {M L A F S B I : Type 0} → Nesting M L A F → Layout L A F S B I → Edge M L S B → A → List I
+abbrev pub step_items : {M L A F S B I : Type 0} → Nesting M L A F → Layout L A F S B I → TreeEdge M L S B → A → List I
 step_items nests lays d a =
     ended_items lays (count_ended nests d a) a d.scopes d.state
     ++ placed_items lays (standing_of nests d.mode a (labels d.scopes)) a (state_left nests lays d a)
 
-abbrev pub step : {M L A F S B I : Type 0} → Nesting M L A F → Layout L A F S B I → Edge M L S B → A → Edge M L S B
+abbrev pub step : {M L A F S B I : Type 0} → Nesting M L A F → Layout L A F S B I → TreeEdge M L S B → A → TreeEdge M L S B
 step nests lays d a = record {
   mode = mode_of nests d.mode a (labels d.scopes);
   scopes = placed_scopes lays (standing_of nests d.mode a (labels d.scopes)) a (drop (count_ended nests d a) d.scopes) (state_left nests lays d a);
   state = placed_state lays (standing_of nests d.mode a (labels d.scopes)) a (state_left nests lays d a);
 }
 
-abbrev pub run_items : {M L A F S B I : Type 0} → Nesting M L A F → Layout L A F S B I → Edge M L S B → List A → List I
+abbrev pub run_items : {M L A F S B I : Type 0} → Nesting M L A F → Layout L A F S B I → TreeEdge M L S B → List A → List I
 run_items nests lays d [] = []
 run_items nests lays d (a ∷ acts) = step_items nests lays d a ++ run_items nests lays (step nests lays d a) acts
 
-abbrev pub run : {M L A F S B I : Type 0} → Nesting M L A F → Layout L A F S B I → Edge M L S B → List A → Edge M L S B
+abbrev pub run : {M L A F S B I : Type 0} → Nesting M L A F → Layout L A F S B I → TreeEdge M L S B → List A → TreeEdge M L S B
 run nests lays d [] = d
 run nests lays d (a ∷ acts) = run nests lays (step nests lays d a) acts

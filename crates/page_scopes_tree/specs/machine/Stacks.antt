@@ -3,7 +3,7 @@ use Rattle.std.specs.Prelude.{◌≡◌, ℕ, Bool, true, false, not, List, reve
 use Rattle.std.specs.Global.{Vec}
 use Rattle.page_core_base.specs.laws.Views.{Came}
 use Rattle.page_core_base.specs.Rows.{Item}
-use Rattle.page_scopes_tree.specs.Ends.{Edge}
+use Rattle.page_scopes_tree.specs.Ends.{TreeEdge}
 use Rattle.page_scopes_tree.specs.laws.Views.{labels, Step, in_enclosure}
 use Rattle.page_scopes_tree.specs.machine.Machines.{step, step_items}
 use Rattle.page_scopes_tree.specs.machine.Nestings.{Standing}
@@ -25,7 +25,7 @@ abbrev pub Keeps : {B : Type 0} → Vec (Scope Label B) → Vec (Scope Label B) 
 Keeps old new scopes = (reverse new.items ≡ scopes) × (vec_capacity new ≡ vec_capacity old)
 
 -- what decides the rest, by the parts of a stack
-abbrev pub stack_edge : {S B : Type 0} → Bool → Vec (Scope Label B) → S → Edge Bool Label S B
+abbrev pub stack_edge : {S B : Type 0} → Bool → Vec (Scope Label B) → S → TreeEdge Bool Label S B
 stack_edge skips scopes state = record { mode = skips; scopes = reverse scopes.items; state = state }
 
 -- what becomes of an act that ended this many scopes and leaves these
@@ -57,7 +57,7 @@ is_idle (acts.Event event) nodes = kind_is_idle event.kind nodes
 is_idle (acts.PageEnd line) nodes = false
 
 -- a step was taken from an edge: what it settles came to a latch, and this edge is after it
-pub record TakesStep {P O S B : Type 0} (left : P → O → List Item → Type 0) (tables : Tables S B) (taken : Step) (before : Edge Bool Label S B) (out : O)
-    (after : Edge Bool Label S B) (next : O) : Type 0 where
+pub record TakesStep {P O S B : Type 0} (left : P → O → List Item → Type 0) (tables : Tables S B) (taken : Step) (before : TreeEdge Bool Label S B) (out : O)
+    (after : TreeEdge Bool Label S B) (next : O) : Type 0 where
   pub came : Came left out (step_items scopes_nesting (framed tables) before taken) next
   pub edge : after ≡ step scopes_nesting (framed tables) before taken

@@ -19,7 +19,7 @@ use Rattle.page_sets_lines.specs.declared.events.EventKind.TheVariants as kinds
 use Rattle.page_sets_lines.specs.declared.events.Event.{Event}
 use Rattle.page_sets_lines.specs.declared.plain_lines.PlainLine.{PlainLine}
 use Rattle.page_roff_syntax.specs.declared.requests.LayoutRequest.{LayoutRequest}
-use Rattle.page_core_base.specs.Texts.{Line}
+use Rattle.page_core_base.specs.Texts.{TakenLine}
 use Rattle.page_sets_lines.specs.laws.Sets.{IsPart, IsArgument, IsArgumentIfGiven, OpensSlices, ClosesSlices, LeavesSlices, HasSlices, AreSlices, AreInOrder}
 use Rattle.page_sets_lines.specs.Lines.{name_end, name_of, name_place, is_nameless, arguments_after, first_of, line_end, plain_line, layout_request, plain_events, event_at}
 use Rattle.page_sets_lines.proofs.ArgumentLaws.{ArgumentsFrom, all_after, earlier, few_after}
@@ -40,7 +40,7 @@ use Rattle.page_sets.specs.declared.man_rows.Words.{Words}
 use Rattle.page_sets.specs.declared.man_rows.Words.TheVariants as words
 use Rattle.page_sets.specs.declared.man_rows.Last.{Last}
 use Rattle.page_sets.specs.declared.man_rows.Last.TheVariants as lasts
-use Rattle.page_sets.specs.declared.man_rows.Row.{Row}
+use Rattle.page_sets.specs.declared.man_rows.ManRow.{ManRow}
 use Rattle.page_sets.specs.declared.man_gives.Quote.{Quote}
 use Rattle.page_core_base.specs.Messages.{row_in}
 use Rattle.page_core_base.specs.declared.places.Place.{Place}
@@ -62,8 +62,7 @@ scope_slices line place (Some opener) = (tt, tt)
 
 last_slices : (line : List ℕ) (place : Place) (last : Last) → AreSlices line (last_events place last)
 last_slices line place lasts.Nothing = tt
-last_slices line place lasts.FontEnds = (tt, tt)
-last_slices line place (lasts.Mark text) = (tt, tt)
+last_slices line place _ = (tt, tt)
 
 -- what may be there, and then has slices
 HasSlicesIfGiven : List ℕ → Option (EventKind (List ℕ)) → Type 0
@@ -84,9 +83,6 @@ target_slices line make (Some argument) keeps h = keeps argument h
 
 opens_slices : (line : List ℕ) (scope : Opens) (start : ℕ) → HasSlicesIfGiven line (option_map kinds.Open (opener scope (arguments_after start line)))
 unfolding HasSlicesIfGiven
-opens_slices line opens.Section start = tt
-opens_slices line opens.Subsection start = tt
-opens_slices line (opens.Paragraph name) start = tt
 opens_slices line opens.Tagged start = first_text_after line start
 opens_slices line opens.Indented start = (first_slice_after line start, second_text_after line start)
 opens_slices line opens.Hanging start = first_text_after line start
@@ -94,6 +90,7 @@ opens_slices line opens.RelativeMargin start = first_text_after line start
 opens_slices line (opens.Target link) start =
     target_slices line _ (first_of (arguments_after start line)) (λ argument h. h) (first_slice_after line start)
 opens_slices line opens.Syntax start = target_slices line _ (first_of (arguments_after start line)) (λ argument h. h) (first_slice_after line start)
+opens_slices line _ start = tt
 
 closes_slices : (line : List ℕ) (scope : Closes) (start : ℕ) → ClosesSlices line (closer scope (arguments_after start line))
 closes_slices line closes.RelativeMargin start = first_text_after line start
@@ -103,11 +100,8 @@ closes_slices line closes.Syntax start = tt
 sets_slices : (line : List ℕ) (change : Sets) (start : ℕ) → start ≤ length line → LeavesSlices line (leaf change (drop start line) (arguments_after start line))
 sets_slices line (sets.Request name) start h = request_slices line name _ (first_slice_after line start)
 sets_slices line sets.Title start h = rest_part line start h
-sets_slices line (sets.Example begins) start h = tt
 sets_slices line sets.Distance start h = first_text_after line start
-sets_slices line sets.FurtherTag start h = tt
-sets_slices line (sets.FontBegins font) start h = tt
-sets_slices line (sets.Mark text) start h = tt
+sets_slices line _ start h = tt
 
 effect_slices : (line : List ℕ) (effect : Effect) (start : ℕ) → start ≤ length line
     → HasSlicesIfGiven line (effect_kind effect (drop start line) (arguments_after start line))
@@ -160,7 +154,7 @@ words_slices line place words.Option from arguments h = option_slices line place
 words_slices line place words.Reference from arguments h = reference_slices line place from arguments h
 words_slices line place words.Further from arguments h = further_slices line place.line from arguments h
 
-macro_slices : (line : List ℕ) (place : Place) (start : ℕ) (row : Row) → start ≤ length line
+macro_slices : (line : List ℕ) (place : Place) (start : ℕ) (row : ManRow) → start ≤ length line
     → AreSlices line (macro_events place row (drop start line) (arguments_after start line))
 macro_slices line place start row within =
     let arguments = arguments_after start line in
@@ -177,7 +171,7 @@ lone_slices line Same place name events n h = h
 lone_slices line Empty place name events n h = (n, (tt, tt))
 lone_slices line (Scope opener) place name events n h = (tt, (tt, tt))
 
-row_slices : (line : List ℕ) (place : Place) (start : ℕ) (name : List ℕ) (row : Row) → start ≤ length line → IsPart line name
+row_slices : (line : List ℕ) (place : Place) (start : ℕ) (name : List ℕ) (row : ManRow) → start ≤ length line → IsPart line name
     → AreSlices line (row_events place name (drop start line) (arguments_after start line) row)
 row_slices line place start name row within n =
     let m = macro_slices line place start row within in
@@ -186,23 +180,23 @@ row_slices line place start name row within n =
       | inr t ↦ rw t (lone_slices line row.alone place name _ n (rw t at m))
     ]
 
-named_slices : (line : Line) (row : Option Row) → AreSlices line.text (named_events line row)
+named_slices : (line : TakenLine) (row : Option ManRow) → AreSlices line.text (named_events line row)
 named_slices line None = (name_part line, (tt, tt))
 named_slices line (Some row) =
     row_slices line.text (name_place line) (name_end line) (name_of line) row (end_within line) (name_part line)
 
-control_slices : (line : Line) → AreSlices line.text (control_events line)
+control_slices : (line : TakenLine) → AreSlices line.text (control_events line)
 control_slices line =
     elim (cases_Bool (is_nameless line)) [
       | inl t ↦ rw t (tt, tt)
       | inr t ↦ rw t (named_slices line (row_of (name_of line)))
     ]
 
-form_slices : (line : Line) (plain : Option PlainLine) → AreSlices line.text (option_map_or (plain_events line.number line.text) plain (control_events line))
+form_slices : (line : TakenLine) (plain : Option PlainLine) → AreSlices line.text (option_map_or (plain_events line.number line.text) plain (control_events line))
 form_slices line None = control_slices line
 form_slices line (Some plain) = (line_slices plain line.text, (tt, tt))
 
-pub man_slices : (line : Line) → AreSlices line.text (man_events line)
+pub man_slices : (line : TakenLine) → AreSlices line.text (man_events line)
 unfolding man_events
 man_slices line = form_slices line (plain_line line.form line.text)
 
@@ -228,13 +222,11 @@ effect_no_word : (place : Place) (effect : Effect) (rest : List ℕ) (arguments 
     → HasNoWord (kind_events place (effect_kind effect rest arguments))
 effect_no_word place effects.Nothing rest arguments = tt
 effect_no_word place (effects.Opens scope) rest arguments = open_no_word place (opener scope arguments)
-effect_no_word place (effects.Closes scope) rest arguments = (refl, tt)
-effect_no_word place (effects.Sets change) rest arguments = (refl, tt)
+effect_no_word place _ rest arguments = (refl, tt)
 
 last_no_word : (place : Place) (last : Last) (filled : Bool) → HasNoWord (last_events place last ++ line_end place.line filled ∷ [])
 last_no_word place lasts.Nothing filled = (refl, tt)
-last_no_word place lasts.FontEnds filled = (refl, (refl, tt))
-last_no_word place (lasts.Mark text) filled = (refl, (refl, tt))
+last_no_word place _ filled = (refl, (refl, tt))
 
 one_order : (line : List ℕ) (number : ℕ) (font : Option Font) (before : Join) (from : ℕ) (arguments : List (Argument (List ℕ)))
     → ArgumentsFrom line from arguments → AreInOrder from (one_word number font before arguments)
@@ -280,7 +272,7 @@ words_order line place words.Option from arguments h = option_order line place.l
 words_order line place words.Reference from arguments h = reference_order line place from arguments h
 words_order line place words.Further from arguments h = further_order line place.line from arguments h
 
-macro_order : (line : List ℕ) (place : Place) (start : ℕ) (row : Row) → AreInOrder 0 (macro_events place row (drop start line) (arguments_after start line))
+macro_order : (line : List ℕ) (place : Place) (start : ℕ) (row : ManRow) → AreInOrder 0 (macro_events place row (drop start line) (arguments_after start line))
 macro_order line place start row =
     let arguments = arguments_after start line in
     order_after 0 _ _ (break_no_word place row.breaks)
@@ -292,10 +284,9 @@ macro_order line place start row =
 
 lone_order : (alone : Alone) (place : Place) (name : List ℕ) (events : List (Event (List ℕ))) → AreInOrder 0 events → AreInOrder 0 (lone_events alone place name events)
 lone_order Same place name events h = h
-lone_order Empty place name events h = (tt, (tt, tt))
-lone_order (Scope opener) place name events h = (tt, (tt, tt))
+lone_order _ place name events h = (tt, (tt, tt))
 
-row_order : (line : List ℕ) (place : Place) (start : ℕ) (name : List ℕ) (row : Row)
+row_order : (line : List ℕ) (place : Place) (start : ℕ) (name : List ℕ) (row : ManRow)
     → AreInOrder 0 (row_events place name (drop start line) (arguments_after start line) row)
 row_order line place start name row =
     let m = macro_order line place start row in
@@ -304,22 +295,22 @@ row_order line place start name row =
       | inr t ↦ rw t (lone_order row.alone place name _ (rw t at m))
     ]
 
-named_order : (line : Line) (row : Option Row) → AreInOrder 0 (named_events line row)
+named_order : (line : TakenLine) (row : Option ManRow) → AreInOrder 0 (named_events line row)
 named_order line None = (tt, (tt, tt))
 named_order line (Some row) = row_order line.text (name_place line) (name_end line) (name_of line) row
 
-control_order : (line : Line) → AreInOrder 0 (control_events line)
+control_order : (line : TakenLine) → AreInOrder 0 (control_events line)
 control_order line =
     elim (cases_Bool (is_nameless line)) [
       | inl t ↦ rw t (tt, tt)
       | inr t ↦ rw t (named_order line (row_of (name_of line)))
     ]
 
-form_order : (line : Line) (plain : Option PlainLine) → AreInOrder 0 (option_map_or (plain_events line.number line.text) plain (control_events line))
+form_order : (line : TakenLine) (plain : Option PlainLine) → AreInOrder 0 (option_map_or (plain_events line.number line.text) plain (control_events line))
 form_order line None = control_order line
 form_order line (Some plain) = (line_order plain line.text, (tt, tt))
 
-pub man_in_order : (line : Line) → AreInOrder 0 (man_events line)
+pub man_in_order : (line : TakenLine) → AreInOrder 0 (man_events line)
 unfolding man_events
 man_in_order line = form_order line (plain_line line.form line.text)
 
@@ -332,33 +323,25 @@ break_weight false = 0
 
 quotes_weight : Quotes → ℕ
 quotes_weight Printed = 0
-quotes_weight (After printed) = 1
-quotes_weight (BodyAfter printed) = 1
+quotes_weight _ = 1
 
 effect_weight : Effect → ℕ
 effect_weight effects.Nothing = 0
-effect_weight (effects.Opens scope) = 1
-effect_weight (effects.Closes scope) = 1
-effect_weight (effects.Sets change) = 1
+effect_weight _ = 1
 
 scope_weight : Option LineOpener → ℕ
 scope_weight None = 0
 scope_weight (Some opener) = 1
 
 marks_weight : Words → ℕ
-marks_weight words.Nothing = 0
-marks_weight words.Plain = 0
-marks_weight (words.Alternating font other) = 0
-marks_weight words.Option = 0
 marks_weight words.Reference = 2
-marks_weight words.Further = 0
+marks_weight _ = 0
 
 last_weight : Last → ℕ
 last_weight lasts.Nothing = 0
-last_weight lasts.FontEnds = 1
-last_weight (lasts.Mark text) = 1
+last_weight _ = 1
 
-weight : Row → ℕ
+weight : ManRow → ℕ
 weight row =
     break_weight row.breaks + (quotes_weight row.quotes + (effect_weight row.effect
     + (scope_weight (line_scope row.effect) + (marks_weight row.words + last_weight row.last))))
@@ -385,10 +368,8 @@ few_kind place (Some kind) = omega arith
 few_effect : (place : Place) (effect : Effect) (rest : List ℕ) (arguments : List (Argument (List ℕ)))
     → length (kind_events place (effect_kind effect rest arguments)) ≤ effect_weight effect
 unfolding effect_weight
-few_effect place effects.Nothing rest arguments = omega arith
 few_effect place (effects.Opens scope) rest arguments = few_kind place _
-few_effect place (effects.Closes scope) rest arguments = omega arith
-few_effect place (effects.Sets change) rest arguments = omega arith
+few_effect place _ rest arguments = omega arith
 
 few_scope : (place : Place) (scope : Option LineOpener) → length (kind_events place (option_map kinds.LineScope scope)) ≤ scope_weight scope
 unfolding scope_weight
@@ -398,8 +379,7 @@ few_scope place (Some opener) = omega arith
 few_last : (place : Place) (last : Last) → length (last_events place last) ≤ last_weight last
 unfolding last_weight
 few_last place lasts.Nothing = omega arith
-few_last place lasts.FontEnds = omega arith
-few_last place (lasts.Mark text) = omega arith
+few_last place _ = omega arith
 
 few_one : (number : ℕ) (font : Option Font) (before : Join) (arguments : List (Argument (List ℕ))) → length (one_word number font before arguments) ≤ length arguments
 few_one number font before [] = omega arith
@@ -440,7 +420,7 @@ few_words place words.Option arguments = let f = few_option place.line arguments
 few_words place words.Reference arguments = let f = few_reference place arguments in omega (arith, f)
 few_words place words.Further arguments = let f = few_further place.line arguments in omega (arith, f)
 
-few_macro : (place : Place) (row : Row) (rest : List ℕ) (arguments : List (Argument (List ℕ)))
+few_macro : (place : Place) (row : ManRow) (rest : List ℕ) (arguments : List (Argument (List ℕ)))
     → length (macro_events place row rest arguments) ≤ weight row + length arguments + 1
 unfolding weight
 few_macro place row rest arguments =
@@ -454,13 +434,13 @@ few_macro place row rest arguments =
 
 -- ---- the rows of the table are light
 
-is_light : Row → Bool
+is_light : ManRow → Bool
 is_light row = nat_le (weight row) 4
 
-abbrev are_light : List (List ℕ × Row) → Bool
-are_light rows = list_all (λ (each : List ℕ × Row). is_light each.1) rows
+abbrev are_light : List (List ℕ × ManRow) → Bool
+are_light rows = list_all (λ (each : List ℕ × ManRow). is_light each.1) rows
 
-light_in : (rows : List (List ℕ × Row)) (name : List ℕ) (row : Row) → are_light rows ≡ true → row_in rows name ≡ Some row → is_light row ≡ true
+light_in : (rows : List (List ℕ × ManRow)) (name : List ℕ) (row : ManRow) → are_light rows ≡ true → row_in rows name ≡ Some row → is_light row ≡ true
 light_in [] name row h e = cc
 light_in (first ∷ rows) name row h e =
     elim (cases_Bool (is_light first.1)) [
@@ -472,35 +452,34 @@ light_in (first ∷ rows) name row h e =
       | inr s ↦ let f = rw s at h in cc
     ]
 
-light_either : (one other : Option Row) (row : Row) → (one ≡ Some row → is_light row ≡ true) → (other ≡ Some row → is_light row ≡ true)
+light_either : (one other : Option ManRow) (row : ManRow) → (one ≡ Some row → is_light row ≡ true) → (other ≡ Some row → is_light row ≡ true)
     → option_or one other ≡ Some row → is_light row ≡ true
 light_either None other row h k e = k e
 light_either (Some found) other row h k e = h e
 
-light_macro : (name : List ℕ) (row : Row) → macro_row name ≡ Some row → is_light row ≡ true
+light_macro : (name : List ℕ) (row : ManRow) → macro_row name ≡ Some row → is_light row ≡ true
 unfolding macro_row is_light weight break_weight quotes_weight effect_weight scope_weight marks_weight last_weight
 light_macro name row e = light_in table name row refl e
 
-light_request : (request : Option LayoutRequest) (row : Row) → option_map (λ name. quiet (sets.Request name)) request ≡ Some row → is_light row ≡ true
+light_request : (request : Option LayoutRequest) (row : ManRow) → option_map (λ name. quiet (sets.Request name)) request ≡ Some row → is_light row ≡ true
 unfolding is_light weight break_weight quotes_weight effect_weight scope_weight marks_weight last_weight
 light_request None row e = cc
 light_request (Some name) row e = let g : quiet (sets.Request name) ≡ row = cc in rw (← g) refl
 
-light_row : (name : List ℕ) (row : Row) → row_of name ≡ Some row → is_light row ≡ true
+light_row : (name : List ℕ) (row : ManRow) → row_of name ≡ Some row → is_light row ≡ true
 light_row name row e =
     light_either (macro_row name) (request_row name) row (light_macro name row) (light_request (layout_request name) row) e
 
-light_weight : (row : Row) → is_light row ≡ true → weight row ≤ 4
+light_weight : (row : ManRow) → is_light row ≡ true → weight row ≤ 4
 unfolding is_light
 light_weight row h = grind (arith, nat_tests)
 
 few_lone : (alone : Alone) (place : Place) (name : List ℕ) (events : List (Event (List ℕ))) (n : ℕ) → 2 ≤ n → length events ≤ n
     → length (lone_events alone place name events) ≤ n
 few_lone Same place name events n t h = h
-few_lone Empty place name events n t h = omega arith
-few_lone (Scope opener) place name events n t h = omega arith
+few_lone _ place name events n t h = omega arith
 
-few_row : (place : Place) (name rest : List ℕ) (arguments : List (Argument (List ℕ))) (row : Row) (n : ℕ) → 2 ≤ n
+few_row : (place : Place) (name rest : List ℕ) (arguments : List (Argument (List ℕ))) (row : ManRow) (n : ℕ) → 2 ≤ n
     → length (macro_events place row rest arguments) ≤ n → length (row_events place name rest arguments row) ≤ n
 few_row place name rest arguments row n t h =
     elim (cases_Bool (has_arguments rest)) [
@@ -508,7 +487,7 @@ few_row place name rest arguments row n t h =
       | inr s ↦ rw s (few_lone row.alone place name _ n t (rw s at h))
     ]
 
-few_named : (line : Line) (row : Option Row) → is_nameless line ≡ false → row_of (name_of line) ≡ row
+few_named : (line : TakenLine) (row : Option ManRow) → is_nameless line ≡ false → row_of (name_of line) ≡ row
     → length (named_events line row) ≤ 2 * length line.text + 2
 few_named line None h e = omega arith
 few_named line (Some row) h e =
@@ -521,17 +500,17 @@ few_named line (Some row) h e =
     few_row (name_place line) (name_of line) (drop start text) (arguments_after start text) row
     (2 * length text + 2) (omega arith) (omega (arith, b.0, b.1, w, f, m))
 
-few_control : (line : Line) → length (control_events line) ≤ 2 * length line.text + 2
+few_control : (line : TakenLine) → length (control_events line) ≤ 2 * length line.text + 2
 few_control line =
     elim (cases_Bool (is_nameless line)) [
       | inl t ↦ rw t (omega arith)
       | inr t ↦ rw t (few_named line (row_of (name_of line)) t refl)
     ]
 
-few_form : (line : Line) (plain : Option PlainLine) → length (option_map_or (plain_events line.number line.text) plain (control_events line)) ≤ 2 * length line.text + 2
+few_form : (line : TakenLine) (plain : Option PlainLine) → length (option_map_or (plain_events line.number line.text) plain (control_events line)) ≤ 2 * length line.text + 2
 few_form line None = few_control line
 few_form line (Some plain) = omega arith
 
-pub man_few : (line : Line) → length (man_events line) ≤ 2 * length line.text + 2
+pub man_few : (line : TakenLine) → length (man_events line) ≤ 2 * length line.text + 2
 unfolding man_events
 man_few line = few_form line (plain_line line.form line.text)

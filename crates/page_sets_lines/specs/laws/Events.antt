@@ -15,8 +15,8 @@ use Rattle.page_sets_lines.specs.declared.events.EventKind.TheVariants as kinds
 use Rattle.page_sets_lines.specs.declared.events.Word.{Word}
 use Rattle.page_sets_lines.specs.declared.leaves.Leaf.{Leaf}
 use Rattle.page_sets_lines.specs.declared.leaves.Leaf.TheVariants as leaves
-use Rattle.page_sets_lines.specs.declared.leaves.Request.{Request}
-use Rattle.page_sets_lines.specs.declared.leaves.Request.TheVariants as requests
+use Rattle.page_sets_lines.specs.declared.leaves.RequestLeaf.{RequestLeaf}
+use Rattle.page_sets_lines.specs.declared.leaves.RequestLeaf.TheVariants as requests
 use Rattle.page_sets_lines.specs.declared.line_steps.LineStep.{LineStep}
 use Rattle.page_sets_lines.specs.declared.line_steps.LineStep.TheVariants as steps
 use Rattle.page_sets_lines.specs.declared.openers.Closer.{Closer}
@@ -79,7 +79,7 @@ closer_view closers.Syntax = closers.Syntax
 closer_view closers.Enclosures = closers.Enclosures
 closer_view (closers.Block closer) = closers.Block (block_closer_view closer)
 
-abbrev pub request_view : Request (Bor (List ℕ)) → Request (List ℕ)
+abbrev pub request_view : RequestLeaf (Bor (List ℕ)) → RequestLeaf (List ℕ)
 request_view requests.Break = requests.Break
 request_view (requests.Space rows) = requests.Space (text_view rows)
 request_view (requests.Font name) = requests.Font (given_view name)

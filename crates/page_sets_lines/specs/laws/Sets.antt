@@ -10,8 +10,8 @@ use Rattle.page_sets_lines.specs.declared.events.EventKind.{EventKind}
 use Rattle.page_sets_lines.specs.declared.events.EventKind.TheVariants as kinds
 use Rattle.page_sets_lines.specs.declared.leaves.Leaf.{Leaf}
 use Rattle.page_sets_lines.specs.declared.leaves.Leaf.TheVariants as leaves
-use Rattle.page_sets_lines.specs.declared.leaves.Request.{Request}
-use Rattle.page_sets_lines.specs.declared.leaves.Request.TheVariants as requests
+use Rattle.page_sets_lines.specs.declared.leaves.RequestLeaf.{RequestLeaf}
+use Rattle.page_sets_lines.specs.declared.leaves.RequestLeaf.TheVariants as requests
 use Rattle.page_sets_lines.specs.declared.line_steps.LineStep.{LineStep}
 use Rattle.page_sets_lines.specs.declared.line_steps.LineStep.TheVariants as steps
 use Rattle.page_sets_lines.specs.declared.openers.Closer.{Closer}
@@ -45,31 +45,16 @@ IsArgumentIfGiven line (Some argument) = IsArgument line argument
 -- each argument of an event is the slice of the line at its column, and each other text a slice of it
 abbrev pub BlockOpensSlices : List ℕ → BlockOpener (List ℕ) → Type 0
 BlockOpensSlices line (block_openers.List kind is_compact options) = IsPart line options
-BlockOpensSlices line (block_openers.Quotation quotation) = Unit {0}
 BlockOpensSlices line (block_openers.Custom mark) = IsArgumentIfGiven line mark
-BlockOpensSlices line block_openers.Extension = Unit {0}
 BlockOpensSlices line (block_openers.Display is_literal is_compact offset) = IsArgumentIfGiven line offset
-BlockOpensSlices line (block_openers.Fonts font) = Unit {0}
-BlockOpensSlices line block_openers.Keep = Unit {0}
-BlockOpensSlices line block_openers.Reference = Unit {0}
 BlockOpensSlices line (block_openers.Function name) = IsArgument line name
+BlockOpensSlices line _ = Unit {0}
 
 abbrev pub BlockClosesSlices : List ℕ → BlockCloser (List ℕ) → Type 0
-BlockClosesSlices line block_closers.List = Unit {0}
-BlockClosesSlices line (block_closers.Quotation quotation) = Unit {0}
 BlockClosesSlices line (block_closers.Custom mark) = IsArgumentIfGiven line mark
-BlockClosesSlices line block_closers.Extension = Unit {0}
-BlockClosesSlices line block_closers.Display = Unit {0}
-BlockClosesSlices line block_closers.Fonts = Unit {0}
-BlockClosesSlices line block_closers.Keep = Unit {0}
-BlockClosesSlices line block_closers.Reference = Unit {0}
-BlockClosesSlices line block_closers.Function = Unit {0}
+BlockClosesSlices line _ = Unit {0}
 
 abbrev pub OpensSlices : List ℕ → Opener (List ℕ) → Type 0
-OpensSlices line openers.Item = Unit {0}
-OpensSlices line openers.Section = Unit {0}
-OpensSlices line openers.Subsection = Unit {0}
-OpensSlices line (openers.Paragraph name) = Unit {0}
 OpensSlices line (openers.Tagged hang) = IsPartIfGiven line hang
 OpensSlices line (openers.Indented tag hang) = IsArgumentIfGiven line tag × IsPartIfGiven line hang
 OpensSlices line (openers.Hanging hang) = IsPartIfGiven line hang
@@ -77,55 +62,40 @@ OpensSlices line (openers.RelativeMargin columns) = IsPartIfGiven line columns
 OpensSlices line (openers.Target link target) = IsArgument line target
 OpensSlices line (openers.Syntax name) = IsArgument line name
 OpensSlices line (openers.Block opener) = BlockOpensSlices line opener
+OpensSlices line _ = Unit {0}
 
 abbrev pub ClosesSlices : List ℕ → Closer (List ℕ) → Type 0
-ClosesSlices line closers.Line = Unit {0}
 ClosesSlices line (closers.RelativeMargin number) = IsPartIfGiven line number
 ClosesSlices line (closers.Target link suffix) = IsArgumentIfGiven line suffix
-ClosesSlices line closers.Syntax = Unit {0}
-ClosesSlices line closers.Enclosures = Unit {0}
 ClosesSlices line (closers.Block closer) = BlockClosesSlices line closer
+ClosesSlices line _ = Unit {0}
 
-abbrev pub RequestsSlices : List ℕ → Request (List ℕ) → Type 0
-RequestsSlices line requests.Break = Unit {0}
+abbrev pub RequestsSlices : List ℕ → RequestLeaf (List ℕ) → Type 0
 RequestsSlices line (requests.Space rows) = IsPartIfGiven line rows
 RequestsSlices line (requests.Font name) = IsArgumentIfGiven line name
 RequestsSlices line (requests.Shift columns) = IsPartIfGiven line columns
-RequestsSlices line (requests.Literal on) = Unit {0}
+RequestsSlices line _ = Unit {0}
 
 abbrev pub StepsSlices : List ℕ → LineStep (List ℕ) → Type 0
-StepsSlices line steps.NextColumn = Unit {0}
-StepsSlices line steps.Glue = Unit {0}
-StepsSlices line (steps.BodyParagraph name) = Unit {0}
 StepsSlices line (steps.Uri uri) = IsArgument line uri
-StepsSlices line steps.ManualName = Unit {0}
-StepsSlices line steps.NextField = Unit {0}
-StepsSlices line steps.NextArgument = Unit {0}
-StepsSlices line steps.FunctionEnd = Unit {0}
-StepsSlices line (steps.Spacing on) = Unit {0}
-StepsSlices line (steps.Synopsis step) = Unit {0}
+StepsSlices line _ = Unit {0}
 
 abbrev pub LeavesSlices : List ℕ → Leaf (List ℕ) → Type 0
-LeavesSlices line leaves.BlankLine = Unit {0}
 LeavesSlices line (leaves.Wordless text) = IsPart line text
 LeavesSlices line (leaves.Request request) = RequestsSlices line request
 LeavesSlices line (leaves.Prologue name rest) = IsPart line rest
-LeavesSlices line (leaves.Generated word) = Unit {0}
-LeavesSlices line (leaves.Example begins) = Unit {0}
 LeavesSlices line (leaves.Distance rows) = IsPartIfGiven line rows
-LeavesSlices line (leaves.Fonts font) = Unit {0}
-LeavesSlices line leaves.FurtherTag = Unit {0}
 LeavesSlices line (leaves.Step step) = StepsSlices line step
+LeavesSlices line _ = Unit {0}
 
 abbrev pub HasSlices : List ℕ → EventKind (List ℕ) → Type 0
 HasSlices line (kinds.Word word) = IsArgument line word.arg
 HasSlices line (kinds.Open opener) = OpensSlices line opener
 HasSlices line (kinds.Close closer) = ClosesSlices line closer
-HasSlices line (kinds.LineScope opener) = Unit {0}
 HasSlices line (kinds.Leaf leaf) = LeavesSlices line leaf
 HasSlices line (kinds.Raw text) = IsPart line text
-HasSlices line (kinds.End fills) = Unit {0}
 HasSlices line (kinds.Note kind detail is_quoted begins_body) = IsPart line detail
+HasSlices line _ = Unit {0}
 
 abbrev pub AreSlices : List ℕ → List (Event (List ℕ)) → Type 0
 AreSlices line [] = Unit {0}
@@ -134,23 +104,11 @@ AreSlices line (event ∷ events) = HasSlices line event.kind × AreSlices line 
 -- the column from which the next word may begin, after this event
 abbrev pub past : ℕ → EventKind (List ℕ) → ℕ
 past from (kinds.Word word) = word.arg.column + length word.arg.text
-past from (kinds.Open opener) = from
-past from (kinds.Close closer) = from
-past from (kinds.LineScope opener) = from
-past from (kinds.Leaf leaf) = from
-past from (kinds.Raw text) = from
-past from (kinds.End fills) = from
-past from (kinds.Note kind detail is_quoted begins_body) = from
+past from _ = from
 
 abbrev pub BeginsFrom : ℕ → EventKind (List ℕ) → Type 0
 BeginsFrom from (kinds.Word word) = from ≤ word.arg.column
-BeginsFrom from (kinds.Open opener) = Unit {0}
-BeginsFrom from (kinds.Close closer) = Unit {0}
-BeginsFrom from (kinds.LineScope opener) = Unit {0}
-BeginsFrom from (kinds.Leaf leaf) = Unit {0}
-BeginsFrom from (kinds.Raw text) = Unit {0}
-BeginsFrom from (kinds.End fills) = Unit {0}
-BeginsFrom from (kinds.Note kind detail is_quoted begins_body) = Unit {0}
+BeginsFrom from _ = Unit {0}
 
 -- the words are in order: none begins before the one in front of it has ended
 abbrev pub AreInOrder : ℕ → List (Event (List ℕ)) → Type 0

@@ -5,7 +5,7 @@ use Rattle.page_roff_syntax.specs.Arguments.{arguments}
 use Rattle.page_roff_syntax.specs.laws.Views.{argument_view}
 use Rattle.page_roff_syntax.specs.declared.quotes.Argument.{Argument}
 use Rattle.page_sets_lines.specs.laws.Views.{ArgumentFits}
-use Rattle.page_sets_mdoc_lines.specs.Parts.{inside, outside, is_real, LineParts, parts, taken_first, if_parsed, word_call, Call, front_len, has_calls, is_closing, call_first, tail_alone}
+use Rattle.page_sets_mdoc_lines.specs.Parts.{inside, outside, is_real, LineParts, parts, taken_first, if_parsed, word_call, InlineCall, front_len, has_calls, is_closing, call_first, tail_alone}
 use Rattle.page_sets_mdoc_lines.specs.machine.Cursors.{IsCursorOf}
 use Rattle.page_sets_mdoc_lines.specs.declared.macros.Inline.{Inline}
 use Rattle.page_sets_mdoc_lines.specs.declared.rests.Rest.{Rest}
@@ -76,7 +76,7 @@ abbrev pub as_list : Option (Argument (List ℕ)) → List (Argument (List ℕ))
 as_list None = []
 as_list (Some word) = word ∷ []
 
-abbrev pub calls_arguments : List Call → List (Argument (List ℕ))
+abbrev pub calls_arguments : List InlineCall → List (Argument (List ℕ))
 calls_arguments [] = []
 calls_arguments (call ∷ calls) = (call.name ∷ (as_list call.taken ++ call.words)) ++ calls_arguments calls
 

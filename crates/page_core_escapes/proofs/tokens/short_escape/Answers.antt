@@ -1,5 +1,5 @@
 use Rattle.std.proofs.Common.{inl, inr, refl}
-use Rattle.page_core_escapes.specs.declared.letters.Kind.TheVariants.{Char, Nothing, Tab, Blank}
+use Rattle.page_core_escapes.specs.declared.letters.LetterKind.TheVariants.{Char, Nothing, Tab, Blank}
 use Rattle.page_core_escapes.specs.Lengths.{letter_of}
 use Rattle.page_core_escapes.proofs.FontLemmas.{short_alone}
 use Rattle.page_core_escapes.proofs.tokens.short_escape.Goals as goal

@@ -1,7 +1,7 @@
 use Rattle.std.proofs.Common.{◌∙◌, ap, sym, arith, length, take, get_or, zero-add}
 use Rattle.std.proofs.lemmas.List.{take_all}
 use Rattle.page_roff_names.specs.declared.rows.Span.{Span}
-use Rattle.page_roff_names.specs.declared.rows.Meaning.TheVariants.{String}
+use Rattle.page_roff_names.specs.declared.rows.EntryKind.TheVariants.{String}
 use Rattle.page_roff_names.specs.Names.{size}
 use Rattle.page_roff_names.proofs.Laid.{span_at, length-layout}
 use Rattle.page_roff_names.proofs.rows.start_of.Goals as goal

@@ -1,4 +1,4 @@
-use Rattle.page_sets_mdoc_lines.specs.declared.blocks.Block.TheVariants as blocks
+use Rattle.page_sets_mdoc_lines.specs.declared.blocks.BlockMacro.TheVariants as blocks
 use Rattle.page_sets_mdoc_blocks.proofs.FrontLemmas.{opens_fit}
 use Rattle.page_sets_mdoc_blocks.proofs.fronts.opener_of.Goals as goal
 

@@ -1,6 +1,6 @@
 use Rattle.std.proofs.Common.{◌≡◌, sym, ap₂, ◌∙◌}
 use Rattle.page_core_base.specs.laws.Views.{line_view}
-use Rattle.page_roff_source.specs.Runs.{Edge}
+use Rattle.page_roff_source.specs.Runs.{RoffEdge}
 use Rattle.page_roff_source.specs.machine.Taking.{line_given}
 use Rattle.page_engine_lines.specs.Bodies.{BodyEdge}
 use Rattle.page_engine_lines.specs.Edges.{LinesEdge}
@@ -24,4 +24,4 @@ returns-in-Some-clause-after g c =
     let given = line_given c.self.inside.roff.edge (source_line c.args.text.now c.args.number) in
     let after : c.give_finished.new.body ≡ body_after body given =
     rw c.deref_mut.ensures.value at c.give_finished.ensures.after ∙ sym (lent_after body given (line_view c.in-Some.taken) c.in-Some.ensures.takes.0) in
-    rw (← c.self.view_is) (ap₂ (λ (r : Edge) (b : BodyEdge). let e : LinesEdge = record { roff = r; body = b } in e) c.in-Some.ensures.takes.1 after)
+    rw (← c.self.view_is) (ap₂ (λ (r : RoffEdge) (b : BodyEdge). let e : LinesEdge = record { roff = r; body = b } in e) c.in-Some.ensures.takes.1 after)

@@ -1,8 +1,5 @@
-use Rattle.std.proofs.Common.{◌≡◌, ◌-◌, ◌≤◌, length, take, drop, replicate, refl, ap, ◌∙◌, arith}
-use Rattle.std.proofs.lemmas.List.{length-take-le, length-drop, length-replicate}
-use Rattle.page_core_base.specs.declared.limits.TheConstants.{CELLS}
-use Rattle.page_fill_cells.specs.Cells.{cell_of}
-use Rattle.page_fill_cells.specs.machine.BlankRuns.{HasRun}
+use Rattle.std.proofs.Common.{◌≡◌, ◌-◌, ◌≤◌, length, take, drop, refl, ap, ◌∙◌, arith}
+use Rattle.std.proofs.lemmas.List.{length-take-le, length-drop}
 use Rattle.page_fill_cells.proofs.BlankRunLemmas.{kept-run}
 use Rattle.page_fill_cells.proofs.PlaceLemmas.{moved-front, put-length}
 use Rattle.page_fill_cells.proofs.row_cells.RowCells.keep_from.Goals as goal

@@ -2,7 +2,6 @@ use Rattle.std.proofs.Common.{◌≡◌, ◌≢◌, ℕ, ◌+◌, ◌<◌, ◌�
 use Rattle.std.proofs.lemmas.List.{get_or-set_other, length-take-le}
 use Rattle.page_core_base.specs.declared.cells.Cell.{Cell}
 use Rattle.page_core_base.specs.declared.limits.TheConstants.{CELLS}
-use Rattle.page_fill_cells.specs.machine.BlankRuns.{HasRun}
 use Rattle.page_fill_cells.proofs.BlankRunLemmas.{cut-run}
 use Rattle.page_fill_cells.proofs.row_cells.RowCells.push.Goals as goal
 use Rattle.page_fill_cells.proofs.row_cells.RowCells.push.Goals.{then-stays, else-stays}

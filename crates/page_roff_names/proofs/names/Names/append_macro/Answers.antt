@@ -1,5 +1,5 @@
 use Rattle.std.proofs.Common.{◌++◌, ◌∙◌}
-use Rattle.page_roff_names.specs.declared.rows.Meaning.TheVariants.{Macro}
+use Rattle.page_roff_names.specs.declared.rows.EntryKind.TheVariants.{Macro}
 use Rattle.page_roff_names.specs.Names.{definition, body_of}
 use Rattle.page_roff_names.proofs.Kept.{texts_kept, store_texts, settled_kept, appended}
 use Rattle.page_roff_names.proofs.names.Names.append_macro.Goals as goal

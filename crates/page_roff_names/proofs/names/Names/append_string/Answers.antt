@@ -1,5 +1,5 @@
 use Rattle.std.proofs.Common.{◌++◌, ◌∙◌}
-use Rattle.page_roff_names.specs.declared.rows.Meaning.TheVariants.{String}
+use Rattle.page_roff_names.specs.declared.rows.EntryKind.TheVariants.{String}
 use Rattle.page_roff_names.specs.Names.{definition, string_of}
 use Rattle.page_roff_names.proofs.Kept.{texts_kept, store_texts, settled_kept, appended}
 use Rattle.page_roff_names.proofs.names.Names.append_string.Goals as goal

@@ -1,4 +1,4 @@
-use Rattle.page_roff_names.specs.declared.rows.Meaning.TheVariants.{Macro}
+use Rattle.page_roff_names.specs.declared.rows.EntryKind.TheVariants.{Macro}
 use Rattle.page_roff_names.specs.Names.{definition}
 use Rattle.page_roff_names.proofs.Kept.{texts_kept, store_texts, settled_kept}
 use Rattle.page_roff_names.proofs.names.Names.define_macro.Goals as goal

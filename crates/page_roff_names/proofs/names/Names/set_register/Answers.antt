@@ -1,6 +1,6 @@
 use Rattle.std.proofs.Common.{[], w32}
 use Rattle.std.proofs.lemmas.Int.{to_z-of_z}
-use Rattle.page_roff_names.specs.declared.rows.Meaning.TheVariants.{Register}
+use Rattle.page_roff_names.specs.declared.rows.EntryKind.TheVariants.{Register}
 use Rattle.page_roff_names.specs.Names.{definition}
 use Rattle.page_roff_names.proofs.Kept.{registers_kept, store_registers, settled_kept, registered}
 use Rattle.page_roff_names.proofs.names.Names.set_register.Goals as goal

@@ -6,7 +6,7 @@ use Rattle.page_core_base.specs.declared.note_kinds.NoteKind.TheVariants.{UndefS
 use Rattle.page_roff_values.specs.machine.Views.{surroundings_of}
 use Rattle.page_roff_values.specs.machine.Expansions.{NestedSpot}
 use Rattle.page_roff_values.specs.machine.Rest.{rest, room_in, steps, texts_of}
-use Rattle.page_roff_values.specs.Values.{Spot, nothing, seq, says, ends, counts, put, width, inside, call_at, value}
+use Rattle.page_roff_values.specs.Values.{TextSoFar, nothing, seq, says, ends, counts, put, width, inside, call_at, value}
 use Rattle.page_roff_parts.specs.machine.Views.{call_of}
 use Rattle.page_roff_values.proofs.CallLemmas.{call_ends, call_deep, call_gives, call_enters, string_some, string_none, argument_some, argument_none, register_some, width_some, steps_counts, steps_later, steps_less, size_value}
 use Rattle.page_roff_values.proofs.FollowLemmas.{put_follows, put_count, width_follows, value_follows}
@@ -252,7 +252,7 @@ pub run-parts-smaller-in-Some-Copied : goal.run-parts-smaller-in-Some-Copied
 run-parts-smaller-in-Some-Copied g x c =
     let s = c.parts.self.spot in
     let put_goes = rw c.next_part.ensures.same at c.put.ensures.goes in
-    steps_less s c.put.new.self.spot (texts_of c.parts.sources) (texts_of c.next_part.new.sources) (ap (λ (t : Spot). t.count) {y = (put c.in-Some-Copied.run'.now s).edge} put_goes.1 ∙ put_count c.in-Some-Copied.run'.now s) c.in-Some-Copied.ensures.falls
+    steps_less s c.put.new.self.spot (texts_of c.parts.sources) (texts_of c.next_part.new.sources) (ap (λ (t : TextSoFar). t.count) {y = (put c.in-Some-Copied.run'.now s).edge} put_goes.1 ∙ put_count c.in-Some-Copied.run'.now s) c.in-Some-Copied.ensures.falls
 
 pub run-parts-preserved-in-Some-Copied : goal.run-parts-preserved-in-Some-Copied
 run-parts-preserved-in-Some-Copied g x c =

@@ -3,7 +3,7 @@ use Rattle.page_fill_rows.proofs.RowLatchLemmas.{latched}
 use Rattle.page_core_base.specs.declared.pieces.Piece.TheVariants.{Text}
 use Rattle.page_fill_rows.specs.machine.RowPlans.{seen}
 use Rattle.page_fill.specs.machine.Fill.{laid}
-use Rattle.page_fill.proofs.edges.Edge.take_blanks.Goals as goal
+use Rattle.page_fill.proofs.edges.FillEdge.take_blanks.Goals as goal
 
 pub returns : goal.returns
 returns g c =

@@ -3,7 +3,7 @@ use Rattle.page_fill_rows.proofs.RowLatchLemmas.{latched}
 use Rattle.page_core_base.specs.laws.Views.{piece_of}
 use Rattle.page_fill_rows.specs.machine.RowPlans.{seen}
 use Rattle.page_fill.specs.machine.Fill.{laid_piece}
-use Rattle.page_fill.proofs.edges.Edge.piece.Goals as goal
+use Rattle.page_fill.proofs.edges.FillEdge.piece.Goals as goal
 
 pub returns : goal.returns
 returns g c =

@@ -2,7 +2,7 @@ use Rattle.std.proofs.Common.{◌≡◌, ℕ, ◌<◌, ◌≤◌, [], append_ass
 use Rattle.page_core_base.specs.declared.pieces.Piece.TheVariants.{Text}
 use Rattle.page_fill.specs.machine.Fill.{laid}
 use Rattle.page_fill.proofs.BlankTextLemmas.{texts-parted}
-use Rattle.page_fill.proofs.edges.Edge.blank_texts.Goals as goal
+use Rattle.page_fill.proofs.edges.FillEdge.blank_texts.Goals as goal
 
 pub loop-left-preserved : goal.loop-left-preserved
 loop-left-preserved g c =

@@ -2,9 +2,9 @@ use Rattle.std.proofs.Common.{◌≡◌, true, ap, ◌∙◌, arith, rules}
 use Rattle.page_core_base.specs.Rows.{Laid}
 use Rattle.page_fill_rows.proofs.RowLatchLemmas.{latched}
 use Rattle.page_fill.specs.laws.Views.{is_in_row}
-use Rattle.page_fill.specs.declared.edges.Edge.{Edge}
+use Rattle.page_fill.specs.declared.edges.FillEdge.{FillEdge}
 use Rattle.page_fill_rows.specs.machine.RowPlans.{seen}
-use Rattle.page_fill.proofs.edges.Edge.words.Goals as goal
+use Rattle.page_fill.proofs.edges.FillEdge.words.Goals as goal
 
 pub returns : goal.returns
 returns g c =
@@ -17,7 +17,7 @@ returns g c =
     let ready : is_in_row c.args.self.now ≡ true = grind (arith, takes) in
     record {
       gets = λ words are. rw (← gave.2 words are ready) (search (rules, k.rows_loan, k.notes_loan, k.gets));
-      edge = λ words are. gave.1.1 ∙ ap (λ (l : Laid Edge). l.edge) (gave.2 words are ready);
+      edge = λ words are. gave.1.1 ∙ ap (λ (l : Laid FillEdge). l.edge) (gave.2 words are ready);
       sound = c.put_words.ensures.sound;
       faults = search (rules, k.rows_loan, k.notes_loan, k.faults);
       rows_same = search (rules, k.rows_loan, k.rows_same);

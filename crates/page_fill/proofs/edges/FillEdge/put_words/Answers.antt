@@ -4,7 +4,7 @@ use Rattle.page_core_base.specs.Rows.{join}
 use Rattle.page_core_base.specs.declared.limits.TheConstants.{CELLS}
 use Rattle.page_fill_rows.proofs.PlainLemmas.{parts-plain}
 use Rattle.page_fill.proofs.LetteredWordLemmas.{lays-all, lays-more, tail-all}
-use Rattle.page_fill.proofs.edges.Edge.put_words.Goals as goal
+use Rattle.page_fill.proofs.edges.FillEdge.put_words.Goals as goal
 
 pub loop-end-init : goal.loop-end-init
 loop-end-init g c =

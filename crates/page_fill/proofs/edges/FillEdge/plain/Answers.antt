@@ -1,7 +1,7 @@
 use Rattle.std.proofs.Common.{append_assoc, sym, ap, ◌∙◌}
 use Rattle.page_fill.specs.machine.Fill.{on_sheet}
 use Rattle.page_fill.proofs.PlainWordLemmas.{text-plain}
-use Rattle.page_fill.proofs.edges.Edge.plain.Goals as goal
+use Rattle.page_fill.proofs.edges.FillEdge.plain.Goals as goal
 
 pub returns : goal.returns
 returns g c =

@@ -1,6 +1,6 @@
 use Rattle.std.proofs.Common.{sym, refl, ◌∙◌}
 use Rattle.page_fill.proofs.KeptTextLemmas.{kept-laid}
-use Rattle.page_fill.proofs.edges.Edge.take_kept.Goals as goal
+use Rattle.page_fill.proofs.edges.FillEdge.take_kept.Goals as goal
 
 pub returns-then-has_kept_room-clause-kept : goal.returns-then-has_kept_room-clause-kept
 returns-then-has_kept_room-clause-kept c = λ taken pieces are.

@@ -2,7 +2,7 @@ use Rattle.std.proofs.Common.{◌≡◌, ◌==◌, false, append_assoc, ap, arit
 use Rattle.std.proofs.lemmas.Bool.Decides.{nat_tests}
 use Rattle.page_fill.specs.machine.Fill.{on_sheet}
 use Rattle.page_fill.proofs.BlankTextLemmas.{blanks-some}
-use Rattle.page_fill.proofs.edges.Edge.blanks.Goals as goal
+use Rattle.page_fill.proofs.edges.FillEdge.blanks.Goals as goal
 
 pub returns : goal.returns
 returns g c =

@@ -2,7 +2,7 @@ use Rattle.std.proofs.Common.{◌≡◌, ℕ, replicate}
 use Rattle.page_core_base.specs.laws.Views.{CameRowsUpTo}
 use Rattle.page_core_base.specs.declared.pieces.Piece.TheVariants.{Text}
 use Rattle.page_fill.specs.machine.Fill as fill
-use Rattle.page_fill.proofs.edges.Edge.blank_texts.Given as goal
+use Rattle.page_fill.proofs.edges.FillEdge.blank_texts.Given as goal
 
 abbrev pub invariant-loop-left : goal.invariant-loop-left
 invariant-loop-left g l =

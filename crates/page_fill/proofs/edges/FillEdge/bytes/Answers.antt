@@ -3,7 +3,7 @@ use Rattle.std.proofs.lemmas.Str.{chars-nil}
 use Rattle.page_fill_rows.proofs.CharacterLemmas.{characters_of-text, characters_of-none}
 use Rattle.page_fill_rows.proofs.PlainLemmas.{characters_of-plain}
 use Rattle.page_fill.proofs.BlankTextLemmas.{blanks-bytes}
-use Rattle.page_fill.proofs.edges.Edge.bytes.Goals as goal
+use Rattle.page_fill.proofs.edges.FillEdge.bytes.Goals as goal
 
 pub returns-then-is_long_run : goal.returns-then-is_long_run
 returns-then-is_long_run g c =

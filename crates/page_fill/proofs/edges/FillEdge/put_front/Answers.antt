@@ -8,11 +8,11 @@ use Rattle.page_fill_rows.proofs.PlainLemmas.{parts-plain}
 use Rattle.page_fill_rows.specs.machine.Plain.{free_cells, word_start, words_taken, wraps_words}
 use Rattle.page_fill_rows.specs.OpenRows.{Sheet, over}
 use Rattle.page_fill_cells.specs.Cells.{blank}
-use Rattle.page_fill.specs.declared.edges.Edge.{Edge}
+use Rattle.page_fill.specs.declared.edges.FillEdge.{FillEdge}
 use Rattle.page_fill.specs.machine.PlainWords.{whole_words}
 use Rattle.page_fill.proofs.LetteredPieces.{begun_on}
 use Rattle.page_fill.proofs.LetteredWordLemmas.{front-fits, front-wraps}
-use Rattle.page_fill.proofs.edges.Edge.put_front.Goals as goal
+use Rattle.page_fill.proofs.edges.FillEdge.put_front.Goals as goal
 
 pub add_words-requires-clause-plain : goal.add_words-requires-clause-plain
 add_words-requires-clause-plain g c = (parts-plain c.whole_words-end.result c.args.text.now c.requires.plain).0
@@ -29,7 +29,7 @@ returns-then-end-gt0-clause-gives g c =
     let is : end ≡ whole_words text (free_cells e.sheet - c.args.blanks) = c.whole_words-end.ensures.value ∙ ap (whole_words text) room in
     let some : 0 < end = omega (arith, c.if-end-gt0.true) in
     let within : c.args.blanks + end ≤ free_cells e.sheet = omega (arith, c.whole_words-end.ensures.fits, room, some) in
-    let after : Edge = begun_on e (words_taken e.sheet c.args.blanks (cells_in (take end text) (take end fonts)) (word_start (take end text))) in (
+    let after : FillEdge = begun_on e (words_taken e.sheet c.args.blanks (cells_in (take end text) (take end fonts)) (word_start (take end text))) in (
       nothing after,
       ((λ plan more said h. h), rw (c.add_words.ensures, c.word_start-start.ensures.value, c.begun-self.ensures) refl),
       λ _. front-fits e c.args.blanks text fonts end above c.requires.fonts c.requires.plain is within c.whole_words-end.ensures.within some,
@@ -64,7 +64,7 @@ returns-clause-gives g c =
     let room : c.saturating_sub-room.result ≡ free_cells e.sheet - c.args.blanks = omega (arith, c.saturating_sub-room.ensures, c.free_cells.ensures.value) in
     let zero : c.whole_words-end.result ≡ 0 = omega (arith, c.if-end-gt0.false) in
     let none : whole_words text (free_cells e.sheet - c.args.blanks) ≡ 0 = ap (whole_words text) (sym room) ∙ (sym c.whole_words-end.ensures.value ∙ zero) in
-    let given : Laid Edge = over (wraps_words e.sheet (cells_in (take end text) (take end fonts)) (word_start (take end text))) (begun_on e) in (
+    let given : Laid FillEdge = over (wraps_words e.sheet (cells_in (take end text) (take end fonts)) (word_start (take end text))) (begun_on e) in (
       given,
       (c.wrap_words.ensures.0, rw (c.wrap_words.ensures.1, c.word_start-start-2.ensures.value, c.begun-self.ensures) refl),
       λ some. front-wraps e c.args.blanks text fonts end c.requires.fonts c.requires.plain some c.requires.room c.requires.fits none next.fits next.within next.value,
