@@ -1,258 +1,169 @@
 -- How many macros may still be called, and turns begun, after a step: helpers of proofs.
-use Rattle.std.proofs.Common.{◌≡◌, ℕ, zero, suc, ◌+◌, ◌≤◌, Bool, true, false, not, ◌&&◌, List, [], ◌∷◌, length, Option, Some, None, refl, ap, ◌∙◌, arith}
-use Rattle.page_roff_heads.specs.declared.loops.LoopHead.{LoopHead}
+use Rattle.std.proofs.Common.{◌≡◌, ℕ, zero, suc, ◌+◌, ◌≤◌, Bool, true, false, not, List, [], ◌∷◌, Option, Some, None, refl, ap, arith}
 use Rattle.page_roff_blocks.specs.declared.line_parts.LinePart.{LinePart}
-use Rattle.page_roff_blocks.specs.declared.line_parts.Branch.{Branch}
-use Rattle.page_roff_blocks.specs.declared.line_parts.Branch.TheVariants.{If, IfElse, Else}
-use Rattle.page_roff_blocks.specs.declared.line_parts.Head.{Head}
-use Rattle.page_roff_blocks.specs.declared.line_parts.Opening.{Opening}
-use Rattle.page_roff_blocks.specs.declared.line_parts.Opening.TheVariants as openings
-use Rattle.page_roff_syntax.specs.declared.region_heads.RegionHead.{RegionHead}
-use Rattle.page_roff_blocks.specs.declared.levels.Way.{Way}
-use Rattle.page_roff_blocks.specs.declared.levels.Way.TheVariants.{Runs, Skips, Exceeds}
-use Rattle.page_roff_blocks.specs.Forest.{Levels}
-use Rattle.page_roff_blocks.specs.laws.Views.{way_of, BlockCursor, after_part, guarded_by, reached, reached_in, reached_from, reached_if}
-use Rattle.page_roff_syntax.specs.Regions.{Opened}
+use Rattle.page_roff_blocks.specs.laws.Views.{BlockCursor}
 use Rattle.page_roff_blocks.specs.Parts.{loop_text}
-use Rattle.page_roff_blocks.specs.machine.Run.{Meaning, At, meet_as, value, keep_if, refuse_if}
-use Rattle.page_roff_blocks.specs.machine.Steps.{met, guard_with, guard_met, block_with, opening_met, block_met, collect_if}
-use Rattle.page_roff_blocks.specs.machine.Steps as steps
-use Rattle.page_roff_blocks.specs.machine.Languages.{Kind, page, body, finish_at, meaning_by, meaning_at}
-use Rattle.page_roff_blocks.specs.machine.Machine.{finish_if}
-use Rattle.page_roff_blocks.specs.machine.Budgets.{Budgeted, Effects, with_rest, charge_by, charge, begin_line, whether_run, meet, test, unopened_by, read_line, end_line, collect_some, meaning, turn_by, turn, language}
+use Rattle.page_roff_blocks.specs.machine.Languages.{Kind, page, body, Done, gives, calls, repeats, meaning_by, meaning_at}
+use Rattle.page_roff_blocks.specs.machine.Budgets.{Budgeted, Effects, with_rest, charge_by, charge, begin_line, whether_run, meet, test, unopened_by, read_line, end_line, collect_some, meaning, done_with, closed_with, turn_by, turn, language}
 use Rattle.page_roff_blocks.specs.machine.Measures.{fresh_if, fresh_at, credit_if, credit}
+use Rattle.page_roff_blocks.proofs.KeepLemmas.{IsAny}
+use Rattle.page_roff_blocks.proofs.SameLemmas.{AnyTest}
+use Rattle.page_roff_blocks.proofs.TieLemmas.{Alike, Ties, Met, TiesParts, TiesLine}
+use Rattle.page_roff_blocks.proofs.StepLemmas.{PaidDone, Pays}
 
 credit_more : (gave_up : Bool) (left f g : ℕ) → f ≤ g → credit_if gave_up left f ≤ credit_if gave_up left g
 unfolding credit_if
 credit_more true left f g h = omega arith
 credit_more false left f g h = omega arith
 
-le_trans : {a b c : ℕ} → a ≤ b → b ≤ c → a ≤ c
-le_trans h k = omega arith
+pub credit_grow : {R : Type 0} (s : Budgeted R) (f g : ℕ) → f ≤ g → credit s f ≤ credit s g
+unfolding credit
+credit_grow s f g h = credit_more s.gave_up s.left f g h
+
+fresh_most : (begun : Bool) → fresh_if begun ≤ 1
+unfolding fresh_if
+fresh_most true = omega arith
+fresh_most false = omega arith
 
 pub fresh_one : (parts : List (LinePart (List ℕ))) (cursor : BlockCursor) → fresh_at parts cursor ≤ 1
-unfolding fresh_at fresh_if
+unfolding fresh_at
 fresh_one [] cursor = omega arith
-fresh_one (part ∷ more) cursor = by cursor.begun
-  where
-    by : (begun : Bool) → fresh_if begun ≤ 1
-    by true = omega arith
-    by false = omega arith
+fresh_one (part ∷ more) cursor = fresh_most cursor.begun
 
 pub fresh_past : (parts : List (LinePart (List ℕ))) (cursor : BlockCursor) → cursor.begun ≡ true → fresh_at parts cursor ≡ 0
 unfolding fresh_at fresh_if
 fresh_past [] cursor e = refl
 fresh_past (part ∷ more) cursor e = ap fresh_if e
 
-module _ {R : Type 0} (e : Effects R) where
-  charge_credit_of : (left : ℕ) (gave_up : Bool) (taken : ℕ) (rest : R) (f g : ℕ) → g ≤ f + 2
-      → let s : Budgeted R = record { left = left; gave_up = gave_up; taken = taken; rest = rest } in
-      credit (charge_by e gave_up left s) g ≤ credit_if gave_up left f
-  unfolding charge_by credit credit_if
-  charge_credit_of left true taken rest f g h = omega arith
-  charge_credit_of zero false taken rest f g h = omega arith
-  charge_credit_of (suc left) false taken rest f g h = omega arith
+pub fresh_first : (parts : List (LinePart (List ℕ))) (cursor : BlockCursor) (part : LinePart (List ℕ)) (more : List (LinePart (List ℕ))) → parts ≡ part ∷ more → cursor.begun ≡ false
+    → fresh_at parts cursor ≡ 1
+unfolding fresh_at fresh_if
+fresh_first parts cursor part more is e = rw is (ap fresh_if e)
 
-  pub charge_credit : (s : Budgeted R) (f g : ℕ) → g ≤ f + 2 → credit (charge e s) g ≤ credit s f
-  unfolding charge credit
-  charge_credit s f g h = charge_credit_of s.left s.gave_up s.taken s.rest f g h
+abbrev pub IsBody : Kind → Type 0
+IsBody kind = kind ≡ page → ⊥
 
-  -- a remainder that is run was paid
-  charge_paid_of : (left : ℕ) (gave_up : Bool) (taken : ℕ) (rest : R) (f : ℕ)
-      → let s : Budgeted R = record { left = left; gave_up = gave_up; taken = taken; rest = rest } in
-      not (charge_by e gave_up left s).gave_up ≡ true → suc (credit (charge_by e gave_up left s) f) ≤ credit_if gave_up left f
-  unfolding charge_by credit credit_if
-  charge_paid_of left true taken rest f h = absurd (cc)
-  charge_paid_of zero false taken rest f h = absurd (cc)
-  charge_paid_of (suc left) false taken rest f h = omega arith
+module _ {R : Type 0} (e : Effects R) (f k : ℕ) where
+  abbrev pub Less : Budgeted R → Type 0
+  Less s = credit s f ≤ k
 
-  first_paid : (left : ℕ) (gave_up : Bool) (f : ℕ) → not gave_up ≡ true → suc (credit_if gave_up left f) ≤ credit_if gave_up left (1 + f)
-  unfolding credit_if
-  first_paid left true f h = absurd (cc)
-  first_paid left false f h = omega arith
+  -- one call or turn was paid
+  abbrev pub Paid : Budgeted R → Type 0
+  Paid s = suc (credit s f) ≤ k
 
-  pub same_rest : (s : Budgeted R) (r : R) (f : ℕ) → credit (with_rest e s r) f ≡ credit s f
-  unfolding with_rest credit
-  same_rest s r f = refl
+  -- a first part may pay one
+  abbrev pub First : Budgeted R → Type 0
+  First s = credit s (1 + f) ≤ k
 
-  pub credit_grow : (s : Budgeted R) (f g : ℕ) → f ≤ g → credit s f ≤ credit s g
+  abbrev pub Ready : Bool → Budgeted R → Type 0
+  Ready true s = Paid s
+  Ready false s = Less s
+
+  ready_less : (is_met : Bool) (s : Budgeted R) → Ready is_met s → Less s
+  ready_less true s h = omega (arith, h)
+  ready_less false s h = h
+
+  ready_ties : (is_met : Bool) (s : Budgeted R) → Ready is_met s → Ties (Alike Paid) (Alike Less) is_met s s
+  ready_ties true s h = (refl, h)
+  ready_ties false s h = (refl, h)
+
+  line_less : (begun : Bool) (s t : Budgeted R) → Ties (Alike Less) (Alike First) begun s t → Alike Less s t
+  line_less true s t r = r
+  line_less false s t r = (r.0, omega (arith, r.1, credit_grow s f (1 + f) (omega arith)))
+
+  first_of : (gave_up : Bool) (left : ℕ) → credit_if gave_up left (1 + f) ≤ k → (taken : ℕ) (rest : R)
+      → Ready (not gave_up) (record { left = left; gave_up = gave_up; taken = taken; rest = rest })
+  unfolding credit credit_if
+  first_of true left h taken rest = omega arith
+  first_of false left h taken rest = omega (arith, h)
+
+  first_ready : (s : Budgeted R) → First s → Ready (not s.gave_up) s
   unfolding credit
-  credit_grow s f g h = credit_more s.gave_up s.left f g h
+  first_ready s h = first_of s.gave_up s.left h s.taken s.rest
 
-  some_credit : (text : Option (List ℕ)) (s : Budgeted R) (f : ℕ) → credit (collect_some e text s) f ≡ credit s f
+  charge_first_of : (gave_up : Bool) (left taken : ℕ) (rest : R)
+      → let s : Budgeted R = record { left = left; gave_up = gave_up; taken = taken; rest = rest } in
+      Less s → First (charge_by e gave_up left s)
+  unfolding charge_by credit credit_if
+  charge_first_of true left taken rest h = omega arith
+  charge_first_of false zero taken rest h = omega arith
+  charge_first_of false (suc left) taken rest h = omega (arith, h)
+
+  charge_first : (s : Budgeted R) → Less s → First (charge e s)
+  unfolding charge
+  charge_first s h = charge_first_of s.gave_up s.left s.taken s.rest h
+
+  charge_ready : (s : Budgeted R) → Less s → Ready (not (charge e s).gave_up) (charge e s)
+  charge_ready s h = first_ready (charge e s) (charge_first s h)
+
+  some_less : (g : ℕ) (text : Option (List ℕ)) (s : Budgeted R) → credit s g ≤ k → credit (collect_some e text s) g ≤ k
   unfolding collect_some with_rest credit
-  some_credit None s f = refl
-  some_credit (Some text) s f = refl
+  some_less g None s h = h
+  some_less g (Some text) s h = h
 
-  pub finish_credit : (a : At (Budgeted R)) (f : ℕ) → credit (finish_at (language e) a) f ≡ credit a.state f
-  unfolding finish_at language with_rest credit
-  finish_credit a f = refl
+  unopened_less : (kind : Kind) (gave_up : Bool) (s : Budgeted R) → Less s → Less (unopened_by e kind gave_up s)
+  unfolding unopened_by with_rest credit
+  unopened_less page gave_up s h = h
+  unopened_less (body args) true s h = h
+  unopened_less (body args) false s h = h
 
-  pub last_credit : (begun : Bool) (a : At (Budgeted R)) (f : ℕ) → credit (finish_if (language e) begun a) f ≡ credit a.state f
-  unfolding finish_if
-  last_credit true a f = finish_credit a f
-  last_credit false a f = refl
+  meets_less : (is_remainder : Bool) (s t : Budgeted R) → Ties (Alike Less) (Alike First) is_remainder s t → Met (Alike Paid) (Alike Less) (meet e is_remainder s) (meet e is_remainder t)
+  unfolding meet whether_run
+  meets_less true s t r = rw (← r.0) (refl, ready_ties (not (charge e s).gave_up) (charge e s) (charge_ready s r.1))
+  meets_less false s t r = rw (← r.0) (refl, ready_ties (not s.gave_up) s (first_ready s r.1))
 
-  -- ---- turns
-
-  tested_credit : (gave_up : Bool) (kind : Kind) (condition : List ℕ) (s : Budgeted R) (f : ℕ) → credit (turn_by e gave_up kind condition s).1 f ≡ credit s f
-  unfolding turn_by with_rest credit
-  tested_credit true kind condition s f = refl
-  tested_credit false kind condition s f = refl
-
-  not_given_up : (gave_up : Bool) (kind : Kind) (condition : List ℕ) (s : Budgeted R) → (turn_by e gave_up kind condition s).0 ≡ true → not gave_up ≡ true
-  unfolding turn_by
-  not_given_up true kind condition s h = absurd (cc)
-  not_given_up false kind condition s h = refl
-
-  pub turn_less : (kind : Kind) (condition : List ℕ) (s : Budgeted R) (f : ℕ) → credit ((language e).turn kind condition s).1 f ≤ credit s f
-  unfolding language turn
-  turn_less kind condition s f =
-      let t = charge e s in
-      let a = tested_credit t.gave_up kind condition t f in
-      let b = charge_credit s f f (omega arith) in
-      omega (arith, a, b)
-
-  charge_paid : (s : Budgeted R) (f : ℕ) → not (charge e s).gave_up ≡ true → suc (credit (charge e s) f) ≤ credit s f
-  unfolding charge credit
-  charge_paid s f h = charge_paid_of s.left s.gave_up s.taken s.rest f h
-
-  pub turn_paid : (kind : Kind) (condition : List ℕ) (s : Budgeted R) (f : ℕ) → ((language e).turn kind condition s).0 ≡ true
-      → suc (credit ((language e).turn kind condition s).1 f) ≤ credit s f
-  unfolding language turn
-  turn_paid kind condition s f h =
-      let t = charge e s in
-      let a = tested_credit t.gave_up kind condition t f in
-      let b = charge_paid s f (not_given_up t.gave_up kind condition t h) in
-      omega (arith, a, b)
-
-  -- ---- parts and lines
-
-  module _ (d : ℕ) (kind : Kind) where
-    unfoldable pub how : Meaning (List ℕ) (Budgeted R)
-    how = meaning_at (language e) d kind
-
-    met_less : (in_loop : Bool) (n : ℕ) (passing begun : Bool) (s : Budgeted R) (f : ℕ)
-        → credit (meet_as how (reached_in in_loop n passing begun) s).1 f ≤ credit s (fresh_if begun + f)
-    unfolding how meaning_at meaning_by language meaning meet_as reached_in reached_from reached_if meet whether_run fresh_if credit
-    met_less true n passing begun s f = credit_more s.gave_up s.left f (fresh_if begun + f) (omega arith)
-    met_less false (suc n) passing begun s f = credit_more s.gave_up s.left f (fresh_if begun + f) (omega arith)
-    met_less false zero true begun s f = credit_more s.gave_up s.left f (fresh_if begun + f) (omega arith)
-    met_less false zero false false s f = credit_more s.gave_up s.left f (1 + f) (omega arith)
-    met_less false zero false true s f = charge_credit s (0 + f) f (omega arith)
-
-    met_paid : (in_loop : Bool) (n : ℕ) (passing begun : Bool) (s : Budgeted R) (f : ℕ)
-        → (meet_as how (reached_in in_loop n passing begun) s).0 ≡ true
-        → suc (credit (meet_as how (reached_in in_loop n passing begun) s).1 f) ≤ credit s (fresh_if begun + f)
-    unfolding how meaning_at meaning_by language meaning meet_as reached_in reached_from reached_if meet whether_run fresh_if charge credit
-    met_paid true n passing begun s f h = absurd (cc)
-    met_paid false (suc n) passing begun s f h = absurd (cc)
-    met_paid false zero true begun s f h = absurd (cc)
-    met_paid false zero false false s f h = first_paid s.left s.gave_up f h
-    met_paid false zero false true s f h =
-        le_trans (charge_paid_of s.left s.gave_up s.taken s.rest f h) (credit_more s.gave_up s.left f (0 + f) (omega arith))
-
-    pub less_at : (cursor : BlockCursor) (s : Budgeted R) (f : ℕ) → credit (met how cursor s).1 f ≤ credit s (fresh_if cursor.begun + f)
-    unfolding met reached
-    less_at cursor s f = met_less cursor.levels.in_loop cursor.levels.skipped cursor.passing cursor.begun s f
-
-    pub paid_at : (cursor : BlockCursor) (s : Budgeted R) (f : ℕ) → (met how cursor s).0 ≡ true → suc (credit (met how cursor s).1 f) ≤ credit s (fresh_if cursor.begun + f)
-    unfolding met reached
-    paid_at cursor s f h = met_paid cursor.levels.in_loop cursor.levels.skipped cursor.passing cursor.begun s f h
-
-    value_credit : (branch : Branch (List ℕ)) (bit : Bool) (s : Budgeted R) (f : ℕ) → credit (value how branch bit s).1 f ≡ credit s f
-    unfolding how meaning_at meaning_by language meaning value test with_rest credit
-    value_credit (If condition) bit s f = refl
-    value_credit (IfElse condition) bit s f = refl
-    value_credit Else bit s f = refl
-
-    pub guard_credit : (is_met : Bool) (h : Head (List ℕ)) (cursor : BlockCursor) (s : Budgeted R) (f : ℕ) → credit (guard_met how is_met h cursor s).1 f ≡ credit s f
-    unfolding guard_met guard_with
-    guard_credit true h cursor s f = value_credit h.branch cursor.levels.bit s f
-    guard_credit false h cursor s f = refl
-
-    pub guard_begun : (is_met : Bool) (h : Head (List ℕ)) (cursor : BlockCursor) (s : Budgeted R) → (guard_met how is_met h cursor s).0.begun ≡ true
-    unfolding guard_met guard_with guarded_by
-    guard_begun true h cursor s = refl
-    guard_begun false h cursor s = refl
-
-    refuse_credit : (way : Way) (h : Head (List ℕ)) (s : Budgeted R) (f : ℕ) → credit (refuse_if how way h s) f ≡ credit s f
-    unfolding how meaning_at meaning_by language meaning refuse_if with_rest credit
-    refuse_credit Runs h s f = refl
-    refuse_credit Skips h s f = refl
-    refuse_credit Exceeds h s f = refl
-
-    pub opens_loop_credit : (h : LoopHead (List ℕ)) (s : Budgeted R) (f : ℕ) → credit (how.opens_loop h s) f ≡ credit s f
-    unfolding how meaning_at meaning_by language meaning with_rest credit
-    opens_loop_credit h s f = refl
-
-    opening_credit : (opening : Opening (List ℕ)) (cursor : BlockCursor) (s : Budgeted R) (f : ℕ) → credit (opening_met how opening cursor s).1 f ≡ credit s f
-    unfolding opening_met block_with
-    opening_credit (openings.Conditional h) cursor s f =
-        let v = value how h.branch cursor.levels.bit s in
-        refuse_credit (way_of v.0 (length cursor.levels.outer)) h v.1 f ∙ value_credit h.branch cursor.levels.bit s f
-    opening_credit (openings.Loop h) cursor s f = opens_loop_credit h s f
-
-    pub block_credit : (is_met : Bool) (opening : Opening (List ℕ)) (cursor : BlockCursor) (s : Budgeted R) (f : ℕ) → credit (block_met how is_met opening cursor s).1 f ≡ credit s f
-    unfolding block_met
-    block_credit true opening cursor s f = opening_credit opening cursor s f
-    block_credit false opening cursor s f = refl
-
-    opening_begun : (opening : Opening (List ℕ)) (cursor : BlockCursor) (s : Budgeted R) → (opening_met how opening cursor s).0.begun ≡ true
-    unfolding opening_met block_with after_part
-    opening_begun (openings.Conditional h) cursor s = refl
-    opening_begun (openings.Loop h) cursor s = refl
-
-    pub block_begun : (is_met : Bool) (opening : Opening (List ℕ)) (cursor : BlockCursor) (s : Budgeted R) → (block_met how is_met opening cursor s).0.begun ≡ true
-    unfolding block_met after_part
-    block_begun true opening cursor s = opening_begun opening cursor s
-    block_begun false opening cursor s = refl
-
-    unopened_credit : (kind : Kind) (gave_up : Bool) (s : Budgeted R) (f : ℕ) → credit (unopened_by e kind gave_up s) f ≡ credit s f
-    unfolding unopened_by with_rest credit
-    unopened_credit page gave_up s f = refl
-    unopened_credit (body args) true s f = refl
-    unopened_credit (body args) false s f = refl
-
-    pub nothing_credit : (s : Budgeted R) (f : ℕ) → credit (how.unopened s) f ≡ credit s f
-    unfolding how meaning_at meaning_by language meaning
-    nothing_credit s f = unopened_credit kind s.gave_up s f
-
-    pub opens_credit : (a : Bool × Budgeted R) (head : RegionHead (List ℕ)) (f : ℕ) → credit (how.opens_region head a.0 a.1) f ≡ credit a.1 f
-    unfolding how meaning_at meaning_by language meaning with_rest credit
-    opens_credit a head f = refl
-
-    pub keep_credit : (in_loop : Bool) (line : List ℕ) (s : Budgeted R) (f : ℕ) → credit (keep_if how in_loop line s) f ≡ credit s f
-    unfolding how meaning_at meaning_by language meaning keep_if
-    keep_credit true line s f = some_credit (Some line) s f
-    keep_credit false line s f = refl
-
-    pub collect_credit : (in_loop : Bool) (open_blocks : ℕ) (line : List ℕ) (s : Budgeted R) (f : ℕ) → credit (collect_if how in_loop open_blocks line s) f ≡ credit s f
-    unfolding how meaning_at meaning_by language meaning collect_if
-    collect_credit true open_blocks line s f = some_credit (loop_text open_blocks line) s f
-    collect_credit false open_blocks line s f = refl
+  parts_less : (d : ℕ) (kind : Kind) → TiesParts IsAny AnyTest (Alike First) (Alike Paid) (Alike Less) (meaning_at (language e) d kind) (meaning_at (language e) d kind)
+  unfolding meaning_at meaning_by language meaning test with_rest credit
+  parts_less d kind = record {
+    base = line_less;
+    full = λ s t r. (r.0, ready_less true s r.1);
+    meets = meets_less;
+    tests = λ condition s t c r. rw (← r.0) (refl, (refl, ready_less true s r.1));
+    refuses = λ h s t r. rw (← r.0) (refl, r.1);
+    unopened = λ s t r. rw (← r.0) (refl, unopened_less kind s.gave_up s r.1);
+    opens_region = λ h run s t r. rw (← r.0) (refl, r.1);
+    opens_loop = λ h s t c r. rw (← r.0) (refl, r.1);
+  }
 
   -- lines of a body are re-read lines
-  module _ (d : ℕ) (args : Option (List (List ℕ))) where
-    pub begins_credit : (line : List ℕ) (l : Levels) (s : Budgeted R) (f g : ℕ) → g ≤ f + 2 → credit (steps.begin_line (how d (body args)) line l s) g ≤ credit s f
-    unfolding how meaning_at meaning_by language meaning begin_line steps.begin_line
-    begins_credit line l s f g h =
-        let a = collect_credit d (body args) l.in_loop l.skipped line (charge e s) g in
-        let b = charge_credit s f g h in
-        omega (arith, a, b)
+  lines_less : (d : ℕ) (kind : Kind) → IsBody kind → (line : List ℕ)
+      → TiesLine (Alike Less) (Alike First) (Alike Less) (meaning_at (language e) d kind) (meaning_at (language e) d kind) line line
+  unfolding meaning_at meaning_by language meaning begin_line read_line end_line with_rest credit
+  lines_less d page h line = absurd (h refl)
+  lines_less d (body args) h line = record {
+    begins = λ s t r. rw (← r.0) (refl, charge_first s r.1);
+    reads = λ o s t r. let c = charge e s in rw (← r.0) (refl, ready_less (not c.gave_up) c (charge_ready s r.1));
+    ends_region = λ o s t r. let c = charge e s in rw (← r.0) (refl, ready_less (not c.gave_up) c (charge_ready s r.1));
+    collects = λ open_blocks s t r. rw (← r.0) (refl, some_less (1 + f) (loop_text open_blocks line) s r.1);
+    keeps = λ s t r. rw (← r.0) (refl, some_less f (Some line) s r.1);
+  }
 
-    pub reads_credit : (o : Opened) (line : List ℕ) (s : Budgeted R) (f g : ℕ) → g ≤ f + 2 → credit ((how d (body args)).reads o line s) g ≤ credit s f
-    unfolding how meaning_at meaning_by language meaning begin_line read_line
-    reads_credit o line s f g h =
-        let t = charge e s in
-        let a = same_rest t (e.reads (body args) o (o.is_run && not t.gave_up) line t.rest) g in
-        let b = charge_credit s f g h in
-        omega (arith, a, b)
+  leaf_less : (s : Budgeted R) (done : Done R) → Paid s → PaidDone Less Paid (done_with e s done)
+  unfolding done_with with_rest credit
+  leaf_less s (gives r) h = ready_less true s h
+  leaf_less s (calls lines args r) h = h
+  leaf_less s (repeats condition lines r) h = ready_less true s h
 
-    pub ends_credit : (o : Opened) (line : List ℕ) (s : Budgeted R) (f g : ℕ) → g ≤ f + 2 → credit ((how d (body args)).ends_region o line s) g ≤ credit s f
-    unfolding how meaning_at meaning_by language meaning begin_line end_line
-    ends_credit o line s f g h =
-        let t = charge e s in
-        let a = same_rest t (e.ends_region (body args) o (o.is_run && not t.gave_up) line t.rest) g in
-        let b = charge_credit s f g h in
-        omega (arith, a, b)
+  closed_less : (s : Budgeted R) (done : Done R) → Less s → PaidDone Less Paid (closed_with e s done)
+  unfolding closed_with with_rest credit
+  closed_less s (gives r) h = h
+  closed_less s (calls lines args r) h = h
+  closed_less s (repeats condition lines r) h = h
+
+  turned_less : (gave_up : Bool) (kind : Kind) (condition : List ℕ) (s : Budgeted R) → Ready (not gave_up) s
+      → let v = turn_by e gave_up kind condition s in (v.0 ≡ true → Paid v.1) × Less v.1
+  unfolding turn_by with_rest credit
+  turned_less true kind condition s h = (λ x. absurd (cc), h)
+  turned_less false kind condition s h = (λ x. h, ready_less true s h)
+
+  pub steps_less : Pays IsBody First Paid Less Paid (language e)
+  unfolding language turn with_rest credit
+  steps_less = record {
+    parts = parts_less;
+    lines = lines_less;
+    body = ready_less true;
+    leaf = λ may kind text s h. leaf_less s (e.leaf may kind text s.rest) h;
+    closes = λ may s h. closed_less s (e.closes (not s.gave_up) may s.rest) h;
+    turn = λ kind condition s h. let c = charge e s in turned_less c.gave_up kind condition c (charge_ready s h);
+    finish = λ region in_loop s h. h;
+  }

@@ -13,7 +13,7 @@ use Rattle.page_roff_heads.specs.declared.texts.Placed.{Placed}
 use Rattle.page_roff_blocks.specs.declared.parts.Keyword.{Keyword}
 use Rattle.page_roff_blocks.specs.declared.parts.Keyword.TheVariants as keywords
 use Rattle.page_roff_blocks.specs.declared.line_parts.LinePart.{LinePart}
-use Rattle.page_roff_blocks.specs.declared.line_parts.LinePart.TheVariants.{Leaf, Region}
+use Rattle.page_roff_blocks.specs.declared.line_parts.LinePart.TheVariants.{Leaf}
 use Rattle.page_roff_blocks.specs.Parts.{part_of, with_part, line_parts, whole_line_part, rest_text, loop_part_if, plain_part, raw_rest, keyword_of, keyword_part, form_part, written_part}
 use Rattle.page_roff_blocks.specs.laws.Views.{line_parts_left}
 use Rattle.page_roff_blocks.specs.machine.LinePlaces.{IsEndOf, IsRestIn, rest_at, parts_at, place_after, is_block, opens_block}

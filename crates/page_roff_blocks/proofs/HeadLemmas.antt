@@ -1,81 +1,54 @@
 -- Lines with heads: what their forest does is, line after line, what the head does and then the line's text.
-use Rattle.std.proofs.Common.{◌≡◌, ℕ, Bool, true, false, List, [], ◌∷◌, Option, Some, None, refl, sym, ap, ◌∙◌}
-use Rattle.page_roff_blocks.specs.declared.line_parts.LinePart.{LinePart}
-use Rattle.page_roff_blocks.specs.Parts.{line_parts}
-use Rattle.page_roff_syntax.specs.Regions.{is_ending, Opened}
-use Rattle.page_roff_blocks.specs.Forest.{Levels}
-use Rattle.page_roff_blocks.specs.laws.Views.{BlockCursor, at_line}
-use Rattle.page_roff_blocks.specs.machine.Run.{Meaning, At, keep_if, run_lines, headed, each_line, after_head}
-use Rattle.page_roff_blocks.specs.machine.Steps.{step_parts, step_inside, collect_if, begin_line, step_from, step, step_lines}
+use Rattle.std.proofs.Common.{◌≡◌, ℕ, List, [], ◌∷◌, refl, sym, ap, ◌∙◌}
+use Rattle.page_roff_blocks.specs.machine.Run.{Meaning, At, run_lines, headed, each_line, after_head}
+use Rattle.page_roff_blocks.specs.machine.Steps.{step, step_lines}
 use Rattle.page_roff_blocks.proofs.FoldLemmas.{run_is_steps}
-use Rattle.page_roff_blocks.proofs.KeepLemmas.{IsAny, KeepsParts, any_leaves}
-use Rattle.page_roff_blocks.proofs.SameLemmas.{SameParts, any_tested, parts_same}
+use Rattle.page_roff_blocks.proofs.KeepLemmas.{IsAny, any_line}
+use Rattle.page_roff_blocks.proofs.SameLemmas.{AnyTest, any_test}
+use Rattle.page_roff_blocks.proofs.TieLemmas.{TiesParts, TiesLine, one_tie, of_one, same_at, step_tied}
 
 module _ {X S : Type 0} (text : X → List ℕ) (head : X → S → S) (m : Meaning (List ℕ) S) where
   h : Meaning X S
   h = headed text head m
 
-  keeps : KeepsParts IsAny m (λ _. Unit {0})
-  keeps = record {
-    meets = λ r s p. tt;
-    tests = λ c s p. tt;
-    gives = λ t s i p. tt;
-    refuses = λ b s p. tt;
-    unopened = λ s p. tt;
-    opens_region = λ b r s p. tt;
-    opens_loop = λ b s i p. tt;
-    closes_loop = λ s p. tt;
-  }
+  abbrev pub Same : S → S → Type 0
+  Same s t = s ≡ t
 
-  same : SameParts IsAny (λ _. Unit {0}) m h (λ _. Unit {0})
+  -- the state before a head, and the one after it
+  abbrev pub Before : X → S → S → Type 0
+  Before x s t = head x s ≡ t
+
+  parts_same : TiesParts IsAny AnyTest Same Same Same h m
   unfolding headed h
-  same = record {
-    meets = λ r s p. refl;
-    tests = λ c s t p. refl;
-    gives = λ t s i p. refl;
-    refuses = λ b s p. refl;
-    unopened = λ s p. refl;
-    opens_region = λ b r s p. refl;
-    opens_loop = λ b s i p. refl;
-    closes_loop = λ s p. refl;
+  parts_same = record {
+    base = of_one Same;
+    full = λ s t r. r;
+    meets = λ next s t r. rw (of_one Same next s t r) (refl, one_tie Same (m.meets next t).0 (m.meets next t).1 (m.meets next t).1 refl);
+    tests = λ c s t u r. rw r (refl, refl);
+    refuses = λ b s t r. ap (m.refuses b) r;
+    unopened = λ s t r. ap m.unopened r;
+    opens_region = λ b run s t r. ap (m.opens_region b run) r;
+    opens_loop = λ b s t u r. ap (m.opens_loop b) r;
   }
 
-  line_same : (parts : List (LinePart (List ℕ))) (cursor : BlockCursor) (s : S) → step_parts h parts cursor s ≡ step_parts m parts cursor s
-  line_same parts cursor s = sym (parts_same IsAny (λ _. Unit {0}) m h (λ _. Unit {0}) keeps same parts cursor s (any_leaves parts) (any_tested parts) tt)
-
-  keep_same : (in_loop : Bool) (x : X) (s : S) → keep_if h in_loop x s ≡ keep_if m in_loop (text x) s
-  unfolding keep_if headed h
-  keep_same true x s = refl
-  keep_same false x s = refl
-
-  inside_same : (is_end : Bool) (o : Opened) (x : X) (l : Levels) (s : S)
-      → step_inside h is_end o x l s ≡ step_inside m is_end o (text x) l (head x s)
-  unfolding step_inside headed h
-  inside_same true o x l s = rw (keep_same l.in_loop x (m.ends_region o (text x) (head x s))) refl
-  inside_same false o x l s = rw (keep_same l.in_loop x (m.reads o (text x) (head x s))) refl
-
-  collect_same : (in_loop : Bool) (k : ℕ) (x : X) (s : S) → collect_if h in_loop k x s ≡ collect_if m in_loop k (text x) s
-  unfolding collect_if headed h
-  collect_same true k x s = refl
-  collect_same false k x s = refl
-
-  begin_same : (x : X) (l : Levels) (s : S) → begin_line h x l s ≡ begin_line m (text x) l (head x s)
-  unfolding begin_line headed h
-  begin_same x l s = collect_same l.in_loop l.skipped x (m.begins (text x) (head x s))
-
-  from_same : (o : Option Opened) (x : X) (l : Levels) (s : S)
-      → step_from h text o x l s ≡ step_from m (λ t. t) o (text x) l (head x s)
-  unfolding step_from
-  from_same None x l s =
-      ap (step_parts h (line_parts (text x)) (at_line l)) (begin_same x l s)
-      ∙ line_same (line_parts (text x)) (at_line l) (begin_line m (text x) l (head x s))
-  from_same (Some o) x l s = inside_same (is_ending o.ending (text x)) o x l s
+  line_same : (x : X) → TiesLine (Before x) Same Same h m x (text x)
+  unfolding headed h
+  line_same x = record {
+    begins = λ s t r. ap (m.begins (text x)) r;
+    reads = λ o s t r. ap (m.reads o (text x)) r;
+    ends_region = λ o s t r. ap (m.ends_region o (text x)) r;
+    collects = λ k s t r. ap (m.collects k (text x)) r;
+    keeps = λ s t r. ap (m.keeps (text x)) r;
+  }
 
   step_same : (x : X) (a : At S) → step h text x a ≡ run_lines m (λ t. t) (text x ∷ []) (after_head head x a)
-  unfolding step step_lines
+  unfolding step_lines headed h
   step_same x a =
-      from_same a.place.region x a.place.levels a.state
-      ∙ sym (run_is_steps m (λ t. t) (text x ∷ []) (after_head head x a))
+      let b = after_head head x a in
+      same_at (step h text x a) (step m (λ t. t) (text x) b)
+      (step_tied IsAny AnyTest Same Same Same h m parts_same (λ line s t u r. ap (m.gives line) r) (λ s t r. ap m.closes_loop r) text (Before x) x (line_same x)
+      (any_line (text x) tt) (any_test (text x) tt) a b (refl, refl))
+      ∙ sym (run_is_steps m (λ t. t) (text x ∷ []) b)
 
   steps_same : (xs : List X) (a : At S) → step_lines h text xs a ≡ each_line text head m xs a
   unfolding step_lines each_line

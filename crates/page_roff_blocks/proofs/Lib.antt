@@ -10,10 +10,13 @@ pub mod CreditLemmas
 pub mod FrontLemmas
 pub mod KeepEffects
 pub mod KeepLemmas
+pub mod LanguageTies
 pub mod MachineLemmas
 pub mod MeasureLemmas
 pub mod OnLineLemmas
 pub mod SpendLemmas
+pub mod StepLemmas
+pub mod TieLemmas
 pub mod TurnLemmas
 pub mod DepthLemmas
 pub mod SameEffects

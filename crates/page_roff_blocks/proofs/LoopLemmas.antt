@@ -9,7 +9,7 @@ use Rattle.page_roff_syntax.specs.declared.line_forms.LineForm.TheVariants.{Cont
 use Rattle.page_roff_heads.specs.Heads.{conditional_of, guarded_of, end_place, block_end_of, loop_of}
 use Rattle.page_roff_heads.specs.declared.loops.LoopRead.{LoopRead}
 use Rattle.page_roff_blocks.specs.declared.line_parts.LinePart.{LinePart}
-use Rattle.page_roff_blocks.specs.declared.line_parts.LinePart.TheVariants.{Leaf, Block, End, Region}
+use Rattle.page_roff_blocks.specs.declared.line_parts.LinePart.TheVariants.{Leaf, Block, End}
 use Rattle.page_roff_blocks.specs.declared.line_parts.Head.{Head}
 use Rattle.page_roff_blocks.specs.declared.parts.Keyword.{Keyword}
 use Rattle.page_roff_blocks.specs.declared.parts.Keyword.TheVariants as keywords
