@@ -6,7 +6,8 @@ use Rattle.page_roff_blocks.proofs.FoldLemmas.{run_is_steps}
 use Rattle.page_core_base.specs.declared.limits.TheConstants.{CALLS, REREAD}
 use Rattle.page_roff_blocks.specs.machine.Languages.{page, meaning_at, run_page}
 use Rattle.page_roff_blocks.specs.machine.Budgets.{Budgeted, Effects, with_rest, charge_by, charge, begin_line, language}
-use Rattle.page_roff_blocks.proofs.BodyLemmas.{Kept, parts_kept, lines_kept, language_kept}
+use Rattle.page_roff_blocks.proofs.BodyLemmas.{IsBody, kept, language_kept}
+use Rattle.page_roff_blocks.proofs.LedgerLemmas.{Fresh, free, parts_paid, lines_from}
 use Rattle.page_roff_blocks.proofs.KeepLemmas.{IsAny, any_line}
 use Rattle.page_roff_blocks.proofs.SameLemmas.{AnyTest, any_test}
 use Rattle.page_roff_blocks.proofs.TieLemmas.{Alike, step_tied}
@@ -41,7 +42,7 @@ module _ {R : Type 0} (e : Effects R) (n : ℕ) where
   abbrev pub Starts : Budgeted R → Type 0
   Starts s = s.taken + 1 + REREAD ≤ n
 
-  begin_within : (s : Budgeted R) → Starts s → Within (begin_line e page s)
+  begin_within : (s : Budgeted R) → Starts s → Fresh Within Within (begin_line e page s)
   unfolding begin_line Within left_if
   begin_within s h = omega (arith, h)
 
@@ -49,14 +50,16 @@ module _ {R : Type 0} (e : Effects R) (n : ℕ) where
   unfolding Within left_if
   line_bound line a h =
       let m = meaning_at (language e) CALLS page in
-      let B = Kept e Within charge_within rest_within in
-      let k = language_kept e Within charge_within rest_within in
-      let dones = dones_tied IsAny AnyTest AnyKind B B B (language e) (language e) any_line any_test k CALLS in
+      let N = Alike (Fresh Within Within) in
+      let B = Alike Within in
+      let k = kept e Within charge_within rest_within in
+      let q = language_kept e Within charge_within rest_within in
+      let dones = dones_tied IsAny AnyTest AnyKind N B B (language e) (language e) any_line any_test q CALLS in
       let r =
-      step_tied IsAny AnyTest B B B m m (parts_kept e Within charge_within rest_within CALLS page)
-      (gives_tied IsAny AnyTest AnyKind B B B (language e) (language e) any_line any_test k CALLS dones page tt)
-      (closes_tied IsAny AnyTest AnyKind B B B (language e) (language e) any_line any_test k CALLS dones page tt) (λ t. t) (Alike Starts) line
-      (lines_kept e Within charge_within rest_within Starts CALLS page begin_within line) (any_line line tt) (any_test line tt) a a (refl, (refl, h)) in
+      step_tied IsAny AnyTest N B B m m (parts_paid (λ r. 0) 0 e (free e) IsBody Within Within Within k CALLS page)
+      (gives_tied IsAny AnyTest AnyKind N B B (language e) (language e) any_line any_test q CALLS dones page tt)
+      (closes_tied IsAny AnyTest AnyKind N B B (language e) (language e) any_line any_test q CALLS dones page tt) (λ t. t) (Alike Starts) line
+      (lines_from (λ r. 0) 0 e (free e) IsBody Within Within Within k Starts CALLS page begin_within line) (any_line line tt) (any_test line tt) a a (refl, (refl, h)) in
       omega (arith, r.1.1)
 
 pub page_line_bound : {R : Type 0} (e : Effects R) (line : List ℕ) (a : At (Budgeted R)) → (run_page (language e) (line ∷ []) a).state.taken ≤ a.state.taken + 1 + REREAD

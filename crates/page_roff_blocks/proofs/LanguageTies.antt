@@ -1,12 +1,11 @@
 -- Two languages side by side: with the macros that they call and their loops, states that are tied stay tied. Helpers of proofs.
-use Rattle.std.proofs.Common.{◌≡◌, ℕ, zero, suc, Bool, true, false, List, Option, Some, None, refl, subst}
+use Rattle.std.proofs.Common.{ℕ, zero, suc, Bool, true, false, List, Option, Some, None, refl, subst}
 use Rattle.page_roff_heads.specs.declared.conditions.Condition.{Condition}
 use Rattle.page_roff_syntax.specs.Regions.{Opened}
 use Rattle.page_roff_blocks.specs.Forest.{first_place, SourcePlace}
 use Rattle.page_roff_blocks.specs.machine.Run.{At, run_lines}
 use Rattle.page_core_base.specs.declared.limits.TheConstants.{CALLS}
 use Rattle.page_roff_blocks.specs.machine.Languages.{Kind, page, body, inner, Done, gives, calls, repeats, state_of, TURNS, Language, is_some, run_if, turns, finish_at, run_body, done_by, meaning_by, done_at, meaning_at, run_page}
-use Rattle.page_roff_blocks.specs.machine.Budgets.{Budgeted, Effects, with_rest, done_with, closed_with}
 use Rattle.page_roff_blocks.proofs.KeepLemmas.{AreSuch, HasLeaves, IsAny, any_lines}
 use Rattle.page_roff_blocks.proofs.SameLemmas.{HasTests}
 use Rattle.page_roff_blocks.proofs.TieLemmas.{Alike, Both, BothAt, TiesParts, TiesLine, run_tied}
@@ -25,18 +24,6 @@ pub kept_done : {S : Type 0} (P : S → Type 0) (done : Done S) → P (state_of 
 kept_done P (gives s) h = give s s (refl, h)
 kept_done P (calls lines args s) h = call lines args s s (any_lines lines) tt (refl, h)
 kept_done P (repeats condition lines s) h = repeat condition lines s s tt (any_lines lines) (refl, h)
-
-pub state_done : {R : Type 0} (e : Effects R) (s : Budgeted R) (done : Done R) → state_of (done_with e s done) ≡ with_rest e s (state_of done)
-unfolding done_with
-state_done e s (gives r) = refl
-state_done e s (calls lines args r) = refl
-state_done e s (repeats condition lines r) = refl
-
-pub state_closed : {R : Type 0} (e : Effects R) (s : Budgeted R) (done : Done R) → state_of (closed_with e s done) ≡ with_rest e s (state_of done)
-unfolding closed_with
-state_closed e s (gives r) = refl
-state_closed e s (calls lines args r) = refl
-state_closed e s (repeats condition lines r) = refl
 
 -- In sources of such kinds. The lines are those of bodies.
 pub record TiesLanguages {S Q : Type 0} (T : List ℕ → Type 0) (C : Condition (List ℕ) → Type 0) (K : Kind → Type 0) (N F B : S → Q → Type 0) (l : Language S) (o : Language Q) : Type 0 where

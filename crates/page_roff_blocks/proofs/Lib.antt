@@ -11,6 +11,7 @@ pub mod FrontLemmas
 pub mod KeepEffects
 pub mod KeepLemmas
 pub mod LanguageTies
+pub mod LedgerLemmas
 pub mod MachineLemmas
 pub mod MeasureLemmas
 pub mod OnLineLemmas

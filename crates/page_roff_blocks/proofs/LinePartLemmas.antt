@@ -1,20 +1,19 @@
--- The parts of a line: each remainder is shorter than its line. Helpers of proofs.
-use Rattle.std.proofs.Common.{◌≡◌, ℕ, zero, suc, ◌+◌, ◌-◌, ◌<◌, ◌≤◌, ◌==◌, nat_lt, Bool, true, false, List, [], ◌∷◌, length, take, drop, Option, Some, None, IfSome, refl, sym, ap, ◌∙◌, inl, inr, arith, length-drop}
+-- The parts of a line: each remainder is an end of its line, and shorter. Helpers of proofs.
+use Rattle.std.proofs.Common.{◌≡◌, ℕ, zero, suc, ◌+◌, ◌-◌, ◌<◌, ◌≤◌, ◌==◌, nat_lt, Bool, true, false, List, [], ◌∷◌, length, take, drop, Option, Some, None, refl, sym, ap, ◌∙◌, inl, inr, arith, length-drop}
 use Rattle.std.proofs.lemmas.Bool.{cases_Bool}
 use Rattle.std.proofs.lemmas.Bool.Decides.{nat_tests}
-use Rattle.std.proofs.lemmas.List.{length-take-le}
+use Rattle.std.proofs.lemmas.List.{length-take-le, drop-drop}
 use Rattle.std.proofs.lemmas.List.Sums.{prefix_len-le-length}
 use Rattle.page_roff_syntax.specs.LineForms.{form_of, name_start, name_len, is_control, is_name, is_white, has_word, begins_comment, without_comment, control_line, uncommented_form}
 use Rattle.page_roff_syntax.specs.laws.Views.{name_of, begins_control}
 use Rattle.page_roff_syntax.specs.declared.line_forms.LineForm.{LineForm}
 use Rattle.page_roff_syntax.specs.declared.line_forms.LineForm.TheVariants.{Control}
 use Rattle.page_roff_syntax.proofs.ControlLemmas.{uncommented_control}
-use Rattle.page_roff_heads.specs.Heads.{conditional_of, guarded_of, block_end_of, loop_of}
+use Rattle.page_roff_heads.specs.Conditions.{condition_len, blank_len, after_blanks, begins_pair, is_some_line, remainder_of}
+use Rattle.page_roff_heads.specs.Heads.{conditional_of, guarded_of, end_place, block_end_of, loop_of}
 use Rattle.page_roff_heads.specs.declared.loops.LoopRead.{LoopRead}
-use Rattle.page_roff_heads.specs.declared.heads.BlockEnd.{BlockEnd}
 use Rattle.page_roff_heads.specs.declared.texts.Placed.{Placed}
-use Rattle.page_roff_heads.proofs.Within.{conditional_within, guarded_within, end_shorter, rest_within}
-use Rattle.page_roff_heads.proofs.Within as remainders
+use Rattle.page_roff_heads.proofs.Within.{rest_within}
 use Rattle.page_roff_blocks.specs.declared.line_parts.LinePart.TheVariants.{Leaf}
 use Rattle.page_roff_blocks.specs.declared.parts.Columns.{Columns}
 use Rattle.page_roff_blocks.specs.declared.parts.Keyword.{Keyword}
@@ -27,64 +26,104 @@ abbrev pub IsShorter : List ℕ → Option (List ℕ) → Type 0
 IsShorter line None = Unit {0}
 IsShorter line (Some rest) = length rest < length line
 
-within_shorter : (n : ℕ) (line : List ℕ) (remainder : Option (Placed (List ℕ))) → remainders.IsWithin n remainder → n < length line
-    → IsShorter line (rest_text remainder)
-within_shorter n line None w h = tt
-within_shorter n line (Some r) w h = omega arith
+-- What is left of a line after a part is an end of it.
+EndsRemainder : List ℕ → Option (Placed (List ℕ)) → Type 0
+EndsRemainder line None = Unit {0}
+EndsRemainder line (Some remainder) = (n : ℕ) × (remainder.text ≡ drop n line)
+
+unfoldable pub EndsRest : List ℕ → Option (List ℕ) → Type 0
+EndsRest line None = Unit {0}
+EndsRest line (Some text) = (n : ℕ) × (text ≡ drop n line) × (1 ≤ n) × (1 ≤ length line)
 
 pub end_rest : (before : List ℕ) (rest : Option (List ℕ)) → (end_part before rest).rest ≡ rest
 end_rest [] rest = refl
 end_rest (byte ∷ bytes) rest = refl
 
-cut_shorter : (line : List ℕ) (end : Option (BlockEnd (List ℕ)))
-    → IfSome end (λ end. (length end.before < length line) × remainders.IsWithin (length line - 2) end.remainder)
-    → IsShorter line (cut_part line end).rest
-cut_shorter line None h = tt
-cut_shorter line (Some end) h =
-    let k = within_shorter (length line - 2) line end.remainder h.1 (omega (arith, h.0)) in
-    rw (end_rest end.before (rest_text end.remainder)) k
+further : (n : ℕ) (line : List ℕ) (remainder : Option (Placed (List ℕ))) → EndsRemainder (drop n line) remainder → EndsRemainder line remainder
+unfolding EndsRemainder
+further n line None h = tt
+further n line (Some remainder) h = (n + h.0, h.1 ∙ drop-drop h.0 n line)
 
-plain_shorter : (line : List ℕ) → IsShorter line (plain_part line).rest
-plain_shorter line = cut_shorter line (block_end_of line) (end_shorter line)
+further_rest : (n : ℕ) (line : List ℕ) (remainder : Option (Placed (List ℕ))) → 1 ≤ n → 1 ≤ length line → EndsRemainder (drop n line) remainder → EndsRest line (rest_text remainder)
+unfolding EndsRemainder EndsRest
+further_rest n line None a b h = tt
+further_rest n line (Some remainder) a b h = (n + h.0, h.1 ∙ drop-drop h.0 n line, omega arith, b)
 
-raw_shorter : (line : List ℕ) (column : ℕ) → 2 ≤ column → column ≤ length line + 1 → length (raw_rest line column) < length line
-raw_shorter line column a b = omega (arith, length-drop (column - 1) line)
+remainder_ends : (column : ℕ) (text : List ℕ) → EndsRemainder text (remainder_of column text)
+unfolding EndsRemainder remainder_of
+remainder_ends column text =
+    elim (cases_Bool (is_some_line (after_blanks text))) [
+      | inl t ↦ rw t (blank_len text, refl)
+      | inr t ↦ rw t tt
+    ]
 
--- what a loop guards is what a conditional does
-loop_within : (column : ℕ) (rest : List ℕ) → remainders.IsWithin (length rest) (loop_of column rest).guarded.remainder
-unfolding loop_of conditional_of
-loop_within column rest = conditional_within column rest
+guarded_ends : (column : ℕ) (text : List ℕ) → EndsRemainder text (guarded_of column text).remainder
+unfolding guarded_of
+guarded_ends column text =
+    elim (cases_Bool (begins_pair 123 (after_blanks text))) [
+      | inl t ↦
+          let r = remainder_of (column + blank_len text + 2) (drop 2 (after_blanks text)) in
+          let h = remainder_ends (column + blank_len text + 2) (drop 2 (after_blanks text)) in
+          rw t (further (blank_len text) text r (further 2 (after_blanks text) r h))
+      | inr t ↦ rw t (remainder_ends column text)
+    ]
 
-loop_shorter : (line : List ℕ) (opens : Bool) (read : LoopRead (List ℕ)) → IsShorter line (rest_text read.guarded.remainder)
-    → IsShorter line (loop_part_if opens read).rest
-loop_shorter line true read h = h
-loop_shorter line false read h = tt
+conditional_ends : (column : ℕ) (rest : List ℕ) → EndsRemainder rest (conditional_of column rest).guarded.remainder
+unfolding conditional_of
+conditional_ends column rest =
+    let text = after_blanks rest in
+    let len = condition_len (column + blank_len rest) (without_comment text) in
+    let r = (guarded_of (column + blank_len rest + len) (drop len text)).remainder in
+    further (blank_len rest) rest r (further len text r (guarded_ends (column + blank_len rest + len) (drop len text)))
 
-keyword_shorter : (k : Keyword) (line : List ℕ) (column : ℕ) (rest : List ℕ) (rest_column : ℕ) → 2 ≤ rest_column → rest_column ≤ length line + 1
-    → IsShorter line (keyword_part k line column rest rest_column).rest
-keyword_shorter keywords.Else line column rest rest_column a b =
-    let raw = raw_rest line rest_column in
-    within_shorter (length raw) line (guarded_of rest_column raw).remainder (guarded_within rest_column raw) (raw_shorter line rest_column a b)
-keyword_shorter keywords.While line column rest rest_column a b =
-    let raw = raw_rest line rest_column in
-    let read = loop_of rest_column raw in
-    loop_shorter line read.guarded.opens_block read
-    (within_shorter (length raw) line read.guarded.remainder (loop_within rest_column raw) (raw_shorter line rest_column a b))
-keyword_shorter (keywords.Region kind) line column rest rest_column a b = tt
-keyword_shorter keywords.Other line column rest rest_column a b = plain_shorter line
-keyword_shorter _ line column rest rest_column a b =
-    let raw = raw_rest line rest_column in
-    within_shorter (length raw) line (conditional_of rest_column raw).guarded.remainder (conditional_within rest_column raw) (raw_shorter line rest_column a b)
+-- what follows the end of a block
+plain_ends : (line : List ℕ) → EndsRest line (plain_part line).rest
+unfolding block_end_of EndsRest
+plain_ends line =
+    let place = end_place line in
+    let r = remainder_of (place + 3) (drop (place + 2) line) in
+    elim (cases_Bool (nat_lt place (length line))) [
+      | inl t ↦
+          let some : 1 ≤ length line = grind (arith, nat_tests) in
+          let h = further_rest (place + 2) line r (omega arith) some (remainder_ends (place + 3) (drop (place + 2) line)) in
+          rw (t, end_rest (take place line) (rest_text r)) h
+      | inr t ↦ rw t tt
+    ]
 
-form_shorter : (line : List ℕ) (form : LineForm (List ℕ)) → form_of line ≡ form → IsShorter line (form_part line form).rest
-form_shorter line (Control name column rest rest_column) e =
-    let h = rest_within line name rest column rest_column e in
-    keyword_shorter (keyword_of name) line column rest rest_column h.0 h.1
-form_shorter line _ e = plain_shorter line
+loop_ends : (line : List ℕ) (opens : Bool) (read : LoopRead (List ℕ)) → EndsRest line (rest_text read.guarded.remainder) → EndsRest line (loop_part_if opens read).rest
+unfolding EndsRest
+loop_ends line true read h = h
+loop_ends line false read h = tt
+
+keyword_ends : (k : Keyword) (line : List ℕ) (column : ℕ) (rest : List ℕ) (n : ℕ) → 2 ≤ n → n ≤ length line + 1 → EndsRest line (keyword_part k line column rest n).rest
+unfolding EndsRest loop_of conditional_of
+keyword_ends keywords.Else line column rest n a b =
+    let raw = raw_rest line n in further_rest (n - 1) line (guarded_of n raw).remainder (omega arith) (omega arith) (guarded_ends n raw)
+keyword_ends keywords.While line column rest n a b =
+    let raw = raw_rest line n in
+    let read = loop_of n raw in
+    loop_ends line read.guarded.opens_block read (further_rest (n - 1) line read.guarded.remainder (omega arith) (omega arith) (conditional_ends n raw))
+keyword_ends (keywords.Region kind) line column rest n a b = tt
+keyword_ends keywords.Other line column rest n a b = plain_ends line
+keyword_ends _ line column rest n a b =
+    let raw = raw_rest line n in further_rest (n - 1) line (conditional_of n raw).guarded.remainder (omega arith) (omega arith) (conditional_ends n raw)
+
+form_ends : (line : List ℕ) (form : LineForm (List ℕ)) → form_of line ≡ form → EndsRest line (form_part line form).rest
+form_ends line (Control name column rest rest_column) e =
+    let h = rest_within line name rest column rest_column e in keyword_ends (keyword_of name) line column rest rest_column h.0 h.1
+form_ends line _ e = plain_ends line
+
+pub part_ends : (line : List ℕ) → EndsRest line (written_part line).rest
+unfolding written_part
+part_ends line = form_ends line (form_of line) refl
+
+end_shorter : (line : List ℕ) (rest : Option (List ℕ)) → EndsRest line rest → IsShorter line rest
+unfolding EndsRest
+end_shorter line None h = tt
+end_shorter line (Some text) h = omega (arith, ap length h.1, length-drop h.0 line, h.2, h.3)
 
 pub written_shorter : (line : List ℕ) → IsShorter line (written_part line).rest
-unfolding written_part
-written_shorter line = form_shorter line (form_of line) refl
+written_shorter line = end_shorter line (written_part line).rest (part_ends line)
 
 pub part_shorter : (line : List ℕ) → IsShorter line (part_of line).rest
 unfolding part_of

@@ -13,98 +13,82 @@ use Rattle.page_roff_blocks.specs.machine.Run as blocks
 use Rattle.page_roff_blocks.specs.machine.Steps.{met, step_leaf, step_loop, step_end, step_region, step_parts, step_inside, step_from, step, step_lines}
 use Rattle.page_roff_blocks.proofs.FoldLemmas.{run_is_steps, run_lines-append}
 use Rattle.page_core_base.specs.declared.limits.TheConstants.{CALLS}
-use Rattle.page_roff_blocks.specs.machine.Languages.{Kind, page, body, inner, Done, gives, calls, repeats, state_of, TURNS, Language, is_some, run_if, finish_at, run_body, turns, done_by, meaning_by, done_at, meaning_at, run_page, run_page_lines}
+use Rattle.page_roff_blocks.specs.machine.Languages.{Kind, page, body, inner, Done, gives, calls, repeats, TURNS, Language, is_some, run_if, finish_at, run_body, turns, done_by, meaning_by, done_at, meaning_at, run_page, run_page_lines}
 use Rattle.page_roff_blocks.specs.machine.Machine.{Turning, Frame, Running, entered, looped, turned, at_part, between, at_page, depth, stands_at, line_in, line_rest, finish_if, ended, after_line, rest, rest_of, leaf_next, leaf_if, loop_next, loop_if, end_next, part_next, region_next, line_next, turn_if, turn_next, body_next, source_next, next_in, next}
 
 module _ {S : Type 0} (l : Language S) where
-  frame : Kind → Option Opened → List (LinePart (List ℕ)) → BlockCursor → List (List ℕ) → Option Turning → Frame
+  abbrev pub frame : Kind → Option Opened → List (LinePart (List ℕ)) → BlockCursor → List (List ℕ) → Option Turning → Frame
   frame kind region parts cursor lines turning =
       record { kind = kind; region = region; parts = parts; cursor = cursor; lines = lines; turning = turning }
 
   one_less : (n k d : ℕ) → n - k ≡ suc d → n - suc k ≡ d
   one_less n k d e = omega arith
 
-  -- what comes of a leaf or a loop, where so many more sources may run
-  done_law : (d : ℕ) (under : List Frame) (kind : Kind) (more : List (LinePart (List ℕ))) (cursor : BlockCursor) (lines : List (List ℕ)) (turning : Option Turning) (done : Done S)
-      → depth under ≡ suc d
-      → after_line l kind turning lines under (step_parts (meaning_at l (depth under) kind) more cursor (done_by l (meaning_at l d) kind done))
-      ≡ rest_of l (leaf_next l true (frame kind None more cursor lines turning) under done)
-  unfolding done_by run_body rest_of rest after_line ended finish_if leaf_next line_rest line_in entered looped frame step_parts step_lines at_line first_place depth
-  done_law d under kind more cursor lines turning (gives s) e = refl
-  done_law d under kind more cursor lines turning (calls ls args s) e =
-      let a : At S = record { place = first_place; state = s } in
-      let k = body (Some args) in
-      let fewer : d ≡ CALLS - suc (length under) = sym (one_less CALLS (length under) d e) in
-      ap (λ a. after_line l kind turning lines under (step_parts (meaning_at l (CALLS - length under) kind) more cursor (finish_at l a)))
-      (run_is_steps (meaning_at l d k) (λ t. t) ls a ∙ ap (λ d. step_lines (meaning_at l d k) (λ t. t) ls a) fewer)
-  done_law d under kind more cursor lines turning (repeats condition ls s) e =
-      let k = inner kind in
-      let fewer : d ≡ CALLS - suc (length under) = sym (one_less CALLS (length under) d e) in
-      ap (λ d. after_line l kind turning lines under (step_parts (meaning_at l (CALLS - length under) kind) more cursor
-      (turns l TURNS (run_body l (meaning_at l d k) ls) k condition s))) fewer
+  module _ (under : List Frame) (kind : Kind) (more : List (LinePart (List ℕ))) (cursor : BlockCursor) (lines : List (List ℕ)) (turning : Option Turning) where
+    abbrev pub m : Meaning (List ℕ) S
+    m = meaning_at l (depth under) kind
 
-  last_law : (under : List Frame) (kind : Kind) (more : List (LinePart (List ℕ))) (cursor : BlockCursor) (lines : List (List ℕ)) (turning : Option Turning) (done : Done S)
-      → after_line l kind turning lines under (step_parts (meaning_at l (depth under) kind) more cursor (state_of done))
-      ≡ rest_of l (leaf_next l false (frame kind None more cursor lines turning) under done)
-  unfolding rest_of rest leaf_next line_rest line_in frame
-  last_law under kind more cursor lines turning (gives s) = refl
-  last_law under kind more cursor lines turning (calls ls args s) = refl
-  last_law under kind more cursor lines turning (repeats condition ls s) = refl
+    abbrev pub f : Frame
+    f = frame kind None more cursor lines turning
 
-  come_law : (d : ℕ) (under : List Frame) (kind : Kind) (more : List (LinePart (List ℕ))) (cursor : BlockCursor) (lines : List (List ℕ)) (turning : Option Turning) (done : Done S)
-      → depth under ≡ d
-      → after_line l kind turning lines under (step_parts (meaning_at l (depth under) kind) more cursor (done_at l d kind done))
-      ≡ rest_of l (leaf_next l (is_some d) (frame kind None more cursor lines turning) under done)
-  unfolding done_at is_some meaning_at
-  come_law zero under kind more cursor lines turning done e = last_law under kind more cursor lines turning done
-  come_law (suc d) under kind more cursor lines turning done e = done_law d under kind more cursor lines turning done e
+    -- what comes after a part
+    abbrev pub further : S → At S
+    further s = after_line l kind turning lines under (step_parts (meaning_at l (depth under) kind) more cursor s)
 
-  leaf_law : (is_met : Bool) (under : List Frame) (kind : Kind) (more : List (LinePart (List ℕ))) (cursor : BlockCursor) (lines : List (List ℕ)) (turning : Option Turning) (text : List ℕ) (s : S)
-      → after_line l kind turning lines under (step_parts (meaning_at l (depth under) kind) more cursor (blocks.leaf_if (meaning_at l (depth under) kind) is_met text s))
-      ≡ rest_of l (leaf_if l is_met text (frame kind None more cursor lines turning) under s)
-  unfolding blocks.leaf_if leaf_if meaning_at meaning_by rest_of rest line_rest line_in frame
-  leaf_law true under kind more cursor lines turning text s =
-      come_law (depth under) under kind more cursor lines turning (l.leaf (is_some (depth under)) kind text s) refl
-  leaf_law false under kind more cursor lines turning text s = refl
+    -- what comes of a leaf or a loop, where so many more sources may run
+    done_law : (d : ℕ) (done : Done S) → depth under ≡ d → further (done_at l d kind done) ≡ rest_of l (leaf_next l (is_some d) f under done)
+    unfolding done_at done_by is_some meaning_at run_body rest_of rest after_line ended finish_if leaf_next line_rest line_in entered looped step_parts step_lines at_line first_place depth
+    done_law zero (gives s) e = refl
+    done_law zero (calls ls args s) e = refl
+    done_law zero (repeats condition ls s) e = refl
+    done_law (suc d) (gives s) e = refl
+    done_law (suc d) (calls ls args s) e =
+        let a : At S = record { place = first_place; state = s } in
+        let k = body (Some args) in
+        let fewer : d ≡ CALLS - suc (length under) = sym (one_less CALLS (length under) d e) in
+        ap (λ a. after_line l kind turning lines under (step_parts (meaning_at l (CALLS - length under) kind) more cursor (finish_at l a)))
+        (run_is_steps (meaning_at l d k) (λ t. t) ls a ∙ ap (λ d. step_lines (meaning_at l d k) (λ t. t) ls a) fewer)
+    done_law (suc d) (repeats condition ls s) e =
+        let k = inner kind in
+        let fewer : d ≡ CALLS - suc (length under) = sym (one_less CALLS (length under) d e) in
+        ap (λ d. after_line l kind turning lines under (step_parts (meaning_at l (CALLS - length under) kind) more cursor
+        (turns l TURNS (run_body l (meaning_at l d k) ls) k condition s))) fewer
 
-  -- a loop is whole
-  whole_law : (under : List Frame) (kind : Kind) (more : List (LinePart (List ℕ))) (cursor : BlockCursor) (lines : List (List ℕ)) (turning : Option Turning) (s : S)
-      → after_line l kind turning lines under (step_parts (meaning_at l (depth under) kind) more cursor ((meaning_at l (depth under) kind).closes_loop s))
-      ≡ rest_of l (loop_next l (frame kind None more cursor lines turning) under s)
-  unfolding loop_next meaning_at meaning_by
-  whole_law under kind more cursor lines turning s = come_law (depth under) under kind more cursor lines turning (l.closes (is_some (depth under)) s) refl
+    leaf_law : (is_met : Bool) (text : List ℕ) (s : S) → further (blocks.leaf_if m is_met text s) ≡ rest_of l (leaf_if l is_met text f under s)
+    unfolding blocks.leaf_if leaf_if meaning_at meaning_by rest_of rest line_rest line_in
+    leaf_law true text s = done_law (depth under) (l.leaf (is_some (depth under)) kind text s) refl
+    leaf_law false text s = refl
 
-  loop_law : (is_met : Bool) (h : LoopHead (List ℕ)) (under : List Frame) (kind : Kind) (more : List (LinePart (List ℕ))) (cursor : BlockCursor) (lines : List (List ℕ)) (turning : Option Turning) (s : S)
-      → let m = meaning_at l (depth under) kind in
-      after_line l kind turning lines under (step_parts m more cursor (blocks.loop_if m is_met h s))
-      ≡ rest_of l (loop_if l m is_met h (frame kind None more cursor lines turning) under s)
-  unfolding blocks.loop_if loop_if rest_of rest line_rest line_in frame
-  loop_law true h under kind more cursor lines turning s = whole_law under kind more cursor lines turning ((meaning_at l (depth under) kind).opens_loop h s)
-  loop_law false h under kind more cursor lines turning s = refl
+    -- a loop is whole
+    whole_law : (s : S) → further (m.closes_loop s) ≡ rest_of l (loop_next l f under s)
+    unfolding loop_next meaning_at meaning_by
+    whole_law s = done_law (depth under) (l.closes (is_some (depth under)) s) refl
 
-  ending_law : (ending : Ended) (under : List Frame) (kind : Kind) (more : List (LinePart (List ℕ))) (cursor : BlockCursor) (lines : List (List ℕ)) (turning : Option Turning) (s : S)
-      → let m = meaning_at l (depth under) kind in
-      after_line l kind turning lines under (step_parts m more cursor (end_by m ending s))
-      ≡ rest_of l (end_next l m ending (frame kind None more cursor lines turning) under s)
-  unfolding end_by end_next rest_of rest line_rest line_in frame
-  ending_law endings.Block under kind more cursor lines turning s = refl
-  ending_law endings.Loop under kind more cursor lines turning s = whole_law under kind more cursor lines turning s
-  ending_law endings.Nothing under kind more cursor lines turning s = refl
+    loop_law : (is_met : Bool) (h : LoopHead (List ℕ)) (s : S) → further (blocks.loop_if m is_met h s) ≡ rest_of l (loop_if l m is_met h f under s)
+    unfolding blocks.loop_if loop_if rest_of rest line_rest line_in
+    loop_law true h s = whole_law (m.opens_loop h s)
+    loop_law false h s = refl
+
+    ending_law : (ending : Ended) (s : S) → further (end_by m ending s) ≡ rest_of l (end_next l m ending f under s)
+    unfolding end_by end_next rest_of rest line_rest line_in
+    ending_law endings.Block s = refl
+    ending_law endings.Loop s = whole_law s
+    ending_law endings.Nothing s = refl
 
   part_law : (part : LinePart (List ℕ)) (under : List Frame) (kind : Kind) (more : List (LinePart (List ℕ))) (cursor : BlockCursor) (lines : List (List ℕ)) (turning : Option Turning) (s : S)
       → let f = frame kind None (part ∷ more) cursor lines turning in
       rest l f under s ≡ rest_of l (part_next l (meaning_at l (depth under) kind) part more f under s)
-  unfolding rest_of rest line_rest line_in part_next at_part between step_parts step_leaf step_loop step_end step_region at_line frame
+  unfolding rest_of rest line_rest line_in part_next at_part between step_parts step_leaf step_loop step_end step_region at_line
   part_law (Leaf text) under kind more cursor lines turning s =
       let q = met (meaning_at l (depth under) kind) cursor s in
-      leaf_law q.0 under kind more (after_part cursor.levels) lines turning text q.1
+      leaf_law under kind more (after_part cursor.levels) lines turning q.0 text q.1
   part_law (Guard h) under kind more cursor lines turning s = refl
   part_law (Block h) under kind more cursor lines turning s = refl
   part_law (Loop h) under kind more cursor lines turning s =
       let q = met (meaning_at l (depth under) kind) cursor s in
-      loop_law q.0 h under kind more (after_part cursor.levels) lines turning q.1
+      loop_law under kind more (after_part cursor.levels) lines turning q.0 h q.1
   part_law End under kind more cursor lines turning s =
-      ending_law (what_ends cursor.levels) under kind more (after_part (leave cursor.levels)) lines turning s
+      ending_law under kind more (after_part (leave cursor.levels)) lines turning (what_ends cursor.levels) s
   part_law (Region head) under kind more cursor lines turning s = refl
 
   after_cons : (kind : Kind) (turning : Option Turning) (line : List ℕ) (more : List (List ℕ)) (under : List Frame) (a : At S)
@@ -123,31 +107,16 @@ module _ {S : Type 0} (l : Language S) where
   region_law : (o : Opened) (line : List ℕ) (more : List (List ℕ)) (kind : Kind) (parts : List (LinePart (List ℕ))) (cursor : BlockCursor) (turning : Option Turning) (under : List Frame) (s : S)
       → let f = frame kind (Some o) parts cursor (line ∷ more) turning in
       rest l f under s ≡ rest_of l (region_next l (meaning_at l (depth under) kind) (is_ending o.ending line) o line more f under s)
-  unfolding rest line_rest line_in step step_from frame
+  unfolding rest line_rest line_in step step_from
   region_law o line more kind parts cursor turning under s =
       after_cons kind turning line more under (record { place = record { region = Some o; levels = cursor.levels }; state = s })
       ∙ inside_law (is_ending o.ending line) o line more (frame kind (Some o) parts cursor (line ∷ more) turning) under s
 
   line_law : (line : List ℕ) (more : List (List ℕ)) (kind : Kind) (cursor : BlockCursor) (turning : Option Turning) (under : List Frame) (s : S)
       → let f = frame kind None [] cursor (line ∷ more) turning in rest l f under s ≡ rest_of l (line_next l (meaning_at l (depth under) kind) line more f under s)
-  unfolding rest_of rest line_rest line_in line_next step step_from step_parts frame
+  unfolding rest_of rest line_rest line_in line_next step step_from step_parts
   line_law line more kind cursor turning under s =
       after_cons kind turning line more under (record { place = record { region = None; levels = cursor.levels }; state = s })
-
-  same_next : (r : S → At S) (p q : Running S) (s : S) → r s ≡ rest_of l p → Some p ≡ Some q → r s ≡ rest_of l q
-  same_next r p q s e h = let k : p ≡ q = cc in e ∙ ap (rest_of l) k
-
-  ends_none : (kind : Kind) (cursor : BlockCursor) (turning : Option Turning) (under : List Frame) (s : S)
-      → rest l (frame kind None [] cursor [] turning) under s
-      ≡ after_line l kind turning [] under (record { place = record { region = None; levels = cursor.levels }; state = s })
-  unfolding rest line_rest line_in step_parts frame
-  ends_none kind cursor turning under s = refl
-
-  ends_some : (o : Opened) (parts : List (LinePart (List ℕ))) (kind : Kind) (cursor : BlockCursor) (turning : Option Turning) (under : List Frame) (s : S)
-      → rest l (frame kind (Some o) parts cursor [] turning) under s
-      ≡ after_line l kind turning [] under (record { place = record { region = Some o; levels = cursor.levels }; state = s })
-  unfolding rest line_rest line_in frame
-  ends_some o parts kind cursor turning under s = refl
 
   -- ---- turns of loops
 
@@ -190,64 +159,37 @@ module _ {S : Type 0} (l : Language S) where
   unfolding after_line rest step_lines
   over_law turning kind g gs a = refl
 
-  source_law : (turning : Option Turning) (under : List Frame) (kind : Kind) (a : At S) (q : Running S)
-      → source_next l turning kind under a ≡ Some q → after_line l kind turning [] under a ≡ rest_of l q
-  unfolding source_next
-  source_law turning [] kind a q e = absurd (cc)
-  source_law turning (g ∷ gs) kind a q e =
-      let k : body_next l turning kind g gs a ≡ q = cc in over_law turning kind g gs a ∙ body_law turning kind g gs a ∙ ap (rest_of l) k
+  -- after a step, or where none is left
+  come : At S → Option (Running S) → At S
+  come a None = a
+  come a (Some q) = rest_of l q
 
-  step_law : (region : Option Opened) (parts : List (LinePart (List ℕ))) (lines : List (List ℕ)) (kind : Kind) (cursor : BlockCursor) (turning : Option Turning) (under : List Frame) (s : S) (q : Running S)
+  source_law : (turning : Option Turning) (under : List Frame) (kind : Kind) (a : At S) → after_line l kind turning [] under a ≡ come a (source_next l turning kind under a)
+  unfolding come source_next after_line step_lines
+  source_law turning [] kind a = refl
+  source_law turning (g ∷ gs) kind a = over_law turning kind g gs a ∙ body_law turning kind g gs a
+
+  step_law : (region : Option Opened) (parts : List (LinePart (List ℕ))) (lines : List (List ℕ)) (kind : Kind) (cursor : BlockCursor) (turning : Option Turning) (under : List Frame) (s : S)
       → let f = frame kind region parts cursor lines turning in
-      next_in l (meaning_at l (depth under) kind) region parts lines f under s ≡ Some q → rest l f under s ≡ rest_of l q
-  unfolding next_in frame
-  step_law None (part ∷ more) lines kind cursor turning under s q e =
-      let f = frame kind None (part ∷ more) cursor lines turning in
-      same_next (rest l f under) (part_next l (meaning_at l (depth under) kind) part more f under s) q s (part_law part under kind more cursor lines turning s) e
-  step_law None [] (line ∷ more) kind cursor turning under s q e =
-      let f = frame kind None [] cursor (line ∷ more) turning in
-      same_next (rest l f under) (line_next l (meaning_at l (depth under) kind) line more f under s) q s (line_law line more kind cursor turning under s) e
-  step_law None [] [] kind cursor turning under s q e =
-      ends_none kind cursor turning under s ∙ source_law turning under kind (record { place = record { region = None; levels = cursor.levels }; state = s }) q e
-  step_law (Some o) parts (line ∷ more) kind cursor turning under s q e =
-      let f = frame kind (Some o) parts cursor (line ∷ more) turning in
-      same_next (rest l f under) (region_next l (meaning_at l (depth under) kind) (is_ending o.ending line) o line more f under s) q s
-      (region_law o line more kind parts cursor turning under s) e
-  step_law (Some o) parts [] kind cursor turning under s q e =
-      ends_some o parts kind cursor turning under s ∙ source_law turning under kind (record { place = record { region = Some o; levels = cursor.levels }; state = s }) q e
+      rest l f under s ≡ come (record { place = record { region = region; levels = cursor.levels }; state = s }) (next_in l (meaning_at l (depth under) kind) region parts lines f under s)
+  unfolding come next_in rest line_rest line_in step_parts
+  step_law None (part ∷ more) lines kind cursor turning under s = part_law part under kind more cursor lines turning s
+  step_law None [] (line ∷ more) kind cursor turning under s = line_law line more kind cursor turning under s
+  step_law None [] [] kind cursor turning under s = source_law turning under kind (record { place = record { region = None; levels = cursor.levels }; state = s })
+  step_law (Some o) parts (line ∷ more) kind cursor turning under s = region_law o line more kind parts cursor turning under s
+  step_law (Some o) parts [] kind cursor turning under s = source_law turning under kind (record { place = record { region = Some o; levels = cursor.levels }; state = s })
+
+  next_come : (r : Running S) → rest_of l r ≡ come (stands_at r) (next l r)
+  unfolding next rest_of stands_at
+  next_come r = step_law r.top.region r.top.parts r.top.lines r.top.kind r.top.cursor r.top.turning r.under r.state
 
   pub next_law : (r q : Running S) → next l r ≡ Some q → rest_of l r ≡ rest_of l q
-  unfolding next rest_of frame
-  next_law r q e = step_law r.top.region r.top.parts r.top.lines r.top.kind r.top.cursor r.top.turning r.under r.state q e
-
-  stays : (turning : Option Turning) (kind : Kind) (under : List Frame) (a : At S) → source_next l turning kind under a ≡ None → under ≡ []
-  unfolding source_next
-  stays turning kind [] a e = refl
-  stays turning kind (g ∷ gs) a e = absurd (cc)
-
-  last : (kind : Kind) (turning : Option Turning) (under : List Frame) (a : At S) → under ≡ [] → after_line l kind turning [] under a ≡ a
-  unfolding after_line step_lines
-  last kind turning [] a e = refl
-  last kind turning (g ∷ gs) a e = absurd (cc)
-
-  end_of : (region : Option Opened) (parts : List (LinePart (List ℕ))) (lines : List (List ℕ)) (kind : Kind) (cursor : BlockCursor) (turning : Option Turning) (under : List Frame) (s : S)
-      → let f = frame kind region parts cursor lines turning in
-      next_in l (meaning_at l (depth under) kind) region parts lines f under s ≡ None
-      → rest l f under s ≡ record { place = record { region = region; levels = cursor.levels }; state = s }
-  unfolding next_in frame
-  end_of None (part ∷ more) lines kind cursor turning under s e = absurd (cc)
-  end_of None [] (line ∷ more) kind cursor turning under s e = absurd (cc)
-  end_of None [] [] kind cursor turning under s e =
-      let a : At S = record { place = record { region = None; levels = cursor.levels }; state = s } in
-      ends_none kind cursor turning under s ∙ last kind turning under a (stays turning kind under a e)
-  end_of (Some o) parts (line ∷ more) kind cursor turning under s e = absurd (cc)
-  end_of (Some o) parts [] kind cursor turning under s e =
-      let a : At S = record { place = record { region = Some o; levels = cursor.levels }; state = s } in
-      ends_some o parts kind cursor turning under s ∙ last kind turning under a (stays turning kind under a e)
+  unfolding come
+  next_law r q e = next_come r ∙ ap (come (stands_at r)) e
 
   pub end_law : (r : Running S) → next l r ≡ None → rest_of l r ≡ stands_at r
-  unfolding next rest_of stands_at frame
-  end_law r e = end_of r.top.region r.top.parts r.top.lines r.top.kind r.top.cursor r.top.turning r.under r.state e
+  unfolding come
+  end_law r e = next_come r ∙ ap (come (stands_at r)) e
 
   pub run_page-append : (above below : List (List ℕ)) (a : At S) → run_page l (above ++ below) a ≡ run_page l below (run_page l above a)
   unfolding run_page

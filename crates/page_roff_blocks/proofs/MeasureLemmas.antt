@@ -7,7 +7,9 @@ use Rattle.page_roff_blocks.specs.machine.Machine.{Running, entered, looped, tur
 use Rattle.page_roff_blocks.specs.machine.Budgets.{Budgeted, Effects, language}
 use Rattle.page_roff_blocks.specs.machine.Measures.{weight, work_in, works, fresh_at, fresh_in, freshes, credit, measure, IsOnLine, HasMeasure, turns_of, HasBodyWithin}
 use Rattle.page_roff_blocks.proofs.RoomLemmas.{line_parts_room}
-use Rattle.page_roff_blocks.proofs.CreditLemmas.{credit_grow, fresh_one, fresh_past, fresh_first, IsBody, Less, Paid, First, steps_less}
+use Rattle.page_roff_blocks.proofs.CreditLemmas.{credit_grow, fresh_one, fresh_past, fresh_part, Less, Paid, first_ready, fresh_first, steps_less}
+use Rattle.page_roff_blocks.proofs.BodyLemmas.{IsBody}
+use Rattle.page_roff_blocks.proofs.LedgerLemmas.{Fresh}
 use Rattle.page_roff_blocks.proofs.OnLineLemmas.{next_on}
 use Rattle.page_roff_blocks.proofs.StepLemmas.{Rules, next_rule}
 
@@ -38,7 +40,7 @@ module _ {R : Type 0} (e : Effects R) (huge : ℕ) (r : Running (Budgeted R)) (o
   Falls : Running (Budgeted R) → Type 0
   Falls q = HasBodyWithin huge r q → suc (measure huge q) ≤ measure huge r
 
-  rules : Rules IsBody (First e fresh most) (Less e fresh most) (Paid e fresh most) r Falls
+  rules : Rules IsBody (Fresh (Paid e fresh most) (Less e fresh most)) (Less e fresh most) (Paid e fresh most) r Falls
   unfolding Falls fresh most work HasMeasure IsOnLine measure fresh_in fresh_at work_in weight works freshes turns_of at_part between entered looped turned
   rules =
       let f = freshes r.under in
@@ -46,7 +48,8 @@ module _ {R : Type 0} (e : Effects R) (huge : ℕ) (r : Running (Budgeted R)) (o
       record {
         base = credit_grow r.state f (fresh_at r.top.parts r.top.cursor + f) (omega arith);
         fresh = λ part more none is first.
-            credit_grow r.state (1 + f) (fresh_at r.top.parts r.top.cursor + f) (omega (arith, fresh_first r.top.parts r.top.cursor part more is first));
+            first_ready e f (credit r.state (fresh_at r.top.parts r.top.cursor + f)) r.state
+            (credit_grow r.state (1 + f) (fresh_at r.top.parts r.top.cursor + f) (omega (arith, fresh_part r.top.parts r.top.cursor part more is first)));
         kind = λ line more is page. let none = (on.0 page).0 in absurd (cc);
         past = λ part more none is c begun s h w.
             falls s f (fresh_at more c + f) (2 * length more + weight r.top.lines + v) (omega (arith, fresh_past more c begun)) h (omega (arith, ap length is));
@@ -58,7 +61,8 @@ module _ {R : Type 0} (e : Effects R) (huge : ℕ) (r : Running (Budgeted R)) (o
         opens = λ part more none is o s h w. falls s f (0 + f) (2 * 0 + weight r.top.lines + v) (omega arith) h (omega (arith, ap length is));
         line = λ line more none is s h w.
             let g = fresh_at (line_parts line) (at_line r.top.cursor.levels) + f in
-            falls s (1 + f) g (2 * length (line_parts line) + weight more + v) (omega (arith, fresh_one (line_parts line) (at_line r.top.cursor.levels))) h
+            falls s (1 + f) g (2 * length (line_parts line) + weight more + v) (omega (arith, fresh_one (line_parts line) (at_line r.top.cursor.levels)))
+            (fresh_first e f (credit r.state (fresh_at r.top.parts r.top.cursor + f)) s h)
             (omega (arith, line_parts_room line, ap weight is));
         inside = λ line more is region s h w. falls s f (0 + f) (2 * 0 + weight more + v) (omega arith) h (omega (arith, ap weight is));
         over = λ g gs is s h w. falls s f (fresh_in g + freshes gs) (work_in g + works gs) (omega (arith, ap freshes is)) h (omega (arith, ap works is));
@@ -70,7 +74,7 @@ module _ {R : Type 0} (e : Effects R) (huge : ℕ) (r : Running (Budgeted R)) (o
   pub step_falls : (q : Running (Budgeted R)) → next (language e) r ≡ Some q → HasBodyWithin huge r q → suc (measure huge q) ≤ measure huge r
   unfolding Falls
   step_falls q x =
-      next_rule IsBody (First e fresh most) (Paid e fresh most) (Less e fresh most) (Paid e fresh most) (language e) (steps_less e fresh most) r Falls rules q x
+      next_rule IsBody (Fresh (Paid e fresh most) (Less e fresh most)) (Paid e fresh most) (Less e fresh most) (Paid e fresh most) (language e) (steps_less e fresh most) r Falls rules q x
 
 pub next_falls : {R : Type 0} (e : Effects R) (huge : ℕ) (r q : Running (Budgeted R)) → HasMeasure r → HasBodyWithin huge r q → next (language e) r ≡ Some q
     → (suc (measure huge q) ≤ measure huge r) × HasMeasure q

@@ -10,22 +10,22 @@ use Rattle.page_roff_blocks.specs.Parts.{line_parts}
 use Rattle.page_roff_blocks.specs.laws.Views.{BlockCursor, at_line, after_part, leave, what_ends}
 use Rattle.page_roff_blocks.specs.machine.Run.{Meaning, At, keep_if}
 use Rattle.page_roff_blocks.specs.machine.Steps.{met, guard_met, step_guard, block_met, step_block, step_region, begin_line}
-use Rattle.page_roff_blocks.specs.machine.Languages.{Kind, Done, gives, calls, repeats, state_of, Language, is_some, finish_at, meaning_at}
+use Rattle.page_roff_blocks.specs.machine.Languages.{Kind, body, Done, gives, calls, repeats, state_of, Language, is_some, finish_at, meaning_at}
 use Rattle.page_roff_blocks.specs.machine.Machine.{Turning, Frame, Running, entered, looped, turned, at_part, between, depth, finish_if, leaf_next, leaf_if, loop_next, loop_if, end_next, part_next, region_next, line_next, turn_if, turn_next, body_next, source_next, next_in, next}
 use Rattle.page_roff_blocks.proofs.KeepLemmas.{IsAny, any_head, any_opening}
 use Rattle.page_roff_blocks.proofs.SameLemmas.{AnyTest, any_branch, any_tests}
 use Rattle.page_roff_blocks.proofs.TieLemmas.{Alike, Ties, TiesParts, TiesLine, one_tie, of_one, met_tied, ready_tied, guard_tied, block_tied, keep_tied, begin_tied}
-use Rattle.page_roff_blocks.proofs.LanguageTies.{AnyKind}
+use Rattle.page_roff_blocks.proofs.LanguageTies.{AnyKind, TiesLanguages, kept_done}
 
 abbrev pub PaidDone : {S : Type 0} → (S → Type 0) → (S → Type 0) → Done S → Type 0
 PaidDone B G (gives s) = B s
 PaidDone B G (calls lines args s) = G s
 PaidDone B G (repeats condition lines s) = B s
 
-pub paid_done : {S : Type 0} (B : S → Type 0) (done : Done S) → B (state_of done) → PaidDone B B done
-paid_done B (gives s) h = h
-paid_done B (calls lines args s) h = h
-paid_done B (repeats condition lines s) h = h
+pub done_base : {S : Type 0} (B G : S → Type 0) → ((s : S) → G s → B s) → (done : Done S) → PaidDone B G done → B (state_of done)
+done_base B G begun (gives s) h = h
+done_base B G begun (calls lines args s) h = begun s h
+done_base B G begun (repeats condition lines s) h = h
 
 -- `N` holds where a line began, `F` where a part is run, `G` where a body begins and `B` at all other times; lines come in sources of such kinds.
 pub record Pays {S : Type 0} (K : Kind → Type 0) (N F B G : S → Type 0) (l : Language S) : Type 0 where
@@ -36,6 +36,18 @@ pub record Pays {S : Type 0} (K : Kind → Type 0) (N F B G : S → Type 0) (l :
   pub closes : (may_run : Bool) (s : S) → B s → PaidDone B G (l.closes may_run s)
   pub turn : (kind : Kind) (condition : List ℕ) (s : S) → B s → ((l.turn kind condition s).0 ≡ true → G (l.turn kind condition s).1) × B (l.turn kind condition s).1
   pub finish : (region : Option Opened) (in_loop : Bool) (s : S) → B s → B (l.finish region in_loop s)
+
+pub pays_tied : {S : Type 0} (K : Kind → Type 0) (N F B G : S → Type 0) (l : Language S) → Pays K N F B G l → ((args : Option (List (List ℕ))) → K (body args))
+    → TiesLanguages IsAny AnyTest AnyKind (Alike N) (Alike F) (Alike B) l l
+pays_tied K N F B G l p bodies = record {
+  inner = λ kind c. tt;
+  parts = λ d kind c. p.parts d kind;
+  lines = λ d args c line i. p.lines d (body args) (bodies args) line;
+  leaf = λ may kind text s t c i r. rw (← r.0) (kept_done B (l.leaf may kind text s) (done_base B G p.body (l.leaf may kind text s) (p.leaf may kind text s r.1)));
+  closes = λ may s t r. rw (← r.0) (kept_done B (l.closes may s) (done_base B G p.body (l.closes may s) (p.closes may s r.1)));
+  turn = λ kind condition s t c i r. rw (← r.0) (refl, (refl, (p.turn kind condition s r.1).1));
+  finish = λ region in_loop s t r. rw (← r.0) (refl, p.finish region in_loop s r.1);
+}
 
 -- What holds after each kind of step.
 pub record Rules {S : Type 0} (K : Kind → Type 0) (N B G : S → Type 0) (r : Running S) (Q : Running S → Type 0) : Type 0 where
@@ -207,6 +219,11 @@ module _ {S : Type 0} (K : Kind → Type 0) (N F B G : S → Type 0) (l : Langua
 abbrev pub Any : {S : Type 0} → S → Type 0
 Any s = Unit {0}
 
+any_done : {S : Type 0} (done : Done S) → PaidDone Any Any done
+any_done (gives s) = tt
+any_done (calls lines args s) = tt
+any_done (repeats condition lines s) = tt
+
 pub any_pays : {S : Type 0} (l : Language S) → Pays AnyKind Any Any Any Any l
 any_pays l = record {
   parts = λ d kind.
@@ -230,8 +247,8 @@ any_pays l = record {
         keeps = λ s t r. rw (← r.0) (refl, tt);
       };
   body = λ s h. tt;
-  leaf = λ may kind text s h. paid_done Any (l.leaf may kind text s) tt;
-  closes = λ may s h. paid_done Any (l.closes may s) tt;
+  leaf = λ may kind text s h. any_done (l.leaf may kind text s);
+  closes = λ may s h. any_done (l.closes may s);
   turn = λ kind condition s h. (λ e. tt, tt);
   finish = λ region in_loop s h. tt;
 }
