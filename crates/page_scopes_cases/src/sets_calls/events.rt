@@ -5,7 +5,7 @@ use page_core_base::{Font, NoteKind};
 use page_roff_syntax::{Argument, Quoting};
 use page_sets::{
     BlockCloser, BlockOpener, Closer, Event, EventKind, GeneratedWord, Join, Leaf, LineStep,
-    Opener, Request, Role, SynopsisStep, Word,
+    Opener, RequestLeaf, Role, SynopsisStep, Word,
 };
 use page_test_streams::shown;
 
@@ -161,13 +161,13 @@ fn spelled_closer<'a>(closer: Closer<&'a [u8]>) -> Spelled<'a> {
     }
 }
 
-fn spelled_request<'a>(request: Request<&'a [u8]>) -> Spelled<'a> {
+fn spelled_request<'a>(request: RequestLeaf<&'a [u8]>) -> Spelled<'a> {
     match request {
-        Request::Break => alone("request", "br"),
-        Request::Space(rows) => with("request", "sp", given(rows)),
-        Request::Font(name) => with("request", "ft", name),
-        Request::Shift(columns) => with("request", "in", given(columns)),
-        Request::Literal(begins) => alone("request", if begins { "nf" } else { "fi" }),
+        RequestLeaf::Break => alone("request", "br"),
+        RequestLeaf::Space(rows) => with("request", "sp", given(rows)),
+        RequestLeaf::Font(name) => with("request", "ft", name),
+        RequestLeaf::Shift(columns) => with("request", "in", given(columns)),
+        RequestLeaf::Literal(begins) => alone("request", if begins { "nf" } else { "fi" }),
     }
 }
 
